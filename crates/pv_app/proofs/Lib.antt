@@ -1,0 +1,5 @@
+pub mod AnswerLemmas
+pub mod OutputLemmas
+pub mod PrintLemmas
+pub mod RunLemmas
+pub mod WorldLemmas

@@ -1,0 +1,25 @@
+use Rattle.std.proofs.Common.{◌≡◌, ◌++◌, ℕ, suc, ℤ, pos, List, drop, w64, FitsSigned, slice_index_or, ap, sym, ◌∙◌, rules, arith, append_assoc, add-one}
+use Rattle.std.proofs.lemmas.Int.{to_z-of_z}
+use Rattle.pv_model.specs.Print as model
+use Rattle.pv_model.specs.Print.{line_text, text_of}
+use Rattle.pv_model.specs.Run.{item_lines}
+use Rattle.pv_app.proofs.PrintLemmas.{item_lines-drop}
+use Rattle.pv_app.proofs.print.push_item_lines.Goals as goal
+
+pub loop-item-preserved : goal.loop-item-preserved
+loop-item-preserved c =
+    let items = c.args.catalog.now.items in
+    let rows = c.args.rows.now in
+    let i = c.loop-item.item in
+    let name = c.name.result.now in
+    let value = slice_index_or rows i (pos 0) in
+    let value_fits : FitsSigned w64 value = search rules in
+    let before = c.loop-item.text.items in
+    let rest = text_of (item_lines (drop (suc i) items) (drop (suc i) rows)) in
+    let pushed : c.push_item_line.new.text.items ≡ before ++ line_text (model.item name value) =
+    c.in_ok-push_item_line.ensures ∙ ap (λ (v : ℤ). before ++ line_text (model.item name v)) (to_z-of_z w64 value value_fits) in
+    ap (λ (k : ℕ). c.push_item_line.new.text.items ++ text_of (item_lines (drop k items) (drop k rows))) (add-one i)
+    ∙ ap (λ (l : List ℕ). l ++ rest) pushed
+    ∙ append_assoc before (line_text (model.item name value)) rest
+    ∙ ap (λ (l : List _). before ++ text_of l) (sym (item_lines-drop items rows i name (omega arith) c.requires c.name.ensures))
+    ∙ c.loop-item.invariant

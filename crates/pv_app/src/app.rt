@@ -1,0 +1,126 @@
+// The top call: from the words and the input's bytes to the output's bytes and a status.
+ghost use Rattle.std.specs.Prelude.{◌≡◌, ◌≢◌, ℕ, ◌≤◌, ◌⊎◌, ◌↔◌, List, [], ◌++◌, Some, IsTrue, is_ok, length, map, if◌then◌else◌};
+ghost use Rattle.std.specs.String.{string_bytes};
+ghost use Rattle.std.specs.Io.KnownBytes.{Appends, Keeps};
+ghost use Rattle.pv_base.specs.Fault.{Rose};
+ghost use Rattle.pv_io.specs.Stream.{AppendsPrefix};
+ghost use Rattle.pv_model.specs.Run.{Agrees, RepliesAgree, output_of};
+ghost use Rattle.pv_model.specs.Schedule.{Schedule, IsSchedule, HasFirstFault};
+ghost use Rattle.pv_app.specs.Answers.{IsRun, IsAnswer, IsAnswered, GivesUp, status_of, usage_text, fault_text};
+
+use crate::print::push_fault_line;
+use crate::run::{RunEnd, run};
+use crate::status::Status;
+use pv_base::Failed;
+use pv_io::{ReadEnd, Sink, Source, read_all, write_all};
+use pv_script::{LineCause, ScriptError, read_schedule};
+use std::alloc::Global;
+
+/// The greatest length of an input, in bytes.
+pub const MAX_INPUT: u64 = 16_777_216;
+
+const USAGE: &[u8] = b"usage: polydb run\n";
+
+/// The program, over any input and output. `words` are those behind the program's name.
+///
+/// `run` reads a schedule from the source to its end, runs it, and writes each event's lines when the event is done.
+pub fn polydb<R: Source, W: Sink>(
+    alloc: Global,
+    words: &[String],
+    source: &mut R,
+    sink: &mut W,
+) -> Status
+    // The headline: at `Done` the whole input was read, and exactly what the schedule in it prints was written.
+    ensures done { result ≡ Status.Done → (input : List ℕ) → R.left source.old ≡ Some input → (schedule : Schedule) → IsSchedule input schedule →
+        (R.left source.new ≡ Some []) × Appends (W.held sink.old) (W.held sink.new) (output_of schedule) }
+    // Each report that was written is that of the serial run of exactly the transactions before it.
+    ensures agreement { result ≡ Status.Done → (input : List ℕ) → R.left source.old ≡ Some input → (schedule : Schedule) → IsSchedule input schedule →
+        (output : List ℕ) × Appends (W.held sink.old) (W.held sink.new) output × Agrees schedule output }
+
+    // So is each reply of a transaction that commits.
+    ensures replies { result ≡ Status.Done → (input : List ℕ) → R.left source.old ≡ Some input → (schedule : Schedule) → IsSchedule input schedule →
+        (output : List ℕ) × Appends (W.held sink.old) (W.held sink.new) output × RepliesAgree schedule output }
+
+    // What isn't the one command is answered by the usage line.
+    ensures usage { result ≡ Status.Usage → (IsRun (map string_bytes words.now) → ⊥) × Appends (W.held sink.old) (W.held sink.new) usage_text }
+    ensures no_command { (IsRun (map string_bytes words.now) → ⊥) → (result ≡ Status.Usage) ⊎ (result ≡ Status.WriteFault) }
+
+    // `run` answers what it has to, unless it gives up; and whatever it wrote is a beginning of that.
+    ensures answered { IsRun (map string_bytes words.now) → (input : List ℕ) → R.left source.old ≡ Some input →
+        GivesUp result ⊎ IsAnswered input result (W.held sink.old) (W.held sink.new) }
+    ensures exact { IsRun (map string_bytes words.now) → (input : List ℕ) → R.left source.old ≡ Some input →
+        (status : Status) (output : List ℕ) → IsAnswer input status output →
+        (GivesUp result ⊎ (result ≡ status)) × AppendsPrefix (W.held sink.old) (W.held sink.new) output }
+
+    // It gives up for a fault only where one was counted, and at a fault of the input it has written nothing.
+    ensures read_fault { result ≡ Status.ReadFault → Rose (R.faults source.old) (R.faults source.new) × Keeps (W.held sink.old) (W.held sink.new) }
+    ensures write_fault { result ≡ Status.WriteFault → Rose (W.faults sink.old) (W.faults sink.new) }
+{
+    if !is_run(words) {
+        return status_of_write(write_all(sink, USAGE), Status::Usage);
+    }
+    match read_all(alloc, source, MAX_INPUT) {
+        Ok(input) => answer(alloc, &input, sink),
+        Err(ReadEnd::Failed) => Status::ReadFault,
+        Err(ReadEnd::TooLong) => Status::TooLong,
+        Err(ReadEnd::NoMemory) => Status::NoMemory,
+    }
+}
+
+// whether the words are the one command
+fn is_run(words: &[String]) -> bool
+    ensures { IsTrue result ↔ IsRun (map string_bytes words.now) }
+{
+    match words {
+        [word] => word.as_str() == "run",
+        _ => false,
+    }
+}
+
+// What `run` answers to an input that was read to its end.
+fn answer<W: Sink>(alloc: Global, input: &[u8], sink: &mut W) -> Status
+    requires { length input.now ≤ MAX_INPUT }
+    ensures answered { GivesUp result ⊎ IsAnswered input.now result (W.held sink.old) (W.held sink.new) }
+    ensures prefix { (status : Status) (output : List ℕ) → IsAnswer input.now status output → AppendsPrefix (W.held sink.old) (W.held sink.new) output }
+    ensures read_fault { result ≢ Status.ReadFault }
+    ensures write_fault { result ≡ Status.WriteFault → Rose (W.faults sink.old) (W.faults sink.new) }
+{
+    match read_schedule(alloc, input) {
+        Ok(schedule) => status_of_run(run(alloc, &schedule, sink)),
+        Err(ScriptError::Malformed { line, cause }) => refuse(alloc, line, cause, sink),
+        Err(ScriptError::NoMemory) => Status::NoMemory,
+    }
+}
+
+// names the first line at fault
+fn refuse<W: Sink>(alloc: Global, line: u32, cause: LineCause, sink: &mut W) -> Status
+    ensures written { result ≡ Status.Malformed → Appends (W.held sink.old) (W.held sink.new) (fault_text line) }
+    ensures prefix { AppendsPrefix (W.held sink.old) (W.held sink.new) (fault_text line) }
+    ensures fault { result ≡ Status.WriteFault → Rose (W.faults sink.old) (W.faults sink.new) }
+    ensures others { (result ≡ Status.Malformed) ⊎ ((result ≡ Status.WriteFault) ⊎ (result ≡ Status.NoMemory)) }
+{
+    let mut text = Vec::new(alloc);
+    match push_fault_line(&mut text, line, cause) {
+        Ok(()) => status_of_write(write_all(sink, &text), Status::Malformed),
+        Err(_) => Status::NoMemory,
+    }
+}
+
+fn status_of_write(written: Result<(), Failed>, status: Status) -> Status
+    ensures { result ≡ (if is_ok written then status else Status.WriteFault) }
+{
+    match written {
+        Ok(()) => status,
+        Err(Failed) => Status::WriteFault,
+    }
+}
+
+fn status_of_run(end: Result<(), RunEnd>) -> Status
+    ensures { result ≡ status_of end }
+{
+    match end {
+        Ok(()) => Status::Done,
+        Err(RunEnd::WriteFault) => Status::WriteFault,
+        Err(RunEnd::NoMemory) => Status::NoMemory,
+    }
+}

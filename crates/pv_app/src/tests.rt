@@ -1,0 +1,115 @@
+// The worked examples end to end, and each way to end.
+use super::*;
+use pv_io::{MemSink, MemSource};
+use std::alloc::{AllocError, Global};
+use std::test::Fail;
+
+const FIRST: &str = "sites 1\nitem a 0 100\nsubmit 0 a := a + 1\npump\nreport\n";
+
+const FIRST_OUTPUT: &str =
+    "txn 0.1.0\ncommit 0.1.0 certain nothing\norder 0.1.0\ncommitted 0.1.0\nopen\nitem a 101\nend\n";
+
+const OVERFLOW: &str = "sites 1\nitem a 0 9223372036854775807\nsubmit 0 a := a + 1\npump\nreport\n";
+
+const OVERFLOW_OUTPUT: &str =
+    "txn 0.1.0\ncommit 0.1.0 certain declined-overflow\norder 0.1.0\ncommitted 0.1.0\nopen\nitem a 9223372036854775807\nend\n";
+
+const USAGE: &str = "usage: polydb run\n";
+
+// the status, and what was written, of a call over memory
+fn call(
+    alloc: Global,
+    words: &[&str],
+    input: &[u8],
+    read_fails: &[u64],
+    write_fails: &[u64],
+) -> Result<(Status, Vec<u8>), AllocError> {
+    let mut list = Vec::new(alloc);
+    for word in words {
+        list.push(String::from_str(alloc, word)?)?;
+    }
+    let mut source = MemSource::new(input.to_vec(alloc)?, read_fails.to_vec(alloc)?);
+    let mut sink = MemSink::new(alloc, write_fails.to_vec(alloc)?);
+    let status = polydb(alloc, &list, &mut source, &mut sink);
+    Ok((status, sink.bytes().to_vec(alloc)?))
+}
+
+#[test]
+fn each_text_has_its_answer(rt: HostRuntime) -> Result<(), Fail> {
+    let alloc = rt.alloc();
+    for (input, status, output) in [
+        (FIRST, Status::Done, FIRST_OUTPUT),
+        (OVERFLOW, Status::Done, OVERFLOW_OUTPUT),
+        ("", Status::Malformed, "line 1: not built\n"),
+        (
+            "sites 1\nitem a 0 1\nsubmit 0 a := c + 1\npump\n",
+            Status::Malformed,
+            "line 3: not built\n",
+        ),
+        (
+            "sites 1\nitem a 0 1\nsubmit 0 a := a + 1\n",
+            Status::Malformed,
+            "line 4: not built\n",
+        ),
+    ] {
+        let (answered, written) = call(alloc, &["run"], input.as_bytes(), &[], &[])?;
+        assert_eq!(rt; answered, status, "at {input}");
+        assert_eq!(rt; written.as_slice(), output.as_bytes(), "at {input}");
+    }
+    Ok(())
+}
+
+#[test]
+fn other_words_are_answered_by_the_usage_line(rt: HostRuntime) -> Result<(), Fail> {
+    let alloc = rt.alloc();
+    let (none, nothing) = call(alloc, &[], FIRST.as_bytes(), &[], &[])?;
+    let (two, after_two) = call(alloc, &["run", "7"], FIRST.as_bytes(), &[], &[])?;
+    let (help, after_help) = call(alloc, &["--help"], FIRST.as_bytes(), &[], &[])?;
+    for status in [none, two, help] {
+        assert_eq!(rt; status, Status::Usage);
+    }
+    for written in [
+        nothing.as_slice(),
+        after_two.as_slice(),
+        after_help.as_slice(),
+    ] {
+        assert_eq!(rt; written, USAGE.as_bytes());
+    }
+    Ok(())
+}
+
+#[test]
+fn a_fault_of_the_input_leaves_the_output_empty(rt: HostRuntime) -> Result<(), Fail> {
+    let (status, written) = call(rt.alloc(), &["run"], FIRST.as_bytes(), &[0], &[])?;
+    assert_eq!(rt; status, Status::ReadFault);
+    assert!(rt; written.is_empty());
+    Ok(())
+}
+
+#[test]
+fn a_fault_of_the_output_leaves_a_beginning(rt: HostRuntime) -> Result<(), Fail> {
+    let alloc = rt.alloc();
+    let (status, written) = call(alloc, &["run"], FIRST.as_bytes(), &[], &[0])?;
+    assert_eq!(rt; status, Status::WriteFault);
+    assert!(rt; written.is_empty());
+    let (status, written) = call(alloc, &["run"], FIRST.as_bytes(), &[], &[1])?;
+    assert_eq!(rt; status, Status::WriteFault);
+    assert_eq!(rt; written.as_slice(), b"txn 0.1.0\n".as_slice());
+    let (status, written) = call(alloc, &["--help"], FIRST.as_bytes(), &[], &[0])?;
+    assert_eq!(rt; status, Status::WriteFault);
+    assert!(rt; written.is_empty());
+    Ok(())
+}
+
+#[test]
+fn an_input_may_be_too_long(rt: HostRuntime) -> Result<(), Fail> {
+    let alloc = rt.alloc();
+    let input = vec![in alloc; b'#'; 16_777_217]?;
+    let (status, written) = call(alloc, &["run"], &input, &[], &[])?;
+    assert_eq!(rt; status, Status::TooLong);
+    assert!(rt; written.is_empty());
+    let (status, written) = call(alloc, &["run"], &input[1..], &[], &[])?;
+    assert_eq!(rt; status, Status::Malformed);
+    assert_eq!(rt; written.as_slice(), b"line 2: not built\n".as_slice());
+    Ok(())
+}

@@ -1,0 +1,6 @@
+use Rattle.std.proofs.Common.{◌∙◌}
+use Rattle.pv_base.proofs.EntryLemmas.{position-keys_of}
+use Rattle.pv_base.proofs.entries.find_item.Goals as goal
+
+pub returns-clause-place : goal.returns-clause-place
+returns-clause-place c = c.get_index_of.ensures.index ∙ position-keys_of c.args.name.now c.args.items.now.entries

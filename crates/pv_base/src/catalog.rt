@@ -1,0 +1,221 @@
+// The catalog of items: which there are, at which site, and with which first value.
+ghost use Rattle.std.specs.Prelude.{◌≡◌, ◌≢◌, ◌+◌, ◌<◌, ◌≤◌, Err, Some, None, [], ◌∷◌, ◌++◌, length, map, slice_get, OnErr, OnOk, IfOk, IfErr, IfSome};
+ghost use Rattle.std.specs.Option.{option_map};
+
+use crate::entries::{
+    Declaration, Entries, copy_items, count_of, declaration_at, find_item, name_at, push_item,
+};
+use crate::{NoMemory, SiteId, is_name};
+use indexmap::IndexMap;
+use std::alloc::{AllocError, AllocFailed, Global};
+use std::error::Error;
+use std::fmt;
+use std::marker::Model;
+
+/// The greatest count of sites.
+pub const MAX_SITES: u8 = 16;
+
+/// The least limit of a journal, in bytes.
+pub const MIN_JOURNAL: u64 = 32;
+
+/// The greatest limit of a journal, in bytes, and the limit where none is declared.
+pub const MAX_JOURNAL: u64 = 4_294_967_296;
+
+/// The greatest count of items.
+pub const MAX_ITEMS: usize = 1024;
+
+/// An item, numbered from 0 in order of declaration.
+#[derive(Clone, Copy, Debug, PartialEq, Eq, PartialOrd, Ord, Hash)]
+pub struct ItemId(pub u32);
+
+/// Why an item wasn't added.
+#[derive(Clone, Copy, Debug, PartialEq, Eq, Hash)]
+pub enum CatalogError {
+    /// The text isn't a name: 1 to 16 bytes, a lower-case letter and then lower-case letters, digits and `_`, and no keyword.
+    BadName,
+    /// This item has the name.
+    NameTaken(ItemId),
+    /// There is no such site.
+    NoSite,
+    /// The catalog holds [`MAX_ITEMS`] items.
+    TooMany,
+    /// There was no memory.
+    NoMemory,
+}
+
+impl fmt::Display for CatalogError {
+    fn fmt<W: fmt::Write>(&self, f: &mut fmt::Formatter<W>) -> fmt::Result {
+        f.write_str(match self {
+            CatalogError::BadName => "not a name",
+            CatalogError::NameTaken(_) => "the name is taken",
+            CatalogError::NoSite => "no such site",
+            CatalogError::TooMany => "too many items",
+            CatalogError::NoMemory => "no memory",
+        })
+    }
+}
+
+impl Error for CatalogError {}
+
+impl From<AllocError> for CatalogError {
+    ghost use Rattle.pv_base.specs.declared.catalog.CatalogError.TheVariants as error;
+
+    ghost from_gives = { λ _ e. e ≡ error.NoMemory };
+
+    fn from(_: AllocError) -> Self {
+        CatalogError::NoMemory
+    }
+}
+
+impl<T: Drop> From<AllocFailed<T>> for CatalogError {
+    ghost use Rattle.pv_base.specs.declared.catalog.CatalogError.TheVariants as error;
+
+    ghost from_gives = { λ _ e. e ≡ error.NoMemory };
+
+    fn from(_: AllocFailed<T>) -> Self {
+        CatalogError::NoMemory
+    }
+}
+
+/// The count of sites, the journals' limit, and the items in order of declaration, no two of one name.
+#[derive(Debug, Drop)]
+pub struct Catalog {
+    alloc: Global,
+    sites: u8,
+    journal: u64,
+    items: Entries,
+}
+
+impl Model for Catalog {
+    ghost use Rattle.pv_base.specs.Catalog.{Declared};
+
+    ghost Value = { Declared };
+
+    ghost use Rattle.pv_base.specs.CatalogView.{declared_of, IsWithinLimits};
+
+    ghost view = { declared_of };
+
+    ghost invariant = { IsWithinLimits };
+}
+
+impl Catalog {
+    ghost use Rattle.pv_base.specs.Catalog.{Item, place_of, refusal, with_item};
+
+    /// A catalog without items, of 1 to [`MAX_SITES`] sites whose journals may have from [`MIN_JOURNAL`] to [`MAX_JOURNAL`] bytes.
+    pub fn new(alloc: Global, sites: u8, journal: u64) -> Catalog
+        requires some_site { 1 ≤ sites }
+        requires few_sites { sites ≤ MAX_SITES }
+        requires room { MIN_JOURNAL ≤ journal }
+        requires fits { journal ≤ MAX_JOURNAL }
+        ensures { result ≡ record { sites = sites; journal = journal; items = [] } }
+    {
+        Catalog {
+            alloc,
+            sites,
+            journal,
+            items: IndexMap::new(alloc),
+        }
+    }
+
+    /// Adds an item, and answers its number. After a refusal the catalog is as it was.
+    pub fn add(&mut self, name: &[u8], site: SiteId, value: i64) -> Result<ItemId, CatalogError>
+        ensures number { IfOk result (λ item. item.0 ≡ length self.old.items) }
+        ensures added { let item : Item = record { name = name.now; site = site.0; value = value } in
+            OnOk result (self.new ≡ with_item self.old item) }
+
+        // It is refused exactly where it has to be, and with the first cause. Besides, only memory can fail.
+        ensures refused { IfSome (refusal self.old name.now site.0) (λ e. result ≡ Err e) }
+        ensures cause { IfErr result (λ e. e ≢ CatalogError.NoMemory → refusal self.old name.now site.0 ≡ Some e) }
+        ensures accepted { OnOk result (refusal self.old name.now site.0 ≡ None) }
+        ensures memory { result ≡ Err CatalogError.NoMemory → refusal self.old name.now site.0 ≡ None }
+        ensures unchanged { OnErr result (self.new ≡ self.old) }
+    {
+        if !is_name(name) {
+            return Err(CatalogError::BadName);
+        }
+        if let Some(item) = self.find(name) {
+            return Err(CatalogError::NameTaken(item));
+        }
+        if site.0 >= self.sites {
+            return Err(CatalogError::NoSite);
+        }
+        let count = count_of(&self.items);
+        if count >= MAX_ITEMS {
+            return Err(CatalogError::TooMany);
+        }
+        let name = Vec::from_slice(self.alloc, name)?;
+        push_item(&mut self.items, name, Declaration { site, value })?;
+        Ok(ItemId(count as u32))
+    }
+
+    /// An equal catalog.
+    pub fn copy(&self) -> Result<Catalog, NoMemory>
+        ensures { IfOk result (λ copy. copy ≡ self.now) }
+    {
+        let items = copy_items(&self.items)?;
+        Ok(Catalog {
+            alloc: self.alloc,
+            sites: self.sites,
+            journal: self.journal,
+            items,
+        })
+    }
+
+    /// The item of that name.
+    pub fn find(&self, name: &[u8]) -> Option<ItemId>
+        ensures { option_map (λ item. item.0) result ≡ place_of name.now self.now.items }
+    {
+        let place = find_item(&self.items, name)?;
+        Some(ItemId(place as u32))
+    }
+
+    /// The item's name.
+    pub fn name(&self, item: ItemId) -> &[u8]
+        requires { item.0 < length self.now.items }
+        ensures { slice_get (map (λ declared. declared.name) self.now.items) item.0 ≡ Some result.now }
+    {
+        name_at(&self.items, item.0 as usize)
+    }
+
+    /// The site that owns the item.
+    pub fn site_of(&self, item: ItemId) -> SiteId
+        requires { item.0 < length self.now.items }
+        ensures { slice_get (map (λ declared. declared.site) self.now.items) item.0 ≡ Some result.0 }
+    {
+        declaration_at(&self.items, item.0 as usize).site
+    }
+
+    /// The item's declared value.
+    pub fn declared(&self, item: ItemId) -> i64
+        requires { item.0 < length self.now.items }
+        ensures { slice_get (map (λ declared. declared.value) self.now.items) item.0 ≡ Some result }
+    {
+        declaration_at(&self.items, item.0 as usize).value
+    }
+
+    /// How many items there are.
+    pub fn len(&self) -> u32
+        ensures count { result ≡ length self.now.items }
+        ensures bound { result ≤ MAX_ITEMS }
+    {
+        count_of(&self.items) as u32
+    }
+
+    /// How many sites there are, 1 to [`MAX_SITES`].
+    pub fn sites(&self) -> u8
+        ensures count { result ≡ self.now.sites }
+        ensures some { 1 ≤ result }
+        ensures bound { result ≤ MAX_SITES }
+    {
+        self.sites
+    }
+
+    /// The limit of each journal, in bytes, [`MIN_JOURNAL`] to [`MAX_JOURNAL`].
+    pub fn journal(&self) -> u64
+        ensures limit { result ≡ self.now.journal }
+        ensures least { MIN_JOURNAL ≤ result }
+        ensures most { result ≤ MAX_JOURNAL }
+    {
+        self.journal
+    }
+}

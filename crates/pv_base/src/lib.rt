@@ -1,0 +1,16 @@
+//! What every crate of polydb names: sites, transactions, items, the catalog of items, and what a refusal is.
+#![tactic(auto)]
+
+mod catalog;
+mod entries;
+mod failure;
+mod naming;
+mod txn;
+
+pub use catalog::{Catalog, CatalogError, ItemId, MAX_ITEMS, MAX_JOURNAL, MAX_SITES, MIN_JOURNAL};
+pub use failure::{Failed, NoMemory};
+pub use naming::is_name;
+pub use txn::{SiteId, TxnId, print_txn};
+
+#[cfg(test)]
+mod tests;

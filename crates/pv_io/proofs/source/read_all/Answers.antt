@@ -1,0 +1,45 @@
+-- Each read took the front of what was left, so what was read so far is the front of the text.
+use Rattle.std.proofs.Common.{◌≡◌, ◌<◌, ◌++◌, length, vec_len, take, drop, ◌∙◌, arith, rules}
+use Rattle.std.proofs.lemmas.List.{length-take, take_at}
+use Rattle.pv_io.proofs.Texts.{Consumes-none, Consumes-grown, whole_text, long_text}
+use Rattle.pv_io.proofs.source.read_all.Goals as goal
+
+pub loop-piece-init : goal.loop-piece-init
+loop-piece-init g c = record {
+  room = search rules;
+  within = omega (arith, c.new-bytes.ensures.len);
+  consumed = Consumes-none _ _ c.new-bytes.ensures.items;
+  told = search rules;
+  counted = search rules;
+}
+
+pub returns-then-count-eq0-clause-whole : goal.returns-then-count-eq0-clause-whole
+returns-then-count-eq0-clause-whole g c =
+    let room : 0 < length c.read.new.into = omega (arith, c.deref_mut.ensures.len) in
+    let none = c.if-count-eq0.true in
+    let read = c.in_ok-count.ensures.bytes in
+    whole_text _ _ _ _ _ _ c.loop-piece.invariant.consumed read.0 none (read.1 none room)
+
+pub returns-then-count-limit-clause-too_long : goal.returns-then-count-limit-clause-too_long
+returns-then-count-limit-clause-too_long g c = λ _ text is.
+    let read = c.in_ok-count.ensures in
+    let both = long_text _ _ _ _ _ c.loop-piece.invariant.consumed read.bytes.0 text is in
+    omega (arith, both, read.bound, length-take c.in_ok-count.count c.read.new.into, c.loop-piece.bytes.ok.0)
+
+pub loop-piece-preserved : goal.loop-piece-preserved
+loop-piece-preserved g c =
+    let before = c.loop-piece.invariant in
+    let read = c.in_ok-count.ensures in
+    let extended = c.in_ok-extend_from_slice.ensures in
+    let piece = c.loop-piece.piece in
+    let got = c.read.new.into in
+    let whole = take_at got (drop (length got) piece.items) (vec_len piece) (omega (arith, c.deref_mut.ensures.len)) in
+    let front : c.split_at.result.0.now ≡ take c.in_ok-count.count got = cc (c.split_at.ensures.front, c.deref.ensures.value, whole) in
+    let grown : c.extend_from_slice.new.self.items ≡ c.loop-piece.bytes.items ++ take c.in_ok-count.count got = cc (extended.items, front) in
+    record {
+      room = before.room;
+      within = omega (arith, extended.len);
+      consumed = Consumes-grown _ _ _ _ _ _ before.consumed read.bytes.0 grown;
+      told = read.told ∙ before.told;
+      counted = omega (arith, read.cause.0);
+    }

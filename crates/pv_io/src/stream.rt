@@ -1,0 +1,128 @@
+// A source over a reader of std, and a sink over a writer of std.
+ghost use Rattle.std.specs.Prelude.{◌≡◌, ◌<◌, ◌≤◌, Some, length, IsSome, IfSome, IfOk};
+ghost use Rattle.std.specs.Option.{ForSome};
+ghost use Rattle.std.specs.Io.KnownBytes.{ReadConsumes, WriteAppends};
+ghost use Rattle.pv_base.specs.Fault.{HasCause};
+ghost use Rattle.pv_io.specs.Stream.{TellsAlike, CountsFaults, told_since};
+
+use crate::{Sink, Source};
+use pv_base::Failed;
+use std::io::{Read, Write};
+use std::snapshot::Snapshot;
+
+/// A source over a reader. It tells the bytes that the reader has left where the reader told them when it was passed
+/// to `new`. An error of the reader counts as a fault.
+#[derive(Drop)]
+pub struct StdSource<R: Read> {
+    inner: R,
+    first: Snapshot<R>,
+    faults: u64,
+    ghost tells: { ForSome (R.remaining first.value) (λ _. IsSome (R.remaining inner)) },
+}
+
+impl<R: Read> StdSource<R> {
+    /// A source of what the reader has left.
+    pub fn new(inner: R) -> Self
+        ensures left { ⟦<StdSource<R> as Source>⟧.left result ≡ R.remaining inner }
+        ensures faults { ⟦<StdSource<R> as Source>⟧.faults result ≡ 0 }
+    {
+        let first = Snapshot::of(&inner);
+        StdSource {
+            inner,
+            first,
+            faults: 0,
+        }
+    }
+
+    /// The reader.
+    pub fn into_inner(self) -> R
+        ensures { IfSome (⟦<StdSource<R> as Source>⟧.left self) (λ left. R.remaining result ≡ Some left) }
+    {
+        self.inner
+    }
+}
+
+impl<R: Read> Source for StdSource<R> {
+    ghost left = { λ s. told_since (R.remaining s.first.value) (R.remaining s.inner) };
+
+    ghost faults = { λ s. s.faults };
+
+    fn read(&mut self, into: &mut [u8]) -> Result<usize, Failed>
+        ensures bound { IfOk result (λ n. n ≤ length into.new) }
+        ensures bytes { ReadConsumes (⟦<StdSource<R> as Source>⟧.left self.old)
+            (⟦<StdSource<R> as Source>⟧.left self.new) result into.new }
+        ensures told { TellsAlike (⟦<StdSource<R> as Source>⟧.left self.old)
+            (⟦<StdSource<R> as Source>⟧.left self.new) }
+        ensures cause { HasCause (⟦<StdSource<R> as Source>⟧.faults self.old)
+            (⟦<StdSource<R> as Source>⟧.faults self.new) result }
+        ensures counts { CountsFaults (⟦<StdSource<R> as Source>⟧.faults self.old)
+            (⟦<StdSource<R> as Source>⟧.faults self.new) result }
+    {
+        match self.inner.read(into) {
+            Ok(count) => Ok(count),
+            Err(_) => {
+                self.faults = self.faults.saturating_add(1);
+                Err(Failed)
+            }
+        }
+    }
+}
+
+/// A sink over a writer. It tells the bytes that the writer holds where the writer told them when it was passed to
+/// `new`. An error of the writer counts as a fault, and so does a write that takes nothing of a piece that has bytes.
+#[derive(Drop)]
+pub struct StdSink<W: Write> {
+    inner: W,
+    first: Snapshot<W>,
+    faults: u64,
+    ghost tells: { ForSome (W.contents first.value) (λ _. IsSome (W.contents inner)) },
+}
+
+impl<W: Write> StdSink<W> {
+    /// A sink that adds to what the writer holds.
+    pub fn new(inner: W) -> Self
+        ensures held { ⟦<StdSink<W> as Sink>⟧.held result ≡ W.contents inner }
+        ensures faults { ⟦<StdSink<W> as Sink>⟧.faults result ≡ 0 }
+    {
+        let first = Snapshot::of(&inner);
+        StdSink {
+            inner,
+            first,
+            faults: 0,
+        }
+    }
+
+    /// The writer.
+    pub fn into_inner(self) -> W
+        ensures { IfSome (⟦<StdSink<W> as Sink>⟧.held self) (λ held. W.contents result ≡ Some held) }
+    {
+        self.inner
+    }
+}
+
+impl<W: Write> Sink for StdSink<W> {
+    ghost held = { λ s. told_since (W.contents s.first.value) (W.contents s.inner) };
+
+    ghost faults = { λ s. s.faults };
+
+    fn write(&mut self, bytes: &[u8]) -> Result<usize, Failed>
+        ensures bound { IfOk result (λ n. n ≤ length bytes.now) }
+        ensures some { IfOk result (λ n. 0 < length bytes.now → 0 < n) }
+        ensures bytes { WriteAppends (⟦<StdSink<W> as Sink>⟧.held self.old)
+            (⟦<StdSink<W> as Sink>⟧.held self.new) result bytes.now }
+        ensures told { TellsAlike (⟦<StdSink<W> as Sink>⟧.held self.old)
+            (⟦<StdSink<W> as Sink>⟧.held self.new) }
+        ensures cause { HasCause (⟦<StdSink<W> as Sink>⟧.faults self.old)
+            (⟦<StdSink<W> as Sink>⟧.faults self.new) result }
+        ensures counts { CountsFaults (⟦<StdSink<W> as Sink>⟧.faults self.old)
+            (⟦<StdSink<W> as Sink>⟧.faults self.new) result }
+    {
+        match self.inner.write(bytes) {
+            Ok(count) if count > 0 || bytes.is_empty() => Ok(count),
+            _ => {
+                self.faults = self.faults.saturating_add(1);
+                Err(Failed)
+            }
+        }
+    }
+}

@@ -1,0 +1,8 @@
+use Rattle.std.proofs.Common.{◌+◌, length}
+use Rattle.pv_model.specs.Text.{lines, numbered}
+use Rattle.pv_model.specs.Schedule.{AreSomeSchedule}
+use Rattle.pv_model.proofs.FirstFaultLemmas as lemmas
+use Rattle.pv_model.proofs.one_fault.Goals as goal
+
+pub returns : goal.returns
+returns c = λ text m n p q. lemmas.one_fault AreSomeSchedule (numbered text) (length (lines text) + 1) m n p q

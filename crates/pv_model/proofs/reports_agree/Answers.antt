@@ -1,0 +1,5 @@
+use Rattle.pv_model.proofs.Agreement as lemmas
+use Rattle.pv_model.proofs.reports_agree.Goals as goal
+
+pub returns : goal.returns
+returns c = lemmas.reports_agree

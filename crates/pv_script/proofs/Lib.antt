@@ -1,0 +1,7 @@
+pub mod LineLemmas
+pub mod NumberLemmas
+pub mod FormLemmas
+pub mod FaultLemmas
+pub mod EventLemmas
+pub mod CountLemmas
+pub mod ScheduleLemmas

@@ -1,0 +1,16 @@
+-- The next line has to be a pump.
+use Rattle.std.proofs.lemmas.Result.{err_from_is_err_and}
+use Rattle.pv_script.specs.declared.schedule.LineCause.TheVariants.{NotBuilt}
+use Rattle.pv_script.specs.Steps.{ArePumpAndEvents}
+use Rattle.pv_script.proofs.FaultLemmas.{Refuses-nil, Refuses-head}
+use Rattle.pv_script.proofs.EventLemmas.{whole_pump, pump-nil, pump-none}
+use Rattle.pv_script.proofs.read.read_pump.Goals as goal
+
+pub returns-in_err-line-clause-first_fault : goal.returns-in_err-line-clause-first_fault
+returns-in_err-line-clause-first_fault c = λ name.
+    let p = err_from_is_err_and c.from_residual.result c.from_residual.ensures.1 in
+    rw (p.1, p.2) (Refuses-nil (ArePumpAndEvents name) c.args.lines.now.numbered c.args.lines.now.behind NotBuilt _ c.in_err-line.ensures.none c.in_err-line.ensures.error (whole_pump name) (pump-nil name))
+
+pub returns-then-not-branch-clause-first_fault : goal.returns-then-not-branch-clause-first_fault
+returns-then-not-branch-clause-first_fault c = λ name.
+    Refuses-head (ArePumpAndEvents name) _ _ _ _ _ NotBuilt _ c.in_ok-line.ensures.line c.not_built.ensures (whole_pump name) (pump-none name c.in_ok-line.line.text.now (λ is. let yes = c.in_ok-is_pump.ensures.1 is in let no = c.if-not-branch.true in cc))

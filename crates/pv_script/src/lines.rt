@@ -1,0 +1,127 @@
+// The lines of a text that count, one after another.
+ghost use Rattle.std.specs.Prelude.{◌≡◌, ◌+◌, ◌<◌, ◌≤◌, [], ◌∷◌, length, IfNone, IfSome};
+ghost use Rattle.std.specs.Str.Lines.{strip_carriage_return};
+ghost use Rattle.pv_model.specs.Text.{lines, is_counted, is_blank};
+
+use memchr::memchr;
+use std::marker::Model;
+
+/// A line that counts: its number among all lines, from 1, and its bytes without the line's end.
+#[derive(Clone, Copy, Debug)]
+pub struct Line<'a> {
+    pub number: u32,
+    pub text: &'a [u8],
+}
+
+/// The lines of a text that count and are still to be read.
+#[derive(Drop)]
+pub struct Lines<'a> {
+    rest: &'a [u8],
+    passed: u32,
+}
+
+impl<'a> Model for Lines<'a> {
+    ghost use Rattle.std.specs.Prelude.{◌+◌, ◌≤◌, length};
+    ghost use Rattle.pv_model.specs.Text.{lines};
+    ghost use Rattle.pv_script.specs.LinesLeft.{LinesLeft, counted_from};
+
+    ghost Value = { LinesLeft };
+
+    ghost view = { λ l. record {
+      numbered = counted_from (l.passed + 1) (lines l.rest.now);
+      behind = l.passed + length (lines l.rest.now) + 1;
+    } };
+
+    ghost invariant = { λ l. l.passed + length l.rest.now ≤ 4294967294 };
+}
+
+impl<'a> Lines<'a> {
+    ghost use Rattle.pv_model.specs.Text.{numbered, lines};
+
+    /// All lines of a text.
+    pub fn new(text: &'a [u8]) -> Lines<'a>
+        requires { length text.now ≤ 4294967294 }
+        ensures { result ≡ record { numbered = numbered text.now; behind = length (lines text.now) + 1 } }
+    {
+        Lines {
+            rest: text,
+            passed: 0,
+        }
+    }
+
+    /// The next line that counts.
+    pub fn next(&mut self) -> Option<Line<'a>>
+        ensures none { IfNone result (self.old.numbered ≡ []) }
+        ensures some { IfSome result (λ line. self.old.numbered ≡ (line.number, line.text.now) ∷ self.new.numbered) }
+        ensures behind { self.new.behind ≡ self.old.behind }
+    {
+        while !self.rest.is_empty() {
+            let (line, after) = first_line(self.rest);
+            self.rest = after;
+            self.passed += 1;
+            let text = without_return(line);
+            if is_counted(text) {
+                return Some(Line {
+                    number: self.passed,
+                    text,
+                });
+            }
+        }
+        None
+    }
+
+    /// The number behind the last line of the text, however many of its lines are read.
+    pub fn behind(&self) -> u32
+        ensures { result ≡ self.now.behind }
+    {
+        let mut rest = self.rest;
+        let mut passed = self.passed;
+        while !rest.is_empty() {
+            let (_, after) = first_line(rest);
+            rest = after;
+            passed += 1;
+        }
+        passed + 1
+    }
+}
+
+// The first line, with the carriage return that may end it, and what stands behind its line feed.
+fn first_line(rest: &[u8]) -> (&[u8], &[u8])
+    requires { 0 < length rest.now }
+    ensures first { lines rest.now ≡ strip_carriage_return result.0.now ∷ lines result.1.now }
+    ensures shorter { length result.1.now < length rest.now }
+{
+    let Some(end) = memchr(b'\n', rest) else {
+        return rest.split_at(rest.len());
+    };
+    let (line, tail) = rest.split_at(end);
+    let (_, after) = tail.split_at(1);
+    (line, after)
+}
+
+// The line without a carriage return at its end.
+fn without_return(line: &[u8]) -> &[u8]
+    ensures { result.now ≡ strip_carriage_return line.now }
+{
+    match line {
+        [front @ .., b'\r'] => front,
+        _ => line,
+    }
+}
+
+// Whether the line has more than blanks, and is no comment.
+fn is_counted(line: &[u8]) -> bool
+    ensures { result ≡ is_counted line.now }
+{
+    line.iter()
+        .copied()
+        .find(|b| !is_blank(*b))
+        .is_some_and(|b| b != b'#')
+}
+
+/// Whether a byte is a space or a tab.
+pub fn is_blank(byte: u8) -> bool
+    ensures { result ≡ is_blank byte }
+{
+    byte == b' ' || byte == b'\t'
+}
