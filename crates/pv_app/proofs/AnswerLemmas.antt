@@ -1,5 +1,5 @@
 -- An input has one answer, and what the words are.
-use Rattle.std.proofs.Common.{◌≡◌, ℕ, ◌+◌, ◌≤◌, ◌<◌, List, [], ◌∷◌, length, get_or, Option, Result, Ok, Err, OnOk, OnErr, ◌⊎◌, inl, inr, refl, sym, ap, ◌∙◌, subst, arith}
+use Rattle.std.proofs.Common.{◌≡◌, ℕ, ◌+◌, ◌≤◌, ◌<◌, List, [], ◌∷◌, length, get_or, Option, Result, Ok, Err, OnOk, OnErr, ◌⊎◌, inl, inr, cond, is_ok, refl, sym, ap, ◌∙◌, subst, arith}
 use Rattle.std.specs.Bool.{⊤}
 use Rattle.std.specs.Io.KnownBytes.{Appends}
 use Rattle.std.proofs.lemmas.List.{append-nil}
@@ -10,8 +10,8 @@ use Rattle.pv_model.specs.Run.{output_of}
 use Rattle.pv_model.proofs.FirstFaultLemmas.{one_fault, no_fault}
 use Rattle.pv_model.proofs.ScheduleLemmas.{one_schedule}
 use Rattle.pv_app.specs.declared.status.Status.{Status}
-use Rattle.pv_app.specs.declared.status.Status.TheVariants.{Done, Malformed, TooLong}
-use Rattle.pv_app.specs.Answers.{IsAnswer, IsAnswered, GivesUp, fault_text}
+use Rattle.pv_app.specs.declared.status.Status.TheVariants.{Done, Usage, Malformed, WriteFault, TooLong}
+use Rattle.pv_app.specs.Answers.{IsAnswer, GivesUp, GrowsBySome, fault_text}
 use Rattle.pv_app.proofs.OutputLemmas.{AppendsPrefix-whole}
 
 -- a list of one element
@@ -66,18 +66,25 @@ prefix_of_run (Err e) old new output p q = q
 
 -- ---- what the statuses say
 
-pub output_at_done : (input : List ℕ) (status : Status) (old new : Option (List ℕ)) (schedule : Schedule)
-    → status ≡ Done → GivesUp status ⊎ IsAnswered input status old new → IsSchedule input schedule → Appends old new (output_of schedule)
-output_at_done input status old new schedule is answered says =
-    done (subst (λ (s : Status). GivesUp s ⊎ IsAnswered input s old new) is answered)
+-- At `Done` the input is a schedule, and its output was written.
+pub schedule_at_done : (input : List ℕ) (status : Status) (old new : Option (List ℕ))
+    → status ≡ Done → GivesUp status ⊎ GrowsBySome old new (IsAnswer input status)
+    → (schedule : Schedule) × IsSchedule input schedule × Appends old new (output_of schedule)
+schedule_at_done input status old new is answered =
+    done (subst (λ (s : Status). GivesUp s ⊎ GrowsBySome old new (IsAnswer input s)) is answered)
   where
-    done : GivesUp Done ⊎ IsAnswered input Done old new → Appends old new (output_of schedule)
+    done : GivesUp Done ⊎ GrowsBySome old new (IsAnswer input Done) → (schedule : Schedule) × IsSchedule input schedule × Appends old new (output_of schedule)
     done (inl gives_up) = absurd gives_up
-    done (inr (output, a, grown)) =
-        subst (Appends old new) (a.3 ∙ ap output_of (one_schedule (counted input) a.1 schedule a.2 says)) grown
+    done (inr (output, grown, a)) = (a.1, a.2, subst (Appends old new) a.3 grown)
 
--- the status is that of the answer, or it gave up
+-- The status is that of the answer, or it gave up.
 pub status_of_answer : (input : List ℕ) (status other : Status) (old new : Option (List ℕ)) (text : List ℕ)
-    → GivesUp status ⊎ IsAnswered input status old new → IsAnswer input other text → GivesUp status ⊎ (status ≡ other)
+    → GivesUp status ⊎ GrowsBySome old new (IsAnswer input status) → IsAnswer input other text → GivesUp status ⊎ (status ≡ other)
 status_of_answer input status other old new text (inl gives_up) b = inl gives_up
-status_of_answer input status other old new text (inr (output, a, grown)) b = inr (one_answer input status other output text a b).0
+status_of_answer input status other old new text (inr (output, grown, a)) b = inr (one_answer input status other output text a b).0
+
+-- The usage line was written, or it wasn't.
+pub usage_or_fault : {E : Type 0} (written : Result ⊤ E) (status : Status)
+    → status ≡ cond (is_ok written) Usage WriteFault → (status ≡ Usage) ⊎ (status ≡ WriteFault)
+usage_or_fault (Ok done) status is = inl is
+usage_or_fault (Err e) status is = inr is

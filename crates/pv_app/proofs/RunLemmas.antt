@@ -23,12 +23,14 @@ pub record IsUnderWay (first now : Option (List ℕ)) (faults_first faults_now :
   pub counted : faults_first ≤ faults_now
 
 -- the next of the program's events, as the definitions see it
-pub drop-events_of : (events : List code.Event) (i : ℕ) (d : code.Event) → i < length events
-    → drop i (events_of events) ≡ event_of (get_or events i d) ∷ drop (suc i) (events_of events)
-drop-events_of events i d below =
-    drop-map event_of i events
+pub drop-events_of : (events items : List code.Event) → events ≡ items → (i : ℕ) (d : code.Event) → i < length events
+    → drop i (events_of items) ≡ event_of (get_or events i d) ∷ drop (suc i) (events_of items)
+drop-events_of events items same i d below =
+    ap (λ (es : List code.Event). drop i (events_of es)) (sym same)
+    ∙ drop-map event_of i events
     ∙ ap events_of (drop-cons events i d below)
     ∙ ap (λ (l : List Event). event_of (get_or events i d) ∷ l) (sym (drop-map event_of (suc i) events))
+    ∙ ap (λ (es : List code.Event). event_of (get_or events i d) ∷ drop (suc i) (events_of es)) same
 
 -- one of two lists as long as a third is as long
 length-cond : (b : Bool) (xs ys zs : List ℤ) → length xs ≡ length zs → length ys ≡ length zs → length (cond b xs ys) ≡ length zs

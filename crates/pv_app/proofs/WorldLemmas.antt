@@ -20,23 +20,24 @@ pub SumFits-from_checked : (sum : ℤ) (r : Option ℤ) → SomeIff r (FitsSigne
 SumFits-from_checked sum (Some z) h = (fits-true sum h.0, h.1)
 SumFits-from_checked sum None h = fits-false sum h
 
-pub exec-fits : (item : ℕ) (addend : ℤ) (rows : List ℤ) → fits_i64 (slice_index_or rows item (pos 0) +ℤ addend) ≡ true
-    → exec (record { item = item; addend = addend }) rows ≡ record { rows = slice_set rows item (slice_index_or rows item (pos 0) +ℤ addend); reply = nothing }
+-- the effect, by the test whether the sum fits
+exec-tested : (item : ℕ) (addend : ℤ) (rows : List ℤ) (fits : Bool) → let sum = slice_index_or rows item (pos 0) +ℤ addend in fits_i64 sum ≡ fits
+    → exec (record { item = item; addend = addend }) rows
+    ≡ cond fits (record { rows = slice_set rows item sum; reply = nothing }) (record { rows = rows; reply = declined_overflow })
 unfolding exec
-exec-fits item addend rows fits =
+exec-tested item addend rows fits is =
     let sum = slice_index_or rows item (pos 0) +ℤ addend in
-    let yes_effect : Effect = record { rows = slice_set rows item sum; reply = nothing } in
-    let no_effect : Effect = record { rows = rows; reply = declined_overflow } in
-    ap (λ (b : Bool). cond b yes_effect no_effect) fits
+    let written : Effect = record { rows = slice_set rows item sum; reply = nothing } in
+    let declined : Effect = record { rows = rows; reply = declined_overflow } in
+    ap (λ (b : Bool). cond b written declined) is
+
+pub exec-fits : (item : ℕ) (addend : ℤ) (rows : List ℤ) → let sum = slice_index_or rows item (pos 0) +ℤ addend in fits_i64 sum ≡ true
+    → exec (record { item = item; addend = addend }) rows ≡ record { rows = slice_set rows item sum; reply = nothing }
+exec-fits item addend rows = exec-tested item addend rows true
 
 pub exec-overflow : (item : ℕ) (addend : ℤ) (rows : List ℤ) → fits_i64 (slice_index_or rows item (pos 0) +ℤ addend) ≡ false
     → exec (record { item = item; addend = addend }) rows ≡ record { rows = rows; reply = declined_overflow }
-unfolding exec
-exec-overflow item addend rows fits =
-    let sum = slice_index_or rows item (pos 0) +ℤ addend in
-    let yes_effect : Effect = record { rows = slice_set rows item sum; reply = nothing } in
-    let no_effect : Effect = record { rows = rows; reply = declined_overflow } in
-    ap (λ (b : Bool). cond b yes_effect no_effect) fits
+exec-overflow item addend rows = exec-tested item addend rows false
 
 -- the front of a list with its next element
 pub take-slice_get : (xs : List ℤ) (i : ℕ) (x : ℤ) → slice_get xs i ≡ Some x → take (i + 1) xs ≡ take i xs ++ x ∷ []

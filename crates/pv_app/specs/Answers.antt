@@ -3,8 +3,7 @@ use Rattle.std.specs.Prelude.{◌≡◌, ℕ, ◌<◌, ◌≤◌, List, [], ◌�
 use Rattle.std.specs.Io.KnownBytes.{Appends}
 use Rattle.std.specs.Fmt.{decimal}
 use Rattle.pv_app.specs.declared.status.Status.{Status}
-use Rattle.pv_app.specs.declared.status.Status.TheVariants.{Done, Malformed, ReadFault, WriteFault, TooLong, NoMemory}
-use Rattle.pv_app.specs.declared.app.TheConstants.{MAX_INPUT}
+use Rattle.pv_app.specs.declared.status.Status.TheVariants.{Done, Usage, Malformed, ReadFault, WriteFault, TooLong, NoMemory}
 use Rattle.pv_app.specs.declared.run.RunEnd.{RunEnd}
 use Rattle.pv_app.specs.declared.run.RunEnd.TheVariants as end
 use Rattle.pv_model.specs.Print.{line_feed}
@@ -29,9 +28,9 @@ fault_text number = codes "line " ++ (decimal number ++ (codes ": " ++ (cause_te
 -- What `run` has to answer to an input, and the status with it: the output of the schedule that the input is, or its
 -- first fault. A longer input than may be is neither.
 abbrev pub IsAnswer : List ℕ → Status → List ℕ → Type 0
-IsAnswer input Done output = (length input ≤ MAX_INPUT) × (schedule : Schedule) × IsSchedule input schedule × (output ≡ output_of schedule)
-IsAnswer input Malformed output = (length input ≤ MAX_INPUT) × (number : ℕ) × HasFirstFault input number × (output ≡ fault_text number)
-IsAnswer input TooLong output = (MAX_INPUT < length input) × (output ≡ [])
+IsAnswer input Done output = (length input ≤ 16777216) × (schedule : Schedule) × IsSchedule input schedule × (output ≡ output_of schedule)
+IsAnswer input Malformed output = (length input ≤ 16777216) × (number : ℕ) × HasFirstFault input number × (output ≡ fault_text number)
+IsAnswer input TooLong output = (16777216 < length input) × (output ≡ [])
 IsAnswer input _ output = ⊥
 
 -- It gives up where something outside failed, or for want of memory.
@@ -41,12 +40,22 @@ GivesUp WriteFault = Unit {0}
 GivesUp NoMemory = Unit {0}
 GivesUp _ = ⊥
 
--- It has given its answer, with this status: the sink has grown by the output, and by nothing else.
-abbrev pub IsAnswered : List ℕ → Status → Option (List ℕ) → Option (List ℕ) → Type 0
-IsAnswered input status old new = (output : List ℕ) × IsAnswer input status output × Appends old new output
+-- Known bytes have grown by an output of which this holds, and by nothing else.
+abbrev pub GrowsBySome : Option (List ℕ) → Option (List ℕ) → (List ℕ → Type 0) → Type 0
+GrowsBySome old new Holds = (output : List ℕ) × Appends old new output × Holds output
 
 -- the status of a run
 abbrev pub status_of : Result ⊤ RunEnd → Status
 status_of (Ok done) = Done
 status_of (Err end.WriteFault) = WriteFault
 status_of (Err end.NoMemory) = NoMemory
+
+-- the exit code of a status
+abbrev pub exit_code : Status → ℕ
+exit_code Done = 0
+exit_code Usage = 2
+exit_code Malformed = 3
+exit_code ReadFault = 4
+exit_code WriteFault = 5
+exit_code TooLong = 6
+exit_code NoMemory = 7

@@ -6,7 +6,7 @@ ghost use Rattle.pv_base.specs.Fault.{Rose};
 ghost use Rattle.pv_io.specs.Stream.{AppendsPrefix};
 ghost use Rattle.pv_model.specs.Run.{Agrees, RepliesAgree, output_of};
 ghost use Rattle.pv_model.specs.Schedule.{Schedule, IsSchedule, HasFirstFault};
-ghost use Rattle.pv_app.specs.Answers.{IsRun, IsAnswer, IsAnswered, GivesUp, status_of, usage_text, fault_text};
+ghost use Rattle.pv_app.specs.Answers.{IsRun, IsAnswer, GivesUp, GrowsBySome, status_of, usage_text, fault_text};
 
 use crate::print::push_fault_line;
 use crate::run::{RunEnd, run};
@@ -30,31 +30,41 @@ pub fn polydb<R: Source, W: Sink>(
     source: &mut R,
     sink: &mut W,
 ) -> Status
-    // The headline: at `Done` the whole input was read, and exactly what the schedule in it prints was written.
-    ensures done { result ≡ Status.Done → (input : List ℕ) → R.left source.old ≡ Some input → (schedule : Schedule) → IsSchedule input schedule →
-        (R.left source.new ≡ Some []) × Appends (W.held sink.old) (W.held sink.new) (output_of schedule) }
-    // Each report that was written is that of the serial run of exactly the transactions before it.
-    ensures agreement { result ≡ Status.Done → (input : List ℕ) → R.left source.old ≡ Some input → (schedule : Schedule) → IsSchedule input schedule →
-        (output : List ℕ) × Appends (W.held sink.old) (W.held sink.new) output × Agrees schedule output }
+    // The headline. At `Done` the whole input was read, it is a schedule, and exactly what that prints was written.
+    ensures done { result ≡ Status.Done → (input : List ℕ) → R.left source.old ≡ Some input →
+        (R.left source.new ≡ Some []) × (schedule : Schedule) × IsSchedule input schedule
+        × Appends (W.held sink.old) (W.held sink.new) (output_of schedule) }
 
-    // So is each reply of a transaction that commits.
-    ensures replies { result ≡ Status.Done → (input : List ℕ) → R.left source.old ≡ Some input → (schedule : Schedule) → IsSchedule input schedule →
-        (output : List ℕ) × Appends (W.held sink.old) (W.held sink.new) output × RepliesAgree schedule output }
+    // Whatever was written of a schedule's output: in that output each report is that of the serial run of exactly the
+    // transactions before it, and each reply that of the serial run of those up to its own.
+    ensures agreement { IsRun (map string_bytes words.now) → (input : List ℕ) → R.left source.old ≡ Some input →
+        (schedule : Schedule) → IsSchedule input schedule →
+        AppendsPrefix (W.held sink.old) (W.held sink.new) (output_of schedule)
+        × Agrees schedule (output_of schedule) × RepliesAgree schedule (output_of schedule) }
 
-    // What isn't the one command is answered by the usage line.
-    ensures usage { result ≡ Status.Usage → (IsRun (map string_bytes words.now) → ⊥) × Appends (W.held sink.old) (W.held sink.new) usage_text }
-    ensures no_command { (IsRun (map string_bytes words.now) → ⊥) → (result ≡ Status.Usage) ⊎ (result ≡ Status.WriteFault) }
+    // Words that aren't the one command are answered by the usage line, and no others are. Nothing is read then.
+    ensures command { result ≡ Status.Done → IsRun (map string_bytes words.now) }
+    ensures usage { result ≡ Status.Usage → (IsRun (map string_bytes words.now) → ⊥)
+        × Appends (W.held sink.old) (W.held sink.new) usage_text }
+    ensures no_command { (IsRun (map string_bytes words.now) → ⊥) →
+        ((result ≡ Status.Usage) ⊎ (result ≡ Status.WriteFault))
+        × AppendsPrefix (W.held sink.old) (W.held sink.new) usage_text × (source.new ≡ source.old) }
 
-    // `run` answers what it has to, unless it gives up; and whatever it wrote is a beginning of that.
+    // `run` gives the input's answer, or gives up. Whatever it wrote is a beginning of that answer.
     ensures answered { IsRun (map string_bytes words.now) → (input : List ℕ) → R.left source.old ≡ Some input →
-        GivesUp result ⊎ IsAnswered input result (W.held sink.old) (W.held sink.new) }
+        GivesUp result ⊎ GrowsBySome (W.held sink.old) (W.held sink.new) (IsAnswer input result) }
     ensures exact { IsRun (map string_bytes words.now) → (input : List ℕ) → R.left source.old ≡ Some input →
         (status : Status) (output : List ℕ) → IsAnswer input status output →
         (GivesUp result ⊎ (result ≡ status)) × AppendsPrefix (W.held sink.old) (W.held sink.new) output }
 
-    // It gives up for a fault only where one was counted, and at a fault of the input it has written nothing.
-    ensures read_fault { result ≡ Status.ReadFault → Rose (R.faults source.old) (R.faults source.new) × Keeps (W.held sink.old) (W.held sink.new) }
+    // It gives up for a fault only where one was counted. What is too long is never written about, and where the input
+    // fails or is too long nothing was written.
+    ensures read_fault { result ≡ Status.ReadFault →
+        Rose (R.faults source.old) (R.faults source.new) × Keeps (W.held sink.old) (W.held sink.new) }
     ensures write_fault { result ≡ Status.WriteFault → Rose (W.faults sink.old) (W.faults sink.new) }
+    ensures too_long { result ≡ Status.TooLong → Keeps (W.held sink.old) (W.held sink.new) }
+    ensures short { result ≡ Status.WriteFault → IsRun (map string_bytes words.now) →
+        (input : List ℕ) → R.left source.old ≡ Some input → length input ≤ 16777216 }
 {
     if !is_run(words) {
         return status_of_write(write_all(sink, USAGE), Status::Usage);
@@ -67,7 +77,7 @@ pub fn polydb<R: Source, W: Sink>(
     }
 }
 
-// whether the words are the one command
+// Whether the words are the one command.
 fn is_run(words: &[String]) -> bool
     ensures { IsTrue result ↔ IsRun (map string_bytes words.now) }
 {
@@ -79,10 +89,12 @@ fn is_run(words: &[String]) -> bool
 
 // What `run` answers to an input that was read to its end.
 fn answer<W: Sink>(alloc: Global, input: &[u8], sink: &mut W) -> Status
-    requires { length input.now ≤ MAX_INPUT }
-    ensures answered { GivesUp result ⊎ IsAnswered input.now result (W.held sink.old) (W.held sink.new) }
-    ensures prefix { (status : Status) (output : List ℕ) → IsAnswer input.now status output → AppendsPrefix (W.held sink.old) (W.held sink.new) output }
+    requires { length input.now ≤ 16777216 }
+    ensures answered { GivesUp result ⊎ GrowsBySome (W.held sink.old) (W.held sink.new) (IsAnswer input.now result) }
+    ensures prefix { (status : Status) (output : List ℕ) → IsAnswer input.now status output →
+        AppendsPrefix (W.held sink.old) (W.held sink.new) output }
     ensures read_fault { result ≢ Status.ReadFault }
+    ensures too_long { result ≢ Status.TooLong }
     ensures write_fault { result ≡ Status.WriteFault → Rose (W.faults sink.old) (W.faults sink.new) }
 {
     match read_schedule(alloc, input) {
@@ -92,7 +104,7 @@ fn answer<W: Sink>(alloc: Global, input: &[u8], sink: &mut W) -> Status
     }
 }
 
-// names the first line at fault
+// Names the first line at fault.
 fn refuse<W: Sink>(alloc: Global, line: u32, cause: LineCause, sink: &mut W) -> Status
     ensures written { result ≡ Status.Malformed → Appends (W.held sink.old) (W.held sink.new) (fault_text line) }
     ensures prefix { AppendsPrefix (W.held sink.old) (W.held sink.new) (fault_text line) }
@@ -106,6 +118,7 @@ fn refuse<W: Sink>(alloc: Global, line: u32, cause: LineCause, sink: &mut W) -> 
     }
 }
 
+// The status where this was to be written.
 fn status_of_write(written: Result<(), Failed>, status: Status) -> Status
     ensures { result ≡ (if is_ok written then status else Status.WriteFault) }
 {
@@ -115,6 +128,7 @@ fn status_of_write(written: Result<(), Failed>, status: Status) -> Status
     }
 }
 
+// The status of a run that ended so.
 fn status_of_run(end: Result<(), RunEnd>) -> Status
     ensures { result ≡ status_of end }
 {

@@ -22,7 +22,7 @@ fn main(rt: HostRuntime) -> ExitCode {
         // Words that aren't text are no command.
         Err(_) => start(&rt, &[]),
     };
-    ExitCode::from(status as u8)
+    ExitCode::from(status.code())
 }
 
 fn start(rt: &HostRuntime, words: &[String]) -> Status {

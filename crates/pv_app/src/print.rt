@@ -1,32 +1,18 @@
-// The lines that a run prints, as text behind what a buffer holds. After an error the buffer's content is of no use.
+// The lines that a run prints, each put after what a buffer holds. After an error the buffer's content is of no use.
 ghost use Rattle.std.specs.Prelude.{◌≡◌, ◌++◌, length, OnOk};
 ghost use Rattle.pv_app.specs.Answers.{cause_text, fault_text};
 ghost use Rattle.pv_app.specs.View.{reply_of};
-ghost use Rattle.pv_base.specs.Txn.{txn_text};
 ghost use Rattle.pv_model.specs.Print as model;
 ghost use Rattle.pv_model.specs.Print.{line_text, list_text, text_of};
 ghost use Rattle.pv_model.specs.Run.{item_lines, report_lines};
 
 use crate::world::Reply;
 use itoa::Buffer;
-use pv_base::{Catalog, ItemId, TxnId};
+use pv_base::{Catalog, ItemId, NoMemory, TxnId, push_txn};
 use pv_script::LineCause;
-use std::alloc::AllocError;
 
-// `site.epoch.number`
-fn push_txn(text: &mut Vec<u8>, txn: TxnId) -> Result<(), AllocError>
-    ensures { OnOk result (text.new.items ≡ text.old.items ++ txn_text txn) }
-{
-    let mut digits = Buffer::new();
-    text.extend_from_slice(digits.format(txn.site.0).as_bytes())?;
-    text.extend_from_slice(b".")?;
-    text.extend_from_slice(digits.format(txn.epoch).as_bytes())?;
-    text.extend_from_slice(b".")?;
-    text.extend_from_slice(digits.format(txn.number).as_bytes())
-}
-
-// each transaction behind a space
-fn push_list(text: &mut Vec<u8>, txns: &[TxnId]) -> Result<(), AllocError>
+// Each transaction, with a space before it.
+fn push_list(text: &mut Vec<u8>, txns: &[TxnId]) -> Result<(), NoMemory>
     ensures { OnOk result (text.new.items ≡ text.old.items ++ list_text txns.now) }
 {
     for txn in txns {
@@ -38,26 +24,27 @@ fn push_list(text: &mut Vec<u8>, txns: &[TxnId]) -> Result<(), AllocError>
 
 /// `txn T`
 #[tactic(auto, unfolding(pv_model::specs::Print::line_text))]
-pub fn push_txn_line(text: &mut Vec<u8>, txn: TxnId) -> Result<(), AllocError>
+pub fn push_txn_line(text: &mut Vec<u8>, txn: TxnId) -> Result<(), NoMemory>
     ensures { OnOk result (text.new.items ≡ text.old.items ++ line_text (model.txn txn)) }
 {
     text.extend_from_slice(b"txn ")?;
     push_txn(text, txn)?;
-    text.extend_from_slice(b"\n")
+    Ok(text.extend_from_slice(b"\n")?)
 }
 
 /// `commit T certain REPLY`
 #[tactic(auto, unfolding(pv_model::specs::Print::line_text))]
-pub fn push_commit_line(text: &mut Vec<u8>, txn: TxnId, reply: Reply) -> Result<(), AllocError>
+pub fn push_commit_line(text: &mut Vec<u8>, txn: TxnId, reply: Reply) -> Result<(), NoMemory>
     ensures { OnOk result (text.new.items ≡ text.old.items ++ line_text (model.commit txn (reply_of reply))) }
 {
     text.extend_from_slice(b"commit ")?;
     push_txn(text, txn)?;
     text.extend_from_slice(b" certain ")?;
     text.extend_from_slice(reply_text(reply))?;
-    text.extend_from_slice(b"\n")
+    Ok(text.extend_from_slice(b"\n")?)
 }
 
+// The reply, as it is printed.
 fn reply_text(reply: Reply) -> &'static [u8]
     ensures { result.now ≡ model.reply_text (reply_of reply) }
 {
@@ -67,18 +54,18 @@ fn reply_text(reply: Reply) -> &'static [u8]
     }
 }
 
-// a word, and then each transaction
-fn push_list_line(text: &mut Vec<u8>, word: &[u8], txns: &[TxnId]) -> Result<(), AllocError>
+// A word, and then each transaction.
+fn push_list_line(text: &mut Vec<u8>, word: &[u8], txns: &[TxnId]) -> Result<(), NoMemory>
     ensures { OnOk result (text.new.items ≡ text.old.items ++ (word.now ++ (list_text txns.now ++ model.line_feed))) }
 {
     text.extend_from_slice(word)?;
     push_list(text, txns)?;
-    text.extend_from_slice(b"\n")
+    Ok(text.extend_from_slice(b"\n")?)
 }
 
 // `item NAME VALUE`
 #[tactic(auto, unfolding(pv_model::specs::Print::line_text))]
-fn push_item_line(text: &mut Vec<u8>, name: &[u8], value: i64) -> Result<(), AllocError>
+fn push_item_line(text: &mut Vec<u8>, name: &[u8], value: i64) -> Result<(), NoMemory>
     ensures { OnOk result (text.new.items ≡ text.old.items ++ line_text (model.item name.now value)) }
 {
     let mut digits = Buffer::new();
@@ -86,11 +73,11 @@ fn push_item_line(text: &mut Vec<u8>, name: &[u8], value: i64) -> Result<(), All
     text.extend_from_slice(name)?;
     text.extend_from_slice(b" ")?;
     text.extend_from_slice(digits.format(value).as_bytes())?;
-    text.extend_from_slice(b"\n")
+    Ok(text.extend_from_slice(b"\n")?)
 }
 
-// a line for each item
-fn push_item_lines(text: &mut Vec<u8>, catalog: &Catalog, rows: &[i64]) -> Result<(), AllocError>
+// A line for each item.
+fn push_item_lines(text: &mut Vec<u8>, catalog: &Catalog, rows: &[i64]) -> Result<(), NoMemory>
     requires { length rows.now ≡ length catalog.now.items }
     ensures { OnOk result (text.new.items ≡ text.old.items ++ text_of (item_lines catalog.now.items rows.now)) }
 {
@@ -107,7 +94,7 @@ pub fn push_report(
     catalog: &Catalog,
     order: &[TxnId],
     rows: &[i64],
-) -> Result<(), AllocError>
+) -> Result<(), NoMemory>
     requires { length rows.now ≡ length catalog.now.items }
     ensures { OnOk result (text.new.items ≡ text.old.items ++ text_of (report_lines catalog.now order.now rows.now)) }
 {
@@ -115,12 +102,12 @@ pub fn push_report(
     push_list_line(text, b"committed", order)?;
     push_list_line(text, b"open", &[])?;
     push_item_lines(text, catalog, rows)?;
-    text.extend_from_slice(b"end\n")
+    Ok(text.extend_from_slice(b"end\n")?)
 }
 
 /// `line N: CAUSE`
 #[tactic(auto, unfolding(crate::specs::Answers::fault_text))]
-pub fn push_fault_line(text: &mut Vec<u8>, line: u32, cause: LineCause) -> Result<(), AllocError>
+pub fn push_fault_line(text: &mut Vec<u8>, line: u32, cause: LineCause) -> Result<(), NoMemory>
     ensures { OnOk result (text.new.items ≡ text.old.items ++ fault_text line) }
 {
     let mut digits = Buffer::new();
@@ -128,9 +115,10 @@ pub fn push_fault_line(text: &mut Vec<u8>, line: u32, cause: LineCause) -> Resul
     text.extend_from_slice(digits.format(line).as_bytes())?;
     text.extend_from_slice(b": ")?;
     text.extend_from_slice(text_of_cause(cause))?;
-    text.extend_from_slice(b"\n")
+    Ok(text.extend_from_slice(b"\n")?)
 }
 
+// What is wrong with a line, as it is printed.
 #[tactic(auto, unfolding(crate::specs::Answers::cause_text))]
 fn text_of_cause(cause: LineCause) -> &'static [u8]
     ensures { result.now ≡ cause_text }

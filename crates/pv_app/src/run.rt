@@ -12,10 +12,10 @@ ghost use Rattle.pv_script.specs.View.{event_of, schedule_of};
 
 use crate::print::{push_commit_line, push_report, push_txn_line};
 use crate::world::{Reply, World};
-use pv_base::{Catalog, Failed, TxnId};
+use pv_base::{Catalog, Failed, NoMemory, TxnId};
 use pv_io::{Sink, write_all};
 use pv_script::{Event, Schedule};
-use std::alloc::{AllocError, Global};
+use std::alloc::Global;
 
 /// Why a run was given up. What was written is a beginning of what it prints.
 #[derive(Clone, Copy, Debug, PartialEq, Eq)]
@@ -36,12 +36,12 @@ impl From<Failed> for RunEnd {
     }
 }
 
-impl From<AllocError> for RunEnd {
+impl From<NoMemory> for RunEnd {
     ghost use Rattle.pv_app.specs.declared.run.RunEnd.TheVariants as end;
 
     ghost from_gives = { λ _ e. e ≡ end.NoMemory };
 
-    fn from(_: AllocError) -> Self {
+    fn from(_: NoMemory) -> Self {
         RunEnd::NoMemory
     }
 }
@@ -85,7 +85,7 @@ fn step<W: Sink>(
     }
 }
 
-// a submit, and the pump that commits its transaction
+// A submit, and the pump that commits its transaction.
 fn submit<W: Sink>(
     world: &mut World,
     addend: i64,
@@ -106,6 +106,7 @@ fn submit<W: Sink>(
     write_commit(txn, reply, text, sink)
 }
 
+// The line of a submit.
 fn write_txn<W: Sink>(txn: TxnId, text: &mut Vec<u8>, sink: &mut W) -> Result<(), RunEnd>
     ensures written { OnOk result (Appends (W.held sink.old) (W.held sink.new) (line_text (model.txn txn))) }
     ensures prefix { OnErr result (AppendsPrefix (W.held sink.old) (W.held sink.new) (line_text (model.txn txn))) }
@@ -117,6 +118,7 @@ fn write_txn<W: Sink>(txn: TxnId, text: &mut Vec<u8>, sink: &mut W) -> Result<()
     Ok(write_all(sink, text)?)
 }
 
+// The line of a pump.
 fn write_commit<W: Sink>(
     txn: TxnId,
     reply: Reply,
@@ -133,6 +135,7 @@ fn write_commit<W: Sink>(
     Ok(write_all(sink, text)?)
 }
 
+// The lines of a report, in one write.
 fn report<W: Sink>(
     catalog: &Catalog,
     world: &World,

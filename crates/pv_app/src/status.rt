@@ -1,4 +1,5 @@
 // How the program ends.
+ghost use Rattle.std.specs.Prelude.{◌≡◌};
 
 /// How a call of the program ended. The numbers are the exit codes.
 #[derive(Clone, Copy, Debug, PartialEq, Eq)]
@@ -17,4 +18,15 @@ pub enum Status {
     TooLong = 6,
     /// There was no memory. A beginning of the text was written.
     NoMemory = 7,
+}
+
+impl Status {
+    ghost use Rattle.pv_app.specs.Answers.{exit_code};
+
+    /// The exit code of a program that ends so.
+    pub fn code(self) -> u8
+        ensures { result ≡ exit_code self }
+    {
+        self as u8
+    }
 }

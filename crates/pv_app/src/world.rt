@@ -4,8 +4,8 @@ ghost use Rattle.pv_model.specs.Program.{exec};
 ghost use Rattle.pv_model.specs.Run.{declared_rows};
 ghost use Rattle.pv_app.specs.View.{SumFits, reply_of};
 
-use pv_base::{Catalog, ItemId, SiteId, TxnId};
-use std::alloc::{AllocError, Global};
+use pv_base::{Catalog, ItemId, NoMemory, SiteId, TxnId};
+use std::alloc::Global;
 use std::marker::Model;
 
 /// What a transaction replies.
@@ -37,7 +37,7 @@ impl World {
     ghost use Rattle.pv_model.specs.Run.{opening, after, txn_of, program_of};
 
     /// No transaction yet, and the declared values.
-    pub fn new(alloc: Global, catalog: &Catalog) -> Result<World, AllocError>
+    pub fn new(alloc: Global, catalog: &Catalog) -> Result<World, NoMemory>
         ensures { IfOk result (λ world. world ≡ opening catalog.now) }
     {
         Ok(World {
@@ -73,7 +73,7 @@ impl World {
     }
 
     /// Commits the transaction that adds to the one item. Without memory the world stays as it was.
-    pub fn commit(&mut self, addend: i64) -> Result<Reply, AllocError>
+    pub fn commit(&mut self, addend: i64) -> Result<Reply, NoMemory>
         requires number { length self.old.order < 2 ^ 32 - 1 }
         requires row { 0 < length self.old.rows }
         ensures after { OnOk result (self.new ≡ after self.old (submit addend)) }
@@ -86,8 +86,8 @@ impl World {
     }
 }
 
-// the value that each item is declared with
-fn values_of(alloc: Global, catalog: &Catalog) -> Result<Vec<i64>, AllocError>
+// The value that each item is declared with.
+fn values_of(alloc: Global, catalog: &Catalog) -> Result<Vec<i64>, NoMemory>
     ensures { IfOk result (λ rows. rows.items ≡ declared_rows catalog.now) }
 {
     let mut rows = Vec::new(alloc);
@@ -97,11 +97,10 @@ fn values_of(alloc: Global, catalog: &Catalog) -> Result<Vec<i64>, AllocError>
     Ok(rows)
 }
 
-// runs `item := item + addend`
+// Runs `item := item + addend`.
 fn add(rows: &mut [i64], item: usize, addend: i64) -> Reply
     requires { item < length rows.old }
-    ensures rows { rows.new ≡ (exec (record { item = item; addend = addend }) rows.old).rows }
-    ensures reply { reply_of result ≡ (exec (record { item = item; addend = addend }) rows.old).reply }
+    ensures { record { rows = rows.new; reply = reply_of result } ≡ exec (record { item = item; addend = addend }) rows.old }
 {
     match sum_of(rows[item], addend) {
         Some(sum) => {
@@ -112,7 +111,7 @@ fn add(rows: &mut [i64], item: usize, addend: i64) -> Reply
     }
 }
 
-// the sum, where it has 64 bits
+// The sum, where it has 64 bits.
 fn sum_of(value: i64, addend: i64) -> Option<i64>
     ensures { SumFits (value +ℤ addend) result }
 {

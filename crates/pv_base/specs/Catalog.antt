@@ -4,38 +4,41 @@ use Rattle.std.specs.Option.{option_map_or}
 use Rattle.std.specs.Str.{bytes_eq}
 use Rattle.pv_base.specs.declared.catalog.CatalogError.{CatalogError}
 use Rattle.pv_base.specs.declared.catalog.CatalogError.TheVariants.{BadName, NameTaken, NoSite, TooMany}
-use Rattle.pv_base.specs.declared.catalog.TheConstants.{MAX_ITEMS}
 use Rattle.pv_base.specs.Name.{is_name}
 
--- an item as it was declared
+-- An item as it was declared.
 pub record Item : Type 0 where
   pub name : List ℕ
   pub site : ℕ
   pub value : ℤ
 
--- what a catalog says: the count of sites, the limit of each journal in bytes, and the items in order of declaration
+-- What a catalog says: the count of sites, the limit of each journal in bytes, and the items in order of declaration.
 pub record Declared : Type 0 where
   pub sites : ℕ
   pub journal : ℕ
   pub items : List Item
 
--- the place of the item of this name
+-- The place of the item of this name.
 abbrev pub place_of : List ℕ → List Item → Option ℕ
 place_of name items = position (λ item. bytes_eq name item.name) items
 
--- the catalog with one more item, the last
+-- The catalog with one more item, the last.
 abbrev pub with_item : Declared → Item → Declared
 with_item declared item = record declared { items = declared.items ++ item ∷ [] }
 
--- why an item of a new name is refused at this site
+-- Why a name is refused that the item at this place has.
+abbrev pub refusal_of_taken : ℕ → Option CatalogError
+refusal_of_taken place = Some (NameTaken (record { 0 = place }))
+
+-- Why an item of a new name is refused at this site.
 abbrev pub refusal_of_new : Declared → ℕ → Option CatalogError
 refusal_of_new declared site =
     if nat_le declared.sites site then Some NoSite else
-    (if nat_le MAX_ITEMS (length declared.items) then Some TooMany else None)
+    (if nat_le 1024 (length declared.items) then Some TooMany else None)
 
 -- Why an addition is refused, the first cause that there is. Want of memory comes after all of these.
 abbrev pub refusal : Declared → List ℕ → ℕ → Option CatalogError
 refusal declared name site =
     if is_name name
-    then option_map_or (λ place. Some (NameTaken (record { 0 = place }))) (place_of name declared.items) (refusal_of_new declared site)
+    then option_map_or refusal_of_taken (place_of name declared.items) (refusal_of_new declared site)
     else Some BadName

@@ -1,26 +1,25 @@
 -- What a catalog's fields say.
-use Rattle.std.specs.Prelude.{ℕ, ◌≤◌, List, map, length}
+use Rattle.std.specs.Prelude.{ℕ, ◌≤◌, ◌^◌, List, map, length}
 use Rattle.std.specs.Global.{Vec}
 use Rattle.pv_base.specs.declared.catalog.Catalog.TheInside.{Inside}
 use Rattle.pv_base.specs.declared.entries.Declaration.{Declaration}
-use Rattle.pv_base.specs.declared.catalog.TheConstants.{MAX_SITES, MIN_JOURNAL, MAX_JOURNAL, MAX_ITEMS}
 use Rattle.pv_base.specs.Catalog.{Item, Declared}
 
--- an entry of the map, as the item that it stands for
+-- An entry of the map, as the item that it stands for.
 abbrev pub item_of : Vec ℕ × Declaration → Item
 item_of entry = record { name = entry.0.items; site = entry.1.site.0; value = entry.1.value }
 
--- the entries, as items
+-- The entries, as items.
 abbrev pub items_of : List (Vec ℕ × Declaration) → List Item
 items_of entries = map item_of entries
 
 abbrev pub declared_of : Inside → Declared
 declared_of inside = record { sites = inside.sites; journal = inside.journal; items = items_of inside.items.entries }
 
--- the limits of a catalog
+-- The limits of a catalog.
 pub record IsWithinLimits (inside : Inside) : Type 0 where
   pub some_site : 1 ≤ inside.sites
-  pub few_sites : inside.sites ≤ MAX_SITES
-  pub least_journal : MIN_JOURNAL ≤ inside.journal
-  pub most_journal : inside.journal ≤ MAX_JOURNAL
-  pub few_items : length inside.items.entries ≤ MAX_ITEMS
+  pub few_sites : inside.sites ≤ 16
+  pub least_journal : 32 ≤ inside.journal
+  pub most_journal : inside.journal ≤ 2 ^ 32
+  pub few_items : length inside.items.entries ≤ 1024

@@ -3,28 +3,29 @@ use Rattle.std.specs.Prelude.{ℕ, Bool, false, not, ◌&&◌, ◌||◌, ◌==�
 use Rattle.std.specs.List.{list_any, list_all}
 use Rattle.std.specs.Str.{bytes_eq}
 
--- the words of the program language, none of which names an item
+-- The words of the program language, none of which names an item.
 abbrev pub keywords : List (List ℕ)
 keywords =
-    codes "and" ∷ codes "or" ∷ codes "not" ∷ codes "min" ∷ codes "max" ∷ codes "if" ∷ codes "else" ∷ codes "require" ∷ codes "return" ∷ codes "certain" ∷ []
+    codes "and" ∷ codes "or" ∷ codes "not" ∷ codes "min" ∷ codes "max" ∷ codes "if" ∷ codes "else" ∷ codes "require"
+    ∷ codes "return" ∷ codes "certain" ∷ []
 
--- whether the text is one of those words
+-- Whether the text is one of those words.
 unfoldable pub is_keyword : List ℕ → Bool
 is_keyword text = list_any (bytes_eq text) keywords
 
--- an ASCII lower-case letter
+-- An ASCII lower-case letter.
 abbrev pub is_lower : ℕ → Bool
 is_lower b = nat_le 97 b && nat_le b 122
 
--- an ASCII digit
+-- An ASCII digit.
 abbrev pub is_digit : ℕ → Bool
 is_digit b = nat_le 48 b && nat_le b 57
 
--- lower-case letters, digits and `_` may follow the first letter of a name
+-- Lower-case letters, digits and `_` may follow the first letter of a name.
 abbrev pub continues_name : ℕ → Bool
 continues_name b = is_lower b || is_digit b || b == 95
 
--- whether the text is a lower-case letter and then bytes that may follow it
+-- Whether the text is a lower-case letter and then bytes that may follow it.
 unfoldable pub is_spelled_as_name : List ℕ → Bool
 is_spelled_as_name [] = false
 is_spelled_as_name (b ∷ bs) = is_lower b && list_all continues_name bs

@@ -12,16 +12,16 @@ use std::error::Error;
 use std::fmt;
 use std::marker::Model;
 
-/// The greatest count of sites.
+/// The greatest count of sites that a catalog may have.
 pub const MAX_SITES: u8 = 16;
 
-/// The least limit of a journal, in bytes.
+/// The least limit that a journal may have, in bytes.
 pub const MIN_JOURNAL: u64 = 32;
 
-/// The greatest limit of a journal, in bytes, and the limit where none is declared.
+/// The greatest limit that a journal may have, in bytes. It is the limit where none is declared.
 pub const MAX_JOURNAL: u64 = 4_294_967_296;
 
-/// The greatest count of items.
+/// The greatest count of items that a catalog may hold.
 pub const MAX_ITEMS: usize = 1024;
 
 /// An item, numbered from 0 in order of declaration.
@@ -31,7 +31,8 @@ pub struct ItemId(pub u32);
 /// Why an item wasn't added.
 #[derive(Clone, Copy, Debug, PartialEq, Eq, Hash)]
 pub enum CatalogError {
-    /// The text isn't a name: 1 to 16 bytes, a lower-case letter and then lower-case letters, digits and `_`, and no keyword.
+    /// The text isn't a name: 1 to 16 bytes, a lower-case letter and then lower-case letters, digits and `_`, and no
+    /// keyword.
     BadName,
     /// This item has the name.
     NameTaken(ItemId),
@@ -39,7 +40,7 @@ pub enum CatalogError {
     NoSite,
     /// The catalog holds [`MAX_ITEMS`] items.
     TooMany,
-    /// There was no memory.
+    /// There was no memory for the item.
     NoMemory,
 }
 
@@ -77,12 +78,20 @@ impl<T: Drop> From<AllocFailed<T>> for CatalogError {
     }
 }
 
-/// The count of sites, the journals' limit, and the items in order of declaration, no two of one name.
+/// What is declared of a database before it runs: how many sites there are, how long each site's journal may grow, and
+/// the items in order of declaration, no two of one name.
+///
+/// It gives each item a number, its [`ItemId`], by which everything else refers to the item, and it tells the name, the
+/// site and the first value of each. What an item holds later isn't in it.
 #[derive(Debug, Drop)]
 pub struct Catalog {
+    /// Where the memory for the items comes from.
     alloc: Global,
+    /// How many sites there are, 1 to [`MAX_SITES`].
     sites: u8,
+    /// The limit of each journal, in bytes, [`MIN_JOURNAL`] to [`MAX_JOURNAL`].
     journal: u64,
+    /// The items by name, at most [`MAX_ITEMS`]. The place of each is its number.
     items: Entries,
 }
 
@@ -101,7 +110,8 @@ impl Model for Catalog {
 impl Catalog {
     ghost use Rattle.pv_base.specs.Catalog.{Item, place_of, refusal, with_item};
 
-    /// A catalog without items, of 1 to [`MAX_SITES`] sites whose journals may have from [`MIN_JOURNAL`] to [`MAX_JOURNAL`] bytes.
+    /// A catalog without items, of 1 to [`MAX_SITES`] sites, whose journals may each have up to `journal` bytes, from
+    /// [`MIN_JOURNAL`] to [`MAX_JOURNAL`].
     pub fn new(alloc: Global, sites: u8, journal: u64) -> Catalog
         requires some_site { 1 ≤ sites }
         requires few_sites { sites ≤ MAX_SITES }
@@ -117,7 +127,17 @@ impl Catalog {
         }
     }
 
-    /// Adds an item, and answers its number. After a refusal the catalog is as it was.
+    /// Adds an item, the last, and answers its number.
+    ///
+    /// It is refused with the first of these that holds, and then the catalog is as it was:
+    ///
+    /// 1. `BadName`: the text isn't a name.
+    /// 2. `NameTaken`: an item has the name. The error says which.
+    /// 3. `NoSite`: the catalog has no such site.
+    /// 4. `TooMany`: the catalog holds [`MAX_ITEMS`] items.
+    /// 5. `NoMemory`: there was no memory for the item.
+    ///
+    /// The cost is that of copying the name and, amortized over the additions, a constant for the map.
     pub fn add(&mut self, name: &[u8], site: SiteId, value: i64) -> Result<ItemId, CatalogError>
         ensures number { IfOk result (λ item. item.0 ≡ length self.old.items) }
         ensures added { let item : Item = record { name = name.now; site = site.0; value = value } in
@@ -148,7 +168,8 @@ impl Catalog {
         Ok(ItemId(count as u32))
     }
 
-    /// An equal catalog.
+    /// An equal catalog, which shares nothing with this one. Its one error is [`NoMemory`]. The cost is linear in the
+    /// count of items, and in the bytes of their names.
     pub fn copy(&self) -> Result<Catalog, NoMemory>
         ensures { IfOk result (λ copy. copy ≡ self.now) }
     {
@@ -161,7 +182,7 @@ impl Catalog {
         })
     }
 
-    /// The item of that name.
+    /// The item of that name, or `None` where no item has the name.
     pub fn find(&self, name: &[u8]) -> Option<ItemId>
         ensures { option_map (λ item. item.0) result ≡ place_of name.now self.now.items }
     {

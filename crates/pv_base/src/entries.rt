@@ -10,7 +10,9 @@ use std::alloc::AllocError;
 /// Where an item is and what it is declared to hold.
 #[derive(Clone, Copy, Debug, PartialEq, Eq)]
 pub(crate) struct Declaration {
+    /// The site that owns the item.
     pub(crate) site: SiteId,
+    /// The value that the item has at first.
     pub(crate) value: i64,
 }
 
@@ -24,7 +26,7 @@ pub(crate) fn count_of(items: &Entries) -> usize
     items.len()
 }
 
-/// The place of the item of that name.
+/// The place of the item of that name, or `None` where no item has the name.
 pub(crate) fn find_item(items: &Entries, name: &[u8]) -> Option<usize>
     ensures place { result ≡ place_of name.now (items_of items.now.entries) }
     ensures within { IfSome result (λ place. place < length items.now.entries) }
@@ -51,7 +53,7 @@ pub(crate) fn declaration_at(items: &Entries, place: usize) -> Declaration
     *declaration
 }
 
-/// Adds an item under a new name, after the others.
+/// Adds an item under a new name, after the others. After an error the items are as they were.
 pub(crate) fn push_item(
     items: &mut Entries,
     name: Vec<u8>,
@@ -66,7 +68,7 @@ pub(crate) fn push_item(
     Ok(())
 }
 
-/// The same items.
+/// The same items, in memory of their own.
 pub(crate) fn copy_items(items: &Entries) -> Result<Entries, AllocError>
     ensures { IfOk result (λ copy. items_of copy.entries ≡ items_of items.now.entries) }
 {

@@ -10,7 +10,7 @@ mod txn;
 pub use catalog::{Catalog, CatalogError, ItemId, MAX_ITEMS, MAX_JOURNAL, MAX_SITES, MIN_JOURNAL};
 pub use failure::{Failed, NoMemory};
 pub use naming::is_name;
-pub use txn::{SiteId, TxnId, print_txn};
+pub use txn::{SiteId, TxnId, print_txn, push_txn};
 
 #[cfg(test)]
 mod tests;

@@ -4,7 +4,7 @@ ghost use Rattle.std.specs.List.{list_all, list_any};
 ghost use Rattle.std.specs.Str.{bytes_eq};
 ghost use Rattle.pv_base.specs.Name.{continues_name, is_keyword, is_name, is_spelled_as_name};
 
-// The most bytes that a name has.
+// The most that a name has, in bytes.
 const MAX_NAME: usize = 16;
 
 // The words of the program language, none of which names an item.
@@ -32,6 +32,7 @@ fn is_spelled_as_name(text: &[u8]) -> bool
     }
 }
 
+// Whether each byte may follow the first letter of a name.
 fn all_continue_name(bytes: &[u8]) -> bool
     ensures { result ≡ list_all continues_name bytes.now }
 {
@@ -45,6 +46,7 @@ fn continues_name(byte: u8) -> bool
     byte.is_ascii_lowercase() || byte.is_ascii_digit() || byte == b'_'
 }
 
+// Whether the text is a word of the program language.
 #[tactic(auto, unfolding(crate::specs::Name::is_keyword))]
 fn is_keyword(text: &[u8]) -> bool
     ensures { result ≡ is_keyword text.now }
@@ -52,6 +54,7 @@ fn is_keyword(text: &[u8]) -> bool
     is_among(text, &KEYWORDS)
 }
 
+// Whether the text is one of the words. They are an argument, so that no proof writes the table of keywords out.
 fn is_among(text: &[u8], words: &[&[u8]]) -> bool
     ensures { result ≡ list_any (λ word. bytes_eq text.now word.now) words.now }
 {

@@ -1,7 +1,8 @@
-// What no clause says: how a transaction is printed, what the refusals are on one catalog, and that calls succeed.
+// Worked values, beside what the clauses say of all values; that calls which want memory have their answer where there
+// is some; and the texts for people, of which no clause speaks.
 use crate::{
     Catalog, CatalogError, Failed, ItemId, MAX_ITEMS, MAX_JOURNAL, MIN_JOURNAL, NoMemory, SiteId,
-    TxnId, is_name, print_txn,
+    TxnId, is_name, print_txn, push_txn,
 };
 use std::process::Abort;
 use std::test::Fail;
@@ -31,6 +32,19 @@ fn a_transaction_is_printed_with_dots(rt: HostRuntime) -> Result<(), NoMemory> {
     };
     let text = print_txn(rt.alloc(), first)?;
     assert_eq!(rt; text.as_slice(), b"0.1.0".as_slice());
+    Ok(())
+}
+
+#[test]
+fn a_transaction_is_put_behind_what_the_buffer_holds(rt: HostRuntime) -> Result<(), Fail> {
+    let last = TxnId {
+        site: SiteId(15),
+        epoch: u32::MAX,
+        number: u32::MAX,
+    };
+    let mut text = b"txn ".to_vec(rt.alloc())?;
+    push_txn(&mut text, last)?;
+    assert_eq!(rt; text.as_slice(), b"txn 15.4294967295.4294967295".as_slice());
     Ok(())
 }
 

@@ -1,8 +1,9 @@
 // Sites and transactions, and how a transaction is printed.
-ghost use Rattle.std.specs.Prelude.{◌≡◌, IfOk};
+ghost use Rattle.std.specs.Prelude.{◌≡◌, ◌++◌, IfOk, OnOk};
 ghost use Rattle.pv_base.specs.Txn.{txn_text};
 
 use crate::NoMemory;
+use itoa::Buffer;
 use std::alloc::Global;
 
 /// A site, numbered from 0. A database has 1 to 16.
@@ -24,6 +25,21 @@ pub struct TxnId {
 pub fn print_txn(alloc: Global, txn: TxnId) -> Result<Vec<u8>, NoMemory>
     ensures { IfOk result (λ text. text.items ≡ txn_text txn) }
 {
-    let text = format!(in alloc; "{}.{}.{}", txn.site.0, txn.epoch, txn.number)?;
-    Ok(text.into_bytes())
+    let mut text = Vec::new(alloc);
+    push_txn(&mut text, txn)?;
+    Ok(text)
+}
+
+/// Puts the transaction, as [`print_txn`] prints it, behind what the buffer holds. After an error nothing is promised
+/// of what the buffer holds.
+pub fn push_txn(text: &mut Vec<u8>, txn: TxnId) -> Result<(), NoMemory>
+    ensures { OnOk result (text.new.items ≡ text.old.items ++ txn_text txn) }
+{
+    let mut digits = Buffer::new();
+    text.extend_from_slice(digits.format(txn.site.0).as_bytes())?;
+    text.extend_from_slice(b".")?;
+    text.extend_from_slice(digits.format(txn.epoch).as_bytes())?;
+    text.extend_from_slice(b".")?;
+    text.extend_from_slice(digits.format(txn.number).as_bytes())?;
+    Ok(())
 }

@@ -1,1 +1,2 @@
-pub mod Texts
+-- The lemmas of this crate.
+pub mod ReadLemmas

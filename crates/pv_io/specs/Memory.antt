@@ -2,32 +2,32 @@
 use Rattle.std.specs.Prelude.{ℕ, List, ◌++◌, drop}
 use Rattle.pv_io.specs.Stream.{one_more}
 
--- a source: the bytes that are left, the calls so far, the numbers of the calls that fail, and how many calls failed
+-- A source: the bytes that are left, the calls so far, the numbers of the calls that fail, and how many calls failed.
 pub record SourceState : Type 0 where
   pub left : List ℕ
   pub calls : ℕ
   pub fails : List ℕ
   pub faults : ℕ
 
--- a sink: the bytes that it holds, and the rest as in a source
+-- A sink: the bytes that it holds, and the rest as in a source.
 pub record SinkState : Type 0 where
   pub held : List ℕ
   pub calls : ℕ
   pub fails : List ℕ
   pub faults : ℕ
 
--- the source after a call that failed
+-- The source after a call that failed.
 abbrev pub failed_source : SourceState → SourceState
 failed_source s = record s { calls = one_more s.calls; faults = one_more s.faults }
 
--- the source after a call that gave n bytes
+-- The source after a call that gave n bytes.
 abbrev pub read_source : SourceState → ℕ → SourceState
 read_source s n = record s { left = drop n s.left; calls = one_more s.calls }
 
--- the sink after a call that failed
+-- The sink after a call that failed.
 abbrev pub failed_sink : SinkState → SinkState
 failed_sink s = record s { calls = one_more s.calls; faults = one_more s.faults }
 
--- the sink after a call that took these bytes
+-- The sink after a call that took these bytes.
 abbrev pub written_sink : SinkState → List ℕ → SinkState
 written_sink s bytes = record s { held = s.held ++ bytes; calls = one_more s.calls }

@@ -1,9 +1,9 @@
 //! Bytes in and bytes out: where a program's input comes from and where its output goes, each with a count of faults.
 #![tactic(auto)]
 
+mod fail_plan;
 mod memory;
 mod read_end;
-mod schedule;
 mod sink;
 mod source;
 mod stream;

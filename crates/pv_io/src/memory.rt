@@ -5,7 +5,7 @@ ghost use Rattle.pv_base.specs.Fault.{HasCause};
 ghost use Rattle.pv_io.specs.Stream.{TellsAlike};
 ghost use Rattle.pv_io.specs.Memory.{SourceState, SinkState, read_source, failed_source, written_sink, failed_sink};
 
-use crate::schedule::Schedule;
+use crate::fail_plan::FailPlan;
 use crate::{Sink, Source};
 use pv_base::Failed;
 use std::alloc::Global;
@@ -15,9 +15,12 @@ use std::marker::Model;
 /// to fail give nothing. The numbers and the count of faults end at u64's greatest value, and stay there.
 #[derive(Debug, Drop)]
 pub struct MemSource {
+    /// All the bytes, also those that were read.
     bytes: Vec<u8>,
+    /// How many of them were read.
     given: usize,
-    schedule: Schedule,
+    /// Which calls of `read` fail.
+    plan: FailPlan,
 }
 
 impl Model for MemSource {
@@ -28,9 +31,9 @@ impl Model for MemSource {
 
     ghost view = { λ s. record {
       left = drop s.given s.bytes.items;
-      calls = s.schedule.calls;
-      fails = s.schedule.fails.items;
-      faults = s.schedule.faults;
+      calls = s.plan.calls;
+      fails = s.plan.fails.items;
+      faults = s.plan.faults;
     } };
 
     ghost invariant = { λ s. s.given ≤ vec_len s.bytes };
@@ -44,7 +47,7 @@ impl MemSource {
         MemSource {
             bytes,
             given: 0,
-            schedule: Schedule::new(fails),
+            plan: FailPlan::new(fails),
         }
     }
 
@@ -60,7 +63,7 @@ impl MemSource {
     pub fn faults(&self) -> u64
         ensures { result ≡ self.now.faults }
     {
-        self.schedule.faults
+        self.plan.faults
     }
 }
 
@@ -81,7 +84,7 @@ impl Source for MemSource {
         ensures copied { IfOk result (λ n. into.new ≡ take n self.old.left ++ drop n into.old) }
         ensures read { IfOk result (λ n. self.new ≡ read_source self.old n) }
     {
-        self.schedule.begin_call()?;
+        self.plan.begin_call()?;
         let (_, left) = self.bytes.split_at(self.given);
         let count = copy_front(left, into);
         self.given += count;
@@ -89,7 +92,7 @@ impl Source for MemSource {
     }
 }
 
-// Copies as many bytes as fit to the front of `into`.
+// Copies as many bytes as fit to the front of `into`, and answers how many.
 fn copy_front(from: &[u8], into: &mut [u8]) -> usize
     ensures count { result ≡ min (length into.old) (length from.now) }
     ensures copied { into.new ≡ take result from.now ++ drop result into.old }
@@ -109,8 +112,10 @@ fn copy_front(from: &[u8], into: &mut [u8]) -> usize
 /// value, and stay there.
 #[derive(Debug, Drop)]
 pub struct MemSink {
+    /// The bytes that were written.
     bytes: Vec<u8>,
-    schedule: Schedule,
+    /// Which calls of `write` fail.
+    plan: FailPlan,
 }
 
 impl Model for MemSink {
@@ -120,9 +125,9 @@ impl Model for MemSink {
 
     ghost view = { λ s. record {
       held = s.bytes.items;
-      calls = s.schedule.calls;
-      fails = s.schedule.fails.items;
-      faults = s.schedule.faults;
+      calls = s.plan.calls;
+      fails = s.plan.fails.items;
+      faults = s.plan.faults;
     } };
 }
 
@@ -133,7 +138,7 @@ impl MemSink {
     {
         MemSink {
             bytes: Vec::new(alloc),
-            schedule: Schedule::new(fails),
+            plan: FailPlan::new(fails),
         }
     }
 
@@ -148,7 +153,7 @@ impl MemSink {
     pub fn faults(&self) -> u64
         ensures { result ≡ self.now.faults }
     {
-        self.schedule.faults
+        self.plan.faults
     }
 }
 
@@ -171,9 +176,9 @@ impl Sink for MemSink {
         ensures count { IfOk result (λ n. n ≡ length bytes.now) }
         ensures written { OnOk result (self.new ≡ written_sink self.old bytes.now) }
     {
-        self.schedule.begin_call()?;
+        self.plan.begin_call()?;
         if self.bytes.extend_from_slice(bytes).is_err() {
-            return Err(self.schedule.fault());
+            return Err(self.plan.fault());
         }
         Ok(bytes.len())
     }

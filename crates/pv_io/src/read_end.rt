@@ -11,11 +11,11 @@ use std::fmt;
 /// Why not all of a source was read.
 #[derive(Clone, Copy, Debug, PartialEq, Eq, Hash)]
 pub enum ReadEnd {
-    /// A read failed.
+    /// A read of the source failed, and the source counted the fault.
     Failed,
-    /// More bytes came than the limit allows.
+    /// More bytes came than the limit allows. The source may have more of them still.
     TooLong,
-    /// There was no memory for the bytes.
+    /// There was no memory for the bytes, or for the piece that they are read into.
     NoMemory,
 }
 

@@ -11,11 +11,15 @@ use std::io::{Read, Write};
 use std::snapshot::Snapshot;
 
 /// A source over a reader. It tells the bytes that the reader has left where the reader told them when it was passed
-/// to `new`. An error of the reader counts as a fault.
+/// to `new`. Each error of the reader counts as a fault, also that of a call which a signal interrupted: it isn't made
+/// again.
 #[derive(Drop)]
 pub struct StdSource<R: Read> {
+    /// The reader.
     inner: R,
+    /// The reader as it was passed to `new`, for the proof.
     first: Snapshot<R>,
+    /// How many calls have failed, up to u64's greatest value.
     faults: u64,
     ghost tells: { ForSome (R.remaining first.value) (λ _. IsSome (R.remaining inner)) },
 }
@@ -69,11 +73,17 @@ impl<R: Read> Source for StdSource<R> {
 }
 
 /// A sink over a writer. It tells the bytes that the writer holds where the writer told them when it was passed to
-/// `new`. An error of the writer counts as a fault, and so does a write that takes nothing of a piece that has bytes.
+/// `new`. Each error of the writer counts as a fault, also that of a call which a signal interrupted: it isn't made
+/// again. A write that takes nothing of a piece that has bytes counts as one too.
+///
+/// The sink never flushes, so it is meant for a writer without a buffer of its own.
 #[derive(Drop)]
 pub struct StdSink<W: Write> {
+    /// The writer.
     inner: W,
+    /// The writer as it was passed to `new`, for the proof.
     first: Snapshot<W>,
+    /// How many calls have failed, up to u64's greatest value.
     faults: u64,
     ghost tells: { ForSome (W.contents first.value) (λ _. IsSome (W.contents inner)) },
 }

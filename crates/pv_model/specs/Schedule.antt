@@ -20,46 +20,57 @@ pub record Schedule : Type 0 where
 abbrev pub catalog_of : Item → Declared
 catalog_of item = record { sites = 1; journal = 2 ^ 32; items = item ∷ [] }
 
--- a well-formed line of these words
-pub record HasWords (line : Line) (spelled : List (List ℕ)) : Type 0 where
+-- a well-formed line whose words spell this
+pub record Says (Spells : List (List ℕ) → Type 0) (line : Line) : Type 0 where
   pub text : IsText line
-  pub words : words line ≡ spelled
+  pub words : Spells (words line)
 
 -- `sites 1`
-pub record IsSites (line : Line) : Type 0 where
+pub record SpellsSites (spelled : List (List ℕ)) : Type 0 where
   pub count : List ℕ
-  pub words : HasWords line (codes "sites" ∷ count ∷ [])
+  pub are : spelled ≡ codes "sites" ∷ count ∷ []
   pub one : IsNumber count 1
 
 -- `item NAME 0 VALUE`
-pub record IsItem (line : Line) (item : Item) : Type 0 where
+pub record SpellsItem (item : Item) (spelled : List (List ℕ)) : Type 0 where
   pub site : List ℕ
   pub value : List ℕ
-  pub words : HasWords line (codes "item" ∷ item.name ∷ site ∷ value ∷ [])
-  pub name : IsTrue (is_name item.name)
-  pub at : IsNumber site item.site
+  pub are : spelled ≡ codes "item" ∷ item.name ∷ site ∷ value ∷ []
+  pub at : IsNumber site 0
   pub first_site : item.site ≡ 0
   pub number : IsSigned value item.value
   pub fits : IsTrue (fits_i64 item.value)
 
 -- `submit 0 NAME := NAME + ADDEND`
-pub record IsSubmit (name : List ℕ) (line : Line) (addend : ℤ) : Type 0 where
+pub record SpellsSubmit (name : List ℕ) (addend : ℤ) (spelled : List (List ℕ)) : Type 0 where
   pub site : List ℕ
   pub number : List ℕ
   pub magnitude : ℕ
-  pub words : HasWords line (codes "submit" ∷ site ∷ name ∷ codes ":=" ∷ name ∷ codes "+" ∷ number ∷ [])
+  pub are : spelled ≡ codes "submit" ∷ site ∷ name ∷ codes ":=" ∷ name ∷ codes "+" ∷ number ∷ []
   pub at : IsNumber site 0
   pub value : IsNumber number magnitude
   pub fits : magnitude < 2 ^ 63
   pub same : addend ≡ pos magnitude
 
--- `pump`
-abbrev pub IsPump : Line → Type 0
-IsPump line = HasWords line (codes "pump" ∷ [])
+-- one word and no more
+abbrev pub SpellsWord : List ℕ → List (List ℕ) → Type 0
+SpellsWord word spelled = spelled ≡ word ∷ []
 
--- `report`
+abbrev pub IsSites : Line → Type 0
+IsSites line = Says SpellsSites line
+
+-- An item is declared where its name may be one.
+abbrev pub IsItem : Line → Item → Type 0
+IsItem line item = Says (SpellsItem item) line × IsTrue (is_name item.name)
+
+abbrev pub IsSubmit : List ℕ → Line → ℤ → Type 0
+IsSubmit name line addend = Says (SpellsSubmit name addend) line
+
+abbrev pub IsPump : Line → Type 0
+IsPump line = Says (SpellsWord (codes "pump")) line
+
 abbrev pub IsReport : Line → Type 0
-IsReport line = HasWords line (codes "report" ∷ [])
+IsReport line = Says (SpellsWord (codes "report")) line
 
 -- Lines are events, over the item of this name: each report is a line, and each submit two.
 abbrev pub AreEvents : List ℕ → List Line → List Event → Type 0

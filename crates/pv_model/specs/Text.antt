@@ -4,6 +4,7 @@ use lib.IntN.{neg_ℤ}
 use Rattle.std.specs.List.{slice_split, list_all, enumerate_from}
 use Rattle.std.specs.Option.{option_map_or}
 use Rattle.std.specs.Str.Lines.{strip_carriage_return}
+use Rattle.pv_base.specs.Name.{is_digit}
 
 -- a line of a text, without its end
 abbrev pub Line : Type 0
@@ -27,9 +28,13 @@ is_blank b = b == 32 || b == 9
 unfoldable pub is_counted : Line → Bool
 is_counted line = option_map_or (λ b. not (b == 35)) (find (λ b. not (is_blank b)) line) false
 
--- the lines that count, each with its number; all lines are numbered, from 1
+-- the lines that count, each with its number, among lines of which the first has this number
+abbrev pub counted_from : ℕ → List Line → List (ℕ × Line)
+counted_from first lines = filter (λ line. is_counted line.1) (enumerate_from first lines)
+
+-- the lines of a text that count; all of its lines are numbered, from 1
 unfoldable pub numbered : List ℕ → List (ℕ × Line)
-numbered text = filter (λ line. is_counted line.1) (enumerate_from 1 (lines text))
+numbered text = counted_from 1 (lines text)
 
 -- Words are parted by one or more blanks.
 unfoldable pub words : Line → List (List ℕ)
@@ -43,9 +48,6 @@ is_text_byte b = b == 9 || (nat_le 32 b && nat_le b 126)
 pub record IsText (line : Line) : Type 0 where
   pub short : length line ≤ 1000
   pub bytes : IsTrue (list_all is_text_byte line)
-
-abbrev pub is_digit : ℕ → Bool
-is_digit c = nat_le 48 c && nat_le c 57
 
 -- what digits stand for, each by the weight of its place
 abbrev pub value_of : List ℕ → ℕ

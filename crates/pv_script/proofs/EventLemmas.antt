@@ -1,5 +1,5 @@
 -- What the lines behind the sites, the item, a submit and an event have to be.
-use Rattle.std.proofs.Common.{◌≡◌, ℕ, List, [], ◌∷◌, ◌++◌, refl, codes, lit≤, lit<}
+use Rattle.std.proofs.Common.{◌≡◌, ℕ, List, [], ◌∷◌, ◌++◌, refl, ap, codes, lit≤, lit<}
 use Rattle.std.specs.Prelude.{ℤ, pos}
 use Rattle.pv_base.specs.Catalog.{Item}
 use Rattle.pv_base.specs.Name.{is_name, is_spelled_as_name, is_keyword}
@@ -8,6 +8,7 @@ use Rattle.pv_model.specs.Schedule.{Event, submit, report, AreEvents, AreSomeSch
 use Rattle.pv_model.specs.Text.{Line, words}
 use Rattle.pv_script.specs.declared.schedule.Event as read
 use Rattle.std.proofs.lemmas.List.{map-append, append-nil, append_assoc}
+use Rattle.pv_model.proofs.ScheduleLemmas.{one_item, report_is_no_submit}
 use Rattle.pv_script.specs.View.{event_of, events_of}
 use Rattle.pv_script.specs.Steps.{TakesEvent, AreSomeEvents, ArePumpAndEvents, AreItemAndEvents}
 use Rattle.pv_script.proofs.FaultLemmas.{Leaves, IsFirstFault-cons}
@@ -25,16 +26,21 @@ some_item = record { name = codes "a"; site = 0; value = pos 0 }
 
 IsItem-some : IsItem (codes "item a 0 0") some_item
 unfolding words is_name is_spelled_as_name is_keyword
-IsItem-some = record {
-  site = codes "0";
-  value = codes "0";
-  words = record { text = record { short = lit≤ tt; bytes = refl }; words = refl };
-  name = refl;
-  at = record { some = lit< tt; digits = refl; value = refl };
-  first_site = refl;
-  number = record { some = lit< tt; digits = refl; value = refl };
-  fits = refl;
-}
+IsItem-some = (
+  record {
+    text = record { short = lit≤ tt; bytes = refl };
+    words = record {
+      site = codes "0";
+      value = codes "0";
+      are = refl;
+      at = record { some = lit< tt; digits = refl; value = refl };
+      first_site = refl;
+      number = record { some = lit< tt; digits = refl; value = refl };
+      fits = refl;
+    };
+  },
+  refl,
+)
 
 pub whole_item : (whole : List Line) × AreItemAndEvents whole
 whole_item = (codes "item a 0 0" ∷ [], (some_item, IsItem-some, ([], tt)))
@@ -42,9 +48,8 @@ whole_item = (codes "item a 0 0" ∷ [], (some_item, IsItem-some, ([], tt)))
 IsSites-some : IsSites (codes "sites 1")
 unfolding words
 IsSites-some = record {
-  count = codes "1";
-  words = record { text = record { short = lit≤ tt; bytes = refl }; words = refl };
-  one = record { some = lit< tt; digits = refl; value = refl };
+  text = record { short = lit≤ tt; bytes = refl };
+  words = record { count = codes "1"; are = refl; one = record { some = lit< tt; digits = refl; value = refl } };
 }
 
 pub whole_schedule : (whole : List Line) × AreSomeSchedule whole
@@ -55,13 +60,6 @@ whole_schedule = (
 
 pub whole_events : (name : List ℕ) → (whole : List Line) × AreSomeEvents name whole
 whole_events name = ([], ([], tt))
-
--- ---- no line is of two kinds
-report-no_submit : (name : List ℕ) (line : Line) (addend : ℤ) → IsReport line → IsSubmit name line addend → ⊥
-report-no_submit name line addend is also = let one = is.words in let two = also.words.words in cc
-
-item-one_name : (line : Line) (item other : Item) → IsItem line item → IsItem line other → item.name ≡ other.name
-item-one_name line item other is also = let one = is.words.words in let two = also.words.words in cc
 
 -- ---- what is left behind each line
 sites-taken : (line : Line) (rest : List Line) → AreSomeSchedule (line ∷ rest) → AreItemAndEvents rest
@@ -78,7 +76,7 @@ Leaves-sites line is = record { taken = sites-taken line; put = sites-put line i
 
 pub Leaves-item : (line : Line) (item : Item) → IsItem line item → Leaves AreItemAndEvents (AreSomeEvents item.name) line
 Leaves-item line item is = record {
-  taken = λ rest are. rw (item-one_name line item are.0 is are.1) are.2;
+  taken = λ rest are. rw (ap (λ (it : Item). it.name) (one_item (words line) item are.0 is.0.words are.1.0.words)) are.2;
   put = λ rest are. (item, is, are);
 }
 
@@ -86,7 +84,7 @@ report-taken : (name : List ℕ) (line : Line) (rest : List Line) (events : List
 report-taken name line rest [] is are = absurd are
 report-taken name line rest (report ∷ events) is are = (events, are.1)
 report-taken name line [] (submit addend ∷ events) is are = absurd are
-report-taken name line (pump ∷ more) (submit addend ∷ events) is are = absurd (report-no_submit name line addend is are.0)
+report-taken name line (pump ∷ more) (submit addend ∷ events) is are = absurd (report_is_no_submit name line addend is are.0)
 
 pub Leaves-report : (name : List ℕ) (line : Line) → IsReport line → Leaves (AreSomeEvents name) (AreSomeEvents name) line
 Leaves-report name line is = record {
@@ -96,7 +94,7 @@ Leaves-report name line is = record {
 
 submit-taken : (name : List ℕ) (line : Line) (rest : List Line) (addend : ℤ) (events : List Event) → IsSubmit name line addend → AreEvents name (line ∷ rest) events → ArePumpAndEvents name rest
 submit-taken name line rest addend [] is are = absurd are
-submit-taken name line rest addend (report ∷ events) is are = absurd (report-no_submit name line addend are.0 is)
+submit-taken name line rest addend (report ∷ events) is are = absurd (report_is_no_submit name line addend are.0 is)
 submit-taken name line [] addend (submit other ∷ events) is are = absurd are
 submit-taken name line (pump ∷ more) addend (submit other ∷ events) is are = (are.1, (events, are.2))
 

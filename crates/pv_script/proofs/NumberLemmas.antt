@@ -12,7 +12,8 @@ use Rattle.std.proofs.lemmas.Str.Ascii.{IsAscii-cons}
 use Rattle.std.proofs.lemmas.Fmt.{IsAscii-from_digits}
 use Rattle.std.proofs.lemmas.Str.Parse.{IsNumeralModel, numerals_by_weight, parse_digits, parse_signed_digits, parse_signed_minus}
 use Rattle.pv_model.specs.Program.{fits_i64}
-use Rattle.pv_model.specs.Text.{is_digit, value_of, digits_of, signed_value_of, IsNumber, IsSigned}
+use Rattle.pv_base.specs.Name.{is_digit}
+use Rattle.pv_model.specs.Text.{value_of, digits_of, signed_value_of, IsNumber, IsSigned}
 
 numerals : IsNumeralModel (λ ds. list_all is_digit ds ≡ true) value_of
 numerals = numerals_by_weight _ (search rules) value_of (search rules)

@@ -2,10 +2,10 @@
 ghost use Rattle.std.specs.Prelude.{◌≡◌, ℕ, ◌^◌, ◌<◌, ℤ, pos, ◌↔◌, List, [], ◌∷◌, map, IsTrue, IfOk, MatchOption};
 ghost use Rattle.pv_base.specs.Catalog.{Item};
 ghost use Rattle.pv_base.specs.Name.{is_name};
-ghost use Rattle.pv_model.specs.Schedule.{IsSites, IsItem, IsPump, catalog_of};
-ghost use Rattle.pv_model.specs.Text.{IsNumber};
+ghost use Rattle.pv_model.specs.Schedule.{IsSites, IsItem, IsPump, SpellsSites, SpellsItem, SpellsSubmit, catalog_of};
+ghost use Rattle.pv_model.specs.Text.{IsNumber, IsText, words};
 ghost use Rattle.pv_script.specs.declared.schedule.Event.{Event};
-ghost use Rattle.pv_script.specs.Forms.{Begins, Spells, SpellsSites, SpellsItem, SpellsSubmit};
+ghost use Rattle.pv_script.specs.Forms.{Begins, SpellsEvent, item_of};
 
 use crate::schedule::Event;
 use crate::words::{is_text, number_of, signed_of, words_of};
@@ -16,11 +16,10 @@ use std::alloc::{AllocError, Global};
 pub fn is_sites(alloc: Global, line: &[u8]) -> Result<bool, AllocError>
     ensures { IfOk result (λ yes. IsTrue yes ↔ IsSites line.now) }
 {
-    if !is_text(line) {
-        return Ok(false);
+    match words_in(alloc, line)? {
+        Some(words) => Ok(are_sites(&words)),
+        None => Ok(false),
     }
-    let words = words_of(alloc, line)?;
-    Ok(are_sites(words.as_slice()))
 }
 
 /// The catalog of the item that a line declares.
@@ -29,11 +28,10 @@ pub fn catalog_in(alloc: Global, line: &[u8]) -> Result<Option<Catalog>, AllocEr
         ((item : Item) → IsItem line.now item → ⊥)
         (λ catalog. (item : Item) × IsItem line.now item × (catalog ≡ catalog_of item))) }
 {
-    if !is_text(line) {
+    let Some(words) = words_in(alloc, line)? else {
         return Ok(None);
-    }
-    let words = words_of(alloc, line)?;
-    match item_of(words.as_slice()) {
+    };
+    match item_in(&words) {
         Some((name, value)) => declare(alloc, name, value),
         None => Ok(None),
     }
@@ -45,22 +43,33 @@ pub fn event_in(alloc: Global, line: &[u8], name: &[u8]) -> Result<Option<Event>
         ((event : Event) → Begins name.now event line.now → ⊥)
         (λ event. Begins name.now event line.now)) }
 {
-    if !is_text(line) {
-        return Ok(None);
+    match words_in(alloc, line)? {
+        Some(words) => Ok(event_of(&words, name)),
+        None => Ok(None),
     }
-    let words = words_of(alloc, line)?;
-    Ok(event_of(words.as_slice(), name))
 }
 
 /// Whether a line is the pump behind a submit.
 pub fn is_pump(alloc: Global, line: &[u8]) -> Result<bool, AllocError>
     ensures { IfOk result (λ yes. IsTrue yes ↔ IsPump line.now) }
 {
-    if !is_text(line) {
-        return Ok(false);
+    match words_in(alloc, line)? {
+        Some(words) => Ok(are_words(&words, &[b"pump".as_slice()])),
+        None => Ok(false),
     }
-    let words = words_of(alloc, line)?;
-    Ok(are_words(words.as_slice(), &[b"pump".as_slice()]))
+}
+
+// The words of a line, if the line is well formed.
+fn words_in<'a>(alloc: Global, line: &'a [u8]) -> Result<Option<Vec<&'a [u8]>>, AllocError>
+    ensures { IfOk result (λ found. MatchOption found
+        (IsText line.now → ⊥)
+        (λ found_words. IsText line.now × (map (λ word. word.now) found_words.items ≡ words line.now))) }
+{
+    if is_text(line) {
+        Ok(Some(words_of(alloc, line)?))
+    } else {
+        Ok(None)
+    }
 }
 
 // The catalog of one item, if the item may have the name.
@@ -68,7 +77,7 @@ fn declare(alloc: Global, name: &[u8], value: i64) -> Result<Option<Catalog>, Al
     ensures { IfOk result (λ found. MatchOption found
         (IsTrue (is_name name.now) → ⊥)
         (λ catalog. IsTrue (is_name name.now)
-        × (catalog ≡ catalog_of (record { name = name.now; site = 0; value = value })))) }
+        × (catalog ≡ catalog_of (item_of name.now value)))) }
 {
     let mut catalog = Catalog::new(alloc, 1, MAX_JOURNAL);
     match catalog.add(name, SiteId(0), value) {
@@ -82,22 +91,22 @@ fn declare(alloc: Global, name: &[u8], value: i64) -> Result<Option<Catalog>, Al
 fn are_sites(words: &[&[u8]]) -> bool
     ensures { IsTrue result ↔ SpellsSites (map (λ word. word.now) words.now) }
 {
-    let [_, count] = words else {
+    let [b"sites", count] = words else {
         return false;
     };
-    are_words(words, &[b"sites".as_slice(), *count]) && is_number(count, 1)
+    is_number(count, 1)
 }
 
 // The name and the value of the item that words declare, whether or not an item may have the name.
-fn item_of<'a>(words: &[&'a [u8]]) -> Option<(&'a [u8], i64)>
+fn item_in<'a>(words: &[&'a [u8]]) -> Option<(&'a [u8], i64)>
     ensures { MatchOption result
-        ((name : List ℕ) (value : ℤ) → SpellsItem name value (map (λ word. word.now) words.now) → ⊥)
-        (λ item. SpellsItem item.0.now item.1 (map (λ word. word.now) words.now)) }
+        ((name : List ℕ) (value : ℤ) → SpellsItem (item_of name value) (map (λ word. word.now) words.now) → ⊥)
+        (λ item. SpellsItem (item_of item.0.now item.1) (map (λ word. word.now) words.now)) }
 {
-    let [_, name, site, value] = words else {
+    let [b"item", name, site, value] = words else {
         return None;
     };
-    if !are_words(words, &[b"item".as_slice(), *name, *site, *value]) || !is_number(site, 0) {
+    if !is_number(site, 0) {
         return None;
     }
     Some((*name, signed_of(value)?))
@@ -106,8 +115,8 @@ fn item_of<'a>(words: &[&'a [u8]]) -> Option<(&'a [u8], i64)>
 // The event that words begin.
 fn event_of(words: &[&[u8]], name: &[u8]) -> Option<Event>
     ensures { MatchOption result
-        ((event : Event) → Spells name.now event (map (λ word. word.now) words.now) → ⊥)
-        (λ event. Spells name.now event (map (λ word. word.now) words.now)) }
+        ((event : Event) → SpellsEvent name.now event (map (λ word. word.now) words.now) → ⊥)
+        (λ event. SpellsEvent name.now event (map (λ word. word.now) words.now)) }
 {
     if are_words(words, &[b"report".as_slice()]) {
         return Some(Event::Report);
@@ -119,8 +128,8 @@ fn event_of(words: &[&[u8]], name: &[u8]) -> Option<Event>
 // What the words of a submit add.
 fn addend_of(words: &[&[u8]], name: &[u8]) -> Option<i64>
     ensures { MatchOption result
-        ((addend : ℤ) → SpellsSubmit name.now (map (λ word. word.now) words.now) addend → ⊥)
-        (λ addend. SpellsSubmit name.now (map (λ word. word.now) words.now) addend) }
+        ((addend : ℤ) → SpellsSubmit name.now addend (map (λ word. word.now) words.now) → ⊥)
+        (λ addend. SpellsSubmit name.now addend (map (λ word. word.now) words.now)) }
 {
     let [_, site, _, _, _, _, addend] = words else {
         return None;

@@ -7,6 +7,7 @@ mod read;
 mod schedule;
 mod words;
 
+pub use lines::MAX_TEXT;
 pub use read::read_schedule;
 pub use schedule::{Event, LineCause, Schedule, ScriptError};
 

@@ -6,10 +6,15 @@ ghost use Rattle.pv_model.specs.Text.{lines, is_counted, is_blank};
 use memchr::memchr;
 use std::marker::Model;
 
-/// A line that counts: its number among all lines, from 1, and its bytes without the line's end.
+/// The most bytes that a text may have, so that the number behind its last line is one of 32 bits.
+pub const MAX_TEXT: usize = 4_294_967_294;
+
+/// A line that counts.
 #[derive(Clone, Copy, Debug)]
 pub struct Line<'a> {
+    /// The place among all lines of the text, from 1.
     pub number: u32,
+    /// The bytes, without the line's end.
     pub text: &'a [u8],
 }
 
@@ -22,8 +27,9 @@ pub struct Lines<'a> {
 
 impl<'a> Model for Lines<'a> {
     ghost use Rattle.std.specs.Prelude.{◌+◌, ◌≤◌, length};
-    ghost use Rattle.pv_model.specs.Text.{lines};
-    ghost use Rattle.pv_script.specs.LinesLeft.{LinesLeft, counted_from};
+    ghost use Rattle.pv_model.specs.Text.{counted_from, lines};
+    ghost use Rattle.pv_script.specs.LinesLeft.{LinesLeft};
+    ghost use Rattle.pv_script.specs.declared.lines.TheConstants.{MAX_TEXT};
 
     ghost Value = { LinesLeft };
 
@@ -32,7 +38,7 @@ impl<'a> Model for Lines<'a> {
       behind = l.passed + length (lines l.rest.now) + 1;
     } };
 
-    ghost invariant = { λ l. l.passed + length l.rest.now ≤ 4294967294 };
+    ghost invariant = { λ l. l.passed + length l.rest.now ≤ MAX_TEXT };
 }
 
 impl<'a> Lines<'a> {
@@ -40,7 +46,7 @@ impl<'a> Lines<'a> {
 
     /// All lines of a text.
     pub fn new(text: &'a [u8]) -> Lines<'a>
-        requires { length text.now ≤ 4294967294 }
+        requires { length text.now ≤ MAX_TEXT }
         ensures { result ≡ record { numbered = numbered text.now; behind = length (lines text.now) + 1 } }
     {
         Lines {

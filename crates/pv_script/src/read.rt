@@ -8,14 +8,15 @@ ghost use Rattle.pv_script.specs.Steps.{TakesLine, TakesEvent, AreSomeEvents, Ar
 ghost use Rattle.pv_script.specs.View.{event_of, events_of, schedule_of};
 
 use crate::forms::{catalog_in, event_in, is_pump, is_sites};
-use crate::lines::{Line, Lines};
+use crate::lines::{Line, Lines, MAX_TEXT};
 use crate::schedule::{Event, LineCause, Schedule, ScriptError};
 use pv_base::{Catalog, ItemId};
 use std::alloc::Global;
 
-/// The schedule that a text says. The first line at fault refuses it.
+/// The schedule that a text of at most [`MAX_TEXT`] bytes says. The first line at fault refuses it, and so does want of
+/// memory. It takes time in proportion to the text.
 pub fn read_schedule(alloc: Global, text: &[u8]) -> Result<Schedule, ScriptError>
-    requires { length text.now ≤ 4294967294 }
+    requires { length text.now ≤ MAX_TEXT }
     ensures schedule { IfOk result (λ schedule. IsSchedule text.now (schedule_of schedule)) }
     ensures first_fault { IfErr result (Refuses (HasFirstFault text.now)) }
 

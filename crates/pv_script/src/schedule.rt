@@ -7,10 +7,13 @@ use std::error::Error;
 use std::fmt;
 
 /// What happens in a run.
-#[derive(Clone, Copy, Debug, PartialEq, Eq, Drop)]
+#[derive(Clone, Copy, Debug, PartialEq, Eq)]
 pub enum Event {
     /// A transaction that adds the addend to the one item, and the pump that delivers its messages. The addend isn't negative.
-    Submit { addend: i64 },
+    Submit {
+        /// What is added to the item's value.
+        addend: i64,
+    },
     /// A report of the transactions and of all items.
     Report,
 }
@@ -18,7 +21,9 @@ pub enum Event {
 /// What is declared, and what happens then, in the order of the lines.
 #[derive(Debug, Drop)]
 pub struct Schedule {
+    /// The sites and the items: today one site with one item.
     pub catalog: Catalog,
+    /// What happens, in order.
     pub events: Vec<Event>,
 }
 
@@ -32,8 +37,13 @@ pub enum LineCause {
 /// Why a text wasn't read as a schedule.
 #[derive(Clone, Copy, Debug, PartialEq, Eq, Hash)]
 pub enum ScriptError {
-    /// The first line at fault, numbered from 1, and what is wrong with it.
-    Malformed { line: u32, cause: LineCause },
+    /// A line is at fault, and none before it.
+    Malformed {
+        /// The line's number, from 1. Where the text is cut short it is the number behind the last line.
+        line: u32,
+        /// What is wrong with it.
+        cause: LineCause,
+    },
     /// There was no memory.
     NoMemory,
 }
@@ -41,7 +51,7 @@ pub enum ScriptError {
 impl fmt::Display for LineCause {
     fn fmt<W: fmt::Write>(&self, f: &mut fmt::Formatter<W>) -> fmt::Result {
         f.write_str(match self {
-            LineCause::NotBuilt => "not of a form that can be run",
+            LineCause::NotBuilt => "not built",
         })
     }
 }

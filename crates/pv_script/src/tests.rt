@@ -1,5 +1,6 @@
 // What no clause says: that calls succeed, what small texts say to one who reads them, and how a refusal is printed.
 ghost use Rattle.std.specs.Prelude.{◌≤◌, length};
+ghost use Rattle.pv_script.specs.declared.lines.TheConstants.{MAX_TEXT};
 
 use crate::{Event, LineCause, ScriptError, read_schedule};
 use pv_base::{ItemId, SiteId};
@@ -8,7 +9,7 @@ use std::test::Fail;
 
 // Asserts that the text declares `a` of this value at site 0, and has these events.
 fn assert_says(rt: &(impl Abort + AllocGlobal), text: &[u8], value: i64, events: &[Event])
-    requires { length text.now ≤ 4294967294 }
+    requires { length text.now ≤ MAX_TEXT }
 {
     match read_schedule(rt.alloc(), text) {
         Ok(schedule) => {
@@ -26,7 +27,7 @@ fn assert_says(rt: &(impl Abort + AllocGlobal), text: &[u8], value: i64, events:
 
 // Asserts that the text is refused at this line.
 fn assert_refused(rt: &(impl Abort + AllocGlobal), text: &[u8], line: u32)
-    requires { length text.now ≤ 4294967294 }
+    requires { length text.now ≤ MAX_TEXT }
 {
     match read_schedule(rt.alloc(), text) {
         Ok(_) => panic!(rt; "read, and not refused at {line}"),
@@ -145,9 +146,6 @@ fn a_refusal_has_its_text(rt: HostRuntime) -> Result<(), Fail> {
     let cause = LineCause::NotBuilt;
     let error = ScriptError::Malformed { line: 3, cause };
     let printed = format!(in rt.alloc(); "{error}, {}", ScriptError::NoMemory)?;
-    assert_eq!(rt;
-        printed.as_str(),
-        "line 3: not of a form that can be run, no memory"
-    );
+    assert_eq!(rt; printed.as_str(), "line 3: not built, no memory");
     Ok(())
 }

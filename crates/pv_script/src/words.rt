@@ -2,7 +2,8 @@
 ghost use Rattle.std.specs.Prelude.{◌≡◌, ℕ, ℤ, ◌^◌, ◌<◌, ◌↔◌, map, IsTrue, IfOk, IfNone, IfSome};
 ghost use Rattle.std.specs.List.{list_all};
 ghost use Rattle.pv_model.specs.Program.{fits_i64};
-ghost use Rattle.pv_model.specs.Text.{words, is_digit, digits_of, IsText, IsNumber, IsSigned};
+ghost use Rattle.pv_base.specs.Name.{is_digit};
+ghost use Rattle.pv_model.specs.Text.{words, digits_of, IsText, IsNumber, IsSigned};
 
 use crate::lines::is_blank;
 use std::alloc::{AllocError, Global};

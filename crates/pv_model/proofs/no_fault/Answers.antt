@@ -1,3 +1,4 @@
+-- The lemma on any lines, of the lines of a text that count.
 use Rattle.std.proofs.Common.{◌+◌, length}
 use Rattle.pv_model.specs.Text.{lines, numbered}
 use Rattle.pv_model.specs.Schedule.{AreSomeSchedule}

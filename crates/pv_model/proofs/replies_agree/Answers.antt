@@ -1,3 +1,4 @@
+-- The lemma, as the law of an empty function.
 use Rattle.pv_model.proofs.Agreement as lemmas
 use Rattle.pv_model.proofs.replies_agree.Goals as goal
 

@@ -1,3 +1,4 @@
+-- What was written is a beginning of the one answer that the input has.
 use Rattle.std.proofs.Common.{refl, subst}
 use Rattle.pv_model.specs.Schedule.{HasFirstFault}
 use Rattle.pv_script.specs.Answers.{Refuses}

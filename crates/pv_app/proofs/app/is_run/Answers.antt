@@ -1,3 +1,4 @@
+-- One word, and its bytes are those of `run`.
 use Rattle.std.proofs.Common.{ℕ, [], ◌∷◌, List, map, sym, ap, ◌∙◌, codes}
 use Rattle.std.specs.String.{string_bytes}
 use Rattle.std.proofs.lemmas.Bool.Decides.{Decides-eqb}

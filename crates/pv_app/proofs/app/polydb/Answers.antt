@@ -1,33 +1,55 @@
-use Rattle.std.proofs.Common.{◌≡◌, ℕ, List, sym, ◌∙◌, subst}
+-- What was read is what the source had left, and what was written is the answer to it.
+use Rattle.std.proofs.Common.{◌≤◌, List, ℕ, length, refl, ◌∙◌, subst, sym, arith}
+use Rattle.pv_model.proofs.Agreement.{replies_agree, reports_agree}
 use Rattle.pv_model.specs.Run.{output_of}
 use Rattle.pv_model.specs.Schedule.{IsSchedule}
-use Rattle.pv_model.proofs.Agreement.{reports_agree, replies_agree}
-use Rattle.pv_app.specs.Answers.{IsAnswer}
-use Rattle.pv_app.proofs.AnswerLemmas.{output_at_done, status_of_answer}
+use Rattle.pv_app.proofs.AnswerLemmas.{prefix_of_run, schedule_at_done, status_of_answer, usage_or_fault}
+use Rattle.pv_app.proofs.OutputLemmas.{AppendsPrefix-none}
+use Rattle.pv_app.specs.Answers.{IsAnswer, usage_text}
+use Rattle.pv_app.specs.declared.status.Status.TheVariants.{Done}
 use Rattle.pv_app.proofs.app.polydb.Goals as goal
 
 pub returns-in-Ok-clause-done : goal.returns-in-Ok-clause-done
-returns-in-Ok-clause-done g c = λ done input left schedule says.
+returns-in-Ok-clause-done g c = λ done input left.
     let whole = c.in-Ok.ensures.whole input left in
-    let same : input ≡ c.deref.result.now = sym (c.deref.ensures.value ∙ whole.0) in (
-      whole.1,
-      output_at_done c.deref.result.now c.answer.result (g.W.Sink.held c.args.sink.now) (g.W.Sink.held c.answer.new.sink) schedule done c.answer.ensures.answered
-          (subst (λ (text : List ℕ). IsSchedule text schedule) same says),
-    )
+    let same = c.deref.ensures.value ∙ whole.0 in
+    let old = g.W.Sink.held c.args.sink.now in
+    let new = g.W.Sink.held c.answer.new.sink in
+    let at_done = schedule_at_done c.deref.result.now c.answer.result old new done c.answer.ensures.answered in
+    (whole.1, at_done.0, subst (λ (text : List ℕ). IsSchedule text at_done.0) same at_done.1, at_done.2)
 
 pub returns-in-Ok-clause-agreement : goal.returns-in-Ok-clause-agreement
-returns-in-Ok-clause-agreement g c = λ done input left schedule says.
-    (output_of schedule, (returns-in-Ok-clause-done g c done input left schedule says).1, reports_agree schedule)
-
-pub returns-in-Ok-clause-replies : goal.returns-in-Ok-clause-replies
-returns-in-Ok-clause-replies g c = λ done input left schedule says.
-    (output_of schedule, (returns-in-Ok-clause-done g c done input left schedule says).1, replies_agree schedule)
+returns-in-Ok-clause-agreement g c = λ run input left schedule says.
+    let whole = c.in-Ok.ensures.whole input left in
+    let same = sym (c.deref.ensures.value ∙ whole.0) in
+    let short : length c.deref.result.now ≤ 16777216 = omega (arith, c.deref.ensures.len, c.in-Ok.ensures.within) in
+    let says_read = subst (λ (text : List ℕ). IsSchedule text schedule) same says in
+    (c.answer.ensures.prefix Done (output_of schedule) (short, schedule, says_read, refl), reports_agree schedule, replies_agree schedule)
 
 pub returns-in-Ok-clause-exact : goal.returns-in-Ok-clause-exact
 returns-in-Ok-clause-exact g c = λ run input left status output is.
     let whole = c.in-Ok.ensures.whole input left in
-    let same : input ≡ c.deref.result.now = sym (c.deref.ensures.value ∙ whole.0) in
-    let answer = subst (λ (text : List ℕ). IsAnswer text status output) same is in (
-      status_of_answer c.deref.result.now c.answer.result status (g.W.Sink.held c.args.sink.now) (g.W.Sink.held c.answer.new.sink) output c.answer.ensures.answered answer,
-      c.answer.ensures.prefix status output answer,
-    )
+    let same = sym (c.deref.ensures.value ∙ whole.0) in
+    let answer = subst (λ (text : List ℕ). IsAnswer text status output) same is in
+    let old = g.W.Sink.held c.args.sink.now in
+    let new = g.W.Sink.held c.answer.new.sink in
+    (status_of_answer c.deref.result.now c.answer.result status old new output c.answer.ensures.answered answer, c.answer.ensures.prefix status output answer)
+
+-- Where nothing was written, that is a beginning of any output.
+pub returns-in-Err-Failed-clause-agreement : goal.returns-in-Err-Failed-clause-agreement
+returns-in-Err-Failed-clause-agreement g c = λ run input left schedule says.
+    (AppendsPrefix-none (g.W.Sink.held c.args.sink.now) (output_of schedule), reports_agree schedule, replies_agree schedule)
+
+pub returns-in-Err-TooLong-clause-agreement : goal.returns-in-Err-TooLong-clause-agreement
+returns-in-Err-TooLong-clause-agreement g c = λ run input left schedule says.
+    (AppendsPrefix-none (g.W.Sink.held c.args.sink.now) (output_of schedule), reports_agree schedule, replies_agree schedule)
+
+pub returns-in-Err-NoMemory-clause-agreement : goal.returns-in-Err-NoMemory-clause-agreement
+returns-in-Err-NoMemory-clause-agreement g c = λ run input left schedule says.
+    (AppendsPrefix-none (g.W.Sink.held c.args.sink.now) (output_of schedule), reports_agree schedule, replies_agree schedule)
+
+pub returns-then-not-is_run-clause-no_command : goal.returns-then-not-is_run-clause-no_command
+returns-then-not-is_run-clause-no_command g c = λ no_run.
+    let old = g.W.Sink.held c.args.sink.now in
+    let new = g.W.Sink.held c.write_all.new.sink in
+    (usage_or_fault c.write_all.result c.status_of_write.result c.status_of_write.ensures, prefix_of_run c.write_all.result old new usage_text c.write_all.ensures.written c.write_all.ensures.prefix, refl)

@@ -1,3 +1,4 @@
+-- One more line is written, and one less is left.
 use Rattle.std.proofs.Common.{◌≡◌, ◌++◌, ℕ, suc, ℤ, pos, List, drop, w64, FitsSigned, slice_index_or, ap, sym, ◌∙◌, rules, arith, append_assoc, add-one}
 use Rattle.std.proofs.lemmas.Int.{to_z-of_z}
 use Rattle.pv_model.specs.Print as model

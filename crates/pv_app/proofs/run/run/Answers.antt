@@ -1,9 +1,8 @@
 -- Each event's step is one step of the run.
-use Rattle.std.proofs.Common.{◌≡◌, ℕ, ◌∷◌, suc, pos, List, drop, get_or, sym, subst, add-one}
+use Rattle.std.proofs.Common.{ℕ, suc, pos, get_or, sym, subst, add-one}
 use Rattle.pv_model.specs.Run.{World}
-use Rattle.pv_script.specs.declared.schedule.Event as code
 use Rattle.pv_script.specs.declared.schedule.Event.TheVariants.{Submit}
-use Rattle.pv_script.specs.View.{event_of, events_of, schedule_of}
+use Rattle.pv_script.specs.View.{event_of, schedule_of}
 use Rattle.pv_app.proofs.OutputLemmas.{on_any_err}
 use Rattle.pv_app.proofs.RunLemmas.{IsUnderWay, drop-events_of, start, go_on, give_up}
 use Rattle.pv_app.proofs.run.run.Goals as goal
@@ -25,8 +24,7 @@ loop-event-preserved g c =
     let events = c.deref-event-items.result.now in
     let i = c.loop-event.event-index in
     let event = get_or events i (Submit (pos 0)) in
-    let split = subst (λ (es : List code.Event). drop i (events_of es) ≡ event_of event ∷ drop (suc i) (events_of es)) c.deref-event-items.ensures.value
-    (drop-events_of events i (Submit (pos 0)) c.loop-event-test.true) in
+    let split = drop-events_of events c.args.schedule.now.events.items c.deref-event-items.ensures.value i (Submit (pos 0)) c.loop-event-test.true in
     let way = go_on first (g.W.Sink.held c.loop-event.sink) next counted_first (g.W.Sink.faults c.loop-event.sink) counted_next schedule c.loop-event.world i (event_of event)
     c.loop-event.invariant split c.in_ok-step.ensures.written c.in_ok-step.ensures.counted in
     subst (λ (k : ℕ). IsUnderWay first next counted_first counted_next schedule c.step.new.world k) (sym (add-one i))
@@ -38,8 +36,7 @@ returns-in_err-step-clause-prefix g c =
     let events = c.deref-event-items.result.now in
     let i = c.loop-event.event-index in
     let event = get_or events i (Submit (pos 0)) in
-    let split = subst (λ (es : List code.Event). drop i (events_of es) ≡ event_of event ∷ drop (suc i) (events_of es)) c.deref-event-items.ensures.value
-    (drop-events_of events i (Submit (pos 0)) c.loop-event-test.true) in
+    let split = drop-events_of events c.args.schedule.now.events.items c.deref-event-items.ensures.value i (Submit (pos 0)) c.loop-event-test.true in
     let counted = g.W.Sink.faults c.step.new.sink in
     on_any_err c.from_residual-in_err-step.result _
     (give_up (g.W.Sink.held c.args.sink.now) (g.W.Sink.held c.loop-event.sink) (g.W.Sink.held c.step.new.sink) (g.W.Sink.faults c.args.sink.now) (g.W.Sink.faults c.loop-event.sink)

@@ -1,3 +1,4 @@
+-- One more item has one more value.
 use Rattle.std.proofs.Common.{◌++◌, ◌∷◌, [], ℤ, List, w64, FitsSigned, ap, sym, ◌∙◌, rules}
 use Rattle.std.proofs.lemmas.Int.{to_z-of_z}
 use Rattle.pv_model.specs.Run.{declared_rows}

@@ -1,3 +1,4 @@
+-- What is declared in the entry at a place is what is declared of the item at that place.
 use Rattle.std.proofs.Common.{ap, sym, ◌∙◌}
 use Rattle.std.specs.Option.{option_map}
 use Rattle.std.specs.Map.Iter.{deref_pair}

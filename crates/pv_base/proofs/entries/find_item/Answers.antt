@@ -1,3 +1,4 @@
+-- The place of a key among the entries is the place of the item of that name.
 use Rattle.std.proofs.Common.{◌∙◌}
 use Rattle.pv_base.proofs.EntryLemmas.{position-keys_of}
 use Rattle.pv_base.proofs.entries.find_item.Goals as goal

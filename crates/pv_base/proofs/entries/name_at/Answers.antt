@@ -1,3 +1,4 @@
+-- The key of the entry at a place is the name of the item at that place.
 use Rattle.std.proofs.Common.{ap, sym, ◌∙◌}
 use Rattle.std.specs.Option.{option_map}
 use Rattle.std.specs.Map.Iter.{deref_pair}

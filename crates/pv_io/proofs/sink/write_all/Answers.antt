@@ -12,10 +12,13 @@ loop-written-preserved g c =
     let count = c.in_ok-written.field-0 in
     let before = c.loop-written.invariant in
     let now = c.in_ok-written.ensures in
-    let both = ap (λ rest. take written bytes ++ take count rest) c.split_at.ensures.back ∙ sym (take-add written count bytes) in
+    let split = c.split_at.ensures.back in
+    let both = ap (λ rest. take written bytes ++ take count rest) split ∙ sym (take-add written count bytes) in
+    let held = g.W.Sink.held in
+    let appended = Appends-trans _ _ _ _ _ before.appended now.bytes in
     record {
       within = omega (arith, now.bound);
-      appended = subst (Appends (g.W.Sink.held c.args.sink.now) (g.W.Sink.held c.write.new.self)) both (Appends-trans _ _ _ _ _ before.appended now.bytes);
+      appended = subst (Appends (held c.args.sink.now) (held c.write.new.self)) both appended;
       told = now.told ∙ before.told;
       counted = omega (arith, now.cause.0);
     }

@@ -1,3 +1,4 @@
+-- The sink grew by the bytes written so far, a beginning of all of them; each turn leaves fewer to write.
 use Rattle.std.proofs.Common.{◌-◌, ◌≤◌, length, take}
 use Rattle.std.specs.Io.KnownBytes.{Appends}
 use Rattle.pv_io.specs.Stream.{TellsAlike}

@@ -1,12 +1,12 @@
 -- Each read took the front of what was left, so what was read so far is the front of the text.
 use Rattle.std.proofs.Common.{◌≡◌, ◌<◌, ◌++◌, length, vec_len, take, drop, ◌∙◌, arith, rules}
 use Rattle.std.proofs.lemmas.List.{length-take, take_at}
-use Rattle.pv_io.proofs.Texts.{Consumes-none, Consumes-grown, whole_text, long_text}
+use Rattle.pv_io.proofs.ReadLemmas.{Consumes-none, Consumes-grown, whole_text, long_text, taken_twice}
 use Rattle.pv_io.proofs.source.read_all.Goals as goal
 
 pub loop-piece-init : goal.loop-piece-init
 loop-piece-init g c = record {
-  room = search rules;
+  room = c.in_ok-piece.ensures;
   within = omega (arith, c.new-bytes.ensures.len);
   consumed = Consumes-none _ _ c.new-bytes.ensures.items;
   told = search rules;
@@ -34,8 +34,9 @@ loop-piece-preserved g c =
     let piece = c.loop-piece.piece in
     let got = c.read.new.into in
     let whole = take_at got (drop (length got) piece.items) (vec_len piece) (omega (arith, c.deref_mut.ensures.len)) in
-    let front : c.split_at.result.0.now ≡ take c.in_ok-count.count got = cc (c.split_at.ensures.front, c.deref.ensures.value, whole) in
-    let grown : c.extend_from_slice.new.self.items ≡ c.loop-piece.bytes.items ++ take c.in_ok-count.count got = cc (extended.items, front) in
+    let taken = take c.in_ok-count.count got in
+    let front : c.split_at.result.0.now ≡ taken = cc (c.split_at.ensures.front, c.deref.ensures.value, whole) in
+    let grown : c.extend_from_slice.new.self.items ≡ c.loop-piece.bytes.items ++ taken = cc (extended.items, front) in
     record {
       room = before.room;
       within = omega (arith, extended.len);
@@ -43,3 +44,19 @@ loop-piece-preserved g c =
       told = read.told ∙ before.told;
       counted = omega (arith, read.cause.0);
     }
+
+-- The read that passed the limit took one piece more.
+pub returns-then-count-limit-clause-taken : goal.returns-then-count-limit-clause-taken
+returns-then-count-limit-clause-taken g c =
+    let before = c.loop-piece.invariant in
+    let read = c.in_ok-count.ensures in
+    let size = length-take c.in_ok-count.count c.read.new.into in
+    taken_twice _ _ _ _ _ before.consumed read.bytes.0 (omega (arith, before.within, before.room, read.bound, size, c.deref_mut.ensures.len, c.loop-piece.bytes.ok.0))
+
+-- So did the read for whose bytes there was no memory.
+pub returns-in_err-extend_from_slice-clause-taken : goal.returns-in_err-extend_from_slice-clause-taken
+returns-in_err-extend_from_slice-clause-taken g c =
+    let before = c.loop-piece.invariant in
+    let read = c.in_ok-count.ensures in
+    let size = length-take c.in_ok-count.count c.read.new.into in
+    taken_twice _ _ _ _ _ before.consumed read.bytes.0 (omega (arith, before.within, before.room, read.bound, size, c.deref_mut.ensures.len, c.loop-piece.bytes.ok.0))

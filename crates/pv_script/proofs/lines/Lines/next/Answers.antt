@@ -1,7 +1,7 @@
 -- At the end no line is left.
 use Rattle.std.proofs.Common.{◌+◌, ap, sym, ◌∙◌, eqb-true}
 use Rattle.pv_script.proofs.LineLemmas.{lines-nil}
-use Rattle.pv_script.specs.LinesLeft.{counted_from}
+use Rattle.pv_model.specs.Text.{counted_from}
 use Rattle.pv_script.proofs.lines.Lines.next.Goals as goal
 
 pub returns-clause-none : goal.returns-clause-none

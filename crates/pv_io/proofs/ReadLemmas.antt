@@ -1,19 +1,22 @@
 -- What several reads, one after the other, say of the text that was there.
 use Rattle.std.proofs.Common.{◌≡◌, ◌≤◌, ◌+◌, ℕ, List, [], ◌++◌, None, Some, sym, ap, ◌∙◌, arith, length, take, append-nil, length-append}
 use Rattle.std.specs.declared.option.Option.{Option}
+use Rattle.pv_io.specs.Stream.{TakesAtMost}
 use Rattle.std.specs.Io.KnownBytes.{Consumes, IsAtEnd}
 use Rattle.std.proofs.KnownBytes.{Consumes-nil, Consumes-trans}
 
--- before the first read
+-- Before the first read.
 pub Consumes-none : (a : Option (List ℕ)) (bs : List ℕ) → bs ≡ [] → Consumes a a bs
 Consumes-none a bs none = rw none (Consumes-nil a)
 
--- the second read's bytes stand behind the first's
-pub Consumes-grown : (a b c : Option (List ℕ)) (bs cs new : List ℕ) → Consumes a b bs → Consumes b c cs → new ≡ bs ++ cs → Consumes a c new
+-- The second read's bytes stand behind the first's.
+pub Consumes-grown : (a b c : Option (List ℕ)) (bs cs new : List ℕ)
+    → Consumes a b bs → Consumes b c cs → new ≡ bs ++ cs → Consumes a c new
 Consumes-grown a b c bs cs new first second grown = rw grown (Consumes-trans a b c bs cs first second)
 
--- a read of nothing at the end leaves all that came before it as the whole text
-pub whole_text : (a b c : Option (List ℕ)) (bs cs : List ℕ) (n : ℕ) → Consumes a b bs → Consumes b c (take n cs) → n ≡ 0 → IsAtEnd c
+-- A read of nothing at the end leaves all that came before it as the whole text.
+pub whole_text : (a b c : Option (List ℕ)) (bs cs : List ℕ) (n : ℕ)
+    → Consumes a b bs → Consumes b c (take n cs) → n ≡ 0 → IsAtEnd c
     → (text : List ℕ) → a ≡ Some text → (bs ≡ text) × (c ≡ Some [])
 whole_text None b c bs cs n first second none end text is = cc
 whole_text (Some x) None c bs cs n first second none end text is = absurd first
@@ -23,12 +26,20 @@ whole_text (Some x) (Some y) (Some z) bs cs n first second none end text is =
     let all : x ≡ bs = first ∙ ap (λ l. bs ++ l) rest ∙ append-nil bs in
     (cc, ap Some end)
 
--- what two reads gave was in the text
-pub long_text : (a b c : Option (List ℕ)) (bs cs : List ℕ) → Consumes a b bs → Consumes b c cs → (text : List ℕ) → a ≡ Some text
+-- What two reads gave was in the text.
+pub long_text : (a b c : Option (List ℕ)) (bs cs : List ℕ)
+    → Consumes a b bs → Consumes b c cs → (text : List ℕ) → a ≡ Some text
     → length bs + length cs ≤ length text
 long_text None b c bs cs first second text is = absurd (cc)
 long_text (Some x) None c bs cs first second text is = absurd first
 long_text (Some x) (Some y) None bs cs first second text is = absurd second
 long_text (Some x) (Some y) (Some z) bs cs first second text is =
     let same : x ≡ text = cc in
-    omega (arith, ap length (sym same ∙ first ∙ ap (λ l. bs ++ l) second), length-append bs (cs ++ z), length-append cs z)
+    let parts = ap length (sym same ∙ first ∙ ap (λ l. bs ++ l) second) in
+    omega (arith, parts, length-append bs (cs ++ z), length-append cs z)
+
+-- Two reads took what both took.
+pub taken_twice : (a b c : Option (List ℕ)) (bs cs : List ℕ) {n : ℕ}
+    → Consumes a b bs → Consumes b c cs → length bs + length cs ≤ n → TakesAtMost a c n
+taken_twice a b c bs cs first second few =
+    (bs ++ cs, Consumes-trans a b c bs cs first second, omega (arith, length-append bs cs, few))
