@@ -77,6 +77,13 @@ schedule_at_done input status old new is answered =
     done (inl gives_up) = absurd gives_up
     done (inr (output, grown, a)) = (a.1, a.2, subst (Appends old new) a.3 grown)
 
+-- What was written at `Done` is the output of any schedule that the input is.
+pub output_at_done : (input : List ℕ) (status : Status) (old new : Option (List ℕ)) (schedule : Schedule)
+    → GivesUp status ⊎ GrowsBySome old new (IsAnswer input status) → IsSchedule input schedule → status ≡ Done → Appends old new (output_of schedule)
+output_at_done input status old new schedule answered says is =
+    let at_done = schedule_at_done input status old new is answered in
+    subst (Appends old new) (ap output_of (one_schedule (counted input) at_done.0 schedule at_done.1 says)) at_done.2
+
 -- The status is that of the answer, or it gave up.
 pub status_of_answer : (input : List ℕ) (status other : Status) (old new : Option (List ℕ)) (text : List ℕ)
     → GivesUp status ⊎ GrowsBySome old new (IsAnswer input status) → IsAnswer input other text → GivesUp status ⊎ (status ≡ other)

@@ -35,12 +35,13 @@ pub fn polydb<R: Source, W: Sink>(
         (R.left source.new ≡ Some []) × (schedule : Schedule) × IsSchedule input schedule
         × Appends (W.held sink.old) (W.held sink.new) (output_of schedule) }
 
-    // Whatever was written of a schedule's output: in that output each report is that of the serial run of exactly the
-    // transactions before it, and each reply that of the serial run of those up to its own.
+    // What was written is a beginning, at `Done` the whole, of an output in which each report is that of the serial run of
+    // exactly the transactions before it, and each reply that of the serial run of those up to its own.
     ensures agreement { IsRun (map string_bytes words.now) → (input : List ℕ) → R.left source.old ≡ Some input →
         (schedule : Schedule) → IsSchedule input schedule →
-        AppendsPrefix (W.held sink.old) (W.held sink.new) (output_of schedule)
-        × Agrees schedule (output_of schedule) × RepliesAgree schedule (output_of schedule) }
+        (output : List ℕ) × Agrees schedule output × RepliesAgree schedule output
+        × AppendsPrefix (W.held sink.old) (W.held sink.new) output
+        × (result ≡ Status.Done → Appends (W.held sink.old) (W.held sink.new) output) }
 
     // Words that aren't the one command are answered by the usage line, and no others are. Nothing is read then.
     ensures command { result ≡ Status.Done → IsRun (map string_bytes words.now) }

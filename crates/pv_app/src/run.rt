@@ -1,7 +1,7 @@
 // A run: each event's lines are written when the event is done.
 ghost use Rattle.std.specs.Prelude.{◌≡◌, ◌+◌, ◌-◌, ◌^◌, ◌<◌, ◌≤◌, Err, length, vec_len, OnOk, OnErr};
 ghost use Rattle.std.specs.Io.KnownBytes.{Appends};
-ghost use Rattle.pv_app.specs.View.{reply_of};
+ghost use Rattle.pv_app.specs.View.{Writes, reply_of};
 ghost use Rattle.pv_base.specs.Fault.{Rose};
 ghost use Rattle.pv_io.specs.Stream.{AppendsPrefix};
 ghost use Rattle.pv_model.specs.Print as model;
@@ -50,9 +50,8 @@ impl From<NoMemory> for RunEnd {
 pub fn run<W: Sink>(alloc: Global, schedule: &Schedule, sink: &mut W) -> Result<(), RunEnd>
     requires numbers { vec_len schedule.now.events < 2 ^ 32 - 1 }
     requires item { 0 < length schedule.now.catalog.items }
-    ensures written { OnOk result (Appends (W.held sink.old) (W.held sink.new) (output_of (schedule_of schedule.now))) }
-    ensures prefix { OnErr result (AppendsPrefix (W.held sink.old) (W.held sink.new) (output_of (schedule_of schedule.now))) }
-    ensures fault { result ≡ Err RunEnd.WriteFault → Rose (W.faults sink.old) (W.faults sink.new) }
+    ensures { Writes (W.held sink.old) (W.held sink.new) (W.faults sink.old) (W.faults sink.new) result
+        (output_of (schedule_of schedule.now)) }
 {
     let mut world = World::new(alloc, &schedule.catalog)?;
     let mut text = Vec::new(alloc);
@@ -74,10 +73,8 @@ fn step<W: Sink>(
     requires item { 0 < length world.old.rows }
     requires rows { length world.old.rows ≡ length catalog.now.items }
     ensures after { OnOk result (world.new ≡ after world.old (event_of event)) }
-    ensures written { OnOk result (Appends (W.held sink.old) (W.held sink.new) (text_of (lines_of catalog.now world.old (event_of event)))) }
-    ensures prefix { OnErr result (AppendsPrefix (W.held sink.old) (W.held sink.new) (text_of (lines_of catalog.now world.old (event_of event)))) }
-    ensures fault { result ≡ Err RunEnd.WriteFault → Rose (W.faults sink.old) (W.faults sink.new) }
-    ensures counted { W.faults sink.old ≤ W.faults sink.new }
+    ensures writes { Writes (W.held sink.old) (W.held sink.new) (W.faults sink.old) (W.faults sink.new) result
+        (text_of (lines_of catalog.now world.old (event_of event))) }
 {
     match event {
         Event::Submit { addend } => submit(world, addend, text, sink),
@@ -95,10 +92,8 @@ fn submit<W: Sink>(
     requires number { length world.old.order < 2 ^ 32 - 1 }
     requires item { 0 < length world.old.rows }
     ensures after { OnOk result (world.new ≡ after world.old (submit addend)) }
-    ensures written { OnOk result (Appends (W.held sink.old) (W.held sink.new) (text_of (submit_lines world.old addend))) }
-    ensures prefix { OnErr result (AppendsPrefix (W.held sink.old) (W.held sink.new) (text_of (submit_lines world.old addend))) }
-    ensures fault { result ≡ Err RunEnd.WriteFault → Rose (W.faults sink.old) (W.faults sink.new) }
-    ensures counted { W.faults sink.old ≤ W.faults sink.new }
+    ensures writes { Writes (W.held sink.old) (W.held sink.new) (W.faults sink.old) (W.faults sink.new) result
+        (text_of (submit_lines world.old addend)) }
 {
     let txn = world.next_txn();
     write_txn(txn, text, sink)?;
@@ -108,10 +103,8 @@ fn submit<W: Sink>(
 
 // The line of a submit.
 fn write_txn<W: Sink>(txn: TxnId, text: &mut Vec<u8>, sink: &mut W) -> Result<(), RunEnd>
-    ensures written { OnOk result (Appends (W.held sink.old) (W.held sink.new) (line_text (model.txn txn))) }
-    ensures prefix { OnErr result (AppendsPrefix (W.held sink.old) (W.held sink.new) (line_text (model.txn txn))) }
-    ensures fault { result ≡ Err RunEnd.WriteFault → Rose (W.faults sink.old) (W.faults sink.new) }
-    ensures counted { W.faults sink.old ≤ W.faults sink.new }
+    ensures { Writes (W.held sink.old) (W.held sink.new) (W.faults sink.old) (W.faults sink.new) result
+        (line_text (model.txn txn)) }
 {
     text.clear();
     push_txn_line(text, txn)?;
@@ -125,10 +118,8 @@ fn write_commit<W: Sink>(
     text: &mut Vec<u8>,
     sink: &mut W,
 ) -> Result<(), RunEnd>
-    ensures written { OnOk result (Appends (W.held sink.old) (W.held sink.new) (line_text (model.commit txn (reply_of reply)))) }
-    ensures prefix { OnErr result (AppendsPrefix (W.held sink.old) (W.held sink.new) (line_text (model.commit txn (reply_of reply)))) }
-    ensures fault { result ≡ Err RunEnd.WriteFault → Rose (W.faults sink.old) (W.faults sink.new) }
-    ensures counted { W.faults sink.old ≤ W.faults sink.new }
+    ensures { Writes (W.held sink.old) (W.held sink.new) (W.faults sink.old) (W.faults sink.new) result
+        (line_text (model.commit txn (reply_of reply))) }
 {
     text.clear();
     push_commit_line(text, txn, reply)?;
@@ -143,10 +134,8 @@ fn report<W: Sink>(
     sink: &mut W,
 ) -> Result<(), RunEnd>
     requires rows { length world.now.rows ≡ length catalog.now.items }
-    ensures written { OnOk result (Appends (W.held sink.old) (W.held sink.new) (text_of (report_lines catalog.now world.now.order world.now.rows))) }
-    ensures prefix { OnErr result (AppendsPrefix (W.held sink.old) (W.held sink.new) (text_of (report_lines catalog.now world.now.order world.now.rows))) }
-    ensures fault { result ≡ Err RunEnd.WriteFault → Rose (W.faults sink.old) (W.faults sink.new) }
-    ensures counted { W.faults sink.old ≤ W.faults sink.new }
+    ensures { Writes (W.held sink.old) (W.held sink.new) (W.faults sink.old) (W.faults sink.new) result
+        (text_of (report_lines catalog.now world.now.order world.now.rows)) }
 {
     text.clear();
     push_report(text, catalog, world.order(), world.rows())?;

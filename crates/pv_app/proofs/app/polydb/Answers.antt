@@ -3,7 +3,7 @@ use Rattle.std.proofs.Common.{◌≤◌, List, ℕ, length, refl, ◌∙◌, sub
 use Rattle.pv_model.proofs.Agreement.{replies_agree, reports_agree}
 use Rattle.pv_model.specs.Run.{output_of}
 use Rattle.pv_model.specs.Schedule.{IsSchedule}
-use Rattle.pv_app.proofs.AnswerLemmas.{prefix_of_run, schedule_at_done, status_of_answer, usage_or_fault}
+use Rattle.pv_app.proofs.AnswerLemmas.{output_at_done, prefix_of_run, schedule_at_done, status_of_answer, usage_or_fault}
 use Rattle.pv_app.proofs.OutputLemmas.{AppendsPrefix-none}
 use Rattle.pv_app.specs.Answers.{IsAnswer, usage_text}
 use Rattle.pv_app.specs.declared.status.Status.TheVariants.{Done}
@@ -24,7 +24,14 @@ returns-in-Ok-clause-agreement g c = λ run input left schedule says.
     let same = sym (c.deref.ensures.value ∙ whole.0) in
     let short : length c.deref.result.now ≤ 16777216 = omega (arith, c.deref.ensures.len, c.in-Ok.ensures.within) in
     let says_read = subst (λ (text : List ℕ). IsSchedule text schedule) same says in
-    (c.answer.ensures.prefix Done (output_of schedule) (short, schedule, says_read, refl), reports_agree schedule, replies_agree schedule)
+    let old = g.W.Sink.held c.args.sink.now in
+    let new = g.W.Sink.held c.answer.new.sink in (
+      output_of schedule,
+      reports_agree schedule,
+      replies_agree schedule,
+      c.answer.ensures.prefix Done (output_of schedule) (short, schedule, says_read, refl),
+      output_at_done c.deref.result.now c.answer.result old new schedule c.answer.ensures.answered says_read,
+    )
 
 pub returns-in-Ok-clause-exact : goal.returns-in-Ok-clause-exact
 returns-in-Ok-clause-exact g c = λ run input left status output is.
@@ -38,15 +45,15 @@ returns-in-Ok-clause-exact g c = λ run input left status output is.
 -- Where nothing was written, that is a beginning of any output.
 pub returns-in-Err-Failed-clause-agreement : goal.returns-in-Err-Failed-clause-agreement
 returns-in-Err-Failed-clause-agreement g c = λ run input left schedule says.
-    (AppendsPrefix-none (g.W.Sink.held c.args.sink.now) (output_of schedule), reports_agree schedule, replies_agree schedule)
+    (output_of schedule, reports_agree schedule, replies_agree schedule, AppendsPrefix-none (g.W.Sink.held c.args.sink.now) (output_of schedule), λ is. cc)
 
 pub returns-in-Err-TooLong-clause-agreement : goal.returns-in-Err-TooLong-clause-agreement
 returns-in-Err-TooLong-clause-agreement g c = λ run input left schedule says.
-    (AppendsPrefix-none (g.W.Sink.held c.args.sink.now) (output_of schedule), reports_agree schedule, replies_agree schedule)
+    (output_of schedule, reports_agree schedule, replies_agree schedule, AppendsPrefix-none (g.W.Sink.held c.args.sink.now) (output_of schedule), λ is. cc)
 
 pub returns-in-Err-NoMemory-clause-agreement : goal.returns-in-Err-NoMemory-clause-agreement
 returns-in-Err-NoMemory-clause-agreement g c = λ run input left schedule says.
-    (AppendsPrefix-none (g.W.Sink.held c.args.sink.now) (output_of schedule), reports_agree schedule, replies_agree schedule)
+    (output_of schedule, reports_agree schedule, replies_agree schedule, AppendsPrefix-none (g.W.Sink.held c.args.sink.now) (output_of schedule), λ is. cc)
 
 pub returns-then-not-is_run-clause-no_command : goal.returns-then-not-is_run-clause-no_command
 returns-then-not-is_run-clause-no_command g c = λ no_run.

@@ -1,5 +1,5 @@
 -- Each event's step is one step of the run.
-use Rattle.std.proofs.Common.{ℕ, suc, pos, get_or, sym, subst, add-one}
+use Rattle.std.proofs.Common.{rules, arith, ℕ, suc, pos, get_or, sym, subst, add-one}
 use Rattle.pv_model.specs.Run.{World}
 use Rattle.pv_script.specs.declared.schedule.Event.TheVariants.{Submit}
 use Rattle.pv_script.specs.View.{event_of, schedule_of}
@@ -26,18 +26,27 @@ loop-event-preserved g c =
     let event = get_or events i (Submit (pos 0)) in
     let split = drop-events_of events c.args.schedule.now.events.items c.deref-event-items.ensures.value i (Submit (pos 0)) c.loop-event-test.true in
     let way = go_on first (g.W.Sink.held c.loop-event.sink) next counted_first (g.W.Sink.faults c.loop-event.sink) counted_next schedule c.loop-event.world i (event_of event)
-    c.loop-event.invariant split c.in_ok-step.ensures.written c.in_ok-step.ensures.counted in
+    c.loop-event.invariant split c.in_ok-step.ensures.writes.written c.in_ok-step.ensures.writes.counted in
     subst (λ (k : ℕ). IsUnderWay first next counted_first counted_next schedule c.step.new.world k) (sym (add-one i))
     (subst (λ (world : World). IsUnderWay first next counted_first counted_next schedule world (suc i)) (sym c.in_ok-step.ensures.after) way)
 
-pub returns-in_err-step-clause-prefix : goal.returns-in_err-step-clause-prefix
-returns-in_err-step-clause-prefix g c =
+pub returns-in_err-step : goal.returns-in_err-step
+returns-in_err-step g c =
     let schedule = schedule_of c.args.schedule.now in
     let events = c.deref-event-items.result.now in
     let i = c.loop-event.event-index in
     let event = get_or events i (Submit (pos 0)) in
     let split = drop-events_of events c.args.schedule.now.events.items c.deref-event-items.ensures.value i (Submit (pos 0)) c.loop-event-test.true in
     let counted = g.W.Sink.faults c.step.new.sink in
-    on_any_err c.from_residual-in_err-step.result _
-    (give_up (g.W.Sink.held c.args.sink.now) (g.W.Sink.held c.loop-event.sink) (g.W.Sink.held c.step.new.sink) (g.W.Sink.faults c.args.sink.now) (g.W.Sink.faults c.loop-event.sink)
-    counted schedule c.loop-event.world i (event_of event) c.loop-event.invariant split c.in_err-step.ensures.prefix)
+    let failed = c.in_err-step.ensures.writes in
+    let first = g.W.Sink.held c.args.sink.now in
+    let counted_first = g.W.Sink.faults c.args.sink.now in
+    let way = c.loop-event.invariant in
+    record {
+      written = search rules;
+      prefix = on_any_err c.from_residual-in_err-step.result _
+          (give_up first (g.W.Sink.held c.loop-event.sink) (g.W.Sink.held c.step.new.sink) counted_first (g.W.Sink.faults c.loop-event.sink) counted schedule
+          c.loop-event.world i (event_of event) way split failed.prefix);
+      fault = search rules;
+      counted = omega (arith, way.counted, failed.counted);
+    }
