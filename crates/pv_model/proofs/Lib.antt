@@ -1,3 +1,4 @@
 pub mod Agreement
 pub mod FirstFaultLemmas
 pub mod ScheduleLemmas
+pub mod ProgramLemmas

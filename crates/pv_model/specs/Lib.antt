@@ -1,6 +1,11 @@
 pub mod FirstFault
 pub mod Text
 pub mod Program
+pub mod Syntax
+pub mod SyntaxCodes
+pub mod Meaning
+pub mod Items
+pub mod ProgramLaws
 pub mod Serial
 pub mod Schedule
 pub mod Print

@@ -2,9 +2,12 @@
 //! what a run prints. The definitions stand in `specs/`. The functions here do nothing: each states a law about them.
 #![tactic(auto)]
 
-ghost use Rattle.std.specs.Prelude.{◌≡◌, ℕ, List};
+ghost use Rattle.std.specs.Prelude.{◌≡◌, ℕ, ℤ, false, List};
+ghost use Rattle.pv_model.specs.Meaning.{Row, Decline, value, declined, value_in, items_of_rows, exec};
+ghost use Rattle.pv_model.specs.ProgramLaws.{assigns, followed, HaveSameValues};
 ghost use Rattle.pv_model.specs.Run.{Agrees, RepliesAgree, output_of};
 ghost use Rattle.pv_model.specs.Schedule.{Schedule, IsSchedule, HasFirstFault};
+ghost use Rattle.pv_model.specs.Syntax.{Program};
 
 /// A text is one schedule at most.
 pub fn one_schedule()
@@ -29,4 +32,33 @@ pub fn reports_agree()
 /// What a run prints gives each transaction's reply in the serial run of the transactions up to it.
 pub fn replies_agree()
     ensures { (schedule : Schedule) → RepliesAgree schedule (output_of schedule) }
+{}
+
+/// A program that declines leaves every row as it was.
+pub fn decline_leaves_rows()
+    ensures { (program : Program) (rows : List Row) (decline : Decline) → (exec program rows).reply ≡ declined decline →
+        (exec program rows).rows ≡ rows }
+{}
+
+/// A program keeps the items of its rows, and their order.
+pub fn items_stay()
+    ensures { (program : Program) (rows : List Row) → items_of_rows (exec program rows).rows ≡ items_of_rows rows }
+{}
+
+/// An item that no assignment names keeps its value.
+pub fn unassigned_keeps_value()
+    ensures { (program : Program) (rows : List Row) (item : ℕ) → assigns program item ≡ false →
+        value_in (exec program rows).rows item ≡ value_in rows item }
+{}
+
+/// What stands behind a `return` that is reached has no effect.
+pub fn return_is_last()
+    ensures { (program behind : Program) (rows : List Row) (returned : ℤ) → (exec program rows).reply ≡ value returned →
+        exec (followed program behind) rows ≡ exec program rows }
+{}
+
+/// On the same rows in another order a program gives the same reply, and each item the same value.
+pub fn order_of_rows_is_free()
+    ensures { (program : Program) (rows others : List Row) → HaveSameValues rows others →
+        ((exec program rows).reply ≡ (exec program others).reply) × HaveSameValues (exec program rows).rows (exec program others).rows }
 {}

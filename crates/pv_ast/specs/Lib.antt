@@ -1,0 +1,7 @@
+pub mod OpView
+pub mod ExprView
+pub mod ExprFalls
+pub mod ProgramView
+pub mod ProgramFalls
+pub mod ReplyView
+pub mod Settled

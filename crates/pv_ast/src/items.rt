@@ -1,0 +1,63 @@
+// Whether rows have each item of a program once.
+ghost use Rattle.std.specs.Prelude.{◌≡◌, ◌&&◌};
+ghost use Rattle.pv_model.specs.Items.{has_items, has_all_items};
+ghost use Rattle.pv_model.specs.Syntax as model;
+ghost use Rattle.pv_ast.specs.ExprView.{expr_of};
+ghost use Rattle.pv_ast.specs.ProgramView.{followed_by};
+
+use crate::rows::has_once;
+use crate::{Expr, Program, Row, Stmt};
+
+impl Program {
+    /// Whether the rows have each item of the program once.
+    #[cycle(has_items)]
+    pub fn has_items(&self, rows: &[Row]) -> bool
+        ensures { result ≡ has_all_items rows.now self.now }
+    {
+        for stmt in &self.stmts {
+            if !stmt.has_items(rows) {
+                return false;
+            }
+        }
+        true
+    }
+}
+
+impl Stmt {
+    #[cycle(has_items)]
+    fn has_items(&self, rows: &[Row]) -> bool
+        ensures { (next : model.Program) → has_all_items rows.now (followed_by self.now next) ≡ (result && has_all_items rows.now next) }
+    {
+        match self {
+            Stmt::Assign { item, value } => has_once(rows, *item) && value.has_items(rows),
+            Stmt::Require(test) => test.has_items(rows),
+            Stmt::Return(value) => value.has_items(rows),
+            Stmt::If {
+                test,
+                body,
+                other: None,
+            } => test.has_items(rows) && body.has_items(rows),
+            Stmt::If {
+                test,
+                body,
+                other: Some(other),
+            } => test.has_items(rows) && body.has_items(rows) && other.has_items(rows),
+        }
+    }
+}
+
+impl Expr {
+    fn has_items(&self, rows: &[Row]) -> bool
+        ensures { result ≡ has_items rows.now (expr_of self.now) }
+    {
+        match self {
+            Expr::Number(_) => true,
+            Expr::Item(item) => has_once(rows, *item),
+            Expr::Minus(inner) => inner.expr.has_items(rows),
+            Expr::Not(inner) => inner.expr.has_items(rows),
+            Expr::Two { left, right, .. } => {
+                left.expr.has_items(rows) && right.expr.has_items(rows)
+            }
+        }
+    }
+}

@@ -1,0 +1,19 @@
+//! Programs, and what they do to rows of ordinary values.
+#![tactic(auto)]
+
+mod arithmetic;
+mod effect;
+mod expr;
+mod items;
+mod program;
+mod rows;
+mod run;
+
+pub use effect::{Decline, Effect, Reply};
+pub use expr::{Expr, Op, Operand};
+pub use program::{Program, Stmt};
+pub use rows::Row;
+pub use run::exec;
+
+#[cfg(test)]
+mod tests;
