@@ -6,7 +6,7 @@ ghost use Rattle.pv_ast.specs.ReplyView.{computed_of};
 
 use crate::{Decline, Op};
 
-// An operator on the values of both sides.
+/// An operator on the values of both sides.
 pub fn compute(op: Op, x: i64, y: i64) -> Result<i64, Decline>
     ensures { computed_of result ≡ computed (op_of op) x y }
 {
@@ -29,13 +29,14 @@ pub fn compute(op: Op, x: i64, y: i64) -> Result<i64, Decline>
     }
 }
 
-// 1 for a test that is true, and else 0.
+/// 1 for a test that is true, and else 0.
 pub fn truth(test: bool) -> i64
     ensures { result ≡ truth test }
 {
     if test { 1 } else { 0 }
 }
 
+/// The number with the other sign, which declines for the least number.
 pub fn negative(x: i64) -> Result<i64, Decline>
     ensures { computed_of result ≡ within (neg_ℤ x) }
 {

@@ -9,7 +9,8 @@ use crate::rows::has_once;
 use crate::{Expr, Program, Row, Stmt};
 
 impl Program {
-    /// Whether the rows have each item of the program once.
+    /// Whether the rows have each item of the program once. Takes time in proportion to the program's parts, times the number
+    /// of rows.
     #[cycle(has_items)]
     pub fn has_items(&self, rows: &[Row]) -> bool
         ensures { result ≡ has_all_items rows.now self.now }

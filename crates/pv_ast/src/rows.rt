@@ -25,7 +25,7 @@ impl Model for Row {
     ghost inverse = { λ row. record { item = record { 0 = row.item }; value = row.value } };
 }
 
-// An item's value, which is 0 where it has no row.
+/// An item's value, which is 0 where it has no row. Takes time in proportion to the rows.
 pub fn value_in(rows: &[Row], item: ItemId) -> i64
     ensures { result ≡ value_in rows.now item.0 }
 {
@@ -39,7 +39,7 @@ pub fn value_in(rows: &[Row], item: ItemId) -> i64
     0
 }
 
-// Gives an item a value.
+/// Gives an item a value. Without a row of the item nothing changes. Takes time in proportion to the rows.
 pub fn assign(rows: &mut [Row], item: ItemId, value: i64)
     ensures { rows.new ≡ with_row rows.old item.0 value }
 {
@@ -55,7 +55,7 @@ pub fn assign(rows: &mut [Row], item: ItemId, value: i64)
     }
 }
 
-// Whether one row has the item.
+/// Whether one row has the item.
 pub fn has_once(rows: &[Row], item: ItemId) -> bool
     ensures { result ≡ has_once rows.now item.0 }
 {
