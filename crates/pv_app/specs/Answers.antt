@@ -25,12 +25,16 @@ cause_text = codes "not built"
 unfoldable pub fault_text : ℕ → List ℕ
 fault_text number = codes "line " ++ (decimal number ++ (codes ": " ++ (cause_text ++ line_feed)))
 
+-- the greatest length of an input, in bytes
+abbrev pub max_input : ℕ
+max_input = 16777216
+
 -- What `run` has to answer to an input, and the status with it: the output of the schedule that the input is, or its
 -- first fault. A longer input than may be is neither.
 abbrev pub IsAnswer : List ℕ → Status → List ℕ → Type 0
-IsAnswer input Done output = (length input ≤ 16777216) × (schedule : Schedule) × IsSchedule input schedule × (output ≡ output_of schedule)
-IsAnswer input Malformed output = (length input ≤ 16777216) × (number : ℕ) × HasFirstFault input number × (output ≡ fault_text number)
-IsAnswer input TooLong output = (16777216 < length input) × (output ≡ [])
+IsAnswer input Done output = (length input ≤ max_input) × (schedule : Schedule) × IsSchedule input schedule × (output ≡ output_of schedule)
+IsAnswer input Malformed output = (length input ≤ max_input) × (number : ℕ) × HasFirstFault input number × (output ≡ fault_text number)
+IsAnswer input TooLong output = (max_input < length input) × (output ≡ [])
 IsAnswer input _ output = ⊥
 
 -- It gives up where something outside failed, or for want of memory.

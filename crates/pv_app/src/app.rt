@@ -6,7 +6,7 @@ ghost use Rattle.pv_base.specs.Fault.{Rose};
 ghost use Rattle.pv_io.specs.Stream.{AppendsPrefix};
 ghost use Rattle.pv_model.specs.Run.{Agrees, RepliesAgree, output_of};
 ghost use Rattle.pv_model.specs.Schedule.{Schedule, IsSchedule, HasFirstFault};
-ghost use Rattle.pv_app.specs.Answers.{IsRun, IsAnswer, GivesUp, GrowsBySome, status_of, usage_text, fault_text};
+ghost use Rattle.pv_app.specs.Answers.{IsRun, IsAnswer, GivesUp, GrowsBySome, status_of, max_input, usage_text, fault_text};
 
 use crate::print::push_fault_line;
 use crate::run::{RunEnd, run};
@@ -65,7 +65,7 @@ pub fn polydb<R: Source, W: Sink>(
     ensures write_fault { result ≡ Status.WriteFault → Rose (W.faults sink.old) (W.faults sink.new) }
     ensures too_long { result ≡ Status.TooLong → Keeps (W.held sink.old) (W.held sink.new) }
     ensures short { result ≡ Status.WriteFault → IsRun (map string_bytes words.now) →
-        (input : List ℕ) → R.left source.old ≡ Some input → length input ≤ 16777216 }
+        (input : List ℕ) → R.left source.old ≡ Some input → length input ≤ max_input }
 {
     if !is_run(words) {
         return status_of_write(write_all(sink, USAGE), Status::Usage);
@@ -90,7 +90,7 @@ fn is_run(words: &[String]) -> bool
 
 // What `run` answers to an input that was read to its end.
 fn answer<W: Sink>(alloc: Global, input: &[u8], sink: &mut W) -> Status
-    requires { length input.now ≤ 16777216 }
+    requires { length input.now ≤ max_input }
     ensures answered { GivesUp result ⊎ GrowsBySome (W.held sink.old) (W.held sink.new) (IsAnswer input.now result) }
     ensures prefix { (status : Status) (output : List ℕ) → IsAnswer input.now status output →
         AppendsPrefix (W.held sink.old) (W.held sink.new) output }

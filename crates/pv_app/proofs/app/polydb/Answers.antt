@@ -5,7 +5,7 @@ use Rattle.pv_model.specs.Run.{output_of}
 use Rattle.pv_model.specs.Schedule.{IsSchedule}
 use Rattle.pv_app.proofs.AnswerLemmas.{output_at_done, prefix_of_run, schedule_at_done, status_of_answer, usage_or_fault}
 use Rattle.pv_app.proofs.OutputLemmas.{AppendsPrefix-none}
-use Rattle.pv_app.specs.Answers.{IsAnswer, usage_text}
+use Rattle.pv_app.specs.Answers.{IsAnswer, max_input, usage_text}
 use Rattle.pv_app.specs.declared.status.Status.TheVariants.{Done}
 use Rattle.pv_app.proofs.app.polydb.Goals as goal
 
@@ -22,7 +22,7 @@ pub returns-in-Ok-clause-agreement : goal.returns-in-Ok-clause-agreement
 returns-in-Ok-clause-agreement g c = λ run input left schedule says.
     let whole = c.in-Ok.ensures.whole input left in
     let same = sym (c.deref.ensures.value ∙ whole.0) in
-    let short : length c.deref.result.now ≤ 16777216 = omega (arith, c.deref.ensures.len, c.in-Ok.ensures.within) in
+    let short : length c.deref.result.now ≤ max_input = omega (arith, c.deref.ensures.len, c.in-Ok.ensures.within) in
     let says_read = subst (λ (text : List ℕ). IsSchedule text schedule) same says in
     let old = g.W.Sink.held c.args.sink.now in
     let new = g.W.Sink.held c.answer.new.sink in (
