@@ -5,7 +5,7 @@ use pv_base::{ItemId, NoMemory};
 use std::alloc::Global;
 use std::marker::Model;
 
-/// The operators between two sides.
+/// The operators of two sides.
 #[derive(Clone, Copy, Debug, PartialEq, Eq)]
 pub enum Op {
     /// `or`
@@ -52,13 +52,13 @@ pub enum Expr {
     Minus(Operand),
     /// `not`
     Not(Operand),
-    /// An operator between two sides.
+    /// An operator of two sides.
     Two {
         /// The operator.
         op: Op,
-        /// What stands left of it.
+        /// The left side, or the first.
         left: Operand,
-        /// What stands right of it.
+        /// The right side, or the second.
         right: Operand,
     },
 }
@@ -104,7 +104,7 @@ impl Operand {
 }
 
 impl Expr {
-    /// An equal expression.
+    /// An equal expression. It recurses as deep as the tree: a chain of n operators has n levels.
     pub fn copy(&self, alloc: Global) -> Result<Expr, NoMemory>
         ensures { IfOk result (λ copy. copy ≡ self.now) }
     {

@@ -10,7 +10,7 @@ use crate::{Expr, Program, Row, Stmt};
 
 impl Program {
     /// Whether the rows have each item of the program once. Takes time in proportion to the program's parts, times the number
-    /// of rows.
+    /// of rows, and recurses as deep as the program's tree.
     #[cycle(has_items)]
     pub fn has_items(&self, rows: &[Row]) -> bool
         ensures { result ≡ has_all_items rows.now self.now }

@@ -60,7 +60,7 @@ impl Model for Program {
 }
 
 impl Program {
-    /// An equal program.
+    /// An equal program. It recurses as deep as the tree: a chain of n operators has n levels.
     #[cycle(copy)]
     pub fn copy(&self, alloc: Global) -> Result<Program, NoMemory>
         ensures { IfOk result (λ copy. copy ≡ self.now) }

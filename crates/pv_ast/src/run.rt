@@ -17,7 +17,7 @@ use std::alloc::Global;
 
 /// Runs the program on a copy of the rows, which have each of its items once ([`Program::has_items`] tells). The reply
 /// says how it ended, and a program that declines leaves the rows. Takes time in proportion to the parts of the program that
-/// run, times the number of rows.
+/// run, times the number of rows, and recurses as deep as the program's tree: a chain of n operators has n levels.
 #[tactic(auto, unfolding(pv_model::specs::Meaning::exec))]
 pub fn exec(alloc: Global, program: &Program, rows: &[Row]) -> Result<Effect, NoMemory>
     requires { IsTrue (has_all_items rows.now program.now) }

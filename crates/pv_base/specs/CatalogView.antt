@@ -1,5 +1,5 @@
 -- What a catalog's fields say.
-use Rattle.std.specs.Prelude.{ℕ, ◌≤◌, ◌^◌, List, map, length}
+use Rattle.std.specs.Prelude.{ℕ, ◌<◌, ◌≤◌, ◌^◌, List, map, length, All}
 use Rattle.std.specs.Global.{Vec}
 use Rattle.pv_base.specs.declared.catalog.Catalog.TheInside.{Inside}
 use Rattle.pv_base.specs.declared.entries.Declaration.{Declaration}
@@ -16,10 +16,11 @@ items_of entries = map item_of entries
 abbrev pub declared_of : Inside → Declared
 declared_of inside = record { sites = inside.sites; journal = inside.journal; items = items_of inside.items.entries }
 
--- The limits of a catalog.
+-- The limits of a catalog, and that each item is at one of its sites.
 pub record IsWithinLimits (inside : Inside) : Type 0 where
   pub some_site : 1 ≤ inside.sites
   pub few_sites : inside.sites ≤ 16
   pub least_journal : 32 ≤ inside.journal
   pub most_journal : inside.journal ≤ 2 ^ 32
   pub few_items : length inside.items.entries ≤ 1024
+  pub homes : All (λ item. item.site < inside.sites) (items_of inside.items.entries)

@@ -1,5 +1,5 @@
 // The catalog of items: which there are, at which site, and with which first value.
-ghost use Rattle.std.specs.Prelude.{◌≡◌, ◌≢◌, ◌+◌, ◌<◌, ◌≤◌, Err, Some, None, [], ◌∷◌, ◌++◌, length, map, slice_get, OnErr, OnOk, IfOk, IfErr, IfSome};
+ghost use Rattle.std.specs.Prelude.{◌≡◌, ◌≢◌, ◌+◌, ◌<◌, ◌≤◌, Err, Some, None, [], ◌∷◌, ◌++◌, length, map, slice_get, All, OnErr, OnOk, IfOk, IfErr, IfSome};
 ghost use Rattle.std.specs.Option.{option_map};
 
 use crate::entries::{
@@ -222,11 +222,12 @@ impl Catalog {
         count_of(&self.items) as u32
     }
 
-    /// How many sites there are, 1 to [`MAX_SITES`].
+    /// How many sites there are, 1 to [`MAX_SITES`]. Each item is at one of them.
     pub fn sites(&self) -> u8
         ensures count { result ≡ self.now.sites }
         ensures some { 1 ≤ result }
         ensures bound { result ≤ MAX_SITES }
+        ensures homes { All (λ item. item.site < result) self.now.items }
     {
         self.sites
     }

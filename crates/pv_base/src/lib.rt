@@ -6,11 +6,13 @@ mod entries;
 mod failure;
 mod naming;
 mod txn;
+mod want;
 
 pub use catalog::{Catalog, CatalogError, ItemId, MAX_ITEMS, MAX_JOURNAL, MAX_SITES, MIN_JOURNAL};
 pub use failure::{Failed, NoMemory};
 pub use naming::is_name;
 pub use txn::{SiteId, TxnId, print_txn, push_txn};
+pub use want::Want;
 
 #[cfg(test)]
 mod tests;

@@ -6,7 +6,12 @@ pub mod SyntaxCodes
 pub mod Meaning
 pub mod Items
 pub mod ProgramLaws
+pub mod Check
 pub mod Serial
 pub mod Schedule
 pub mod Print
 pub mod Run
+pub mod Tokens
+pub mod Grammar
+pub mod ProgramText
+pub mod Prediction

@@ -1,7 +1,7 @@
 -- Programs as plain data.
 use Rattle.std.specs.Prelude.{ℕ, ℤ}
 
--- the operators between two sides
+-- the operators of two sides
 pub data Op : Type 0 where
   or : Op
   and : Op

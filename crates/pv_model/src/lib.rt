@@ -2,9 +2,12 @@
 //! what a run prints. The definitions stand in `specs/`. The functions here do nothing: each states a law about them.
 #![tactic(auto)]
 
-ghost use Rattle.std.specs.Prelude.{◌≡◌, ℕ, ℤ, false, List};
+ghost use Rattle.std.specs.Prelude.{◌≡◌, ◌⊎◌, ℕ, ℤ, false, List};
+ghost use Rattle.pv_base.specs.Catalog.{Declared};
+ghost use Rattle.pv_model.specs.Check.{AreItems};
 ghost use Rattle.pv_model.specs.Meaning.{Row, Decline, value, declined, value_in, items_of_rows, exec};
 ghost use Rattle.pv_model.specs.ProgramLaws.{assigns, followed, HaveSameValues};
+ghost use Rattle.pv_model.specs.ProgramText.{IsProgramText, Refusal, IsRefused};
 ghost use Rattle.pv_model.specs.Run.{Agrees, RepliesAgree, output_of};
 ghost use Rattle.pv_model.specs.Schedule.{Schedule, IsSchedule, HasFirstFault};
 ghost use Rattle.pv_model.specs.Syntax.{Program};
@@ -57,8 +60,38 @@ pub fn return_is_last()
         exec (followed program behind) rows ≡ exec program rows }
 {}
 
-/// On the same rows in another order a program gives the same reply, and each item the same value.
+/// On rows with the same items and values in another order a program gives the same reply, and each item the same value.
 pub fn order_of_rows_is_free()
     ensures { (program : Program) (rows others : List Row) → HaveSameValues rows others →
         ((exec program rows).reply ≡ (exec program others).reply) × HaveSameValues (exec program rows).rows (exec program others).rows }
+{}
+
+/// A text is one program over a catalog at most.
+pub fn one_program()
+    ensures { (catalog : Declared) (text : List ℕ) (program other : Program) → IsProgramText catalog text program → IsProgramText catalog text other → program ≡ other }
+{}
+
+/// A text is refused in one way at most.
+pub fn one_refusal()
+    ensures { (catalog : Declared) (text : List ℕ) (refusal other : Refusal) → IsRefused catalog text refusal → IsRefused catalog text other → refusal ≡ other }
+{}
+
+/// A program isn't refused.
+pub fn no_refusal()
+    ensures { (catalog : Declared) (text : List ℕ) (program : Program) (refusal : Refusal) → IsProgramText catalog text program → IsRefused catalog text refusal → ⊥ }
+{}
+
+/// Each text is a program over a catalog or is refused.
+pub fn some_answer()
+    ensures { (catalog : Declared) (text : List ℕ) → ((program : Program) × IsProgramText catalog text program) ⊎ ((refusal : Refusal) × IsRefused catalog text refusal) }
+{}
+
+/// Each program has a list of the items that it names.
+pub fn some_items()
+    ensures { (program : Program) → (items : List ℕ) × AreItems program items }
+{}
+
+/// A program has one such list at most.
+pub fn one_items()
+    ensures { (program : Program) (items others : List ℕ) → AreItems program items → AreItems program others → items ≡ others }
 {}

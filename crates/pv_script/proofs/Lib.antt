@@ -1,5 +1,4 @@
 pub mod LineLemmas
-pub mod NumberLemmas
 pub mod FormLemmas
 pub mod FaultLemmas
 pub mod EventLemmas

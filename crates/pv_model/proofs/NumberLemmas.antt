@@ -15,7 +15,7 @@ use Rattle.pv_model.specs.Program.{fits_i64}
 use Rattle.pv_base.specs.Name.{is_digit}
 use Rattle.pv_model.specs.Text.{value_of, digits_of, signed_value_of, IsNumber, IsSigned}
 
-numerals : IsNumeralModel (λ ds. list_all is_digit ds ≡ true) value_of
+pub numerals : IsNumeralModel (λ ds. list_all is_digit ds ≡ true) value_of
 numerals = numerals_by_weight _ (search rules) value_of (search rules)
 
 OkIff-same : {E X : Type 0} {P Q : Type 0} (r : Result X E) (x : X) → (P → Q) → (Q → P) → OkIff r P x → OkIff r Q x
