@@ -1,0 +1,4 @@
+-- The lemmas of this crate.
+pub mod MarkLemmas
+pub mod WantLemmas
+pub mod PlanLemmas

@@ -1,0 +1,160 @@
+-- The wants that marks stand for are the program's, and as many as the items that it names.
+use Rattle.std.proofs.Common.{◌≡◌, ⊎_elim, ℕ, zero, suc, ◌<◌, ◌≤◌, Bool, true, false, List, [], ◌∷◌, ◌++◌, map, length, get_or, cond, refl, sym, ap, subst, ◌∙◌, arith}
+use Rattle.std.specs.Prelude.{◌↔◌, IsTrue}
+use Rattle.std.specs.List.{All, AllPairs, Contains}
+use Rattle.std.proofs.lemmas.Bool.{false≢true, false_from_ne_true, cases_lt}
+use Rattle.std.proofs.lemmas.List.{length-map, get_or-map, get_or_past}
+use Rattle.std.proofs.lemmas.List.Elements.{All-nil, All-push, All-map, Contains-append_left, Contains-push}
+use Rattle.std.proofs.lemmas.List.Quantifiers.{all_pairs_push}
+use Rattle.pv_base.specs.declared.want.Want.{Want}
+use Rattle.pv_model.specs.Syntax.{Program}
+use Rattle.pv_model.specs.ProgramLaws.{assigns}
+use Rattle.pv_model.specs.Check.{names, AreItems}
+use Rattle.pv_model.proofs.ItemLemmas.{one_items}
+use Rattle.pv_check.specs.declared.marks.Mark.{Mark}
+use Rattle.pv_check.specs.declared.marks.Mark.TheVariants.{Unnamed}
+use Rattle.pv_check.specs.Marks.{is_named, mark_at, AreMarks}
+use Rattle.pv_check.specs.Wants.{AreWants, want_of, wants_among}
+
+-- One more at the end, where a test holds.
+
+All-tested : {X : Type 0} (P : X → Type 0) (b : Bool) (xs : List X) (x : X) → All P xs → (b ≡ true → P x)
+    → All P (cond b (xs ++ x ∷ []) xs)
+All-tested P true xs x h at = All-push P xs x h (at refl)
+All-tested P false xs x h at = h
+
+pairs-tested : {X : Type 0} (R : X → X → Type 0) (b : Bool) (xs : List X) (x : X) → AllPairs R xs → All (λ y. R y x) xs
+    → AllPairs R (cond b (xs ++ x ∷ []) xs)
+pairs-tested R true xs x h before = all_pairs_push R xs x h before
+pairs-tested R false xs x h before = h
+
+Contains-tested : {X : Type 0} (b : Bool) (xs : List X) (x y : X) → Contains xs y → Contains (cond b (xs ++ x ∷ []) xs) y
+Contains-tested true xs x y h = Contains-append_left xs (x ∷ []) y h
+Contains-tested false xs x y h = h
+
+Contains-last : {X : Type 0} (b : Bool) (xs : List X) (x : X) → b ≡ true → Contains (cond b (xs ++ x ∷ []) xs) x
+Contains-last true xs x h = Contains-push xs x
+Contains-last false xs x h = absurd (false≢true h)
+
+-- The wants of the first items.
+
+wants-below : (marks : List Mark) (n : ℕ) → All (λ (want : Want). want.item.0 < n) (wants_among marks n)
+unfolding wants_among
+wants-below marks zero = All-nil _
+wants-below marks (suc n) =
+    All-tested (λ (want : Want). want.item.0 < suc n) (is_named (mark_at marks n)) (wants_among marks n) (want_of marks n)
+    (λ k d l. omega (arith, wants-below marks n k d l))
+    (λ h. omega arith)
+
+wants-ascending : (marks : List Mark) (n : ℕ) → AllPairs (λ (want later : Want). want.item.0 < later.item.0) (wants_among marks n)
+unfolding wants_among
+wants-ascending marks zero = λ i j d l within. absurd (omega (arith, within))
+wants-ascending marks (suc n) =
+    pairs-tested (λ (want later : Want). want.item.0 < later.item.0) (is_named (mark_at marks n)) (wants_among marks n) (want_of marks n)
+    (wants-ascending marks n)
+    (wants-below marks n)
+
+wants-named : (program : Program) (marks : List Mark) (n : ℕ) → AreMarks program marks
+    → All (λ (want : Want). IsTrue (names program want.item.0)) (wants_among marks n)
+unfolding wants_among
+wants-named program marks zero are = All-nil _
+wants-named program marks (suc n) are =
+    All-tested (λ (want : Want). IsTrue (names program want.item.0)) (is_named (mark_at marks n)) (wants_among marks n) (want_of marks n)
+    (wants-named program marks n are)
+    (λ h. sym (are.named n) ∙ h)
+
+wants-exclusive : (program : Program) (marks : List Mark) (n : ℕ) → AreMarks program marks
+    → All (λ (want : Want). want.exclusive ≡ assigns program want.item.0) (wants_among marks n)
+unfolding wants_among
+wants-exclusive program marks zero are = All-nil _
+wants-exclusive program marks (suc n) are =
+    All-tested (λ (want : Want). want.exclusive ≡ assigns program want.item.0) (is_named (mark_at marks n)) (wants_among marks n) (want_of marks n)
+    (wants-exclusive program marks n are)
+    (λ h. are.exclusive n (sym (are.named n) ∙ h))
+
+wants-last : (marks : List Mark) (m n : ℕ) → m ≡ n → is_named (mark_at marks m) ≡ true → Contains (wants_among marks (suc n)) (want_of marks m)
+unfolding wants_among
+wants-last marks m n same named =
+    subst (λ (n : ℕ). Contains (wants_among marks (suc n)) (want_of marks m)) same
+    (Contains-last (is_named (mark_at marks m)) (wants_among marks m) (want_of marks m) named)
+
+wants-whole : (marks : List Mark) (m n : ℕ) → m < n → is_named (mark_at marks m) ≡ true → Contains (wants_among marks n) (want_of marks m)
+unfolding wants_among
+wants-whole marks m zero within named = absurd (omega (arith, within))
+wants-whole marks m (suc n) within named =
+    ⊎_elim
+    (λ before. Contains-tested (is_named (mark_at marks n)) (wants_among marks n) (want_of marks n) (want_of marks m)
+    (wants-whole marks m n before named))
+    (λ behind. wants-last marks m n (omega (arith, within, behind)) named)
+    (cases_lt m n)
+
+-- An item that is named has a mark.
+named-within : (program : Program) (marks : List Mark) (n : ℕ) → AreMarks program marks → IsTrue (names program n) → n < length marks
+named-within program marks n are named =
+    ⊎_elim
+    (λ within. within)
+    (λ past. absurd (false≢true (ap is_named (sym (get_or_past marks n Unnamed past)) ∙ are.named n ∙ named)))
+    (cases_lt n (length marks))
+
+-- The wants that all the marks stand for are the program's.
+pub AreWants-among : (program : Program) (marks : List Mark) (count : ℕ) → length marks ≤ count → AreMarks program marks
+    → AreWants program (wants_among marks count)
+AreWants-among program marks count all are = record {
+  ascending = wants-ascending marks count;
+  named = wants-named program marks count are;
+  exclusive = wants-exclusive program marks count are;
+  whole = λ n named.
+      subst (λ (b : Bool). Contains (wants_among marks count) (record { item = record { 0 = n }; exclusive = b }))
+      (are.exclusive n named)
+      (wants-whole marks n count (omega (arith, all, named-within program marks n are named)) (are.named n ∙ named));
+}
+
+-- The items of wants.
+
+pairs-map : {X Y : Type 0} (R : Y → Y → Type 0) (f : X → Y) (xs : List X) → AllPairs (λ x y. R (f x) (f y)) xs → AllPairs R (map f xs)
+pairs-map R f [] h = λ i j d before within. absurd (omega (arith, within))
+pairs-map R f (x ∷ xs) h = λ i j d before within.
+    let inside : j < length (x ∷ xs) = omega (arith, within, length-map (x ∷ xs) f) in
+    let first : i < length (x ∷ xs) = omega (arith, before, inside) in
+    subst (λ z. R (get_or (map f (x ∷ xs)) i d) z) (sym (get_or-map f (x ∷ xs) j x d inside))
+    (subst (λ y. R y (f (get_or (x ∷ xs) j x))) (sym (get_or-map f (x ∷ xs) i x d first)) (h i j x before inside))
+
+Contains-map : {X Y : Type 0} (f : X → Y) (xs : List X) (x : X) → Contains xs x → Contains (map f xs) (f x)
+Contains-map f xs x (k, l, at) = (k, omega (arith, l, length-map xs f), get_or-map f xs k x (f x) l ∙ ap f at)
+
+AreItems-wants : (program : Program) (wants : List Want) → AreWants program wants → AreItems program (map (λ (want : Want). want.item.0) wants)
+AreItems-wants program wants are = record {
+  ascending = pairs-map (λ (n later : ℕ). n < later) (λ (want : Want). want.item.0) wants are.ascending;
+  each = All-map (λ (n : ℕ). IsTrue (names program n)) (λ (want : Want). want.item.0) wants are.named;
+  whole = λ n named.
+      Contains-map (λ (want : Want). want.item.0) wants (record { item = record { 0 = n }; exclusive = assigns program n })
+      (are.whole n named);
+}
+
+-- The wants are as many as the items that the program names.
+pub length-wants : (program : Program) (marks : List Mark) (count : ℕ) (items : List ℕ) → length marks ≤ count → AreMarks program marks
+    → AreItems program items → length (wants_among marks count) ≡ length items
+length-wants program marks count items all are them =
+    let wants = wants_among marks count in
+    sym (length-map wants (λ (want : Want). want.item.0))
+    ∙ ap (λ (numbers : List ℕ). length numbers)
+    (one_items program (map (λ (want : Want). want.item.0) wants) items
+    (AreItems-wants program wants (AreWants-among program marks count all are)) them)
+
+some-none : (wants : List Want) (want : Want) → Contains wants want → length wants ≡ 0 → ⊥
+some-none wants want (k, l, at) none = absurd (omega (arith, l, none))
+
+wants-none : (program : Program) (wants : List Want) → AreWants program wants → ((n : ℕ) → names program n ≡ false) → length wants ≡ 0
+wants-none program [] are none = refl
+wants-none program (want ∷ wants) are none =
+    absurd (false≢true (sym (none want.item.0) ∙ are.named 0 want (omega arith)))
+
+-- The wants are none exactly where the program names no item.
+pub no-wants : (program : Program) (marks : List Mark) (count : ℕ) → length marks ≤ count → AreMarks program marks
+    → length (wants_among marks count) ≡ 0 ↔ ((n : ℕ) → names program n ≡ false)
+no-wants program marks count all are =
+    let wants = wants_among marks count in
+    let wanted = AreWants-among program marks count all are in (
+      λ none n. false_from_ne_true (names program n) (λ named. some-none wants _ (wanted.whole n named) none),
+      wants-none program wants wanted,
+    )

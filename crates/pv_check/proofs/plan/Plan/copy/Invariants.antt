@@ -1,0 +1,6 @@
+-- The parts so far are copied.
+use Rattle.std.proofs.Common.{◌≡◌, take}
+use Rattle.pv_check.proofs.plan.Plan.copy.Given as goal
+
+abbrev pub invariant-loop-part : goal.invariant-loop-part
+invariant-loop-part l = l.parts.items ≡ take l.part-index l.part-items

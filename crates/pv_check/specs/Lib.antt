@@ -1,0 +1,4 @@
+pub mod Marks
+pub mod PlanView
+pub mod Refusal
+pub mod Wants

@@ -1,0 +1,6 @@
+-- Parts as plain data.
+use Rattle.pv_check.specs.declared.plan.Part.TheInside.{Inside}
+use Rattle.pv_model.specs.Check as model
+
+abbrev pub part_of : Inside → model.Part
+part_of inside = record { site = inside.site.0; wants = inside.wants.items }

@@ -1,0 +1,120 @@
+// Whether a program may run, and what it then wants of each site.
+ghost use Rattle.std.specs.Prelude.{◌≡◌, ◌≢◌, ◌<◌, ◌↔◌, ℕ, List, false, Err, Some, None, length, All, IsTrue, OnOk, IfOk, IfErr, IfSome};
+ghost use Rattle.pv_model.specs.Syntax as model;
+ghost use Rattle.pv_model.specs.Check.{names, AreItems, IsPlan};
+ghost use Rattle.pv_check.specs.Refusal.{refusal};
+ghost use Rattle.pv_check.specs.Wants.{AreWants, wants_at};
+
+use crate::marks::{ROOM, count_named, marks_of, wants_of};
+use crate::scan::{has_assignment, has_return};
+use crate::{CheckError, Part, Plan};
+use pv_ast::Program;
+use pv_base::{Catalog, NoMemory, SiteId, Want};
+use std::alloc::Global;
+
+/// The greatest count of items that a program may name.
+pub const MAX_ITEMS: u32 = 16;
+
+/// What the program, each item of which is in the catalog, wants of each site: each item that it names, once, at the
+/// item's site, exclusive where it assigns it.
+///
+/// It is refused with the first of these that holds:
+///
+/// 1. `NoItem`: the program names no item.
+/// 2. `TooManyItems`: the program names more than [`MAX_ITEMS`] items. The error says how many.
+/// 3. `Assigns`: it is a query, and an assignment stands in the program.
+/// 4. `NoReturn`: it is a query, and no `return` stands in the program.
+/// 5. `NoMemory`: there was no memory for the plan.
+///
+/// The program is read once, and for a query up to twice more, until an assignment or a `return` is found. That recurses as
+/// deep as the program's tree: a chain of n operators has n levels. Besides, the
+/// cost is bounded by a constant, whatever the catalog holds: a table of a mark for each item that any catalog may hold is
+/// cleared and read twice, and the wants, at most [`MAX_ITEMS`], are read once for each site.
+pub fn check(
+    alloc: Global,
+    program: &Program,
+    catalog: &Catalog,
+    query: bool,
+) -> Result<Plan, CheckError>
+    requires { (n : ℕ) → IsTrue (names program.now n) → n < length catalog.now.items }
+    ensures plan { IfOk result (λ plan. IsPlan program.now catalog.now.items plan.parts.items) }
+
+    // It is refused exactly where it has to be, and with the first cause. Besides, only memory can fail.
+    ensures refused { (items : List ℕ) → AreItems program.now items →
+        IfSome (refusal MAX_ITEMS (length items) program.now query) (λ e. result ≡ Err e) }
+    ensures cause { (items : List ℕ) → AreItems program.now items →
+        IfErr result (λ e. e ≢ CheckError.NoMemory → refusal MAX_ITEMS (length items) program.now query ≡ Some e) }
+    ensures accepted { (items : List ℕ) → AreItems program.now items →
+        OnOk result (refusal MAX_ITEMS (length items) program.now query ≡ None) }
+    ensures memory { (items : List ℕ) → AreItems program.now items →
+        result ≡ Err CheckError.NoMemory → refusal MAX_ITEMS (length items) program.now query ≡ None }
+    ensures no_item { result ≡ Err CheckError.NoItem ↔ ((n : ℕ) → names program.now n ≡ false) }
+{
+    // The table of marks has room for each item of the catalog.
+    prove!(catalog.len() as usize <= ROOM);
+    let marks = marks_of(program);
+    if let Some(cause) = refusal(program, count_named(&marks), query) {
+        return Err(cause);
+    }
+    let wants = wants_of(alloc, &marks)?;
+    let parts = parts_of(alloc, catalog, &wants)?;
+    Ok(Plan { parts })
+}
+
+// Why a program is refused that names this many items.
+fn refusal(program: &Program, count: u32, query: bool) -> Option<CheckError>
+    ensures cause { result ≡ refusal MAX_ITEMS count program.now query }
+    ensures no_item { result ≡ Some CheckError.NoItem ↔ (count ≡ 0) }
+{
+    if count == 0 {
+        return Some(CheckError::NoItem);
+    }
+    if count > MAX_ITEMS {
+        return Some(CheckError::TooManyItems(count));
+    }
+    if !query {
+        return None;
+    }
+    if has_assignment(program) {
+        return Some(CheckError::Assigns);
+    }
+    if !has_return(program) {
+        return Some(CheckError::NoReturn);
+    }
+    None
+}
+
+// The wants, part by part.
+fn parts_of(alloc: Global, catalog: &Catalog, wants: &[Want]) -> Result<Vec<Part>, NoMemory>
+    requires { All (λ want. want.item.0 < length catalog.now.items) wants.now }
+    ensures { IfOk result (λ parts. (program : model.Program) → AreWants program wants.now → IsPlan program catalog.now.items parts.items) }
+{
+    let mut parts = Vec::new(alloc);
+    for site in 0..catalog.sites() {
+        let site = SiteId(site);
+        let wants = wants_at(alloc, catalog, site, wants)?;
+        if !wants.is_empty() {
+            parts.push(Part { site, wants })?;
+        }
+    }
+    Ok(parts)
+}
+
+// Those of the wants that are of items of the site.
+fn wants_at(
+    alloc: Global,
+    catalog: &Catalog,
+    site: SiteId,
+    wants: &[Want],
+) -> Result<Vec<Want>, NoMemory>
+    requires { All (λ want. want.item.0 < length catalog.now.items) wants.now }
+    ensures { IfOk result (λ found. found.items ≡ wants_at catalog.now.items site.0 wants.now) }
+{
+    let mut found = Vec::new(alloc);
+    for want in wants {
+        if catalog.site_of(want.item) == site {
+            found.push(*want)?;
+        }
+    }
+    Ok(found)
+}

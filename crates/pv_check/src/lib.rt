@@ -1,0 +1,13 @@
+//! Whether a program may run, and what it then wants of each site.
+#![tactic(auto)]
+
+mod checking;
+mod marks;
+mod plan;
+mod scan;
+
+pub use checking::{MAX_ITEMS, check};
+pub use plan::{CheckError, Part, Plan};
+
+#[cfg(test)]
+mod tests;

@@ -1,0 +1,11 @@
+pub mod TokenKinds
+pub mod LexerLemmas
+pub mod TokenListLemmas
+pub mod NumberLemmas
+pub mod StepLemmas
+pub mod OperatorLemmas
+pub mod ExpressionLemmas
+pub mod UnaryLemmas
+pub mod ProgramLemmas
+pub mod BranchLemmas
+pub mod ParseLemmas

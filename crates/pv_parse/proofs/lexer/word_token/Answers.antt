@@ -1,0 +1,10 @@
+-- A word that is listed stands for itself, and another one is a name.
+use Rattle.std.proofs.Common.{sym}
+use Rattle.pv_parse.proofs.TokenKinds.{token_of-listed, token_of-name}
+use Rattle.pv_parse.proofs.lexer.word_token.Goals as goal
+
+pub returns-in-Some-clause-token : goal.returns-in-Some-clause-token
+returns-in-Some-clause-token c = token_of-listed c.args.word.now _ (sym c.in-Some.ensures.token)
+
+pub returns-in-None-clause-token : goal.returns-in-None-clause-token
+returns-in-None-clause-token c = token_of-name c.args.word.now c.requires.word (sym c.in-None.ensures.token)

@@ -1,0 +1,6 @@
+-- What a text is read with, as plain data.
+use Rattle.pv_parse.specs.declared.parser.Parser.TheInside.{Inside}
+use Rattle.pv_parse.specs.Reading.{Source}
+
+abbrev pub source_of : Inside → Source
+source_of inside = record { catalog = inside.catalog.now; behind = inside.behind }

@@ -1,0 +1,90 @@
+-- What a step of reading promises, whatever is expected behind what it reads.
+use Rattle.std.specs.Prelude.{◌≡◌, ℕ, ◌≤◌, Bool, true, false, Option, Some, None, List, [], ◌∷◌, length, IsTrue}
+use Rattle.pv_base.specs.Catalog.{Declared}
+use Rattle.pv_model.specs.Syntax as model
+use Rattle.pv_model.specs.Tokens.{Token}
+use Rattle.pv_model.specs.Grammar.{Part, Reads}
+use Rattle.pv_model.specs.ProgramText.{Kind, malformed, unknown_name, too_deep, item_in}
+use Rattle.pv_model.specs.Prediction.{Symbol, part, mark, Mark, Expected, placed, first_fault}
+use Rattle.pv_ast.specs.declared.expr.Op.{Op}
+use Rattle.pv_ast.specs.OpView.{op_of}
+use Rattle.pv_parse.specs.declared.error.ParseError.{ParseError}
+use Rattle.pv_parse.specs.declared.error.ParseError.TheVariants.{TooLarge, Malformed, UnknownName, TooDeep, NoMemory}
+
+-- tokens, each with its column
+abbrev pub Columned : Type 0
+Columned = List (ℕ × Token)
+
+-- what a text is read with: the items, and the column behind the text
+pub record Source : Type 0 where
+  pub catalog : Declared
+  pub behind : ℕ
+
+-- the first fault of tokens where these things are expected
+abbrev pub fault_in : Source → List Expected → Columned → Option (Kind × ℕ)
+fault_in source expected tokens = first_fault (item_in source.catalog) source.behind expected tokens
+
+-- the tokens behind the first
+abbrev pub rest_of : Columned → Columned
+rest_of [] = []
+rest_of (t ∷ ts) = ts
+
+-- the column of the first token, or the one behind the text
+abbrev pub column_of : Source → Columned → ℕ
+column_of source [] = source.behind
+column_of source (t ∷ ts) = t.0
+
+-- The token is next.
+abbrev pub IsNext : Source → Token → Columned → Type 0
+IsNext source token tokens = tokens ≡ (column_of source tokens, token) ∷ rest_of tokens
+
+-- Whether the operator may stand before one side.
+abbrev pub is_minus : model.Op → Bool
+is_minus model.sub = true
+is_minus _ = false
+
+-- Whether no operator is next.
+abbrev pub has_no_operator : Columned → Bool
+has_no_operator [] = true
+has_no_operator ((column, Token.operator op) ∷ ts) = false
+has_no_operator (t ∷ ts) = true
+
+-- The error names the first fault of tokens. Want of memory may come at any place.
+abbrev pub IsFault : Option (Kind × ℕ) → ParseError → Type 0
+IsFault fault (TooLarge n) = ⊥
+IsFault fault (Malformed column) = fault ≡ Some (malformed, column)
+IsFault fault (UnknownName column) = fault ≡ Some (unknown_name, column)
+IsFault fault (TooDeep column) = fault ≡ Some (too_deep, column)
+IsFault fault NoMemory = Unit {0}
+
+-- The error names the first fault of tokens where this and anything behind it is expected.
+abbrev pub Stops : Source → Expected → Columned → ParseError → Type 0
+Stops source e tokens error = (more : List Expected) → IsFault (fault_in source (e ∷ more) tokens) error
+
+-- Tokens up to a rest are a part of an expression. The tokens before the rest are the longest part that stands first.
+pub record ReadsPart (source : Source) (p : Part) (d : ℕ) (before after : Columned) (e : model.Expr) : Type 0 where
+  pub fault : (more : List Expected) → fault_in source ((d, part p) ∷ more) before ≡ fault_in source more after
+  pub reads : (more : List Expected) → Reads (item_in source.catalog) p d (placed ((d, part p) ∷ more) before) (placed more after) e
+  pub fewer : length after ≤ length before
+
+-- The next token is the mark.
+pub record PassesMark (source : Source) (m : Mark) (token : Token) (d : ℕ) (before after : Columned) : Type 0 where
+  pub fault : (more : List Expected) → fault_in source ((d, mark m) ∷ more) before ≡ fault_in source more after
+  pub place : (more : List Expected) → placed ((d, mark m) ∷ more) before ≡ (d, token) ∷ placed more after
+  pub fewer : length after ≤ length before
+
+-- What may be left out is left out: the next token doesn't go on with it.
+pub record Skips (source : Source) (e : Expected) (tokens : Columned) : Type 0 where
+  pub fault : (more : List Expected) → fault_in source (e ∷ more) tokens ≡ fault_in source more tokens
+  pub place : (more : List Expected) → placed (e ∷ more) tokens ≡ placed more tokens
+
+-- The token before the rest is this one, at a nesting that is allowed.
+pub record PassesToken (token : Token) (d : ℕ) (before after : Columned) : Type 0 where
+  pub column : ℕ
+  pub split : before ≡ (column, token) ∷ after
+  pub shallow : d ≤ 32
+
+-- An operator that is wanted is passed. Where none stands next, nothing is passed, and nothing more is expected here.
+abbrev pub TakesOperator : Source → Symbol → (model.Op → Bool) → ℕ → Columned → Columned → Option Op → Type 0
+TakesOperator source s is_wanted d before after None = Skips source (d, s) before × (after ≡ before)
+TakesOperator source s is_wanted d before after (Some op) = IsTrue (is_wanted (op_of op)) × PassesToken (Token.operator (op_of op)) d before after

@@ -1,0 +1,178 @@
+// The token that a text begins with: a word, a number or a symbol, each as long as may be.
+ghost use Rattle.std.specs.Prelude.{◌≡◌, ℕ, ◌+◌, ◌<◌, ◌≤◌, Bool, false, true, not, Some, length, slice_index, IfSome, IsTrue, [], ◌∷◌};
+ghost use Rattle.std.specs.Option.{option_map};
+ghost use Rattle.pv_base.specs.Name.{is_lower, is_digit, continues_name};
+ghost use Rattle.pv_model.specs.Text.{is_blank};
+ghost use Rattle.pv_model.specs.Tokens as model;
+ghost use Rattle.pv_parse.specs.TokenView.{token_of, HasDigits, IsOther, StartsWith, beside, listed};
+
+use crate::token::Token;
+use pv_ast::Op;
+
+// The most that a name has, in bytes.
+const MAX_NAME: usize = 16;
+
+// The words and symbols that stand for themselves.
+const WORDS_AND_SYMBOLS: [(&[u8], Token<'static>); 28] = [
+    (b"or", Token::Operator(Op::Or)),
+    (b"and", Token::Operator(Op::And)),
+    (b"not", Token::Not),
+    (b"min", Token::Operator(Op::Min)),
+    (b"max", Token::Operator(Op::Max)),
+    (b"if", Token::If),
+    (b"else", Token::Else),
+    (b"require", Token::Require),
+    (b"return", Token::Return),
+    (b"certain", Token::Certain),
+    (b"=", Token::Operator(Op::Equal)),
+    (b"<>", Token::Operator(Op::Unequal)),
+    (b"<", Token::Operator(Op::Less)),
+    (b"<=", Token::Operator(Op::AtMost)),
+    (b">", Token::Operator(Op::Greater)),
+    (b">=", Token::Operator(Op::AtLeast)),
+    (b"+", Token::Operator(Op::Plus)),
+    (b"-", Token::Operator(Op::Sub)),
+    (b"*", Token::Operator(Op::Times)),
+    (b"/", Token::Operator(Op::Over)),
+    (b"%", Token::Operator(Op::Rest)),
+    (b":=", Token::Becomes),
+    (b"(", Token::Open),
+    (b")", Token::Close),
+    (b"{", Token::OpenBody),
+    (b"}", Token::CloseBody),
+    (b";", Token::Next),
+    (b",", Token::Comma),
+];
+
+/// Whether a byte is a space or a tab.
+pub(crate) fn is_blank(byte: u8) -> bool
+    ensures { result ≡ is_blank byte }
+{
+    byte == b' ' || byte == b'\t'
+}
+
+/// The token that a text begins with, and its length. A byte that begins no token is stray.
+pub(crate) fn first_token<'a>(text: &'a [u8]) -> (Token<'a>, usize)
+    requires some { 0 < length text.now }
+    requires no_blank { is_blank (slice_index text.now 0) ≡ false }
+    ensures token { StartsWith text.now (token_of result.0) result.1 }
+    ensures digits { HasDigits result.0 }
+{
+    match text {
+        [b'a'..=b'z', ..] => first_word(text),
+        [b'0'..=b'9', ..] => first_number(text),
+        _ => first_symbol(text),
+    }
+}
+
+// The word that a text begins with.
+fn first_word<'a>(text: &'a [u8]) -> (Token<'a>, usize)
+    requires some { 0 < length text.now }
+    requires lower { is_lower (slice_index text.now 0) ≡ true }
+    ensures token { StartsWith text.now (token_of result.0) result.1 }
+    ensures digits { HasDigits result.0 }
+{
+    let size = word_size(text);
+    let (word, _) = text.split_at(size);
+    (word_token(word), size)
+}
+
+// How many bytes at the front of a text one name may have.
+fn word_size(text: &[u8]) -> usize
+    ensures within { result ≤ length text.now }
+    ensures short { result ≤ 16 }
+    ensures each { (k : ℕ) → k < result → continues_name (slice_index text.now k) ≡ true }
+    ensures end { result < 16 → result < length text.now → continues_name (slice_index text.now result) ≡ false }
+{
+    for (i, byte) in text.iter().enumerate() {
+        if i == MAX_NAME || !continues_name(*byte) {
+            return i;
+        }
+    }
+    text.len()
+}
+
+// Whether a byte may follow the first letter of a name.
+fn continues_name(byte: u8) -> bool
+    ensures { result ≡ continues_name byte }
+{
+    byte.is_ascii_lowercase() || byte.is_ascii_digit() || byte == b'_'
+}
+
+// The token that a word is: one that stands for itself, else a name.
+fn word_token<'a>(word: &'a [u8]) -> Token<'a>
+    requires word { IsTrue (model.is_name_word word.now) }
+    ensures token { model.token_of word.now ≡ Some (token_of result) }
+    ensures digits { HasDigits result }
+{
+    match listed(word) {
+        Some(token) => token,
+        None => Token::Name(word),
+    }
+}
+
+// The number that a text begins with.
+fn first_number<'a>(text: &'a [u8]) -> (Token<'a>, usize)
+    requires some { 0 < length text.now }
+    requires digit { is_digit (slice_index text.now 0) ≡ true }
+    ensures token { StartsWith text.now (token_of result.0) result.1 }
+    ensures digits { HasDigits result.0 }
+{
+    let size = number_size(text);
+    let (digits, _) = text.split_at(size);
+    (Token::Number(digits), size)
+}
+
+// How many digits a text begins with.
+fn number_size(text: &[u8]) -> usize
+    ensures within { result ≤ length text.now }
+    ensures each { (k : ℕ) → k < result → is_digit (slice_index text.now k) ≡ true }
+    ensures end { result < length text.now → is_digit (slice_index text.now result) ≡ false }
+{
+    for (i, byte) in text.iter().enumerate() {
+        if !byte.is_ascii_digit() {
+            return i;
+        }
+    }
+    text.len()
+}
+
+// The symbol that a text begins with, or a stray byte.
+fn first_symbol<'a>(text: &'a [u8]) -> (Token<'a>, usize)
+    requires some { 0 < length text.now }
+    requires other { IsOther (slice_index text.now 0) }
+    requires no_blank { is_blank (slice_index text.now 0) ≡ false }
+    ensures token { StartsWith text.now (token_of result.0) result.1 }
+    ensures digits { HasDigits result.0 }
+{
+    let size = text.len().min(2);
+    let (two, _) = text.split_at(size);
+    if let Some(token) = listed(two) {
+        return (token, size);
+    }
+    let (one, _) = text.split_at(1);
+    match listed(one) {
+        Some(token) => (token, 1),
+        None => (Token::Stray(text[0]), 1),
+    }
+}
+
+// The token that bytes are, if they are a word or symbol that stands for itself.
+#[tactic(auto, unfolding(crate::specs::TokenView::beside))]
+fn listed<'a>(bytes: &[u8]) -> Option<Token<'a>>
+    ensures token { option_map token_of result ≡ listed bytes.now }
+    ensures digits { IfSome result HasDigits }
+{
+    listed_in(bytes, &WORDS_AND_SYMBOLS)
+}
+
+// The token beside the first text of a table that bytes are.
+#[tactic(auto, unfolding(crate::specs::TokenView::beside))]
+fn listed_in<'a>(bytes: &[u8], table: &[(&[u8], Token<'a>)]) -> Option<Token<'a>>
+    ensures { result ≡ beside bytes.now table.now }
+{
+    table
+        .iter()
+        .find(|entry| bytes == entry.0)
+        .map(|entry| entry.1)
+}

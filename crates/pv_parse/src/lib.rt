@@ -1,0 +1,24 @@
+//! Program texts: the program that a text is over a catalog, or where and why it is none.
+#![tactic(auto)]
+
+mod cursor;
+mod error;
+mod expression;
+mod lexer;
+mod parser;
+mod parsing;
+mod statement;
+mod token;
+
+pub use cursor::MAX_DEPTH;
+pub use error::ParseError;
+pub use parsing::{MAX_TEXT, parse};
+
+#[cfg(test)]
+mod depth_tests;
+#[cfg(test)]
+mod refusal_tests;
+#[cfg(test)]
+mod tests;
+#[cfg(test)]
+mod token_tests;

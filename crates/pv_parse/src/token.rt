@@ -1,0 +1,93 @@
+// The tokens of a program text, each with its column.
+ghost use Rattle.std.specs.Prelude.{◌≡◌, ◌^◌, ◌*◌, ◌<◌, ◌≤◌, ℤ, pos, length, map, All, IsTrue, IfOk, IfNone, IfSome};
+ghost use Rattle.pv_model.specs.Text.{value_of};
+ghost use Rattle.pv_model.specs.Tokens.{HasTokens, is_digits};
+ghost use Rattle.pv_parse.specs.TokenView.{located_of, HasDigits};
+
+use crate::lexer::{first_token, is_blank};
+use pv_ast::Op;
+use pv_base::NoMemory;
+use std::alloc::Global;
+use std::str;
+
+/// A token of a program text.
+#[derive(Clone, Copy, Debug, PartialEq, Eq)]
+pub(crate) enum Token<'a> {
+    /// A name.
+    Name(&'a [u8]),
+    /// A number's digits, which may stand for more than 64 bits hold.
+    Number(&'a [u8]),
+    /// An operator between two sides; `-` also stands before one.
+    Operator(Op),
+    /// `not`
+    Not,
+    /// `if`
+    If,
+    /// `else`
+    Else,
+    /// `require`
+    Require,
+    /// `return`
+    Return,
+    /// `:=`
+    Becomes,
+    /// `(`
+    Open,
+    /// `)`
+    Close,
+    /// `{`
+    OpenBody,
+    /// `}`
+    CloseBody,
+    /// `;`
+    Next,
+    /// `,`
+    Comma,
+    /// The word `certain`, which no program has.
+    Certain,
+    /// A byte that begins no token.
+    Stray(u8),
+}
+
+/// A token with the column of its first byte, from 1.
+#[derive(Clone, Copy, Debug, PartialEq, Eq)]
+pub(crate) struct Located<'a> {
+    /// The column.
+    pub(crate) column: u32,
+    /// The token.
+    pub(crate) token: Token<'a>,
+}
+
+/// The tokens of a text. Its one error is want of memory.
+pub(crate) fn tokens_of<'a>(alloc: Global, text: &'a [u8]) -> Result<Vec<Located<'a>>, NoMemory>
+    requires short { length text.now ≤ 1000 }
+    ensures tokens { IfOk result (λ found. HasTokens text.now (map located_of found.items)) }
+    ensures digits { IfOk result (λ found. All (λ located. HasDigits located.token) found.items) }
+{
+    let mut found = Vec::new(alloc);
+    let mut column = 1;
+    let mut rest = text;
+    while let [first, ..] = rest {
+        if is_blank(*first) {
+            let (_, behind) = rest.split_at(1);
+            rest = behind;
+            column += 1;
+            continue;
+        }
+        let (token, size) = first_token(rest);
+        found.push(Located { column, token })?;
+        let (_, behind) = rest.split_at(size);
+        rest = behind;
+        column += size as u32;
+    }
+    Ok(found)
+}
+
+/// The number below 2^63 that digits stand for.
+pub(crate) fn number_of(digits: &[u8]) -> Option<i64>
+    requires digits { IsTrue (is_digits digits.now) }
+    ensures number { IfSome result (λ n. n ≡ pos (value_of digits.now) × value_of digits.now < 2 ^ 63) }
+    ensures none { IfNone result (2 ^ 63 ≤ value_of digits.now) }
+{
+    str::from_utf8(digits).ok()?.parse().ok()
+}
