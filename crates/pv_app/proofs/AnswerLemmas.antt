@@ -1,17 +1,18 @@
 -- An input has one answer, and what the words are.
-use Rattle.std.proofs.Common.{◌≡◌, ℕ, ◌+◌, ◌≤◌, ◌<◌, List, [], ◌∷◌, length, get_or, Option, Result, Ok, Err, OnOk, OnErr, ◌⊎◌, inl, inr, cond, is_ok, refl, sym, ap, ◌∙◌, subst, arith}
+use Rattle.std.proofs.Common.{◌≡◌, ℕ, ◌≤◌, ◌<◌, List, [], ◌∷◌, length, get_or, Option, Some, None, Result, Ok, Err, OnOk, OnErr, ◌⊎◌, inl, inr, cond, is_ok, refl, sym, ap, ◌∙◌, subst, arith}
 use Rattle.std.specs.Bool.{⊤}
 use Rattle.std.specs.Io.KnownBytes.{Appends}
 use Rattle.std.proofs.lemmas.List.{append-nil}
 use Rattle.pv_io.specs.Stream.{AppendsPrefix}
-use Rattle.pv_model.specs.Text.{lines, numbered}
-use Rattle.pv_model.specs.Schedule.{Schedule, AreSomeSchedule, IsSchedule, HasFirstFault, counted}
+use Rattle.pv_model.specs.Causes.{Cause}
+use Rattle.pv_model.specs.Events.{Schedule}
+use Rattle.pv_model.specs.Form.{not_built}
+use Rattle.pv_model.specs.Schedule.{IsSchedule}
 use Rattle.pv_model.specs.Run.{output_of}
-use Rattle.pv_model.proofs.FirstFaultLemmas.{one_fault, no_fault}
-use Rattle.pv_model.proofs.ScheduleLemmas.{one_schedule}
+use Rattle.pv_model.proofs.OneScheduleLemmas.{one_schedule, one_fault, no_fault}
 use Rattle.pv_app.specs.declared.status.Status.{Status}
-use Rattle.pv_app.specs.declared.status.Status.TheVariants.{Done, Usage, Malformed, WriteFault, TooLong}
-use Rattle.pv_app.specs.Answers.{IsAnswer, GivesUp, GrowsBySome, fault_text}
+use Rattle.pv_app.specs.declared.status.Status.TheVariants.{Done, Usage, Malformed, WriteFault, TooLong, NoMemory}
+use Rattle.pv_app.specs.Answers.{IsAnswer, IsRefusedAt, GivesUp, GrowsBySome, fault_text, max_input}
 use Rattle.pv_app.proofs.OutputLemmas.{AppendsPrefix-whole}
 
 -- a list of one element
@@ -22,15 +23,31 @@ one_element (y ∷ z ∷ xs) x some few is = absurd (omega arith)
 
 -- ---- an input has one answer
 
-no_faulty_schedule : (input : List ℕ) (schedule : Schedule) (number : ℕ) → IsSchedule input schedule → HasFirstFault input number → ⊥
-no_faulty_schedule input schedule number is fault = no_fault AreSomeSchedule (numbered input) (length (lines input) + 1) number (schedule, is) fault
+built_differs : (input : List ℕ) (number : ℕ) → not_built input ≡ None → not_built input ≡ Some number → ⊥
+built_differs input number none some = let differ = sym none ∙ some in cc
+
+-- What can be run isn't refused.
+no_refused_schedule : (input : List ℕ) (schedule : Schedule) (number : ℕ) (cause : Option Cause)
+    → IsSchedule input schedule → not_built input ≡ None → IsRefusedAt input number cause → ⊥
+no_refused_schedule input schedule number (Some cause) is built refused = no_fault input schedule number cause is refused
+no_refused_schedule input schedule number None is built refused = built_differs input number built refused.2
+
+-- An input is refused in one way.
+one_refusal : (input : List ℕ) (number other : ℕ) (cause told : Option Cause) → IsRefusedAt input number cause → IsRefusedAt input other told
+    → fault_text number cause ≡ fault_text other told
+one_refusal input number other (Some cause) (Some told) a b =
+    let same = one_fault input number other cause told a b in λ i. fault_text (same.0 i) (Some (same.1 i))
+one_refusal input number other (Some cause) None a b = absurd (no_fault input b.0 number cause b.1 a)
+one_refusal input number other None (Some told) a b = absurd (no_fault input a.0 other told a.1 b)
+one_refusal input number other None None a b =
+    let same : number ≡ other = let both = sym a.2 ∙ b.2 in cc in ap (λ (n : ℕ). fault_text n None) same
 
 one_status : (input : List ℕ) (one other : Status) (output text : List ℕ) → IsAnswer input one output → IsAnswer input other text → one ≡ other
 one_status input Done Done output text a b = refl
-one_status input Done Malformed output text a b = absurd (no_faulty_schedule input a.1 b.1 a.2 b.2)
+one_status input Done Malformed output text a b = absurd (no_refused_schedule input a.1 b.1 b.2 a.2 a.3 b.3)
 one_status input Done TooLong output text a b = absurd (omega (arith, a.0, b.0))
 one_status input Done _ output text a b = absurd b
-one_status input Malformed Done output text a b = absurd (no_faulty_schedule input b.1 a.1 b.2 a.2)
+one_status input Malformed Done output text a b = absurd (no_refused_schedule input b.1 a.1 a.2 b.2 b.3 a.3)
 one_status input Malformed Malformed output text a b = refl
 one_status input Malformed TooLong output text a b = absurd (omega (arith, a.0, b.0))
 one_status input Malformed _ output text a b = absurd b
@@ -41,9 +58,8 @@ one_status input TooLong _ output text a b = absurd b
 one_status input _ other output text a b = absurd a
 
 one_output : (input : List ℕ) (status : Status) (output text : List ℕ) → IsAnswer input status output → IsAnswer input status text → output ≡ text
-one_output input Done output text a b = a.3 ∙ ap output_of (one_schedule (counted input) a.1 b.1 a.2 b.2) ∙ sym b.3
-one_output input Malformed output text a b =
-    a.3 ∙ ap fault_text (one_fault AreSomeSchedule (numbered input) (length (lines input) + 1) a.1 b.1 a.2 b.2) ∙ sym b.3
+one_output input Done output text a b = a.4 ∙ ap output_of (one_schedule input a.1 b.1 a.2 b.2) ∙ sym b.4
+one_output input Malformed output text a b = a.4 ∙ one_refusal input a.1 b.1 a.2 b.2 a.3 b.3 ∙ sym b.4
 one_output input TooLong output text a b = a.1 ∙ sym b.1
 one_output input _ output text a b = absurd a
 
@@ -66,23 +82,24 @@ prefix_of_run (Err e) old new output p q = q
 
 -- ---- what the statuses say
 
--- At `Done` the input is a schedule, and its output was written.
+-- At `Done` the input is a schedule that can be run, and its output was written.
 pub schedule_at_done : (input : List ℕ) (status : Status) (old new : Option (List ℕ))
     → status ≡ Done → GivesUp status ⊎ GrowsBySome old new (IsAnswer input status)
-    → (schedule : Schedule) × IsSchedule input schedule × Appends old new (output_of schedule)
+    → (schedule : Schedule) × IsSchedule input schedule × (not_built input ≡ None) × Appends old new (output_of schedule)
 schedule_at_done input status old new is answered =
     done (subst (λ (s : Status). GivesUp s ⊎ GrowsBySome old new (IsAnswer input s)) is answered)
   where
-    done : GivesUp Done ⊎ GrowsBySome old new (IsAnswer input Done) → (schedule : Schedule) × IsSchedule input schedule × Appends old new (output_of schedule)
+    done : GivesUp Done ⊎ GrowsBySome old new (IsAnswer input Done)
+        → (schedule : Schedule) × IsSchedule input schedule × (not_built input ≡ None) × Appends old new (output_of schedule)
     done (inl gives_up) = absurd gives_up
-    done (inr (output, grown, a)) = (a.1, a.2, subst (Appends old new) a.3 grown)
+    done (inr (output, grown, a)) = (a.1, a.2, a.3, subst (Appends old new) a.4 grown)
 
 -- What was written at `Done` is the output of any schedule that the input is.
 pub output_at_done : (input : List ℕ) (status : Status) (old new : Option (List ℕ)) (schedule : Schedule)
     → GivesUp status ⊎ GrowsBySome old new (IsAnswer input status) → IsSchedule input schedule → status ≡ Done → Appends old new (output_of schedule)
 output_at_done input status old new schedule answered says is =
     let at_done = schedule_at_done input status old new is answered in
-    subst (Appends old new) (ap output_of (one_schedule (counted input) at_done.0 schedule at_done.1 says)) at_done.2
+    subst (Appends old new) (ap output_of (one_schedule input at_done.0 schedule at_done.1 says)) at_done.3
 
 -- The status is that of the answer, or it gave up.
 pub status_of_answer : (input : List ℕ) (status other : Status) (old new : Option (List ℕ)) (text : List ℕ)
@@ -95,3 +112,12 @@ pub usage_or_fault : {E : Type 0} (written : Result ⊤ E) (status : Status)
     → status ≡ cond (is_ok written) Usage WriteFault → (status ≡ Usage) ⊎ (status ≡ WriteFault)
 usage_or_fault (Ok done) status is = inl is
 usage_or_fault (Err e) status is = inr is
+
+-- Where a refusal was to be written, that is the input's answer, or it gave up.
+pub answered_refusal : (input : List ℕ) (result : Status) (old new : Option (List ℕ)) (number : ℕ) (cause : Option Cause)
+    → length input ≤ max_input → IsRefusedAt input number cause → (result ≡ Malformed) ⊎ ((result ≡ WriteFault) ⊎ (result ≡ NoMemory))
+    → (result ≡ Malformed → Appends old new (fault_text number cause)) → GivesUp result ⊎ GrowsBySome old new (IsAnswer input result)
+answered_refusal input result old new number cause short refused (inl is) written =
+    inr (fault_text number cause, written is, subst (λ (s : Status). IsAnswer input s (fault_text number cause)) (sym is) (short, number, cause, refused, refl))
+answered_refusal input result old new number cause short refused (inr (inl is)) written = inl (subst GivesUp (sym is) tt)
+answered_refusal input result old new number cause short refused (inr (inr is)) written = inl (subst GivesUp (sym is) tt)

@@ -1,58 +1,58 @@
 -- A run, event by event.
-use Rattle.std.proofs.Common.{◌≡◌, ℕ, ◌+◌, ◌≤◌, ◌<◌, suc, ℤ, pos, ◌+ℤ◌, Bool, true, false, cond, List, [], ◌∷◌, ◌++◌, length, drop, drop-cons, get_or, slice_set, slice_index_or, Option, refl, sym, ap, ◌∙◌, subst, arith, length-append}
+use Rattle.std.proofs.Common.{◌≡◌, ℕ, ◌+◌, ◌≤◌, ◌<◌, zero, suc, All, List, [], ◌∷◌, ◌++◌, map, length, drop, drop-cons, get_or, Option, Some, None, sym, ap, ◌∙◌, subst, arith, length-append}
 use Rattle.std.specs.Io.KnownBytes.{Appends}
 use Rattle.std.proofs.KnownBytes.{Appends-trans}
-use Rattle.std.proofs.lemmas.List.{drop-map, length-map, length-set}
-use Rattle.pv_base.specs.Catalog.{Item}
+use Rattle.std.proofs.lemmas.List.{drop-map}
 use Rattle.std.proofs.lemmas.Grind.{flat_map-append}
 use Rattle.pv_io.specs.Stream.{AppendsPrefix}
+use Rattle.pv_model.specs.Events.{Schedule, Event, pump}
 use Rattle.pv_model.specs.Print.{line_text, text_of}
-use Rattle.pv_model.specs.Program.{Effect, nothing, declined_overflow, exec, fits_i64}
-use Rattle.pv_model.specs.Run.{World, opening, after, lines_of, txn_of, run, output_of}
-use Rattle.pv_model.specs.Schedule.{Schedule, Event, submit, report}
+use Rattle.pv_model.specs.Run.{World, opening, after_commit, after, lines_of, txn_of, run, output_of}
+use Rattle.pv_model.specs.Syntax.{Program}
 use Rattle.pv_script.specs.declared.schedule.Event as code
-use Rattle.pv_script.specs.View.{event_of, events_of}
+use Rattle.pv_script.specs.View.{event_of}
+use Rattle.pv_app.specs.Ready.{IsReady, IsSound}
 use Rattle.pv_app.proofs.OutputLemmas.{AppendsPrefix-front, AppendsPrefix-behind}
+use Rattle.pv_app.proofs.ReadyLemmas.{sound-opening, sound-after}
 
--- Behind `done` events, what is left to be printed ends where all that is to be printed ends, and each item has a value.
+-- Behind `done` events, what is left to be printed ends where all that is to be printed ends, and the world is sound.
 pub record IsUnderWay (first now : Option (List ℕ)) (faults_first faults_now : ℕ) (schedule : Schedule) (world : World) (done : ℕ) : Type 0 where
   pub whole : (end : Option (List ℕ)) → Appends now end (text_of (run schedule.catalog world (drop done schedule.events))) → Appends first end (output_of schedule)
   pub prefix : (end : Option (List ℕ)) → AppendsPrefix now end (text_of (run schedule.catalog world (drop done schedule.events))) → AppendsPrefix first end (output_of schedule)
   pub numbers : length world.order ≤ done
-  pub rows : length world.rows ≡ length schedule.catalog.items
+  pub sound : IsSound schedule.catalog world
   pub counted : faults_first ≤ faults_now
 
+-- the events, as the definitions see them
+abbrev pub events_of : List code.Event → List Event
+events_of events = map event_of events
+
 -- the next of the program's events, as the definitions see it
-pub drop-events_of : (events items : List code.Event) → events ≡ items → (i : ℕ) (d : code.Event) → i < length events
-    → drop i (events_of items) ≡ event_of (get_or events i d) ∷ drop (suc i) (events_of items)
-drop-events_of events items same i d below =
+pub drop-events_of : (events items : List code.Event) → events ≡ items → (i : ℕ) (e : code.Event) → i < length events → e ≡ get_or events i e
+    → drop i (events_of items) ≡ event_of e ∷ drop (suc i) (events_of items)
+drop-events_of events items same i e below is =
     ap (λ (es : List code.Event). drop i (events_of es)) (sym same)
     ∙ drop-map event_of i events
-    ∙ ap events_of (drop-cons events i d below)
-    ∙ ap (λ (l : List Event). event_of (get_or events i d) ∷ l) (sym (drop-map event_of (suc i) events))
-    ∙ ap (λ (es : List code.Event). event_of (get_or events i d) ∷ drop (suc i) (events_of es)) same
+    ∙ ap events_of (drop-cons events i e below)
+    ∙ ap (λ (l : List Event). event_of (get_or events i e) ∷ l) (sym (drop-map event_of (suc i) events))
+    ∙ ap (λ (es : List code.Event). event_of (get_or events i e) ∷ drop (suc i) (events_of es)) same
+    ∙ ap (λ (x : code.Event). event_of x ∷ drop (suc i) (events_of items)) (sym is)
 
--- one of two lists as long as a third is as long
-length-cond : (b : Bool) (xs ys zs : List ℤ) → length xs ≡ length zs → length ys ≡ length zs → length (cond b xs ys) ≡ length zs
-length-cond true xs ys zs p q = p
-length-cond false xs ys zs p q = q
-
-rows-cond : (b : Bool) (x y : Effect) → (cond b x y).rows ≡ cond b x.rows y.rows
-rows-cond true x y = refl
-rows-cond false x y = refl
-
-length-after : (world : World) (event : Event) → length (after world event).rows ≡ length world.rows
-unfolding exec
-length-after world report = refl
-length-after world (submit addend) =
-    let sum = slice_index_or world.rows 0 (pos 0) +ℤ addend in
-    ap length (rows-cond (fits_i64 sum) (record { rows = slice_set world.rows 0 sum; reply = nothing }) (record { rows = world.rows; reply = declined_overflow }))
-    ∙ length-cond (fits_i64 sum) (slice_set world.rows 0 sum) world.rows world.rows (length-set world.rows 0 sum) refl
+-- What holds of all elements holds of the next one.
+pub All-next : {A : Type 0} (P : A → Type 0) (xs : List A) (i : ℕ) (x : A) (rest : List A) → All P xs → drop i xs ≡ x ∷ rest → P x
+All-next P [] zero x rest all split = cc
+All-next P [] (suc i) x rest all split = cc
+All-next P (y ∷ ys) zero x rest all split = let same : y ≡ x = cc in subst P same (all 0 y (omega arith))
+All-next P (y ∷ ys) (suc i) x rest all split = All-next P ys i x rest (λ k d below. all (suc k) d (omega (arith, below))) split
 
 -- no event has more than one transaction
+order-commit : (world : World) (waiting : Option Program) → length (after_commit world waiting).order ≤ length world.order + 1
+order-commit world None = omega arith
+order-commit world (Some program) = omega (arith, length-append world.order (txn_of (length world.order) ∷ []))
+
 order-after : (world : World) (event : Event) → length (after world event).order ≤ length world.order + 1
-order-after world report = omega arith
-order-after world (submit addend) = omega (arith, length-append world.order (txn_of (length world.order) ∷ []))
+order-after world (pump None) = order-commit world world.waiting
+order-after world _ = omega arith
 
 pub start : (held : Option (List ℕ)) (faults : ℕ) (schedule : Schedule) → IsUnderWay held held faults faults schedule (opening schedule.catalog) 0
 unfolding output_of
@@ -60,7 +60,7 @@ start held faults schedule = record {
   whole = λ end p. p;
   prefix = λ end p. p;
   numbers = omega arith;
-  rows = length-map schedule.catalog.items (λ (item : Item). item.value);
+  sound = sound-opening schedule.catalog;
   counted = omega arith;
 }
 
@@ -78,12 +78,13 @@ module _ (first now next : Option (List ℕ)) (faults_first faults_now faults_ne
       ∙ flat_map-append line_text (lines_of schedule.catalog world event) (run schedule.catalog (after world event) (drop (suc done) schedule.events))
 
   -- The event's lines are written, and the next event comes.
-  pub go_on : Appends now next lines → faults_now ≤ faults_next → IsUnderWay first next faults_first faults_next schedule (after world event) (suc done)
-  go_on written counted = record {
+  pub go_on : IsReady schedule.catalog event → Appends now next lines → faults_now ≤ faults_next
+      → IsUnderWay first next faults_first faults_next schedule (after world event) (suc done)
+  go_on ready written counted = record {
     whole = λ end p. way.whole end (subst (Appends now end) (sym left) (Appends-trans now next end lines rest written p));
     prefix = λ end p. way.prefix end (subst (AppendsPrefix now end) (sym left) (AppendsPrefix-behind now next end lines rest written p));
     numbers = omega (arith, order-after world event, way.numbers);
-    rows = length-after world event ∙ way.rows;
+    sound = sound-after schedule.catalog world event ready way.sound;
     counted = omega (arith, way.counted);
   }
 

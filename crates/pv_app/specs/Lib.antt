@@ -1,2 +1,4 @@
 pub mod Answers
+pub mod Ready
 pub mod View
+pub mod WorldCode

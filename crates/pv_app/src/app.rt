@@ -1,11 +1,15 @@
 // The top call: from the words and the input's bytes to the output's bytes and a status.
-ghost use Rattle.std.specs.Prelude.{◌≡◌, ◌≢◌, ℕ, ◌≤◌, ◌⊎◌, ◌↔◌, List, [], ◌++◌, Some, IsTrue, is_ok, length, map, if◌then◌else◌};
+ghost use Rattle.std.specs.Prelude.{◌≡◌, ◌≢◌, ℕ, ◌≤◌, ◌⊎◌, ◌↔◌, List, [], Some, None, IsTrue, is_ok, length, map, vec_len, if◌then◌else◌};
 ghost use Rattle.std.specs.String.{string_bytes};
 ghost use Rattle.std.specs.Io.KnownBytes.{Appends, Keeps};
 ghost use Rattle.pv_base.specs.Fault.{Rose};
 ghost use Rattle.pv_io.specs.Stream.{AppendsPrefix};
+ghost use Rattle.pv_model.specs.Events as model;
+ghost use Rattle.pv_model.specs.Form.{not_built};
 ghost use Rattle.pv_model.specs.Run.{Agrees, RepliesAgree, output_of};
-ghost use Rattle.pv_model.specs.Schedule.{Schedule, IsSchedule, HasFirstFault};
+ghost use Rattle.pv_model.specs.Schedule.{IsSchedule};
+ghost use Rattle.pv_script.specs.Answers.{cause_of};
+ghost use Rattle.pv_script.specs.View.{schedule_of};
 ghost use Rattle.pv_app.specs.Answers.{IsRun, IsAnswer, GivesUp, GrowsBySome, status_of, max_input, usage_text, fault_text};
 
 use crate::print::push_fault_line;
@@ -13,7 +17,7 @@ use crate::run::{RunEnd, run};
 use crate::status::Status;
 use pv_base::Failed;
 use pv_io::{ReadEnd, Sink, Source, read_all, write_all};
-use pv_script::{LineCause, ScriptError, read_schedule};
+use pv_script::{LineCause, Schedule, ScriptError, not_built, read_schedule};
 use std::alloc::Global;
 
 /// The greatest length of an input, in bytes.
@@ -30,15 +34,15 @@ pub fn polydb<R: Source, W: Sink>(
     source: &mut R,
     sink: &mut W,
 ) -> Status
-    // The headline. At `Done` the whole input was read, it is a schedule, and exactly what that prints was written.
+    // The headline. At `Done` the whole input was read, it is a schedule that can be run, and exactly what that prints was written.
     ensures done { result ≡ Status.Done → (input : List ℕ) → R.left source.old ≡ Some input →
-        (R.left source.new ≡ Some []) × (schedule : Schedule) × IsSchedule input schedule
+        (R.left source.new ≡ Some []) × (schedule : model.Schedule) × IsSchedule input schedule × (not_built input ≡ None)
         × Appends (W.held sink.old) (W.held sink.new) (output_of schedule) }
 
-    // What was written is a beginning, at `Done` the whole, of an output in which each report is that of the serial run of
-    // exactly the transactions before it, and each reply that of the serial run of those up to its own.
+    // Of a schedule that can be run, what was written is a beginning, at `Done` the whole, of an output in which each report is that
+    // of the serial run of exactly the transactions before it, and each reply that of the serial run of those up to its own.
     ensures agreement { IsRun (map string_bytes words.now) → (input : List ℕ) → R.left source.old ≡ Some input →
-        (schedule : Schedule) → IsSchedule input schedule →
+        (schedule : model.Schedule) → IsSchedule input schedule → not_built input ≡ None →
         (output : List ℕ) × Agrees schedule output × RepliesAgree schedule output
         × AppendsPrefix (W.held sink.old) (W.held sink.new) output
         × (result ≡ Status.Done → Appends (W.held sink.old) (W.held sink.new) output) }
@@ -99,16 +103,35 @@ fn answer<W: Sink>(alloc: Global, input: &[u8], sink: &mut W) -> Status
     ensures write_fault { result ≡ Status.WriteFault → Rose (W.faults sink.old) (W.faults sink.new) }
 {
     match read_schedule(alloc, input) {
-        Ok(schedule) => status_of_run(run(alloc, &schedule, sink)),
+        Ok(schedule) => run_built(alloc, input, &schedule, sink),
         Err(ScriptError::Malformed { line, cause }) => refuse(alloc, line, cause, sink),
         Err(ScriptError::NoMemory) => Status::NoMemory,
     }
 }
 
-// Names the first line at fault.
+// Runs the schedule that the input is, or names the first line that can't be run so far.
+fn run_built<W: Sink>(alloc: Global, input: &[u8], schedule: &Schedule, sink: &mut W) -> Status
+    requires short { length input.now ≤ max_input }
+    requires schedule { IsSchedule input.now (schedule_of schedule.now) }
+    requires few { vec_len schedule.now.events ≤ length input.now }
+    ensures answered { GivesUp result ⊎ GrowsBySome (W.held sink.old) (W.held sink.new) (IsAnswer input.now result) }
+    ensures prefix { (status : Status) (output : List ℕ) → IsAnswer input.now status output →
+        AppendsPrefix (W.held sink.old) (W.held sink.new) output }
+    ensures read_fault { result ≢ Status.ReadFault }
+    ensures too_long { result ≢ Status.TooLong }
+    ensures write_fault { result ≡ Status.WriteFault → Rose (W.faults sink.old) (W.faults sink.new) }
+{
+    match not_built(alloc, input) {
+        Ok(None) => status_of_run(run(alloc, schedule, sink)),
+        Ok(Some(line)) => refuse(alloc, line, LineCause::NotBuilt, sink),
+        Err(_) => Status::NoMemory,
+    }
+}
+
+// Names the line at which the input is refused.
 fn refuse<W: Sink>(alloc: Global, line: u32, cause: LineCause, sink: &mut W) -> Status
-    ensures written { result ≡ Status.Malformed → Appends (W.held sink.old) (W.held sink.new) (fault_text line) }
-    ensures prefix { AppendsPrefix (W.held sink.old) (W.held sink.new) (fault_text line) }
+    ensures written { result ≡ Status.Malformed → Appends (W.held sink.old) (W.held sink.new) (fault_text line (cause_of cause)) }
+    ensures prefix { AppendsPrefix (W.held sink.old) (W.held sink.new) (fault_text line (cause_of cause)) }
     ensures fault { result ≡ Status.WriteFault → Rose (W.faults sink.old) (W.faults sink.new) }
     ensures others { (result ≡ Status.Malformed) ⊎ ((result ≡ Status.WriteFault) ⊎ (result ≡ Status.NoMemory)) }
 {

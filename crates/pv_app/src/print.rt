@@ -1,13 +1,16 @@
 // The lines that a run prints, each put after what a buffer holds. After an error the buffer's content is of no use.
 ghost use Rattle.std.specs.Prelude.{◌≡◌, ◌++◌, length, OnOk};
-ghost use Rattle.pv_app.specs.Answers.{cause_text, fault_text};
-ghost use Rattle.pv_app.specs.View.{reply_of};
+ghost use Rattle.std.specs.Fmt.{decimal};
+ghost use Rattle.pv_app.specs.Answers.{reason_text, fault_text};
+ghost use Rattle.pv_ast.specs.ReplyView.{decline_of, reply_of};
+ghost use Rattle.pv_model.specs.Meaning.{declined};
 ghost use Rattle.pv_model.specs.Print as model;
 ghost use Rattle.pv_model.specs.Print.{line_text, list_text, text_of};
 ghost use Rattle.pv_model.specs.Run.{item_lines, report_lines};
+ghost use Rattle.pv_script.specs.Answers.{cause_of};
 
-use crate::world::Reply;
 use itoa::Buffer;
+use pv_ast::{Decline, Reply, Row};
 use pv_base::{Catalog, ItemId, NoMemory, TxnId, push_txn};
 use pv_script::LineCause;
 
@@ -40,17 +43,32 @@ pub fn push_commit_line(text: &mut Vec<u8>, txn: TxnId, reply: Reply) -> Result<
     text.extend_from_slice(b"commit ")?;
     push_txn(text, txn)?;
     text.extend_from_slice(b" certain ")?;
-    text.extend_from_slice(reply_text(reply))?;
+    push_reply(text, reply)?;
     Ok(text.extend_from_slice(b"\n")?)
 }
 
 // The reply, as it is printed.
-fn reply_text(reply: Reply) -> &'static [u8]
-    ensures { result.now ≡ model.reply_text (reply_of reply) }
+fn push_reply(text: &mut Vec<u8>, reply: Reply) -> Result<(), NoMemory>
+    ensures { OnOk result (text.new.items ≡ text.old.items ++ model.reply_text (reply_of reply)) }
 {
     match reply {
-        Reply::Nothing => b"nothing",
-        Reply::DeclinedOverflow => b"declined-overflow",
+        Reply::Value(value) => {
+            let mut digits = Buffer::new();
+            Ok(text.extend_from_slice(digits.format(value).as_bytes())?)
+        }
+        Reply::Nothing => push_words(text, b"nothing"),
+        Reply::Declined(decline) => push_words(text, decline_text(decline)),
+    }
+}
+
+// Why a program declined, as it is printed.
+fn decline_text(decline: Decline) -> &'static [u8]
+    ensures { result.now ≡ model.reply_text (declined (decline_of decline)) }
+{
+    match decline {
+        Decline::Require => b"declined-require",
+        Decline::Overflow => b"declined-overflow",
+        Decline::ZeroDivisor => b"declined-zero-divisor",
     }
 }
 
@@ -77,12 +95,13 @@ fn push_item_line(text: &mut Vec<u8>, name: &[u8], value: i64) -> Result<(), NoM
 }
 
 // A line for each item.
-fn push_item_lines(text: &mut Vec<u8>, catalog: &Catalog, rows: &[i64]) -> Result<(), NoMemory>
+fn push_item_lines(text: &mut Vec<u8>, catalog: &Catalog, rows: &[Row]) -> Result<(), NoMemory>
     requires { length rows.now ≡ length catalog.now.items }
     ensures { OnOk result (text.new.items ≡ text.old.items ++ text_of (item_lines catalog.now.items rows.now)) }
 {
     for item in 0..catalog.len() {
-        push_item_line(text, catalog.name(ItemId(item)), rows[item as usize])?;
+        let row = rows[item as usize];
+        push_item_line(text, catalog.name(ItemId(item)), row.value)?;
     }
     Ok(())
 }
@@ -93,7 +112,7 @@ pub fn push_report(
     text: &mut Vec<u8>,
     catalog: &Catalog,
     order: &[TxnId],
-    rows: &[i64],
+    rows: &[Row],
 ) -> Result<(), NoMemory>
     requires { length rows.now ≡ length catalog.now.items }
     ensures { OnOk result (text.new.items ≡ text.old.items ++ text_of (report_lines catalog.now order.now rows.now)) }
@@ -108,22 +127,55 @@ pub fn push_report(
 /// `line N: CAUSE`
 #[tactic(auto, unfolding(crate::specs::Answers::fault_text))]
 pub fn push_fault_line(text: &mut Vec<u8>, line: u32, cause: LineCause) -> Result<(), NoMemory>
-    ensures { OnOk result (text.new.items ≡ text.old.items ++ fault_text line) }
+    ensures { OnOk result (text.new.items ≡ text.old.items ++ fault_text line (cause_of cause)) }
 {
-    let mut digits = Buffer::new();
-    text.extend_from_slice(b"line ")?;
-    text.extend_from_slice(digits.format(line).as_bytes())?;
+    push_numbered(text, b"line ", line)?;
     text.extend_from_slice(b": ")?;
-    text.extend_from_slice(text_of_cause(cause))?;
+    push_cause(text, cause)?;
     Ok(text.extend_from_slice(b"\n")?)
 }
 
-// What is wrong with a line, as it is printed.
+// What is wrong with a line.
 #[tactic(auto, unfolding(crate::specs::Answers::cause_text))]
-fn text_of_cause(cause: LineCause) -> &'static [u8]
-    ensures { result.now ≡ cause_text }
+fn push_cause(text: &mut Vec<u8>, cause: LineCause) -> Result<(), NoMemory>
+    ensures { OnOk result (text.new.items ≡ text.old.items ++ reason_text (cause_of cause)) }
 {
     match cause {
-        LineCause::NotBuilt => b"not built",
+        LineCause::TooLong => push_words(text, b"too long"),
+        LineCause::NotText => push_words(text, b"not text"),
+        LineCause::SitesExpected => push_words(text, b"sites expected"),
+        LineCause::UnknownWord => push_words(text, b"unknown word"),
+        LineCause::Twice => push_words(text, b"twice"),
+        LineCause::TooLate => push_words(text, b"too late"),
+        LineCause::WrongCount => push_words(text, b"wrong count"),
+        LineCause::BadNumber => push_words(text, b"bad number"),
+        LineCause::BadMode => push_words(text, b"bad mode"),
+        LineCause::BadName => push_words(text, b"bad name"),
+        LineCause::NameTaken => push_words(text, b"name taken"),
+        LineCause::TooManyItems => push_words(text, b"too many items"),
+        LineCause::ProgramColumn(column) => push_numbered(text, b"program column ", column),
+        LineCause::UnknownName(column) => push_numbered(text, b"unknown name column ", column),
+        LineCause::TooDeep(column) => push_numbered(text, b"too deep column ", column),
+        LineCause::NamesNoItem => push_words(text, b"names no item"),
+        LineCause::TooManyNames(count) => push_numbered(text, b"too many names ", count),
+        LineCause::QueryAssigns => push_words(text, b"query assigns"),
+        LineCause::NoReturn => push_words(text, b"no return"),
+        LineCause::NotBuilt => push_words(text, b"not built"),
     }
+}
+
+// Words as they stand.
+fn push_words(text: &mut Vec<u8>, words: &[u8]) -> Result<(), NoMemory>
+    ensures { OnOk result (text.new.items ≡ text.old.items ++ words.now) }
+{
+    Ok(text.extend_from_slice(words)?)
+}
+
+// Words, and a number behind them.
+fn push_numbered(text: &mut Vec<u8>, words: &[u8], number: u32) -> Result<(), NoMemory>
+    ensures { OnOk result (text.new.items ≡ text.old.items ++ (words.now ++ decimal number)) }
+{
+    let mut digits = Buffer::new();
+    text.extend_from_slice(words)?;
+    Ok(text.extend_from_slice(digits.format(number).as_bytes())?)
 }

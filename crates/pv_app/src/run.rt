@@ -1,17 +1,18 @@
 // A run: each event's lines are written when the event is done.
-ghost use Rattle.std.specs.Prelude.{◌≡◌, ◌+◌, ◌-◌, ◌^◌, ◌<◌, ◌≤◌, Err, length, vec_len, OnOk, OnErr};
-ghost use Rattle.std.specs.Io.KnownBytes.{Appends};
-ghost use Rattle.pv_app.specs.View.{Writes, reply_of};
-ghost use Rattle.pv_base.specs.Fault.{Rose};
-ghost use Rattle.pv_io.specs.Stream.{AppendsPrefix};
+ghost use Rattle.std.specs.Prelude.{◌≡◌, ◌-◌, ◌^◌, ◌<◌, Some, All, IsTrue, length, vec_len, OnOk};
+ghost use Rattle.pv_app.specs.Ready.{IsReady, IsSound};
+ghost use Rattle.pv_app.specs.View.{Writes};
+ghost use Rattle.pv_ast.specs.ReplyView.{reply_of};
+ghost use Rattle.pv_model.specs.Items.{has_all_items};
+ghost use Rattle.pv_model.specs.Meaning.{exec};
 ghost use Rattle.pv_model.specs.Print as model;
 ghost use Rattle.pv_model.specs.Print.{line_text, text_of};
-ghost use Rattle.pv_model.specs.Run.{after, lines_of, submit_lines, report_lines, output_of};
-ghost use Rattle.pv_model.specs.Schedule.{submit};
+ghost use Rattle.pv_model.specs.Run.{txn_of, after, after_commit, lines_of, commit_lines, report_lines, output_of};
 ghost use Rattle.pv_script.specs.View.{event_of, schedule_of};
 
 use crate::print::{push_commit_line, push_report, push_txn_line};
-use crate::world::{Reply, World};
+use crate::world::World;
+use pv_ast::{Program, Reply};
 use pv_base::{Catalog, Failed, NoMemory, TxnId};
 use pv_io::{Sink, write_all};
 use pv_script::{Event, Schedule};
@@ -46,58 +47,98 @@ impl From<NoMemory> for RunEnd {
     }
 }
 
-/// Runs a schedule of one item, and writes what it prints.
+/// Runs a schedule of one site, and writes what it prints. Takes time in proportion to its events and its output, and for each
+/// transaction to the items, besides what its program takes.
 pub fn run<W: Sink>(alloc: Global, schedule: &Schedule, sink: &mut W) -> Result<(), RunEnd>
     requires numbers { vec_len schedule.now.events < 2 ^ 32 - 1 }
-    requires item { 0 < length schedule.now.catalog.items }
+    requires ready { All (IsReady schedule.now.catalog) (schedule_of schedule.now).events }
     ensures { Writes (W.held sink.old) (W.held sink.new) (W.faults sink.old) (W.faults sink.new) result
         (output_of (schedule_of schedule.now)) }
 {
     let mut world = World::new(alloc, &schedule.catalog)?;
     let mut text = Vec::new(alloc);
     for event in &schedule.events {
-        step(&schedule.catalog, &mut world, *event, &mut text, sink)?;
+        step(alloc, &schedule.catalog, &mut world, event, &mut text, sink)?;
     }
     Ok(())
 }
 
 // One event, with a buffer for the text of its lines.
-fn step<W: Sink>(
+fn step<'a, W: Sink>(
+    alloc: Global,
     catalog: &Catalog,
-    world: &mut World,
-    event: Event,
+    world: &mut World<'a>,
+    event: &'a Event,
     text: &mut Vec<u8>,
     sink: &mut W,
 ) -> Result<(), RunEnd>
     requires number { length world.old.order < 2 ^ 32 - 1 }
-    requires item { 0 < length world.old.rows }
-    requires rows { length world.old.rows ≡ length catalog.now.items }
-    ensures after { OnOk result (world.new ≡ after world.old (event_of event)) }
+    requires sound { IsSound catalog.now world.old }
+    ensures after { OnOk result (world.new ≡ after world.old (event_of event.now)) }
     ensures writes { Writes (W.held sink.old) (W.held sink.new) (W.faults sink.old) (W.faults sink.new) result
-        (text_of (lines_of catalog.now world.old (event_of event))) }
+        (text_of (lines_of catalog.now world.old (event_of event.now))) }
 {
     match event {
-        Event::Submit { addend } => submit(world, addend, text, sink),
+        Event::Submit { program, .. } => submit(world, program, text, sink),
+        Event::Pump(None) => pump(alloc, catalog, world, text, sink),
         Event::Report => report(catalog, world, text, sink),
+        // What can't be run so far changes nothing and prints nothing.
+        _ => Ok(()),
     }
 }
 
-// A submit, and the pump that commits its transaction.
-fn submit<W: Sink>(
-    world: &mut World,
-    addend: i64,
+// A request: its messages wait for the pump.
+fn submit<'a, W: Sink>(
+    world: &mut World<'a>,
+    program: &'a Program,
     text: &mut Vec<u8>,
     sink: &mut W,
 ) -> Result<(), RunEnd>
     requires number { length world.old.order < 2 ^ 32 - 1 }
-    requires item { 0 < length world.old.rows }
-    ensures after { OnOk result (world.new ≡ after world.old (submit addend)) }
+    ensures after { OnOk result (world.new ≡ record world.old { waiting = Some program.now }) }
     ensures writes { Writes (W.held sink.old) (W.held sink.new) (W.faults sink.old) (W.faults sink.new) result
-        (text_of (submit_lines world.old addend)) }
+        (line_text (model.txn (txn_of (length world.old.order)))) }
+{
+    world.request(program);
+    write_txn(world.next_txn(), text, sink)
+}
+
+// A pump: the transaction whose messages wait commits.
+fn pump<W: Sink>(
+    alloc: Global,
+    catalog: &Catalog,
+    world: &mut World,
+    text: &mut Vec<u8>,
+    sink: &mut W,
+) -> Result<(), RunEnd>
+    requires number { length world.old.order < 2 ^ 32 - 1 }
+    requires sound { IsSound catalog.now world.old }
+    ensures after { OnOk result (world.new ≡ after_commit world.old world.old.waiting) }
+    ensures writes { Writes (W.held sink.old) (W.held sink.new) (W.faults sink.old) (W.faults sink.new) result
+        (text_of (commit_lines world.old world.old.waiting)) }
+{
+    match world.waiting() {
+        Some(program) => commit(alloc, world, program, text, sink),
+        None => Ok(()),
+    }
+}
+
+// Runs a program and commits it.
+fn commit<W: Sink>(
+    alloc: Global,
+    world: &mut World,
+    program: &Program,
+    text: &mut Vec<u8>,
+    sink: &mut W,
+) -> Result<(), RunEnd>
+    requires number { length world.old.order < 2 ^ 32 - 1 }
+    requires items { IsTrue (has_all_items world.old.rows program.now) }
+    ensures after { OnOk result (world.new ≡ after_commit world.old (Some program.now)) }
+    ensures writes { Writes (W.held sink.old) (W.held sink.new) (W.faults sink.old) (W.faults sink.new) result
+        (line_text (model.commit (txn_of (length world.old.order)) (exec program.now world.old.rows).reply)) }
 {
     let txn = world.next_txn();
-    write_txn(txn, text, sink)?;
-    let reply = world.commit(addend)?;
+    let reply = world.commit(alloc, program)?;
     write_commit(txn, reply, text, sink)
 }
 
@@ -133,7 +174,7 @@ fn report<W: Sink>(
     text: &mut Vec<u8>,
     sink: &mut W,
 ) -> Result<(), RunEnd>
-    requires rows { length world.now.rows ≡ length catalog.now.items }
+    requires sound { IsSound catalog.now world.now }
     ensures { Writes (W.held sink.old) (W.held sink.new) (W.faults sink.old) (W.faults sink.new) result
         (text_of (report_lines catalog.now world.now.order world.now.rows)) }
 {

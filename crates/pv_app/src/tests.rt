@@ -14,6 +14,50 @@ const OVERFLOW: &str = "sites 1\nitem a 0 9223372036854775807\nsubmit 0 a := a +
 const OVERFLOW_OUTPUT: &str =
     "txn 0.1.0\ncommit 0.1.0 certain declined-overflow\norder 0.1.0\ncommitted 0.1.0\nopen\nitem a 9223372036854775807\nend\n";
 
+// two items, a query, and each way to decline
+const REPLIES: &str = "\
+sites 1
+item a 0 7
+item b 0 2
+submit 0 a := a - b; b := b * 3; return a
+pump
+query 0 return a - b
+pump
+submit 0 a := 0; require a > b
+pump
+submit 0 b := a / (b - 6)
+pump
+submit 0 b := 0; a := 9223372036854775807 + a
+pump
+report
+";
+
+const REPLIES_OUTPUT: &str = "\
+txn 0.1.0
+commit 0.1.0 certain 5
+txn 0.1.1
+commit 0.1.1 certain -1
+txn 0.1.2
+commit 0.1.2 certain declined-require
+txn 0.1.3
+commit 0.1.3 certain declined-zero-divisor
+txn 0.1.4
+commit 0.1.4 certain declined-overflow
+order 0.1.0 0.1.1 0.1.2 0.1.3 0.1.4
+committed 0.1.0 0.1.1 0.1.2 0.1.3 0.1.4
+open
+item a 5
+item b 6
+end
+";
+
+// two reports, the first before any request, and a request behind the last
+const REPORTS: &str =
+    "sites 1\nitem a 0 -1\nreport\nsubmit 0 a := -a\npump\nreport\nsubmit 0 a := a + 1\npump\n";
+
+const REPORTS_OUTPUT: &str =
+    "order\ncommitted\nopen\nitem a -1\nend\ntxn 0.1.0\ncommit 0.1.0 certain nothing\norder 0.1.0\ncommitted 0.1.0\nopen\nitem a 1\nend\ntxn 0.1.1\ncommit 0.1.1 certain nothing\n";
+
 const USAGE: &str = "usage: polydb run\n";
 
 // the status, and what was written, of a call over memory
@@ -40,16 +84,31 @@ fn each_text_has_its_answer(rt: HostRuntime) -> Result<(), Fail> {
     for (input, status, output) in [
         (FIRST, Status::Done, FIRST_OUTPUT),
         (OVERFLOW, Status::Done, OVERFLOW_OUTPUT),
-        ("", Status::Malformed, "line 1: not built\n"),
+        (REPLIES, Status::Done, REPLIES_OUTPUT),
+        (REPORTS, Status::Done, REPORTS_OUTPUT),
+        ("sites 1\n", Status::Done, ""),
+        ("", Status::Malformed, "line 1: sites expected\n"),
         (
             "sites 1\nitem a 0 1\nsubmit 0 a := c + 1\npump\n",
             Status::Malformed,
-            "line 3: not built\n",
+            "line 3: unknown name column 6\n",
         ),
+        // a line that can't be run yet, at the end and in the middle
         (
             "sites 1\nitem a 0 1\nsubmit 0 a := a + 1\n",
             Status::Malformed,
             "line 4: not built\n",
+        ),
+        (
+            "sites 1\nitem a 0 1\nstop 0\nreport\n",
+            Status::Malformed,
+            "line 3: not built\n",
+        ),
+        // A malformed line is named before one that only can't be run yet.
+        (
+            "sites 2\nitem a 0 1\nnothing\n",
+            Status::Malformed,
+            "line 3: unknown word\n",
         ),
     ] {
         let (answered, written) = call(alloc, &["run"], input.as_bytes(), &[], &[])?;
@@ -110,6 +169,6 @@ fn an_input_may_be_too_long(rt: HostRuntime) -> Result<(), Fail> {
     assert!(rt; written.is_empty());
     let (status, written) = call(alloc, &["run"], &input[1..], &[], &[])?;
     assert_eq!(rt; status, Status::Malformed);
-    assert_eq!(rt; written.as_slice(), b"line 2: not built\n".as_slice());
+    assert_eq!(rt; written.as_slice(), b"line 2: sites expected\n".as_slice());
     Ok(())
 }

@@ -1,48 +1,48 @@
-// The world of one site as a fold over plain rows: its transactions in order, and each item's value.
-ghost use Rattle.std.specs.Prelude.{◌≡◌, ◌+◌, ◌-◌, ◌^◌, ◌<◌, ◌+ℤ◌, length, IfOk, OnOk, OnErr};
-ghost use Rattle.pv_model.specs.Program.{exec};
+// The world of one site: its transactions in order, each item's value, and the program whose messages wait.
+ghost use Rattle.std.specs.Prelude.{◌≡◌, ◌-◌, ◌^◌, ◌<◌, Some, length, IfOk, OnOk, OnErr, IsTrue};
+ghost use Rattle.std.specs.Option.{option_map};
+ghost use Rattle.pv_ast.specs.ReplyView.{reply_of};
+ghost use Rattle.pv_model.specs.Items.{has_all_items};
+ghost use Rattle.pv_model.specs.Meaning.{exec};
 ghost use Rattle.pv_model.specs.Run.{declared_rows};
-ghost use Rattle.pv_app.specs.View.{SumFits, reply_of};
 
+use pv_ast::{Program, Reply, Row, exec};
 use pv_base::{Catalog, ItemId, NoMemory, SiteId, TxnId};
 use std::alloc::Global;
 use std::marker::Model;
 
-/// What a transaction replies.
-#[derive(Clone, Copy, Debug, PartialEq, Eq)]
-pub enum Reply {
-    /// The program ended and gave no value.
-    Nothing,
-    /// A result was outside 64 bits, and the program changed nothing.
-    DeclinedOverflow,
-}
-
-/// The transactions that have committed, in order, and each item's value, in order of declaration.
+/// The transactions that have committed, in order, each item's value, in order of declaration, and the program of the
+/// request whose messages haven't been delivered.
 #[derive(Debug, Drop)]
-pub struct World {
+pub struct World<'a> {
     order: Vec<TxnId>,
-    rows: Vec<i64>,
+    rows: Vec<Row>,
+    waiting: Option<&'a Program>,
 }
 
-impl Model for World {
+impl<'a> Model for World<'a> {
     ghost use Rattle.pv_model.specs.Run as model;
+    ghost use Rattle.std.specs.Option.{option_map};
+    ghost use Rattle.pv_app.specs.WorldCode.{world_code};
 
     ghost Value = { model.World };
 
-    ghost view = { λ w. record { order = w.order.items; rows = w.rows.items } };
+    ghost coded = { world_code };
+
+    ghost view = { λ w. record { order = w.order.items; rows = w.rows.items; waiting = option_map (λ program. program.now) w.waiting } };
 }
 
-impl World {
-    ghost use Rattle.pv_model.specs.Schedule.{submit};
-    ghost use Rattle.pv_model.specs.Run.{opening, after, txn_of, program_of};
+impl<'a> World<'a> {
+    ghost use Rattle.pv_model.specs.Run.{opening, after_commit, txn_of};
 
     /// No transaction yet, and the declared values.
-    pub fn new(alloc: Global, catalog: &Catalog) -> Result<World, NoMemory>
+    pub fn new(alloc: Global, catalog: &Catalog) -> Result<World<'a>, NoMemory>
         ensures { IfOk result (λ world. world ≡ opening catalog.now) }
     {
         Ok(World {
             order: Vec::new(alloc),
-            rows: values_of(alloc, catalog)?,
+            rows: rows_of(alloc, catalog)?,
+            waiting: None,
         })
     }
 
@@ -54,13 +54,20 @@ impl World {
     }
 
     /// Each item's value.
-    pub fn rows(&self) -> &[i64]
+    pub fn rows(&self) -> &[Row]
         ensures { result.now ≡ self.now.rows }
     {
         &self.rows
     }
 
-    /// The transaction that a submit makes now.
+    /// The program whose messages wait.
+    pub fn waiting(&self) -> Option<&'a Program>
+        ensures { option_map (λ program. program.now) result ≡ self.now.waiting }
+    {
+        self.waiting
+    }
+
+    /// The transaction that comes next.
     pub fn next_txn(&self) -> TxnId
         requires { length self.now.order < 2 ^ 32 - 1 }
         ensures { result ≡ txn_of (length self.now.order) }
@@ -72,48 +79,42 @@ impl World {
         }
     }
 
-    /// Commits the transaction that adds to the one item. Without memory the world stays as it was.
-    pub fn commit(&mut self, addend: i64) -> Result<Reply, NoMemory>
+    /// Takes a request: the messages of this program wait now.
+    pub fn request(&mut self, program: &'a Program)
+        ensures { self.new ≡ record self.old { waiting = Some program.now } }
+    {
+        self.waiting = Some(program);
+    }
+
+    /// Runs the program and commits it. Without memory the world stays as it was. Takes time in proportion to the items,
+    /// besides what the program takes.
+    pub fn commit(&mut self, alloc: Global, program: &Program) -> Result<Reply, NoMemory>
         requires number { length self.old.order < 2 ^ 32 - 1 }
-        requires row { 0 < length self.old.rows }
-        ensures after { OnOk result (self.new ≡ after self.old (submit addend)) }
-        ensures reply { IfOk result (λ reply. reply_of reply ≡ (exec (program_of addend) self.old.rows).reply) }
+        requires items { IsTrue (has_all_items self.old.rows program.now) }
+        ensures after { OnOk result (self.new ≡ after_commit self.old (Some program.now)) }
+        ensures reply { IfOk result (λ reply. reply_of reply ≡ (exec program.now self.old.rows).reply) }
         ensures unchanged { OnErr result (self.new ≡ self.old) }
     {
         let txn = self.next_txn();
+        let effect = exec(alloc, program, &self.rows)?;
         self.order.push(txn)?;
-        Ok(add(&mut self.rows, 0, addend))
+        self.rows = effect.rows;
+        self.waiting = None;
+        Ok(effect.reply)
     }
 }
 
-// The value that each item is declared with.
-fn values_of(alloc: Global, catalog: &Catalog) -> Result<Vec<i64>, NoMemory>
+// A row for each item, with the value that it is declared with.
+fn rows_of(alloc: Global, catalog: &Catalog) -> Result<Vec<Row>, NoMemory>
     ensures { IfOk result (λ rows. rows.items ≡ declared_rows catalog.now) }
 {
     let mut rows = Vec::new(alloc);
-    for item in 0..catalog.len() {
-        rows.push(catalog.declared(ItemId(item)))?;
+    for number in 0..catalog.len() {
+        let item = ItemId(number);
+        rows.push(Row {
+            item,
+            value: catalog.declared(item),
+        })?;
     }
     Ok(rows)
-}
-
-// Runs `item := item + addend`.
-fn add(rows: &mut [i64], item: usize, addend: i64) -> Reply
-    requires { item < length rows.old }
-    ensures { record { rows = rows.new; reply = reply_of result } ≡ exec (record { item = item; addend = addend }) rows.old }
-{
-    match sum_of(rows[item], addend) {
-        Some(sum) => {
-            rows[item] = sum;
-            Reply::Nothing
-        }
-        None => Reply::DeclinedOverflow,
-    }
-}
-
-// The sum, where it has 64 bits.
-fn sum_of(value: i64, addend: i64) -> Option<i64>
-    ensures { SumFits (value +ℤ addend) result }
-{
-    value.checked_add(addend)
 }

@@ -168,6 +168,15 @@ impl Catalog {
         Ok(ItemId(count as u32))
     }
 
+    /// Gives each journal another limit, from [`MIN_JOURNAL`] to [`MAX_JOURNAL`].
+    pub fn limit_journals(&mut self, journal: u64)
+        requires room { MIN_JOURNAL ≤ journal }
+        requires fits { journal ≤ MAX_JOURNAL }
+        ensures { self.new ≡ record self.old { journal = journal } }
+    {
+        self.journal = journal;
+    }
+
     /// An equal catalog, which shares nothing with this one. Its one error is [`NoMemory`]. The cost is linear in the
     /// count of items, and in the bytes of their names.
     pub fn copy(&self) -> Result<Catalog, NoMemory>

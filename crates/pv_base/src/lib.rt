@@ -1,15 +1,19 @@
 //! What every crate of polydb names: sites, transactions, items, the catalog of items, and what a refusal is.
 #![tactic(auto)]
 
+mod case;
 mod catalog;
 mod entries;
 mod failure;
+mod mode;
 mod naming;
 mod txn;
 mod want;
 
+pub use case::{Case, Literal};
 pub use catalog::{Catalog, CatalogError, ItemId, MAX_ITEMS, MAX_JOURNAL, MAX_SITES, MIN_JOURNAL};
 pub use failure::{Failed, NoMemory};
+pub use mode::Mode;
 pub use naming::is_name;
 pub use txn::{SiteId, TxnId, print_txn, push_txn};
 pub use want::Want;

@@ -11,16 +11,16 @@ use Rattle.pv_model.specs.Check.{reads, names, AreItems}
 
 -- What a list contains.
 
-Contains-first : {X : Type 0} (x : X) (xs : List X) → Contains (x ∷ xs) x
+pub Contains-first : {X : Type 0} (x : X) (xs : List X) → Contains (x ∷ xs) x
 Contains-first x xs = (zero, omega arith, refl)
 
-Contains-behind : {X : Type 0} (x : X) (xs : List X) (y : X) → Contains xs y → Contains (x ∷ xs) y
+pub Contains-behind : {X : Type 0} (x : X) (xs : List X) (y : X) → Contains xs y → Contains (x ∷ xs) y
 Contains-behind x xs y (k, l, at) = (suc k, omega (arith, l), at)
 
-Contains-nil : {X : Type 0} (x : X) → Contains [] x → ⊥
+pub Contains-nil : {X : Type 0} (x : X) → Contains [] x → ⊥
 Contains-nil x (k, l, at) = absurd (omega (arith, l))
 
-Contains-cases : {X : Type 0} (x : X) (xs : List X) (y : X) → Contains (x ∷ xs) y → (x ≡ y) ⊎ Contains xs y
+pub Contains-cases : {X : Type 0} (x : X) (xs : List X) (y : X) → Contains (x ∷ xs) y → (x ≡ y) ⊎ Contains xs y
 Contains-cases x xs y (zero, l, at) = inl at
 Contains-cases x xs y (suc k, l, at) = inr (k, omega (arith, l), at)
 

@@ -1,7 +1,5 @@
 pub mod Basics
-pub mod Agreement
 pub mod FirstFaultLemmas
-pub mod ScheduleLemmas
 pub mod ProgramLemmas
 pub mod GrammarLemmas
 pub mod TokenLemmas
@@ -17,3 +15,17 @@ pub mod SomeTokens
 pub mod SomeAnswer
 pub mod NumberLemmas
 pub mod ItemLemmas
+pub mod LineFormLemmas
+pub mod LineLawLemmas
+pub mod OneEventLemmas
+pub mod LineTextLemmas
+pub mod OneCauseLemmas
+pub mod OneScheduleLemmas
+pub mod SomeCauseLemmas
+pub mod FirstCauseLemmas
+pub mod NoCauseLemmas
+pub mod MeaningLemmas
+pub mod SomeLineLemmas
+pub mod SomeScheduleLemmas
+pub mod Agreement
+pub mod DeclaredItems

@@ -11,7 +11,7 @@ use Rattle.std.proofs.lemmas.Str.{IsUtf8-from_ascii}
 use Rattle.std.proofs.lemmas.Str.Ascii.{IsAscii-cons}
 use Rattle.std.proofs.lemmas.Fmt.{IsAscii-from_digits}
 use Rattle.std.proofs.lemmas.Str.Parse.{IsNumeralModel, numerals_by_weight, parse_digits, parse_signed_digits, parse_signed_minus}
-use Rattle.pv_model.specs.Program.{fits_i64}
+use Rattle.pv_model.specs.Meaning.{fits_i64}
 use Rattle.pv_base.specs.Name.{is_digit}
 use Rattle.pv_model.specs.Text.{value_of, digits_of, signed_value_of, IsNumber, IsSigned}
 

@@ -1,4 +1,4 @@
--- The first element at which a list is not what it has to be: a line of a text, or a token of a program.
+-- The first element at which a list is not what it has to be, as a token of a program.
 use Rattle.std.specs.Prelude.{◌≡◌, ℕ, List, [], ◌∷◌, ◌++◌, map, ◌⊎◌}
 
 -- numbered elements, without their numbers

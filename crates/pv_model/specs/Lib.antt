@@ -1,6 +1,5 @@
 pub mod FirstFault
 pub mod Text
-pub mod Program
 pub mod Syntax
 pub mod SyntaxCodes
 pub mod Meaning
@@ -15,3 +14,7 @@ pub mod Tokens
 pub mod Grammar
 pub mod ProgramText
 pub mod Prediction
+pub mod Events
+pub mod LineForms
+pub mod Causes
+pub mod Form

@@ -1,7 +1,7 @@
 -- What a program means on ordinary values: rows in, rows and a reply out.
-use Rattle.std.specs.Prelude.{ℕ, ℤ, pos, ◌+ℤ◌, ◌-ℤ◌, ◌*ℤ◌, neg_ℤ, int_lt, int_le, int_div, int_rem, Bool, not, ◌&&◌, ◌||◌, ◌==◌, List, [], ◌∷◌, map, Result, Ok, Err, if◌then◌else◌}
+use Rattle.std.specs.Prelude.{ℕ, ◌^◌, ℤ, pos, nat_lt, ◌+ℤ◌, ◌-ℤ◌, ◌*ℤ◌, neg_ℤ, int_lt, int_le, int_div, int_rem, Bool, not, ◌&&◌, ◌||◌, ◌==◌, List, [], ◌∷◌, map, Result, Ok, Err, if◌then◌else◌}
 use Rattle.std.specs.Ordering.{int_eq}
-use Rattle.pv_model.specs.Program.{fits_i64}
+use lib.IntN.{negsuc}
 use Rattle.pv_model.specs.Syntax.{Op, or, and, equal, unequal, less, at_most, greater, at_least, plus, sub, times, over, rest, lesser, larger, Expr, number, item, minus, negation, two, Program, end, assign, require, return, when, when_else}
 
 -- an item and its value
@@ -39,6 +39,11 @@ value_in (row ∷ rows) n = if row.item == n then row.value else value_in rows n
 abbrev pub with_row : List Row → ℕ → ℤ → List Row
 with_row [] n v = []
 with_row (row ∷ rows) n v = if row.item == n then record { item = row.item; value = v } ∷ rows else row ∷ with_row rows n v
+
+-- the numbers of 64 bits with a sign
+abbrev pub fits_i64 : ℤ → Bool
+fits_i64 (pos n) = nat_lt n (2 ^ 63)
+fits_i64 (negsuc n) = nat_lt n (2 ^ 63)
 
 -- a result, which declines the program where it is outside 64 bits
 abbrev pub within : ℤ → Result ℤ Decline

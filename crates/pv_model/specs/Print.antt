@@ -3,7 +3,7 @@ use Rattle.std.specs.Prelude.{ℕ, ℤ, List, [], ◌∷◌, ◌++◌, flat_map,
 use Rattle.std.specs.Fmt.{signed_decimal}
 use Rattle.pv_base.specs.Txn.{txn_text}
 use Rattle.pv_base.specs.declared.txn.TxnId.{TxnId}
-use Rattle.pv_model.specs.Program.{Reply, nothing, declined_overflow}
+use Rattle.pv_model.specs.Meaning.{Reply, value, nothing, declined, unmet, overflow, zero_divisor}
 
 pub data Printed : Type 0 where
   txn : TxnId → Printed
@@ -18,8 +18,11 @@ abbrev pub line_feed : List ℕ
 line_feed = 10 ∷ []
 
 abbrev pub reply_text : Reply → List ℕ
+reply_text (value v) = signed_decimal v
 reply_text nothing = codes "nothing"
-reply_text declined_overflow = codes "declined-overflow"
+reply_text (declined unmet) = codes "declined-require"
+reply_text (declined overflow) = codes "declined-overflow"
+reply_text (declined zero_divisor) = codes "declined-zero-divisor"
 
 -- each transaction behind a space
 abbrev pub list_text : List TxnId → List ℕ
@@ -32,7 +35,7 @@ line_text (commit t reply) = codes "commit " ++ (txn_text t ++ (codes " certain 
 line_text (order txns) = codes "order" ++ (list_text txns ++ line_feed)
 line_text (committed txns) = codes "committed" ++ (list_text txns ++ line_feed)
 line_text (open_ones txns) = codes "open" ++ (list_text txns ++ line_feed)
-line_text (item name value) = codes "item " ++ (name ++ (codes " " ++ (signed_decimal value ++ line_feed)))
+line_text (item name v) = codes "item " ++ (name ++ (codes " " ++ (signed_decimal v ++ line_feed)))
 line_text end = codes "end" ++ line_feed
 
 abbrev pub text_of : List Printed → List ℕ

@@ -1,102 +1,175 @@
--- The schedules that can be run: which lines are a schedule, and what it says.
-use Rattle.std.specs.Prelude.{◌≡◌, ℕ, ◌+◌, ◌^◌, ◌<◌, ℤ, pos, List, [], ◌∷◌, length, IsTrue, codes}
-use Rattle.pv_base.specs.Catalog.{Item, Declared}
+-- The texts that are schedules, line by line, and the first line at fault of another text.
+use Rattle.std.specs.Prelude.{◌≡◌, ℕ, ◌+◌, ◌-◌, ◌^◌, ◌<◌, ◌≤◌, Bool, true, false, Some, None, List, [], ◌∷◌, ◌++◌, length, ◌⊎◌, IsTrue, codes}
+use Rattle.pv_base.specs.Catalog.{Item, place_of}
 use Rattle.pv_base.specs.Name.{is_name}
-use Rattle.pv_model.specs.FirstFault.{IsFirstFault, without_numbers}
-use Rattle.pv_model.specs.Program.{fits_i64}
+use Rattle.pv_base.specs.declared.mode.Mode.{Mode}
+use Rattle.pv_base.specs.declared.mode.Mode.TheVariants.{Lost, Kept, Torn}
+use Rattle.pv_model.specs.Causes.{Before, at_first, or_default, declared_by, Cause, sites_expected, IsFirstCause}
+use Rattle.pv_model.specs.Check.{AreItems, has_assignment, has_return}
+use Rattle.pv_model.specs.Events.{Event, submit, deliver, pump, lose, drop, tick, stop, start, arm, mend, sent, report, total, Schedule}
+use Rattle.pv_model.specs.FirstFault.{without_numbers}
+use Rattle.pv_model.specs.LineForms.{arguments}
+use Rattle.pv_model.specs.Meaning.{fits_i64}
+use Rattle.pv_model.specs.ProgramText.{IsProgramText}
+use Rattle.pv_model.specs.Syntax.{Program}
 use Rattle.pv_model.specs.Text.{Line, IsText, IsNumber, IsSigned, lines, numbered, words}
 
--- a submit of `item := item + addend` with the pump that follows it, or a report
-pub data Event : Type 0 where
-  submit : (addend : ℤ) → Event
-  report : Event
+-- The word spells a number in this range.
+abbrev pub IsIn : ℕ → ℕ → List ℕ → ℕ → Type 0
+IsIn least most word n = IsNumber word n × (least ≤ n) × (n ≤ most)
 
--- what is declared, and what happens
-pub record Schedule : Type 0 where
-  pub catalog : Declared
-  pub events : List Event
+-- The word spells a site, where so many were said.
+abbrev pub IsSite : Before → List ℕ → ℕ → Type 0
+IsSite before word n = IsNumber word n × (n < or_default 0 before.sites)
 
--- one site with one item, and journals of the default limit
-abbrev pub catalog_of : Item → Declared
-catalog_of item = record { sites = 1; journal = 2 ^ 32; items = item ∷ [] }
+abbrev pub IsMode : List ℕ → Mode → Type 0
+IsMode word Lost = word ≡ codes "lost"
+IsMode word Kept = word ≡ codes "kept"
+IsMode word Torn = word ≡ codes "torn"
 
--- a well-formed line whose words spell this
-pub record Says (Spells : List (List ℕ) → Type 0) (line : Line) : Type 0 where
+-- The line is a first word with one more, of which this holds.
+abbrev pub IsOne : List ℕ → (List ℕ → Type 0) → Line → Type 0
+IsOne word Holds line = (given : List ℕ) × (words line ≡ word ∷ given ∷ []) × Holds given
+
+-- The line is a first word alone.
+abbrev pub IsAlone : List ℕ → Line → Type 0
+IsAlone word line = words line ≡ word ∷ []
+
+-- The line is a first word with a site, a number of a call and a mode.
+abbrev pub IsArm : Before → List ℕ → ℕ → ℕ → Mode → Line → Type 0
+IsArm before word site call mode line =
+    (at number left : List ℕ) × (words line ≡ word ∷ at ∷ number ∷ left ∷ []) × IsSite before at site × IsIn 1 1000 number call × IsMode left mode
+
+-- what a request is called
+abbrev pub request_word : Bool → List ℕ
+request_word true = codes "query"
+request_word false = codes "submit"
+
+-- A program may run: it names an item and at most 16 of them, and a query has no assignment and has a `return`.
+pub record MayRun (p : Program) (query : Bool) : Type 0 where
+  pub items : List ℕ
+  pub are : AreItems p items
+  pub some : 0 < length items
+  pub few : length items ≤ 16
+  pub answers : query ≡ true → (has_assignment p ≡ false) × (has_return p ≡ true)
+
+-- The line is a request at the site with the text of a program that may run.
+pub record IsRequest (before : Before) (site : ℕ) (query : Bool) (text : List ℕ) (p : Program) (line : Line) : Type 0 where
+  pub more : List (List ℕ)
+  pub first : words line ≡ request_word query ∷ more
+  pub at : List ℕ
+  pub given : arguments line ≡ at ∷ text ∷ []
+  pub place : IsSite before at site
+  pub is : IsProgramText (declared_by before) text p
+  pub may : MayRun p query
+
+-- What the line says is this event.
+abbrev pub Says : Before → Line → Event → Type 0
+Says before line (submit site query text p) = IsRequest before site query text p line
+Says before line (deliver n) = IsOne (codes "deliver") (λ word. IsIn 0 (2 ^ 64 - 1) word n) line
+Says before line (lose n) = IsOne (codes "lose") (λ word. IsIn 0 (2 ^ 64 - 1) word n) line
+Says before line (pump None) = IsAlone (codes "pump") line
+Says before line (pump (Some n)) = IsOne (codes "pump") (λ word. IsIn 1 1000000 word n) line
+Says before line (drop site) = IsOne (codes "drop") (λ word. IsSite before word site) line
+Says before line (tick site) = IsOne (codes "tick") (λ word. IsSite before word site) line
+Says before line (stop site) = IsOne (codes "stop") (λ word. IsSite before word site) line
+Says before line (start site) = IsOne (codes "start") (λ word. IsSite before word site) line
+Says before line (mend site) = IsOne (codes "mend") (λ word. IsSite before word site) line
+Says before line (arm site call mode true) = IsArm before (codes "cut") site call mode line
+Says before line (arm site call mode false) = IsArm before (codes "fail") site call mode line
+Says before line sent = IsAlone (codes "sent") line
+Says before line report = IsAlone (codes "report") line
+Says before line total = IsAlone (codes "total") line
+
+-- An event is a well-formed line behind the count of sites.
+pub record IsEvent (before : Before) (line : Line) (event : Event) : Type 0 where
   pub text : IsText line
-  pub words : Spells (words line)
+  pub sites : ℕ
+  pub said : before.sites ≡ Some sites
+  pub says : Says before line event
 
--- `sites 1`
-pub record SpellsSites (spelled : List (List ℕ)) : Type 0 where
-  pub count : List ℕ
-  pub are : spelled ≡ codes "sites" ∷ count ∷ []
-  pub one : IsNumber count 1
+-- what was said with an event more
+abbrev pub with_event : Before → Before
+with_event before = record before { begun = true }
 
--- `item NAME 0 VALUE`
-pub record SpellsItem (item : Item) (spelled : List (List ℕ)) : Type 0 where
-  pub site : List ℕ
-  pub value : List ℕ
-  pub are : spelled ≡ codes "item" ∷ item.name ∷ site ∷ value ∷ []
-  pub at : IsNumber site 0
-  pub first_site : item.site ≡ 0
-  pub number : IsSigned value item.value
-  pub fits : IsTrue (fits_i64 item.value)
+-- `sites N`, which comes first
+pub record DeclaresSites (before : Before) (line : Line) (after : Before) : Type 0 where
+  pub text : IsText line
+  pub first : before.sites ≡ None
+  pub count : ℕ
+  pub is : IsOne (codes "sites") (λ word. IsIn 1 16 word count) line
+  pub same : after ≡ record before { sites = Some count }
 
--- `submit 0 NAME := NAME + ADDEND`
-pub record SpellsSubmit (name : List ℕ) (addend : ℤ) (spelled : List (List ℕ)) : Type 0 where
-  pub site : List ℕ
+-- `journal N`, once and before all events
+pub record DeclaresJournal (before : Before) (line : Line) (after : Before) : Type 0 where
+  pub text : IsText line
+  pub sites : ℕ
+  pub said : before.sites ≡ Some sites
+  pub once : before.journal ≡ None
+  pub early : before.begun ≡ false
+  pub limit : ℕ
+  pub is : IsOne (codes "journal") (λ word. IsIn 32 (2 ^ 32) word limit) line
+  pub same : after ≡ record before { journal = Some limit }
+
+-- `item NAME SITE VALUE`, with a name that no item has, before all events
+pub record DeclaresItem (before : Before) (line : Line) (after : Before) : Type 0 where
+  pub text : IsText line
+  pub sites : ℕ
+  pub said : before.sites ≡ Some sites
+  pub early : before.begun ≡ false
+  pub item : Item
+  pub at : List ℕ
   pub number : List ℕ
-  pub magnitude : ℕ
-  pub are : spelled ≡ codes "submit" ∷ site ∷ name ∷ codes ":=" ∷ name ∷ codes "+" ∷ number ∷ []
-  pub at : IsNumber site 0
-  pub value : IsNumber number magnitude
-  pub fits : magnitude < 2 ^ 63
-  pub same : addend ≡ pos magnitude
+  pub is : words line ≡ codes "item" ∷ item.name ∷ at ∷ number ∷ []
+  pub place : IsSite before at item.site
+  pub worth : IsSigned number item.value
+  pub fits : IsTrue (fits_i64 item.value)
+  pub name : IsTrue (is_name item.name)
+  pub free : place_of item.name before.items ≡ None
+  pub room : length before.items < 1024
+  pub same : after ≡ record before { items = before.items ++ item ∷ [] }
 
--- one word and no more
-abbrev pub SpellsWord : List ℕ → List (List ℕ) → Type 0
-SpellsWord word spelled = spelled ≡ word ∷ []
+-- The line declares something.
+abbrev pub Declares : Before → Line → Before → Type 0
+Declares before line after = DeclaresSites before line after ⊎ (DeclaresJournal before line after ⊎ DeclaresItem before line after)
 
-abbrev pub IsSites : Line → Type 0
-IsSites line = Says SpellsSites line
+-- Lines behind what was said are declarations and events: each one by what those before it said. They end with these events, and with this said.
+pub data AreLines : Before → List Line → List Event → Before → Type 0 where
+  none : (before : Before) → AreLines before [] [] before
+  declaration : (before after last : Before) (line : Line) (lines : List Line) (events : List Event) → Declares before line after
+      → AreLines after lines events last → AreLines before (line ∷ lines) events last
+  event : (before last : Before) (line : Line) (lines : List Line) (e : Event) (events : List Event) → IsEvent before line e
+      → AreLines (with_event before) lines events last → AreLines before (line ∷ lines) (e ∷ events) last
 
--- An item is declared where its name may be one.
-abbrev pub IsItem : Line → Item → Type 0
-IsItem line item = Says (SpellsItem item) line × IsTrue (is_name item.name)
-
-abbrev pub IsSubmit : List ℕ → Line → ℤ → Type 0
-IsSubmit name line addend = Says (SpellsSubmit name addend) line
-
-abbrev pub IsPump : Line → Type 0
-IsPump line = Says (SpellsWord (codes "pump")) line
-
-abbrev pub IsReport : Line → Type 0
-IsReport line = Says (SpellsWord (codes "report")) line
-
--- Lines are events, over the item of this name: each report is a line, and each submit two.
-abbrev pub AreEvents : List ℕ → List Line → List Event → Type 0
-AreEvents name [] [] = Unit {0}
-AreEvents name (line ∷ more) (report ∷ events) = IsReport line × AreEvents name more events
-AreEvents name (line ∷ pump ∷ more) (submit addend ∷ events) = IsSubmit name line addend × IsPump pump × AreEvents name more events
-AreEvents name _ _ = ⊥
-
--- Lines are a schedule: the sites, then the one item, then the events.
-abbrev pub AreSchedule : List Line → Schedule → Type 0
-AreSchedule (sites ∷ second ∷ more) schedule =
-    (item : Item) × IsSites sites × IsItem second item × (schedule.catalog ≡ catalog_of item) × AreEvents item.name more schedule.events
-AreSchedule _ schedule = ⊥
-
--- Lines are some schedule.
-abbrev pub AreSomeSchedule : List Line → Type 0
-AreSomeSchedule lines = (schedule : Schedule) × AreSchedule lines schedule
-
--- the lines of a text that count
+-- the lines of a text that count, without their numbers
 abbrev pub counted : List ℕ → List Line
 counted text = without_numbers (numbered text)
 
--- A text is a schedule where the lines of it that count are.
-abbrev pub IsSchedule : List ℕ → Schedule → Type 0
-IsSchedule text schedule = AreSchedule (counted text) schedule
+-- A text is a schedule: its lines that count are one, and the count of sites is among them.
+pub record IsSchedule (text : List ℕ) (schedule : Schedule) : Type 0 where
+  pub last : Before
+  pub are : AreLines at_first (counted text) schedule.events last
+  pub sites : ℕ
+  pub said : last.sites ≡ Some sites
+  pub catalog : schedule.catalog ≡ declared_by last
 
--- the number of the first line at which a text isn't a schedule, or of the line behind the last where it is cut short
-abbrev pub HasFirstFault : List ℕ → ℕ → Type 0
-HasFirstFault text number = IsFirstFault AreSomeSchedule (numbered text) (length (lines text) + 1) number
+-- The first line that has a cause, with its first cause: those before it are lines of a schedule.
+pub record IsAtFault (text : List ℕ) (number : ℕ) (cause : Cause) : Type 0 where
+  pub front : List (ℕ × Line)
+  pub line : Line
+  pub rest : List (ℕ × Line)
+  pub split : numbered text ≡ front ++ (number, line) ∷ rest
+  pub events : List Event
+  pub before : Before
+  pub are : AreLines at_first (without_numbers front) events before
+  pub first : IsFirstCause before line cause
+
+-- A text without lines that count lacks the count of sites behind its last line.
+pub record LacksSites (text : List ℕ) (number : ℕ) (cause : Cause) : Type 0 where
+  pub empty : numbered text ≡ []
+  pub place : number ≡ length (lines text) + 1
+  pub is : cause ≡ sites_expected
+
+-- A text is malformed at the line of this number, for this cause.
+abbrev pub IsMalformed : List ℕ → ℕ → Cause → Type 0
+IsMalformed text number cause = IsAtFault text number cause ⊎ LacksSites text number cause

@@ -1,9 +1,10 @@
 -- The serial run: a database of one thread that runs the transactions of an order one after another
 -- (Eswaran, Gray, Lorie, Traiger, 1976).
-use Rattle.std.specs.Prelude.{ℤ, Bool, ◌&&◌, ◌==◌, List, [], ◌∷◌, map, Option, Some, None, if◌then◌else◌}
+use Rattle.std.specs.Prelude.{Bool, ◌&&◌, ◌==◌, List, [], ◌∷◌, map, Option, Some, None, if◌then◌else◌}
 use Rattle.std.specs.List.{list_any}
 use Rattle.pv_base.specs.declared.txn.TxnId.{TxnId}
-use Rattle.pv_model.specs.Program.{Program, Reply, exec}
+use Rattle.pv_model.specs.Meaning.{Row, Reply, exec}
+use Rattle.pv_model.specs.Syntax.{Program}
 
 -- a transaction of an order, with its program
 pub record Entry : Type 0 where
@@ -18,16 +19,16 @@ abbrev pub commits : List TxnId → TxnId → Bool
 commits assignment txn = list_any (is_same_txn txn) assignment
 
 -- the rows after one transaction of the order
-abbrev pub rows_after : List TxnId → List ℤ → Entry → List ℤ
+abbrev pub rows_after : List TxnId → List Row → Entry → List Row
 rows_after assignment rows entry = if commits assignment entry.txn then (exec entry.program rows).rows else rows
 
 -- Beginning with these rows, each transaction of the order that commits runs in turn on what those before it left.
-abbrev pub serial : List ℤ → List Entry → List TxnId → List ℤ
+abbrev pub serial : List Row → List Entry → List TxnId → List Row
 serial rows [] assignment = rows
 serial rows (entry ∷ order) assignment = serial (rows_after assignment rows entry) order assignment
 
 -- what a transaction that commits replies in that run
-abbrev pub serial_reply : List ℤ → List Entry → List TxnId → TxnId → Option Reply
+abbrev pub serial_reply : List Row → List Entry → List TxnId → TxnId → Option Reply
 serial_reply rows [] assignment txn = None
 serial_reply rows (entry ∷ order) assignment txn =
     if is_same_txn entry.txn txn

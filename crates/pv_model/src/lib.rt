@@ -4,38 +4,15 @@
 
 ghost use Rattle.std.specs.Prelude.{◌≡◌, ◌⊎◌, ℕ, ℤ, false, List};
 ghost use Rattle.pv_base.specs.Catalog.{Declared};
+ghost use Rattle.pv_model.specs.Causes.{Cause};
 ghost use Rattle.pv_model.specs.Check.{AreItems};
+ghost use Rattle.pv_model.specs.Events.{Schedule};
 ghost use Rattle.pv_model.specs.Meaning.{Row, Decline, value, declined, value_in, items_of_rows, exec};
 ghost use Rattle.pv_model.specs.ProgramLaws.{assigns, followed, HaveSameValues};
 ghost use Rattle.pv_model.specs.ProgramText.{IsProgramText, Refusal, IsRefused};
 ghost use Rattle.pv_model.specs.Run.{Agrees, RepliesAgree, output_of};
-ghost use Rattle.pv_model.specs.Schedule.{Schedule, IsSchedule, HasFirstFault};
+ghost use Rattle.pv_model.specs.Schedule.{IsSchedule, IsMalformed};
 ghost use Rattle.pv_model.specs.Syntax.{Program};
-
-/// A text is one schedule at most.
-pub fn one_schedule()
-    ensures { (text : List ℕ) (schedule other : Schedule) → IsSchedule text schedule → IsSchedule text other → schedule ≡ other }
-{}
-
-/// A text has one first fault at most.
-pub fn one_fault()
-    ensures { (text : List ℕ) (number other : ℕ) → HasFirstFault text number → HasFirstFault text other → number ≡ other }
-{}
-
-/// A schedule has no fault.
-pub fn no_fault()
-    ensures { (text : List ℕ) (schedule : Schedule) (number : ℕ) → IsSchedule text schedule → HasFirstFault text number → ⊥ }
-{}
-
-/// What a run prints agrees at each report with the serial run of the transactions before it.
-pub fn reports_agree()
-    ensures { (schedule : Schedule) → Agrees schedule (output_of schedule) }
-{}
-
-/// What a run prints gives each transaction's reply in the serial run of the transactions up to it.
-pub fn replies_agree()
-    ensures { (schedule : Schedule) → RepliesAgree schedule (output_of schedule) }
-{}
 
 /// A program that declines leaves every row as it was.
 pub fn decline_leaves_rows()
@@ -94,4 +71,35 @@ pub fn some_items()
 /// A program has one such list at most.
 pub fn one_items()
     ensures { (program : Program) (items others : List ℕ) → AreItems program items → AreItems program others → items ≡ others }
+{}
+
+/// A text is one schedule at most.
+pub fn one_schedule()
+    ensures { (text : List ℕ) (schedule other : Schedule) → IsSchedule text schedule → IsSchedule text other → schedule ≡ other }
+{}
+
+/// A text is malformed at one line and for one cause at most.
+pub fn one_fault()
+    ensures { (text : List ℕ) (number other : ℕ) (cause reason : Cause) → IsMalformed text number cause → IsMalformed text other reason →
+        (number ≡ other) × (cause ≡ reason) }
+{}
+
+/// A schedule isn't malformed.
+pub fn no_fault()
+    ensures { (text : List ℕ) (schedule : Schedule) (number : ℕ) (cause : Cause) → IsSchedule text schedule → IsMalformed text number cause → ⊥ }
+{}
+
+/// Each text is a schedule or is malformed.
+pub fn some_schedule_or_fault()
+    ensures { (text : List ℕ) → ((schedule : Schedule) × IsSchedule text schedule) ⊎ ((number : ℕ) × (cause : Cause) × IsMalformed text number cause) }
+{}
+
+/// What a run prints agrees at each report with the serial run of the transactions before it.
+pub fn reports_agree()
+    ensures { (schedule : Schedule) → Agrees schedule (output_of schedule) }
+{}
+
+/// What a run prints gives each request that commits its reply in the serial run of the transactions up to it.
+pub fn replies_agree()
+    ensures { (schedule : Schedule) → RepliesAgree schedule (output_of schedule) }
 {}

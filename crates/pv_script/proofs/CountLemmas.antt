@@ -5,7 +5,9 @@ use Rattle.std.specs.Str.Lines.{strip_carriage_return}
 use Rattle.std.proofs.lemmas.List.{length-map}
 use Rattle.std.proofs.lemmas.List.FromFn.{length-enumerate_from}
 use Rattle.std.proofs.lemmas.List.Filters.{length-filter_both}
-use Rattle.pv_model.specs.Schedule.{Schedule, Event, submit, report, AreEvents, AreSchedule, IsSchedule, counted}
+use Rattle.pv_model.specs.Causes.{Before}
+use Rattle.pv_model.specs.Events as model
+use Rattle.pv_model.specs.Schedule.{AreLines, none, declaration, event, IsSchedule, counted}
 use Rattle.pv_model.specs.Text.{Line, lines, numbered, is_counted, parts_that_are_lines}
 use Rattle.pv_script.proofs.LineLemmas.{Begins, Begins-slice_split, is_feed}
 
@@ -44,20 +46,10 @@ length-counted text =
     let some = length-filter_le (λ line. is_counted line.1) (enumerate_from 1 (lines text)) in
     rw (length-map (numbered text) (λ line. line.1)) (omega arith)
 
-length-events : (name : List ℕ) (lines : List Line) (events : List Event) → AreEvents name lines events → length events ≤ length lines
-length-events name [] [] are = omega arith
-length-events name [] (report ∷ events) are = absurd are
-length-events name [] (submit addend ∷ events) are = absurd are
-length-events name (line ∷ more) [] are = absurd are
-length-events name (line ∷ more) (report ∷ events) are = let fewer = length-events name more events are.1 in omega arith
-length-events name (line ∷ []) (submit addend ∷ events) are = absurd are
-length-events name (line ∷ pump ∷ more) (submit addend ∷ events) are = let fewer = length-events name more events are.2 in omega arith
+length-events : {before last : Before} {all : List Line} {events : List model.Event} → AreLines before all events last → length events ≤ length all
+length-events (none before) = omega arith
+length-events (declaration before after last line all events declares are) = let fewer = length-events are in omega arith
+length-events (event before last line all e events says are) = let fewer = length-events are in omega arith
 
-length-schedule : (lines : List Line) (schedule : Schedule) → AreSchedule lines schedule → length schedule.events ≤ length lines
-length-schedule [] schedule are = absurd are
-length-schedule (sites ∷ []) schedule are = absurd are
-length-schedule (sites ∷ second ∷ more) schedule are =
-    let fewer = length-events are.0.name more schedule.events are.4 in omega arith
-
-pub few-events : (text : List ℕ) (schedule : Schedule) → IsSchedule text schedule → length schedule.events ≤ length text
-few-events text schedule are = let fewer = length-schedule (counted text) schedule are in omega (arith, length-counted text)
+pub few-events : (text : List ℕ) (schedule : model.Schedule) → IsSchedule text schedule → length schedule.events ≤ length text
+few-events text schedule is = let fewer = length-events is.are in let all = length-counted text in omega arith

@@ -1,54 +1,112 @@
--- The first fault of lines, taken over a line that is as it has to be.
-use Rattle.std.proofs.Common.{◌≡◌, ℕ, List, [], ◌∷◌, refl, ap, inl, inr, ⊎_elim}
-use Rattle.pv_model.specs.FirstFault.{IsFirstFault}
-use Rattle.pv_model.specs.Text.{Line}
-use Rattle.pv_script.specs.declared.schedule.ScriptError.{ScriptError}
-use Rattle.pv_script.specs.declared.schedule.ScriptError.TheVariants.{Malformed, NoMemory}
-use Rattle.pv_script.specs.declared.schedule.LineCause.{LineCause}
+-- Lines taken one by one: what they say so far, and the first one at fault.
+use Rattle.std.proofs.Common.{◌≡◌, ℕ, List, [], ◌∷◌, ◌++◌, ◌+◌, length, map, inl, inr, refl, sym, ap, subst}
+use Rattle.pv_base.specs.Catalog.{Declared}
+use Rattle.pv_model.specs.Causes.{Before, at_first, Cause, sites_expected, IsFirstCause}
+use Rattle.pv_model.specs.Events as model
+use Rattle.pv_model.specs.FirstFault.{without_numbers}
+use Rattle.pv_model.specs.Schedule.{Declares, IsEvent, with_event, AreLines, none, declaration, event, IsAtFault, IsMalformed}
+use Rattle.pv_model.specs.Text.{Line, lines, numbered}
 use Rattle.pv_script.specs.Answers.{Refuses}
+use Rattle.pv_script.specs.Faults.{error_at, IsErrorAt, IsLineFault}
+use Rattle.pv_script.specs.Takes.{Takes, declared, happened}
+use Rattle.pv_script.specs.View.{event_of}
+use Rattle.pv_script.specs.declared.fault.Fault.{Fault}
+use Rattle.pv_script.specs.declared.fault.Fault.TheVariants.{At, NoMemory}
+use Rattle.pv_script.specs.declared.schedule.Event.{Event}
+use Rattle.pv_script.specs.declared.schedule.ScriptError.{ScriptError}
+use Rattle.pv_script.specs.declared.schedule.ScriptError.TheVariants as error
 
--- The lines behind a line have to be others than those from it on.
-pub record Leaves (AreWhole AreRest : List Line → Type 0) (line : Line) : Type 0 where
-  pub taken : (rest : List Line) → AreWhole (line ∷ rest) → AreRest rest
-  pub put : (rest : List Line) → AreRest rest → AreWhole (line ∷ rest)
+-- Lines behind what was said are first at fault at this number, for this cause.
+pub record IsAtFaultFrom (start : Before) (all : List (ℕ × Line)) (number : ℕ) (cause : Cause) : Type 0 where
+  pub front : List (ℕ × Line)
+  pub line : Line
+  pub rest : List (ℕ × Line)
+  pub split : all ≡ front ++ (number, line) ∷ rest
+  pub events : List model.Event
+  pub before : Before
+  pub are : AreLines start (without_numbers front) events before
+  pub first : IsFirstCause before line cause
 
-pub IsFirstFault-cons : (AreWhole AreRest : List Line → Type 0) (number : ℕ) (line : Line) (left : List (ℕ × Line)) (behind fault : ℕ) → Leaves AreWhole AreRest line → IsFirstFault AreRest left behind fault → IsFirstFault AreWhole ((number, line) ∷ left) behind fault
-IsFirstFault-cons AreWhole AreRest number line left behind fault leaves =
-    ⊎_elim
-    (λ misplaced. inl (record {
-      front = (number, line) ∷ misplaced.front;
-      line = misplaced.line;
-      rest = misplaced.rest;
-      split = ap (λ lines. (number, line) ∷ lines) misplaced.split;
-      good = (misplaced.good.0, leaves.put _ misplaced.good.1);
-      bad = λ begins. misplaced.bad (begins.0, leaves.taken _ begins.1);
-    }))
-    (λ short. inr (record {
-      place = short.place;
-      good = (short.good.0, leaves.put _ short.good.1);
-      bad = λ whole. short.bad (leaves.taken _ whole);
-    }))
+pub fault-whole : (text : List ℕ) (number : ℕ) (cause : Cause) → IsAtFaultFrom at_first (numbered text) number cause → IsAtFault text number cause
+fault-whole text number cause is =
+    record { front = is.front; line = is.line; rest = is.rest; split = is.split; events = is.events; before = is.before; are = is.are; first = is.first }
 
--- the first line is at fault
-pub IsFirstFault-head : (AreWhole : List Line → Type 0) (number : ℕ) (line : Line) (left : List (ℕ × Line)) (behind : ℕ) → (whole : List Line) × AreWhole whole → ((rest : List Line) → AreWhole (line ∷ rest) → ⊥) → IsFirstFault AreWhole ((number, line) ∷ left) behind number
-IsFirstFault-head AreWhole number line left behind whole none =
-    inl (record { front = []; line = line; rest = left; split = refl; good = whole; bad = λ begins. none begins.0 begins.1 })
+pub fault-here : (before : Before) (number : ℕ) (line : Line) (rest : List (ℕ × Line)) (cause : Cause) → IsFirstCause before line cause
+    → IsAtFaultFrom before ((number, line) ∷ rest) number cause
+fault-here before number line rest cause first =
+    record { front = []; line = line; rest = rest; split = refl; events = []; before = before; are = none before; first = first }
 
--- there is no line, but there has to be one
-pub IsFirstFault-nil : (AreWhole : List Line → Type 0) (behind : ℕ) → (whole : List Line) × AreWhole whole → (AreWhole [] → ⊥) → IsFirstFault AreWhole [] behind behind
-IsFirstFault-nil AreWhole behind whole none = inr (record { place = refl; good = whole; bad = none })
+pub fault-declares : (before after : Before) (k : ℕ) (line : Line) (left : List (ℕ × Line)) (number : ℕ) (cause : Cause) → Declares before line after
+    → IsAtFaultFrom after left number cause → IsAtFaultFrom before ((k, line) ∷ left) number cause
+fault-declares before after k line left number cause declares is = record {
+  front = (k, line) ∷ is.front;
+  line = is.line;
+  rest = is.rest;
+  split = ap (λ (all : List (ℕ × Line)). (k, line) ∷ all) is.split;
+  events = is.events;
+  before = is.before;
+  are = declaration before after is.before line (without_numbers is.front) is.events declares is.are;
+  first = is.first;
+}
 
--- the same two, of a refusal
-pub Refuses-head : (AreWhole : List Line → Type 0) (numbered left : List (ℕ × Line)) (number : ℕ) (line : Line) (behind : ℕ) (cause : LineCause) (error : ScriptError) → numbered ≡ (number, line) ∷ left → error ≡ Malformed number cause → (whole : List Line) × AreWhole whole → ((rest : List Line) → AreWhole (line ∷ rest) → ⊥) → Refuses (IsFirstFault AreWhole numbered behind) error
-Refuses-head AreWhole numbered left number line behind cause error split is whole none =
-    rw (split, is) (IsFirstFault-head AreWhole number line left behind whole none)
+fault-event : (before : Before) (e : model.Event) (k : ℕ) (line : Line) (left : List (ℕ × Line)) (number : ℕ) (cause : Cause) → IsEvent before line e
+    → IsAtFaultFrom (with_event before) left number cause → IsAtFaultFrom before ((k, line) ∷ left) number cause
+fault-event before e k line left number cause says is = record {
+  front = (k, line) ∷ is.front;
+  line = is.line;
+  rest = is.rest;
+  split = ap (λ (all : List (ℕ × Line)). (k, line) ∷ all) is.split;
+  events = e ∷ is.events;
+  before = is.before;
+  are = event before is.before line (without_numbers is.front) e is.events says is.are;
+  first = is.first;
+}
 
-pub Refuses-nil : (AreWhole : List Line → Type 0) (numbered : List (ℕ × Line)) (behind : ℕ) (cause : LineCause) (error : ScriptError) → numbered ≡ [] → error ≡ Malformed behind cause → (whole : List Line) × AreWhole whole → (AreWhole [] → ⊥) → Refuses (IsFirstFault AreWhole numbered behind) error
-Refuses-nil AreWhole numbered behind cause error split is whole none =
-    rw (split, is) (IsFirstFault-nil AreWhole behind whole none)
+-- What is first at fault behind a line is so from the line on.
+pub fault-takes : (before after : Before) (catalog : Declared) (old new : List Event) (k : ℕ) (line : Line) (left : List (ℕ × Line)) (number : ℕ) (cause : Cause)
+    → Takes before line after catalog old new → IsAtFaultFrom after left number cause → IsAtFaultFrom before ((k, line) ∷ left) number cause
+fault-takes before after catalog old new k line left number cause (declared declares same) is = fault-declares before after k line left number cause declares is
+fault-takes before after catalog old new k line left number cause (happened e says then plan more) is =
+    fault-event before (event_of e) k line left number cause says (subst (λ (b : Before). IsAtFaultFrom b left number cause) then is)
 
--- a refusal of the lines behind the first is one of all
-pub Refuses-cons : (AreWhole AreRest : List Line → Type 0) (numbered left : List (ℕ × Line)) (number : ℕ) (line : Line) (behind : ℕ) (error : ScriptError) → numbered ≡ (number, line) ∷ left → Leaves AreWhole AreRest line → Refuses (IsFirstFault AreRest left behind) error → Refuses (IsFirstFault AreWhole numbered behind) error
-Refuses-cons AreWhole AreRest numbered left number line behind (Malformed fault cause) split leaves is =
-    rw split (IsFirstFault-cons AreWhole AreRest number line left behind fault leaves is)
-Refuses-cons AreWhole AreRest numbered left number line behind NoMemory split leaves is = tt
+map-snoc : (old : List Event) (e : Event) (more : List model.Event) → map event_of (old ++ e ∷ []) ++ more ≡ map event_of old ++ event_of e ∷ more
+map-snoc [] e more = refl
+map-snoc (x ∷ old) e more = ap (λ (es : List model.Event). event_of x ∷ es) (map-snoc old e more)
+
+-- Whatever is read behind a line is read from the line on.
+pub lines-takes : (before after : Before) (catalog : Declared) (old new : List Event) (line : Line) (left whole : List Line) (more : List model.Event) (last : Before)
+    → Takes before line after catalog old new
+    → ((more : List model.Event) (last : Before) → AreLines before (line ∷ left) more last → AreLines at_first whole (map event_of old ++ more) last)
+    → AreLines after left more last → AreLines at_first whole (map event_of new ++ more) last
+lines-takes before after catalog old new line left whole more last (declared declares same) so are =
+    subst (λ (es : List Event). AreLines at_first whole (map event_of es ++ more) last) (sym same)
+    (so more last (declaration before after last line left more declares are))
+lines-takes before after catalog old new line left whole more last (happened e says then plan appended) so are =
+    subst (λ (es : List Event). AreLines at_first whole (map event_of es ++ more) last) (sym appended)
+    (subst (λ (es : List model.Event). AreLines at_first whole es last) (sym (map-snoc old e more))
+    (so (event_of e ∷ more) last (event before last line left (event_of e) more says (subst (λ (b : Before). AreLines b left more last) then are))))
+
+-- ---- refusals
+
+pub refuses-first : (text : List ℕ) (number : ℕ) (line : Line) (rest : List (ℕ × Line)) (fault : Fault) → numbered text ≡ (number, line) ∷ rest
+    → IsLineFault at_first line fault → Refuses (IsMalformed text) (error_at number fault)
+refuses-first text number line rest (At told) split fault =
+    (fault.0, fault.1, inl (fault-whole text number fault.0 (subst (λ (all : List (ℕ × Line)). IsAtFaultFrom at_first all number fault.0) (sym split) (fault-here at_first number line rest fault.0 fault.2))))
+refuses-first text number line rest NoMemory split fault = tt
+
+pub error-fault : (before : Before) (number : ℕ) (line : Line) (fault : Fault) → IsLineFault before line fault → IsErrorAt before number line (error_at number fault)
+error-fault before number line (At told) fault = (refl, fault)
+error-fault before number line NoMemory fault = tt
+
+-- An error of a line of the text refuses the text.
+pub refuses-line : (text : List ℕ) (before : Before) (number : ℕ) (line : Line) (rest : List (ℕ × Line)) (e : ScriptError)
+    → ((n : ℕ) (cause : Cause) → IsAtFaultFrom before ((number, line) ∷ rest) n cause → IsAtFault text n cause)
+    → IsErrorAt before number line e → Refuses (IsMalformed text) e
+refuses-line text before number line rest (error.Malformed place told) so is =
+    let at = so number is.1.0 (fault-here before number line rest is.1.0 is.1.2) in
+    (is.1.0, is.1.1, inl (subst (λ (n : ℕ). IsAtFault text n is.1.0) (sym is.0) at))
+refuses-line text before number line rest error.NoMemory so is = tt
+
+-- A text without lines lacks the sites.
+pub lacks-sites : (text : List ℕ) (place : ℕ) → numbered text ≡ [] → place ≡ length (lines text) + 1 → IsMalformed text place sites_expected
+lacks-sites text place empty at = inr (record { empty = empty; place = at; is = refl })

@@ -1,6 +1,13 @@
 pub mod LineLemmas
-pub mod FormLemmas
+pub mod CauseLemmas
+pub mod FieldLemmas
+pub mod KeywordLemmas
+pub mod HeadLemmas
+pub mod AddLemmas
+pub mod SaidLemmas
+pub mod BlankLemmas
+pub mod RequestLemmas
 pub mod FaultLemmas
-pub mod EventLemmas
 pub mod CountLemmas
 pub mod ScheduleLemmas
+pub mod StageLemmas

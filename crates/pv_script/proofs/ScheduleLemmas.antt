@@ -1,39 +1,114 @@
--- What the sites, the item and the events make together.
-use Rattle.std.proofs.Common.{◌≡◌, ℕ, ◌+◌, List, ◌∷◌, length, map, Some}
-use Rattle.std.specs.List.{slice_get}
+-- A schedule read line by line, and why a text is none.
+use Rattle.std.proofs.Common.{◌≡◌, ◌≢◌, ℕ, zero, suc, false, Some, None, List, [], ◌∷◌, ◌++◌, All, refl, sym, ap, ◌∙◌, subst, arith, ⊎_elim}
+use Rattle.std.proofs.lemmas.Bool.{both_ways}
 use Rattle.pv_base.specs.Catalog.{Item, Declared}
-use Rattle.pv_model.specs.FirstFault.{IsFirstFault, without_numbers}
-use Rattle.pv_model.specs.Schedule.{Event, AreEvents, AreSomeSchedule, IsSites, IsItem, IsSchedule, HasFirstFault, catalog_of}
-use Rattle.pv_model.specs.Text.{lines, numbered}
+use Rattle.pv_model.specs.Causes.{Before, at_first, Cause, declared_by}
+use Rattle.pv_model.specs.Check.{IsPlan}
+use Rattle.pv_model.specs.Events as model
+use Rattle.pv_model.specs.FirstFault.{without_numbers}
+use Rattle.pv_model.specs.Schedule.{Declares, DeclaresSites, DeclaresJournal, DeclaresItem, AreLines, none, declaration, counted, IsSchedule, IsAtFault, IsMalformed}
+use Rattle.pv_model.specs.Text.{Line, numbered}
+use Rattle.pv_script.specs.Answers.{Refuses, IsRefusal}
+use Rattle.pv_script.specs.Said.{before_of, IsLimited}
+use Rattle.pv_script.specs.Takes.{Takes, declared, happened}
+use Rattle.pv_script.specs.View.{HasPlan}
+use Rattle.pv_script.specs.declared.said.Said.{Said}
+use Rattle.pv_script.specs.declared.schedule.Event.{Event}
+use Rattle.pv_script.specs.declared.schedule.Event.TheVariants.{Submit, Deliver, Pump, Lose, Drop, Tick, Stop, Start, Arm, Mend, Sent, Report, Total}
 use Rattle.pv_script.specs.declared.schedule.ScriptError.{ScriptError}
-use Rattle.pv_script.specs.Answers.{Refuses}
-use Rattle.pv_script.specs.LinesLeft.{LinesLeft}
-use Rattle.pv_script.specs.Steps.{TakesLine, AreSomeEvents, AreItemAndEvents}
-use Rattle.pv_script.proofs.FaultLemmas.{Refuses-cons}
-use Rattle.pv_script.proofs.EventLemmas.{Leaves-sites, Leaves-item}
+use Rattle.pv_script.specs.declared.schedule.ScriptError.TheVariants.{Malformed, NoMemory}
+use Rattle.pv_script.proofs.FaultLemmas.{IsAtFaultFrom, fault-whole, fault-declares}
+use Rattle.pv_model.proofs.OneScheduleLemmas.{one_fault, no_fault}
 
--- the lines of a whole text
-abbrev pub all_lines : List ℕ → LinesLeft
-all_lines text = record { numbered = numbered text; behind = length (lines text) + 1 }
+-- The catalog is what was declared.
+pub limited : (said : Said) → IsLimited said → declared_by (before_of said) ≡ said.catalog
+limited said is = λ i. record { sites = said.catalog.sites; journal = sym is i; items = said.catalog.items }
 
--- what refuses the lines behind the sites refuses the text
-pub Refuses-sites : (text : List ℕ) (all left : LinesLeft) (error : ScriptError) → all ≡ all_lines text → TakesLine IsSites all.numbered left.numbered → left.behind ≡ all.behind → Refuses (IsFirstFault AreItemAndEvents left.numbered left.behind) error → Refuses (HasFirstFault text) error
-Refuses-sites text all left error whole takes behind refused =
-    let here : Refuses (IsFirstFault AreItemAndEvents left.numbered all.behind) error = rw (← behind) refused in
-    let there = Refuses-cons AreSomeSchedule AreItemAndEvents all.numbered left.numbered takes.number takes.line all.behind error takes.split (Leaves-sites takes.line takes.right) here in
-    rw whole at there
+-- ---- the first line
 
--- what refuses the lines behind the item refuses those from it on
-pub Refuses-item : (all left : LinesLeft) (item : Item) (name : List ℕ) (error : ScriptError) → TakesLine (λ line. IsItem line item) all.numbered left.numbered → name ≡ item.name → left.behind ≡ all.behind → Refuses (IsFirstFault (AreSomeEvents name) left.numbered left.behind) error → Refuses (IsFirstFault AreItemAndEvents all.numbered all.behind) error
-Refuses-item all left item name error takes named behind refused =
-    let here : Refuses (IsFirstFault (AreSomeEvents item.name) left.numbered all.behind) error = rw (← behind, ← named) refused in
-    Refuses-cons AreItemAndEvents (AreSomeEvents item.name) all.numbered left.numbered takes.number takes.line all.behind error takes.split (Leaves-item takes.line item takes.right) here
+pub lines-first : (text : List ℕ) (k : ℕ) (line : Line) (left : List (ℕ × Line)) (after last : Before) (more : List model.Event) → numbered text ≡ (k, line) ∷ left
+    → Declares at_first line after → AreLines after (without_numbers left) more last → AreLines at_first (counted text) more last
+lines-first text k line left after last more split declares are =
+    subst (λ (all : List (ℕ × Line)). AreLines at_first (without_numbers all) more last) (sym split)
+    (declaration at_first after last line (without_numbers left) more declares are)
 
--- the catalog's one name
-pub name-catalog_of : (catalog : Declared) (item : Item) (name : List ℕ) → catalog ≡ catalog_of item → slice_get (map (λ declared. declared.name) catalog.items) 0 ≡ Some name → name ≡ item.name
-name-catalog_of catalog item name is found = let one : Some item.name ≡ Some name = rw is at found in cc
+pub fault-first : (text : List ℕ) (k : ℕ) (line : Line) (left : List (ℕ × Line)) (after : Before) (number : ℕ) (cause : Cause) → numbered text ≡ (k, line) ∷ left
+    → Declares at_first line after → IsAtFaultFrom after left number cause → IsAtFault text number cause
+fault-first text k line left after number cause split declares is =
+    fault-whole text number cause
+    (subst (λ (all : List (ℕ × Line)). IsAtFaultFrom at_first all number cause) (sym split) (fault-declares at_first after k line left number cause declares is))
 
-pub IsSchedule-read : (text : List ℕ) (all behind left : LinesLeft) (item : Item) (catalog : Declared) (name : List ℕ) (events : List Event) → all ≡ all_lines text → TakesLine IsSites all.numbered behind.numbered → TakesLine (λ line. IsItem line item) behind.numbered left.numbered → catalog ≡ catalog_of item → name ≡ item.name → AreEvents name (without_numbers left.numbered) events → IsSchedule text (record { catalog = catalog; events = events })
-IsSchedule-read text all behind left item catalog name events whole first second is named are =
-    let split : numbered text ≡ (first.number, first.line) ∷ behind.numbered = rw whole at first.split in
-    rw (split, second.split) (item, first.right, second.right, is, rw named at are)
+-- ---- plans
+
+HasPlan-items : (e : Event) (a b : Declared) → a.items ≡ b.items → HasPlan a e → HasPlan b e
+HasPlan-items (Submit site query text program plan) a b same has = subst (λ (items : List Item). IsPlan program items plan.parts.items) same has
+HasPlan-items (Deliver n) a b same has = tt
+HasPlan-items (Pump most) a b same has = tt
+HasPlan-items (Lose n) a b same has = tt
+HasPlan-items (Drop site) a b same has = tt
+HasPlan-items (Tick site) a b same has = tt
+HasPlan-items (Stop site) a b same has = tt
+HasPlan-items (Start site) a b same has = tt
+HasPlan-items (Arm site k mode stop) a b same has = tt
+HasPlan-items (Mend site) a b same has = tt
+HasPlan-items Sent a b same has = tt
+HasPlan-items Report a b same has = tt
+HasPlan-items Total a b same has = tt
+
+All-one_more : (P : Event → Type 0) (old : List Event) (e : Event) → All P old → P e → All P (old ++ e ∷ [])
+All-one_more P [] e each last zero d below = last
+All-one_more P [] e each last (suc k) d below = absurd (omega arith)
+All-one_more P (x ∷ old) e each last zero d below = each 0 d (omega arith)
+All-one_more P (x ∷ old) e each last (suc k) d below = All-one_more P old e (λ j f h. each (suc j) f (omega arith)) last k d (omega arith)
+
+-- Whoever declares has no event before.
+early : (before after : Before) (line : Line) (sites : ℕ) → before.sites ≡ Some sites → Declares before line after → before.begun ≡ false
+early before after line sites said =
+    ⊎_elim (λ (is : DeclaresSites before line after). absurd (let first = is.first in let never : None ≡ Some sites = sym first ∙ said in cc))
+    (⊎_elim (λ (is : DeclaresJournal before line after). is.early) (λ (is : DeclaresItem before line after). is.early))
+
+pub plans-takes : (before after : Before) (line : Line) (catalog now : Declared) (old new : List Event) (sites : ℕ) → before.sites ≡ Some sites
+    → before.items ≡ catalog.items → after.items ≡ now.items → (before.begun ≡ false → old ≡ []) → All (HasPlan catalog) old → Takes before line after now old new
+    → All (HasPlan now) new
+plans-takes before after line catalog now old new sites said same same_now begun plans (declared declares kept) =
+    subst (λ (es : List Event). All (HasPlan now) es) (sym (kept ∙ begun (early before after line sites said declares))) (λ k d below. absurd (omega arith))
+plans-takes before after line catalog now old new sites said same same_now begun plans (happened e says then plan appended) =
+    let items : catalog.items ≡ now.items = sym same ∙ sym (ap (λ (b : Before). b.items) then) ∙ same_now in
+    subst (λ (es : List Event). All (HasPlan now) es) (sym appended)
+    (All-one_more (HasPlan now) old e (λ k d below. HasPlan-items _ catalog now items (plans k d below)) plan)
+
+pub begun-takes : (before after : Before) (line : Line) (now : Declared) (old new : List Event) (sites : ℕ) → before.sites ≡ Some sites
+    → (before.begun ≡ false → old ≡ []) → Takes before line after now old new → after.begun ≡ false → new ≡ []
+begun-takes before after line now old new sites said begun (declared declares kept) quiet = kept ∙ begun (early before after line sites said declares)
+begun-takes before after line now old new sites said begun (happened e says then plan appended) quiet =
+    absurd (both_ways after.begun quiet (ap (λ (b : Before). b.begun) then))
+
+-- ---- the end
+
+append-nil : (es : List model.Event) → es ++ [] ≡ es
+append-nil [] = refl
+append-nil (e ∷ es) = ap (λ (more : List model.Event). e ∷ more) (append-nil es)
+
+pub IsSchedule-read : (text : List ℕ) (said : Said) (events : List model.Event) (left : List (ℕ × Line)) → IsLimited said → left ≡ []
+    → ((more : List model.Event) (last : Before) → AreLines (before_of said) (without_numbers left) more last → AreLines at_first (counted text) (events ++ more) last)
+    → IsSchedule text (record { catalog = said.catalog; events = events })
+IsSchedule-read text said events left is empty so = record {
+  last = before_of said;
+  are = subst (λ (es : List model.Event). AreLines at_first (counted text) es (before_of said)) (append-nil events)
+      (so [] (before_of said) (subst (λ (all : List (ℕ × Line)). AreLines (before_of said) (without_numbers all) [] (before_of said)) (sym empty) (none (before_of said))));
+  sites = said.catalog.sites;
+  said = refl;
+  catalog = sym (limited said is);
+}
+
+-- ---- one answer
+
+pub error-no_schedule : (text : List ℕ) (schedule : model.Schedule) (e : ScriptError) → Refuses (IsMalformed text) e → IsSchedule text schedule → e ≡ NoMemory
+error-no_schedule text schedule (Malformed place told) refused is = absurd (no_fault text schedule place refused.0 is refused.2)
+error-no_schedule text schedule NoMemory refused is = refl
+
+pub error-one_fault : (text : List ℕ) (number : ℕ) (cause : Cause) (e : ScriptError) → Refuses (IsMalformed text) e → IsMalformed text number cause → e ≢ NoMemory → IsRefusal number cause e
+error-one_fault text number cause (Malformed place told) refused is some =
+    let same = one_fault text place number refused.0 cause refused.2 is in
+    (same.0, refused.1 ∙ ap Some same.1)
+error-one_fault text number cause NoMemory refused is some = some refl

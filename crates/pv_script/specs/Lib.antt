@@ -1,5 +1,8 @@
 pub mod LinesLeft
 pub mod Answers
 pub mod View
-pub mod Forms
-pub mod Steps
+pub mod Faults
+pub mod Keywords
+pub mod Said
+pub mod Stages
+pub mod Takes

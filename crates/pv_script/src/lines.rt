@@ -11,7 +11,7 @@ pub const MAX_TEXT: usize = 4_294_967_294;
 
 /// A line that counts.
 #[derive(Clone, Copy, Debug)]
-pub struct Line<'a> {
+pub struct Counted<'a> {
     /// The place among all lines of the text, from 1.
     pub number: u32,
     /// The bytes, without the line's end.
@@ -56,7 +56,7 @@ impl<'a> Lines<'a> {
     }
 
     /// The next line that counts.
-    pub fn next(&mut self) -> Option<Line<'a>>
+    pub fn next(&mut self) -> Option<Counted<'a>>
         ensures none { IfNone result (self.old.numbered ≡ []) }
         ensures some { IfSome result (λ line. self.old.numbered ≡ (line.number, line.text.now) ∷ self.new.numbered) }
         ensures behind { self.new.behind ≡ self.old.behind }
@@ -67,7 +67,7 @@ impl<'a> Lines<'a> {
             self.passed += 1;
             let text = without_return(line);
             if is_counted(text) {
-                return Some(Line {
+                return Some(Counted {
                     number: self.passed,
                     text,
                 });

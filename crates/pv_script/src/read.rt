@@ -1,132 +1,96 @@
-// How a schedule is read: the sites, the item, and then the events to the end of the text.
-ghost use Rattle.std.specs.Prelude.{◌≡◌, ◌+◌, ◌≤◌, Err, ℕ, List, [], ◌∷◌, length, vec_len, IfOk, IfErr, OnOk};
-ghost use Rattle.pv_base.specs.Catalog.{Item};
-ghost use Rattle.pv_model.specs.FirstFault.{IsFirstFault, without_numbers};
-ghost use Rattle.pv_model.specs.Schedule.{AreEvents, AreSomeSchedule, IsSites, IsItem, IsPump, IsSchedule, HasFirstFault, catalog_of};
-ghost use Rattle.pv_script.specs.Answers.{Refuses};
-ghost use Rattle.pv_script.specs.Steps.{TakesLine, TakesEvent, AreSomeEvents, ArePumpAndEvents, AreItemAndEvents};
-ghost use Rattle.pv_script.specs.View.{event_of, events_of, schedule_of};
+// How a schedule is read.
+ghost use Rattle.std.specs.Prelude.{◌≡◌, ◌≢◌, ◌≤◌, ℕ, List, ◌∷◌, All, length, vec_len, IfOk, IfErr, OnOk};
+ghost use Rattle.pv_model.specs.Causes as model;
+ghost use Rattle.pv_model.specs.Causes.{Cause};
+ghost use Rattle.pv_model.specs.Events as events;
+ghost use Rattle.pv_model.specs.Schedule.{Declares, IsSchedule, IsMalformed};
+ghost use Rattle.pv_script.specs.Answers.{Refuses, IsRefusal};
+ghost use Rattle.pv_script.specs.Faults.{IsErrorAt};
+ghost use Rattle.pv_script.specs.LinesLeft.{lines_of};
+ghost use Rattle.pv_script.specs.Said.{before_of, IsLimited};
+ghost use Rattle.pv_script.specs.Takes.{Takes};
+ghost use Rattle.pv_script.specs.View.{schedule_of, HasPlan};
 
-use crate::forms::{catalog_in, event_in, is_pump, is_sites};
-use crate::lines::{Line, Lines, MAX_TEXT};
+use crate::lines::{Counted, Lines, MAX_TEXT};
+use crate::said::Said;
 use crate::schedule::{Event, LineCause, Schedule, ScriptError};
-use pv_base::{Catalog, ItemId};
 use std::alloc::Global;
 
-/// The schedule that a text of at most [`MAX_TEXT`] bytes says. The first line at fault refuses it, and so does want of
-/// memory. It takes time in proportion to the text.
+/// The schedule that a text of at most [`MAX_TEXT`] bytes says.
+///
+/// Its lines are read in order. The first one at fault refuses the text, with its first cause in the order of
+/// [`LineCause`]; where no line counts, the place behind the last line does. Want of memory may come at any place. Each
+/// request is checked against the items declared before it, and has its plan.
+///
+/// The cost is linear in the length of the text, but for looking up the names of items.
 pub fn read_schedule(alloc: Global, text: &[u8]) -> Result<Schedule, ScriptError>
     requires { length text.now ≤ MAX_TEXT }
+
+    // What is read is the schedule that the text is, and what is a schedule is read.
     ensures schedule { IfOk result (λ schedule. IsSchedule text.now (schedule_of schedule)) }
-    ensures first_fault { IfErr result (Refuses (HasFirstFault text.now)) }
+    ensures read { (schedule : events.Schedule) → IsSchedule text.now schedule →
+        IfOk result (λ read. schedule_of read ≡ schedule) × IfErr result (λ error. error ≡ ScriptError.NoMemory) }
+
+    // Each request has the plan of its program.
+    ensures plans { IfOk result (λ schedule. All (HasPlan schedule.catalog) schedule.events.items) }
+
+    // What is refused is malformed there, and what is malformed is refused there.
+    ensures refused { IfErr result (Refuses (IsMalformed text.now)) }
+    ensures refuses { (number : ℕ) (cause : Cause) → IsMalformed text.now number cause →
+        IfOk result (λ _. ⊥) × IfErr result (λ error. error ≢ ScriptError.NoMemory → IsRefusal number cause error) }
 
     // Each event has a line of its own.
     ensures few { IfOk result (λ schedule. vec_len schedule.events ≤ length text.now) }
 {
     let mut lines = Lines::new(text);
-    read_sites(alloc, &mut lines)?;
-    let catalog = read_item(alloc, &mut lines)?;
-    let events = read_events(alloc, &mut lines, catalog.name(ItemId(0)))?;
-    Ok(Schedule { catalog, events })
-}
-
-// Reads the line that declares the sites.
-fn read_sites(alloc: Global, lines: &mut Lines) -> Result<(), ScriptError>
-    ensures sites { OnOk result (TakesLine IsSites lines.old.numbered lines.new.numbered) }
-    ensures behind { OnOk result (lines.new.behind ≡ lines.old.behind) }
-    ensures first_fault { IfErr result (Refuses (IsFirstFault AreSomeSchedule lines.old.numbered lines.old.behind)) }
-{
-    let line = next_line(lines)?;
-    if !is_sites(alloc, line.text)? {
-        return Err(not_built(line.number));
-    }
-    Ok(())
-}
-
-// Reads the line that declares the item.
-fn read_item(alloc: Global, lines: &mut Lines) -> Result<Catalog, ScriptError>
-    ensures item { IfOk result (λ catalog. (item : Item)
-        × TakesLine (λ line. IsItem line item) lines.old.numbered lines.new.numbered
-        × (catalog ≡ catalog_of item)) }
-    ensures behind { OnOk result (lines.new.behind ≡ lines.old.behind) }
-    ensures first_fault { IfErr result (Refuses (IsFirstFault AreItemAndEvents lines.old.numbered lines.old.behind)) }
-{
-    let line = next_line(lines)?;
-    match catalog_in(alloc, line.text)? {
-        Some(catalog) => Ok(catalog),
-        None => Err(not_built(line.number)),
-    }
-}
-
-// Reads the events over the item of this name, to the end of the text.
-fn read_events(alloc: Global, lines: &mut Lines, name: &[u8]) -> Result<Vec<Event>, ScriptError>
-    ensures events { IfOk result (λ events. AreEvents name.now (without_numbers lines.old.numbered) (events_of events.items)) }
-    ensures first_fault { IfErr result (Refuses (IsFirstFault (AreSomeEvents name.now) lines.old.numbered lines.old.behind)) }
-{
+    let mut said = read_first(alloc, &mut lines)?;
     let mut events = Vec::new(alloc);
     while let Some(line) = lines.next() {
-        let event = read_event(alloc, line, lines, name)?;
-        events.push(event)?;
+        read_line(alloc, &mut said, &mut events, line)?;
     }
-    Ok(events)
+    Ok(Schedule {
+        catalog: said.catalog,
+        events,
+    })
 }
 
-// Reads the event that begins with this line.
-fn read_event(
-    alloc: Global,
-    line: Line,
-    lines: &mut Lines,
-    name: &[u8],
-) -> Result<Event, ScriptError>
-    ensures event { IfOk result (λ event. TakesEvent name.now (event_of event)
-        ((line.entry.number, line.entry.text.now) ∷ lines.old.numbered) lines.new.numbered) }
-    ensures behind { OnOk result (lines.new.behind ≡ lines.old.behind) }
-    ensures fewer { OnOk result (length lines.new.numbered ≤ length lines.old.numbered) }
-    ensures first_fault { IfErr result (Refuses (IsFirstFault (AreSomeEvents name.now)
-        ((line.entry.number, line.entry.text.now) ∷ lines.old.numbered) lines.old.behind)) }
+// What the first line that counts says.
+fn read_first(alloc: Global, lines: &mut Lines) -> Result<Said, ScriptError>
+    ensures declares { IfOk result (λ said. (number : ℕ) × (line : List ℕ)
+        × (lines.old.numbered ≡ (number, line) ∷ lines.new.numbered) × Declares model.at_first line (before_of said)) }
+    ensures limited { IfOk result IsLimited }
+    ensures fault { (text : List ℕ) → IfErr result (λ error. lines.old ≡ lines_of text → Refuses (IsMalformed text) error) }
 {
-    let Some(event) = event_in(alloc, line.text, name)? else {
-        return Err(not_built(line.number));
+    let Some(line) = lines.next() else {
+        return Err(ScriptError::Malformed {
+            line: lines.behind(),
+            cause: LineCause::SitesExpected,
+        });
     };
-    if let Event::Submit { .. } = event {
-        read_pump(alloc, lines)?;
-    }
-    Ok(event)
-}
-
-// Reads the pump behind a submit.
-fn read_pump(alloc: Global, lines: &mut Lines) -> Result<(), ScriptError>
-    ensures pump { OnOk result (TakesLine IsPump lines.old.numbered lines.new.numbered) }
-    ensures behind { OnOk result (lines.new.behind ≡ lines.old.behind) }
-    ensures fewer { OnOk result (length lines.new.numbered ≤ length lines.old.numbered) }
-    ensures first_fault { (name : List ℕ) → IfErr result (Refuses (IsFirstFault (ArePumpAndEvents name)
-        lines.old.numbered lines.old.behind)) }
-{
-    let line = next_line(lines)?;
-    if !is_pump(alloc, line.text)? {
-        return Err(not_built(line.number));
-    }
-    Ok(())
-}
-
-// The next line that counts. A text that ends here is at fault behind its last line.
-fn next_line<'a>(lines: &mut Lines<'a>) -> Result<Line<'a>, ScriptError>
-    ensures line { IfOk result (λ line. lines.old.numbered ≡ (line.number, line.text.now) ∷ lines.new.numbered) }
-    ensures behind { lines.new.behind ≡ lines.old.behind }
-    ensures none { IfErr result (λ _. lines.old.numbered ≡ []) }
-    ensures error { IfErr result (λ error. error ≡ ScriptError.Malformed lines.old.behind LineCause.NotBuilt) }
-{
-    match lines.next() {
-        Some(line) => Ok(line),
-        None => Err(not_built(lines.behind())),
+    match Said::first(alloc, line.text) {
+        Ok(said) => Ok(said),
+        Err(fault) => Err(fault.at(line.number)),
     }
 }
 
-fn not_built(line: u32) -> ScriptError
-    ensures { result ≡ ScriptError.Malformed line LineCause.NotBuilt }
+// Reads one more line, which declares something or is an event, the last of the events so far.
+fn read_line(
+    alloc: Global,
+    said: &mut Said,
+    events: &mut Vec<Event>,
+    line: Counted,
+) -> Result<(), ScriptError>
+    requires { IsLimited said.old }
+    ensures takes { OnOk result (Takes (before_of said.old) line.entry.text.now (before_of said.new) said.new.catalog events.old.items events.new.items) }
+    ensures limited { OnOk result (IsLimited said.new) }
+    ensures fault { IfErr result (IsErrorAt (before_of said.old) line.entry.number line.entry.text.now) }
 {
-    ScriptError::Malformed {
-        line,
-        cause: LineCause::NotBuilt,
+    match said.read(alloc, line.text) {
+        Ok(Some(event)) => {
+            events.push(event)?;
+            Ok(())
+        },
+        Ok(None) => Ok(()),
+        Err(fault) => Err(fault.at(line.number)),
     }
 }

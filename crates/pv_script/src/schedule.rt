@@ -1,36 +1,116 @@
 // What a schedule says, and why a text is none.
 ghost use Rattle.std.specs.Prelude.{◌≡◌};
 
-use pv_base::Catalog;
+use pv_ast::Program;
+use pv_base::{Catalog, Mode, SiteId};
+use pv_check::Plan;
 use std::alloc::{AllocError, AllocFailed};
 use std::error::Error;
 use std::fmt;
 
 /// What happens in a run.
-#[derive(Clone, Copy, Debug, PartialEq, Eq)]
+#[derive(Debug, Drop)]
 pub enum Event {
-    /// A transaction that adds the addend to the one item, and the pump that delivers its messages. The addend isn't negative.
+    /// A request at a site: its program is to run.
     Submit {
-        /// What is added to the item's value.
-        addend: i64,
+        /// The site, which coordinates the transaction.
+        site: SiteId,
+        /// Whether the program only answers: it assigns nothing and has a `return`.
+        query: bool,
+        /// The program's text, as it stands in the line.
+        text: Vec<u8>,
+        /// The program.
+        program: Program,
+        /// What it wants of each site.
+        plan: Plan,
     },
+    /// The message of this number is delivered.
+    Deliver(u64),
+    /// All messages that haven't been delivered are delivered, or at most so many.
+    Pump(Option<u32>),
+    /// The message of this number is lost.
+    Lose(u64),
+    /// All messages to the site that haven't been delivered are lost.
+    Drop(SiteId),
+    /// The site's clock ticks.
+    Tick(SiteId),
+    /// The site stops.
+    Stop(SiteId),
+    /// The site starts.
+    Start(SiteId),
+    /// A write or a sync of the site's disk is to stop it or to fail.
+    Arm {
+        /// The site.
+        site: SiteId,
+        /// Which of its writes and syncs from now on, from 1.
+        k: u32,
+        /// What is left of what wasn't synced.
+        mode: Mode,
+        /// Whether the site stops there. Else the call fails.
+        stop: bool,
+    },
+    /// No write or sync of the site is to stop or to fail any more.
+    Mend(SiteId),
+    /// A list of the messages.
+    Sent,
     /// A report of the transactions and of all items.
     Report,
+    /// The sum of all items.
+    Total,
 }
 
 /// What is declared, and what happens then, in the order of the lines.
 #[derive(Debug, Drop)]
 pub struct Schedule {
-    /// The sites and the items: today one site with one item.
+    /// The sites, the limit of their journals, and the items.
     pub catalog: Catalog,
     /// What happens, in order.
     pub events: Vec<Event>,
 }
 
-/// What is wrong with a line.
+/// What is wrong with a line, in the order in which it is tested. Columns count the bytes of the program's text, from 1.
 #[derive(Clone, Copy, Debug, PartialEq, Eq, Hash)]
 pub enum LineCause {
-    /// The line isn't of the form that can be run so far.
+    /// It has more than 1,000 bytes, without its end.
+    TooLong,
+    /// A byte isn't printable ASCII, a space or a tab.
+    NotText,
+    /// The first line that counts doesn't begin with `sites`, or no line counts.
+    SitesExpected,
+    /// The first word isn't one that a line begins with.
+    UnknownWord,
+    /// A second `sites` or `journal`.
+    Twice,
+    /// A `journal` or an `item` behind an event.
+    TooLate,
+    /// There are too few or too many words. A program counts as one.
+    WrongCount,
+    /// A number isn't one, or isn't in its range.
+    BadNumber,
+    /// A mode isn't `lost`, `kept` or `torn`.
+    BadMode,
+    /// The name of an item isn't a name.
+    BadName,
+    /// An item has the name.
+    NameTaken,
+    /// There are 1,024 items.
+    TooManyItems,
+    /// The program's leftmost fault is at this column, and one of its grammar.
+    ProgramColumn(u32),
+    /// The program's leftmost fault is at this column: a name that no item has.
+    UnknownName(u32),
+    /// The program's leftmost fault is at this column: a token nested deeper than 32.
+    TooDeep(u32),
+    /// The program names no item.
+    NamesNoItem,
+    /// The program names this many items, more than 16.
+    TooManyNames(u32),
+    /// A query has an assignment.
+    QueryAssigns,
+    /// A query has no `return`.
+    NoReturn,
+    /// The line isn't malformed, but can't be run so far. Where a pump is missing at the end, it is told of the number behind
+    /// the last line.
     NotBuilt,
 }
 
@@ -39,7 +119,7 @@ pub enum LineCause {
 pub enum ScriptError {
     /// A line is at fault, and none before it.
     Malformed {
-        /// The line's number, from 1. Where the text is cut short it is the number behind the last line.
+        /// The line's number, from 1. Where no line counts, it is the number behind the last one.
         line: u32,
         /// What is wrong with it.
         cause: LineCause,
@@ -50,9 +130,28 @@ pub enum ScriptError {
 
 impl fmt::Display for LineCause {
     fn fmt<W: fmt::Write>(&self, f: &mut fmt::Formatter<W>) -> fmt::Result {
-        f.write_str(match self {
-            LineCause::NotBuilt => "not built",
-        })
+        match self {
+            LineCause::TooLong => f.write_str("too long"),
+            LineCause::NotText => f.write_str("not text"),
+            LineCause::SitesExpected => f.write_str("sites expected"),
+            LineCause::UnknownWord => f.write_str("unknown word"),
+            LineCause::Twice => f.write_str("twice"),
+            LineCause::TooLate => f.write_str("too late"),
+            LineCause::WrongCount => f.write_str("wrong count"),
+            LineCause::BadNumber => f.write_str("bad number"),
+            LineCause::BadMode => f.write_str("bad mode"),
+            LineCause::BadName => f.write_str("bad name"),
+            LineCause::NameTaken => f.write_str("name taken"),
+            LineCause::TooManyItems => f.write_str("too many items"),
+            LineCause::ProgramColumn(column) => write!(f, "program column {column}"),
+            LineCause::UnknownName(column) => write!(f, "unknown name column {column}"),
+            LineCause::TooDeep(column) => write!(f, "too deep column {column}"),
+            LineCause::NamesNoItem => f.write_str("names no item"),
+            LineCause::TooManyNames(count) => write!(f, "too many names {count}"),
+            LineCause::QueryAssigns => f.write_str("query assigns"),
+            LineCause::NoReturn => f.write_str("no return"),
+            LineCause::NotBuilt => f.write_str("not built"),
+        }
     }
 }
 

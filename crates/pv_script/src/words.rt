@@ -1,9 +1,9 @@
 // The words of a line, and the numbers that words spell.
-ghost use Rattle.std.specs.Prelude.{◌≡◌, ℕ, ℤ, ◌^◌, ◌<◌, ◌↔◌, map, IsTrue, IfOk, IfNone, IfSome};
+ghost use Rattle.std.specs.Prelude.{◌≡◌, ℕ, ℤ, ◌^◌, ◌<◌, map, IsTrue, IfOk, IfNone, IfSome};
 ghost use Rattle.std.specs.List.{list_all};
-ghost use Rattle.pv_model.specs.Program.{fits_i64};
+ghost use Rattle.pv_model.specs.Meaning.{fits_i64};
 ghost use Rattle.pv_base.specs.Name.{is_digit};
-ghost use Rattle.pv_model.specs.Text.{words, digits_of, IsText, IsNumber, IsSigned};
+ghost use Rattle.pv_model.specs.Text.{words, digits_of, is_text_byte, IsNumber, IsSigned};
 
 use crate::lines::is_blank;
 use std::alloc::{AllocError, Global};
@@ -12,11 +12,11 @@ use std::str;
 /// The greatest length of a line that counts, in bytes.
 pub const MAX_LINE: usize = 1000;
 
-/// Whether a line is well formed: short enough, and of printable bytes and tabs alone.
+/// Whether a line has printable bytes and tabs alone.
 pub fn is_text(line: &[u8]) -> bool
-    ensures { IsTrue result ↔ IsText line.now }
+    ensures { result ≡ list_all is_text_byte line.now }
 {
-    line.len() <= MAX_LINE && line.iter().all(|b| matches!(*b, b'\t' | b' '..=b'~'))
+    line.iter().all(|b| matches!(*b, b'\t' | b' '..=b'~'))
 }
 
 /// The words of a line.

@@ -1,9 +1,6 @@
--- The lemma on any lines, of the lines of a text that count.
-use Rattle.std.proofs.Common.{◌+◌, length}
-use Rattle.pv_model.specs.Text.{lines, numbered}
-use Rattle.pv_model.specs.Schedule.{AreSomeSchedule}
-use Rattle.pv_model.proofs.FirstFaultLemmas as lemmas
+-- The lemma on texts.
+use Rattle.pv_model.proofs.OneScheduleLemmas as lemmas
 use Rattle.pv_model.proofs.one_fault.Goals as goal
 
 pub returns : goal.returns
-returns c = λ text m n p q. lemmas.one_fault AreSomeSchedule (numbered text) (length (lines text) + 1) m n p q
+returns c = λ text m n a b is also. lemmas.one_fault text m n a b is also

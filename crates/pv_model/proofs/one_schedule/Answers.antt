@@ -1,7 +1,6 @@
--- The lemma on lines, of the lines of a text that count.
-use Rattle.pv_model.specs.Schedule.{counted}
-use Rattle.pv_model.proofs.ScheduleLemmas as lemmas
+-- The lemma on texts.
+use Rattle.pv_model.proofs.OneScheduleLemmas as lemmas
 use Rattle.pv_model.proofs.one_schedule.Goals as goal
 
 pub returns : goal.returns
-returns c = λ text a b p q. lemmas.one_schedule (counted text) a b p q
+returns c = λ text s t is also. lemmas.one_schedule text s t is also

@@ -1,6 +1,7 @@
 -- What was read is what the source had left, and what was written is the answer to it.
-use Rattle.std.proofs.Common.{◌≤◌, List, ℕ, length, refl, ◌∙◌, subst, sym, arith}
+use Rattle.std.proofs.Common.{◌≡◌, ◌≤◌, None, List, ℕ, length, refl, ◌∙◌, subst, sym, arith}
 use Rattle.pv_model.proofs.Agreement.{replies_agree, reports_agree}
+use Rattle.pv_model.specs.Form.{not_built}
 use Rattle.pv_model.specs.Run.{output_of}
 use Rattle.pv_model.specs.Schedule.{IsSchedule}
 use Rattle.pv_app.proofs.AnswerLemmas.{output_at_done, prefix_of_run, schedule_at_done, status_of_answer, usage_or_fault}
@@ -15,21 +16,27 @@ returns-in-Ok-clause-done g c = λ done input left.
     let same = c.deref.ensures.value ∙ whole.0 in
     let old = g.W.Sink.held c.args.sink.now in
     let new = g.W.Sink.held c.answer.new.sink in
-    let at_done = schedule_at_done c.deref.result.now c.answer.result old new done c.answer.ensures.answered in
-    (whole.1, at_done.0, subst (λ (text : List ℕ). IsSchedule text at_done.0) same at_done.1, at_done.2)
+    let at_done = schedule_at_done c.deref.result.now c.answer.result old new done c.answer.ensures.answered in (
+      whole.1,
+      at_done.0,
+      subst (λ (text : List ℕ). IsSchedule text at_done.0) same at_done.1,
+      subst (λ (text : List ℕ). not_built text ≡ None) same at_done.2,
+      at_done.3,
+    )
 
 pub returns-in-Ok-clause-agreement : goal.returns-in-Ok-clause-agreement
-returns-in-Ok-clause-agreement g c = λ run input left schedule says.
+returns-in-Ok-clause-agreement g c = λ run input left schedule says built.
     let whole = c.in-Ok.ensures.whole input left in
     let same = sym (c.deref.ensures.value ∙ whole.0) in
     let short : length c.deref.result.now ≤ max_input = omega (arith, c.deref.ensures.len, c.in-Ok.ensures.within) in
     let says_read = subst (λ (text : List ℕ). IsSchedule text schedule) same says in
+    let built_read = subst (λ (text : List ℕ). not_built text ≡ None) same built in
     let old = g.W.Sink.held c.args.sink.now in
     let new = g.W.Sink.held c.answer.new.sink in (
       output_of schedule,
       reports_agree schedule,
       replies_agree schedule,
-      c.answer.ensures.prefix Done (output_of schedule) (short, schedule, says_read, refl),
+      c.answer.ensures.prefix Done (output_of schedule) (short, schedule, says_read, built_read, refl),
       output_at_done c.deref.result.now c.answer.result old new schedule c.answer.ensures.answered says_read,
     )
 
@@ -44,15 +51,15 @@ returns-in-Ok-clause-exact g c = λ run input left status output is.
 
 -- Where nothing was written, that is a beginning of any output.
 pub returns-in-Err-Failed-clause-agreement : goal.returns-in-Err-Failed-clause-agreement
-returns-in-Err-Failed-clause-agreement g c = λ run input left schedule says.
+returns-in-Err-Failed-clause-agreement g c = λ run input left schedule says built.
     (output_of schedule, reports_agree schedule, replies_agree schedule, AppendsPrefix-none (g.W.Sink.held c.args.sink.now) (output_of schedule), λ is. cc)
 
 pub returns-in-Err-TooLong-clause-agreement : goal.returns-in-Err-TooLong-clause-agreement
-returns-in-Err-TooLong-clause-agreement g c = λ run input left schedule says.
+returns-in-Err-TooLong-clause-agreement g c = λ run input left schedule says built.
     (output_of schedule, reports_agree schedule, replies_agree schedule, AppendsPrefix-none (g.W.Sink.held c.args.sink.now) (output_of schedule), λ is. cc)
 
 pub returns-in-Err-NoMemory-clause-agreement : goal.returns-in-Err-NoMemory-clause-agreement
-returns-in-Err-NoMemory-clause-agreement g c = λ run input left schedule says.
+returns-in-Err-NoMemory-clause-agreement g c = λ run input left schedule says built.
     (output_of schedule, reports_agree schedule, replies_agree schedule, AppendsPrefix-none (g.W.Sink.held c.args.sink.now) (output_of schedule), λ is. cc)
 
 pub returns-then-not-is_run-clause-no_command : goal.returns-then-not-is_run-clause-no_command

@@ -1,10 +1,10 @@
 -- Each event's step is one step of the run.
-use Rattle.std.proofs.Common.{rules, arith, ℕ, suc, pos, get_or, sym, subst, add-one}
+use Rattle.std.proofs.Common.{rules, arith, ℕ, suc, sym, subst, add-one}
 use Rattle.pv_model.specs.Run.{World}
-use Rattle.pv_script.specs.declared.schedule.Event.TheVariants.{Submit}
 use Rattle.pv_script.specs.View.{event_of, schedule_of}
+use Rattle.pv_app.specs.Ready.{IsReady}
 use Rattle.pv_app.proofs.OutputLemmas.{on_any_err}
-use Rattle.pv_app.proofs.RunLemmas.{IsUnderWay, drop-events_of, start, go_on, give_up}
+use Rattle.pv_app.proofs.RunLemmas.{IsUnderWay, All-next, drop-events_of, start, go_on, give_up}
 use Rattle.pv_app.proofs.run.run.Goals as goal
 
 pub loop-event-init : goal.loop-event-init
@@ -23,10 +23,11 @@ loop-event-preserved g c =
     let schedule = schedule_of c.args.schedule.now in
     let events = c.deref-event-items.result.now in
     let i = c.loop-event.event-index in
-    let event = get_or events i (Submit (pos 0)) in
-    let split = drop-events_of events c.args.schedule.now.events.items c.deref-event-items.ensures.value i (Submit (pos 0)) c.loop-event-test.true in
+    let event = c.event-item.result in
+    let split = drop-events_of events c.args.schedule.now.events.items c.deref-event-items.ensures.value i event c.loop-event-test.true c.event-item.is in
+    let ready = All-next (IsReady schedule.catalog) schedule.events i (event_of event) _ c.requires.ready split in
     let way = go_on first (g.W.Sink.held c.loop-event.sink) next counted_first (g.W.Sink.faults c.loop-event.sink) counted_next schedule c.loop-event.world i (event_of event)
-    c.loop-event.invariant split c.in_ok-step.ensures.writes.written c.in_ok-step.ensures.writes.counted in
+    c.loop-event.invariant split ready c.in_ok-step.ensures.writes.written c.in_ok-step.ensures.writes.counted in
     subst (λ (k : ℕ). IsUnderWay first next counted_first counted_next schedule c.step.new.world k) (sym (add-one i))
     (subst (λ (world : World). IsUnderWay first next counted_first counted_next schedule world (suc i)) (sym c.in_ok-step.ensures.after) way)
 
@@ -35,8 +36,8 @@ returns-in_err-step g c =
     let schedule = schedule_of c.args.schedule.now in
     let events = c.deref-event-items.result.now in
     let i = c.loop-event.event-index in
-    let event = get_or events i (Submit (pos 0)) in
-    let split = drop-events_of events c.args.schedule.now.events.items c.deref-event-items.ensures.value i (Submit (pos 0)) c.loop-event-test.true in
+    let event = c.event-item.result in
+    let split = drop-events_of events c.args.schedule.now.events.items c.deref-event-items.ensures.value i event c.loop-event-test.true c.event-item.is in
     let counted = g.W.Sink.faults c.step.new.sink in
     let failed = c.in_err-step.ensures.writes in
     let first = g.W.Sink.held c.args.sink.now in

@@ -1,35 +1,100 @@
--- The sites, the item and the events make a schedule, and what refuses one of them refuses the text.
-use Rattle.std.proofs.Common.{arith}
+-- Each line is taken in turn, and what refuses one refuses the text.
+use Rattle.std.proofs.Common.{ℕ, List, sym, ap, ◌∙◌, refl, subst, map, arith}
 use Rattle.std.proofs.lemmas.List.{length-map}
 use Rattle.std.proofs.lemmas.Result.{err_from_is_err_and}
+use Rattle.pv_model.specs.FirstFault.{without_numbers}
+use Rattle.pv_model.specs.Schedule.{AreLines, counted}
+use Rattle.pv_model.specs.Text.{Line}
+use Rattle.pv_script.specs.LinesLeft.{LinesLeft}
+use Rattle.pv_script.specs.Said.{before_of}
 use Rattle.pv_script.specs.View.{event_of}
 use Rattle.pv_script.proofs.CountLemmas.{few-events}
-use Rattle.pv_script.proofs.ScheduleLemmas.{Refuses-sites, Refuses-item, name-catalog_of, IsSchedule-read}
+use Rattle.pv_script.proofs.FaultLemmas.{IsAtFaultFrom, fault-takes, lines-takes, refuses-line}
+use Rattle.pv_model.proofs.OneScheduleLemmas.{one_schedule, no_fault}
+use Rattle.pv_script.proofs.ScheduleLemmas.{lines-first, fault-first, plans-takes, begun-takes, IsSchedule-read, error-no_schedule, error-one_fault}
 use Rattle.pv_script.proofs.read.read_schedule.Goals as goal
 
-pub returns-in_err-catalog-clause-first_fault : goal.returns-in_err-catalog-clause-first_fault
-returns-in_err-catalog-clause-first_fault c =
-    let p = err_from_is_err_and c.from_residual-in_err-catalog.result c.from_residual-in_err-catalog.ensures.1 in
-    let sites = c.in_ok-read_sites.ensures in
-    rw (p.1, p.2) (Refuses-sites c.args.text.now c.new-lines.result c.read_sites.new.lines _ c.new-lines.ensures sites.sites sites.behind c.in_err-catalog.ensures.first_fault)
+pub returns-in_err-said-clause-read : goal.returns-in_err-said-clause-read
+returns-in_err-said-clause-read c = λ schedule is.
+    let p = err_from_is_err_and c.from_residual.result c.from_residual.ensures.1 in
+    rw (p.1, p.2) (tt, error-no_schedule c.args.text.now schedule c.in_err-said.field-0.0 (c.in_err-said.ensures.fault c.args.text.now c.new-lines.ensures) is)
 
-pub returns-in_err-events-clause-first_fault : goal.returns-in_err-events-clause-first_fault
-returns-in_err-events-clause-first_fault c =
-    let p = err_from_is_err_and c.from_residual-in_err-events.result c.from_residual-in_err-events.ensures.1 in
-    let sites = c.in_ok-read_sites.ensures in
-    let item = c.in_ok-catalog.ensures.item in
-    let named = name-catalog_of c.in_ok-catalog.catalog item.0 c.name.result.now item.2 c.name.ensures in
-    rw (p.1, p.2) (Refuses-sites c.args.text.now c.new-lines.result c.read_sites.new.lines _ c.new-lines.ensures sites.sites sites.behind (Refuses-item c.read_sites.new.lines c.read_item.new.lines item.0 c.name.result.now _ item.1 named c.in_ok-catalog.ensures.behind c.in_err-events.ensures.first_fault))
+pub returns-in_err-said-clause-refuses : goal.returns-in_err-said-clause-refuses
+returns-in_err-said-clause-refuses c = λ number cause is.
+    let p = err_from_is_err_and c.from_residual.result c.from_residual.ensures.1 in
+    rw (p.1, p.2) (tt, error-one_fault c.args.text.now number cause c.in_err-said.field-0.0 (c.in_err-said.ensures.fault c.args.text.now c.new-lines.ensures) is)
+
+pub loop-line-init : goal.loop-line-init
+loop-line-init c =
+    let declares = c.in_ok-said.ensures.declares in
+    let split = sym (ap (λ (left : LinesLeft). left.numbered) c.new-lines.ensures) ∙ declares.2 in (
+      c.in_ok-said.ensures.limited,
+      rw c.new-events.ensures.items (λ more last are. lines-first c.args.text.now declares.0 declares.1 c.read_first.new.lines.numbered (before_of c.in_ok-said.said) last more split declares.3 are),
+      λ number cause is. fault-first c.args.text.now declares.0 declares.1 c.read_first.new.lines.numbered (before_of c.in_ok-said.said) number cause split declares.3 is,
+      rw c.new-events.ensures.items (λ k d below. absurd (omega arith)),
+      λ quiet. c.new-events.ensures.items,
+    )
+
+pub loop-line-preserved : goal.loop-line-preserved
+loop-line-preserved c = (
+  c.in_ok-read_line.ensures.limited,
+  λ more last are.
+      lines-takes (before_of c.loop-line.said) (before_of c.read_line.new.said) c.read_line.new.said.catalog c.loop-line.events.items c.read_line.new.events.items c.in-Some.line.text.now
+      (without_numbers c.next.new.self.numbered) (counted c.args.text.now) more last c.in_ok-read_line.ensures.takes
+      (λ more last are. c.loop-line.invariant.1 more last (subst (λ (all : List (ℕ × Line)). AreLines (before_of c.loop-line.said) (without_numbers all) more last) (sym c.in-Some.ensures.some) are)) are,
+  λ number cause is.
+      c.loop-line.invariant.2 number cause
+      (subst (λ (all : List (ℕ × Line)). IsAtFaultFrom (before_of c.loop-line.said) all number cause) (sym c.in-Some.ensures.some)
+      (fault-takes (before_of c.loop-line.said) (before_of c.read_line.new.said) c.read_line.new.said.catalog c.loop-line.events.items c.read_line.new.events.items c.in-Some.line.number c.in-Some.line.text.now
+      c.next.new.self.numbered number cause c.in_ok-read_line.ensures.takes is)),
+  plans-takes (before_of c.loop-line.said) (before_of c.read_line.new.said) c.in-Some.line.text.now c.loop-line.said.catalog c.read_line.new.said.catalog c.loop-line.events.items c.read_line.new.events.items
+      c.loop-line.said.catalog.sites refl refl refl c.loop-line.invariant.4 c.loop-line.invariant.3 c.in_ok-read_line.ensures.takes,
+  begun-takes (before_of c.loop-line.said) (before_of c.read_line.new.said) c.in-Some.line.text.now c.read_line.new.said.catalog c.loop-line.events.items c.read_line.new.events.items
+      c.loop-line.said.catalog.sites refl c.loop-line.invariant.4 c.in_ok-read_line.ensures.takes,
+)
+
+pub returns-in_err-read_line-clause-refused : goal.returns-in_err-read_line-clause-refused
+returns-in_err-read_line-clause-refused c =
+    let p = err_from_is_err_and c.from_residual-in_err-read_line.result c.from_residual-in_err-read_line.ensures.1 in
+    rw (p.1, p.2)
+    (refuses-line c.args.text.now (before_of c.loop-line.said) c.in-Some.line.number c.in-Some.line.text.now c.next.new.self.numbered c.in_err-read_line.field-0.0
+    (λ n cause is. c.loop-line.invariant.2 n cause (subst (λ (all : List (ℕ × Line)). IsAtFaultFrom (before_of c.loop-line.said) all n cause) (sym c.in-Some.ensures.some) is))
+    c.in_err-read_line.ensures.fault)
+
+pub returns-in_err-read_line-clause-read : goal.returns-in_err-read_line-clause-read
+returns-in_err-read_line-clause-read c = λ schedule whole.
+    let p = err_from_is_err_and c.from_residual-in_err-read_line.result c.from_residual-in_err-read_line.ensures.1 in
+    rw (p.1, p.2) (
+      tt,
+      error-no_schedule c.args.text.now schedule c.in_err-read_line.field-0.0
+          (refuses-line c.args.text.now (before_of c.loop-line.said) c.in-Some.line.number c.in-Some.line.text.now c.next.new.self.numbered c.in_err-read_line.field-0.0
+          (λ n cause is. c.loop-line.invariant.2 n cause (subst (λ (all : List (ℕ × Line)). IsAtFaultFrom (before_of c.loop-line.said) all n cause) (sym c.in-Some.ensures.some) is))
+          c.in_err-read_line.ensures.fault) whole,
+    )
+
+pub returns-in_err-read_line-clause-refuses : goal.returns-in_err-read_line-clause-refuses
+returns-in_err-read_line-clause-refuses c = λ number fault whole.
+    let p = err_from_is_err_and c.from_residual-in_err-read_line.result c.from_residual-in_err-read_line.ensures.1 in
+    rw (p.1, p.2) (
+      tt,
+      error-one_fault c.args.text.now number fault c.in_err-read_line.field-0.0
+          (refuses-line c.args.text.now (before_of c.loop-line.said) c.in-Some.line.number c.in-Some.line.text.now c.next.new.self.numbered c.in_err-read_line.field-0.0
+          (λ n cause is. c.loop-line.invariant.2 n cause (subst (λ (all : List (ℕ × Line)). IsAtFaultFrom (before_of c.loop-line.said) all n cause) (sym c.in-Some.ensures.some) is))
+          c.in_err-read_line.ensures.fault) whole,
+    )
 
 pub returns-clause-schedule : goal.returns-clause-schedule
 returns-clause-schedule c =
-    let sites = c.in_ok-read_sites.ensures in
-    let item = c.in_ok-catalog.ensures.item in
-    let named = name-catalog_of c.in_ok-catalog.catalog item.0 c.name.result.now item.2 c.name.ensures in
-    IsSchedule-read c.args.text.now c.new-lines.result c.read_sites.new.lines c.read_item.new.lines item.0 c.in_ok-catalog.catalog c.name.result.now _ c.new-lines.ensures sites.sites item.1 item.2 named c.in_ok-events.ensures.events
+    IsSchedule-read c.args.text.now c.loop-line.said (map event_of c.loop-line.events.items) c.loop-line.lines.numbered c.loop-line.invariant.0 c.in_default.ensures.none c.loop-line.invariant.1
+
+pub returns-clause-read : goal.returns-clause-read
+returns-clause-read c = λ schedule is. (one_schedule c.args.text.now _ schedule (returns-clause-schedule c) is, tt)
+
+pub returns-clause-refuses : goal.returns-clause-refuses
+returns-clause-refuses c = λ number cause is. (no_fault c.args.text.now _ number cause (returns-clause-schedule c) is, tt)
 
 pub returns-clause-few : goal.returns-clause-few
 returns-clause-few c =
     let few = few-events c.args.text.now _ (returns-clause-schedule c) in
-    let all = length-map c.in_ok-events.events.items event_of in
-    omega (arith, few, c.in_ok-events.events.ok.0)
+    let all = length-map c.loop-line.events.items event_of in
+    omega (arith, few, c.loop-line.events.ok.0)

@@ -1,0 +1,259 @@
+-- Faults of lines of which the first word is known.
+use Rattle.std.proofs.Common.{◌≡◌, ◌≢◌, ℕ, ◌<◌, ◌≤◌, Bool, true, false, Some, None, List, [], ◌∷◌, length, refl, sym, ap, ◌∙◌, subst, arith, inl, inr, ⊎_elim, zero, suc, not}
+use Rattle.std.specs.Prelude.{codes, IsTrue, ℤ, ◌⊎◌}
+use Rattle.std.specs.List.{list_all, Contains}
+use Rattle.std.specs.Str.{bytes_eq}
+use Rattle.std.proofs.lemmas.Bool.{both_ways, and_from, and_parts}
+use Rattle.std.proofs.lemmas.Slice.Eq.{bytes_eq-Decides}
+use Rattle.pv_base.specs.Name.{is_name}
+use Rattle.pv_base.specs.Catalog.{place_of}
+use Rattle.pv_model.specs.Causes.{Before, at_first, sites_expected, twice, too_late, bad_name, name_taken, too_many_items, BeginsWith, IsSaid, or_default, Has}
+use Rattle.pv_model.specs.LineForms.{Field, number, site, value, mode, name, first_word, forms_of, form_of, fields_of, fields_in, has_good_number}
+use Rattle.pv_model.specs.Text.{Line, IsText, words, IsNumber, IsSigned}
+use Rattle.pv_model.specs.Meaning.{fits_i64}
+use Rattle.pv_script.specs.Faults.{form_among, IsFault, IsLineFault}
+use Rattle.pv_script.specs.Keywords.{command_word, command_forms}
+use Rattle.pv_script.specs.Said.{IsHead}
+use Rattle.pv_script.specs.declared.keyword.Command as code
+use Rattle.pv_script.specs.declared.fault.Fault.TheVariants.{At}
+use Rattle.pv_script.specs.declared.schedule.LineCause.{LineCause}
+use Rattle.pv_script.specs.declared.schedule.LineCause.TheVariants.{SitesExpected, Twice, TooLate, BadName, NameTaken, TooManyItems}
+use Rattle.pv_script.proofs.CauseLemmas.{NoneBefore, none3, none4, none5, none6, none7, none8, none9, none10, none11, none-text, none-known, told, first-line, arguments-line, form_of-line, fields_of-line, IsLineFault-fields}
+use Rattle.pv_script.proofs.KeywordLemmas.{forms-command, plain-command, command-no_sites, command-no_journal, command-no_item, forms-sites, forms-journal, forms-item, plain-sites, plain-journal, plain-item}
+use Rattle.pv_script.proofs.FieldLemmas.{good-site, good-value}
+
+pub some_forms : (forms : List (List Field)) (form : List Field) (more : List (List Field)) → forms ≡ form ∷ more → forms ≢ []
+some_forms forms form more is none = cc
+
+-- ---- words that differ
+
+pub differs : (word other : List ℕ) → bytes_eq word other ≡ false → word ≡ other → ⊥
+differs word other refuted same = both_ways (bytes_eq word other) refuted ((bytes_eq-Decides word other).1 same)
+
+pub begins : (line word other : List ℕ) (args : List (List ℕ)) → words line ≡ word ∷ args → (word ≡ other → ⊥) → BeginsWith other line → ⊥
+begins line word other args are refuted is = refuted (sym (first-line line word args are) ∙ is)
+
+-- ---- commands
+
+known-command : (command : code.Command) → forms_of (command_word command) ≢ []
+known-command command none = some_command command (sym (forms-command command) ∙ none)
+  where
+    some_command : (c : code.Command) → command_forms c ≡ [] → ⊥
+    some_command code.TheVariants.Deliver e = cc
+    some_command code.TheVariants.Pump e = cc
+    some_command code.TheVariants.Lose e = cc
+    some_command code.TheVariants.Drop e = cc
+    some_command code.TheVariants.Tick e = cc
+    some_command code.TheVariants.Stop e = cc
+    some_command code.TheVariants.Start e = cc
+    some_command code.TheVariants.Cut e = cc
+    some_command code.TheVariants.Fail e = cc
+    some_command code.TheVariants.Mend e = cc
+    some_command code.TheVariants.Sent e = cc
+    some_command code.TheVariants.Report e = cc
+    some_command code.TheVariants.Total e = cc
+
+none-command : (before : Before) (line : Line) (command : code.Command) (args : List (List ℕ)) → IsHead before line (command_word command) args → NoneBefore before line 6
+none-command before line command args head =
+    let none = none-known before line (command_word command) args head (known-command command) in
+    none6 before line
+    (none5 before line none
+    (⊎_elim (λ (p : BeginsWith (codes "sites") line × IsSaid before.sites). begins line (command_word command) (codes "sites") args head.words (command-no_sites command) p.0)
+    (λ (p : BeginsWith (codes "journal") line × IsSaid before.journal). begins line (command_word command) (codes "journal") args head.words (command-no_journal command) p.0)))
+    (λ late. ⊎_elim (begins line (command_word command) (codes "journal") args head.words (command-no_journal command)) (begins line (command_word command) (codes "item") args head.words (command-no_item command)) late.0)
+
+pub IsLineFault-command : (before : Before) (line : Line) (sites : ℕ) (command : code.Command) (args : List (List ℕ)) (cause : LineCause)
+    → IsHead before line (command_word command) args → or_default 0 before.sites ≡ sites → IsFault sites (command_forms command) args cause
+    → IsLineFault before line (At cause)
+IsLineFault-command before line sites command args cause head said fault =
+    IsLineFault-fields before line (command_word command) args args cause head.words
+    (arguments-line line (command_word command) args head.words (plain-command command))
+    (none-command before line command args head)
+    (rw (said, forms-command command) fault)
+
+-- ---- the first line
+
+pub IsLineFault-no_sites : (line : Line) → IsText line → (first_word line ≡ codes "sites" → ⊥) → IsLineFault at_first line (At SitesExpected)
+IsLineFault-no_sites line is refuted = told at_first line SitesExpected sites_expected refl (refl, refuted) (none-text at_first line is)
+
+none-first : (line : Line) (args : List (List ℕ)) → IsText line → words line ≡ codes "sites" ∷ args → NoneBefore at_first line 6
+none-first line args is are =
+    none6 at_first line
+    (none5 at_first line
+    (none4 at_first line
+    (none3 at_first line (none-text at_first line is) (λ has. has.1 (first-line line (codes "sites") args are)))
+    (λ unknown. some_forms (forms_of (codes "sites")) (number 1 16 ∷ []) [] forms-sites (ap forms_of (sym (first-line line (codes "sites") args are)) ∙ unknown)))
+    (⊎_elim (λ (p : BeginsWith (codes "sites") line × IsSaid at_first.sites). p.1 refl) (λ (p : BeginsWith (codes "journal") line × IsSaid at_first.journal). p.1 refl)))
+    (λ late. let begun : false ≡ true = late.1 in cc)
+
+pub IsLineFault-sites : (line : Line) (args : List (List ℕ)) (cause : LineCause) → IsText line → words line ≡ codes "sites" ∷ args
+    → IsFault 0 ((number 1 16 ∷ []) ∷ []) args cause → IsLineFault at_first line (At cause)
+IsLineFault-sites line args cause is are fault =
+    IsLineFault-fields at_first line (codes "sites") args args cause are
+    (arguments-line line (codes "sites") args are plain-sites) (none-first line args is are) (rw forms-sites fault)
+
+-- ---- a second `sites`
+
+pub IsLineFault-twice_sites : (before : Before) (line : Line) (args : List (List ℕ)) → IsHead before line (codes "sites") args → IsLineFault before line (At Twice)
+IsLineFault-twice_sites before line args head =
+    told before line Twice twice refl
+    (inl (first-line line (codes "sites") args head.words, λ none. let said = head.said in let refuted : None ≡ Some head.sites = sym none ∙ said in cc))
+    (none-known before line (codes "sites") args head (some_forms (forms_of (codes "sites")) (number 1 16 ∷ []) [] forms-sites))
+
+-- ---- journals
+
+none-journal : (before : Before) (line : Line) (args : List (List ℕ)) → IsHead before line (codes "journal") args → NoneBefore before line 4
+none-journal before line args head =
+    none-known before line (codes "journal") args head (some_forms (forms_of (codes "journal")) (number 32 4294967296 ∷ []) [] forms-journal)
+
+pub IsLineFault-twice_journal : (before : Before) (line : Line) (args : List (List ℕ)) → IsHead before line (codes "journal") args
+    → before.journal ≢ None → IsLineFault before line (At Twice)
+IsLineFault-twice_journal before line args head said =
+    told before line Twice twice refl (inr (first-line line (codes "journal") args head.words, said)) (none-journal before line args head)
+
+none-once : (before : Before) (line : Line) (args : List (List ℕ)) → IsHead before line (codes "journal") args → before.journal ≡ None → NoneBefore before line 5
+none-once before line args head once =
+    none5 before line (none-journal before line args head)
+    (⊎_elim (λ (p : BeginsWith (codes "sites") line × IsSaid before.sites). begins line (codes "journal") (codes "sites") args head.words (differs (codes "journal") (codes "sites") refl) p.0)
+    (λ (p : BeginsWith (codes "journal") line × IsSaid before.journal). p.1 once))
+
+pub IsLineFault-late_journal : (before : Before) (line : Line) (args : List (List ℕ)) → IsHead before line (codes "journal") args
+    → before.journal ≡ None → before.begun ≡ true → IsLineFault before line (At TooLate)
+IsLineFault-late_journal before line args head once late =
+    told before line TooLate too_late refl (inl (first-line line (codes "journal") args head.words), late) (none-once before line args head once)
+
+pub IsLineFault-journal : (before : Before) (line : Line) (args : List (List ℕ)) (cause : LineCause) → IsHead before line (codes "journal") args
+    → before.journal ≡ None → before.begun ≡ false → IsFault (or_default 0 before.sites) ((number 32 4294967296 ∷ []) ∷ []) args cause
+    → IsLineFault before line (At cause)
+IsLineFault-journal before line args cause head once early fault =
+    IsLineFault-fields before line (codes "journal") args args cause head.words
+    (arguments-line line (codes "journal") args head.words plain-journal)
+    (none6 before line (none-once before line args head once) (λ late. both_ways before.begun early late.1))
+    (rw forms-journal fault)
+
+-- ---- items
+
+none-item : (before : Before) (line : Line) (args : List (List ℕ)) → IsHead before line (codes "item") args → NoneBefore before line 5
+none-item before line args head =
+    none5 before line
+    (none-known before line (codes "item") args head (some_forms (forms_of (codes "item")) (name ∷ site ∷ value ∷ []) [] forms-item))
+    (⊎_elim (λ (p : BeginsWith (codes "sites") line × IsSaid before.sites). begins line (codes "item") (codes "sites") args head.words (differs (codes "item") (codes "sites") refl) p.0)
+    (λ (p : BeginsWith (codes "journal") line × IsSaid before.journal). begins line (codes "item") (codes "journal") args head.words (differs (codes "item") (codes "journal") refl) p.0))
+
+pub IsLineFault-late_item : (before : Before) (line : Line) (args : List (List ℕ)) → IsHead before line (codes "item") args
+    → before.begun ≡ true → IsLineFault before line (At TooLate)
+IsLineFault-late_item before line args head late =
+    told before line TooLate too_late refl (inr (first-line line (codes "item") args head.words), late) (none-item before line args head)
+
+none-early : (before : Before) (line : Line) (args : List (List ℕ)) → IsHead before line (codes "item") args → before.begun ≡ false → NoneBefore before line 6
+none-early before line args head early = none6 before line (none-item before line args head) (λ late. both_ways before.begun early late.1)
+
+pub IsLineFault-item : (before : Before) (line : Line) (args : List (List ℕ)) (cause : LineCause) → IsHead before line (codes "item") args
+    → before.begun ≡ false → IsFault (or_default 0 before.sites) ((name ∷ site ∷ value ∷ []) ∷ []) args cause → IsLineFault before line (At cause)
+IsLineFault-item before line args cause head early fault =
+    IsLineFault-fields before line (codes "item") args args cause head.words
+    (arguments-line line (codes "item") args head.words plain-item) (none-early before line args head early) (rw forms-item fault)
+
+-- The fields of a line that declares an item, where the numbers are good.
+pub record IsItemLine (before : Before) (line : Line) (word at digits : List ℕ) : Type 0 where
+  pub head : IsHead before line (codes "item") (word ∷ at ∷ digits ∷ [])
+  pub early : before.begun ≡ false
+  pub n : ℕ
+  pub site : IsNumber at n
+  pub below : n < or_default 0 before.sites
+  pub z : ℤ
+  pub value : IsSigned digits z
+  pub fits : IsTrue (fits_i64 z)
+
+item-form : (line word at digits : List ℕ) → words line ≡ codes "item" ∷ word ∷ at ∷ digits ∷ [] → form_of line ≡ Some (name ∷ site ∷ value ∷ [])
+item-form line word at digits are =
+    form_of-line line (codes "item") (word ∷ at ∷ digits ∷ []) (word ∷ at ∷ digits ∷ []) are (arguments-line line (codes "item") (word ∷ at ∷ digits ∷ []) are plain-item)
+    ∙ ap (λ (forms : List (List Field)). form_among forms (word ∷ at ∷ digits ∷ [])) forms-item
+
+item-fields : (line word at digits : List ℕ) → words line ≡ codes "item" ∷ word ∷ at ∷ digits ∷ [] → fields_of line ≡ (name, word) ∷ (site, at) ∷ (value, digits) ∷ []
+item-fields line word at digits are =
+    fields_of-line line (codes "item") (word ∷ at ∷ digits ∷ []) (word ∷ at ∷ digits ∷ []) are (arguments-line line (codes "item") (word ∷ at ∷ digits ∷ []) are plain-item)
+    ∙ ap (λ (forms : List (List Field)). fields_in (form_among forms (word ∷ at ∷ digits ∷ [])) (word ∷ at ∷ digits ∷ [])) forms-item
+
+-- ---- which fields there are
+
+not_true : (b : Bool) → not b ≡ true → b ≡ false
+not_true true is = sym is
+not_true false is = refl
+
+pub contains-cons : (x y : Field × List ℕ) (xs : List (Field × List ℕ)) → Contains (y ∷ xs) x → (y ≡ x) ⊎ Contains xs x
+contains-cons x y xs (zero, below, same) = inl same
+contains-cons x y xs (suc k, below, same) = inr (k, omega arith, same)
+
+-- No field of this kind is among these.
+pub no_field : (p : Field → Bool) (fields : List (Field × List ℕ)) (field : Field) (word : List ℕ) → list_all (λ (f : Field × List ℕ). not (p f.0)) fields ≡ true → p field ≡ true
+    → Contains fields (field, word) → ⊥
+no_field p [] field word all is has = absurd (let below = has.1 in omega arith)
+no_field p (f ∷ fields) field word all is has =
+    let parts = and_parts (not (p f.0)) (list_all (λ (g : Field × List ℕ). not (p g.0)) fields) all in
+    ⊎_elim
+    (λ (same : f ≡ (field, word)). both_ways (p f.0) (not_true (p f.0) parts.0) (ap (λ (g : Field × List ℕ). p g.0) same ∙ is))
+    (λ more. no_field p fields field word parts.1 is more)
+    (contains-cons (field, word) f fields has)
+
+unfoldable pub is_mode : Field → Bool
+is_mode mode = true
+is_mode _ = false
+
+unfoldable pub is_name_field : Field → Bool
+is_name_field name = true
+is_name_field _ = false
+
+item-no_mode : (line word at digits other : List ℕ) → words line ≡ codes "item" ∷ word ∷ at ∷ digits ∷ [] → Has line mode other → ⊥
+unfolding is_mode
+item-no_mode line word at digits other are has =
+    no_field is_mode ((name, word) ∷ (site, at) ∷ (value, digits) ∷ []) mode other refl refl
+    (subst (λ (fs : List (Field × List ℕ)). Contains fs (mode, other)) (item-fields line word at digits are) has)
+
+-- The name of the item is the one that is there.
+item-name : (line word at digits other : List ℕ) → words line ≡ codes "item" ∷ word ∷ at ∷ digits ∷ [] → Has line name other → word ≡ other
+unfolding is_name_field
+item-name line word at digits other are has =
+    ⊎_elim (λ (same : (name, word) ≡ (name, other)). ap (λ (f : Field × List ℕ). f.1) same)
+    (λ more. absurd (no_field is_name_field ((site, at) ∷ (value, digits) ∷ []) name other refl refl more))
+    (contains-cons (name, other) (name, word) ((site, at) ∷ (value, digits) ∷ [])
+    (subst (λ (fs : List (Field × List ℕ)). Contains fs (name, other)) (item-fields line word at digits are) has))
+
+item-has_name : (line word at digits : List ℕ) → words line ≡ codes "item" ∷ word ∷ at ∷ digits ∷ [] → Has line name word
+item-has_name line word at digits are = subst (λ (fs : List (Field × List ℕ)). Contains fs (name, word)) (sym (item-fields line word at digits are)) (0, omega arith, refl)
+
+-- ---- the name of an item, and the room for it
+
+none-numbers : (before : Before) (line word at digits : List ℕ) → IsItemLine before line word at digits → NoneBefore before line 9
+none-numbers before line word at digits is =
+    let sites = or_default 0 before.sites in
+    none9 before line
+    (none8 before line
+    (none7 before line (none-early before line (word ∷ at ∷ digits ∷ []) is.head is.early)
+    (λ none. let some = item-form line word at digits is.head.words in let refuted : None ≡ Some (name ∷ site ∷ value ∷ []) = sym none ∙ some in cc))
+    (λ bad. both_ways (list_all (has_good_number sites) (fields_of line)) bad
+    (ap (list_all (has_good_number sites)) (item-fields line word at digits is.head.words)
+    ∙ and_from (has_good_number sites (site, at)) _ (good-site sites is.n at is.site is.below) (and_from (has_good_number sites (value, digits)) true (good-value sites is.z digits is.value is.fits) refl))))
+    (λ has. item-no_mode line word at digits has.0 is.head.words has.1)
+
+pub IsLineFault-bad_name : (before : Before) (line word at digits : List ℕ) → IsItemLine before line word at digits → is_name word ≡ false
+    → IsLineFault before line (At BadName)
+IsLineFault-bad_name before line word at digits is refuted =
+    told before line BadName bad_name refl (word, item-has_name line word at digits is.head.words, refuted) (none-numbers before line word at digits is)
+
+none-named : (before : Before) (line word at digits : List ℕ) → IsItemLine before line word at digits → is_name word ≡ true → NoneBefore before line 10
+none-named before line word at digits is named =
+    none10 before line (none-numbers before line word at digits is)
+    (λ has. both_ways (is_name word) (ap is_name (item-name line word at digits has.0 is.head.words has.1) ∙ has.2) named)
+
+pub IsLineFault-taken : (before : Before) (line word at digits : List ℕ) → IsItemLine before line word at digits → is_name word ≡ true
+    → place_of word before.items ≢ None → IsLineFault before line (At NameTaken)
+IsLineFault-taken before line word at digits is named taken =
+    told before line NameTaken name_taken refl (word, item-has_name line word at digits is.head.words, taken) (none-named before line word at digits is named)
+
+pub IsLineFault-full : (before : Before) (line word at digits : List ℕ) → IsItemLine before line word at digits → is_name word ≡ true
+    → place_of word before.items ≡ None → 1024 ≤ length before.items → IsLineFault before line (At TooManyItems)
+IsLineFault-full before line word at digits is named free full =
+    told before line TooManyItems too_many_items refl (first-line line (codes "item") (word ∷ at ∷ digits ∷ []) is.head.words, full)
+    (none11 before line (none-named before line word at digits is named)
+    (λ has. has.2 (ap (λ (w : List ℕ). place_of w before.items) (sym (item-name line word at digits has.0 is.head.words has.1)) ∙ free)))

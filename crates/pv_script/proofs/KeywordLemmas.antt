@@ -1,0 +1,189 @@
+-- Which words lines begin with, and what stands behind each.
+use Rattle.std.proofs.Common.{◌≡◌, ℕ, Bool, true, false, Option, Some, None, List, [], ◌∷◌, map, filter, find, cond, Bor, MatchOption, refl, sym, ap, ◌∙◌}
+use Rattle.std.specs.Prelude.{codes, ◌||◌}
+use Rattle.std.specs.List.{list_all, list_any}
+use Rattle.std.specs.Option.{option_map}
+use Rattle.std.specs.Str.{bytes_eq}
+use Rattle.std.proofs.lemmas.Bool.{and_parts, both_ways}
+use Rattle.std.proofs.lemmas.Slice.Eq.{bytes_eq-Decides}
+use Rattle.pv_model.specs.LineForms.{Field, number, site, value, name, program, line_forms, forms_of, takes_program}
+use Rattle.pv_script.specs.Keywords.{spelled, listed, command_word, command_forms}
+use Rattle.pv_script.specs.declared.keyword.Keyword.{Keyword}
+use Rattle.pv_script.specs.declared.keyword.Command as code
+use Rattle.pv_script.specs.declared.keyword.Command.TheVariants.{Deliver, Pump, Lose, Drop, Tick, Stop, Start, Cut, Fail, Mend, Sent, Report, Total}
+
+none_some : {A : Type 0} (x : A) → None ≡ Some x → ⊥
+none_some x e = cc
+
+-- ---- the forms of each word
+
+pub forms-command : (command : code.Command) → forms_of (command_word command) ≡ command_forms command
+unfolding line_forms
+forms-command Deliver = refl
+forms-command Pump = refl
+forms-command Lose = refl
+forms-command Drop = refl
+forms-command Tick = refl
+forms-command Stop = refl
+forms-command Start = refl
+forms-command Cut = refl
+forms-command Fail = refl
+forms-command Mend = refl
+forms-command Sent = refl
+forms-command Report = refl
+forms-command Total = refl
+
+pub plain-command : (command : code.Command) → takes_program (command_word command) ≡ false
+unfolding takes_program
+plain-command Deliver = refl
+plain-command Pump = refl
+plain-command Lose = refl
+plain-command Drop = refl
+plain-command Tick = refl
+plain-command Stop = refl
+plain-command Start = refl
+plain-command Cut = refl
+plain-command Fail = refl
+plain-command Mend = refl
+plain-command Sent = refl
+plain-command Report = refl
+plain-command Total = refl
+
+-- The word is none of a declaration.
+is_declaration : List ℕ → Bool
+is_declaration word = bytes_eq word (codes "sites") || (bytes_eq word (codes "journal") || bytes_eq word (codes "item"))
+
+no_declaration : (command : code.Command) → is_declaration (command_word command) ≡ false
+unfolding is_declaration
+no_declaration Deliver = refl
+no_declaration Pump = refl
+no_declaration Lose = refl
+no_declaration Drop = refl
+no_declaration Tick = refl
+no_declaration Stop = refl
+no_declaration Start = refl
+no_declaration Cut = refl
+no_declaration Fail = refl
+no_declaration Mend = refl
+no_declaration Sent = refl
+no_declaration Report = refl
+no_declaration Total = refl
+
+declares-sites : is_declaration (codes "sites") ≡ true
+unfolding is_declaration
+declares-sites = refl
+
+declares-journal : is_declaration (codes "journal") ≡ true
+unfolding is_declaration
+declares-journal = refl
+
+declares-item : is_declaration (codes "item") ≡ true
+unfolding is_declaration
+declares-item = refl
+
+pub command-no_sites : (command : code.Command) → command_word command ≡ codes "sites" → ⊥
+command-no_sites command same = both_ways (is_declaration (command_word command)) (no_declaration command) (ap is_declaration same ∙ declares-sites)
+
+pub command-no_journal : (command : code.Command) → command_word command ≡ codes "journal" → ⊥
+command-no_journal command same = both_ways (is_declaration (command_word command)) (no_declaration command) (ap is_declaration same ∙ declares-journal)
+
+pub command-no_item : (command : code.Command) → command_word command ≡ codes "item" → ⊥
+command-no_item command same = both_ways (is_declaration (command_word command)) (no_declaration command) (ap is_declaration same ∙ declares-item)
+
+pub forms-sites : forms_of (codes "sites") ≡ (number 1 16 ∷ []) ∷ []
+unfolding line_forms
+forms-sites = refl
+
+pub forms-journal : forms_of (codes "journal") ≡ (number 32 4294967296 ∷ []) ∷ []
+unfolding line_forms
+forms-journal = refl
+
+pub forms-item : forms_of (codes "item") ≡ (name ∷ site ∷ value ∷ []) ∷ []
+unfolding line_forms
+forms-item = refl
+
+pub forms-submit : forms_of (codes "submit") ≡ (site ∷ program ∷ []) ∷ []
+unfolding line_forms
+forms-submit = refl
+
+pub forms-query : forms_of (codes "query") ≡ (site ∷ program ∷ []) ∷ []
+unfolding line_forms
+forms-query = refl
+
+pub plain-sites : takes_program (codes "sites") ≡ false
+unfolding takes_program
+plain-sites = refl
+
+pub plain-journal : takes_program (codes "journal") ≡ false
+unfolding takes_program
+plain-journal = refl
+
+pub plain-item : takes_program (codes "item") ≡ false
+unfolding takes_program
+plain-item = refl
+
+pub takes-submit : takes_program (codes "submit") ≡ true
+unfolding takes_program
+takes-submit = refl
+
+pub takes-query : takes_program (codes "query") ≡ true
+unfolding takes_program
+takes-query = refl
+
+-- ---- words that are none
+
+-- Bytes that aren't in a table are none of its words.
+unlisted : (bytes : List ℕ) (table : List (Bor (List ℕ) × Keyword)) → listed bytes table ≡ None → list_any (λ entry. bytes_eq bytes entry.0.now) table ≡ false
+unfolding listed
+unlisted bytes [] none = refl
+unlisted bytes (e ∷ table) none = go (bytes_eq bytes e.0.now) (unlisted bytes table) none
+  where
+    go : (b : Bool) → (option_map (λ (entry : Bor (List ℕ) × Keyword). entry.1) (find (λ entry. bytes_eq bytes entry.0.now) table) ≡ None → list_any (λ entry. bytes_eq bytes entry.0.now) table ≡ false)
+        → option_map (λ (entry : Bor (List ℕ) × Keyword). entry.1) (cond b (Some e) (find (λ entry. bytes_eq bytes entry.0.now) table)) ≡ None → b || list_any (λ entry. bytes_eq bytes entry.0.now) table ≡ false
+    go true more is = absurd (none_some e.1 (sym is))
+    go false more is = more is
+
+-- Where each form's word is in the table, bytes that are none of the table's words have no form.
+no_forms : (bytes : List ℕ) (table : List (Bor (List ℕ) × Keyword)) (forms : List (List ℕ × List Field))
+    → list_all (λ form. list_any (λ entry. bytes_eq form.0 entry.0.now) table) forms ≡ true → list_any (λ entry. bytes_eq bytes entry.0.now) table ≡ false
+    → map (λ form. form.1) (filter (λ form. bytes_eq bytes form.0) forms) ≡ []
+no_forms bytes table [] all none = refl
+no_forms bytes table (form ∷ forms) all none = go (bytes_eq bytes form.0) refl (no_forms bytes table forms parts.1 none)
+  where
+    parts : (list_any (λ entry. bytes_eq form.0 entry.0.now) table ≡ true) × (list_all (λ f. list_any (λ entry. bytes_eq f.0 entry.0.now) table) forms ≡ true)
+    parts = and_parts (list_any (λ entry. bytes_eq form.0 entry.0.now) table) (list_all (λ f. list_any (λ entry. bytes_eq f.0 entry.0.now) table) forms) all
+
+    go : (b : Bool) → bytes_eq bytes form.0 ≡ b → map (λ f. f.1) (filter (λ f. bytes_eq bytes f.0) forms) ≡ [] → map (λ f. f.1) (cond b (form ∷ filter (λ f. bytes_eq bytes f.0) forms) (filter (λ f. bytes_eq bytes f.0) forms)) ≡ []
+    go true same more = absurd (both_ways (list_any (λ entry. bytes_eq bytes entry.0.now) table) none (ap (λ (w : List ℕ). list_any (λ (entry : Bor (List ℕ) × Keyword). bytes_eq w entry.0.now) table) ((bytes_eq-Decides bytes form.0).0 same) ∙ parts.0))
+    go false other more = more
+
+pub unlisted-forms : (bytes : List ℕ) (table : List (Bor (List ℕ) × Keyword)) → list_all (λ form. list_any (λ entry. bytes_eq form.0 entry.0.now) table) line_forms ≡ true
+    → listed bytes table ≡ None → forms_of bytes ≡ []
+unlisted-forms bytes table all none = no_forms bytes table line_forms all (unlisted bytes table none)
+
+-- Bytes are spelled as the keyword beside them, where each of the table is.
+pub listed-spelled : (bytes : List ℕ) (table : List (Bor (List ℕ) × Keyword)) (keyword : Keyword)
+    → list_all (λ entry. bytes_eq entry.0.now (spelled entry.1)) table ≡ true → listed bytes table ≡ Some keyword → bytes ≡ spelled keyword
+unfolding listed
+listed-spelled bytes [] keyword all found = absurd (none_some keyword found)
+listed-spelled bytes (e ∷ table) keyword all found = go (bytes_eq bytes e.0.now) refl (listed-spelled bytes table keyword parts.1) found
+  where
+    parts : (bytes_eq e.0.now (spelled e.1) ≡ true) × (list_all (λ entry. bytes_eq entry.0.now (spelled entry.1)) table ≡ true)
+    parts = and_parts (bytes_eq e.0.now (spelled e.1)) (list_all (λ entry. bytes_eq entry.0.now (spelled entry.1)) table) all
+
+    same_keyword : Some e.1 ≡ Some keyword → e.1 ≡ keyword
+    same_keyword is = cc
+
+    go : (b : Bool) → bytes_eq bytes e.0.now ≡ b
+        → (option_map (λ (entry : Bor (List ℕ) × Keyword). entry.1) (find (λ entry. bytes_eq bytes entry.0.now) table) ≡ Some keyword → bytes ≡ spelled keyword)
+        → option_map (λ (entry : Bor (List ℕ) × Keyword). entry.1) (cond b (Some e) (find (λ entry. bytes_eq bytes entry.0.now) table)) ≡ Some keyword → bytes ≡ spelled keyword
+    go true same more is = (bytes_eq-Decides bytes e.0.now).0 same ∙ (bytes_eq-Decides e.0.now (spelled e.1)).0 parts.0 ∙ ap spelled (same_keyword is)
+    go false other more is = more is
+
+-- ---- whatever the answer
+
+pub keyword-answer : (bytes : List ℕ) (table : List (Bor (List ℕ) × Keyword)) (found : Option Keyword) → list_all (λ form. list_any (λ entry. bytes_eq form.0 entry.0.now) table) line_forms ≡ true
+    → list_all (λ entry. bytes_eq entry.0.now (spelled entry.1)) table ≡ true → found ≡ listed bytes table
+    → MatchOption found (forms_of bytes ≡ []) (λ keyword. bytes ≡ spelled keyword)
+keyword-answer bytes table None all each is = unlisted-forms bytes table all (sym is)
+keyword-answer bytes table (Some keyword) all each is = listed-spelled bytes table keyword each (sym is)

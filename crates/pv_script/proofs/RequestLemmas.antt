@@ -1,0 +1,308 @@
+-- Faults of lines with a request, and what such a line says.
+use Rattle.std.proofs.Common.{◌≡◌, ◌≢◌, ℕ, zero, suc, ◌<◌, ◌≤◌, Bool, true, false, not, Some, None, List, [], ◌∷◌, length, cond, get_or, Bor, refl, sym, ap, ◌∙◌, subst, arith, ⊎_elim}
+use Rattle.std.specs.Prelude.{codes, nat_lt, IfSome, if◌then◌else◌}
+use Rattle.std.specs.List.{list_all, Contains}
+use Rattle.std.proofs.lemmas.Bool.{both_ways, and_from, ltb-true, ltb-false}
+use Rattle.pv_check.specs.Refusal.{refusal, refusal_of_query, first_cause}
+use Rattle.pv_check.specs.declared.plan.CheckError.{CheckError}
+use Rattle.pv_check.specs.declared.plan.CheckError.TheVariants as check
+use Rattle.pv_parse.specs.declared.error.ParseError.{ParseError}
+use Rattle.pv_parse.specs.declared.error.ParseError.TheVariants as parse
+use Rattle.pv_parse.specs.Refusals.{refusal_of}
+use Rattle.pv_model.specs.Causes.{Before, declared_by, at_program, names_no_item, too_many_names, query_assigns, no_return, HasProgram, BeginsWith, IsSaid, or_default, Has}
+use Rattle.pv_model.specs.Check.{names, AreItems, has_assignment, has_return}
+use Rattle.pv_model.specs.LineForms.{Field, site, mode, name, program, forms_of, arguments, takes_program, site_and_text, program_text, form_of, fields_of, fields_in, has_good_number}
+use Rattle.pv_model.specs.ProgramText.{malformed, unknown_name, too_deep, IsProgramText, at_fault, IsRefused}
+use Rattle.pv_model.specs.Schedule.{request_word, IsRequest}
+use Rattle.pv_model.specs.Syntax.{Program}
+use Rattle.pv_model.specs.Text.{Line, IsNumber}
+use Rattle.pv_model.proofs.ItemLemmas.{one_items}
+use Rattle.pv_model.proofs.NoRefusalLemmas.{no_refusal}
+use Rattle.pv_model.proofs.ProgramTextLemmas.{one_program_text}
+use Rattle.pv_script.specs.Faults.{texts, form_among, fault_of_parse, fault_of_check, IsFault, IsLineFault}
+use Rattle.pv_script.specs.Said.{IsHead}
+use Rattle.pv_script.specs.declared.fault.Fault.TheVariants.{At}
+use Rattle.pv_script.specs.declared.schedule.LineCause.{LineCause}
+use Rattle.pv_script.specs.declared.schedule.LineCause.TheVariants.{WrongCount, BadNumber, ProgramColumn, UnknownName, TooDeep, NamesNoItem, TooManyNames, QueryAssigns, NoReturn}
+use Rattle.pv_script.proofs.CauseLemmas.{NoneBefore, none5, none6, none7, none8, none9, none10, none11, none12, none13, none14, none15, none16, none-known, told, first-line, arguments-request, form_of-line, fields_of-line, IsLineFault-fields}
+use Rattle.pv_script.proofs.KeywordLemmas.{forms-submit, forms-query, takes-submit, takes-query}
+use Rattle.pv_script.proofs.HeadLemmas.{some_forms, differs, begins, contains-cons, no_field, is_mode, is_name_field}
+use Rattle.pv_script.proofs.FieldLemmas.{good-site}
+
+-- ---- why a program may not run
+
+data Why (m : ℕ) (p : Program) (query : Bool) : CheckError → Type 0 where
+  none : m ≡ 0 → Why m p query check.NoItem
+  many : 16 < m → Why m p query (check.TooManyItems m)
+  assigning : 0 < m → m ≤ 16 → query ≡ true → has_assignment p ≡ true → Why m p query check.Assigns
+  silent : 0 < m → m ≤ 16 → query ≡ true → has_assignment p ≡ false → has_return p ≡ false → Why m p query check.NoReturn
+
+same_error : (e f : CheckError) → Some e ≡ Some f → e ≡ f
+same_error e f is = cc
+
+no_error : (e : CheckError) → None ≡ Some e → ⊥
+no_error e is = cc
+
+why-query : (m : ℕ) (p : Program) (query : Bool) (e : CheckError) → 0 < m → m ≤ 16 → (if query then refusal_of_query p else None) ≡ Some e → Why m p query e
+why-query m p query e some small is = go query refl (has_assignment p) refl (has_return p) refl is
+  where
+    go : (q : Bool) → query ≡ q → (a : Bool) → has_assignment p ≡ a → (r : Bool) → has_return p ≡ r
+        → cond q (cond a (Some check.Assigns) (cond r None (Some check.NoReturn))) None ≡ Some e → Why m p query e
+    go false other a assigns r returns told = absurd (no_error e told)
+    go true asks true assigns r returns told = subst (Why m p query) (same_error check.Assigns e told) (assigning some small asks assigns)
+    go true asks false pure true returns told = absurd (no_error e told)
+    go true asks false pure false quiet told = subst (Why m p query) (same_error check.NoReturn e told) (silent some small asks pure quiet)
+
+why : (m : ℕ) (p : Program) (query : Bool) (e : CheckError) → refusal 16 m p query ≡ Some e → Why m p query e
+why zero p query e is = subst (Why zero p query) (same_error check.NoItem e is) (none refl)
+why (suc m) p query e is = go (nat_lt 16 (suc m)) refl is
+  where
+    go : (b : Bool) → nat_lt 16 (suc m) ≡ b
+        → first_cause (cond b (Some (check.TooManyItems (suc m))) None) (if query then refusal_of_query p else None) ≡ Some e → Why (suc m) p query e
+    go true large told = subst (Why (suc m) p query) (same_error (check.TooManyItems (suc m)) e told) (many (ltb-true 16 (suc m) large))
+    go false small told = why-query (suc m) p query e (omega arith) (ltb-false 16 (suc m) small) told
+
+some_none : (e : CheckError) → Some e ≡ None → ⊥
+some_none e is = cc
+
+answers-query : (p : Program) (query : Bool) → (if query then refusal_of_query p else None) ≡ None → query ≡ true → (has_assignment p ≡ false) × (has_return p ≡ true)
+answers-query p query is asks = go query asks (has_assignment p) refl (has_return p) refl is
+  where
+    go : (q : Bool) → q ≡ true → (a : Bool) → has_assignment p ≡ a → (r : Bool) → has_return p ≡ r
+        → cond q (cond a (Some check.Assigns) (cond r None (Some check.NoReturn))) None ≡ None → (has_assignment p ≡ false) × (has_return p ≡ true)
+    go false other a assigns r returns told = absurd (both_ways false refl other)
+    go true yes_it true assigns r returns told = absurd (some_none check.Assigns told)
+    go true yes_it false pure true returns told = (pure, returns)
+    go true yes_it false pure false quiet told = absurd (some_none check.NoReturn told)
+
+-- where it may run
+why_not : (m : ℕ) (p : Program) (query : Bool) → refusal 16 m p query ≡ None → (0 < m) × (m ≤ 16) × (query ≡ true → (has_assignment p ≡ false) × (has_return p ≡ true))
+why_not zero p query is = absurd (some_none check.NoItem is)
+why_not (suc m) p query is = go (nat_lt 16 (suc m)) refl is
+  where
+    go : (b : Bool) → nat_lt 16 (suc m) ≡ b
+        → first_cause (cond b (Some (check.TooManyItems (suc m))) None) (if query then refusal_of_query p else None) ≡ None
+        → (0 < suc m) × (suc m ≤ 16) × (query ≡ true → (has_assignment p ≡ false) × (has_return p ≡ true))
+    go true large told = absurd (some_none (check.TooManyItems (suc m)) told)
+    go false small told = (omega arith, ltb-false 16 (suc m) small, answers-query p query told)
+
+-- ---- lines
+
+abbrev RequestForms : List (List Field)
+RequestForms = (site ∷ program ∷ []) ∷ []
+
+request-forms : (query : Bool) → forms_of (request_word query) ≡ RequestForms
+request-forms true = forms-query
+request-forms false = forms-submit
+
+request-takes : (query : Bool) → takes_program (request_word query) ≡ true
+request-takes true = takes-query
+request-takes false = takes-submit
+
+request-no_sites : (query : Bool) → request_word query ≡ codes "sites" → ⊥
+request-no_sites true = differs (codes "query") (codes "sites") refl
+request-no_sites false = differs (codes "submit") (codes "sites") refl
+
+request-no_journal : (query : Bool) → request_word query ≡ codes "journal" → ⊥
+request-no_journal true = differs (codes "query") (codes "journal") refl
+request-no_journal false = differs (codes "submit") (codes "journal") refl
+
+request-no_item : (query : Bool) → request_word query ≡ codes "item" → ⊥
+request-no_item true = differs (codes "query") (codes "item") refl
+request-no_item false = differs (codes "submit") (codes "item") refl
+
+none-request : (before : Before) (line : Line) (query : Bool) (args : List (List ℕ)) → IsHead before line (request_word query) args → NoneBefore before line 6
+none-request before line query args head =
+    let none = none-known before line (request_word query) args head (some_forms (forms_of (request_word query)) (site ∷ program ∷ []) [] (request-forms query)) in
+    none6 before line
+    (none5 before line none
+    (⊎_elim (λ (p : BeginsWith (codes "sites") line × IsSaid before.sites). begins line (request_word query) (codes "sites") args head.words (request-no_sites query) p.0)
+    (λ (p : BeginsWith (codes "journal") line × IsSaid before.journal). begins line (request_word query) (codes "journal") args head.words (request-no_journal query) p.0)))
+    (λ late. ⊎_elim (begins line (request_word query) (codes "journal") args head.words (request-no_journal query)) (begins line (request_word query) (codes "item") args head.words (request-no_item query)) late.0)
+
+request-fault : (before : Before) (line : Line) (query : Bool) (args given : List (List ℕ)) (cause : LineCause) → IsHead before line (request_word query) args
+    → arguments line ≡ given → IsFault (or_default 0 before.sites) RequestForms given cause → IsLineFault before line (At cause)
+request-fault before line query args given cause head same fault =
+    IsLineFault-fields before line (request_word query) args given cause head.words same (none-request before line query args head) (rw (request-forms query) fault)
+
+few : (sites : ℕ) (text : List ℕ) (args : List (Bor (List ℕ))) → length args < 2 → IsFault sites RequestForms (site_and_text text (texts args)) WrongCount
+few sites text [] short = refl
+few sites text (a ∷ []) short = refl
+few sites text (a ∷ b ∷ more) short = absurd (omega arith)
+
+pub IsLineFault-short : (before : Before) (line : Line) (query : Bool) (args : List (Bor (List ℕ))) → IsHead before line (request_word query) (texts args)
+    → length args < 2 → IsLineFault before line (At WrongCount)
+IsLineFault-short before line query args head short =
+    request-fault before line query (texts args) (site_and_text (program_text line) (texts args)) WrongCount head
+    (arguments-request line (request_word query) (texts args) head.words (request-takes query)) (few (or_default 0 before.sites) (program_text line) args short)
+
+two_parts : (text : List ℕ) (args : List (Bor (List ℕ))) (d : Bor (List ℕ)) → 2 ≤ length args → site_and_text text (texts args) ≡ (get_or args 0 d).now ∷ text ∷ []
+two_parts text [] d some = absurd (omega arith)
+two_parts text (a ∷ []) d some = absurd (omega arith)
+two_parts text (a ∷ b ∷ more) d some = refl
+
+-- what stands behind the first word of a request
+pub request-given : (before : Before) (line : Line) (query : Bool) (args : List (Bor (List ℕ))) (d : Bor (List ℕ)) → IsHead before line (request_word query) (texts args)
+    → 2 ≤ length args → arguments line ≡ (get_or args 0 d).now ∷ program_text line ∷ []
+request-given before line query args d head some =
+    arguments-request line (request_word query) (texts args) head.words (request-takes query) ∙ two_parts (program_text line) args d some
+
+pub IsLineFault-away : (before : Before) (line : Line) (query : Bool) (args : List (Bor (List ℕ))) (d : Bor (List ℕ)) → IsHead before line (request_word query) (texts args)
+    → 2 ≤ length args → has_good_number (or_default 0 before.sites) (site, (get_or args 0 d).now) ≡ false → IsLineFault before line (At BadNumber)
+IsLineFault-away before line query args d head some wrong =
+    request-fault before line query (texts args) ((get_or args 0 d).now ∷ program_text line ∷ []) BadNumber head (request-given before line query args d head some)
+    ((λ none. cc), rw wrong refl)
+
+-- The line is a request at a site, with this text of a program.
+pub record IsRequestLine (before : Before) (line : Line) (query : Bool) (args : List (List ℕ)) (at text : List ℕ) (n : ℕ) : Type 0 where
+  pub head : IsHead before line (request_word query) args
+  pub given : arguments line ≡ at ∷ text ∷ []
+  pub site : IsNumber at n
+  pub below : n < or_default 0 before.sites
+
+pub request-line : (before : Before) (line : Line) (query : Bool) (args : List (Bor (List ℕ))) (d : Bor (List ℕ)) (text : List ℕ) (n sites : ℕ)
+    → IsHead before line (request_word query) (texts args) → 2 ≤ length args → text ≡ program_text line → IsNumber (get_or args 0 d).now n → n < sites
+    → sites ≡ or_default 0 before.sites → IsRequestLine before line query (texts args) (get_or args 0 d).now text n
+request-line before line query args d text n sites head some same number_is below count =
+    record {
+      head = head;
+      given = request-given before line query args d head some ∙ ap (λ (t : List ℕ). (get_or args 0 d).now ∷ t ∷ []) (sym same);
+      site = number_is;
+      below = omega arith;
+    }
+
+pub is_program : Field → Bool
+is_program program = true
+is_program _ = false
+
+module _ (before : Before) (line : Line) (query : Bool) (args : List (List ℕ)) (at text : List ℕ) (n : ℕ) (is : IsRequestLine before line query args at text n) where
+  form : form_of line ≡ Some (site ∷ program ∷ [])
+  form =
+      form_of-line line (request_word query) args (at ∷ text ∷ []) is.head.words is.given
+      ∙ ap (λ (forms : List (List Field)). form_among forms (at ∷ text ∷ [])) (request-forms query)
+
+  fields : fields_of line ≡ (site, at) ∷ (program, text) ∷ []
+  fields =
+      fields_of-line line (request_word query) args (at ∷ text ∷ []) is.head.words is.given
+      ∙ ap (λ (forms : List (List Field)). fields_in (form_among forms (at ∷ text ∷ [])) (at ∷ text ∷ [])) (request-forms query)
+
+  has_text : Has line program text
+  has_text = subst (λ (fs : List (Field × List ℕ)). Contains fs (program, text)) (sym fields) (1, omega arith, refl)
+
+  only_text : (other : List ℕ) → Has line program other → text ≡ other
+  unfolding is_program
+  only_text other has =
+      ⊎_elim
+      (λ (same : (site, at) ≡ (program, other)). absurd (both_ways (is_program site) refl (ap (λ (f : Field × List ℕ). is_program f.0) same)))
+      (λ more. ⊎_elim (λ (same : (program, text) ≡ (program, other)). ap (λ (f : Field × List ℕ). f.1) same)
+      (λ none. absurd (no_field is_program [] program other refl refl none))
+      (contains-cons (program, other) (program, text) [] more))
+      (contains-cons (program, other) (site, at) ((program, text) ∷ [])
+      (subst (λ (fs : List (Field × List ℕ)). Contains fs (program, other)) fields has))
+
+  no_kind : (p : Field → Bool) (field : Field) (word : List ℕ) → list_all (λ (f : Field × List ℕ). not (p f.0)) ((site, at) ∷ (program, text) ∷ []) ≡ true → p field ≡ true
+      → Has line field word → ⊥
+  no_kind p field word all of has =
+      no_field p ((site, at) ∷ (program, text) ∷ []) field word all of (subst (λ (fs : List (Field × List ℕ)). Contains fs (field, word)) fields has)
+
+  no_mode : (word : List ℕ) → Has line mode word → ⊥
+  unfolding is_mode
+  no_mode word has = no_kind is_mode mode word refl refl has
+
+  no_name : (word : List ℕ) → Has line name word → ⊥
+  unfolding is_name_field
+  no_name word has = no_kind is_name_field name word refl refl has
+
+  none-fields : NoneBefore before line 12
+  none-fields =
+      let sites = or_default 0 before.sites in
+      none12 before line
+      (none11 before line
+      (none10 before line
+      (none9 before line
+      (none8 before line
+      (none7 before line (none-request before line query args is.head)
+      (λ none. let some = form in let never : None ≡ Some (site ∷ program ∷ []) = sym none ∙ some in cc))
+      (λ wrong. both_ways (list_all (has_good_number sites) (fields_of line)) wrong
+      (ap (list_all (has_good_number sites)) fields ∙ and_from (has_good_number sites (site, at)) true (good-site sites n at is.site is.below) refl)))
+      (λ has. no_mode has.0 has.1))
+      (λ has. no_name has.0 has.1))
+      (λ has. no_name has.0 has.1))
+      (λ has. begins line (request_word query) (codes "item") args is.head.words (request-no_item query) has.0)
+
+  pub IsLineFault-parse : (error : ParseError) → length text ≤ 1000 → IfSome (refusal_of error) (IsRefused (declared_by before) text) → IsLineFault before line (fault_of_parse error)
+  IsLineFault-parse (parse.TooLarge m) short refused = absurd (let same = refused.0 in let large = refused.1 in omega arith)
+  IsLineFault-parse (parse.Malformed column) short refused = told before line (ProgramColumn column) (at_program malformed column) refl (text, has_text, refused) none-fields
+  IsLineFault-parse (parse.UnknownName column) short refused = told before line (UnknownName column) (at_program unknown_name column) refl (text, has_text, refused) none-fields
+  IsLineFault-parse (parse.TooDeep column) short refused = told before line (TooDeep column) (at_program too_deep column) refl (text, has_text, refused) none-fields
+  IsLineFault-parse parse.NoMemory short refused = tt
+
+  module _ (p : Program) (program_is : IsProgramText (declared_by before) text p) where
+    has_program : HasProgram before line p
+    has_program = (text, has_text, program_is)
+
+    only_program : (q : Program) → HasProgram before line q → p ≡ q
+    only_program q has =
+        one_program_text (declared_by before) text p q program_is
+        (subst (λ (t : List ℕ). IsProgramText (declared_by before) t q) (sym (only_text has.0 has.1)) has.2)
+
+    none-program : NoneBefore before line 13
+    none-program =
+        none13 before line none-fields
+        (λ kind column has. no_refusal (declared_by before) text p (at_fault kind column) program_is
+        (subst (λ (t : List ℕ). IsRefused (declared_by before) t (at_fault kind column)) (sym (only_text has.0 has.1)) has.2))
+
+    none-some_name : (items : List ℕ) → AreItems p items → 0 < length items → NoneBefore before line 14
+    none-some_name items are some =
+        none14 before line none-program
+        (λ has.
+        let same = only_program has.0 has.1 in
+        both_ways (names p (get_or items 0 0)) (ap (λ (q : Program). names q (get_or items 0 0)) same ∙ has.2 (get_or items 0 0)) (are.each 0 0 some))
+
+    none-few_names : (items : List ℕ) → AreItems p items → 0 < length items → length items ≤ 16 → NoneBefore before line 15
+    none-few_names items are some small =
+        none15 before line (none-some_name items are some)
+        (λ m has.
+        let same = only_program has.0 has.1 in
+        let all : items ≡ has.2 = one_items p items has.2 are (subst (λ (q : Program). AreItems q has.2) (sym same) has.3) in
+        let equal : length items ≡ length has.2 = ap (λ (ns : List ℕ). length ns) all in
+        let count = has.4 in
+        let large = has.5 in
+        omega arith)
+
+    fault-why : (items : List ℕ) → AreItems p items → (e : CheckError) → (e ≡ check.NoItem → (m : ℕ) → names p m ≡ false) → Why (length items) p query e → IsLineFault before line (fault_of_check e)
+    fault-why items are check.NoItem unnamed (none empty) = told before line NamesNoItem names_no_item refl (p, has_program, unnamed refl) none-program
+    fault-why items are (check.TooManyItems m) unnamed (many large) =
+        told before line (TooManyNames (length items)) (too_many_names (length items)) refl (p, has_program, items, are, refl, large) (none-some_name items are (omega arith))
+    fault-why items are check.Assigns unnamed (assigning some small asks assigns) =
+        told before line QueryAssigns query_assigns refl
+        (p, has_program, first-line line (request_word query) args is.head.words ∙ ap request_word asks, assigns)
+        (none-few_names items are some small)
+    fault-why items are check.NoReturn unnamed (silent some small asks pure quiet) =
+        told before line NoReturn no_return refl
+        (p, has_program, first-line line (request_word query) args is.head.words ∙ ap request_word asks, quiet)
+        (none16 before line (none-few_names items are some small)
+        (λ has. both_ways (has_assignment p) pure (ap has_assignment (only_program has.0 has.1) ∙ has.3)))
+    fault-why items are check.NoMemory unnamed never = elim never [ ]
+
+    pub IsLineFault-check : (items : List ℕ) → AreItems p items → (e : CheckError) → (e ≡ check.NoItem → (m : ℕ) → names p m ≡ false)
+        → (e ≢ check.NoMemory → refusal 16 (length items) p query ≡ Some e) → IsLineFault before line (fault_of_check e)
+    IsLineFault-check items are check.NoItem unnamed cause = fault-why items are check.NoItem unnamed (why (length items) p query check.NoItem (cause (λ e. cc)))
+    IsLineFault-check items are (check.TooManyItems m) unnamed cause =
+        fault-why items are (check.TooManyItems m) unnamed (why (length items) p query (check.TooManyItems m) (cause (λ e. cc)))
+    IsLineFault-check items are check.Assigns unnamed cause = fault-why items are check.Assigns unnamed (why (length items) p query check.Assigns (cause (λ e. cc)))
+    IsLineFault-check items are check.NoReturn unnamed cause = fault-why items are check.NoReturn unnamed (why (length items) p query check.NoReturn (cause (λ e. cc)))
+    IsLineFault-check items are check.NoMemory unnamed cause = tt
+
+    pub IsRequest-read : (items : List ℕ) → AreItems p items → refusal 16 (length items) p query ≡ None → IsRequest before n query text p line
+    IsRequest-read items are accepted =
+        let may = why_not (length items) p query accepted in
+        record {
+          more = args;
+          first = is.head.words;
+          at = at;
+          given = is.given;
+          place = (is.site, is.below);
+          is = program_is;
+          may = record { items = items; are = are; some = may.0; few = may.1; answers = may.2 };
+        }

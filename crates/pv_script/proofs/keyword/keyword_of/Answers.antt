@@ -1,0 +1,9 @@
+-- The table has each word that a line begins with, and each is spelled so.
+use Rattle.std.proofs.Common.{refl}
+use Rattle.pv_model.specs.LineForms.{line_forms}
+use Rattle.pv_script.proofs.KeywordLemmas.{keyword-answer}
+use Rattle.pv_script.proofs.keyword.keyword_of.Goals as goal
+
+pub returns : goal.returns
+unfolding line_forms
+returns c = keyword-answer c.args.word.now _ c.listed_in.result refl refl c.listed_in.ensures

@@ -1,0 +1,21 @@
+-- The first line has to be the count of sites, and there has to be one.
+use Rattle.std.proofs.Common.{ap, sym, ◌∙◌, refl}
+use Rattle.pv_model.specs.Causes.{sites_expected}
+use Rattle.pv_script.specs.LinesLeft.{LinesLeft}
+use Rattle.pv_script.proofs.FaultLemmas.{refuses-first, lacks-sites}
+use Rattle.pv_script.proofs.read.read_first.Goals as goal
+
+pub returns-in_default-clause-fault : goal.returns-in_default-clause-fault
+returns-in_default-clause-fault c = λ text same. (
+  sites_expected,
+  refl,
+  lacks-sites text c.behind.result
+      (sym (ap (λ (left : LinesLeft). left.numbered) same) ∙ c.in_default.ensures.none)
+      (c.behind.ensures ∙ c.in_default.ensures.behind ∙ ap (λ (left : LinesLeft). left.behind) same),
+)
+
+pub returns-in-Err-clause-fault : goal.returns-in-Err-clause-fault
+returns-in-Err-clause-fault c = λ text same.
+    rw c.at.ensures
+    (refuses-first text c.in-Some.line.number c.in-Some.line.text.now c.next.new.self.numbered c.in-Err.fault
+    (sym (ap (λ (left : LinesLeft). left.numbered) same) ∙ c.in-Some.ensures.some) c.in-Err.ensures.fault)

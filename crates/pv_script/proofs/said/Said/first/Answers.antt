@@ -1,0 +1,9 @@
+-- A fault of the line's bytes is one of the line.
+use Rattle.std.proofs.lemmas.Result.{err_from_is_err_and}
+use Rattle.pv_model.specs.Causes.{at_first}
+use Rattle.pv_script.proofs.said.Said.first.Goals as goal
+
+pub returns-in_err-words-clause-fault : goal.returns-in_err-words-clause-fault
+returns-in_err-words-clause-fault c =
+    let p = err_from_is_err_and c.from_residual.result c.from_residual.ensures.1 in
+    rw (p.1, p.2) (c.in_err-words.ensures.fault at_first)
