@@ -48,7 +48,7 @@ impl From<NoMemory> for RunEnd {
 }
 
 /// Runs a schedule of one site, and writes what it prints. Takes time in proportion to its events and its output, and for each
-/// transaction to the items, besides what its program takes.
+/// transaction to the parts of its program that run, times the items.
 pub fn run<W: Sink>(alloc: Global, schedule: &Schedule, sink: &mut W) -> Result<(), RunEnd>
     requires numbers { vec_len schedule.now.events < 2 ^ 32 - 1 }
     requires ready { All (IsReady schedule.now.catalog) (schedule_of schedule.now).events }
@@ -142,7 +142,7 @@ fn commit<W: Sink>(
     write_commit(txn, reply, text, sink)
 }
 
-// The line of a submit.
+// The line of a request.
 fn write_txn<W: Sink>(txn: TxnId, text: &mut Vec<u8>, sink: &mut W) -> Result<(), RunEnd>
     ensures { Writes (W.held sink.old) (W.held sink.new) (W.faults sink.old) (W.faults sink.new) result
         (line_text (model.txn txn)) }
@@ -152,7 +152,7 @@ fn write_txn<W: Sink>(txn: TxnId, text: &mut Vec<u8>, sink: &mut W) -> Result<()
     Ok(write_all(sink, text)?)
 }
 
-// The line of a pump.
+// The line of a commit.
 fn write_commit<W: Sink>(
     txn: TxnId,
     reply: Reply,

@@ -6,9 +6,9 @@ ghost use Rattle.std.specs.Prelude.{◌≡◌};
 pub enum Status {
     /// The whole input was read, and the whole text written.
     Done = 0,
-    /// The words aren't a command. The usage line was written.
+    /// The words aren't the one word `run`. The usage line was written.
     Usage = 2,
-    /// The input isn't a schedule that can be run. Its first line at fault was named.
+    /// The input is malformed, or is a schedule that can't be run so far. Its first line at fault was named.
     Malformed = 3,
     /// The input failed. Nothing was written.
     ReadFault = 4,

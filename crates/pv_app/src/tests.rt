@@ -1,4 +1,4 @@
-// The worked examples end to end, and each way to end.
+// The worked examples end to end, and each way to end but for want of memory.
 use super::*;
 use pv_io::{MemSink, MemSource};
 use std::alloc::{AllocError, Global};

@@ -86,8 +86,8 @@ impl<'a> World<'a> {
         self.waiting = Some(program);
     }
 
-    /// Runs the program and commits it. Without memory the world stays as it was. Takes time in proportion to the items,
-    /// besides what the program takes.
+    /// Runs the program and commits it. Without memory the world stays as it was. Takes time in proportion to the parts of
+    /// the program that run, times the items.
     pub fn commit(&mut self, alloc: Global, program: &Program) -> Result<Reply, NoMemory>
         requires number { length self.old.order < 2 ^ 32 - 1 }
         requires items { IsTrue (has_all_items self.old.rows program.now) }

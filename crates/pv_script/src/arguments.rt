@@ -20,7 +20,7 @@ const MAX_PUMP: u64 = 1_000_000;
 // The greatest number of a call that `cut` and `fail` may name.
 const MAX_CALL: u64 = 1000;
 
-/// The count of sites that a schedule may begin with.
+/// The count of sites that the words behind `sites` spell.
 pub fn count_in(args: &[&[u8]]) -> Result<u8, LineCause>
     ensures count { IfOk result (λ n. (word : List ℕ) × (texts args.now ≡ word ∷ []) × IsIn 1 16 word n) }
     ensures fault { (sites : ℕ) → IfErr result (IsFault sites ((field.number 1 16 ∷ []) ∷ []) (texts args.now)) }
@@ -29,7 +29,7 @@ pub fn count_in(args: &[&[u8]]) -> Result<u8, LineCause>
     Ok(count as u8)
 }
 
-/// The limit that a journal may have.
+/// The limit of the journals that the words behind `journal` spell.
 pub fn limit_in(args: &[&[u8]]) -> Result<u64, LineCause>
     ensures limit { IfOk result (λ n. (word : List ℕ) × (texts args.now ≡ word ∷ []) × IsIn 32 (2 ^ 32) word n) }
     ensures fault { (sites : ℕ) → IfErr result (IsFault sites ((field.number 32 (2 ^ 32) ∷ []) ∷ []) (texts args.now)) }
@@ -37,7 +37,7 @@ pub fn limit_in(args: &[&[u8]]) -> Result<u64, LineCause>
     number_alone(args, MIN_JOURNAL, MAX_JOURNAL)
 }
 
-/// The event that a command and what stands behind it are, where there are so many sites.
+/// The event of a command with these words behind it, where there are so many sites.
 pub fn event_in(command: Command, args: &[&[u8]], sites: u8) -> Result<Event, LineCause>
     ensures event { IfOk result (λ event. WordsSay sites (command_word command ∷ texts args.now) (event_of event)) }
     ensures plan { (catalog : Declared) → IfOk result (HasPlan catalog) }

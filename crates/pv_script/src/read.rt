@@ -39,7 +39,7 @@ pub fn read_schedule(alloc: Global, text: &[u8]) -> Result<Schedule, ScriptError
     ensures refuses { (number : ℕ) (cause : Cause) → IsMalformed text.now number cause →
         IfOk result (λ _. ⊥) × IfErr result (λ error. error ≢ ScriptError.NoMemory → IsRefusal number cause error) }
 
-    // Each event has a line of its own.
+    // There are no more events than bytes.
     ensures few { IfOk result (λ schedule. vec_len schedule.events ≤ length text.now) }
 {
     let mut lines = Lines::new(text);

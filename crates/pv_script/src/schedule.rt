@@ -4,7 +4,7 @@ ghost use Rattle.std.specs.Prelude.{◌≡◌};
 use pv_ast::Program;
 use pv_base::{Catalog, Mode, SiteId};
 use pv_check::Plan;
-use std::alloc::{AllocError, AllocFailed};
+use std::alloc::AllocFailed;
 use std::error::Error;
 use std::fmt;
 
@@ -165,16 +165,6 @@ impl fmt::Display for ScriptError {
 }
 
 impl Error for ScriptError {}
-
-impl From<AllocError> for ScriptError {
-    ghost use Rattle.pv_script.specs.declared.schedule.ScriptError.TheVariants as error;
-
-    ghost from_gives = { λ _ e. e ≡ error.NoMemory };
-
-    fn from(_: AllocError) -> Self {
-        ScriptError::NoMemory
-    }
-}
 
 impl<T: Drop> From<AllocFailed<T>> for ScriptError {
     ghost use Rattle.pv_script.specs.declared.schedule.ScriptError.TheVariants as error;

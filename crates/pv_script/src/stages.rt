@@ -64,18 +64,18 @@ fn next(stage: Stage, words: &[&[u8]]) -> Option<Stage>
     }
 }
 
-// What may come behind an item, a report or a request.
+// What may come behind a line of these words, where any line may come.
 fn behind_any(words: &[&[u8]]) -> Option<Stage>
     ensures { option_map stage_of result ≡ stage_behind_word (first_of (texts words.now)) }
 {
     let [first, ..] = words else {
         return None;
     };
-    behind_word(first)
+    stage_behind_word(first)
 }
 
 // What may come behind a line of this first word, where any line may come.
-fn behind_word(word: &[u8]) -> Option<Stage>
+fn stage_behind_word(word: &[u8]) -> Option<Stage>
     ensures { option_map stage_of result ≡ stage_behind_word word.now }
 {
     if is_free(word) {
@@ -112,8 +112,8 @@ fn is_one_site(words: &[&[u8]]) -> bool
     }
 }
 
-// Whether digits are a 1, behind any number of zeros. Of a text that is no schedule other bytes may stand here, which count as
-// their distance from `0`.
+// Whether digits are a 1, behind any number of zeros. Of a text that is no schedule other bytes may stand here: each counts as
+// how far it is behind `0`, and as 0 where it is before it.
 fn is_one(digits: &[u8]) -> bool
     ensures { result ≡ (value_of digits.now == 1) }
 {

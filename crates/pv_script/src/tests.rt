@@ -31,7 +31,7 @@ fn assert_read(rt: &(impl Abort + AllocGlobal), text: &[u8], items: u32, events:
 }
 
 #[test]
-fn a_row_is_read(rt: HostRuntime) {
+fn a_schedule_is_read(rt: HostRuntime) {
     let text = b"sites 1\nitem a 0 100\nsubmit 0 a := a + 1\npump\nreport\n".as_slice();
     match read_schedule(rt.alloc(), text) {
         Ok(schedule) => {
@@ -230,8 +230,7 @@ fn a_catalog_may_be_full(rt: HostRuntime) -> Result<(), Fail> {
     text.extend_from_slice(b"item i0 0 1".as_slice())?;
     assert!(rt; text.len() <= 100_000);
     assert_refused(&rt, text.as_slice(), 1026, LineCause::NameTaken);
-    text.extend_from_slice(b"\n".as_slice())?;
-    text.truncate(text.len() - 12);
+    text.truncate(text.len() - 11);
     text.extend_from_slice(b"item one_more 0 1".as_slice())?;
     assert!(rt; text.len() <= 100_000);
     assert_refused(&rt, text.as_slice(), 1026, LineCause::TooManyItems);
