@@ -3,5 +3,6 @@ pub mod ExprView
 pub mod ExprFalls
 pub mod ProgramView
 pub mod ProgramFalls
+pub mod ReplyExact
 pub mod ReplyView
 pub mod Settled

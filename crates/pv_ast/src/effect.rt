@@ -1,5 +1,6 @@
 // What a program does: the rows afterwards, and a reply.
 use crate::Row;
+use pv_base::Exact;
 use std::marker::Model;
 
 /// Why a program declines.
@@ -22,6 +23,12 @@ pub enum Reply {
     Nothing,
     /// It declined, and changed nothing.
     Declined(Decline),
+}
+
+impl Exact for Reply {
+    ghost use Rattle.pv_ast.specs.ReplyExact.{reply_exact};
+
+    ghost exact = { reply_exact };
 }
 
 /// The rows afterwards, in the same order, and the reply.

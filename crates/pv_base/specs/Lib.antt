@@ -1,5 +1,8 @@
+pub mod Assignment
+pub mod CaseFaults
 pub mod Catalog
 pub mod CatalogView
 pub mod Fault
 pub mod Name
+pub mod Polyvalue
 pub mod Txn

@@ -1,14 +1,9 @@
 // Conditions on the outcomes of transactions, and values under them.
-use crate::TxnId;
+ghost use Rattle.std.specs.Prelude.{◌≡◌};
+ghost use Rattle.pv_base.specs.Polyvalue.{meets};
 
-/// What a condition asks of the outcome of a transaction.
-#[derive(Clone, Copy, Debug, PartialEq, Eq)]
-pub struct Literal {
-    /// The transaction.
-    pub txn: TxnId,
-    /// Whether it has to commit. Else it has to be aborted.
-    pub commits: bool,
-}
+use crate::{Literal, TxnId};
+use std::marker::Model;
 
 /// A value under a condition: it holds where all of the literals are met.
 #[derive(Debug, Drop)]
@@ -17,4 +12,21 @@ pub struct Case<V> {
     pub when: Vec<Literal>,
     /// The value.
     pub value: V,
+}
+
+impl<V> Model for Case<V> {
+    ghost use Rattle.pv_base.specs.Polyvalue as model;
+
+    ghost Value = { model.Case V };
+
+    ghost view = { λ inside. record { when = inside.when.items; value = inside.value } };
+}
+
+/// Whether the assignment in which exactly the transactions of `yes` commit meets every literal.
+pub fn meets(literals: &[Literal], yes: &[TxnId]) -> bool
+    ensures { result ≡ meets literals.now yes.now }
+{
+    literals
+        .iter()
+        .all(|literal| yes.contains(&literal.txn) == literal.commits)
 }

@@ -4,15 +4,21 @@
 mod case;
 mod catalog;
 mod entries;
+mod exact;
 mod failure;
+mod faults;
+mod literal;
 mod mode;
 mod naming;
 mod txn;
 mod want;
 
-pub use case::{Case, Literal};
+pub use case::{Case, meets};
 pub use catalog::{Catalog, CatalogError, ItemId, MAX_ITEMS, MAX_JOURNAL, MAX_SITES, MIN_JOURNAL};
+pub use exact::Exact;
 pub use failure::{Failed, NoMemory};
+pub use faults::{CaseError, HELD_NAMES, NameError, READ_NAMES};
+pub use literal::Literal;
 pub use mode::Mode;
 pub use naming::is_name;
 pub use txn::{SiteId, TxnId, print_txn, push_txn};

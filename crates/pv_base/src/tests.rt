@@ -1,8 +1,9 @@
 // Worked values, beside what the clauses say of all values; that calls which want memory have their answer where there
 // is some; and the texts for people, of which no clause speaks.
 use crate::{
-    Catalog, CatalogError, Failed, ItemId, MAX_ITEMS, MAX_JOURNAL, MIN_JOURNAL, NoMemory, SiteId,
-    TxnId, is_name, print_txn, push_txn,
+    CaseError, Catalog, CatalogError, Failed, HELD_NAMES, ItemId, Literal, MAX_ITEMS, MAX_JOURNAL,
+    MIN_JOURNAL, NameError, NoMemory, READ_NAMES, SiteId, TxnId, is_name, meets, print_txn,
+    push_txn,
 };
 use std::process::Abort;
 use std::test::Fail;
@@ -67,6 +68,29 @@ fn each_refusal_has_its_text(rt: HostRuntime) -> Result<(), Fail> {
 }
 
 #[test]
+fn what_is_wrong_with_cases_is_printed(rt: HostRuntime) -> Result<(), Fail> {
+    let printed = format!(in rt.alloc();
+        "{}; {}; {}; {}; {}",
+        CaseError::TooManyOutcomes(9),
+        CaseError::NotDisjoint(0, 1),
+        CaseError::NotComplete(Vec::new(rt.alloc())),
+        CaseError::NotReduced(2),
+        CaseError::NoMemory
+    )?;
+    assert_eq!(rt;
+        printed.as_str(),
+        "the cases name 9 outcomes; cases 0 and 1 overlap; an assignment meets no case; case 2 isn't canonical; no memory"
+    );
+    let printed = format!(in rt.alloc();
+        "{}; {}",
+        NameError::TooManyOutcomes(9),
+        NameError::NoMemory
+    )?;
+    assert_eq!(rt; printed.as_str(), "the value names 9 outcomes; no memory");
+    Ok(())
+}
+
+#[test]
 fn names_have_1_to_16_bytes(rt: HostRuntime) {
     assert!(rt; is_name(b"a_9".as_slice()));
     assert!(rt; is_name(b"abcdefghijklmnop".as_slice()));
@@ -126,4 +150,37 @@ fn a_copy_is_equal(rt: HostRuntime) -> Result<(), Fail> {
     assert_declares(&rt, &copy, 0, b"left".as_slice(), 2, i64::MIN);
     assert_declares(&rt, &copy, 1, b"right".as_slice(), 1, i64::MAX);
     Ok(())
+}
+
+#[test]
+fn a_condition_is_met_where_each_literal_is(rt: HostRuntime) {
+    let first = TxnId {
+        site: SiteId(0),
+        epoch: 1,
+        number: 0,
+    };
+    let second = TxnId {
+        site: SiteId(1),
+        epoch: 1,
+        number: 0,
+    };
+    let first_commits = Literal {
+        txn: first,
+        commits: true,
+    };
+    let second_aborts = Literal {
+        txn: second,
+        commits: false,
+    };
+    assert!(rt; meets(&[], &[first]));
+    assert!(rt; meets(&[first_commits, second_aborts], &[first]));
+    assert!(rt; meets(&[second_aborts], &[]));
+    assert!(rt; !meets(&[first_commits, second_aborts], &[second, first]));
+    assert!(rt; !meets(&[first_commits, second_aborts], &[]));
+}
+
+#[test]
+fn the_limits_are_seven_and_eight_outcomes(rt: HostRuntime) {
+    assert_eq!(rt; READ_NAMES, 7);
+    assert_eq!(rt; HELD_NAMES, 8);
 }

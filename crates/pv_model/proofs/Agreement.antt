@@ -10,7 +10,8 @@ use Rattle.pv_base.specs.declared.txn.TxnId.{TxnId}
 use Rattle.pv_model.specs.Events.{Event, submit, pump, report, Schedule}
 use Rattle.pv_model.specs.Meaning.{Row, Reply, exec}
 use Rattle.pv_model.specs.Syntax.{Program}
-use Rattle.pv_model.specs.Serial.{Entry, is_same_txn, commits, rows_after, serial, serial_reply, txns}
+use Rattle.pv_base.specs.Assignment.{is_same_txn, commits}
+use Rattle.pv_model.specs.Serial.{Entry, rows_after, serial, serial_reply, txns}
 use Rattle.pv_model.specs.Print.{Printed, txn, commit, line_text, text_of}
 use Rattle.pv_model.specs.Run.{World, opening, declared_rows, txn_of, after_commit, after, lines_of, report_lines, run, output_of, order_from, order_of, output_before, Agrees, RepliesAgree}
 
@@ -39,8 +40,8 @@ is_same_txn-same t =
     rw (site, epoch, number)
 
 commits-among : (before : List TxnId) (t : TxnId) (behind : List TxnId) → commits (before ++ t ∷ behind) t ≡ true
-commits-among [] t behind = ap (λ (b : Bool). b || list_any (is_same_txn t) behind) (is_same_txn-same t)
-commits-among (u ∷ before) t behind = ap (λ (b : Bool). is_same_txn t u || b) (commits-among before t behind) ∙ or-true (is_same_txn t u)
+commits-among [] t behind = ap (λ (b : Bool). b || list_any (λ (u : TxnId). is_same_txn u t) behind) (is_same_txn-same t)
+commits-among (u ∷ before) t behind = ap (λ (b : Bool). is_same_txn u t || b) (commits-among before t behind) ∙ or-true (is_same_txn u t)
 
 all_commit : (before : List TxnId) (order : List Entry) → AllCommit (before ++ txns order) order
 all_commit before [] = tt

@@ -29,3 +29,10 @@ pub mod SomeLineLemmas
 pub mod SomeScheduleLemmas
 pub mod Agreement
 pub mod DeclaredItems
+pub mod AssignmentLemmas
+pub mod PolyvalueLemmas
+pub mod AscendingLemmas
+pub mod NameLemmas
+pub mod MapLemmas
+pub mod TableLemmas
+pub mod ExistenceLemmas

@@ -1,8 +1,8 @@
 -- The serial run: a database of one thread that runs the transactions of an order one after another
 -- (Eswaran, Gray, Lorie, Traiger, 1976).
-use Rattle.std.specs.Prelude.{Bool, ◌&&◌, ◌==◌, List, [], ◌∷◌, map, Option, Some, None, if◌then◌else◌}
-use Rattle.std.specs.List.{list_any}
+use Rattle.std.specs.Prelude.{List, [], ◌∷◌, map, Option, Some, None, if◌then◌else◌}
 use Rattle.pv_base.specs.declared.txn.TxnId.{TxnId}
+use Rattle.pv_base.specs.Assignment.{is_same_txn, commits}
 use Rattle.pv_model.specs.Meaning.{Row, Reply, exec}
 use Rattle.pv_model.specs.Syntax.{Program}
 
@@ -10,13 +10,6 @@ use Rattle.pv_model.specs.Syntax.{Program}
 pub record Entry : Type 0 where
   pub txn : TxnId
   pub program : Program
-
-abbrev pub is_same_txn : TxnId → TxnId → Bool
-is_same_txn t u = t.site.0 == u.site.0 && t.epoch == u.epoch && t.number == u.number
-
--- An assignment is the list of the transactions that commit.
-abbrev pub commits : List TxnId → TxnId → Bool
-commits assignment txn = list_any (is_same_txn txn) assignment
 
 -- the rows after one transaction of the order
 abbrev pub rows_after : List TxnId → List Row → Entry → List Row

@@ -14,6 +14,12 @@ ghost use Rattle.pv_model.specs.Run.{Agrees, RepliesAgree, output_of};
 ghost use Rattle.pv_model.specs.Schedule.{IsSchedule, IsMalformed};
 ghost use Rattle.pv_model.specs.Syntax.{Program};
 
+mod existence;
+mod polyvalue;
+
+pub use existence::{one_choice, one_names, some_canonical, some_choice, some_names};
+pub use polyvalue::{canonical_is_sound, names_what_it_depends_on, one_canonical};
+
 /// A program that declines leaves every row as it was.
 pub fn decline_leaves_rows()
     ensures { (program : Program) (rows : List Row) (decline : Decline) → (exec program rows).reply ≡ declined decline →

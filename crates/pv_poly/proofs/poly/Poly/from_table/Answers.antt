@@ -1,0 +1,13 @@
+use Rattle.pv_base.specs.declared.faults.TheConstants.{HELD_NAMES}
+use Rattle.pv_poly.proofs.PolyvalueFacts.{polyvalue-within}
+use Rattle.pv_poly.proofs.poly.Poly.from_table.Goals as goal
+
+pub invariant_of-result : goal.invariant_of-result
+invariant_of-result g c =
+    polyvalue-within HELD_NAMES c.in_ok-tree.tree c.in_ok-cases.field-0.items c.args.txns.now c.in_ok-cases.ensures c.in_ok-tree.ensures.canonical
+    c.in_ok-tree.ensures.names c.requires.few
+
+pub returns-clause-polyvalue : goal.returns-clause-polyvalue
+returns-clause-polyvalue g c =
+    polyvalue-within HELD_NAMES c.in_ok-tree.tree c.in_ok-cases.field-0.items c.args.txns.now c.in_ok-cases.ensures c.in_ok-tree.ensures.canonical
+    c.in_ok-tree.ensures.names c.requires.few

@@ -1,0 +1,8 @@
+use Rattle.pv_poly.proofs.CountLemmas.{sure-polyvalue}
+use Rattle.pv_poly.proofs.poly.Poly.sure.Goals as goal
+
+pub invariant_of-result : goal.invariant_of-result
+invariant_of-result g c = sure-polyvalue 8 c.args.value (cc (c.in_ok-cases.ensures, c.sure.ensures))
+
+pub returns-clause-polyvalue : goal.returns-clause-polyvalue
+returns-clause-polyvalue g c = sure-polyvalue 8 c.args.value (cc (c.in_ok-cases.ensures, c.sure.ensures))

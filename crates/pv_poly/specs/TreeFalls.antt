@@ -1,0 +1,27 @@
+-- Each side of a test has fewer cases than the test.
+use Rattle.std.specs.Prelude.{◌≡◌, ◌≤◌, ◌+◌, max, false, true, ◌++◌, List, length}
+use Rattle.std.proofs.Common.{arith, length-append}
+use Rattle.std.proofs.lemmas.List.{length-map}
+use Rattle.pv_base.specs.Polyvalue.{Case, under, IsCanonical, sure, tested}
+use Rattle.pv_poly.specs.declared.tree.Node.{Node}
+use Rattle.pv_poly.specs.declared.tree.Node.TheVariants.{Sure, Test}
+use Rattle.pv_poly.specs.declared.tree.Tree.TheDeep.{deep-Node}
+use Rattle.pv_poly.specs.TreeView.{cases_of, IsReduced}
+
+length-under : {V : Type 0} (txn : _) (outcome : _) (cases : List (Case V)) → length (under txn outcome cases) ≡ length cases
+length-under txn outcome cases = length-map cases _
+
+-- how many cases a test has
+length-tested : {V : Type 0} (txn : _) (front back : List (Case V)) → length (under txn false front ++ under txn true back) ≡ length front + length back
+length-tested txn front back =
+    omega (arith, length-append (under txn false front) (under txn true back), length-under txn false front, length-under txn true back)
+
+some_case : {V : Type 0} {cases : List (Case V)} → IsCanonical cases → 1 ≤ length cases
+some_case (sure value) = omega arith
+some_case (tested txn front back f b fb bb d) = omega (arith, some_case f, length-tested txn front back)
+
+-- no side is deeper than the node has cases
+pub depth_le-length-cases : {V : Type 0} (node : Node V) → IsReduced node → max (deep-Node V node) 0 ≤ length (cases_of node)
+depth_le-length-cases (Sure value) r = omega arith
+depth_le-length-cases (Test txn aborted committed) r =
+    omega (arith, some_case r.front_canonical, some_case r.back_canonical, length-tested txn aborted.value committed.value)

@@ -1,0 +1,214 @@
+// Polyvalues, and what is done with them.
+ghost use Rattle.std.specs.Prelude.{◌≡◌, ◌≢◌, ◌<◌, ◌≤◌, ◌^◌, ◌⊎◌, ℕ, Some, Err, List, IsTrue, length, map, IfOk, IfErr, OnOk};
+ghost use Rattle.std.specs.List.{AllPairs, Contains, sum};
+ghost use Rattle.pv_base.specs.Assignment.{precedes, assignments};
+ghost use Rattle.pv_base.specs.CaseFaults.{CaseFault, fault_of, IsJoinFault, IsCanonicalFault};
+ghost use Rattle.pv_base.specs.Polyvalue as model;
+ghost use Rattle.pv_base.specs.Polyvalue.{value_at, names, AreNames, NamesAtMost, IsCanonical, IsSound, IsPolyvalue, AreSameEverywhere, IsChoice, ChoiceNames, IsSettled, AreValues};
+ghost use Rattle.pv_base.specs.declared.txn.TxnId.{TxnId};
+ghost use Rattle.pv_base.specs.declared.faults.TheConstants.{HELD_NAMES};
+
+use crate::copy::copy_cases;
+use crate::count::count_of_both;
+use crate::join::{first_difference, joined};
+use crate::names::names_of;
+use crate::tree::Tree;
+use pv_base::{Case, CaseError, Exact, HELD_NAMES, NameError, NoMemory, TxnId};
+use std::alloc::Global;
+use std::marker::Model;
+
+/// A value that depends on the outcomes of at most [`HELD_NAMES`] transactions: a list of cases, each a value under a condition,
+/// of which every assignment of outcomes meets exactly one (Montgomery, 1979). Of all such lists with the same values it is the
+/// canonical one, so two polyvalues have the same cases exactly where they have the same value at every assignment.
+#[derive(Debug, Drop)]
+pub struct Poly<V> {
+    cases: Vec<Case<V>>,
+}
+
+impl<V> Model for Poly<V> {
+    ghost Value = { List (model.Case V) };
+
+    ghost view = { λ poly. poly.cases.items };
+
+    ghost invariant = { λ poly. model.IsPolyvalue HELD_NAMES poly.cases.items };
+}
+
+impl<V: Exact> Poly<V> {
+    /// The polyvalue that has this value at every assignment.
+    pub fn sure(alloc: Global, value: V) -> Result<Poly<V>, NoMemory>
+        ensures value { IfOk result (λ poly. (assignment : List TxnId) → value_at poly assignment ≡ Some value) }
+        ensures polyvalue { IfOk result (IsPolyvalue HELD_NAMES) }
+    {
+        Ok(Poly {
+            cases: Tree::sure(value).cases(alloc)?,
+        })
+    }
+
+    /// The polyvalue that has the new value where the transaction commits, and else the old one.
+    ///
+    /// `TooManyOutcomes` tells how many outcomes it would name, where these are more than [`HELD_NAMES`]. Takes time in proportion to
+    /// the cases of both and of the result, times the names and, to count these, the logarithm of the literals. Where it is refused, nothing
+    /// else has been made.
+    pub fn choose(
+        alloc: Global,
+        txn: TxnId,
+        new: &Poly<V>,
+        old: &Poly<V>,
+    ) -> Result<Poly<V>, NameError>
+        ensures choice { IfOk result (IsChoice txn new.now old.now) }
+        ensures polyvalue { IfOk result (IsPolyvalue HELD_NAMES) }
+
+        // It is refused exactly where it would name too many. Besides, only memory can fail.
+        ensures refused { (count : ℕ) → ChoiceNames txn new.now old.now count →
+            IfErr result (λ e. e ≢ NameError.NoMemory → (e ≡ NameError.TooManyOutcomes count) × (HELD_NAMES < count)) }
+        ensures refuses { (count : ℕ) → ChoiceNames txn new.now old.now count → HELD_NAMES < count →
+            (result ≡ Err (NameError.TooManyOutcomes count)) ⊎ (result ≡ Err NameError.NoMemory) }
+    {
+        let front = old.settled(alloc, txn, false)?;
+        let back = new.settled(alloc, txn, true)?;
+        if front.same(&back) {
+            return Ok(Poly {
+                cases: front.cases(alloc)?,
+            });
+        }
+        let count = count_of_both(alloc, &front, &back)? + 1;
+        if count > HELD_NAMES {
+            return Err(NameError::TooManyOutcomes(count));
+        }
+        let tree = Tree::choose(alloc, txn, &front, &back)?;
+        Ok(Poly {
+            cases: tree.cases(alloc)?,
+        })
+    }
+
+    /// The value where exactly the transactions of `yes` commit. Takes time in proportion to the literals, times the length of `yes`.
+    pub fn at(&self, yes: &[TxnId]) -> V
+        ensures value { value_at self.now yes.now ≡ Some result }
+    {
+        for case in &self.cases {
+            if pv_base::meets(&case.when, yes) {
+                return case.value;
+            }
+        }
+        unreachable!()
+    }
+
+    /// What the polyvalue is once the outcome of the transaction is known: it has the same values wherever the transaction has that
+    /// outcome, and doesn't name it. Takes time in proportion to the cases, times the names.
+    pub fn settle(&self, alloc: Global, txn: TxnId, commits: bool) -> Result<Poly<V>, NoMemory>
+        ensures settled { IfOk result (IsSettled txn commits self.now) }
+        ensures polyvalue { IfOk result (IsPolyvalue HELD_NAMES) }
+    {
+        let tree = self.settled(alloc, txn, commits)?;
+        Ok(Poly {
+            cases: tree.cases(alloc)?,
+        })
+    }
+
+    // The tree of the polyvalue once the outcome of the transaction is known.
+    fn settled(&self, alloc: Global, txn: TxnId, commits: bool) -> Result<Tree<V>, NoMemory>
+        ensures settled { IfOk result (IsSettled txn commits self.now) }
+        ensures few { IfOk result (NamesAtMost HELD_NAMES) }
+        ensures canonical { IfOk result IsCanonical }
+    {
+        let tree = Tree::from_cases(alloc, &self.cases)?;
+        tree.settle(alloc, txn, commits)
+    }
+
+    /// The transactions that the value depends on, ascending. Takes time in proportion to the literals, times the logarithm of their
+    /// number.
+    pub fn names(&self, alloc: Global) -> Result<Vec<TxnId>, NoMemory>
+        ensures names { IfOk result (λ txns. AreNames self.now txns.items) }
+        ensures few { IfOk result (λ txns. length txns.items ≤ HELD_NAMES) }
+    {
+        names_of(alloc, &self.cases)
+    }
+
+    /// The canonical cases.
+    pub fn cases(&self) -> &[Case<V>]
+        ensures cases { result.now ≡ self.now }
+        ensures polyvalue { IsPolyvalue HELD_NAMES self.now }
+    {
+        &self.cases
+    }
+
+    /// An equal polyvalue, which shares nothing with this one. Takes time in proportion to the literals.
+    pub fn copy(&self, alloc: Global) -> Result<Poly<V>, NoMemory>
+        ensures equal { IfOk result (λ copy. copy ≡ self.now) }
+    {
+        Ok(Poly {
+            cases: copy_cases(alloc, &self.cases)?,
+        })
+    }
+
+    /// The polyvalue of exactly these cases, which have to be its canonical ones.
+    ///
+    /// The first thing that is wrong with them is told, in the order of the errors of [`CaseError`], unless there is no memory. Takes the
+    /// time that [`join`](Poly::join) takes.
+    pub fn from_cases(alloc: Global, cases: Vec<Case<V>>) -> Result<Poly<V>, CaseError>
+        requires few_cases { length cases.items < 2 ^ 32 }
+        requires few_literals { sum (map (λ case. length case.when) cases.items) < 2 ^ 32 }
+        ensures cases { IfOk result (λ poly. poly ≡ cases.items) }
+        ensures polyvalue { IfOk result (IsPolyvalue HELD_NAMES) }
+
+        // It is refused exactly where something is wrong with the cases, and with the first such thing. Besides, only memory can fail.
+        ensures refused { IfErr result (λ e. (fault : CaseFault) → fault_of e ≡ Some fault → IsCanonicalFault HELD_NAMES cases.items fault) }
+        ensures refuses { (fault : CaseFault) → IsCanonicalFault HELD_NAMES cases.items fault →
+            IfErr result (λ e. (e ≡ CaseError.NoMemory) ⊎ (fault_of e ≡ Some fault)) × (IfOk result (λ _. ⊥)) }
+    {
+        let poly = joined(alloc, &cases)?;
+        match first_difference(&cases, &poly.cases) {
+            None => Ok(poly),
+            Some(place) => Err(CaseError::NotReduced(place as u32)),
+        }
+    }
+
+    /// The polyvalue that these cases make up, in any order and not reduced.
+    ///
+    /// The first thing that is wrong with them is told, in the order of the errors of [`CaseError`], unless there is no memory. It is never
+    /// `NotReduced`. Takes time in proportion to the literals, times the logarithm of their number, to find the n names; then to 2^n; and to the
+    /// assignments that each case meets, times n and the literals of the case. Where no cases overlap, they meet 2^n assignments together at most.
+    pub fn join(alloc: Global, cases: Vec<Case<V>>) -> Result<Poly<V>, CaseError>
+        requires few_cases { length cases.items < 2 ^ 32 }
+        requires few_literals { sum (map (λ case. length case.when) cases.items) < 2 ^ 32 }
+        ensures values { IfOk result (λ poly. AreSameEverywhere poly cases.items) }
+        ensures polyvalue { IfOk result (IsPolyvalue HELD_NAMES) }
+        ensures sound { OnOk result (IsSound cases.items) }
+
+        // It is refused exactly where something is wrong with the cases, and with the first such thing. Besides, only memory can fail.
+        ensures refused { IfErr result (λ e. (fault : CaseFault) → fault_of e ≡ Some fault → IsJoinFault HELD_NAMES cases.items fault) }
+        ensures refuses { (fault : CaseFault) → IsJoinFault HELD_NAMES cases.items fault →
+            IfErr result (λ e. (e ≡ CaseError.NoMemory) ⊎ (fault_of e ≡ Some fault)) × (IfOk result (λ _. ⊥)) }
+    {
+        joined(alloc, &cases)
+    }
+
+    /// The value at every assignment of these transactions, which are ascending: "doesn't commit" before "commits", and the first
+    /// transaction the most significant. Each of the others doesn't commit. Takes time in proportion to the literals and to the
+    /// assignments, times the names.
+    pub fn table(&self, alloc: Global, txns: &[TxnId]) -> Result<Vec<V>, NoMemory>
+        requires ascending { AllPairs (λ txn later. IsTrue (precedes txn later)) txns.now }
+        ensures values { IfOk result (λ values. AreValues self.now txns.now values.items) }
+    {
+        let tree = Tree::from_cases(alloc, &self.cases)?;
+        let mut values = Vec::new(alloc);
+        tree.push_table(txns, &mut values)?;
+        Ok(values)
+    }
+
+    /// The polyvalue that has these values at the assignments of these transactions, in the order of [`table`](Poly::table). Takes time in
+    /// proportion to the values, times the transactions.
+    pub fn from_table(alloc: Global, txns: &[TxnId], values: &[V]) -> Result<Poly<V>, NoMemory>
+        requires ascending { AllPairs (λ txn later. IsTrue (precedes txn later)) txns.now }
+        requires few { length txns.now ≤ HELD_NAMES }
+        requires whole { length values.now ≡ 2 ^ length txns.now }
+        ensures values { IfOk result (λ poly. AreValues poly txns.now values.now) }
+        ensures names { IfOk result (λ poly. (txn : TxnId) → IsTrue (names poly txn) → Contains txns.now txn) }
+        ensures polyvalue { IfOk result (IsPolyvalue HELD_NAMES) }
+    {
+        let tree = Tree::from_table(alloc, txns, values)?;
+        Ok(Poly {
+            cases: tree.cases(alloc)?,
+        })
+    }
+}

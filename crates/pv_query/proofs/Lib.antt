@@ -1,0 +1,5 @@
+pub mod RepeatLemmas
+pub mod AnswerLemmas
+pub mod SumLemmas
+pub mod OutcomeLemmas
+pub mod EverySumLemmas

@@ -1,0 +1,88 @@
+-- The outcomes that several values name together.
+use Rattle.std.proofs.Common.{◌≡◌, ⊎_elim, ℕ, suc, ◌+◌, ◌*◌, ◌<◌, ◌≤◌, List, [], ◌∷◌, length, get_or, take, drop, refl, sym, ap, subst, ◌∙◌, arith}
+use Rattle.std.specs.Prelude.{map, All, ◌++◌, IsTrue}
+use Rattle.std.specs.List.{Contains, flat_map, list_any}
+use Rattle.std.proofs.Math.Nat.{mul-suc}
+use Rattle.std.proofs.lemmas.Bool.{or_cases, false≢true}
+use Rattle.std.proofs.lemmas.List.{append_assoc, append-nil, at_drop_more, drop_all, take_more, length-append}
+use Rattle.std.proofs.lemmas.List.Elements.{All-append, All-nil, All-cons, All-head, All-tail, Contains-append_left, Contains-append_right}
+use Rattle.std.proofs.lemmas.List.Folds.{list_any-append}
+use Rattle.pv_base.specs.declared.literal.Literal.{Literal}
+use Rattle.pv_base.specs.declared.txn.TxnId.{TxnId}
+use Rattle.pv_base.specs.Assignment.{is_same_txn}
+use Rattle.pv_base.specs.Polyvalue.{Case, names, AreNames, IsPolyvalue}
+use Rattle.pv_poly.specs.Names.{txns_of}
+use Rattle.pv_model.proofs.NameLemmas.{some-names, listed-named}
+use Rattle.pv_model.proofs.AscendingLemmas.{fewer-ascending}
+
+among-more : (limit count : ℕ) (own rest : List TxnId) → length own ≤ limit → length rest ≤ limit * count → length (own ++ rest) ≤ limit * (suc count)
+among-more limit count own rest first others = omega (arith, length-append own rest, first, others, mul-suc limit count)
+
+-- What holds of the values so far, and of the next, holds of one more.
+pub All-take-next : {X : Type 0} (P : X → Type 0) (xs : List X) (i : ℕ) (x : X) → i < length xs → x ≡ get_or xs i x → P x → All P (take i xs) → All P (take (i + 1) xs)
+All-take-next P xs i x within is holds before =
+    subst (All P) (sym (take_more xs i x within))
+    (All-append P (take i xs) (get_or xs i x ∷ []) before (All-cons P (get_or xs i x) [] (subst P is holds) (All-nil P)))
+
+module _ {V : Type 0} where
+  -- the cases of all the values, one after another
+  abbrev pub together : List (List (Case V)) → List (Case V)
+  together values = flat_map (λ cases. cases) values
+
+  txns_of-append : (cases others : List (Case V)) → txns_of (cases ++ others) ≡ (txns_of cases ++ txns_of others)
+  txns_of-append [] others = refl
+  txns_of-append (case ∷ cases) others =
+      ap (λ (rest : List TxnId). map (λ (literal : Literal). literal.txn) case.when ++ rest) (txns_of-append cases others)
+      ∙ sym (append_assoc (map (λ (literal : Literal). literal.txn) case.when) (txns_of cases) (txns_of others))
+
+  -- One more value is read.
+  pub outcomes-next : (values : List (List (Case V))) (whole txns more : List TxnId) (i : ℕ) (value cases : List (Case V)) → i < length values → value ≡ get_or values i value
+      → cases ≡ value → whole ≡ (txns ++ txns_of (together (drop i values))) → more ≡ (txns ++ txns_of cases)
+      → whole ≡ (more ++ txns_of (together (drop (i + 1) values)))
+  outcomes-next values whole txns more i value cases within is same all read =
+      let rest = together (drop (i + 1) values) in
+      all ∙ at_drop_more (λ (left : List (List (Case V))). txns ++ txns_of (together left)) values i value within
+      ∙ ap (λ (first : List (Case V)). txns ++ txns_of (first ++ rest)) (sym is)
+      ∙ ap (λ (list : List TxnId). txns ++ list) (txns_of-append value rest)
+      ∙ ap (λ (first : List (Case V)). txns ++ (txns_of first ++ txns_of rest)) (sym same)
+      ∙ sym (append_assoc txns (txns_of cases) (txns_of rest))
+      ∙ ap (λ (list : List TxnId). list ++ txns_of rest) (sym read)
+
+  -- All of them are read.
+  pub outcomes-end : (values : List (List (Case V))) (whole txns : List TxnId) (i : ℕ) → length values ≤ i → whole ≡ (txns ++ txns_of (together (drop i values))) → whole ≡ txns
+  outcomes-end values whole txns i past all =
+      all ∙ ap (λ (rest : List (List (Case V))). txns ++ txns_of (together rest)) (drop_all i values past) ∙ append-nil txns
+
+  -- Some list no longer than this has all that values name together.
+  record AreAmong (count : ℕ) (values : List (List (Case V))) (txns : List TxnId) : Type 0 where
+    pub few : length txns ≤ count
+    pub whole : (txn : TxnId) → IsTrue (names (together values) txn) → Contains txns txn
+
+  in-either : (txn : TxnId) (cases others : List (Case V)) (txns us : List TxnId) → (IsTrue (names cases txn) → Contains txns txn) → (IsTrue (names others txn) → Contains us txn)
+      → IsTrue (names (cases ++ others) txn) → Contains (txns ++ us) txn
+  in-either txn cases others txns us left right named =
+      ⊎_elim
+      (λ here. Contains-append_left txns us txn (left here))
+      (λ there. Contains-append_right txns us txn (right there))
+      (or_cases (names cases txn) (names others txn)
+      (sym (list_any-append (λ (case : Case V). list_any (λ (literal : Literal). is_same_txn txn literal.txn) case.when) cases others) ∙ named))
+
+  some-among : (limit : ℕ) (values : List (List (Case V))) → All (IsPolyvalue limit) values → (txns : List TxnId) × AreAmong (limit * length values) values txns
+  some-among limit [] all = ([], record { few = omega arith; whole = λ txn named. absurd (false≢true named) })
+  some-among limit (value ∷ values) all =
+      let own = some-names value in
+      let rest = some-among limit values (All-tail (IsPolyvalue limit) value values all) in
+      let first = All-head (IsPolyvalue limit) value values all in (
+        own.0 ++ rest.0,
+        record {
+          few = among-more limit (length values) own.0 rest.0 (first.few own.0 own.1) rest.1.few;
+          whole = λ txn. in-either txn value (together values) own.0 rest.0 (own.1.whole txn) (rest.1.whole txn);
+        },
+      )
+
+  -- Values that name few outcomes each name not many together.
+  pub few-together : (limit : ℕ) (values : List (List (Case V))) (txns : List TxnId) → All (IsPolyvalue limit) values → AreNames (together values) txns
+      → length txns ≤ limit * length values
+  few-together limit values txns all are =
+      let among = some-among limit values all in
+      omega (arith, fewer-ascending txns among.0 are.ascending (λ t h. among.1.whole t (listed-named (together values) txns are t h)), among.1.few)

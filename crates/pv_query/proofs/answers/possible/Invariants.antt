@@ -1,0 +1,12 @@
+-- The replies so far, and those that the cases left bring, are the possible ones.
+use Rattle.std.proofs.Common.{◌≡◌, drop}
+use Rattle.std.specs.Prelude.{◌++◌, map}
+use Rattle.pv_base.specs.Polyvalue.{Case}
+use Rattle.pv_ast.specs.contracts.effect.ReplyPartialEq.TheImpl as reply_eq
+use Rattle.pv_model.specs.Answers.{possible}
+use Rattle.pv_query.proofs.RepeatLemmas.{left_of}
+use Rattle.pv_query.proofs.answers.possible.Given as goal
+
+abbrev pub invariant-loop-case : goal.invariant-loop-case
+invariant-loop-case l =
+    (l.replies.items ++ left_of reply_eq.ghosts.eq l.replies.items (map (λ (case : Case _). case.value) (drop l.case-index l.case-items))) ≡ possible reply_eq.ghosts.eq l.reply

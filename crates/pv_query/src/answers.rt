@@ -1,0 +1,43 @@
+// The possible answers of a reply, and the certain one.
+ghost use Rattle.std.specs.Prelude.{◌≡◌, List, Some, All, IfOk, IfSome, IsSomeAnd};
+ghost use Rattle.std.specs.List.{Contains};
+ghost use Rattle.pv_base.specs.Polyvalue.{value_at};
+ghost use Rattle.pv_base.specs.declared.txn.TxnId.{TxnId};
+ghost use Rattle.pv_ast.specs.declared.effect.Reply.{Reply};
+ghost use Rattle.pv_model.specs.Answers.{possible, certain};
+
+use crate::repeats::push_new;
+use pv_ast::Reply;
+use pv_base::NoMemory;
+use pv_poly::Poly;
+use std::alloc::Global;
+
+/// Every reply that some outcomes give, each once, in the order of the cases. Takes time in proportion to the cases, times the
+/// different replies.
+pub fn possible(alloc: Global, reply: &Poly<Reply>) -> Result<Vec<Reply>, NoMemory>
+    ensures possible { IfOk result (λ replies. replies.items ≡ possible ⟦<Reply as PartialEq>⟧.eq reply.now) }
+
+    // They are the replies at all assignments: no reply is left out, and each is given at some assignment.
+    ensures every { (assignment : List TxnId) → IfOk result (λ replies. IsSomeAnd (value_at reply.now assignment) (Contains replies.items)) }
+    ensures each { IfOk result (λ replies. All (λ possible. (assignment : List TxnId) × (value_at reply.now assignment ≡ Some possible)) replies.items) }
+{
+    let mut replies = Vec::new(alloc);
+    for case in reply.cases() {
+        push_new(&mut replies, case.value)?;
+    }
+    Ok(replies)
+}
+
+/// The reply that every assignment of outcomes gives, if there is one. Takes the same time whatever the reply is.
+pub fn certain(reply: &Poly<Reply>) -> Option<Reply>
+    ensures certain { result ≡ certain ⟦<Reply as PartialEq>⟧.eq reply.now }
+
+    // It is the reply at every assignment, and where there is such a reply it is told.
+    ensures every { (assignment : List TxnId) → IfSome result (λ answer. value_at reply.now assignment ≡ Some answer) }
+    ensures told { (given : Reply) → ((assignment : List TxnId) → value_at reply.now assignment ≡ Some given) → result ≡ Some given }
+{
+    match reply.cases() {
+        [case] => Some(case.value),
+        _ => None,
+    }
+}

@@ -1,0 +1,4 @@
+pub mod OutcomeLemmas
+pub mod EffectLemmas
+pub mod WriteLemmas
+pub mod LawLemmas

@@ -1,0 +1,53 @@
+// The outcomes that reads name together.
+ghost use Rattle.std.specs.Prelude.{◌≡◌, ◌≢◌, ◌<◌, ◌≤◌, ◌⊎◌, List, Err, length, IfOk, IfErr, OnOk};
+ghost use Rattle.pv_base.specs.Polyvalue.{AreNames};
+ghost use Rattle.pv_base.specs.declared.txn.TxnId.{TxnId};
+ghost use Rattle.pv_model.specs.Alternatives.{all_cases};
+
+use crate::SplitError;
+use pv_base::{NoMemory, READ_NAMES, TxnId};
+use pv_poly::{Read, ordered, push_names};
+use std::alloc::Global;
+
+/// The outcomes that the reads name together, ascending. Takes time in proportion to the literals of the reads, times the logarithm of their
+/// number.
+pub(crate) fn outcomes_of(alloc: Global, reads: &[Read]) -> Result<Vec<TxnId>, SplitError>
+    ensures names { IfOk result (λ txns. AreNames (all_cases reads.now) txns.items) }
+    ensures few { IfOk result (λ txns. length txns.items ≤ READ_NAMES) }
+
+    // It is refused exactly where they are too many. Besides, only memory can fail.
+    ensures refused { (txns : List TxnId) → AreNames (all_cases reads.now) txns →
+        IfErr result (λ e. e ≢ SplitError.NoMemory → (e ≡ SplitError.OutcomeLimit (length txns)) × (READ_NAMES < length txns)) }
+    ensures refuses { (txns : List TxnId) → AreNames (all_cases reads.now) txns → READ_NAMES < length txns →
+        (result ≡ Err (SplitError.OutcomeLimit (length txns))) ⊎ (result ≡ Err SplitError.NoMemory) }
+{
+    limited(named_in(alloc, reads)?)
+}
+
+// The same, however many they are.
+fn named_in(alloc: Global, reads: &[Read]) -> Result<Vec<TxnId>, NoMemory>
+    ensures { IfOk result (λ txns. AreNames (all_cases reads.now) txns.items) }
+{
+    let mut txns = Vec::new(alloc);
+    for read in reads {
+        push_names(&mut txns, read.value.cases())?;
+    }
+    Ok(ordered(txns))
+}
+
+// These, unless they are too many. Of 2^32 and more, which take 48 GiB, not even the number can be told.
+fn limited(txns: Vec<TxnId>) -> Result<Vec<TxnId>, SplitError>
+    ensures same { IfOk result (λ kept. kept.items ≡ txns.items) }
+    ensures few { OnOk result (length txns.items ≤ READ_NAMES) }
+    ensures refused { IfErr result (λ e. e ≢ SplitError.NoMemory → (e ≡ SplitError.OutcomeLimit (length txns.items)) × (READ_NAMES < length txns.items)) }
+    ensures refuses { READ_NAMES < length txns.items →
+        (result ≡ Err (SplitError.OutcomeLimit (length txns.items))) ⊎ (result ≡ Err SplitError.NoMemory) }
+{
+    let Ok(count) = u32::try_from(txns.len()) else {
+        return Err(SplitError::NoMemory);
+    };
+    if count > READ_NAMES {
+        return Err(SplitError::OutcomeLimit(count));
+    }
+    Ok(txns)
+}
