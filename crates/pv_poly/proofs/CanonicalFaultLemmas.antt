@@ -1,24 +1,18 @@
 -- What is wrong with cases that have to be canonical, once it is known whether they can be joined.
-use Rattle.std.proofs.Common.{◌≡◌, ℕ, zero, suc, ◌≤◌, ◌<◌, ◌⊎◌, ⊎_elim, inl, inr, List, Some, length, sym, ap, subst, arith}
+use Rattle.std.proofs.Common.{◌≡◌, ℕ, ◌≤◌, ◌<◌, ◌⊎◌, ⊎_elim, inl, inr, List, Some, length, sym, ap, subst}
 use Rattle.std.specs.Prelude.{slice_get}
+use Rattle.std.proofs.lemmas.Bool.{cases_lt}
 use Rattle.pv_base.specs.declared.faults.CaseError.{CaseError}
 use Rattle.pv_base.specs.declared.faults.CaseError.TheVariants.{NoMemory}
 use Rattle.pv_base.specs.declared.txn.TxnId.{TxnId}
 use Rattle.pv_base.specs.CaseFaults.{CaseFault, too_many, unreduced, fault_of, IsJoinFault, names_too_many, IsCanonicalFault, are_no_polyvalue, is_not_reduced, DifferFrom}
 use Rattle.pv_base.specs.Polyvalue.{Case, IsCanonical, IsSound, AreNames, AreSameEverywhere}
+use Rattle.pv_model.proofs.Basics.{Some_inj}
 use Rattle.pv_model.proofs.NameLemmas.{some-names}
 use Rattle.pv_model.proofs.PolyvalueLemmas.{one-canonical}
 use Rattle.pv_poly.proofs.CaseFaultLemmas.{no-case-fault, one-list-fault}
 use Rattle.pv_poly.proofs.DifferenceLemmas.{tells-or-memory}
 use Rattle.pv_poly.proofs.GapLemmas.{sound-disjoint, sound-complete}
-
-Some-same : {A : Type 0} {a b : A} → Some a ≡ Some b → a ≡ b
-Some-same e = cc
-
-le-or-lt : (m n : ℕ) → (m ≤ n) ⊎ (n < m)
-le-or-lt zero n = inl (omega arith)
-le-or-lt (suc m) zero = inr (omega arith)
-le-or-lt (suc m) (suc n) = ⊎_elim (λ within. inl (omega (arith, within))) (λ above. inr (omega (arith, above))) (le-or-lt m n)
 
 module _ {V : Type 0} (limit : ℕ) (cases : List (Case V)) where
   -- What says why they can't be joined says why they aren't a polyvalue in canonical form.
@@ -37,9 +31,9 @@ module _ {V : Type 0} (limit : ℕ) (cases : List (Case V)) where
       (tells-or-memory e)
 
   module _ (none : (fault : CaseFault) → IsJoinFault limit cases fault → ⊥) where
-    few-names : (txns : List TxnId) → AreNames cases txns → (length txns ≤ limit) ⊎ (limit < length txns) → length txns ≤ limit
-    few-names txns are (inl few) = few
-    few-names txns are (inr more) = absurd (none (too_many (length txns)) (names_too_many txns are more))
+    few-names : (txns : List TxnId) → AreNames cases txns → (limit < length txns) ⊎ (length txns ≤ limit) → length txns ≤ limit
+    few-names txns are (inr few) = few
+    few-names txns are (inl more) = absurd (none (too_many (length txns)) (names_too_many txns are more))
 
     -- Nothing is wrong with canonical cases.
     pub canonical-fault : IsCanonical cases → (fault : CaseFault) → IsCanonicalFault limit cases fault → ⊥
@@ -52,11 +46,11 @@ module _ {V : Type 0} (limit : ℕ) (cases : List (Case V)) where
       pub unreduced-fault : (place : ℕ) → DifferFrom cases poly place → IsCanonicalFault limit cases (unreduced place)
       unreduced-fault place differ =
           let txns = some-names cases in
-          is_not_reduced txns.0 txns.1 (few-names txns.0 txns.1 (le-or-lt (length txns.0) limit))
+          is_not_reduced txns.0 txns.1 (few-names txns.0 txns.1 (cases_lt limit (length txns.0)))
           (sound-disjoint cases sound) (sound-complete cases sound) poly canonical same place differ
 
       pub unreduced-told : (place : ℕ) → DifferFrom cases poly place → (fault : CaseFault) → Some (unreduced place) ≡ Some fault → IsCanonicalFault limit cases fault
-      unreduced-told place differ fault told = subst (λ f. IsCanonicalFault limit cases f) (Some-same told) (unreduced-fault place differ)
+      unreduced-told place differ fault told = subst (λ f. IsCanonicalFault limit cases f) (Some_inj told) (unreduced-fault place differ)
 
       pub unreduced-alone : (place : ℕ) → DifferFrom cases poly place → (fault : CaseFault) → IsCanonicalFault limit cases fault → Some (unreduced place) ≡ Some fault
       unreduced-alone place differ fault is = ap Some (one-list-fault limit cases (unreduced place) fault (unreduced-fault place differ) is)

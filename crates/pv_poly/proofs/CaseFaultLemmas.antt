@@ -10,16 +10,13 @@ use Rattle.pv_base.specs.CaseFaults.{CaseFault, too_many, overlap, gap, unreduce
 use Rattle.pv_model.proofs.Basics.{Some_inj}
 use Rattle.pv_model.proofs.NameLemmas.{one-names}
 use Rattle.pv_model.proofs.PolyvalueLemmas.{one-canonical}
+use Rattle.pv_poly.proofs.CountLemmas.{same-count}
 use Rattle.pv_poly.proofs.OverlapLemmas.{one-first-overlap}
 use Rattle.pv_poly.proofs.GapLemmas.{found-passes}
 
 module _ {V : Type 0} where
   same-names : (cases : List (Case V)) (txns us : List TxnId) → AreNames cases txns → AreNames cases us → txns ≡ us
   same-names cases txns us are them = one-names cases cases txns us (λ t. refl) are them
-
-  -- how many names there are
-  same-count : (cases : List (Case V)) (txns us : List TxnId) → AreNames cases txns → AreNames cases us → length txns ≡ length us
-  same-count cases txns us are them = ap length (same-names cases txns us are them)
 
   no-gap : (cases : List (Case V)) (txns a : List TxnId) → AreComplete cases → IsFirstGap cases txns a → ⊥
   no-gap cases txns a whole first =
@@ -28,7 +25,7 @@ module _ {V : Type 0} where
   pub no-case-fault : (limit : ℕ) (cases : List (Case V)) (txns : List TxnId) → AreNames cases txns → length txns ≤ limit → AreDisjoint cases → AreComplete cases
       → (f : CaseFault) → IsJoinFault limit cases f → ⊥
   no-case-fault limit cases txns are few apart whole f (names_too_many us them more) =
-      omega (arith, few, more, same-count cases txns us are them)
+      omega (arith, few, more, same-count txns us are them)
   no-case-fault limit cases txns are few apart whole f (are_not_disjoint us them few' p q first) = apart p q first.overlaps
   no-case-fault limit cases txns are few apart whole f (are_not_complete us them few' apart' a first) = no-gap cases us a whole first
 
@@ -44,7 +41,7 @@ module _ {V : Type 0} where
   is-the-overlap : (limit : ℕ) (cases : List (Case V)) (txns : List TxnId) → AreNames cases txns → length txns ≤ limit → (p q : ℕ) → IsFirstOverlap cases p q
       → (g : CaseFault) → IsJoinFault limit cases g → overlap p q ≡ g
   is-the-overlap limit cases txns are few p q first g (names_too_many us them more) =
-      absurd (omega (arith, few, more, same-count cases txns us are them))
+      absurd (omega (arith, few, more, same-count txns us are them))
   is-the-overlap limit cases txns are few p q first g (are_not_disjoint us them few' x y other) = one-overlap-fault cases p q x y first other
   is-the-overlap limit cases txns are few p q first g (are_not_complete us them few' apart a other) = absurd (apart p q first.overlaps)
 
@@ -52,7 +49,7 @@ module _ {V : Type 0} where
   is-the-gap : (limit : ℕ) (cases : List (Case V)) (txns : List TxnId) → AreNames cases txns → length txns ≤ limit → AreDisjoint cases → (a : List TxnId)
       → IsFirstGap cases txns a → (g : CaseFault) → IsJoinFault limit cases g → gap a ≡ g
   is-the-gap limit cases txns are few apart a first g (names_too_many us them more) =
-      absurd (omega (arith, few, more, same-count cases txns us are them))
+      absurd (omega (arith, few, more, same-count txns us are them))
   is-the-gap limit cases txns are few apart a first g (are_not_disjoint us them few' x y other) = absurd (apart x y other.overlaps)
   is-the-gap limit cases txns are few apart a first g (are_not_complete us them few' apart' b other) =
       ap (λ (c : List TxnId). gap c) (one-gap cases txns us a b (same-names cases txns us are them) first other)
@@ -60,11 +57,11 @@ module _ {V : Type 0} where
   -- the fault where there are too many names
   is-the-count : (limit : ℕ) (cases : List (Case V)) (txns : List TxnId) → AreNames cases txns → limit < length txns
       → (g : CaseFault) → IsJoinFault limit cases g → too_many (length txns) ≡ g
-  is-the-count limit cases txns are more g (names_too_many us them more') = ap (λ (n : ℕ). too_many n) (same-count cases txns us are them)
+  is-the-count limit cases txns are more g (names_too_many us them more') = ap (λ (n : ℕ). too_many n) (same-count txns us are them)
   is-the-count limit cases txns are more g (are_not_disjoint us them few x y other) =
-      absurd (omega (arith, few, more, same-count cases txns us are them))
+      absurd (omega (arith, few, more, same-count txns us are them))
   is-the-count limit cases txns are more g (are_not_complete us them few apart b other) =
-      absurd (omega (arith, few, more, same-count cases txns us are them))
+      absurd (omega (arith, few, more, same-count txns us are them))
 
   pub one-case-fault : (limit : ℕ) (cases : List (Case V)) (f g : CaseFault) → IsJoinFault limit cases f → IsJoinFault limit cases g → f ≡ g
   one-case-fault limit cases f g (names_too_many txns are more) other = is-the-count limit cases txns are more g other

@@ -1,13 +1,14 @@
 -- Cases on a way down a decision tree: how they are put under the way, and where the sides of a test meet in their list.
 use Rattle.std.proofs.Common.{◌≡◌, ℕ, ◌+◌, ◌<◌, ◌≤◌, Bool, true, false, List, [], ◌∷◌, ◌++◌, map, length, take, drop, get_or, refl, sym, ap, ap₂, ◌∙◌, subst, append_assoc, arith, ltb, suc, add-one, drop-cons}
 use Rattle.std.specs.List.{position_or_len}
-use Rattle.std.proofs.lemmas.List.{map-append, drop-drop, drop_all, length-map, length-append}
+use Rattle.std.proofs.lemmas.List.{map-append, drop-drop, drop_all, length-map}
 use Rattle.std.proofs.lemmas.Bool.Decides.{nat_tests}
 use Rattle.pv_base.specs.declared.literal.Literal.{Literal}
 use Rattle.pv_base.specs.declared.txn.TxnId.{TxnId}
 use Rattle.pv_base.specs.Polyvalue.{Case, under, IsCanonical, sure, tested}
 use Rattle.pv_model.proofs.Basics.{heads, tails}
 use Rattle.pv_poly.specs.CasesAt.{asks_commit, behind, beyond}
+use Rattle.pv_poly.specs.TreeFalls.{length-under, length-tested, some_case}
 use Rattle.pv_poly.specs.TreeView.{AreSides}
 
 module _ {V : Type 0} where
@@ -77,20 +78,8 @@ parts-mapped f (x ∷ xs) (y ∷ front) back e =
     (λ i. first i ∷ rest.0 i, rest.1)
 
 module _ {V : Type 0} where
-  length-under : (txn : TxnId) (outcome : Bool) (cases : List (Case V)) → length (under txn outcome cases) ≡ length cases
-  length-under txn outcome cases = length-map cases _
-
   length-beyond : (depth : ℕ) (cases : List (Case V)) → length (beyond depth cases) ≡ length cases
   length-beyond depth cases = length-map cases _
-
-  pub length-tested : (txn : TxnId) (front back : List (Case V)) → length (under txn false front ++ under txn true back) ≡ length front + length back
-  length-tested txn front back =
-      omega (arith, length-append (under txn false front) (under txn true back), length-under txn false front, length-under txn true back)
-
-  pub some-case : {cases : List (Case V)} → IsCanonical cases → 1 ≤ length cases
-  some-case (sure value) = omega arith
-  some-case (tested txn front back f b fb bb d) =
-      omega (arith, some-case f, length-tested txn front back)
 
   -- The second side begins at the first case whose literal asks for a commit.
   place-of-back : (depth : ℕ) (txn : TxnId) (front : List (Case V)) (next : Case V) (back cases : List (Case V)) →
@@ -132,14 +121,14 @@ module _ {V : Type 0} where
         sides = subst (λ t. AreSides t front (next ∷ back)) same sides;
         front_is = beyond-under depth txn false _ front (subst (λ n. beyond depth (take n cases) ≡ under txn false front) long parts.0);
         back_is = beyond-under depth txn true _ (next ∷ back) (subst (λ n. beyond depth (drop n cases) ≡ under txn true (next ∷ back)) long parts.1);
-        some_before = omega (arith, some-case sides.front_canonical);
+        some_before = omega (arith, some_case sides.front_canonical);
         some_behind = omega (arith, ap length e, length-beyond depth cases, length-tested txn front (next ∷ back));
       })
 
   cut-sides : (depth : ℕ) (cases : List (Case V)) (txn : TxnId) (front back : List (Case V)) →
       beyond depth cases ≡ under txn false front ++ under txn true back → AreSides txn front back → (literal : Literal) → txn ≡ literal.txn →
       IsCut depth cases literal (position_or_len (λ case. asks_commit (drop depth case.when)) cases)
-  cut-sides depth cases txn front [] e sides literal same = absurd (omega (arith, some-case sides.back_canonical))
+  cut-sides depth cases txn front [] e sides literal same = absurd (omega (arith, some_case sides.back_canonical))
   cut-sides depth cases txn front (next ∷ back) e sides literal same = cut-some depth cases txn front next back e sides literal same
 
   -- the transaction of the first literal beyond this depth is the tested one
@@ -165,7 +154,7 @@ module _ {V : Type 0} where
       )
   cut-by depth cases whole (tested txn front back f b fb bb d) e first at literal more begins =
       cut-sides depth cases txn front back e (record { front_canonical = f; back_canonical = b; front_behind = fb; back_behind = bb; differ = d }) literal
-      (first-txn depth cases txn front back (some-case f) e first at literal more begins)
+      (first-txn depth cases txn front back (some_case f) e first at literal more begins)
 
   -- Cases that are canonical beyond a depth, and of which the first has a literal there, are those of a test.
   pub cut-at : (depth : ℕ) (cases : List (Case V)) → IsCanonical (beyond depth cases) → (first : Case V) → first ≡ get_or cases 0 first →
@@ -179,7 +168,7 @@ module _ {V : Type 0} where
   sure-by depth (case ∷ cases) whole (sure value) e first at ends =
       let same = ap (λ (k : Case V). k.value) at ∙ ap (λ (k : Case V). k.value) (heads e) in
       e ∙ (λ i. record { when = []; value = sym same i } ∷ [])
-  sure-by depth cases whole (tested txn [] back f b fb bb d) e first at ends = absurd (omega (arith, some-case f))
+  sure-by depth cases whole (tested txn [] back f b fb bb d) e first at ends = absurd (omega (arith, some_case f))
   sure-by depth [] whole (tested txn (next ∷ front) back f b fb bb d) e first at ends = absurd (let none : ⊥ = cc in none)
   sure-by depth (case ∷ cases) whole (tested txn (next ∷ front) back f b fb bb d) e first at ends =
       absurd (

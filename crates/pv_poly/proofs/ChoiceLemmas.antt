@@ -6,10 +6,11 @@ use Rattle.pv_base.specs.Assignment.{precedes, commits}
 use Rattle.pv_base.specs.Polyvalue.{Case, value_at, names, NamesOnlyAfter, under, IsCanonical, IsChoice, IsSettled}
 use Rattle.pv_base.specs.Polyvalue.IsCanonical.{tested}
 use Rattle.pv_model.proofs.AssignmentLemmas.{precedes-irrefl, precedes-trans, order-of-two}
-use Rattle.pv_model.proofs.PolyvalueLemmas.{behind-unnamed, value_at-tested, names-tested}
+use Rattle.pv_model.proofs.PolyvalueLemmas.{value_at-tested, names-tested}
 use Rattle.pv_poly.specs.From.{NamesFrom, IsFirst, IsFirstOf, IsSide, before, first_of}
 use Rattle.pv_poly.specs.TreeView.{AreSides}
-use Rattle.pv_poly.proofs.TestLemmas.{AtTest, test-named, test-front, test-back, test-value}
+use Rattle.pv_poly.proofs.TopOfTree.{IsTested}
+use Rattle.pv_poly.proofs.TestLemmas.{test-named, test-front, test-back, test-value}
 
 -- Two facts of the value of a result give a third one.
 pub both-ok : {T E : Type 0} (P Q R : T → Type 0) (result : Result T E) → IfOk result P → IfOk result Q → ((x : T) → P x → Q x → R x) → IfOk result R
@@ -20,14 +21,6 @@ module _ {V : Type 0} where
   -- What the cases of a tree may name that was made of two others.
   abbrev pub NamesOfBoth : TxnId → List (Case V) → List (Case V) → List (Case V) → Type 0
   NamesOfBoth txn front back cases = (named : TxnId) → IsTrue (names cases named) → (txn ≡ named) ⊎ (IsTrue (names front named) ⊎ IsTrue (names back named))
-
-  -- A test of equal sides is either side.
-  either-side : (b : Bool) {front back : List (Case V)} → front ≡ back → front ≡ (if b then back else front)
-  either-side true same = same
-  either-side false same = refl
-
-  pub equal-choice : (txn : TxnId) {front back : List (Case V)} → front ≡ back → IsChoice txn back front front
-  equal-choice txn same a = ap (λ (c : List (Case V)). value_at c a) (either-side (commits a txn) same)
 
   -- A new test, whose sides were put into boxes.
 
@@ -112,15 +105,12 @@ module _ {V : Type 0} where
 
   -- The outcome of a transaction is settled.
 
-  pub side-settled : {txn : TxnId} {outcome : Bool} {cases side : List (Case V)} → IsSide txn outcome cases side → IsSettled txn outcome cases side
-  side-settled {txn} {side = side} is = record { same = is.same; unnamed = behind-unnamed txn side is.behind }
-
   settled-sides : (b : Bool) (a : List TxnId) (front back front' back' : List (Case V)) → value_at front' a ≡ value_at front a → value_at back' a ≡ value_at back a
       → value_at (if b then back' else front') a ≡ value_at (if b then back else front) a
   settled-sides true a front back front' back' first second = second
   settled-sides false a front back front' back' first second = first
 
-  pub test-settled : {txn t : TxnId} {outcome : Bool} {cases after front back front' back' : List (Case V)} → AtTest cases t front back → IsTrue (precedes t txn)
+  pub test-settled : {txn t : TxnId} {outcome : Bool} {cases after front back front' back' : List (Case V)} → IsTested t front back cases → IsTrue (precedes t txn)
       → IsSettled txn outcome front front' → IsSettled txn outcome back back' → IsChoice t back' front' after → NamesOfBoth t front' back' after
       → IsSettled txn outcome cases after
   test-settled {txn} {t} {outcome} {cases} {after} {front} {back} {front'} {back'} at early first second choice kept =
@@ -132,7 +122,7 @@ module _ {V : Type 0} where
             (kept txn named));
       }
 
-  pub test-settled-names : {t : TxnId} {cases front back : List (Case V)} (front' back' after : List (Case V)) → AtTest cases t front back
+  pub test-settled-names : {t : TxnId} {cases front back : List (Case V)} (front' back' after : List (Case V)) → IsTested t front back cases
       → ((u : TxnId) → IsTrue (names front' u) → IsTrue (names front u)) → ((u : TxnId) → IsTrue (names back' u) → IsTrue (names back u))
       → NamesOfBoth t front' back' after → (u : TxnId) → IsTrue (names after u) → IsTrue (names cases u)
   test-settled-names {cases = cases} front' back' after at first second kept u named =
@@ -151,13 +141,7 @@ module _ {V : Type 0} where
   pub record AreChosen (t txn : TxnId) (outcome : Bool) (front back front' back' chosen : List (Case V)) : Type 0 where
     pub front_side : IsSide t outcome front front'
     pub back_side : IsSide t outcome back back'
-    pub choice : IsChoice txn back' front' chosen
     pub names : NamesOfBoth txn front' back' chosen
-
-  chosen-at : {t txn : TxnId} {outcome : Bool} {front back front' back' chosen : List (Case V)} → AreChosen t txn outcome front back front' back' chosen
-      → (b : Bool) (a : List TxnId) → commits a t ≡ outcome → value_at (if b then back' else front') a ≡ value_at (if b then back else front) a
-  chosen-at are true a is = are.back_side.same a is
-  chosen-at are false a is = are.front_side.same a is
 
   pub chosen-behind : {t txn : TxnId} {outcome : Bool} {front back front' back' chosen : List (Case V)} → AreChosen t txn outcome front back front' back' chosen
       → IsTrue (precedes t txn) → NamesOnlyAfter t chosen
@@ -166,17 +150,6 @@ module _ {V : Type 0} where
       (λ same. subst (λ (w : TxnId). IsTrue (precedes t w)) same early)
       (⊎_elim (are.front_side.behind u) (are.back_side.behind u))
       (are.names u named)
-
-  chosen-value : {t txn : TxnId} {front back front0 back0 front1 back1 without with : List (Case V)} → (b : Bool) (a : List TxnId) → commits a t ≡ b
-      → AreChosen t txn false front back front0 back0 without → AreChosen t txn true front back front1 back1 with
-      → value_at (if b then with else without) a ≡ value_at (if commits a txn then back else front) a
-  chosen-value {txn = txn} true a is first second = second.choice a ∙ chosen-at second (commits a txn) a is
-  chosen-value {txn = txn} false a is first second = first.choice a ∙ chosen-at first (commits a txn) a is
-
-  pub both-chosen : {t txn : TxnId} {front back front0 back0 front1 back1 without with : List (Case V)} (cases : List (Case V))
-      → AreChosen t txn false front back front0 back0 without → AreChosen t txn true front back front1 back1 with → IsChoice t with without cases
-      → IsChoice txn back front cases
-  both-chosen {t} cases first second choice a = choice a ∙ chosen-value (commits a t) a refl first second
 
   chosen-names : {t txn : TxnId} {outcome : Bool} {front back front' back' chosen : List (Case V)} → AreChosen t txn outcome front back front' back' chosen
       → NamesOfBoth txn front back chosen

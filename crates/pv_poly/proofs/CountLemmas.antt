@@ -28,10 +28,6 @@ module _ {V : Type 0} where
       → (cases : List (Case V)) → IsChoice txn new old cases → IsChoice txn back front cases
   choice-settled {txn} first second cases choice a = choice a ∙ settled-side first second (commits a txn) a refl
 
-  pub settled-choice : {txn : TxnId} {new old front back : List (Case V)} → IsSettled txn false old front → IsSettled txn true new back
-      → (cases : List (Case V)) → IsChoice txn back front cases → IsChoice txn new old cases
-  settled-choice {txn} first second cases choice a = choice a ∙ sym (settled-side first second (commits a txn) a refl)
-
   -- What the canonical cases of a choice name.
 
   -- two values that don't name the transaction, and the canonical cases of the choice by it

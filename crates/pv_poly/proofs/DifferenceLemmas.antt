@@ -1,21 +1,19 @@
 -- Lists are equal, or differ first at some place.
-use Rattle.std.proofs.Common.{◌≡◌, ◌⊎◌, ℕ, zero, suc, ◌<◌, ◌≤◌, min, List, [], ◌∷◌, length, take, Some, inl, inr, refl, sym, ap, ap₂, ◌∙◌, arith, length-take}
+use Rattle.std.proofs.Common.{◌≡◌, ◌⊎◌, ℕ, zero, suc, ◌<◌, ◌≤◌, List, [], ◌∷◌, length, take, Some, inl, inr, refl, sym, ap₂, arith}
 use Rattle.std.specs.Prelude.{slice_get}
-use Rattle.std.proofs.lemmas.Option.{slice_get_past}
+use Rattle.std.proofs.lemmas.Option.{none-some}
 use Rattle.pv_base.specs.declared.faults.CaseError.{CaseError}
 use Rattle.pv_base.specs.declared.faults.CaseError.TheVariants.{TooManyOutcomes, NotDisjoint, NotComplete, NotReduced, NoMemory}
-use Rattle.pv_base.specs.Polyvalue.{Case}
-use Rattle.pv_base.specs.CaseFaults.{CaseFault, too_many, overlap, gap, unreduced, fault_of, DifferFrom}
+use Rattle.pv_base.specs.CaseFaults.{CaseFault, too_many, overlap, gap, unreduced, fault_of}
 use Rattle.pv_model.proofs.Basics.{Some_inj}
-use Rattle.pv_poly.proofs.MeetingLemmas.{None-Some}
 
 -- Lists that are the same at each place are equal.
 pub same-everywhere : {X : Type 0} (n : ℕ) (xs ys : List X) → length xs ≤ n → length ys ≤ n → ((k : ℕ) → k < n → slice_get xs k ≡ slice_get ys k) → xs ≡ ys
 same-everywhere n [] [] short small same = refl
 same-everywhere zero [] (y ∷ ys) short small same = absurd (omega (arith, small))
-same-everywhere (suc n) [] (y ∷ ys) short small same = absurd (None-Some (same 0 (omega arith)))
+same-everywhere (suc n) [] (y ∷ ys) short small same = absurd (none-some _ (same 0 (omega arith)))
 same-everywhere zero (x ∷ xs) ys short small same = absurd (omega (arith, short))
-same-everywhere (suc n) (x ∷ xs) [] short small same = absurd (None-Some (sym (same 0 (omega arith))))
+same-everywhere (suc n) (x ∷ xs) [] short small same = absurd (none-some _ (sym (same 0 (omega arith))))
 same-everywhere (suc n) (x ∷ xs) (y ∷ ys) short small same =
     ap₂ (λ (z : _) (zs : List _). z ∷ zs) (Some_inj (same 0 (omega arith)))
     (same-everywhere n xs ys (omega (arith, short)) (omega (arith, small)) (λ k below. same (suc k) (omega (arith, below))))
@@ -24,8 +22,8 @@ same-everywhere (suc n) (x ∷ xs) (y ∷ ys) short small same =
 pub same-before : {X : Type 0} (n : ℕ) (xs ys : List X) → ((k : ℕ) → k < n → slice_get xs k ≡ slice_get ys k) → take n xs ≡ take n ys
 same-before zero xs ys same = refl
 same-before (suc n) [] [] same = refl
-same-before (suc n) [] (y ∷ ys) same = absurd (None-Some (same 0 (omega arith)))
-same-before (suc n) (x ∷ xs) [] same = absurd (None-Some (sym (same 0 (omega arith))))
+same-before (suc n) [] (y ∷ ys) same = absurd (none-some _ (same 0 (omega arith)))
+same-before (suc n) (x ∷ xs) [] same = absurd (none-some _ (sym (same 0 (omega arith))))
 same-before (suc n) (x ∷ xs) (y ∷ ys) same =
     ap₂ (λ (z : _) (zs : List _). z ∷ zs) (Some_inj (same 0 (omega arith)))
     (same-before n xs ys (λ k below. same (suc k) (omega (arith, below))))
@@ -37,10 +35,3 @@ tells-or-memory (NotDisjoint first second) = inr (overlap first second, refl)
 tells-or-memory (NotComplete commits) = inr (gap commits.items, refl)
 tells-or-memory (NotReduced place) = inr (unreduced place, refl)
 tells-or-memory NoMemory = inl refl
-
--- The place isn't behind the end.
-pub place-inside : {V : Type 0} (cases others : List (Case V)) (place : ℕ) → DifferFrom cases others place → length cases < place → ⊥
-place-inside cases others place d behind =
-    let same : min place (length cases) ≡ min place (length others) =
-    sym (length-take place cases) ∙ ap (λ (cs : List (Case _)). length cs) d.equal ∙ length-take place others in
-    d.differ (slice_get_past cases place (omega (arith, behind)) ∙ sym (slice_get_past others place (omega (arith, behind, same))))

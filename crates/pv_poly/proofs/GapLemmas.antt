@@ -2,6 +2,7 @@
 use Rattle.std.proofs.Common.{◌≡◌, ℕ, ◌+◌, ◌<◌, ◌≤◌, Bool, true, false, not, List, [], ◌∷◌, map, length, Option, Some, None, cond, ltb, refl, sym, ap, ap₂, subst, ◌∙◌, arith}
 use Rattle.std.specs.Prelude.{slice_get, is_none}
 use Rattle.std.specs.List.{Contains, find, position, position_or_len}
+use Rattle.std.proofs.lemmas.Option.{none-some}
 use Rattle.std.proofs.lemmas.Bool.{ltb-false}
 use Rattle.std.proofs.lemmas.List.Folds.{find_at}
 use Rattle.std.proofs.lemmas.List.Sums.{fails_before_first}
@@ -12,7 +13,7 @@ use Rattle.pv_base.specs.CaseFaults.{Overlap, IsFirstGap, AreDisjoint, AreComple
 use Rattle.pv_model.proofs.Basics.{Some_inj}
 use Rattle.pv_poly.specs.Meetings.{places_met, meeting_of, meetings_of}
 use Rattle.pv_poly.specs.Joining.{is_gap}
-use Rattle.pv_poly.proofs.MeetingLemmas.{None-Some, places-up, placed, met-at, gap-of-meeting, length-places, one-place, no-two-places, some-place}
+use Rattle.pv_poly.proofs.MeetingLemmas.{places-up, placed, met-at, gap-of-meeting, length-places, one-place, no-two-places, some-place}
 use Rattle.pv_poly.proofs.OverlapLemmas.{meeting-shows}
 
 -- Searches.
@@ -26,13 +27,13 @@ position-map p q f same (x ∷ xs) =
 
 at-by : (b : Bool) (n place : ℕ) → cond b (Some n) None ≡ Some place → n ≡ place
 at-by true n place is = Some_inj is
-at-by false n place is = absurd (None-Some is)
+at-by false n place is = absurd (none-some _ is)
 
 position-at : {X : Type 0} (p : X → Bool) (xs : List X) (place : ℕ) → position p xs ≡ Some place → position_or_len p xs ≡ place
 position-at p xs place is = at-by (ltb (position_or_len p xs) (length xs)) (position_or_len p xs) place is
 
 nowhere-by : (b : Bool) (n : ℕ) → cond b (Some n) None ≡ None → b ≡ false
-nowhere-by true n is = absurd (None-Some (sym is))
+nowhere-by true n is = absurd (none-some _ (sym is))
 nowhere-by false n is = refl
 
 -- Where no place is found, no element passes.
@@ -49,7 +50,7 @@ found-by p y x rest false fails later is = later is
 
 -- What is found passes.
 pub found-passes : {X : Type 0} (p : X → Bool) (xs : List X) (x : X) → find p xs ≡ Some x → p x ≡ true
-found-passes p [] x is = absurd (None-Some is)
+found-passes p [] x is = absurd (none-some _ is)
 found-passes p (y ∷ ys) x is = found-by p y x (find p ys) (p y) refl (found-passes p ys x) is
 
 module _ {V : Type 0} where

@@ -9,7 +9,7 @@ use Rattle.pv_base.specs.Assignment.{assignments}
 use Rattle.pv_base.specs.Polyvalue.{Case, AreNames, AreValues, AreSameEverywhere, names}
 use Rattle.pv_base.specs.CaseFaults.{CaseFault, too_many, overlap, gap, AreDisjoint, AreComplete, IsJoinFault, names_too_many, are_not_disjoint, are_not_complete}
 use Rattle.pv_model.proofs.Basics.{Some_inj}
-use Rattle.pv_model.proofs.TableLemmas.{length-assignments, length-values}
+use Rattle.pv_model.proofs.TableLemmas.{length-assignments}
 use Rattle.pv_poly.specs.declared.meetings.Meeting.{Meeting}
 use Rattle.pv_poly.specs.Meetings.{places_met, meeting_of, meetings_of}
 use Rattle.pv_poly.specs.Joining.{IsLeastPair, HasNoPair, is_gap, value_met}
@@ -72,9 +72,6 @@ module _ {V : Type 0} where
       → table ≡ meetings_of cases txns → values ≡ filter_map (value_met cases) table → AreValues cases txns values
   values-from cases txns table values whole is met =
       subst (AreValues cases txns) (sym (met ∙ ap (filter_map (value_met cases)) is)) (met-values cases txns whole)
-
-  pub values-whole : (cases : List (Case V)) (txns : List TxnId) (values : List V) → AreValues cases txns values → length values ≡ 2 ^ length txns
-  values-whole cases txns values are = length-values cases txns values are
 
   -- The polyvalue that is read off the table has the values of the cases.
   pub joined-read : (cases poly : List (Case V)) (txns ts : List TxnId) (values vs : List V) → ts ≡ txns → vs ≡ values → AreNames cases txns

@@ -2,12 +2,13 @@
 use Rattle.std.proofs.Common.{◌≡◌, ⊎_elim, ℕ, ◌+◌, ◌<◌, List, [], ◌∷◌, ◌++◌, length, get_or, take, Option, Some, None, MatchOption, inr, sym, ap, subst, ◌∙◌, arith}
 use Rattle.std.specs.Option.{option_zip}
 use Rattle.std.specs.List.{Contains}
+use Rattle.std.proofs.lemmas.Option.{none-some}
 use Rattle.std.proofs.lemmas.List.{take_more}
 use Rattle.std.proofs.lemmas.List.Elements.{Contains-append_left, Contains-push, Contains-push_cases}
 use Rattle.pv_model.proofs.Basics.{Some_inj}
 use Rattle.pv_poly.specs.declared.meetings.Meeting.{Meeting}
 use Rattle.pv_poly.specs.Joining.{IsPairBefore, HasNoPair, IsLeastPair}
-use Rattle.pv_poly.proofs.MeetingLemmas.{None-Some, pair}
+use Rattle.pv_poly.proofs.MeetingLemmas.{pair}
 use Rattle.pv_poly.proofs.OverlapLemmas.{before-trans}
 
 -- what holds of the least pair so far
@@ -15,8 +16,8 @@ abbrev pub IsLeastOf : List Meeting → Option (ℕ × ℕ) → Type 0
 IsLeastOf done least = MatchOption least (HasNoPair done) (λ best. IsLeastPair done best.0 best.1)
 
 zip-by : (first second : Option ℕ) (best : ℕ × ℕ) → option_zip first second ≡ Some best → record { first = first; second = second } ≡ pair best.0 best.1
-zip-by None second best is = absurd (None-Some is)
-zip-by (Some x) None best is = absurd (None-Some is)
+zip-by None second best is = absurd (none-some _ is)
+zip-by (Some x) None best is = absurd (none-some _ is)
 zip-by (Some x) (Some y) best is = ap (λ (p : ℕ × ℕ). pair p.0 p.1) (Some_inj is)
 
 zip-pair : (meeting : Meeting) (best : ℕ × ℕ) → option_zip meeting.first meeting.second ≡ Some best → meeting ≡ pair best.0 best.1
@@ -28,12 +29,12 @@ zip-of-pair meeting x y is = ap (λ (m : Meeting). option_zip m.first m.second) 
 pushed-none : (done : List Meeting) (meeting : Meeting) (least : Option (ℕ × ℕ)) → option_zip meeting.first meeting.second ≡ None
     → IsLeastOf done least → IsLeastOf (done ++ meeting ∷ []) least
 pushed-none done meeting None zip so-far = λ x y h.
-    ⊎_elim (λ old. so-far x y old) (λ same. None-Some (sym zip ∙ zip-of-pair meeting x y same)) (Contains-push_cases done meeting (pair x y) h)
+    ⊎_elim (λ old. so-far x y old) (λ same. none-some _ (sym zip ∙ zip-of-pair meeting x y same)) (Contains-push_cases done meeting (pair x y) h)
 pushed-none done meeting (Some best) zip so-far = record {
   found = Contains-append_left done (meeting ∷ []) (pair best.0 best.1) so-far.found;
   least = λ x y h. ⊎_elim
       (λ old. so-far.least x y old)
-      (λ same. absurd (None-Some (sym zip ∙ zip-of-pair meeting x y same)))
+      (λ same. absurd (none-some _ (sym zip ∙ zip-of-pair meeting x y same)))
       (Contains-push_cases done meeting (pair x y) h);
 }
 

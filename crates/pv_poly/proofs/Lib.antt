@@ -5,7 +5,6 @@ pub mod ChoiceLemmas
 pub mod CountLemmas
 pub mod CountedLiterals
 pub mod DifferenceLemmas
-pub mod EqualTxnLemmas
 pub mod GapLemmas
 pub mod JoinedLemmas
 pub mod LeastPairLemmas
@@ -21,5 +20,5 @@ pub mod SomeFaultLemmas
 pub mod TableSteps
 pub mod TestLemmas
 pub mod TopOfTree
-pub mod TxnOrder
+pub mod TxnTests
 pub mod ValuesMetLemmas

@@ -1,8 +1,9 @@
 -- Which places of the cases an assignment meets, and what its meeting says of them.
-use Rattle.std.proofs.Common.{◌≡◌, ⊎_elim, ℕ, zero, suc, ◌+◌, ◌<◌, ◌≤◌, Bool, true, false, ◌&&◌, List, [], ◌∷◌, length, Option, Some, None, inl, inr, cond, if◌then◌else◌, refl, sym, ap, ap₂, subst, ◌∙◌, filter, arith}
+use Rattle.std.proofs.Common.{◌≡◌, ⊎_elim, ℕ, zero, suc, ◌+◌, ◌<◌, ◌≤◌, Bool, true, false, ◌&&◌, List, [], ◌∷◌, length, Option, Some, inl, inr, cond, if◌then◌else◌, refl, sym, ap, ap₂, subst, ◌∙◌, filter, arith}
 use Rattle.std.specs.Prelude.{slice_get, is_none, option_and_then, option_map}
 use Rattle.std.specs.Bool.{beq}
 use Rattle.std.specs.List.{Contains, list_any}
+use Rattle.std.proofs.lemmas.Option.{none-some}
 use Rattle.std.proofs.lemmas.Bool.{or_left, or_right, true≢false, false≢true}
 use Rattle.pv_base.specs.declared.literal.Literal.{Literal}
 use Rattle.pv_base.specs.declared.txn.TxnId.{TxnId}
@@ -15,9 +16,6 @@ use Rattle.pv_model.proofs.AssignmentLemmas.{same-refl}
 use Rattle.pv_poly.specs.declared.meetings.Meeting.{Meeting}
 use Rattle.pv_poly.specs.Meetings.{places_from, places_met, meeting_of}
 use Rattle.pv_poly.specs.Joining.{IsPairBefore, is_gap, value_met}
-
-pub None-Some : {A : Type 0} {x : A} → None ≡ Some x → ⊥
-None-Some e = cc
 
 -- The places ascend.
 
@@ -58,7 +56,7 @@ kept-behind false k ps p h = h
 
 met-place : {V : Type 0} (k : ℕ) (cases : List (Case V)) (a : List TxnId) (i : ℕ) (case : Case V) (p : ℕ) → p ≡ k + i
     → slice_get cases i ≡ Some case → meets case.when a ≡ true → Contains (places_from k cases a) p
-met-place k [] a i case p is there met = absurd (None-Some there)
+met-place k [] a i case p is there met = absurd (none-some _ there)
 met-place k (first ∷ cases) a zero case p is there met =
     subst (Contains (places_from k (first ∷ cases) a)) (omega (arith, is))
     (kept-first (meets first.when a) k (places_from (suc k) cases a) (ap (λ (c : Case _). meets c.when a) (Some_inj there) ∙ met))
@@ -130,8 +128,8 @@ pub record AreFirstTwo (ps : List ℕ) (p q : ℕ) : Type 0 where
   pub ordered : p < q
 
 pub pair-places : (k : ℕ) (ps : List ℕ) (p q : ℕ) → Up k ps → meeting_of ps ≡ pair p q → AreFirstTwo ps p q
-pair-places k [] p q up is = absurd (None-Some (ap (λ m. m.first) is))
-pair-places k (x ∷ []) p q up is = absurd (None-Some (ap (λ m. m.second) is))
+pair-places k [] p q up is = absurd (none-some _ (ap (λ m. m.first) is))
+pair-places k (x ∷ []) p q up is = absurd (none-some _ (ap (λ m. m.second) is))
 pair-places k (x ∷ y ∷ ps) p q (from, (later, up)) is =
     let first : x ≡ p = Some_inj (ap (λ m. m.first) is) in
     let second : y ≡ q = Some_inj (ap (λ m. m.second) is) in

@@ -1,11 +1,9 @@
 -- What is sorted and freed of repeats is ascending, and the transactions of cases in that order are their names.
-use Rattle.std.proofs.Common.{◌≡◌, ⊎_elim, ℕ, Bool, true, false, ◌||◌, List, [], ◌∷◌, ◌++◌, map, length, IsTrue, ◌<◌, ◌≤◌, ◌+◌, get_or, drop, append_assoc, Ordering, Less, Equal, Greater, is_lt, refl, sym, ap, subst, ◌∙◌, arith}
+use Rattle.std.proofs.Common.{◌≡◌, ℕ, Bool, true, ◌||◌, List, [], ◌∷◌, ◌++◌, map, length, IsTrue, ◌<◌, ◌≤◌, ◌+◌, get_or, drop, append_assoc, Less, is_lt, refl, sym, ap, subst, ◌∙◌, arith}
 use Rattle.std.specs.Prelude.{◌↔◌}
-use Rattle.std.specs.List.{AllPairs, Contains, dedup, list_any}
+use Rattle.std.specs.List.{Contains, dedup, list_any}
 use Rattle.std.specs.List.Sorted.{IsSorted, IsPermutation, IsStrictlySortedBy}
-use Rattle.std.specs.Ordering.{eq_by_cmp, is_eq, ordering_reverse}
-use Rattle.std.specs.Cmp.{IsEquivalence, IsTotalOrder, nat_cmp_total, on_total, then_total, tied_itself}
-use Rattle.std.proofs.lemmas.Bool.{false≢true}
+use Rattle.std.specs.Cmp.{IsEquivalence}
 use Rattle.std.proofs.lemmas.List.{at_drop_more, drop_all, append-nil}
 use Rattle.std.proofs.lemmas.List.Elements.{All-weaker, All-contains_itself}
 use Rattle.std.proofs.lemmas.List.Folds.{Any-from_list_any, list_any-append, list_any_at}
@@ -17,40 +15,15 @@ use Rattle.pv_base.specs.declared.literal.Literal.{Literal}
 use Rattle.pv_base.specs.declared.txn.TxnId.{TxnId}
 use Rattle.pv_base.specs.Assignment.{is_same_txn, txn_cmp, precedes}
 use Rattle.pv_base.specs.Polyvalue.{Case, names, AreNames}
-use Rattle.pv_model.proofs.AssignmentLemmas.{same-refl, same-eq, same-from-eq, same-sym, precedes-other, precedes-other', order-of-two}
+use Rattle.pv_model.proofs.AscendingLemmas.{Ascending}
+use Rattle.pv_model.proofs.AssignmentLemmas.{same-refl, same-eq, same-from-eq, same-sym}
 use Rattle.pv_poly.specs.Names.{txns_of}
+use Rattle.pv_poly.proofs.TxnTests.{txn-total, ties}
 
 -- The order.
 
-txn-total : IsTotalOrder txn_cmp
-txn-total =
-    then_total (on_total (λ (t : TxnId). t.site.0) nat_cmp_total)
-    (then_total (on_total (λ (t : TxnId). t.epoch) nat_cmp_total) (on_total (λ (t : TxnId). t.number) nat_cmp_total))
-
-less-differs : (o : Ordering) → is_lt o ≡ true → is_eq o ≡ false
-less-differs Less h = refl
-less-differs Equal h = absurd (false≢true h)
-less-differs Greater h = absurd (false≢true h)
-
-reverse-differs : (o : Ordering) → is_lt o ≡ true → is_eq (ordering_reverse o) ≡ false
-reverse-differs Less h = refl
-reverse-differs Equal h = absurd (false≢true h)
-reverse-differs Greater h = absurd (false≢true h)
-
--- Transactions are the same exactly where the order doesn't tell them apart.
-ties : (t u : TxnId) → is_same_txn t u ≡ eq_by_cmp txn_cmp t u
-ties t u =
-    ⊎_elim
-    (λ before. precedes-other t u before ∙ sym (less-differs (txn_cmp t u) before))
-    (λ others. ⊎_elim
-    (λ equal. same-from-eq equal ∙ sym (ap is_eq (subst (λ (v : TxnId). txn_cmp t v ≡ Equal) equal (tied_itself txn-total t))))
-    (λ behind. precedes-other' u t behind
-    ∙ sym (ap is_eq (txn-total.antisymm t u) ∙ reverse-differs (txn_cmp u t) behind))
-    others)
-    (order-of-two t u)
-
 -- Each of an ascending list is before all that stand behind it.
-strictly-ascending : (txns : List TxnId) → IsStrictlySortedBy txn_cmp txns → AllPairs (λ txn later. IsTrue (precedes txn later)) txns
+strictly-ascending : (txns : List TxnId) → IsStrictlySortedBy txn_cmp txns → Ascending txns
 strictly-ascending [] h = λ i j d before within. absurd (omega (arith, within))
 strictly-ascending (txn ∷ txns) h =
     AllPairs-cons (λ txn later. IsTrue (precedes txn later)) txn txns
@@ -67,7 +40,7 @@ module _ {E : TxnId → TxnId → Bool} (same : (t u : TxnId) → E t u ≡ is_s
   }
 
   -- Sorted and freed of repeats, the list is ascending.
-  pub ascending-dedup : (txns : List TxnId) → IsSorted txn_cmp txns → AllPairs (λ txn later. IsTrue (precedes txn later)) (dedup E txns)
+  pub ascending-dedup : (txns : List TxnId) → IsSorted txn_cmp txns → Ascending (dedup E txns)
   ascending-dedup txns sorted =
       strictly-ascending (dedup E txns) (IsStrictlySortedBy-dedup txn-total (λ t u. same t u ∙ ties t u) txns sorted)
 
@@ -104,7 +77,7 @@ module _ {V : Type 0} where
 
   -- The transactions of the cases, ascending, are their names.
   pub AreNames-ordered : (cases : List (Case V)) (all txns : List TxnId) → txns_of cases ≡ all
-      → AllPairs (λ txn later. IsTrue (precedes txn later)) txns → ((txn : TxnId) → Contains txns txn ↔ Contains all txn) → AreNames cases txns
+      → Ascending txns → ((txn : TxnId) → Contains txns txn ↔ Contains all txn) → AreNames cases txns
   AreNames-ordered cases all txns is ascending same = record {
     ascending = ascending;
     each = All-weaker (Contains txns) (λ (txn : TxnId). IsTrue (names cases txn))

@@ -1,8 +1,11 @@
 -- The assignments of some transactions are parted by the outcome of the first, and so are the cases that they meet.
-use Rattle.std.proofs.Common.{◌≡◌, ℕ, zero, suc, ◌<◌, ◌+◌, Bool, true, false, not, ◌&&◌, ◌||◌, List, [], ◌∷◌, ◌++◌, map, length, get_or, cond, if◌then◌else◌, IsTrue, append_assoc, refl, sym, ap, subst, ◌∙◌, arith}
+use Rattle.std.proofs.Common.{◌≡◌, ℕ, zero, suc, ◌<◌, ◌+◌, Bool, true, false, not, ◌&&◌, ◌||◌, List, [], ◌∷◌, ◌++◌, map, length, get_or, cond, if◌then◌else◌, IsTrue, append_assoc, refl, sym, ap, subst, ◌∙◌, arith, add-one}
 use Rattle.std.specs.Bool.{beq}
-use Rattle.std.specs.List.{All, AllPairs, filter, list_all, list_any, range_with_len}
-use Rattle.std.proofs.lemmas.Bool.{true≢false}
+use Rattle.std.specs.List.{All, filter, list_all, list_any, range_with_len}
+use Rattle.std.specs.Cmp.{bool_eq_equiv}
+use Rattle.std.proofs.Math.Bool.{and-true}
+use Rattle.std.proofs.Math.Nat.{add-zero, zero-add}
+use Rattle.std.proofs.lemmas.Bool.{or_left, or_right, or_parts}
 use Rattle.std.proofs.lemmas.List.{map-append, map-id}
 use Rattle.std.proofs.lemmas.List.FromFn.{map-range_with_len_more, length-range_with_len, get_or-range_with_len}
 use Rattle.std.proofs.lemmas.List.Elements.{All-from_get_or, All-nil, All-cons, All-head, All-tail, All-append, All-map, All-filter}
@@ -10,8 +13,10 @@ use Rattle.std.proofs.lemmas.List.Folds.{list_any_none, list_any_at}
 use Rattle.std.proofs.lemmas.Simd.{map-map}
 use Rattle.pv_base.specs.declared.literal.Literal.{Literal}
 use Rattle.pv_base.specs.declared.txn.TxnId.{TxnId}
-use Rattle.pv_base.specs.Assignment.{is_same_txn, precedes, commits, assignments}
+use Rattle.pv_base.specs.Assignment.{is_same_txn, commits, assignments}
 use Rattle.pv_base.specs.Polyvalue.{Case, is_met, meets, names, AreNames}
+use Rattle.pv_model.proofs.MapLemmas.{map-same}
+use Rattle.pv_model.proofs.AscendingLemmas.{Ascending}
 use Rattle.pv_model.proofs.AssignmentLemmas.{same-refl, same-eq, same-from-eq, same-sym, precedes-other}
 use Rattle.pv_poly.specs.declared.meetings.Meeting.{Meeting}
 use Rattle.pv_poly.specs.Meetings.{places_from, places_met, meeting_of, meetings_of}
@@ -68,43 +73,22 @@ list_all-true (x ∷ xs) = list_all-true xs
 
 -- One transaction and those behind it.
 
-is_among : List TxnId → TxnId → Bool
-is_among txns txn = list_any (is_same_txn txn) txns
-
 -- A transaction before all of the list is not in it.
-absent : (txn : TxnId) (txns : List TxnId) → AllPairs (λ txn later. IsTrue (precedes txn later)) (txn ∷ txns) → list_any (is_same_txn txn) txns ≡ false
+absent : (txn : TxnId) (txns : List TxnId) → Ascending (txn ∷ txns) → list_any (is_same_txn txn) txns ≡ false
 absent txn txns ascending =
     list_any_none (is_same_txn txn) txns (λ k d within. precedes-other txn (get_or txns k d) (ascending 0 (suc k) d (omega arith) (omega (arith, within))))
-
-pub ascending-rest : (txn : TxnId) (txns : List TxnId) → AllPairs (λ txn later. IsTrue (precedes txn later)) (txn ∷ txns) → AllPairs (λ txn later. IsTrue (precedes txn later)) txns
-ascending-rest txn txns ascending = λ i j d before within. ascending (suc i) (suc j) d (omega (arith, before)) (omega (arith, within))
 
 or-false : {a b : Bool} → a ≡ false → b ≡ false → (a || b) ≡ false
 or-false {a} {b} h k = ap (λ (c : Bool). c || b) h ∙ k
 
-or-parts : (a b : Bool) → (a || b) ≡ false → (a ≡ false) × (b ≡ false)
-or-parts true b h = absurd (true≢false h)
-or-parts false b h = (refl, h)
-
--- No assignment of the transactions lets another one commit.
 aborts : (txn : TxnId) (txns : List TxnId) → list_any (is_same_txn txn) txns ≡ false → All (λ assignment. commits assignment txn ≡ false) (assignments txns)
 aborts txn [] h = All-cons (λ assignment. commits assignment txn ≡ false) [] [] refl (All-nil _)
 aborts txn (first ∷ txns) h =
-    let parts = or-parts (is_same_txn txn first) (list_any (is_same_txn txn) txns) h in
+    let parts = or_parts (is_same_txn txn first) (list_any (is_same_txn txn) txns) h in
     let rest = aborts txn txns parts.1 in
     All-append (λ assignment. commits assignment txn ≡ false) (assignments txns) (map (λ assignment. first ∷ assignment) (assignments txns)) rest
     (All-map (λ assignment. commits assignment txn ≡ false) (λ assignment. first ∷ assignment) (assignments txns)
     (λ k d within. or-false (same-sym first txn ∙ parts.0) (rest k d within)))
-
-beq-sym : (a b : Bool) → beq a b ≡ beq b a
-beq-sym true true = refl
-beq-sym true false = refl
-beq-sym false true = refl
-beq-sym false false = refl
-
-and-true : (a : Bool) → (a && true) ≡ a
-and-true true = refl
-and-true false = refl
 
 -- The literal is met, as far as it is on the transactions, where it allows the outcome of the first, and is met as far as it is on the others.
 literal-parted : (txn : TxnId) (outcome : Bool) (txns : List TxnId) (before after : List TxnId) (literal : Literal) (same : Bool)
@@ -116,7 +100,7 @@ literal-parted txn outcome txns before after literal true same absent here other
     let equal : literal.txn ≡ txn = same-eq {t = literal.txn} {u = txn} same in
     ap (λ (t : TxnId). beq (commits after t) literal.commits) equal
     ∙ ap (λ (b : Bool). beq b literal.commits) here
-    ∙ beq-sym outcome literal.commits
+    ∙ bool_eq_equiv.symm outcome literal.commits
     ∙ sym (and-true (beq literal.commits outcome))
     ∙ ap (λ (b : Bool). beq literal.commits outcome && (not b || is_met before literal)) (sym (ap (λ (t : TxnId). list_any (is_same_txn t) txns) equal ∙ absent))
 literal-parted txn outcome txns before after literal false same absent here others =
@@ -156,7 +140,7 @@ module _ {V : Type 0} where
       ∙ filter-true places)
 
   -- Where the first transaction doesn't commit the places that allow that are left, and then those that allow that it commits.
-  pub among-first : (cases : List (Case V)) (places : List ℕ) (txn : TxnId) (txns : List TxnId) → AllPairs (λ txn later. IsTrue (precedes txn later)) (txn ∷ txns)
+  pub among-first : (cases : List (Case V)) (places : List ℕ) (txn : TxnId) (txns : List TxnId) → Ascending (txn ∷ txns)
       → meetings_among cases places (txn ∷ txns)
       ≡ meetings_among cases (places_with cases txn false places) txns ++ meetings_among cases (places_with cases txn true places) txns
   unfolding meetings_among
@@ -186,7 +170,7 @@ module _ {V : Type 0} where
   push-none cases places (txn ∷ txns) meeting old new none is pushed = absurd (omega (arith, none))
 
   pub push-first : (cases : List (Case V)) (places : List ℕ) (txns : List TxnId) (txn : TxnId) (rest : List TxnId) (without with : List ℕ) (old middle new : List Meeting)
-      → AllPairs (λ txn later. IsTrue (precedes txn later)) txns → txns ≡ txn ∷ rest
+      → Ascending txns → txns ≡ txn ∷ rest
       → without ≡ places_with cases txn false places → with ≡ places_with cases txn true places
       → middle ≡ old ++ meetings_among cases without rest → new ≡ middle ++ meetings_among cases with rest
       → new ≡ old ++ meetings_among cases places txns
@@ -197,7 +181,7 @@ module _ {V : Type 0} where
       ∙ ap (λ (list : List Meeting). old ++ list)
       (ap (λ (list : List ℕ). meetings_among cases list rest ++ meetings_among cases with rest) front
       ∙ ap (λ (list : List ℕ). meetings_among cases (places_with cases txn false places) rest ++ meetings_among cases list rest) back
-      ∙ sym (among-first cases places txn rest (subst (λ (list : List TxnId). AllPairs (λ txn later. IsTrue (precedes txn later)) list) split ascending))
+      ∙ sym (among-first cases places txn rest (subst Ascending split ascending))
       ∙ ap (λ (list : List TxnId). meetings_among cases places list) (sym split))
 
   -- The places left are places of cases.
@@ -207,19 +191,11 @@ module _ {V : Type 0} where
       subst (λ (list : List ℕ). All (λ place. place < length cases) list) (sym is)
       (All-filter (λ place. allows txn outcome (condition_at cases place)) (λ place. place < length cases) places there)
 
-pub ascending-behind : (txns : List TxnId) (txn : TxnId) (rest : List TxnId) → txns ≡ txn ∷ rest
-    → AllPairs (λ txn later. IsTrue (precedes txn later)) txns → AllPairs (λ txn later. IsTrue (precedes txn later)) rest
-ascending-behind txns txn rest split ascending =
-    ascending-rest txn rest (subst (λ (list : List TxnId). AllPairs (λ txn later. IsTrue (precedes txn later)) list) split ascending)
-
 -- All transactions, and all places.
-
-none-add : (a : ℕ) → 0 + a ≡ a
-none-add a = omega arith
 
 pub range-more : (count : ℕ) → range_with_len 0 (count + 1) ≡ range_with_len 0 count ++ count ∷ []
 range-more count =
-    sym (map-id (range_with_len 0 (count + 1))) ∙ map-range_with_len_more (λ (place : ℕ). place) 0 count count (none-add count)
+    sym (map-id (range_with_len 0 (count + 1))) ∙ map-range_with_len_more (λ (place : ℕ). place) 0 count count (zero-add count)
     ∙ ap (λ (list : List ℕ). list ++ count ∷ []) (map-id (range_with_len 0 count))
 
 pub all-there : (count : ℕ) → All (λ place. place < count) (range_with_len 0 count)
@@ -241,24 +217,8 @@ cond-if : {X : Type 0} (b : Bool) (x y : X) → cond b x y ≡ (if b then x else
 cond-if true x y = refl
 cond-if false x y = refl
 
-or-left : {a : Bool} (b : Bool) → a ≡ true → (a || b) ≡ true
-or-left b h = ap (λ (c : Bool). c || b) h
-
-or-right : (a : Bool) {b : Bool} → b ≡ true → (a || b) ≡ true
-or-right true h = refl
-or-right false h = h
-
 add-moved : (a k : ℕ) → (a + 1) + k ≡ a + suc k
 add-moved a k = omega arith
-
-add-none : (a : ℕ) → a ≡ a + 0
-add-none a = omega arith
-
-add-last : (a : ℕ) → a + 1 ≡ suc a
-add-last a = omega arith
-
-map-same : {X Y : Type 0} (f g : X → Y) (xs : List X) → ((x : X) → f x ≡ g x) → map f xs ≡ map g xs
-map-same f g xs h = map-alike f g xs (λ k d within. h (get_or xs k d))
 
 module _ {V : Type 0} where
   -- Cases name each transaction of their literals.
@@ -266,9 +226,9 @@ module _ {V : Type 0} where
       → IsTrue (names cases (get_or (condition_at cases k) i d).txn)
   named-at [] k i d within inside = absurd (omega (arith, within))
   named-at (case ∷ cases) zero i d within inside =
-      or-left (names cases (get_or case.when i d).txn) (list_any_at (λ literal. is_same_txn (get_or case.when i d).txn literal.txn) case.when i d inside (same-refl (get_or case.when i d).txn))
+      or_left _ (names cases (get_or case.when i d).txn) (list_any_at (λ literal. is_same_txn (get_or case.when i d).txn literal.txn) case.when i d inside (same-refl (get_or case.when i d).txn))
   named-at (case ∷ cases) (suc k) i d within inside =
-      or-right (list_any (λ literal. is_same_txn (get_or (condition_at cases k) i d).txn literal.txn) case.when)
+      or_right (list_any (λ literal. is_same_txn (get_or (condition_at cases k) i d).txn literal.txn) case.when) _
       (named-at cases k i d (omega (arith, within)) inside)
 
   -- The places from this one on at which a test holds that says whether the case is met.
@@ -280,9 +240,9 @@ module _ {V : Type 0} where
       let rest : filter test (range_with_len (first + 1) (length cases)) ≡ places_from (first + 1) cases assignment =
       places-tested test assignment cases (first + 1)
       (λ k within. ap test (add-moved first k) ∙ same (suc k) (omega (arith, within))) in
-      let here : test first ≡ meets case.when assignment = ap test (add-none first) ∙ same 0 (omega arith) in
+      let here : test first ≡ meets case.when assignment = ap test (sym (add-zero first)) ∙ same 0 (omega arith) in
       ap (λ (b : Bool). cond b (first ∷ filter test (range_with_len (first + 1) (length cases))) (filter test (range_with_len (first + 1) (length cases)))) here
-      ∙ ap (λ (list : List ℕ). cond (meets case.when assignment) (first ∷ list) list) (rest ∙ ap (λ (n : ℕ). places_from n cases assignment) (add-last first))
+      ∙ ap (λ (list : List ℕ). cond (meets case.when assignment) (first ∷ list) list) (rest ∙ ap (λ (n : ℕ). places_from n cases assignment) (add-one first))
       ∙ cond-if (meets case.when assignment) (first ∷ places_from (suc first) cases assignment) (places_from (suc first) cases assignment)
 
   -- Each literal of the case at this place is on one of the names.
@@ -300,6 +260,6 @@ module _ {V : Type 0} where
   meetings-all cases txns are =
       map-same (λ assignment. meeting_of (filter (λ place. meets_on txns (condition_at cases place) assignment) (range_with_len 0 (length cases))))
       (λ assignment. meeting_of (places_met cases assignment)) (assignments txns)
-      (λ assignment. ap meeting_of (places-tested (λ place. meets_on txns (condition_at cases place) assignment) assignment cases 0
-      (λ k within. ap (λ (n : ℕ). meets_on txns (condition_at cases n) assignment) (none-add k)
+      (λ assignment _. ap meeting_of (places-tested (λ place. meets_on txns (condition_at cases place) assignment) assignment cases 0
+      (λ k within. ap (λ (n : ℕ). meets_on txns (condition_at cases n) assignment) (zero-add k)
       ∙ meets-all txns (condition_at cases k) assignment (literals-named cases txns k within are))))

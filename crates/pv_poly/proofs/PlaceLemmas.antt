@@ -1,13 +1,13 @@
 -- Where an assignment of some transactions stands among all of them.
-use Rattle.std.proofs.Common.{◌≡◌, ℕ, zero, suc, ◌+◌, ◌-◌, ◌*◌, ◌^◌, ◌%◌, ◌<◌, ◌≤◌, List, [], ◌∷◌, ◌++◌, Some, map, length, refl, ap, subst, ◌∙◌, arith, length-append}
+use Rattle.std.proofs.Common.{◌≡◌, ℕ, zero, suc, ◌+◌, ◌-◌, ◌*◌, ◌^◌, ◌%◌, ◌<◌, ◌≤◌, List, [], ◌∷◌, ◌++◌, Some, map, length, refl, ap, subst, ◌∙◌, arith}
 use Rattle.std.specs.Prelude.{slice_get}
 use Rattle.std.specs.Option.{option_map}
 use Rattle.std.proofs.Math.Nat.{two-pow-succ}
-use Rattle.std.proofs.lemmas.List.{length-map}
 use Rattle.std.proofs.lemmas.Nat.{one_shl}
 use Rattle.std.proofs.lemmas.Option.{slice_get-map}
 use Rattle.pv_base.specs.declared.txn.TxnId.{TxnId}
 use Rattle.pv_base.specs.Assignment.{assignments}
+use Rattle.pv_model.proofs.TableLemmas.{length-assignments}
 
 in-front : {X : Type 0} (xs ys : List X) (at : ℕ) → at < length xs → slice_get (xs ++ ys) at ≡ slice_get xs at
 in-front [] ys at within = absurd (omega (arith, within))
@@ -18,17 +18,6 @@ in-back : {X : Type 0} (xs ys : List X) (at place : ℕ) → at ≡ length xs + 
 in-back [] ys at place is = ap (slice_get ys) (omega (arith, is))
 in-back (x ∷ xs) ys zero place is = absurd (omega (arith, is))
 in-back (x ∷ xs) ys (suc at) place is = in-back xs ys at place (omega (arith, is))
-
-pub length-assignments : (txns : List TxnId) → length (assignments txns) ≡ 2 ^ length txns
-length-assignments [] = refl
-length-assignments (txn ∷ txns) =
-    omega (
-      arith,
-      length-append (assignments txns) (map (λ assignment. txn ∷ assignment) (assignments txns)),
-      length-map (assignments txns) (λ assignment. txn ∷ assignment),
-      length-assignments txns,
-      two-pow-succ (length txns),
-    )
 
 pub half-is : (txns : List TxnId) → length txns < 32 → 1 * 2 ^ length txns % 18446744073709551616 ≡ 2 ^ length txns
 half-is txns few = one_shl (length txns) 64 (omega (arith, few))

@@ -1,46 +1,20 @@
 -- When `==` says that cases are the same.
-use Rattle.std.proofs.Common.{◌≡◌, Bool, true, false, ◌&&◌, ◌==◌, Decides, MatchBool, refl, sym, ap, subst, ◌∙◌}
+use Rattle.std.proofs.Common.{◌≡◌, Bool, true, false, ◌&&◌, Decides, MatchBool, refl, sym, ap, subst, ◌∙◌}
 use Rattle.std.specs.Bool.{beq}
-use Rattle.std.proofs.lemmas.Bool.{and_parts, and_from, false≢true}
+use Rattle.std.specs.Cmp.{booleans_Decides}
+use Rattle.std.proofs.lemmas.Bool.{false≢true}
+use Rattle.std.proofs.lemmas.Bool.Decides.{Decides-and}
 use Rattle.pv_base.specs.declared.literal.Literal.{Literal}
-use Rattle.pv_base.specs.Assignment.{is_same_txn}
 use Rattle.pv_base.specs.Polyvalue.{Case}
-use Rattle.pv_model.proofs.AssignmentLemmas.{same-refl, same-eq}
+use Rattle.pv_poly.proofs.TxnTests.{equal_txn, txn-decided}
 
-beq-same : (a b : Bool) → beq a b ≡ true → a ≡ b
-beq-same true true h = refl
-beq-same true false h = absurd (false≢true h)
-beq-same false true h = absurd (false≢true h)
-beq-same false false h = refl
-
-beq-refl : (a : Bool) → beq a a ≡ true
-beq-refl true = refl
-beq-refl false = refl
-
-literals-same : (a b : Literal) → is_same_txn a.txn b.txn && beq a.commits b.commits ≡ true → a ≡ b
-literals-same a b h =
-    let parts = and_parts (is_same_txn a.txn b.txn) (beq a.commits b.commits) h in
-    let txns : a.txn ≡ b.txn = same-eq {t = a.txn} {u = b.txn} parts.0 in
-    let outcomes : a.commits ≡ b.commits = beq-same a.commits b.commits parts.1 in
-    λ i. record { txn = txns i; commits = outcomes i }
-
-pub literal-decided : (a b : Literal) → Decides (is_same_txn a.txn b.txn && beq a.commits b.commits) (a ≡ b)
-literal-decided a b = (
-  literals-same a b,
-  λ same. subst (λ (z : Literal). is_same_txn a.txn z.txn && beq a.commits z.commits ≡ true) same
-      (and_from _ _ (same-refl a.txn) (beq-refl a.commits)),
-)
-
-and-assoc : (p q r : Bool) → ((p && q) && r) ≡ (p && (q && r))
-and-assoc true q r = refl
-and-assoc false q r = refl
-
--- the same in the order in which the derived `==` tests the parts
-pub parts-decided : (a b : Literal)
-    → Decides ((a.txn.site.0 == b.txn.site.0 && (a.txn.epoch == b.txn.epoch && a.txn.number == b.txn.number)) && beq a.commits b.commits) (a ≡ b)
-parts-decided a b =
-    subst (λ (txns : Bool). Decides (txns && beq a.commits b.commits) (a ≡ b))
-    (and-assoc (a.txn.site.0 == b.txn.site.0) (a.txn.epoch == b.txn.epoch) (a.txn.number == b.txn.number)) (literal-decided a b)
+-- as the derived `==` tests it
+pub literal-decided : (a b : Literal) → Decides (equal_txn a.txn b.txn && beq a.commits b.commits) (a ≡ b)
+literal-decided a b =
+    let both = Decides-and (equal_txn a.txn b.txn) (beq a.commits b.commits) (txn-decided a.txn b.txn) (booleans_Decides a.commits b.commits) in (
+      λ test. let parts = both.0 test in λ i. record { txn = parts.0 i; commits = parts.1 i },
+      λ same. both.1 (ap (λ (literal : Literal). literal.txn) same, ap (λ (literal : Literal). literal.commits) same),
+    )
 
 module _ {V : Type 0} where
   pub case-decided : (b : Bool) (c d case other : Case V) → c ≡ case → d ≡ other → c.when ≡ d.when → Decides b (c.value ≡ d.value)

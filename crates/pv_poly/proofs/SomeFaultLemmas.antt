@@ -2,6 +2,7 @@
 use Rattle.std.proofs.Common.{◌≡◌, ◌⊎◌, ⊎_elim, ℕ, zero, suc, ◌≤◌, Bool, true, false, List, [], ◌∷◌, length, Option, Some, None, cond, inl, inr, refl, sym, ap, ap₂, subst, ◌∙◌, arith}
 use Rattle.std.specs.Prelude.{is_none}
 use Rattle.std.specs.List.{Contains, find}
+use Rattle.std.proofs.lemmas.Option.{none-some}
 use Rattle.std.proofs.lemmas.Bool.{cases_lt, true≢false}
 use Rattle.pv_base.specs.declared.txn.TxnId.{TxnId}
 use Rattle.pv_base.specs.Assignment.{assignments}
@@ -16,7 +17,7 @@ use Rattle.pv_model.proofs.ExistenceLemmas.{IsExact, cases-equal, some-polyvalue
 use Rattle.pv_poly.specs.declared.meetings.Meeting.{Meeting}
 use Rattle.pv_poly.specs.Meetings.{meetings_of}
 use Rattle.pv_poly.specs.Joining.{IsPairBefore, HasNoPair, IsLeastPair}
-use Rattle.pv_poly.proofs.MeetingLemmas.{None-Some, pair}
+use Rattle.pv_poly.proofs.MeetingLemmas.{pair}
 use Rattle.pv_poly.proofs.OverlapLemmas.{before-trans, chosen, least-is-first-overlap, no-pair-disjoint}
 use Rattle.pv_poly.proofs.GapLemmas.{disjoint-complete-sound, sound-disjoint, sound-complete}
 use Rattle.pv_poly.proofs.CaseFaultLemmas.{no-case-fault}
@@ -85,9 +86,9 @@ with-pair p q meetings (inr (x, y, is)) =
 
 one-meeting-more : (first second : Option ℕ) (meetings : List Meeting) → SomeLeast meetings → SomeLeast (record { first = first; second = second } ∷ meetings)
 one-meeting-more None second meetings found =
-    passed-over (record { first = None; second = second }) meetings (λ x y same. None-Some (ap (λ (m : Meeting). m.first) same)) found
+    passed-over (record { first = None; second = second }) meetings (λ x y same. none-some _ (ap (λ (m : Meeting). m.first) same)) found
 one-meeting-more (Some p) None meetings found =
-    passed-over (record { first = Some p; second = None }) meetings (λ x y same. None-Some (ap (λ (m : Meeting). m.second) same)) found
+    passed-over (record { first = Some p; second = None }) meetings (λ x y same. none-some _ (ap (λ (m : Meeting). m.second) same)) found
 one-meeting-more (Some p) (Some q) meetings found = with-pair p q meetings found
 
 some-least : (meetings : List Meeting) → SomeLeast meetings
@@ -97,7 +98,7 @@ some-least (meeting ∷ meetings) = one-meeting-more meeting.first meeting.secon
 -- Some assignment is the first gap, or there is none.
 
 not-first : {X : Type 0} (b : Bool) (y : X) (rest : Option X) → cond b (Some y) rest ≡ None → (b ≡ false) × (rest ≡ None)
-not-first true y rest none = absurd (None-Some (sym none))
+not-first true y rest none = absurd (none-some _ (sym none))
 not-first false y rest none = (refl, none)
 
 -- Where nothing is found, no element passes.
@@ -174,8 +175,8 @@ module _ {V : Type 0} {same : V → V → Bool} (laws : IsExact same) where
 
   some-difference : (cases others : List (Case V)) → (cases ≡ others) ⊎ ((place : ℕ) × DifferFrom cases others place)
   some-difference [] [] = inl refl
-  some-difference [] (other ∷ others) = inr (zero, record { equal = refl; differ = λ e. None-Some e })
-  some-difference (case ∷ cases) [] = inr (zero, record { equal = refl; differ = λ e. None-Some (sym e) })
+  some-difference [] (other ∷ others) = inr (zero, record { equal = refl; differ = λ e. none-some _ e })
+  some-difference (case ∷ cases) [] = inr (zero, record { equal = refl; differ = λ e. none-some _ (sym e) })
   some-difference (case ∷ cases) (other ∷ others) =
       ⊎_elim
       (λ alike. ⊎_elim

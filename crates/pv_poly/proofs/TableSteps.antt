@@ -1,20 +1,17 @@
 -- How a table of values is put together from the tables of a tree's sides, and read from them.
 use Rattle.std.proofs.Common.{◌≡◌, ⊎_elim, ◌⊎◌, ℕ, ◌+◌, ◌/◌, ◌^◌, suc, arith, false, List, ◌∷◌, ◌++◌, IsTrue, sym, ap, ap₂, ◌∙◌, subst, append_assoc}
-use Rattle.std.specs.List.{All, AllPairs, Contains}
+use Rattle.std.specs.List.{All, Contains}
 use Rattle.std.proofs.Math.Nat.{pow-suc}
 use Rattle.pv_base.specs.declared.txn.TxnId.{TxnId}
 use Rattle.pv_base.specs.Assignment.{precedes, assignments}
 use Rattle.pv_base.specs.Polyvalue.{Case, names, NamesOnlyAfter, IsChoice, AreValues}
 use Rattle.pv_model.proofs.AssignmentLemmas.{precedes-trans}
-use Rattle.pv_model.proofs.AscendingLemmas.{All-from_members, ascending-first, ascending-tail}
+use Rattle.pv_model.proofs.AscendingLemmas.{Ascending, All-from_members, ascending-first, ascending-tail}
 use Rattle.pv_model.proofs.ItemLemmas.{Contains-cases, Contains-first, Contains-behind}
 use Rattle.pv_model.proofs.MapLemmas.{map-same}
 use Rattle.pv_model.proofs.PolyvalueLemmas.{value_at-tested, behind-unnamed, names-tested}
 use Rattle.pv_model.proofs.TableLemmas.{values-before, values-skip, values-tested, one-values}
 use Rattle.pv_poly.proofs.TopOfTree.{IsTested}
-
-abbrev pub Ascending : List TxnId → Type 0
-Ascending txns = AllPairs (λ txn later. IsTrue (precedes txn later)) txns
 
 pub ascending-rest : {txn : TxnId} {txns rest : List TxnId} → txns ≡ txn ∷ rest → Ascending txns → Ascending rest
 ascending-rest {txn} {txns} {rest} is up = ascending-tail txn rest (subst Ascending is up)

@@ -1,30 +1,18 @@
 -- What is known of a tree's cases once its node is known, and that equal cases have equal sides.
-use Rattle.std.proofs.Common.{◌≡◌, ◌⊎◌, ⊎_elim, ◌+◌, ◌<◌, ◌≤◌, Bool, true, false, List, ◌++◌, length, inl, inr, if◌then◌else◌, IsTrue, Box, refl, sym, ap, subst, ◌∙◌, arith, length-append}
-use Rattle.std.specs.declared.alloc.Global.{Global}
-use Rattle.std.proofs.lemmas.List.{length-map}
+use Rattle.std.proofs.Common.{◌≡◌, ◌⊎◌, ⊎_elim, Bool, true, false, List, inl, inr, if◌then◌else◌, IsTrue, refl, sym, ap, subst, ◌∙◌, arith}
 use Rattle.pv_base.specs.declared.txn.TxnId.{TxnId}
 use Rattle.pv_base.specs.Assignment.{precedes, commits, with_outcome}
-use Rattle.pv_base.specs.Polyvalue.{Case, value_at, names, NamesOnlyAfter, under, IsCanonical}
+use Rattle.pv_base.specs.Polyvalue.{Case, value_at, names, NamesOnlyAfter, IsCanonical}
 use Rattle.pv_base.specs.Polyvalue.IsCanonical.{sure, tested}
 use Rattle.pv_model.proofs.AssignmentLemmas.{precedes-irrefl, precedes-trans, commits-with-same}
 use Rattle.pv_model.proofs.PolyvalueLemmas.{value_at-front, value_at-back, value_at-tested, names-tested, names-front, names-back, names-self, behind-unnamed, unnamed-free, one-canonical}
 use Rattle.pv_poly.specs.declared.tree.Node.{Node}
 use Rattle.pv_poly.specs.declared.tree.Node.TheVariants.{Sure, Test}
-use Rattle.pv_poly.specs.declared.tree.Tree.{Tree}
 use Rattle.pv_poly.specs.From.{NamesFrom, IsSide}
-use Rattle.pv_poly.specs.TreeView.{AreSides, cases_of, IsReduced}
+use Rattle.pv_poly.specs.TreeView.{cases_of, IsReduced}
+use Rattle.pv_poly.proofs.TopOfTree.{IsTested, at_Sure, front-shorter, back-shorter}
 
 module _ {V : Type 0} where
-  -- The cases are those of a test with these sides.
-  pub record AtTest (cases : List (Case V)) (t : TxnId) (front back : List (Case V)) : Type 0 where
-    pub is : cases ≡ under t false front ++ under t true back
-    pub sides : AreSides t front back
-
-  pub at-test : {node : Node V} {cases : List (Case V)} {t : TxnId} {aborted committed : Box (Tree V) Global} → cases_of node ≡ cases → IsReduced node
-      → node ≡ Test t aborted committed → AtTest cases t aborted.value committed.value
-  at-test {node} view reduced is =
-      record { is = sym view ∙ ap cases_of is; sides = subst IsReduced is reduced }
-
   -- The cases of a reduced tree are canonical.
   reduced-node : (node : Node V) → IsReduced node → IsCanonical (cases_of node)
   reduced-node (Sure value) r = sure value
@@ -36,33 +24,33 @@ module _ {V : Type 0} where
 
   -- A sure value names nothing.
   pub at-sure : {node : Node V} {cases : List (Case V)} {value : V} → cases_of node ≡ cases → node ≡ Sure value → (u : TxnId) → names cases u ≡ false
-  at-sure view is u = ap (λ (c : List (Case V)). names c u) (sym view ∙ ap cases_of is)
+  at-sure view is u = ap (λ (c : List (Case V)). names c u) (at_Sure view is)
 
   -- A test names its transaction, what its sides name, and nothing else.
-  pub test-named : {cases : List (Case V)} {t : TxnId} {front back : List (Case V)} → AtTest cases t front back → IsTrue (names cases t)
+  pub test-named : {cases : List (Case V)} {t : TxnId} {front back : List (Case V)} → IsTested t front back cases → IsTrue (names cases t)
   test-named {t = t} {front} {back} at = ap (λ (c : List (Case V)). names c t) at.is ∙ names-self t front back at.sides.front_canonical
 
-  pub test-names : {cases : List (Case V)} {t : TxnId} {front back : List (Case V)} → AtTest cases t front back → (u : TxnId) → IsTrue (names cases u)
+  pub test-names : {cases : List (Case V)} {t : TxnId} {front back : List (Case V)} → IsTested t front back cases → (u : TxnId) → IsTrue (names cases u)
       → (t ≡ u) ⊎ (IsTrue (names front u) ⊎ IsTrue (names back u))
   test-names {t = t} {front} {back} at u named = names-tested t front back u (ap (λ (c : List (Case V)). names c u) (sym at.is) ∙ named)
 
-  pub test-front : {cases : List (Case V)} {t : TxnId} {front back : List (Case V)} → AtTest cases t front back → (u : TxnId) → IsTrue (names front u) → IsTrue (names cases u)
+  pub test-front : {cases : List (Case V)} {t : TxnId} {front back : List (Case V)} → IsTested t front back cases → (u : TxnId) → IsTrue (names front u) → IsTrue (names cases u)
   test-front {t = t} {front} {back} at u named = ap (λ (c : List (Case V)). names c u) at.is ∙ names-front t front back u named
 
-  pub test-back : {cases : List (Case V)} {t : TxnId} {front back : List (Case V)} → AtTest cases t front back → (u : TxnId) → IsTrue (names back u) → IsTrue (names cases u)
+  pub test-back : {cases : List (Case V)} {t : TxnId} {front back : List (Case V)} → IsTested t front back cases → (u : TxnId) → IsTrue (names back u) → IsTrue (names cases u)
   test-back {t = t} {front} {back} at u named = ap (λ (c : List (Case V)). names c u) at.is ∙ names-back t front back u named
 
-  pub test-from : {cases : List (Case V)} {t : TxnId} {front back : List (Case V)} → AtTest cases t front back → NamesFrom t cases
+  pub test-from : {cases : List (Case V)} {t : TxnId} {front back : List (Case V)} → IsTested t front back cases → NamesFrom t cases
   test-from at u named =
       ⊎_elim (λ same. inl same) (λ side. inr (⊎_elim (at.sides.front_behind u) (at.sides.back_behind u) side)) (test-names at u named)
 
-  pub test-value : {cases : List (Case V)} {t : TxnId} {front back : List (Case V)} → AtTest cases t front back → (a : List TxnId)
+  pub test-value : {cases : List (Case V)} {t : TxnId} {front back : List (Case V)} → IsTested t front back cases → (a : List TxnId)
       → value_at cases a ≡ value_at (if commits a t then back else front) a
   test-value {t = t} {front} {back} at a = ap (λ (c : List (Case V)). value_at c a) at.is ∙ value_at-tested t front back a
 
   -- Equal cases have one top and equal sides.
 
-  one-top : {cases : List (Case V)} {t u : TxnId} {front back front' back' : List (Case V)} → AtTest cases t front back → AtTest cases u front' back' → t ≡ u
+  one-top : {cases : List (Case V)} {t u : TxnId} {front back front' back' : List (Case V)} → IsTested t front back cases → IsTested u front' back' cases → t ≡ u
   one-top {t = t} {u} at other =
       ⊎_elim
       (λ same. same)
@@ -72,69 +60,56 @@ module _ {V : Type 0} where
       (test-from other t (test-named at)))
       (test-from at u (test-named other))
 
-  front-at : {cases : List (Case V)} {t : TxnId} {front back : List (Case V)} → AtTest cases t front back → (a : List TxnId)
+  front-at : {cases : List (Case V)} {t : TxnId} {front back : List (Case V)} → IsTested t front back cases → (a : List TxnId)
       → value_at front a ≡ value_at cases (with_outcome t false a)
   front-at {t = t} {front} {back} at a =
       sym (unnamed-free t front (behind-unnamed t front at.sides.front_behind) false a)
       ∙ sym (value_at-front t front back (with_outcome t false a) (commits-with-same t false a))
       ∙ ap (λ (c : List (Case V)). value_at c (with_outcome t false a)) (sym at.is)
 
-  back-at : {cases : List (Case V)} {t : TxnId} {front back : List (Case V)} → AtTest cases t front back → (a : List TxnId)
+  back-at : {cases : List (Case V)} {t : TxnId} {front back : List (Case V)} → IsTested t front back cases → (a : List TxnId)
       → value_at back a ≡ value_at cases (with_outcome t true a)
   back-at {t = t} {front} {back} at a =
       sym (unnamed-free t back (behind-unnamed t back at.sides.back_behind) true a)
       ∙ sym (value_at-back t front back (with_outcome t true a) (commits-with-same t true a))
       ∙ ap (λ (c : List (Case V)). value_at c (with_outcome t true a)) (sym at.is)
 
-  same-sides : {cases : List (Case V)} {t : TxnId} {front back front' back' : List (Case V)} → AtTest cases t front back → AtTest cases t front' back'
+  same-sides : {cases : List (Case V)} {t : TxnId} {front back front' back' : List (Case V)} → IsTested t front back cases → IsTested t front' back' cases
       → (front ≡ front') × (back ≡ back')
   same-sides {front = front} {back} {front'} {back'} at other = (
     one-canonical front front' at.sides.front_canonical other.sides.front_canonical (λ a. front-at at a ∙ sym (front-at other a)),
     one-canonical back back' at.sides.back_canonical other.sides.back_canonical (λ a. back-at at a ∙ sym (back-at other a)),
   )
 
-  pub one-test : {cases others : List (Case V)} {t u : TxnId} {front back front' back' : List (Case V)} → AtTest cases t front back → AtTest others u front' back'
+  pub one-test : {cases others : List (Case V)} {t u : TxnId} {front back front' back' : List (Case V)} → IsTested t front back cases → IsTested u front' back' others
       → cases ≡ others → (t ≡ u) × ((front ≡ front') × (back ≡ back'))
   one-test {cases} {others} {t} {u} {front} {back} {front'} {back'} at other equal =
-      let moved = subst (λ (c : List (Case V)). AtTest c u front' back') (sym equal) other in
+      let moved = subst (λ (c : List (Case V)). IsTested u front' back' c) (sym equal) other in
       let top = one-top at moved in
-      (top, same-sides at (subst (λ (w : TxnId). AtTest cases w front' back') (sym top) moved))
+      (top, same-sides at (subst (λ (w : TxnId). IsTested w front' back' cases) (sym top) moved))
 
   -- Sides of cases that name nothing before a transaction.
 
-  length-under : (t : TxnId) (outcome : Bool) (cases : List (Case V)) → length (under t outcome cases) ≡ length cases
-  length-under t outcome cases = length-map cases _
-
-  length-tested : (t : TxnId) (front back : List (Case V)) → length (under t false front ++ under t true back) ≡ length front + length back
-  length-tested t front back =
-      omega (arith, length-append (under t false front) (under t true back), length-under t false front, length-under t true back)
-
-  some-case : (cases : List (Case V)) → IsCanonical cases → 1 ≤ length cases
-  some-case cases (sure value) = omega arith
-  some-case cases (tested t front back f b fb bb d) = omega (arith, some-case front f, length-tested t front back)
-
-  pub front-side : {cases : List (Case V)} {t : TxnId} {front back : List (Case V)} → AtTest cases t front back → IsSide t false cases front
+  pub front-side : {cases : List (Case V)} {t : TxnId} {front back : List (Case V)} → IsTested t front back cases → IsSide t false cases front
   front-side {cases} {t} {front} {back} at =
-      let short : length front < length cases = omega (arith, ap length at.is, length-tested t front back, some-case back at.sides.back_canonical) in
       record {
         same = λ a is. sym (value_at-front t front back a is) ∙ ap (λ (c : List (Case V)). value_at c a) (sym at.is);
         named = test-front at;
         behind = at.sides.front_behind;
         canonical = at.sides.front_canonical;
-        shorter = omega (arith, short);
-        smaller = λ named. short;
+        shorter = omega (arith, front-shorter at);
+        smaller = λ named. front-shorter at;
       }
 
-  pub back-side : {cases : List (Case V)} {t : TxnId} {front back : List (Case V)} → AtTest cases t front back → IsSide t true cases back
+  pub back-side : {cases : List (Case V)} {t : TxnId} {front back : List (Case V)} → IsTested t front back cases → IsSide t true cases back
   back-side {cases} {t} {front} {back} at =
-      let short : length back < length cases = omega (arith, ap length at.is, length-tested t front back, some-case front at.sides.front_canonical) in
       record {
         same = λ a is. sym (value_at-back t front back a is) ∙ ap (λ (c : List (Case V)). value_at c a) (sym at.is);
         named = test-back at;
         behind = at.sides.back_behind;
         canonical = at.sides.back_canonical;
-        shorter = omega (arith, short);
-        smaller = λ named. short;
+        shorter = omega (arith, back-shorter at);
+        smaller = λ named. back-shorter at;
       }
 
   -- Cases that name only later transactions are their own side.
@@ -150,7 +125,7 @@ module _ {V : Type 0} where
       }
 
   -- Where the test is of another transaction and nothing before this one is named, all that is named is later.
-  pub behind-other : {cases : List (Case V)} {t u : TxnId} {front back : List (Case V)} → AtTest cases u front back → (u ≡ t → ⊥) → NamesFrom t cases → NamesOnlyAfter t cases
+  pub behind-other : {cases : List (Case V)} {t u : TxnId} {front back : List (Case V)} → IsTested u front back cases → (u ≡ t → ⊥) → NamesFrom t cases → NamesOnlyAfter t cases
   behind-other {cases} {t} {u} at apart from named here =
       let before : IsTrue (precedes t u) = ⊎_elim (λ same. absurd (apart (sym same))) (λ before. before) (from u (test-named at)) in
       ⊎_elim

@@ -4,10 +4,10 @@ use Rattle.std.specs.declared.alloc.Global.{Global}
 use Rattle.pv_base.specs.declared.txn.TxnId.{TxnId}
 use Rattle.pv_base.specs.Polyvalue.{Case, under, value_at}
 use Rattle.pv_model.proofs.PolyvalueLemmas.{value_at-front}
-use Rattle.pv_poly.proofs.CasesAtLemmas.{some-case, length-tested}
 use Rattle.pv_poly.specs.declared.tree.Node.{Node}
 use Rattle.pv_poly.specs.declared.tree.Node.TheVariants.{Sure, Test}
 use Rattle.pv_poly.specs.declared.tree.Tree.{Tree}
+use Rattle.pv_poly.specs.TreeFalls.{length-tested, some_case}
 use Rattle.pv_poly.specs.TreeView.{cases_of, AreSides, IsReduced}
 
 -- The cases are those of a test of the transaction, with these sides.
@@ -31,7 +31,7 @@ none-tested {V} {txn} {front} {back} top = ap (λ (cases : List (Case V)). value
 -- Each side of a test has fewer cases.
 
 pub front-shorter : {V : Type 0} {txn : TxnId} {front back cases : List (Case V)} → IsTested txn front back cases → length front < length cases
-front-shorter {V} {txn} {front} {back} top = omega (arith, ap length top.is, length-tested txn front back, some-case top.sides.back_canonical)
+front-shorter {V} {txn} {front} {back} top = omega (arith, ap length top.is, length-tested txn front back, some_case top.sides.back_canonical)
 
 pub back-shorter : {V : Type 0} {txn : TxnId} {front back cases : List (Case V)} → IsTested txn front back cases → length back < length cases
-back-shorter {V} {txn} {front} {back} top = omega (arith, ap length top.is, length-tested txn front back, some-case top.sides.front_canonical)
+back-shorter {V} {txn} {front} {back} top = omega (arith, ap length top.is, length-tested txn front back, some_case top.sides.front_canonical)

@@ -3,7 +3,7 @@ use Rattle.std.proofs.Common.{◌≡◌, ⊎_elim, ℕ, ◌+◌, ◌<◌, ◌≤
 use Rattle.std.specs.Prelude.{is_none}
 use Rattle.std.specs.List.{Contains, filter_map, cons_option, list_any, sum}
 use Rattle.std.proofs.lemmas.Bool.{true≢false, false≢true, or_cases}
-use Rattle.std.proofs.lemmas.List.{take_more, length-map}
+use Rattle.std.proofs.lemmas.List.{append-nil, take_more, length-map}
 use Rattle.std.proofs.lemmas.List.Elements.{filter_map-append, Contains-append_left, Contains-append_right}
 use Rattle.std.proofs.lemmas.List.Sums.{sum_by-cons}
 use Rattle.pv_base.specs.declared.literal.Literal.{Literal}
@@ -23,10 +23,6 @@ use Rattle.pv_poly.proofs.MeetingLemmas.{value-of-meeting}
 use Rattle.pv_poly.proofs.OverlapLemmas.{meeting-comes}
 
 -- One meeting more.
-
-append-nil : {X : Type 0} (xs : List X) → xs ++ [] ≡ xs
-append-nil [] = refl
-append-nil (x ∷ xs) = ap (λ (ys : List _). x ∷ ys) (append-nil xs)
 
 more-values : {X Y : Type 0} (h : X → Option Y) (xs : List X) (i : ℕ) (d : X) → i < length xs
     → filter_map h (take (i + 1) xs) ≡ filter_map h (take i xs) ++ cons_option (h (get_or xs i d)) []

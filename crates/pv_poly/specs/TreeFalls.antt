@@ -1,4 +1,4 @@
--- Each side of a test has fewer cases than the test.
+-- How many cases a test has, and that a tree is no deeper than it has cases. It stands in specs because the `size_decreases` of `Tree` needs it.
 use Rattle.std.specs.Prelude.{◌≡◌, ◌≤◌, ◌+◌, max, false, true, ◌++◌, List, length}
 use Rattle.std.proofs.Common.{arith, length-append}
 use Rattle.std.proofs.lemmas.List.{length-map}
@@ -8,15 +8,16 @@ use Rattle.pv_poly.specs.declared.tree.Node.TheVariants.{Sure, Test}
 use Rattle.pv_poly.specs.declared.tree.Tree.TheDeep.{deep-Node}
 use Rattle.pv_poly.specs.TreeView.{cases_of, IsReduced}
 
-length-under : {V : Type 0} (txn : _) (outcome : _) (cases : List (Case V)) → length (under txn outcome cases) ≡ length cases
+pub length-under : {V : Type 0} (txn : _) (outcome : _) (cases : List (Case V)) → length (under txn outcome cases) ≡ length cases
 length-under txn outcome cases = length-map cases _
 
 -- how many cases a test has
-length-tested : {V : Type 0} (txn : _) (front back : List (Case V)) → length (under txn false front ++ under txn true back) ≡ length front + length back
+pub length-tested : {V : Type 0} (txn : _) (front back : List (Case V)) → length (under txn false front ++ under txn true back) ≡ length front + length back
 length-tested txn front back =
     omega (arith, length-append (under txn false front) (under txn true back), length-under txn false front, length-under txn true back)
 
-some_case : {V : Type 0} {cases : List (Case V)} → IsCanonical cases → 1 ≤ length cases
+-- canonical cases aren't none
+pub some_case : {V : Type 0} {cases : List (Case V)} → IsCanonical cases → 1 ≤ length cases
 some_case (sure value) = omega arith
 some_case (tested txn front back f b fb bb d) = omega (arith, some_case f, length-tested txn front back)
 

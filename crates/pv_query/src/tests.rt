@@ -146,3 +146,10 @@ fn nine_outcomes_are_too_many(rt: HostRuntime) -> Result<(), Fail> {
     assert_eq!(rt; refused, Some(SumError::OutcomeLimit(9)));
     Ok(())
 }
+
+#[test]
+fn each_refusal_has_its_text(rt: HostRuntime) -> Result<(), Fail> {
+    let printed = format!(in rt.alloc(); "{}, {}", SumError::OutcomeLimit(9), SumError::NoMemory)?;
+    assert_eq!(rt; printed.as_str(), "the values name 9 outcomes, no memory");
+    Ok(())
+}

@@ -328,3 +328,14 @@ fn each_program_does_what_one_thread_does(rt: HostRuntime) -> Result<(), Fail> {
     }
     Ok(())
 }
+
+#[test]
+fn each_refusal_has_its_text(rt: HostRuntime) -> Result<(), Fail> {
+    let printed = format!(in rt.alloc();
+        "{}, {}",
+        SplitError::OutcomeLimit(8),
+        SplitError::NoMemory
+    )?;
+    assert_eq!(rt; printed.as_str(), "the reads name 8 outcomes, no memory");
+    Ok(())
+}

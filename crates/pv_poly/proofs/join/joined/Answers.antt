@@ -6,11 +6,12 @@ use Rattle.pv_base.specs.declared.txn.TxnId.{TxnId}
 use Rattle.pv_base.specs.Assignment.{assignments}
 use Rattle.pv_base.specs.CaseFaults.{too_many, overlap, gap, AreComplete}
 use Rattle.pv_base.specs.Polyvalue.{AreValues}
+use Rattle.pv_model.proofs.TableLemmas.{length-values}
 use Rattle.pv_poly.specs.Meetings.{meetings_of}
 use Rattle.pv_poly.proofs.ValuesMetLemmas.{names-of-literals}
 use Rattle.pv_poly.proofs.GapLemmas.{disjoint-complete-sound}
 use Rattle.pv_poly.proofs.CaseFaultLemmas.{no-case-fault}
-use Rattle.pv_poly.proofs.JoinedLemmas.{refused-by, told-by, count-fault, overlap-fault, disjoint-from, gap-fault, complete-from, place-within, values-from, values-whole, joined-read}
+use Rattle.pv_poly.proofs.JoinedLemmas.{refused-by, told-by, count-fault, overlap-fault, disjoint-from, gap-fault, complete-from, place-within, values-from, joined-read}
 use Rattle.pv_poly.proofs.join.joined.Goals as goal
 
 pub overflow_cast-result : goal.overflow_cast-result
@@ -83,7 +84,7 @@ from_table-requires-clause-whole g c =
     let are : AreValues c.args.cases.now c.in_ok-txns.txns.items c.in_ok-values.values.items = values-from c.args.cases.now c.in_ok-txns.txns.items c.deref-4.result.now c.in_ok-values.values.items whole
     (c.deref-4.ensures.value ∙ c.in_ok-table.ensures ∙ ap (meetings_of c.args.cases.now) c.deref.ensures.value) c.in_ok-values.ensures in
     ap (λ (vs : List _). length vs) c.deref-6.ensures.value
-    ∙ values-whole c.args.cases.now c.in_ok-txns.txns.items c.in_ok-values.values.items are
+    ∙ length-values c.args.cases.now c.in_ok-txns.txns.items c.in_ok-values.values.items are
     ∙ ap (λ (ts : List TxnId). 2 ^ length ts) (sym c.deref-5.ensures.value)
 
 pub returns-clause-values : goal.returns-clause-values

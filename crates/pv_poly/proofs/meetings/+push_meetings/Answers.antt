@@ -1,6 +1,7 @@
 -- The meetings of both outcomes of the first transaction are behind one another.
 use Rattle.std.proofs.Common.{rules, ◌∙◌, arith}
-use Rattle.pv_poly.proofs.PartingLemmas.{push-none, push-first, still-there, ascending-behind}
+use Rattle.pv_poly.proofs.PartingLemmas.{push-none, push-first, still-there}
+use Rattle.pv_poly.proofs.TableSteps.{ascending-rest}
 use Rattle.pv_poly.proofs.meetings.+push_meetings.Goals as goal
 
 pub returns-in_default : goal.returns-in_default
@@ -15,7 +16,7 @@ push_meetings-requires g t c κs within = (
     search rules,
     (
       still-there c.args.cases.now c.args.places.now _ _ _ (c.deref.ensures.value ∙ c.in_ok-without.ensures) c.requires.there,
-      ascending-behind c.args.txns.now _ _ c.in-Some.ensures.cases.0 c.requires.ascending,
+      ascending-rest c.in-Some.ensures.cases.0 c.requires.ascending,
     ),
   ),
 )
@@ -27,7 +28,7 @@ push_meetings-requires-2 g t c κs within = (
     search rules,
     (
       still-there c.args.cases.now c.args.places.now _ _ _ (c.deref-2.ensures.value ∙ c.in_ok-with.ensures) c.requires.there,
-      ascending-behind c.args.txns.now _ _ c.in-Some.ensures.cases.0 c.requires.ascending,
+      ascending-rest c.in-Some.ensures.cases.0 c.requires.ascending,
     ),
   ),
 )

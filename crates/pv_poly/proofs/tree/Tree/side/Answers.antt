@@ -1,22 +1,23 @@
 use Rattle.std.proofs.Common.{sym, ◌∙◌}
 use Rattle.std.proofs.lemmas.Bool.{false≢true}
-use Rattle.pv_poly.proofs.EqualTxnLemmas.{equal-txns, unequal-txns}
-use Rattle.pv_poly.proofs.TestLemmas.{at-test, at-sure, reduced-canonical, front-side, back-side, whole-side, behind-other, side-is}
+use Rattle.pv_poly.proofs.TxnTests.{equal-txns, unequal-txns}
+use Rattle.pv_poly.proofs.TopOfTree.{at_Test}
+use Rattle.pv_poly.proofs.TestLemmas.{at-sure, reduced-canonical, front-side, back-side, whole-side, behind-other, side-is}
 use Rattle.pv_poly.proofs.tree.Tree.side.Goals as goal
 
 pub returns-then-commits : goal.returns-then-commits
 returns-then-commits g c =
-    side-is (back-side (at-test c.self.view_is c.self.invariant c.in-Test.is)) (equal-txns c.in-Test.tested c.args.txn c.eq.ensures c.if-eq.true)
+    side-is (back-side (at_Test c.self.view_is c.self.invariant c.in-Test.is)) (equal-txns c.in-Test.tested c.args.txn c.eq.ensures c.if-eq.true)
     c.if-commits.true c.deref.ensures
 
 pub returns-else-commits : goal.returns-else-commits
 returns-else-commits g c =
-    side-is (front-side (at-test c.self.view_is c.self.invariant c.in-Test.is)) (equal-txns c.in-Test.tested c.args.txn c.eq.ensures c.if-eq.true)
+    side-is (front-side (at_Test c.self.view_is c.self.invariant c.in-Test.is)) (equal-txns c.in-Test.tested c.args.txn c.eq.ensures c.if-eq.true)
     c.if-commits.false c.deref-else-commits.ensures
 
 pub returns-in_default : goal.returns-in_default
 returns-in_default g c =
-    let at = at-test c.self.view_is c.self.invariant c.in-Test.is in
+    let at = at_Test c.self.view_is c.self.invariant c.in-Test.is in
     whole-side c.args.txn c.args.commits (reduced-canonical c.self.inside.node c.self.view_is c.self.invariant)
     (behind-other at (unequal-txns c.in-Test.tested c.args.txn c.eq.ensures c.if-eq.false) c.requires)
 
