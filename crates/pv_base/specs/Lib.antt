@@ -1,3 +1,4 @@
+pub mod Answer
 pub mod Assignment
 pub mod CaseFaults
 pub mod Catalog
@@ -6,3 +7,4 @@ pub mod Fault
 pub mod Name
 pub mod Polyvalue
 pub mod Txn
+pub mod Want
