@@ -11,11 +11,11 @@ ghost use Rattle.pv_parse.specs.ChainView.{chain_of};
 ghost use Rattle.pv_parse.specs.Reading.{is_minus, rest_of, IsNext, ReadsPart, Stops};
 
 use crate::ParseError;
-use crate::cursor::{Cursor, MAX_DEPTH, Word};
+use crate::cursor::{Cursor, Word};
 use crate::parser::{Chain, Mark, Parser};
 use crate::token::{Token, number_of};
 use pv_ast::{Expr, Op, Operand};
-use pv_base::NoMemory;
+use pv_base::{MAX_DEPTH, NoMemory};
 use std::alloc::Global;
 
 impl<'a> Parser<'a> {

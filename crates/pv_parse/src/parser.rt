@@ -10,10 +10,10 @@ ghost use Rattle.pv_parse.specs.TokenView.{token_of};
 ghost use Rattle.pv_parse.specs.Reading.{column_of, has_no_operator, rest_of, IsNext, Stops, TakesOperator, PassesMark};
 
 use crate::ParseError;
-use crate::cursor::{Cursor, MAX_DEPTH};
+use crate::cursor::Cursor;
 use crate::token::Token;
 use pv_ast::Op;
-use pv_base::{Catalog, ItemId};
+use pv_base::{Catalog, ItemId, MAX_DEPTH};
 use std::alloc::Global;
 use std::marker::Model;
 

@@ -6,10 +6,11 @@ ghost use Rattle.pv_parse.specs.Reading.{rest_of, IsNext, Stops};
 ghost use Rattle.pv_parse.specs.ReadingPrograms.{ReadsBody, ReadsStmt, ReadsWhole, StopsBraced};
 
 use crate::ParseError;
-use crate::cursor::{Cursor, MAX_DEPTH, Word};
+use crate::cursor::{Cursor, Word};
 use crate::parser::{Chain, Mark, Parser};
 use crate::token::Token;
 use pv_ast::{Program, Stmt};
+use pv_base::MAX_DEPTH;
 
 impl<'a> Parser<'a> {
     /// A program, which has a statement at least. Any number of them is read without recursion.

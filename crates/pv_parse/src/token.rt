@@ -6,7 +6,7 @@ ghost use Rattle.pv_parse.specs.TokenView.{located_of, HasDigits};
 
 use crate::lexer::{first_token, is_blank};
 use pv_ast::Op;
-use pv_base::NoMemory;
+use pv_base::{MAX_LINE, NoMemory};
 use std::alloc::Global;
 use std::str;
 
@@ -60,7 +60,7 @@ pub(crate) struct Located<'a> {
 
 /// The tokens of a text. Its one error is want of memory.
 pub(crate) fn tokens_of<'a>(alloc: Global, text: &'a [u8]) -> Result<Vec<Located<'a>>, NoMemory>
-    requires short { length text.now ≤ 1000 }
+    requires short { length text.now ≤ MAX_LINE }
     ensures tokens { IfOk result (λ found. HasTokens text.now (map located_of found.items)) }
     ensures digits { IfOk result (λ found. All (λ located. HasDigits located.token) found.items) }
 {
