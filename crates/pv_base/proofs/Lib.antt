@@ -1,2 +1,6 @@
 -- The lemmas of this crate.
 pub mod EntryLemmas
+pub mod AssignmentLemmas
+pub mod Basics
+pub mod ContainsLemmas
+pub mod MapLemmas

@@ -2,7 +2,7 @@
 use Rattle.std.proofs.Common.{rules, ◌≤◌, length}
 use Rattle.std.proofs.lemmas.Result.{err_from_is_err_and}
 use Rattle.pv_parse.proofs.ParseLemmas.{program-text, refused-text, read-ok, read-of, refuses-of}
-use Rattle.pv_model.proofs.NoRefusalLemmas.{no_refusal}
+use Rattle.pv_law_programs.proofs.NoRefusalLemmas.{no_refusal}
 use Rattle.pv_parse.proofs.parsing.parse.Goals as goal
 
 pub returns-clause-program : goal.returns-clause-program
