@@ -6,10 +6,10 @@ use Rattle.std.proofs.lemmas.List.{append-nil}
 use Rattle.pv_io.specs.Stream.{AppendsPrefix}
 use Rattle.pv_model.specs.Causes.{Cause}
 use Rattle.pv_model.specs.Events.{Schedule}
-use Rattle.pv_model.specs.Form.{not_built}
+use Rattle.pv_script.specs.Form.{not_built}
 use Rattle.pv_model.specs.Schedule.{IsSchedule}
 use Rattle.pv_model.specs.Run.{output_of}
-use Rattle.pv_model.proofs.OneScheduleLemmas.{one_schedule, one_fault, no_fault}
+use Rattle.pv_law_schedules.proofs.OneScheduleLemmas.{one_schedule, one_fault, no_fault}
 use Rattle.pv_app.specs.declared.status.Status.{Status}
 use Rattle.pv_app.specs.declared.status.Status.TheVariants.{Done, Usage, Malformed, WriteFault, TooLong, NoMemory}
 use Rattle.pv_app.specs.Answers.{IsAnswer, IsRefusedAt, GivesUp, GrowsBySome, fault_text, max_input}

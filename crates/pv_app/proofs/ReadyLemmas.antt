@@ -2,8 +2,8 @@
 use Rattle.std.proofs.Common.{◌≡◌, ⊎_elim, ℕ, ◌≤◌, Option, Some, None, All, List, [], ◌∷◌, length, refl, sym, ap, ◌∙◌, subst, arith, length-append}
 use Rattle.std.proofs.lemmas.List.Elements.{All-cons, All-nil}
 use Rattle.pv_base.specs.Catalog.{Declared}
-use Rattle.pv_model.proofs.DeclaredItems.{declared-items}
-use Rattle.pv_model.proofs.ProgramLemmas.{items_stay}
+use Rattle.pv_law_programs.proofs.DeclaredItems.{declared-items}
+use Rattle.pv_law_programs.proofs.ProgramLemmas.{items_stay}
 use Rattle.pv_model.specs.Causes.{Before, declared_by}
 use Rattle.pv_model.specs.Events.{Event, submit, pump, Schedule}
 use Rattle.pv_model.specs.Run.{World, opening, after_commit, after}

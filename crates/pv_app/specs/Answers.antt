@@ -8,7 +8,7 @@ use Rattle.pv_app.specs.declared.run.RunEnd.{RunEnd}
 use Rattle.pv_app.specs.declared.run.RunEnd.TheVariants as end
 use Rattle.pv_model.specs.Causes.{Cause, too_long, not_text, sites_expected, unknown_word, twice, too_late, wrong_count, bad_number, bad_mode, bad_name, name_taken, too_many_items, at_program, names_no_item, too_many_names, query_assigns, no_return}
 use Rattle.pv_model.specs.Events.{Schedule}
-use Rattle.pv_model.specs.Form.{not_built}
+use Rattle.pv_script.specs.Form.{not_built}
 use Rattle.pv_model.specs.Print.{line_feed}
 use Rattle.pv_model.specs.ProgramText.{malformed, unknown_name, too_deep}
 use Rattle.pv_model.specs.Schedule.{IsSchedule, IsMalformed}

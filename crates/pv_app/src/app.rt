@@ -5,7 +5,7 @@ ghost use Rattle.std.specs.Io.KnownBytes.{Appends, Keeps};
 ghost use Rattle.pv_base.specs.Fault.{Rose};
 ghost use Rattle.pv_io.specs.Stream.{AppendsPrefix};
 ghost use Rattle.pv_model.specs.Events as model;
-ghost use Rattle.pv_model.specs.Form.{not_built};
+ghost use Rattle.pv_script.specs.Form.{not_built};
 ghost use Rattle.pv_model.specs.Run.{Agrees, RepliesAgree, output_of};
 ghost use Rattle.pv_model.specs.Schedule.{IsSchedule};
 ghost use Rattle.pv_script.specs.Answers.{cause_of};

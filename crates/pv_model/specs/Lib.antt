@@ -4,12 +4,10 @@ pub mod Causes
 pub mod Check
 pub mod Events
 pub mod FirstFault
-pub mod Form
 pub mod Grammar
 pub mod Items
 pub mod LineForms
 pub mod Meaning
-pub mod Prediction
 pub mod Print
 pub mod ProgramLaws
 pub mod ProgramText

@@ -1,4 +1,4 @@
--- Programs as lists, from which they can be had back. A type that is seen as a program needs such a code.
+-- A device that no claim names: programs as lists, from which they can be had back. A type that is seen as a program needs such a code.
 use Rattle.std.specs.Prelude.{◌≡◌, ℕ, zero, suc, ℤ, List, [], ◌∷◌, ◌⊎◌, get_or, refl}
 use Rattle.std.proofs.Common.{inl, inr, ap, ◌∙◌}
 use Rattle.std.specs.Coded.{Coded, code_by, coded_list, coded_ℕ, coded_ℤ, coded×, coded⊎}

@@ -10,7 +10,7 @@ use Rattle.pv_model.specs.Tokens.{Token}
 use Rattle.pv_model.specs.Grammar as grammar
 use Rattle.pv_model.specs.Grammar.{Placed, disjunction, chain, Reads, ReadsProgram, ReadsNext}
 use Rattle.pv_model.specs.ProgramText.{Kind, item_in}
-use Rattle.pv_model.specs.Prediction.{mark, program, next, other, opens_body, closes_body, Expected, placed}
+use Rattle.pv_law_programs.specs.Prediction.{mark, program, next, other, opens_body, closes_body, Expected, placed}
 use Rattle.pv_parse.specs.declared.error.ParseError.{ParseError}
 use Rattle.pv_parse.specs.Reading.{Columned, Source, fault_in, IsFault, Skips, Stops, ReadsPart, PassesMark, PassesToken}
 use Rattle.pv_parse.specs.ReadingPrograms.{ReadsWhole, ReadsStmt, ReadsBody, StopsBraced, braced}

@@ -9,7 +9,7 @@ use Rattle.pv_model.specs.Tokens.{Token}
 use Rattle.pv_model.specs.Grammar as grammar
 use Rattle.pv_model.specs.Grammar.{Placed, Chain, disjunction, conjunction, sum, product, Part, chain, negated, comparison, unary, joins, compares, is_min_or_max, side, Reads, GoesOn}
 use Rattle.pv_model.specs.ProgramText.{Kind, malformed, item_in}
-use Rattle.pv_model.specs.Prediction.{part, more, comparing, Expected, may_end, step, placed, first_fault}
+use Rattle.pv_law_programs.specs.Prediction.{part, more, comparing, Expected, may_end, step, placed, first_fault}
 use Rattle.pv_parse.specs.declared.error.ParseError.{ParseError}
 use Rattle.pv_parse.specs.Reading.{Columned, Source, fault_in, IsFault, Stops, ReadsPart, PassesToken, Skips}
 use Rattle.pv_parse.specs.declared.cursor.Word.TheVariants.{Not}

@@ -9,7 +9,7 @@ use Rattle.std.proofs.lemmas.Bool.{both_ways, cases_lt}
 use Rattle.std.proofs.lemmas.Str.Parse.{parse_signed_digits}
 use Rattle.pv_model.specs.Text.{value_of}
 use Rattle.pv_model.specs.Tokens.{is_digits}
-use Rattle.pv_model.proofs.NumberLemmas.{numerals, IsUtf8-digits}
+use Rattle.pv_law_programs.proofs.NumberLemmas.{numerals, IsUtf8-digits}
 use Rattle.pv_parse.proofs.TokenKinds.{digits_all}
 
 some_digits : (digits : List ℕ) → is_digits digits ≡ true → 0 < length digits

@@ -5,8 +5,8 @@ use Rattle.pv_model.specs.Syntax as model
 use Rattle.pv_model.specs.Tokens.{Token}
 use Rattle.pv_model.specs.Grammar.{Chain, joins, compares, side, chain, sum}
 use Rattle.pv_model.specs.ProgramText.{too_deep, item_in}
-use Rattle.pv_model.specs.Prediction.{more, comparing, part, mark, Mark, is_mark, Expected, behind_symbol, is_unknown, placed}
-use Rattle.pv_model.proofs.Basics.{never, heads}
+use Rattle.pv_law_programs.specs.Prediction.{more, comparing, part, mark, Mark, is_mark, Expected, behind_symbol, is_unknown, placed}
+use Rattle.pv_base.proofs.Basics.{never, heads}
 use Rattle.pv_parse.specs.declared.error.ParseError.TheVariants.{Malformed, TooDeep}
 use Rattle.pv_parse.specs.declared.parser.Mark.{Mark as Marked}
 use Rattle.pv_parse.specs.declared.parser.Mark.TheVariants.{Becomes, Open, Close, OpenBody, CloseBody, Comma}

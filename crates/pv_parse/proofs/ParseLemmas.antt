@@ -8,12 +8,12 @@ use Rattle.pv_model.specs.Syntax as model
 use Rattle.pv_model.specs.Tokens.{Token, HasTokens}
 use Rattle.pv_model.specs.ProgramText.{malformed, unknown_name, too_deep, item_in, IsProgramText, Refusal, too_large, at_fault, IsRefused}
 use Rattle.pv_model.specs.Grammar.{ReadsProgram}
-use Rattle.pv_model.specs.Prediction.{program, step, at_start, placed, first_fault}
-use Rattle.pv_model.proofs.AcceptedLemmas.{placed-of}
-use Rattle.pv_model.proofs.LeftmostLemmas.{refused}
-use Rattle.pv_model.proofs.NoRefusalLemmas.{no_refusal}
-use Rattle.pv_model.proofs.ProgramTextLemmas.{one_program_text, one_refusal}
-use Rattle.pv_model.proofs.SomeAnswer.{some_answer}
+use Rattle.pv_law_programs.specs.Prediction.{program, step, at_start, placed, first_fault}
+use Rattle.pv_law_programs.proofs.AcceptedLemmas.{placed-of}
+use Rattle.pv_law_programs.proofs.LeftmostLemmas.{refused}
+use Rattle.pv_law_programs.proofs.NoRefusalLemmas.{no_refusal}
+use Rattle.pv_law_programs.proofs.ProgramTextLemmas.{one_program_text, one_refusal}
+use Rattle.pv_law_programs.proofs.SomeAnswer.{some_answer}
 use Rattle.pv_parse.specs.declared.error.ParseError.{ParseError}
 use Rattle.pv_parse.specs.declared.error.ParseError.TheVariants.{TooLarge, Malformed, UnknownName, TooDeep, NoMemory}
 use Rattle.pv_parse.specs.Reading.{Columned, Source, fault_in, Stops}

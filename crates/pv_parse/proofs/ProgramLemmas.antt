@@ -13,7 +13,7 @@ use Rattle.pv_model.specs.Tokens.{Token}
 use Rattle.pv_model.specs.Grammar as grammar
 use Rattle.pv_model.specs.Grammar.{Placed, disjunction, chain, Reads, ReadsProgram, ReadsNext}
 use Rattle.pv_model.specs.ProgramText.{item_in}
-use Rattle.pv_model.specs.Prediction.{part, mark, program, next, other, becomes, opens_body, closes_body, Expected, behind_symbol, placed}
+use Rattle.pv_law_programs.specs.Prediction.{part, mark, program, next, other, becomes, opens_body, closes_body, Expected, behind_symbol, placed}
 use Rattle.pv_parse.specs.declared.error.ParseError.{ParseError}
 use Rattle.pv_parse.specs.declared.error.ParseError.TheVariants.{Malformed, UnknownName, TooDeep}
 use Rattle.pv_parse.specs.declared.token.Token.{Token as Read}

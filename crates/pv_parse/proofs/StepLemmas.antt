@@ -5,7 +5,7 @@ use Rattle.std.proofs.lemmas.Bool.{lt-ltb, le-ltb}
 use Rattle.std.specs.Option.{option_map_or}
 use Rattle.pv_model.specs.Tokens.{Token}
 use Rattle.pv_model.specs.ProgramText.{Kind, malformed, unknown_name, too_deep, item_in}
-use Rattle.pv_model.specs.Prediction.{Symbol, Expected, is_optional, may_end, behind_symbol, step, placed, is_unknown, first_fault}
+use Rattle.pv_law_programs.specs.Prediction.{Symbol, Expected, is_optional, may_end, behind_symbol, step, placed, is_unknown, first_fault}
 use Rattle.pv_parse.specs.Reading.{Columned, Source, fault_in, Skips}
 
 -- the first fault from a token on, by what is expected behind it, or where it can't come

@@ -10,7 +10,7 @@ use Rattle.pv_model.specs.Tokens.{Token}
 use Rattle.pv_model.specs.Grammar as grammar
 use Rattle.pv_model.specs.Grammar.{Placed, disjunction, chain, unary, is_min_or_max, Reads}
 use Rattle.pv_model.specs.ProgramText.{item_in}
-use Rattle.pv_model.specs.Prediction.{part, mark, opens, closes, comma, Expected, behind_symbol, placed, is_unknown}
+use Rattle.pv_law_programs.specs.Prediction.{part, mark, opens, closes, comma, Expected, behind_symbol, placed, is_unknown}
 use Rattle.pv_parse.specs.declared.error.ParseError.{ParseError}
 use Rattle.pv_parse.specs.declared.error.ParseError.TheVariants.{Malformed, UnknownName, TooDeep}
 use Rattle.pv_parse.specs.Reading.{Columned, Source, fault_in, is_minus, Stops, ReadsPart, PassesMark}

@@ -4,7 +4,7 @@ use Rattle.pv_parse.specs.declared.parser.Chain.TheVariants.{Disjunction, Conjun
 use Rattle.pv_parse.specs.declared.parser.Mark.{Mark}
 use Rattle.pv_parse.specs.declared.parser.Mark.TheVariants.{Becomes, Open, Close, OpenBody, CloseBody, Comma}
 use Rattle.pv_model.specs.Grammar as grammar
-use Rattle.pv_model.specs.Prediction as prediction
+use Rattle.pv_law_programs.specs.Prediction as prediction
 use Rattle.pv_model.specs.Tokens.{Token}
 
 abbrev pub chain_of : Chain → grammar.Chain

@@ -5,7 +5,7 @@ use Rattle.pv_model.specs.Syntax as model
 use Rattle.pv_model.specs.Tokens.{Token}
 use Rattle.pv_model.specs.Grammar.{Part, Reads}
 use Rattle.pv_model.specs.ProgramText.{Kind, malformed, unknown_name, too_deep, item_in}
-use Rattle.pv_model.specs.Prediction.{Symbol, part, mark, Mark, Expected, placed, first_fault}
+use Rattle.pv_law_programs.specs.Prediction.{Symbol, part, mark, Mark, Expected, placed, first_fault}
 use Rattle.pv_ast.specs.declared.expr.Op.{Op}
 use Rattle.pv_ast.specs.OpView.{op_of}
 use Rattle.pv_parse.specs.declared.error.ParseError.{ParseError}

@@ -6,7 +6,7 @@ use Rattle.pv_model.specs.Syntax as model
 use Rattle.pv_model.specs.Tokens.{Token}
 use Rattle.pv_model.specs.Grammar.{Placed, ReadsProgram, ReadsNext}
 use Rattle.pv_model.specs.ProgramText.{item_in}
-use Rattle.pv_model.specs.Prediction.{mark, opens_body, closes_body, program, next, Expected, placed}
+use Rattle.pv_law_programs.specs.Prediction.{mark, opens_body, closes_body, program, next, Expected, placed}
 use Rattle.pv_parse.specs.declared.error.ParseError.{ParseError}
 use Rattle.pv_parse.specs.Reading.{Columned, Source, fault_in, IsFault}
 

@@ -3,7 +3,7 @@ use Rattle.std.specs.Prelude.{◌≡◌, Option, Some, None, []}
 use Rattle.pv_model.specs.Syntax as model
 use Rattle.pv_model.specs.Grammar.{ReadsProgram}
 use Rattle.pv_model.specs.ProgramText.{malformed, unknown_name, too_deep, item_in, Refusal, too_large, at_fault}
-use Rattle.pv_model.specs.Prediction.{at_start, placed}
+use Rattle.pv_law_programs.specs.Prediction.{at_start, placed}
 use Rattle.pv_parse.specs.declared.error.ParseError.{ParseError}
 use Rattle.pv_parse.specs.declared.error.ParseError.TheVariants.{TooLarge, Malformed, UnknownName, TooDeep, NoMemory}
 use Rattle.pv_parse.specs.Reading.{Columned, Source, fault_in, IsFault}

@@ -1,7 +1,7 @@
 // Reading expressions, by recursive descent: a function for each part, which reads as much as belongs to it.
 ghost use Rattle.std.specs.Prelude.{◌≡◌, ◌+◌, ◌≤◌, ◌<◌, ◌∷◌, IsTrue, IfErr, IfOk};
 ghost use Rattle.pv_model.specs.Grammar as grammar;
-ghost use Rattle.pv_model.specs.Prediction as expected;
+ghost use Rattle.pv_law_programs.specs.Prediction as expected;
 ghost use Rattle.pv_model.specs.Syntax as model;
 ghost use Rattle.pv_model.specs.Text.{value_of};
 ghost use Rattle.pv_model.specs.Tokens as text;

@@ -1,7 +1,7 @@
 // What programs are read with, token by token.
 ghost use Rattle.std.specs.Prelude.{◌≡◌, ℕ, ◌<◌, ◌≤◌, Err, Some, None, IsTrue, IfErr, IfOk, IfNone, IfSome, OnOk, ◌∷◌};
 ghost use Rattle.pv_model.specs.Grammar.{joins, compares};
-ghost use Rattle.pv_model.specs.Prediction.{more, comparing, mark, is_mark};
+ghost use Rattle.pv_law_programs.specs.Prediction.{more, comparing, mark, is_mark};
 ghost use Rattle.pv_model.specs.ProgramText.{item_in};
 ghost use Rattle.pv_model.specs.Tokens as model;
 ghost use Rattle.pv_ast.specs.OpView.{op_of};

@@ -1,6 +1,6 @@
 // Reading statements and programs, by recursive descent over the programs within them.
 ghost use Rattle.std.specs.Prelude.{◌≡◌, ◌+◌, ◌≤◌, ◌∷◌, IfErr, IfOk};
-ghost use Rattle.pv_model.specs.Prediction as expected;
+ghost use Rattle.pv_law_programs.specs.Prediction as expected;
 ghost use Rattle.pv_model.specs.Tokens as text;
 ghost use Rattle.pv_parse.specs.Reading.{rest_of, IsNext, Stops};
 ghost use Rattle.pv_parse.specs.ReadingPrograms.{ReadsBody, ReadsStmt, ReadsWhole, StopsBraced};

@@ -2,6 +2,7 @@
 use Rattle.std.proofs.Common.{◌≡◌, ◌≢◌, ℕ, ◌<◌, ◌≤◌, true, false, Option, Some, None, List, [], ◌∷◌, length, refl, sym, ap, ◌∙◌, subst, arith, find}
 use Rattle.std.specs.Prelude.{◌==◌}
 use Rattle.std.specs.List.{list_all, Contains}
+use Rattle.std.proofs.lemmas.Option.{none-some}
 use Rattle.std.proofs.lemmas.Bool.{both_ways}
 use Rattle.pv_model.specs.Causes.{Before, Cause, too_long, not_text, sites_expected, unknown_word, twice, too_late, wrong_count, bad_number, bad_mode, bad_name, name_taken, too_many_items, at_program, names_no_item, too_many_names, query_assigns, rank, HasCause, or_default}
 use Rattle.pv_model.specs.LineForms.{Field, mode, first_of, first_word, forms_of, takes_program, site_and_text, program_text, arguments, form_of, fields_in, fields_of, has_good_number}
@@ -103,9 +104,6 @@ IsLineFault-bytes before line short bytes = told before line NotText not_text re
 
 pub none-text : (before : Before) (line : Line) → IsText line → NoneBefore before line 2
 none-text before line is = none2 before line (none-long before line is.short) (λ bytes. both_ways (list_all is_text_byte line) bytes is.bytes)
-
-none-some : {X : Type 0} (x : X) → None ≡ Some x → ⊥
-none-some x e = cc
 
 -- a line behind the count of sites
 pub none-said : (before : Before) (line : Line) (sites : ℕ) → IsText line → before.sites ≡ Some sites → NoneBefore before line 3

@@ -16,9 +16,9 @@ use Rattle.pv_model.specs.ProgramText.{malformed, unknown_name, too_deep, IsProg
 use Rattle.pv_model.specs.Schedule.{request_word, IsRequest}
 use Rattle.pv_model.specs.Syntax.{Program}
 use Rattle.pv_model.specs.Text.{Line, IsNumber}
-use Rattle.pv_model.proofs.ItemLemmas.{one_items}
-use Rattle.pv_model.proofs.NoRefusalLemmas.{no_refusal}
-use Rattle.pv_model.proofs.ProgramTextLemmas.{one_program_text}
+use Rattle.pv_law_programs.proofs.ItemLemmas.{one_items}
+use Rattle.pv_law_programs.proofs.NoRefusalLemmas.{no_refusal}
+use Rattle.pv_law_programs.proofs.ProgramTextLemmas.{one_program_text}
 use Rattle.pv_script.specs.Faults.{texts, form_among, fault_of_parse, fault_of_check, IsFault, IsLineFault}
 use Rattle.pv_script.specs.Said.{IsHead}
 use Rattle.pv_script.specs.declared.fault.Fault.TheVariants.{At}

@@ -18,7 +18,7 @@ use Rattle.pv_script.specs.declared.schedule.Event.TheVariants.{Submit, Deliver,
 use Rattle.pv_script.specs.declared.schedule.ScriptError.{ScriptError}
 use Rattle.pv_script.specs.declared.schedule.ScriptError.TheVariants.{Malformed, NoMemory}
 use Rattle.pv_script.proofs.FaultLemmas.{IsAtFaultFrom, fault-whole, fault-declares}
-use Rattle.pv_model.proofs.OneScheduleLemmas.{one_fault, no_fault}
+use Rattle.pv_law_schedules.proofs.OneScheduleLemmas.{one_fault, no_fault}
 
 -- The catalog is what was declared.
 pub limited : (said : Said) → IsLimited said → declared_by (before_of said) ≡ said.catalog

@@ -4,7 +4,7 @@ use Rattle.std.specs.Prelude.{nat_le, ◌&&◌}
 use Rattle.std.specs.List.{list_all}
 use Rattle.std.proofs.lemmas.Bool.{eq-eqb, ne_eqb, leb-true, leb-false}
 use Rattle.std.proofs.Math.Nat.{pow-succ', mul-le-mul_right}
-use Rattle.pv_model.specs.Form as model
+use Rattle.pv_script.specs.Form as model
 use Rattle.pv_model.specs.LineForms.{first_of, takes_program}
 use Rattle.pv_model.specs.Text.{Line, value_of, words}
 use Rattle.pv_script.specs.Faults.{texts}

@@ -6,3 +6,4 @@ pub mod Keywords
 pub mod Said
 pub mod Stages
 pub mod Takes
+pub mod Form

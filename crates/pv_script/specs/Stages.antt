@@ -1,6 +1,6 @@
 -- What may come next, as plain data.
 use Rattle.std.specs.Prelude.{ℕ, Option, Some, None, List, if◌then◌else◌}
-use Rattle.pv_model.specs.Form as model
+use Rattle.pv_script.specs.Form as model
 use Rattle.pv_model.specs.LineForms.{takes_program}
 use Rattle.pv_script.specs.declared.stages.Stage.{Stage}
 use Rattle.pv_script.specs.declared.stages.Stage.TheVariants.{Sites, Any, Pump}

@@ -2,7 +2,7 @@
 ghost use Rattle.std.specs.Prelude.{◌≡◌, ◌==◌, ◌≤◌, ℕ, nat_le, List, length, IfOk};
 ghost use Rattle.std.specs.List.{list_all};
 ghost use Rattle.std.specs.Option.{option_map};
-ghost use Rattle.pv_model.specs.Form as model;
+ghost use Rattle.pv_script.specs.Form as model;
 ghost use Rattle.pv_model.specs.LineForms.{first_of, takes_program};
 ghost use Rattle.pv_model.specs.Text as written;
 ghost use Rattle.pv_model.specs.Text.{value_of};

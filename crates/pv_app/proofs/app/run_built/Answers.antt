@@ -1,6 +1,6 @@
 -- What was written is a beginning of the one answer that the input has.
 use Rattle.std.proofs.Common.{◌≡◌, Some, None, refl}
-use Rattle.pv_model.specs.Form.{not_built}
+use Rattle.pv_script.specs.Form.{not_built}
 use Rattle.pv_model.specs.Run.{output_of}
 use Rattle.pv_script.specs.View.{schedule_of}
 use Rattle.pv_app.specs.declared.status.Status.TheVariants.{Done, Malformed}

@@ -6,7 +6,7 @@ use Rattle.pv_base.specs.declared.txn.TxnId.{TxnId}
 use Rattle.pv_base.specs.Assignment.{assignments}
 use Rattle.pv_base.specs.CaseFaults.{too_many, overlap, gap, AreComplete}
 use Rattle.pv_base.specs.Polyvalue.{AreValues}
-use Rattle.pv_model.proofs.TableLemmas.{length-values}
+use Rattle.pv_law_polyvalues.proofs.TableLemmas.{length-values}
 use Rattle.pv_poly.specs.Meetings.{meetings_of}
 use Rattle.pv_poly.proofs.ValuesMetLemmas.{names-of-literals}
 use Rattle.pv_poly.proofs.GapLemmas.{disjoint-complete-sound}

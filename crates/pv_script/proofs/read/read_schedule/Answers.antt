@@ -10,7 +10,7 @@ use Rattle.pv_script.specs.Said.{before_of}
 use Rattle.pv_script.specs.View.{event_of}
 use Rattle.pv_script.proofs.CountLemmas.{few-events}
 use Rattle.pv_script.proofs.FaultLemmas.{IsAtFaultFrom, fault-takes, lines-takes, refuses-line}
-use Rattle.pv_model.proofs.OneScheduleLemmas.{one_schedule, no_fault}
+use Rattle.pv_law_schedules.proofs.OneScheduleLemmas.{one_schedule, no_fault}
 use Rattle.pv_script.proofs.ScheduleLemmas.{lines-first, fault-first, plans-takes, begun-takes, IsSchedule-read, error-no_schedule, error-one_fault}
 use Rattle.pv_script.proofs.read.read_schedule.Goals as goal
 

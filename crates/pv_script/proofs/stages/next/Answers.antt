@@ -2,7 +2,7 @@
 use Rattle.std.proofs.Common.{◌≡◌, Bool, Option, Some, None, cond, true, false, sym, ap, ◌∙◌}
 use Rattle.std.specs.Bool.{then_some}
 use Rattle.std.specs.Option.{option_map}
-use Rattle.pv_model.specs.Form as model
+use Rattle.pv_script.specs.Form as model
 use Rattle.pv_script.specs.Faults.{texts}
 use Rattle.pv_script.specs.Stages.{stage_of}
 use Rattle.pv_script.specs.declared.stages.Stage.{Stage}
