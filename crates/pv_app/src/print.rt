@@ -1,13 +1,13 @@
 // The lines that a run prints, each put after what a buffer holds. After an error the buffer's content is of no use.
 ghost use Rattle.std.specs.Prelude.{◌≡◌, ◌++◌, length, OnOk};
 ghost use Rattle.std.specs.Fmt.{decimal};
-ghost use Rattle.pv_app.specs.Answers.{reason_text, fault_text};
+ghost use Rattle.pv_app.specs.InputAnswers.{reason_text, fault_text};
 ghost use Rattle.pv_ast.specs.ReplyView.{decline_of, reply_of};
 ghost use Rattle.pv_model.specs.Meaning.{declined};
 ghost use Rattle.pv_model.specs.Print as model;
 ghost use Rattle.pv_model.specs.Print.{line_text, list_text, text_of};
 ghost use Rattle.pv_model.specs.Run.{item_lines, report_lines};
-ghost use Rattle.pv_script.specs.Answers.{cause_of};
+ghost use Rattle.pv_script.specs.ScriptErrors.{cause_of};
 
 use itoa::Buffer;
 use pv_ast::{Decline, Reply, Row};
@@ -171,7 +171,7 @@ fn push_words(text: &mut Vec<u8>, words: &[u8]) -> Result<(), NoMemory>
     Ok(text.extend_from_slice(words)?)
 }
 
-// Words, and a number behind them.
+// Words, and a number after them.
 fn push_numbered(text: &mut Vec<u8>, words: &[u8], number: u32) -> Result<(), NoMemory>
     ensures { OnOk result (text.new.items ≡ text.old.items ++ (words.now ++ decimal number)) }
 {

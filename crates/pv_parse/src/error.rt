@@ -12,7 +12,7 @@ pub enum ParseError {
     /// The text has this many bytes, more than [`MAX_LINE`](pv_base::MAX_LINE).
     TooLarge(u64),
     /// The token at this column can't follow what stands before it, or is a number above 9223372036854775807. Where the
-    /// text ends too early, this is the column behind it.
+    /// text ends too early, this is the column after it.
     Malformed(u32),
     /// The name at this column is no item's.
     UnknownName(u32),

@@ -21,7 +21,7 @@ use std::alloc::Global;
 ///    stands before it, or the text ends too early. `UnknownName`: the name at the column is no item's. `TooDeep`: the
 ///    token at the column is nested deeper than [`MAX_DEPTH`](pv_base::MAX_DEPTH).
 ///
-/// Want of memory, `NoMemory`, may come before a fault of the second kind is found.
+/// `NoMemory`, out of memory, may come before a fault of the second kind is found.
 ///
 /// Takes time linear in the text, besides looking up each name. Recursion goes as deep as tokens nest, at most
 /// [`MAX_DEPTH`](pv_base::MAX_DEPTH) levels; chains and rows of statements are read in loops.
@@ -36,7 +36,7 @@ pub fn parse(alloc: Global, text: &[u8], catalog: &Catalog) -> Result<Program, P
     let parser = Parser {
         alloc,
         catalog,
-        behind: text.len() as u32 + 1,
+        after_text: text.len() as u32 + 1,
     };
     let program = parser.all(&mut Cursor::new(&all))?;
     Ok(program)
