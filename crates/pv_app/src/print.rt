@@ -125,7 +125,7 @@ pub fn push_report(
 }
 
 /// `line N: CAUSE`
-#[tactic(auto, unfolding(crate::specs::Answers::fault_text))]
+#[tactic(auto, unfolding(crate::specs::InputAnswers::fault_text))]
 pub fn push_fault_line(text: &mut Vec<u8>, line: u32, cause: LineCause) -> Result<(), NoMemory>
     ensures { OnOk result (text.new.items ≡ text.old.items ++ fault_text line (cause_of cause)) }
 {
@@ -136,7 +136,7 @@ pub fn push_fault_line(text: &mut Vec<u8>, line: u32, cause: LineCause) -> Resul
 }
 
 // What is wrong with a line.
-#[tactic(auto, unfolding(crate::specs::Answers::cause_text))]
+#[tactic(auto, unfolding(crate::specs::InputAnswers::cause_text))]
 fn push_cause(text: &mut Vec<u8>, cause: LineCause) -> Result<(), NoMemory>
     ensures { OnOk result (text.new.items ≡ text.old.items ++ reason_text (cause_of cause)) }
 {
