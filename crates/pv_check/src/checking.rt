@@ -13,7 +13,7 @@ use pv_base::{Catalog, NoMemory, SiteId, Want};
 use std::alloc::Global;
 
 /// The greatest count of items that a program may name.
-pub const MAX_ITEMS: u32 = 16;
+pub const MAX_NAMED: u32 = 16;
 
 /// What the program, each item of which is in the catalog, wants of each site: each item that it names, once, at the
 /// item's site, exclusive where it assigns it.
@@ -21,7 +21,7 @@ pub const MAX_ITEMS: u32 = 16;
 /// It is refused with the first of these that holds:
 ///
 /// 1. `NoItem`: the program names no item.
-/// 2. `TooManyItems`: the program names more than [`MAX_ITEMS`] items. The error says how many.
+/// 2. `TooManyItems`: the program names more than [`MAX_NAMED`] items. The error says how many.
 /// 3. `Assigns`: it is a query, and an assignment stands in the program.
 /// 4. `NoReturn`: it is a query, and no `return` stands in the program.
 /// 5. `NoMemory`: there was no memory for the plan.
@@ -29,7 +29,7 @@ pub const MAX_ITEMS: u32 = 16;
 /// The program is read once, and for a query up to twice more, until an assignment or a `return` is found. That recurses as
 /// deep as the program's tree: a chain of n operators has n levels. Besides, the
 /// cost is bounded by a constant, whatever the catalog holds: a table of a mark for each item that any catalog may hold is
-/// cleared and read twice, and the wants, at most [`MAX_ITEMS`], are read once for each site.
+/// cleared and read twice, and the wants, at most [`MAX_NAMED`], are read once for each site.
 pub fn check(
     alloc: Global,
     program: &Program,
@@ -41,13 +41,13 @@ pub fn check(
 
     // It is refused exactly where it has to be, and with the first cause. Besides, only memory can fail.
     ensures refused { (items : List ℕ) → AreItems program.now items →
-        IfSome (refusal MAX_ITEMS (length items) program.now query) (λ e. result ≡ Err e) }
+        IfSome (refusal MAX_NAMED (length items) program.now query) (λ e. result ≡ Err e) }
     ensures cause { (items : List ℕ) → AreItems program.now items →
-        IfErr result (λ e. e ≢ CheckError.NoMemory → refusal MAX_ITEMS (length items) program.now query ≡ Some e) }
+        IfErr result (λ e. e ≢ CheckError.NoMemory → refusal MAX_NAMED (length items) program.now query ≡ Some e) }
     ensures accepted { (items : List ℕ) → AreItems program.now items →
-        OnOk result (refusal MAX_ITEMS (length items) program.now query ≡ None) }
+        OnOk result (refusal MAX_NAMED (length items) program.now query ≡ None) }
     ensures memory { (items : List ℕ) → AreItems program.now items →
-        result ≡ Err CheckError.NoMemory → refusal MAX_ITEMS (length items) program.now query ≡ None }
+        result ≡ Err CheckError.NoMemory → refusal MAX_NAMED (length items) program.now query ≡ None }
     ensures no_item { result ≡ Err CheckError.NoItem ↔ ((n : ℕ) → names program.now n ≡ false) }
 {
     // The table of marks has room for each item of the catalog.
@@ -63,13 +63,13 @@ pub fn check(
 
 // Why a program is refused that names this many items.
 fn refusal(program: &Program, count: u32, query: bool) -> Option<CheckError>
-    ensures cause { result ≡ refusal MAX_ITEMS count program.now query }
+    ensures cause { result ≡ refusal MAX_NAMED count program.now query }
     ensures no_item { result ≡ Some CheckError.NoItem ↔ (count ≡ 0) }
 {
     if count == 0 {
         return Some(CheckError::NoItem);
     }
-    if count > MAX_ITEMS {
+    if count > MAX_NAMED {
         return Some(CheckError::TooManyItems(count));
     }
     if !query {

@@ -6,7 +6,7 @@ use Rattle.std.proofs.lemmas.List.Quantifiers.{position-Some}
 use Rattle.std.specs.Str.{bytes_eq}
 use Rattle.pv_base.specs.Catalog.{Item, Declared, place_of}
 use Rattle.pv_model.specs.Check.{reads, names}
-use Rattle.pv_model.specs.Grammar.{Placed, Part, Chain, Reads, chained, not, not_negated, compared, not_compared, negative, numeral, named, in_brackets, of_two, GoesOn, no_more, one_more, ReadsProgram, assigns, requires, returns, asks, asks_else, ReadsNext, last, next}
+use Rattle.pv_model.specs.Grammar.{Placed, Phrase, Chain, Reads, chained, not, not_negated, compared, not_compared, negative, numeral, named, in_brackets, of_two, GoesOn, no_more, one_more, ReadsProgram, assigns, requires, returns, asks, asks_else, ReadsNext, last, next}
 use Rattle.pv_model.specs.ProgramText.{item_in, IsProgramText}
 use Rattle.pv_model.specs.Syntax.{Expr, Program}
 
@@ -32,7 +32,7 @@ module _ (catalog : Declared) where
   found word m n is same = subst IsDeclared same (place-within word catalog.items m is)
 
   mutual
-    reads-declared : {part : Part} {d : ℕ} {ts behind : List Placed} {e : Expr} → Reads (item_in catalog) part d ts behind e → AreReadDeclared e
+    reads-declared : {phrase : Phrase} {d : ℕ} {ts behind : List Placed} {e : Expr} → Reads (item_in catalog) phrase d ts behind e → AreReadDeclared e
     reads-declared (chained c d ts mid behind left e first more) n is = chain-declared more (reads-declared first) n is
     reads-declared (not d ts behind e inner) n is = reads-declared inner n is
     reads-declared (not_negated d ts behind e inner) n is = reads-declared inner n is

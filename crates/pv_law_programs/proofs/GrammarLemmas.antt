@@ -7,7 +7,7 @@ use Rattle.pv_model.specs.Syntax.Op.{or, and, equal, unequal, less, at_most, gre
 use Rattle.pv_model.specs.Syntax.Expr.{number, item, minus, negation, two}
 use Rattle.pv_model.specs.Syntax.Program.{assign, require, return, when, when_else}
 use Rattle.pv_model.specs.Tokens.{Token}
-use Rattle.pv_model.specs.Grammar.{Placed, Chain, disjunction, conjunction, sum, product, Part, chain, negated, comparison, unary, joins, compares, is_min_or_max, side, Reads, chained, not, not_negated, compared, not_compared, negative, numeral, named, in_brackets, of_two, GoesOn, no_more, one_more, ReadsProgram, assigns, requires, returns, asks, asks_else, ReadsNext, last, next}
+use Rattle.pv_model.specs.Grammar.{Placed, Chain, disjunction, conjunction, sum, product, Phrase, chain, negated, comparison, unary, joins, compares, is_min_or_max, side, Reads, chained, not, not_negated, compared, not_compared, negative, numeral, named, in_brackets, of_two, GoesOn, no_more, one_more, ReadsProgram, assigns, requires, returns, asks, asks_else, ReadsNext, last, next}
 use Rattle.pv_model.specs.ProgramText.{without_nestings, AreProgram}
 use Rattle.pv_base.proofs.Basics.{never, Some_inj, heads, tails}
 
@@ -30,7 +30,7 @@ level lesser = 0
 level larger = 0
 
 -- the operators of lower levels don't go on this part
-abbrev pub limit : Part → ℕ
+abbrev pub limit : Phrase → ℕ
 limit (chain disjunction) = 1
 limit (chain conjunction) = 2
 limit (chain sum) = 4
@@ -39,13 +39,13 @@ limit negated = 3
 limit comparison = 3
 limit unary = 6
 
-abbrev pub stops_at : Part → Op → Bool
-stops_at part op = nat_le (suc (level op)) (limit part)
+abbrev pub stops_at : Phrase → Op → Bool
+stops_at phrase op = nat_le (suc (level op)) (limit phrase)
 
 -- what follows doesn't go on this part
-abbrev pub Stops : Part → List Token → Type 0
-Stops part (Token.operator op ∷ ts) = IsTrue (stops_at part op)
-Stops part _ = Unit {0}
+abbrev pub Stops : Phrase → List Token → Type 0
+Stops phrase (Token.operator op ∷ ts) = IsTrue (stops_at phrase op)
+Stops phrase _ = Unit {0}
 
 -- what follows doesn't go on a program
 abbrev pub StopsProgram : List Token → Type 0
@@ -276,7 +276,7 @@ pub sub_is_no_prefix : (op : Op) → Token.operator sub ≡ Token.operator op �
 sub_is_no_prefix op e h = let same : sub ≡ op = cc in never (subst (λ (o : Op). IsTrue (is_min_or_max o)) (sym same) h)
 
 -- the parts that don't begin with `not`
-abbrev IsInner : Part → Type 0
+abbrev IsInner : Phrase → Type 0
 IsInner (chain disjunction) = ⊥
 IsInner (chain conjunction) = ⊥
 IsInner negated = ⊥
@@ -289,7 +289,7 @@ inner_side sum h = tt
 inner_side product h = tt
 
 module _ (item_of : List ℕ → Option ℕ) where
-  pub begins_with_no_not : {part : Part} {d : ℕ} {ts r : List Placed} {e : Expr} (xs : List Token) → Reads item_of part d ts r e → IsInner part → E ts ≡ Token.negates ∷ xs → ⊥
+  pub begins_with_no_not : {phrase : Phrase} {d : ℕ} {ts r : List Placed} {e : Expr} (xs : List Token) → Reads item_of phrase d ts r e → IsInner phrase → E ts ≡ Token.negates ∷ xs → ⊥
   begins_with_no_not xs (chained c d ts mid r left e p g) h eq = begins_with_no_not xs p (inner_side c h) eq
   begins_with_no_not xs (not d ts r e p) h eq = h
   begins_with_no_not xs (not_negated d ts r e p) h eq = absurd h
@@ -307,8 +307,8 @@ module _ (item_of : List ℕ → Option ℕ) where
   goes_on_stops (one_more c op left right e d ts mid r j p g) h = joined_stops_side c op j
 
   mutual
-    one_expr : {part : Part} {d k : ℕ} {ts us r s : List Placed} {e f : Expr} → Reads item_of part d ts r e → Reads item_of part k us s f
-        → Stops part (E r) → Stops part (E s) → E ts ≡ E us → (e ≡ f) × (E r ≡ E s)
+    one_expr : {phrase : Phrase} {d k : ℕ} {ts us r s : List Placed} {e f : Expr} → Reads item_of phrase d ts r e → Reads item_of phrase k us s f
+        → Stops phrase (E r) → Stops phrase (E s) → E ts ≡ E us → (e ≡ f) × (E r ≡ E s)
     one_expr (chained c d ts mid r left e p g) (chained c2 d2 ts2 mid2 r2 left2 e2 p2 g2) h h2 eq =
         let first = one_expr p p2 (goes_on_stops g h) (goes_on_stops g2 h2) eq in one_chain g g2 h h2 first.0 first.1
     one_expr (not d ts r e p) (not d2 ts2 r2 e2 p2) h h2 eq =

@@ -178,7 +178,7 @@ no_item (Some n) u = absurd (never u)
 is_unnamed : (catalog : Declared) (text : List ℕ) (front : List (ℕ × Token)) (c : ℕ) (t : Token) (ts : List (ℕ × Token)) → HasTokens text (front ++ (c, t) ∷ ts)
     → is_unknown (item_in catalog) t ≡ true → NamesNoItem catalog text c
 is_unnamed catalog text front c (Token.name word) ts has u =
-    record { front = front; name = word; behind = ts; has = has; none = no_item (item_in catalog word) u }
+    record { front = front; name = word; later = ts; has = has; none = no_item (item_in catalog word) u }
 is_unnamed catalog text front c t ts has u = absurd (never u)
 
 walks_append : {k m : List Expected} {ps : List Placed} (t : Token) (now : Now) → Walks k ps m [] → step m t ≡ Some now → Walks k (ps ++ (now.0, t) ∷ []) now.1 []
@@ -248,7 +248,7 @@ has_stop catalog text front before last (at_deep k c t ts now s u d) has same wa
     record {
       front = front;
       token = t;
-      behind = ts;
+      later = ts;
       has = has;
       program = v.1;
       before = before;
@@ -276,11 +276,11 @@ comes_first catalog text ts f has w cs malformed place h =
       | inr m ↦ subst (λ (n : ℕ). ComesFirst f.0 f.1 malformed n) (sym m.place) (first_cut (item_in catalog) (length text + 1) 1 w cs)
     ]
 comes_first catalog text ts f has w cs unknown_name place h =
-    let tokens : ts ≡ h.front ++ (place, Token.name h.name) ∷ h.behind = one_token_list has h.has in
-    first_unknown (item_in catalog) (length text + 1) 1 (length text + 1) w cs h.front h.name h.behind place tokens h.none
+    let tokens : ts ≡ h.front ++ (place, Token.name h.name) ∷ h.later = one_token_list has h.has in
+    first_unknown (item_in catalog) (length text + 1) 1 (length text + 1) w cs h.front h.name h.later place tokens h.none
 comes_first catalog text ts f has w cs too_deep place h =
-    let tokens : ts ≡ h.front ++ (place, h.token) ∷ h.behind = one_token_list has h.has in
-    first_deep (item_in catalog) (length text + 1) 1 (length text + 1) w cs h.front h.token h.behind place tokens h.before h.nesting h.after h.same
+    let tokens : ts ≡ h.front ++ (place, h.token) ∷ h.later = one_token_list has h.has in
+    first_deep (item_in catalog) (length text + 1) 1 (length text + 1) w cs h.front h.token h.later place tokens h.before h.nesting h.after h.same
     (program-walks any_item h.reads).1.1 h.deep
 
 pub refused : (catalog : Declared) (text : List ℕ) (ts : List (ℕ × Token)) (kind : Kind) (column : ℕ) → length text ≤ 1000 → HasTokens text ts

@@ -11,7 +11,7 @@ use Rattle.pv_model.specs.Syntax.Expr.{number, item, minus, negation, two}
 use Rattle.pv_model.specs.Syntax.Program.{end, assign, require, return, when, when_else}
 use Rattle.pv_model.specs.FirstFault.{without_numbers}
 use Rattle.pv_model.specs.Tokens.{Token}
-use Rattle.pv_model.specs.Grammar.{Placed, Chain, Part, chain, comparison, Reads, chained, not, not_negated, compared, not_compared, negative, numeral, named, in_brackets, of_two, GoesOn, no_more, one_more, ReadsProgram, assigns, requires, returns, asks, asks_else, ReadsNext, last, next}
+use Rattle.pv_model.specs.Grammar.{Placed, Chain, Phrase, chain, comparison, Reads, chained, not, not_negated, compared, not_compared, negative, numeral, named, in_brackets, of_two, GoesOn, no_more, one_more, ReadsProgram, assigns, requires, returns, asks, asks_else, ReadsNext, last, next}
 use Rattle.pv_model.specs.ProgramText.{without_nestings, any_item, item_in, AreProgram, AreSomeProgram, IsProgramText, Kind, malformed, unknown_name, too_deep, HasFault, Refusal, too_large, at_fault, IsRefused}
 use Rattle.pv_base.proofs.Basics.{heads, tails, and-left, and-right}
 use Rattle.pv_law_programs.proofs.FirstFaultLemmas.{no_fault}
@@ -22,7 +22,7 @@ use Rattle.pv_law_programs.proofs.GrammarLemmas.{differ, joined_is_no_stop, comp
 
 module _ (item_of : List ℕ → Option ℕ) where
   mutual
-    any_expr : {part : Part} {d : ℕ} {ts r : List Placed} {e : Expr} → Reads item_of part d ts r e → (f : Expr) × Reads any_item part d ts r f
+    any_expr : {phrase : Phrase} {d : ℕ} {ts r : List Placed} {e : Expr} → Reads item_of phrase d ts r e → (f : Expr) × Reads any_item phrase d ts r f
     any_expr (chained c d ts mid r left e p g) = let x = any_expr p in let y = any_chain x.0 g in (y.0, chained c d ts mid r x.0 y.0 x.1 y.1)
     any_expr (not d ts r e p) = let x = any_expr p in (negation x.0, not d ts r x.0 x.1)
     any_expr (not_negated d ts r e p) = let x = any_expr p in (x.0, not_negated d ts r x.0 x.1)
@@ -65,7 +65,7 @@ module _ (item_of : List ℕ → Option ℕ) where
   AreKnown (t ∷ ts) = IsKnown t.1 × AreKnown ts
 
   mutual
-    known_expr : {part : Part} {d : ℕ} {ts r : List Placed} {e : Expr} → Reads item_of part d ts r e → AreKnown r → AreKnown ts
+    known_expr : {phrase : Phrase} {d : ℕ} {ts r : List Placed} {e : Expr} → Reads item_of phrase d ts r e → AreKnown r → AreKnown ts
     known_expr (chained c d ts mid r left e p g) k = known_expr p (known_chain g k)
     known_expr (not d ts r e p) k = (tt, known_expr p k)
     known_expr (not_negated d ts r e p) k = known_expr p k
@@ -121,8 +121,8 @@ apart {x} {y} e h = differ (ap (λ (t : Token). t ∷ []) e) h
 
 module _ (item_of other_of : List ℕ → Option ℕ) where
   mutual
-    agree_expr : {part : Part} {d : ℕ} {ts us r s : List Placed} {e f : Expr} → Reads item_of part d ts r e → Reads other_of part d us s f
-        → Stops part (E r) → Stops part (E s) → Agree r s → Agree ts us
+    agree_expr : {phrase : Phrase} {d : ℕ} {ts us r s : List Placed} {e f : Expr} → Reads item_of phrase d ts r e → Reads other_of phrase d us s f
+        → Stops phrase (E r) → Stops phrase (E s) → Agree r s → Agree ts us
     agree_expr (chained c d ts mid r left e p g) (chained c2 d2 ts2 mid2 r2 left2 e2 p2 g2) h h2 a =
         agree_expr p p2 (goes_on_stops item_of g h) (goes_on_stops other_of g2 h2) (agree_chain g g2 h h2 a)
     agree_expr (not d ts r e p) (not d2 ts2 r2 e2 p2) h h2 a =
@@ -296,16 +296,16 @@ no_kind catalog text p malformed column a f =
     let moved = subst (λ (ts : List (ℕ × Token)). AreProgram (item_in catalog) (without_numbers ts) p) tokens a.are in
     no_fault AreSomeProgram f.0 (length text + 1) column (whole catalog (without_numbers f.0) p moved) f.2
 no_kind catalog text p unknown_name column a f =
-    let tokens : a.tokens ≡ f.front ++ (column, Token.name f.name) ∷ f.behind = one_token_list a.has f.has in
-    let are = sym a.are.same ∙ ap without_numbers tokens ∙ split_tokens f.front (column, Token.name f.name) f.behind in
-    let known = known_inside (item_in catalog) a.are.placed (without_numbers f.front) f.name (without_numbers f.behind) (known_program (item_in catalog) a.are.reads tt) are in
+    let tokens : a.tokens ≡ f.front ++ (column, Token.name f.name) ∷ f.later = one_token_list a.has f.has in
+    let are = sym a.are.same ∙ ap without_numbers tokens ∙ split_tokens f.front (column, Token.name f.name) f.later in
+    let known = known_inside (item_in catalog) a.are.placed (without_numbers f.front) f.name (without_numbers f.later) (known_program (item_in catalog) a.are.reads tt) are in
     none-some known.0 (sym f.none ∙ known.1)
 no_kind catalog text p too_deep column a f =
-    let tokens : a.tokens ≡ f.front ++ (column, f.token) ∷ f.behind = one_token_list a.has f.has in
-    let are = sym a.are.same ∙ ap without_numbers tokens ∙ split_tokens f.front (column, f.token) f.behind
-    ∙ ap (λ (l : List Token). l ++ f.token ∷ without_numbers f.behind) f.same in
+    let tokens : a.tokens ≡ f.front ++ (column, f.token) ∷ f.later = one_token_list a.has f.has in
+    let are = sym a.are.same ∙ ap without_numbers tokens ∙ split_tokens f.front (column, f.token) f.later
+    ∙ ap (λ (l : List Token). l ++ f.token ∷ without_numbers f.later) f.same in
     let agree = agree_program (item_in catalog) any_item a.are.reads f.reads tt tt tt in
-    not_deep f.before a.are.placed f.nesting f.token f.after (without_numbers f.behind) agree are a.shallow f.deep
+    not_deep f.before a.are.placed f.nesting f.token f.after (without_numbers f.later) agree are a.shallow f.deep
 
 pub no_refusal : (catalog : Declared) (text : List ℕ) (p : Program) (r : Refusal) → IsProgramText catalog text p → IsRefused catalog text r → ⊥
 no_refusal catalog text p (too_large n) a f = omega (arith, a.short, f.0, f.1)

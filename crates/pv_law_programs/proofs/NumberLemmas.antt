@@ -13,10 +13,10 @@ use Rattle.std.proofs.lemmas.Fmt.{IsAscii-from_digits}
 use Rattle.std.proofs.lemmas.Str.Parse.{IsNumeralModel, numerals_by_weight, parse_digits, parse_signed_digits, parse_signed_minus}
 use Rattle.pv_model.specs.Meaning.{fits_i64}
 use Rattle.pv_base.specs.Name.{is_digit}
-use Rattle.pv_model.specs.Text.{value_of, digits_of, signed_value_of, IsNumber, IsSigned}
+use Rattle.pv_model.specs.Text.{number_of_digits, digits_of, number_of_signed, IsNumber, IsSigned}
 
-pub numerals : IsNumeralModel (λ ds. list_all is_digit ds ≡ true) value_of
-numerals = numerals_by_weight _ (search rules) value_of (search rules)
+pub numerals : IsNumeralModel (λ ds. list_all is_digit ds ≡ true) number_of_digits
+numerals = numerals_by_weight _ (search rules) number_of_digits (search rules)
 
 OkIff-same : {E X : Type 0} {P Q : Type 0} (r : Result X E) (x : X) → (P → Q) → (Q → P) → OkIff r P x → OkIff r Q x
 OkIff-same (Ok y) x to from is = (to is.0, is.1)
@@ -29,7 +29,7 @@ number-parsed {E} word (Ok n) digits parsed =
     (record { some = is.0.0; digits = digits; value = is.1 }, tt)
 number-parsed {E} word (Err e) digits parsed =
     let no = parse_digits numerals {E = E} 64 word (Err e) parsed digits in
-    (tt, λ n fits is. no (is.some, (let small : value_of word < 2 ^ 64 = omega (arith, is.value) in small)))
+    (tt, λ n fits is. no (is.some, (let small : number_of_digits word < 2 ^ 64 = omega (arith, is.value) in small)))
 
 fits_i64-minus : (n : ℕ) → IsTrue (fits_i64 (neg_ℤ (pos n))) → n ≤ 2 ^ 63
 fits_i64-minus zero fits = omega arith
@@ -42,13 +42,13 @@ minus-fits_i64 (suc n) fits = lt-ltb n (2 ^ 63) (omega arith)
 abbrev IsRead : {E : Type 0} → Result ℤ E → List ℕ → ℤ → Type 0
 IsRead r digits z = OkIff r ((0 < length digits) × IsTrue (fits_i64 z)) z
 
-signed-cases : {E : Type 0} (c : ℕ) (cs : List ℕ) (r : Result ℤ E) (minus : Bool) → eqb c 45 ≡ minus → IsTrue (list_all is_digit (cond minus cs (c ∷ cs))) → ParsesSigned w64 10 (c ∷ cs) r → IsRead r (cond minus cs (c ∷ cs)) (cond minus (neg_ℤ (pos (value_of cs))) (pos (value_of (c ∷ cs))))
+signed-cases : {E : Type 0} (c : ℕ) (cs : List ℕ) (r : Result ℤ E) (minus : Bool) → eqb c 45 ≡ minus → IsTrue (list_all is_digit (cond minus cs (c ∷ cs))) → ParsesSigned w64 10 (c ∷ cs) r → IsRead r (cond minus cs (c ∷ cs)) (cond minus (neg_ℤ (pos (number_of_digits cs))) (pos (number_of_digits (c ∷ cs))))
 signed-cases c cs r true is_minus digits parsed =
-    OkIff-same r _ (λ is. (is.1, minus-fits_i64 (value_of cs) is.2)) (λ is. (digits, is.0, fits_i64-minus (value_of cs) is.1)) (parse_signed_minus numerals w64 (c ∷ cs) r parsed (eqb-true c 45 is_minus))
+    OkIff-same r _ (λ is. (is.1, minus-fits_i64 (number_of_digits cs) is.2)) (λ is. (digits, is.0, fits_i64-minus (number_of_digits cs) is.1)) (parse_signed_minus numerals w64 (c ∷ cs) r parsed (eqb-true c 45 is_minus))
 signed-cases c cs r false no_minus digits parsed =
-    OkIff-same r _ (λ is. (is.0, lt-ltb (value_of (c ∷ cs)) (2 ^ 63) is.1)) (λ is. (is.0, ltb-true (value_of (c ∷ cs)) (2 ^ 63) is.1)) (parse_signed_digits numerals w64 (c ∷ cs) r parsed digits)
+    OkIff-same r _ (λ is. (is.0, lt-ltb (number_of_digits (c ∷ cs)) (2 ^ 63) is.1)) (λ is. (is.0, ltb-true (number_of_digits (c ∷ cs)) (2 ^ 63) is.1)) (parse_signed_digits numerals w64 (c ∷ cs) r parsed digits)
 
-signed-read : {E : Type 0} (word : List ℕ) (r : Result ℤ E) → IsTrue (list_all is_digit (digits_of word)) → ParsesSigned w64 10 word r → IsRead r (digits_of word) (signed_value_of word)
+signed-read : {E : Type 0} (word : List ℕ) (r : Result ℤ E) → IsTrue (list_all is_digit (digits_of word)) → ParsesSigned w64 10 word r → IsRead r (digits_of word) (number_of_signed word)
 signed-read [] r digits parsed =
     OkIff-same r (pos 0) (λ is. (is.0, refl)) (λ is. absurd (omega (arith, is.0))) (parse_signed_digits numerals w64 [] r parsed digits)
 signed-read (c ∷ cs) r digits parsed = signed-cases c cs r (eqb c 45) refl digits parsed

@@ -10,9 +10,9 @@ use Rattle.pv_model.specs.Syntax.Op.{sub, lesser, larger}
 use Rattle.pv_model.specs.Syntax.Expr.{number, item, minus, negation, two}
 use Rattle.pv_model.specs.Syntax.Program.{end, assign, require, return, when, when_else}
 use Rattle.pv_model.specs.Tokens.{Token}
-use Rattle.pv_model.specs.Grammar.{Placed, Chain, disjunction, conjunction, sum, product, Part, chain, negated, comparison, unary, joins, compares, is_min_or_max, side, Reads, chained, not, not_negated, compared, not_compared, negative, numeral, named, in_brackets, of_two, GoesOn, no_more, one_more, ReadsProgram, assigns, requires, returns, asks, asks_else, ReadsNext, last, next}
+use Rattle.pv_model.specs.Grammar.{Placed, Chain, disjunction, conjunction, sum, product, Phrase, chain, negated, comparison, unary, joins, compares, is_min_or_max, side, Reads, chained, not, not_negated, compared, not_compared, negative, numeral, named, in_brackets, of_two, GoesOn, no_more, one_more, ReadsProgram, assigns, requires, returns, asks, asks_else, ReadsNext, last, next}
 use Rattle.pv_model.specs.ProgramText.{any_item}
-use Rattle.pv_law_programs.specs.Prediction.{Mark, is_mark, Symbol, Expected, is_optional, may_end, behind_prefix, behind_unary, behind_sum, behind_negated, behind_part, behind_program, behind_symbol, step, at_start}
+use Rattle.pv_law_programs.specs.Prediction.{Punctuation, is_punctuation, Symbol, Expected, is_optional, may_end, after_prefix, after_unary, after_sum, after_negated, after_phrase, after_program, after_symbol, step, at_start}
 use Rattle.pv_base.proofs.Basics.{never, Some_inj, and-left, and-right}
 use Rattle.pv_law_programs.proofs.NoRefusalLemmas.{IsKnown, AreKnown}
 use Rattle.pv_law_programs.proofs.Walks.{Walks, here, on}
@@ -35,9 +35,9 @@ cases_of_step d None true behind n more e = inr (refl, e)
 cases_of_step d None false behind n more e = absurd (none-some (n, more) e)
 
 step_cases : (d : ℕ) (s : Symbol) (k : List Expected) (t : Token) (n : ℕ) (more : List Expected) → step ((d, s) ∷ k) t ≡ Some (n, more)
-    → StepCases d (behind_symbol s d t k) (is_optional s) (step k t) n more
+    → StepCases d (after_symbol s d t k) (is_optional s) (step k t) n more
 unfolding step
-step_cases d s k t n more e = cases_of_step d (behind_symbol s d t k) (is_optional s) (step k t) n more e
+step_cases d s k t n more e = cases_of_step d (after_symbol s d t k) (is_optional s) (step k t) n more e
 
 no_step : (t : Token) (n : ℕ) (more : List Expected) → step [] t ≡ Some (n, more) → ⊥
 unfolding step
@@ -45,13 +45,13 @@ no_step t n more e = none-some (n, more) e
 
 -- ---- what is expected, by the grammar
 
-abbrev mark_token : Mark → Token
-mark_token Mark.becomes = Token.becomes
-mark_token Mark.opens = Token.opens
-mark_token Mark.closes = Token.closes
-mark_token Mark.opens_body = Token.opens_body
-mark_token Mark.closes_body = Token.closes_body
-mark_token Mark.comma = Token.parts
+abbrev punctuation_token : Punctuation → Token
+punctuation_token Punctuation.becomes = Token.becomes
+punctuation_token Punctuation.opens = Token.opens
+punctuation_token Punctuation.closes = Token.closes
+punctuation_token Punctuation.opens_body = Token.opens_body
+punctuation_token Punctuation.closes_body = Token.closes_body
+punctuation_token Punctuation.comma = Token.parts
 
 module _ (item_of : List ℕ → Option ℕ) where
   data Compares : ℕ → List Placed → List Placed → Type 0 where
@@ -66,10 +66,10 @@ module _ (item_of : List ℕ → Option ℕ) where
 
   -- Tokens up to a rest are what this symbol expects.
   abbrev IsSymbol : Symbol → ℕ → List Placed → List Placed → Type 0
-  IsSymbol (Symbol.part p) d ts mid = (e : Expr) × Reads item_of p d ts mid e
+  IsSymbol (Symbol.phrase p) d ts mid = (e : Expr) × Reads item_of p d ts mid e
   IsSymbol (Symbol.more c) d ts mid = (left : Expr) → (e : Expr) × GoesOn item_of c left d ts mid e
   IsSymbol Symbol.comparing d ts mid = Compares d ts mid
-  IsSymbol (Symbol.mark m) d ts mid = ts ≡ (d, mark_token m) ∷ mid
+  IsSymbol (Symbol.punctuation m) d ts mid = ts ≡ (d, punctuation_token m) ∷ mid
   IsSymbol Symbol.program d ts mid = (p : Program) × ReadsProgram item_of d ts mid p
   IsSymbol Symbol.next d ts mid = (p : Program) × ReadsNext item_of d ts mid p
   IsSymbol Symbol.other d ts mid = Elses d ts mid
@@ -81,16 +81,16 @@ module _ (item_of : List ℕ → Option ℕ) where
 
   -- what is optional may be left out
   left_out : (s : Symbol) (d : ℕ) (ts : List Placed) → IsTrue (is_optional s) → IsSymbol s d ts ts
-  left_out (Symbol.part p) d ts h = absurd (never h)
+  left_out (Symbol.phrase p) d ts h = absurd (never h)
   left_out (Symbol.more c) d ts h = λ left. (left, no_more c left d ts)
   left_out Symbol.comparing d ts h = alone d ts
-  left_out (Symbol.mark m) d ts h = absurd (never h)
+  left_out (Symbol.punctuation m) d ts h = absurd (never h)
   left_out Symbol.program d ts h = absurd (never h)
   left_out Symbol.next d ts h = (end, last d ts)
   left_out Symbol.other d ts h = no_else d ts
 
-  fold_chain : (c : Chain) (d : ℕ) (k : List Expected) (ts : List Placed) → Matches ((d, Symbol.part (side c)) ∷ (d, Symbol.more c) ∷ k) ts
-      → Matches ((d, Symbol.part (chain c)) ∷ k) ts
+  fold_chain : (c : Chain) (d : ℕ) (k : List Expected) (ts : List Placed) → Matches ((d, Symbol.phrase (side c)) ∷ (d, Symbol.more c) ∷ k) ts
+      → Matches ((d, Symbol.phrase (chain c)) ∷ k) ts
   fold_chain c d k ts m =
       let side_read = m.1.0 in
       let further = m.1.1 in
@@ -102,18 +102,18 @@ module _ (item_of : List ℕ → Option ℕ) where
   compare ts left (alone d mid) p = (left, not_compared d ts mid left p)
   compare ts left (with_sum op d mid behind right h q) p = (two op left right, compared op d ts mid behind left right h p q)
 
-  fold_comparison : (d : ℕ) (k : List Expected) (ts : List Placed) → Matches ((d, Symbol.part (chain sum)) ∷ (d, Symbol.comparing) ∷ k) ts
-      → Matches ((d, Symbol.part comparison) ∷ k) ts
+  fold_comparison : (d : ℕ) (k : List Expected) (ts : List Placed) → Matches ((d, Symbol.phrase (chain sum)) ∷ (d, Symbol.comparing) ∷ k) ts
+      → Matches ((d, Symbol.phrase comparison) ∷ k) ts
   fold_comparison d k ts m =
       let first = m.1.0 in
       let further = m.1.1 in
       (further.0, (compare ts first.0 further.1.0 first.1, further.1.1))
 
-  fold_negated : (d : ℕ) (k : List Expected) (ts : List Placed) → Matches ((d, Symbol.part comparison) ∷ k) ts → Matches ((d, Symbol.part negated) ∷ k) ts
+  fold_negated : (d : ℕ) (k : List Expected) (ts : List Placed) → Matches ((d, Symbol.phrase comparison) ∷ k) ts → Matches ((d, Symbol.phrase negated) ∷ k) ts
   fold_negated d k ts m = let first = m.1.0 in (m.0, ((first.0, not_negated d ts m.0 first.0 first.1), m.1.1))
 
-  fold_brackets : (d : ℕ) (k : List Expected) (ts : List Placed) → Matches ((suc d, Symbol.part (chain disjunction)) ∷ (d, Symbol.mark Mark.closes) ∷ k) ts
-      → Matches ((d, Symbol.part unary) ∷ k) ((d, Token.opens) ∷ ts)
+  fold_brackets : (d : ℕ) (k : List Expected) (ts : List Placed) → Matches ((suc d, Symbol.phrase (chain disjunction)) ∷ (d, Symbol.punctuation Punctuation.closes) ∷ k) ts
+      → Matches ((d, Symbol.phrase unary) ∷ k) ((d, Token.opens) ∷ ts)
   fold_brackets d k ts m =
       let inner = m.1.0 in
       let close = m.1.1 in
@@ -121,8 +121,8 @@ module _ (item_of : List ℕ → Option ℕ) where
       (close.0, ((inner.0, in_brackets d ts close.0 inner.0 read), close.1.1))
 
   fold_two : (op : Op) (d : ℕ) (k : List Expected) (ts : List Placed) → IsTrue (is_min_or_max op)
-      → Matches ((d, Symbol.mark Mark.opens) ∷ (suc d, Symbol.part (chain disjunction)) ∷ (suc d, Symbol.mark Mark.comma) ∷ (suc d, Symbol.part (chain disjunction)) ∷ (d, Symbol.mark Mark.closes) ∷ k) ts
-      → Matches ((d, Symbol.part unary) ∷ k) ((d, Token.operator op) ∷ ts)
+      → Matches ((d, Symbol.punctuation Punctuation.opens) ∷ (suc d, Symbol.phrase (chain disjunction)) ∷ (suc d, Symbol.punctuation Punctuation.comma) ∷ (suc d, Symbol.phrase (chain disjunction)) ∷ (d, Symbol.punctuation Punctuation.closes) ∷ k) ts
+      → Matches ((d, Symbol.phrase unary) ∷ k) ((d, Token.operator op) ∷ ts)
   fold_two op d k ts h m =
       let first = m.1.1 in
       let left = first.1.0 in
@@ -145,16 +145,16 @@ module _ (item_of : List ℕ → Option ℕ) where
   if_some true e = (refl, e)
   if_some {x} {more} false e = absurd (none-some more e)
 
-  prefix_back : (op : Op) (d : ℕ) (k more : List Expected) (ts : List Placed) → behind_prefix d op k ≡ Some more → Matches more ts
-      → Matches ((d, Symbol.part unary) ∷ k) ((d, Token.operator op) ∷ ts)
+  prefix_back : (op : Op) (d : ℕ) (k more : List Expected) (ts : List Placed) → after_prefix d op k ≡ Some more → Matches more ts
+      → Matches ((d, Symbol.phrase unary) ∷ k) ((d, Token.operator op) ∷ ts)
   prefix_back sub d k more ts e m =
       let n = matches_at ts e m in let inner = n.1.0 in (n.0, ((minus inner.0, negative d ts n.0 inner.0 inner.1), n.1.1))
   prefix_back lesser d k more ts e m = fold_two lesser d k ts refl (matches_at ts e m)
   prefix_back larger d k more ts e m = fold_two larger d k ts refl (matches_at ts e m)
   prefix_back _ d k more ts e m = absurd (none-some more e)
 
-  unary_back : (t : Token) (d : ℕ) (k more : List Expected) (ts : List Placed) → IsKnown item_of t → behind_unary d t k ≡ Some more → Matches more ts
-      → Matches ((d, Symbol.part unary) ∷ k) ((d, t) ∷ ts)
+  unary_back : (t : Token) (d : ℕ) (k more : List Expected) (ts : List Placed) → IsKnown item_of t → after_unary d t k ≡ Some more → Matches more ts
+      → Matches ((d, Symbol.phrase unary) ∷ k) ((d, t) ∷ ts)
   unary_back (Token.number n) d k more ts known e m =
       let low = if_some (nat_lt n (2 ^ 63)) e in
       (ts, ((number (pos n), numeral n d ts (ltb-true n (2 ^ 63) low.0)), matches_at ts low.1 m))
@@ -163,24 +163,24 @@ module _ (item_of : List ℕ → Option ℕ) where
   unary_back Token.opens d k more ts known e m = fold_brackets d k ts (matches_at ts e m)
   unary_back _ d k more ts known e m = absurd (none-some more e)
 
-  sum_back : (t : Token) (d : ℕ) (k more : List Expected) (ts : List Placed) → IsKnown item_of t → behind_sum d t k ≡ Some more → Matches more ts
-      → Matches ((d, Symbol.part (chain sum)) ∷ k) ((d, t) ∷ ts)
+  sum_back : (t : Token) (d : ℕ) (k more : List Expected) (ts : List Placed) → IsKnown item_of t → after_sum d t k ≡ Some more → Matches more ts
+      → Matches ((d, Symbol.phrase (chain sum)) ∷ k) ((d, t) ∷ ts)
   sum_back t d k more ts known e m =
       fold_chain sum d k ((d, t) ∷ ts) (fold_chain product d ((d, Symbol.more sum) ∷ k) ((d, t) ∷ ts)
       (unary_back t d ((d, Symbol.more product) ∷ (d, Symbol.more sum) ∷ k) more ts known e m))
 
-  comparison_back : (t : Token) (d : ℕ) (k more : List Expected) (ts : List Placed) → IsKnown item_of t → behind_sum d t ((d, Symbol.comparing) ∷ k) ≡ Some more
-      → Matches more ts → Matches ((d, Symbol.part comparison) ∷ k) ((d, t) ∷ ts)
+  comparison_back : (t : Token) (d : ℕ) (k more : List Expected) (ts : List Placed) → IsKnown item_of t → after_sum d t ((d, Symbol.comparing) ∷ k) ≡ Some more
+      → Matches more ts → Matches ((d, Symbol.phrase comparison) ∷ k) ((d, t) ∷ ts)
   comparison_back t d k more ts known e m = fold_comparison d k ((d, t) ∷ ts) (sum_back t d ((d, Symbol.comparing) ∷ k) more ts known e m)
 
-  negated_back : (t : Token) (d : ℕ) (k more : List Expected) (ts : List Placed) → IsKnown item_of t → behind_negated d t k ≡ Some more → Matches more ts
-      → Matches ((d, Symbol.part negated) ∷ k) ((d, t) ∷ ts)
+  negated_back : (t : Token) (d : ℕ) (k more : List Expected) (ts : List Placed) → IsKnown item_of t → after_negated d t k ≡ Some more → Matches more ts
+      → Matches ((d, Symbol.phrase negated) ∷ k) ((d, t) ∷ ts)
   negated_back Token.negates d k more ts known e m =
       let n = matches_at ts e m in let inner = n.1.0 in (n.0, ((negation inner.0, not d ts n.0 inner.0 inner.1), n.1.1))
   negated_back t d k more ts known e m = fold_negated d k ((d, t) ∷ ts) (comparison_back t d k more ts known e m)
 
-  part_back : (p : Part) (t : Token) (d : ℕ) (k more : List Expected) (ts : List Placed) → IsKnown item_of t → behind_part p d t k ≡ Some more → Matches more ts
-      → Matches ((d, Symbol.part p) ∷ k) ((d, t) ∷ ts)
+  part_back : (p : Phrase) (t : Token) (d : ℕ) (k more : List Expected) (ts : List Placed) → IsKnown item_of t → after_phrase p d t k ≡ Some more → Matches more ts
+      → Matches ((d, Symbol.phrase p) ∷ k) ((d, t) ∷ ts)
   part_back unary t d k more ts known e m = unary_back t d k more ts known e m
   part_back (chain product) t d k more ts known e m = fold_chain product d k ((d, t) ∷ ts) (unary_back t d ((d, Symbol.more product) ∷ k) more ts known e m)
   part_back (chain sum) t d k more ts known e m = sum_back t d k more ts known e m
@@ -200,7 +200,7 @@ module _ (item_of : List ℕ → Option ℕ) where
   asks_read ts inside after test body p (with_else d second behind r o) x b y =
       (when_else test body r p, asks_else d ts inside second behind after test body r p x b o y)
 
-  program_back : (t : Token) (d : ℕ) (k more : List Expected) (ts : List Placed) → IsKnown item_of t → behind_program d t k ≡ Some more → Matches more ts
+  program_back : (t : Token) (d : ℕ) (k more : List Expected) (ts : List Placed) → IsKnown item_of t → after_program d t k ≡ Some more → Matches more ts
       → Matches ((d, Symbol.program) ∷ k) ((d, t) ∷ ts)
   program_back (Token.name word) d k more ts known e m =
       let n = matches_at ts e m in
@@ -239,7 +239,7 @@ module _ (item_of : List ℕ → Option ℕ) where
   program_back _ d k more ts known e m = absurd (none-some more e)
 
   else_back : (d : ℕ) (k : List Expected) (ts : List Placed)
-      → Matches ((d, Symbol.mark Mark.opens_body) ∷ (suc d, Symbol.program) ∷ (d, Symbol.mark Mark.closes_body) ∷ k) ts
+      → Matches ((d, Symbol.punctuation Punctuation.opens_body) ∷ (suc d, Symbol.program) ∷ (d, Symbol.punctuation Punctuation.closes_body) ∷ k) ts
       → Matches ((d, Symbol.other) ∷ k) ((d, Token.otherwise) ∷ ts)
   else_back d k ts n =
       let inner = n.1.1 in
@@ -250,7 +250,7 @@ module _ (item_of : List ℕ → Option ℕ) where
       (close_body.0, (moved, close_body.1.1))
 
   chain_back : (c : Chain) (op : Op) (d : ℕ) (k : List Expected) (ts : List Placed) → IsTrue (joins c op)
-      → Matches ((d, Symbol.part (side c)) ∷ (d, Symbol.more c) ∷ k) ts → Matches ((d, Symbol.more c) ∷ k) ((d, Token.operator op) ∷ ts)
+      → Matches ((d, Symbol.phrase (side c)) ∷ (d, Symbol.more c) ∷ k) ts → Matches ((d, Symbol.more c) ∷ k) ((d, Token.operator op) ∷ ts)
   chain_back c op d k ts h n =
       let right = n.1.0 in
       let further = n.1.1 in
@@ -258,30 +258,30 @@ module _ (item_of : List ℕ → Option ℕ) where
       λ left. let x = further.1.0 (two op left right.0) in (x.0, one_more c op left right.0 x.0 d ts n.0 further.0 h right.1 x.1) in
       (further.0, (all, further.1.1))
 
-  comparing_back : (op : Op) (d : ℕ) (k : List Expected) (ts : List Placed) → IsTrue (compares op) → Matches ((d, Symbol.part (chain sum)) ∷ k) ts
+  comparing_back : (op : Op) (d : ℕ) (k : List Expected) (ts : List Placed) → IsTrue (compares op) → Matches ((d, Symbol.phrase (chain sum)) ∷ k) ts
       → Matches ((d, Symbol.comparing) ∷ k) ((d, Token.operator op) ∷ ts)
   comparing_back op d k ts h n = let right = n.1.0 in (n.0, (with_sum op d ts n.0 right.0 h right.1, n.1.1))
 
-  mark_is : (m : Mark) (t : Token) → IsTrue (is_mark m t) → t ≡ mark_token m
-  mark_is Mark.becomes Token.becomes h = refl
-  mark_is Mark.opens Token.opens h = refl
-  mark_is Mark.closes Token.closes h = refl
-  mark_is Mark.opens_body Token.opens_body h = refl
-  mark_is Mark.closes_body Token.closes_body h = refl
-  mark_is Mark.comma Token.parts h = refl
+  mark_is : (m : Punctuation) (t : Token) → IsTrue (is_punctuation m t) → t ≡ punctuation_token m
+  mark_is Punctuation.becomes Token.becomes h = refl
+  mark_is Punctuation.opens Token.opens h = refl
+  mark_is Punctuation.closes Token.closes h = refl
+  mark_is Punctuation.opens_body Token.opens_body h = refl
+  mark_is Punctuation.closes_body Token.closes_body h = refl
+  mark_is Punctuation.comma Token.parts h = refl
   mark_is _ _ h = absurd (never h)
 
-  more_back : (c : Chain) (t : Token) (d : ℕ) (k more : List Expected) (ts : List Placed) → behind_symbol (Symbol.more c) d t k ≡ Some more → Matches more ts
+  more_back : (c : Chain) (t : Token) (d : ℕ) (k more : List Expected) (ts : List Placed) → after_symbol (Symbol.more c) d t k ≡ Some more → Matches more ts
       → Matches ((d, Symbol.more c) ∷ k) ((d, t) ∷ ts)
   more_back c (Token.operator op) d k more ts e m = let h = if_some (joins c op) e in chain_back c op d k ts h.0 (matches_at ts h.1 m)
   more_back c _ d k more ts e m = absurd (none-some more e)
 
-  symbol_back : (s : Symbol) (t : Token) (d : ℕ) (k more : List Expected) (ts : List Placed) → IsKnown item_of t → behind_symbol s d t k ≡ Some more
+  symbol_back : (s : Symbol) (t : Token) (d : ℕ) (k more : List Expected) (ts : List Placed) → IsKnown item_of t → after_symbol s d t k ≡ Some more
       → Matches more ts → Matches ((d, s) ∷ k) ((d, t) ∷ ts)
-  symbol_back (Symbol.part p) t d k more ts known e m = part_back p t d k more ts known e m
+  symbol_back (Symbol.phrase p) t d k more ts known e m = part_back p t d k more ts known e m
   symbol_back (Symbol.more c) t d k more ts known e m = more_back c t d k more ts e m
-  symbol_back (Symbol.mark x) t d k more ts known e m =
-      let h = if_some (is_mark x t) e in (ts, (ap (λ (u : Token). (d, u) ∷ ts) (mark_is x t h.0), matches_at ts h.1 m))
+  symbol_back (Symbol.punctuation x) t d k more ts known e m =
+      let h = if_some (is_punctuation x t) e in (ts, (ap (λ (u : Token). (d, u) ∷ ts) (mark_is x t h.0), matches_at ts h.1 m))
   symbol_back Symbol.program t d k more ts known e m = program_back t d k more ts known e m
   symbol_back Symbol.comparing (Token.operator op) d k more ts known e m =
       let h = if_some (compares op) e in comparing_back op d k ts h.0 (matches_at ts h.1 m)
@@ -320,7 +320,7 @@ module _ (item_of : List ℕ → Option ℕ) where
   zero_negated : (d : ℕ) (mid : List Placed) → Reads item_of negated d ((d, Token.number 0) ∷ mid) mid (number (pos 0))
   zero_negated d mid = not_negated d ((d, Token.number 0) ∷ mid) mid (number (pos 0)) (zero_comparison d mid)
 
-  zero_part : (p : Part) (d : ℕ) (mid : List Placed) → Reads item_of p d ((d, Token.number 0) ∷ mid) mid (number (pos 0))
+  zero_part : (p : Phrase) (d : ℕ) (mid : List Placed) → Reads item_of p d ((d, Token.number 0) ∷ mid) mid (number (pos 0))
   zero_part unary d mid = zero_reads d mid
   zero_part (chain product) d mid = in_chain {c = product} (zero_reads d mid)
   zero_part (chain sum) d mid = in_chain {c = sum} (in_chain {c = product} (zero_reads d mid))
@@ -330,10 +330,10 @@ module _ (item_of : List ℕ → Option ℕ) where
   zero_part (chain disjunction) d mid = in_chain {c = disjunction} (in_chain {c = conjunction} (zero_negated d mid))
 
   symbol_ends : (s : Symbol) (d : ℕ) (mid : List Placed) → (ts : List Placed) × IsSymbol s d ts mid
-  symbol_ends (Symbol.part p) d mid = ((d, Token.number 0) ∷ mid, (number (pos 0), zero_part p d mid))
+  symbol_ends (Symbol.phrase p) d mid = ((d, Token.number 0) ∷ mid, (number (pos 0), zero_part p d mid))
   symbol_ends (Symbol.more c) d mid = (mid, left_out (Symbol.more c) d mid refl)
   symbol_ends Symbol.comparing d mid = (mid, left_out Symbol.comparing d mid refl)
-  symbol_ends (Symbol.mark m) d mid = ((d, mark_token m) ∷ mid, refl)
+  symbol_ends (Symbol.punctuation m) d mid = ((d, punctuation_token m) ∷ mid, refl)
   symbol_ends Symbol.program d mid = (
     (d, Token.returns) ∷ (d, Token.number 0) ∷ mid,
     (

@@ -4,7 +4,7 @@ use Rattle.pv_base.specs.Catalog.{Declared}
 use Rattle.pv_model.specs.Syntax.{Program}
 use Rattle.pv_model.specs.FirstFault.{without_numbers}
 use Rattle.pv_model.specs.Tokens.{Token}
-use Rattle.pv_model.specs.ProgramText.{item_in, AreProgram, IsProgramText, Kind, malformed, unknown_name, too_deep, rank, ComesFirst, Refusal, too_large, at_fault, IsRefused}
+use Rattle.pv_model.specs.ProgramText.{item_in, AreProgram, IsProgramText, Kind, malformed, unknown_name, too_deep, kind_rank, ComesFirst, Refusal, too_large, at_fault, IsRefused}
 use Rattle.pv_law_programs.proofs.TokenLemmas.{one_token_list}
 use Rattle.pv_law_programs.proofs.GrammarLemmas.{one_program}
 
@@ -14,7 +14,7 @@ one_program_text catalog text p q a b =
     let moved = subst (λ (ts : List (ℕ × Token)). AreProgram (item_in catalog) (without_numbers ts) p) tokens a.are in
     one_program (item_in catalog) (without_numbers b.tokens) p q moved b.are
 
-one_rank : (a b : Kind) → rank a ≡ rank b → a ≡ b
+one_rank : (a b : Kind) → kind_rank a ≡ kind_rank b → a ≡ b
 one_rank malformed malformed e = refl
 one_rank unknown_name unknown_name e = refl
 one_rank too_deep too_deep e = refl

@@ -7,8 +7,8 @@ use Rattle.std.proofs.lemmas.Bool.{lt-ltb}
 use Rattle.pv_model.specs.Syntax.{Op, Expr, Program}
 use Rattle.pv_model.specs.Syntax.Op.{sub, lesser, larger}
 use Rattle.pv_model.specs.Tokens.{Token}
-use Rattle.pv_model.specs.Grammar.{Placed, Chain, disjunction, conjunction, sum, product, Part, chain, negated, comparison, unary, joins, compares, is_min_or_max, side, Reads, chained, not, not_negated, compared, not_compared, negative, numeral, named, in_brackets, of_two, GoesOn, no_more, one_more, ReadsProgram, assigns, requires, returns, asks, asks_else, ReadsNext, last, next}
-use Rattle.pv_law_programs.specs.Prediction.{Mark, Symbol, Expected, is_optional, may_end, behind_symbol, step, at_start}
+use Rattle.pv_model.specs.Grammar.{Placed, Chain, disjunction, conjunction, sum, product, Phrase, chain, negated, comparison, unary, joins, compares, is_min_or_max, side, Reads, chained, not, not_negated, compared, not_compared, negative, numeral, named, in_brackets, of_two, GoesOn, no_more, one_more, ReadsProgram, assigns, requires, returns, asks, asks_else, ReadsNext, last, next}
+use Rattle.pv_law_programs.specs.Prediction.{Punctuation, Symbol, Expected, is_optional, may_end, after_symbol, step, at_start}
 use Rattle.pv_base.proofs.Basics.{never}
 use Rattle.pv_law_programs.proofs.GrammarLemmas.{stops_at, joined_stops_side, joined_is_no_stop, compared_stops_sum, compared_is_no_stop, stop_of_side, stop_of_sum}
 use Rattle.pv_law_programs.proofs.Walks.{Walks, here, on}
@@ -16,12 +16,12 @@ use Rattle.pv_law_programs.proofs.Walks.{Walks, here, on}
 -- ---- single steps
 
 -- the symbol on top takes the token
-takes : (d : ℕ) (s : Symbol) (k : List Expected) (t : Token) (more : List Expected) → behind_symbol s d t k ≡ Some more → step ((d, s) ∷ k) t ≡ Some (d, more)
+takes : (d : ℕ) (s : Symbol) (k : List Expected) (t : Token) (more : List Expected) → after_symbol s d t k ≡ Some more → step ((d, s) ∷ k) t ≡ Some (d, more)
 unfolding step
 takes d s k t more e = ap (λ (now : Option (List Expected)). option_map_or (λ x. Some (d, x)) now (if is_optional s then step k t else None)) e
 
 -- the symbol on top leaves the token to what is expected behind it
-leaves : (d : ℕ) (s : Symbol) (k : List Expected) (t : Token) → IsTrue (is_optional s) → behind_symbol s d t k ≡ None → step ((d, s) ∷ k) t ≡ step k t
+leaves : (d : ℕ) (s : Symbol) (k : List Expected) (t : Token) → IsTrue (is_optional s) → after_symbol s d t k ≡ None → step ((d, s) ∷ k) t ≡ step k t
 unfolding step
 leaves d s k t h e = λ i. option_map_or (λ x. Some (d, x)) (e i) (if h i then step k t else None)
 
@@ -36,18 +36,18 @@ if_none false x h = refl
 abbrev TakesAlike : List Expected → List Expected → Type 0
 TakesAlike k other = (t : Token) (n : ℕ) (more : List Expected) → step k t ≡ Some (n, more) → step other t ≡ Some (n, more)
 
-chain_begins : (c : Chain) (d : ℕ) (k : List Expected) → TakesAlike ((d, Symbol.part (side c)) ∷ (d, Symbol.more c) ∷ k) ((d, Symbol.part (chain c)) ∷ k)
+chain_begins : (c : Chain) (d : ℕ) (k : List Expected) → TakesAlike ((d, Symbol.phrase (side c)) ∷ (d, Symbol.more c) ∷ k) ((d, Symbol.phrase (chain c)) ∷ k)
 unfolding step
 chain_begins disjunction d k t n more e = e
 chain_begins conjunction d k t n more e = e
 chain_begins sum d k t n more e = e
 chain_begins product d k t n more e = e
 
-comparison_begins : (d : ℕ) (k : List Expected) → TakesAlike ((d, Symbol.part (chain sum)) ∷ (d, Symbol.comparing) ∷ k) ((d, Symbol.part comparison) ∷ k)
+comparison_begins : (d : ℕ) (k : List Expected) → TakesAlike ((d, Symbol.phrase (chain sum)) ∷ (d, Symbol.comparing) ∷ k) ((d, Symbol.phrase comparison) ∷ k)
 unfolding step
 comparison_begins d k t n more e = e
 
-negated_begins : (d : ℕ) (k : List Expected) → TakesAlike ((d, Symbol.part comparison) ∷ k) ((d, Symbol.part negated) ∷ k)
+negated_begins : (d : ℕ) (k : List Expected) → TakesAlike ((d, Symbol.phrase comparison) ∷ k) ((d, Symbol.phrase negated) ∷ k)
 unfolding step
 negated_begins d k Token.negates n more e = absurd (none-some (n, more) e)
 negated_begins d k t n more e = e
@@ -90,7 +90,7 @@ abbrev Leads : (Token → Bool) → List Expected → List Expected → List Pla
 Leads tokens before k ts behind = (left : List Expected) × (Passes tokens left k × Moves before ts left behind)
 
 -- the tokens that don't go on a part
-abbrev stops : Part → Token → Bool
+abbrev stops : Phrase → Token → Bool
 stops p (Token.operator op) = stops_at p op
 stops p _ = true
 
@@ -126,12 +126,12 @@ stops-program _ h = refl
 
 more_leaves : (c : Chain) (d : ℕ) (k : List Expected) (t : Token) → IsTrue (stops (chain c) t) → step ((d, Symbol.more c) ∷ k) t ≡ step k t
 more_leaves c d k (Token.operator op) h =
-    leaves d (Symbol.more c) k (Token.operator op) refl (if_none (joins c op) ((d, Symbol.part (side c)) ∷ (d, Symbol.more c) ∷ k) (λ j. joined_is_no_stop c op j h))
+    leaves d (Symbol.more c) k (Token.operator op) refl (if_none (joins c op) ((d, Symbol.phrase (side c)) ∷ (d, Symbol.more c) ∷ k) (λ j. joined_is_no_stop c op j h))
 more_leaves c d k t h = leaves d (Symbol.more c) k t refl refl
 
 comparing_leaves : (d : ℕ) (k : List Expected) (t : Token) → IsTrue (stops comparison t) → step ((d, Symbol.comparing) ∷ k) t ≡ step k t
 comparing_leaves d k (Token.operator op) h =
-    leaves d Symbol.comparing k (Token.operator op) refl (if_none (compares op) ((d, Symbol.part (chain sum)) ∷ k) (λ c. compared_is_no_stop op c h))
+    leaves d Symbol.comparing k (Token.operator op) refl (if_none (compares op) ((d, Symbol.phrase (chain sum)) ∷ k) (λ c. compared_is_no_stop op c h))
 comparing_leaves d k t h = leaves d Symbol.comparing k t refl refl
 
 next_leaves : (d : ℕ) (k : List Expected) (t : Token) → IsTrue (stops_program t) → step ((d, Symbol.next) ∷ k) t ≡ step k t
@@ -143,8 +143,8 @@ other_leaves d k Token.otherwise h = absurd (never h)
 other_leaves d k t h = leaves d Symbol.other k t refl refl
 
 prefix_takes : (op : Op) (d : ℕ) (k : List Expected) → IsTrue (is_min_or_max op)
-    → step ((d, Symbol.part unary) ∷ k) (Token.operator op)
-    ≡ Some (d, (d, Symbol.mark Mark.opens) ∷ (suc d, Symbol.part (chain disjunction)) ∷ (suc d, Symbol.mark Mark.comma) ∷ (suc d, Symbol.part (chain disjunction)) ∷ (d, Symbol.mark Mark.closes) ∷ k)
+    → step ((d, Symbol.phrase unary) ∷ k) (Token.operator op)
+    ≡ Some (d, (d, Symbol.punctuation Punctuation.opens) ∷ (suc d, Symbol.phrase (chain disjunction)) ∷ (suc d, Symbol.punctuation Punctuation.comma) ∷ (suc d, Symbol.phrase (chain disjunction)) ∷ (d, Symbol.punctuation Punctuation.closes) ∷ k)
 unfolding step
 prefix_takes lesser d k h = refl
 prefix_takes larger d k h = refl
@@ -152,43 +152,43 @@ prefix_takes _ d k h = absurd (never h)
 
 module _ (item_of : List ℕ → Option ℕ) where
   mutual
-    walk_expr : {p : Part} {d : ℕ} {ts behind : List Placed} {e : Expr} → Reads item_of p d ts behind e → (k : List Expected)
-        → Leads (stops p) ((d, Symbol.part p) ∷ k) k ts behind
+    walk_expr : {p : Phrase} {d : ℕ} {ts behind : List Placed} {e : Expr} → Reads item_of p d ts behind e → (k : List Expected)
+        → Leads (stops p) ((d, Symbol.phrase p) ∷ k) k ts behind
     walk_expr (chained c d ts mid behind left e p g) k =
         let x = walk_expr p ((d, Symbol.more c) ∷ k) in
         let y = walk_chain g k x.0 x.1.0 in
         (y.0, (y.1.0, alike (chain_begins c d k) (further x.1.1 y.1.1)))
     walk_expr (not d ts behind e p) k =
         let x = walk_expr p k in
-        (x.0, (x.1.0, moves (takes d (Symbol.part negated) k Token.negates ((suc d, Symbol.part negated) ∷ k) refl) (walked x.1.1)))
+        (x.0, (x.1.0, moves (takes d (Symbol.phrase negated) k Token.negates ((suc d, Symbol.phrase negated) ∷ k) refl) (walked x.1.1)))
     walk_expr (not_negated d ts behind e p) k = let x = walk_expr p k in (x.0, (x.1.0, alike (negated_begins d k) x.1.1))
     walk_expr (compared op d ts mid behind left right c p q) k =
         let x = walk_expr p ((d, Symbol.comparing) ∷ k) in
         let y = walk_expr q k in
         let e = x.1.0.1 (Token.operator op) (compared_stops_sum op c)
-        ∙ takes d Symbol.comparing k (Token.operator op) ((d, Symbol.part (chain sum)) ∷ k) (if_some (compares op) ((d, Symbol.part (chain sum)) ∷ k) c) in
+        ∙ takes d Symbol.comparing k (Token.operator op) ((d, Symbol.phrase (chain sum)) ∷ k) (if_some (compares op) ((d, Symbol.phrase (chain sum)) ∷ k) c) in
         (y.0, ((y.1.0.0, λ t h. y.1.0.1 t (stops-sum t h)), alike (comparison_begins d k) (further x.1.1 (walks e (walked y.1.1)))))
     walk_expr (not_compared d ts behind e p) k =
         let x = walk_expr p ((d, Symbol.comparing) ∷ k) in
         (x.0, ((x.1.0.0, λ t h. x.1.0.1 t (stops-sum t h) ∙ comparing_leaves d k t h), alike (comparison_begins d k) x.1.1))
     walk_expr (negative d ts behind e p) k =
         let x = walk_expr p k in
-        (x.0, (x.1.0, moves (takes d (Symbol.part unary) k (Token.operator sub) ((suc d, Symbol.part unary) ∷ k) refl) (walked x.1.1)))
+        (x.0, (x.1.0, moves (takes d (Symbol.phrase unary) k (Token.operator sub) ((suc d, Symbol.phrase unary) ∷ k) refl) (walked x.1.1)))
     walk_expr (numeral n d behind l) k =
-        (k, ((refl, λ t h. refl), moves (takes d (Symbol.part unary) k (Token.number n) k (if_some (nat_lt n (2 ^ 63)) k (lt-ltb n (2 ^ 63) l))) (here k behind)))
+        (k, ((refl, λ t h. refl), moves (takes d (Symbol.phrase unary) k (Token.number n) k (if_some (nat_lt n (2 ^ 63)) k (lt-ltb n (2 ^ 63) l))) (here k behind)))
     walk_expr (named word n d behind i) k =
-        (k, ((refl, λ t h. refl), moves (takes d (Symbol.part unary) k (Token.name word) k refl) (here k behind)))
+        (k, ((refl, λ t h. refl), moves (takes d (Symbol.phrase unary) k (Token.name word) k refl) (here k behind)))
     walk_expr (in_brackets d ts behind e p) k =
-        let x = walk_expr p ((d, Symbol.mark Mark.closes) ∷ k) in
-        let open_e = takes d (Symbol.part unary) k Token.opens ((suc d, Symbol.part (chain disjunction)) ∷ (d, Symbol.mark Mark.closes) ∷ k) refl in
-        let close_e = x.1.0.1 Token.closes refl ∙ takes d (Symbol.mark Mark.closes) k Token.closes k refl in
+        let x = walk_expr p ((d, Symbol.punctuation Punctuation.closes) ∷ k) in
+        let open_e = takes d (Symbol.phrase unary) k Token.opens ((suc d, Symbol.phrase (chain disjunction)) ∷ (d, Symbol.punctuation Punctuation.closes) ∷ k) refl in
+        let close_e = x.1.0.1 Token.closes refl ∙ takes d (Symbol.punctuation Punctuation.closes) k Token.closes k refl in
         (k, ((refl, λ t h. refl), moves open_e (both (walked x.1.1) (walks close_e (here k behind)))))
     walk_expr (of_two op d ts mid behind left right m p q) k =
-        let x = walk_expr p ((suc d, Symbol.mark Mark.comma) ∷ (suc d, Symbol.part (chain disjunction)) ∷ (d, Symbol.mark Mark.closes) ∷ k) in
-        let y = walk_expr q ((d, Symbol.mark Mark.closes) ∷ k) in
-        let open_e = takes d (Symbol.mark Mark.opens) ((suc d, Symbol.part (chain disjunction)) ∷ (suc d, Symbol.mark Mark.comma) ∷ (suc d, Symbol.part (chain disjunction)) ∷ (d, Symbol.mark Mark.closes) ∷ k) Token.opens _ refl in
-        let comma_e = x.1.0.1 Token.parts refl ∙ takes (suc d) (Symbol.mark Mark.comma) ((suc d, Symbol.part (chain disjunction)) ∷ (d, Symbol.mark Mark.closes) ∷ k) Token.parts _ refl in
-        let close_e = y.1.0.1 Token.closes refl ∙ takes d (Symbol.mark Mark.closes) k Token.closes k refl in
+        let x = walk_expr p ((suc d, Symbol.punctuation Punctuation.comma) ∷ (suc d, Symbol.phrase (chain disjunction)) ∷ (d, Symbol.punctuation Punctuation.closes) ∷ k) in
+        let y = walk_expr q ((d, Symbol.punctuation Punctuation.closes) ∷ k) in
+        let open_e = takes d (Symbol.punctuation Punctuation.opens) ((suc d, Symbol.phrase (chain disjunction)) ∷ (suc d, Symbol.punctuation Punctuation.comma) ∷ (suc d, Symbol.phrase (chain disjunction)) ∷ (d, Symbol.punctuation Punctuation.closes) ∷ k) Token.opens _ refl in
+        let comma_e = x.1.0.1 Token.parts refl ∙ takes (suc d) (Symbol.punctuation Punctuation.comma) ((suc d, Symbol.phrase (chain disjunction)) ∷ (d, Symbol.punctuation Punctuation.closes) ∷ k) Token.parts _ refl in
+        let close_e = y.1.0.1 Token.closes refl ∙ takes d (Symbol.punctuation Punctuation.closes) k Token.closes k refl in
         (k, ((refl, λ t h. refl), moves (prefix_takes op d k m) (walks open_e (both (walked x.1.1) (walks comma_e (both (walked y.1.1) (walks close_e (here k behind))))))))
 
     walk_chain : {c : Chain} {before e : Expr} {d : ℕ} {ts behind : List Placed} → GoesOn item_of c before d ts behind e → (k now : List Expected)
@@ -199,7 +199,7 @@ module _ (item_of : List ℕ → Option ℕ) where
         let x = walk_expr p ((d, Symbol.more c) ∷ k) in
         let y = walk_chain g k x.0 x.1.0 in
         let e = passes.1 (Token.operator op) (joined_stops_side c op j)
-        ∙ takes d (Symbol.more c) k (Token.operator op) ((d, Symbol.part (side c)) ∷ (d, Symbol.more c) ∷ k) (if_some (joins c op) ((d, Symbol.part (side c)) ∷ (d, Symbol.more c) ∷ k) j) in
+        ∙ takes d (Symbol.more c) k (Token.operator op) ((d, Symbol.phrase (side c)) ∷ (d, Symbol.more c) ∷ k) (if_some (joins c op) ((d, Symbol.phrase (side c)) ∷ (d, Symbol.more c) ∷ k) j) in
         (y.0, (y.1.0, walks e (both (walked x.1.1) y.1.1)))
 
   mutual
@@ -208,7 +208,7 @@ module _ (item_of : List ℕ → Option ℕ) where
     walk_program (assigns word n d ts mid behind e nx i x y) k =
         let v = walk_expr x ((d, Symbol.next) ∷ k) in
         let z = walk_next y k v.0 (v.1.0.0, λ t h. v.1.0.1 t (stops-expr t h)) in
-        let becomes_e = takes d (Symbol.mark Mark.becomes) ((d, Symbol.part (chain disjunction)) ∷ (d, Symbol.next) ∷ k) Token.becomes _ refl in
+        let becomes_e = takes d (Symbol.punctuation Punctuation.becomes) ((d, Symbol.phrase (chain disjunction)) ∷ (d, Symbol.next) ∷ k) Token.becomes _ refl in
         (z.0, (z.1.0, moves (takes d Symbol.program k (Token.name word) _ refl) (walks becomes_e (both (walked v.1.1) z.1.1))))
     walk_program (requires d ts mid behind e nx x y) k =
         let v = walk_expr x ((d, Symbol.next) ∷ k) in
@@ -219,24 +219,24 @@ module _ (item_of : List ℕ → Option ℕ) where
         let z = walk_next y k v.0 (v.1.0.0, λ t h. v.1.0.1 t (stops-expr t h)) in
         (z.0, (z.1.0, moves (takes d Symbol.program k Token.returns _ refl) (both (walked v.1.1) z.1.1)))
     walk_program (asks d ts inside mid behind test body nx x b y) k =
-        let v = walk_expr x ((d, Symbol.mark Mark.opens_body) ∷ (suc d, Symbol.program) ∷ (d, Symbol.mark Mark.closes_body) ∷ (d, Symbol.other) ∷ (d, Symbol.next) ∷ k) in
-        let w = walk_program b ((d, Symbol.mark Mark.closes_body) ∷ (d, Symbol.other) ∷ (d, Symbol.next) ∷ k) in
+        let v = walk_expr x ((d, Symbol.punctuation Punctuation.opens_body) ∷ (suc d, Symbol.program) ∷ (d, Symbol.punctuation Punctuation.closes_body) ∷ (d, Symbol.other) ∷ (d, Symbol.next) ∷ k) in
+        let w = walk_program b ((d, Symbol.punctuation Punctuation.closes_body) ∷ (d, Symbol.other) ∷ (d, Symbol.next) ∷ k) in
         let z = walk_next y k ((d, Symbol.other) ∷ (d, Symbol.next) ∷ k) (refl, λ t h. other_leaves d ((d, Symbol.next) ∷ k) t h) in
         let open_e = v.1.0.1 Token.opens_body refl
-        ∙ takes d (Symbol.mark Mark.opens_body) ((suc d, Symbol.program) ∷ (d, Symbol.mark Mark.closes_body) ∷ (d, Symbol.other) ∷ (d, Symbol.next) ∷ k) Token.opens_body _ refl in
-        let close_e = w.1.0.1 Token.closes_body refl ∙ takes d (Symbol.mark Mark.closes_body) ((d, Symbol.other) ∷ (d, Symbol.next) ∷ k) Token.closes_body _ refl in
+        ∙ takes d (Symbol.punctuation Punctuation.opens_body) ((suc d, Symbol.program) ∷ (d, Symbol.punctuation Punctuation.closes_body) ∷ (d, Symbol.other) ∷ (d, Symbol.next) ∷ k) Token.opens_body _ refl in
+        let close_e = w.1.0.1 Token.closes_body refl ∙ takes d (Symbol.punctuation Punctuation.closes_body) ((d, Symbol.other) ∷ (d, Symbol.next) ∷ k) Token.closes_body _ refl in
         (z.0, (z.1.0, moves (takes d Symbol.program k Token.asks _ refl) (both (walked v.1.1) (walks open_e (both (walked w.1.1) (walks close_e z.1.1))))))
     walk_program (asks_else d ts inside second mid behind test body final nx x b o y) k =
-        let v = walk_expr x ((d, Symbol.mark Mark.opens_body) ∷ (suc d, Symbol.program) ∷ (d, Symbol.mark Mark.closes_body) ∷ (d, Symbol.other) ∷ (d, Symbol.next) ∷ k) in
-        let w = walk_program b ((d, Symbol.mark Mark.closes_body) ∷ (d, Symbol.other) ∷ (d, Symbol.next) ∷ k) in
-        let u = walk_program o ((d, Symbol.mark Mark.closes_body) ∷ (d, Symbol.next) ∷ k) in
+        let v = walk_expr x ((d, Symbol.punctuation Punctuation.opens_body) ∷ (suc d, Symbol.program) ∷ (d, Symbol.punctuation Punctuation.closes_body) ∷ (d, Symbol.other) ∷ (d, Symbol.next) ∷ k) in
+        let w = walk_program b ((d, Symbol.punctuation Punctuation.closes_body) ∷ (d, Symbol.other) ∷ (d, Symbol.next) ∷ k) in
+        let u = walk_program o ((d, Symbol.punctuation Punctuation.closes_body) ∷ (d, Symbol.next) ∷ k) in
         let z = walk_next y k ((d, Symbol.next) ∷ k) (refl, λ t h. refl) in
         let open_e = v.1.0.1 Token.opens_body refl
-        ∙ takes d (Symbol.mark Mark.opens_body) ((suc d, Symbol.program) ∷ (d, Symbol.mark Mark.closes_body) ∷ (d, Symbol.other) ∷ (d, Symbol.next) ∷ k) Token.opens_body _ refl in
-        let close_e = w.1.0.1 Token.closes_body refl ∙ takes d (Symbol.mark Mark.closes_body) ((d, Symbol.other) ∷ (d, Symbol.next) ∷ k) Token.closes_body _ refl in
+        ∙ takes d (Symbol.punctuation Punctuation.opens_body) ((suc d, Symbol.program) ∷ (d, Symbol.punctuation Punctuation.closes_body) ∷ (d, Symbol.other) ∷ (d, Symbol.next) ∷ k) Token.opens_body _ refl in
+        let close_e = w.1.0.1 Token.closes_body refl ∙ takes d (Symbol.punctuation Punctuation.closes_body) ((d, Symbol.other) ∷ (d, Symbol.next) ∷ k) Token.closes_body _ refl in
         let else_e = takes d Symbol.other ((d, Symbol.next) ∷ k) Token.otherwise _ refl in
-        let open_else_e = takes d (Symbol.mark Mark.opens_body) ((suc d, Symbol.program) ∷ (d, Symbol.mark Mark.closes_body) ∷ (d, Symbol.next) ∷ k) Token.opens_body _ refl in
-        let close_else_e = u.1.0.1 Token.closes_body refl ∙ takes d (Symbol.mark Mark.closes_body) ((d, Symbol.next) ∷ k) Token.closes_body _ refl in (
+        let open_else_e = takes d (Symbol.punctuation Punctuation.opens_body) ((suc d, Symbol.program) ∷ (d, Symbol.punctuation Punctuation.closes_body) ∷ (d, Symbol.next) ∷ k) Token.opens_body _ refl in
+        let close_else_e = u.1.0.1 Token.closes_body refl ∙ takes d (Symbol.punctuation Punctuation.closes_body) ((d, Symbol.next) ∷ k) Token.closes_body _ refl in (
           z.0,
           (
             z.1.0,

@@ -21,10 +21,10 @@ pub fn unassigned_keeps_value()
         value_in (exec program rows).rows item ≡ value_in rows item }
 {}
 
-/// What stands behind a `return` that is reached has no effect.
+/// What stands after a `return` that is reached has no effect.
 pub fn return_is_last()
-    ensures { (program behind : Program) (rows : List Row) (returned : ℤ) → (exec program rows).reply ≡ value returned →
-        exec (followed program behind) rows ≡ exec program rows }
+    ensures { (program after : Program) (rows : List Row) (returned : ℤ) → (exec program rows).reply ≡ value returned →
+        exec (followed program after) rows ≡ exec program rows }
 {}
 
 /// On rows with the same items and values in another order a program gives the same reply, and each item the same value.

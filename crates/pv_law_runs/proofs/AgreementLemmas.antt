@@ -12,16 +12,16 @@ use Rattle.pv_model.specs.Meaning.{Row, Reply, exec}
 use Rattle.pv_model.specs.Syntax.{Program}
 use Rattle.pv_base.proofs.AssignmentLemmas.{same-refl}
 use Rattle.pv_base.specs.Assignment.{is_same_txn, commits}
-use Rattle.pv_model.specs.Serial.{Entry, rows_after, serial, serial_reply, txns}
+use Rattle.pv_model.specs.Serial.{Ordered, rows_after, serial, serial_reply, txns}
 use Rattle.pv_model.specs.Print.{Printed, txn, commit, line_text, text_of}
-use Rattle.pv_model.specs.Run.{World, opening, declared_rows, txn_of, after_commit, after, lines_of, report_lines, run, output_of, order_from, order_of, output_before, Agrees, RepliesAgree}
+use Rattle.pv_model.specs.Run.{OneSite, opening, declared_rows, txn_of, after_commit, after, lines_of, report_lines, run, output_of, order_from, order_of, output_before, Agrees, RepliesAgree}
 
 -- the world after events
-abbrev pub world_after : World → List Event → World
+abbrev pub world_after : OneSite → List Event → OneSite
 world_after world [] = world
 world_after world (event ∷ events) = world_after (after world event) events
 
-pub run-append : (catalog : Declared) (world : World) (xs ys : List Event) → run catalog world (xs ++ ys) ≡ run catalog world xs ++ run catalog (world_after world xs) ys
+pub run-append : (catalog : Declared) (world : OneSite) (xs ys : List Event) → run catalog world (xs ++ ys) ≡ run catalog world xs ++ run catalog (world_after world xs) ys
 run-append catalog world [] ys = refl
 run-append catalog world (x ∷ xs) ys =
     ap (λ (l : List Printed). lines_of catalog world x ++ l) (run-append catalog (after world x) xs ys)
@@ -29,7 +29,7 @@ run-append catalog world (x ∷ xs) ys =
 
 -- ---- every transaction of an order commits where the assignment is all of them
 
-abbrev AllCommit : List TxnId → List Entry → Type 0
+abbrev AllCommit : List TxnId → List Ordered → Type 0
 AllCommit assignment [] = Unit {0}
 AllCommit assignment (entry ∷ order) = (commits assignment entry.txn ≡ true) × AllCommit assignment order
 
@@ -37,32 +37,32 @@ commits-among : (before : List TxnId) (t : TxnId) (behind : List TxnId) → comm
 commits-among [] t behind = ap (λ (b : Bool). b || list_any (λ (u : TxnId). is_same_txn u t) behind) (same-refl t)
 commits-among (u ∷ before) t behind = ap (λ (b : Bool). is_same_txn u t || b) (commits-among before t behind) ∙ or-true (is_same_txn u t)
 
-all_commit : (before : List TxnId) (order : List Entry) → AllCommit (before ++ txns order) order
+all_commit : (before : List TxnId) (order : List Ordered) → AllCommit (before ++ txns order) order
 all_commit before [] = tt
 all_commit before (entry ∷ order) = (
   commits-among before entry.txn (txns order),
   subst (λ (a : List TxnId). AllCommit a order) (append_assoc before (entry.txn ∷ []) (txns order)) (all_commit (before ++ entry.txn ∷ []) order),
 )
 
-AllCommit-front : (assignment : List TxnId) (xs ys : List Entry) → AllCommit assignment (xs ++ ys) → AllCommit assignment xs
+AllCommit-front : (assignment : List TxnId) (xs ys : List Ordered) → AllCommit assignment (xs ++ ys) → AllCommit assignment xs
 AllCommit-front assignment [] ys all = tt
 AllCommit-front assignment (x ∷ xs) ys all = (all.0, AllCommit-front assignment xs ys all.1)
 
-AllCommit-behind : (assignment : List TxnId) (xs ys : List Entry) → AllCommit assignment (xs ++ ys) → AllCommit assignment ys
+AllCommit-behind : (assignment : List TxnId) (xs ys : List Ordered) → AllCommit assignment (xs ++ ys) → AllCommit assignment ys
 AllCommit-behind assignment [] ys all = all
 AllCommit-behind assignment (x ∷ xs) ys all = AllCommit-behind assignment xs ys all.1
 
-serial-append : (rows : List Row) (xs ys : List Entry) (assignment : List TxnId) → serial rows (xs ++ ys) assignment ≡ serial (serial rows xs assignment) ys assignment
+serial-append : (rows : List Row) (xs ys : List Ordered) (assignment : List TxnId) → serial rows (xs ++ ys) assignment ≡ serial (serial rows xs assignment) ys assignment
 serial-append rows [] ys assignment = refl
 serial-append rows (x ∷ xs) ys assignment = serial-append (rows_after assignment rows x) xs ys assignment
 
 -- ---- what one event commits, and whose messages wait behind it
 
-abbrev entry_of : ℕ → Option Program → List Entry
+abbrev entry_of : ℕ → Option Program → List Ordered
 entry_of n None = []
 entry_of n (Some program) = record { txn = txn_of n; program = program } ∷ []
 
-abbrev committed_by : ℕ → Option Program → Event → List Entry
+abbrev committed_by : ℕ → Option Program → Event → List Ordered
 committed_by n waiting (pump None) = entry_of n waiting
 committed_by n waiting _ = []
 
@@ -71,7 +71,7 @@ waiting_behind waiting (submit site query text program) = Some program
 waiting_behind waiting (pump None) = None
 waiting_behind waiting _ = waiting
 
-abbrev order_behind : ℕ → Option Program → Event → List Event → List Entry
+abbrev order_behind : ℕ → Option Program → Event → List Event → List Ordered
 order_behind n waiting event events = order_from (n + length (committed_by n waiting event)) (waiting_behind waiting event) events
 
 from_here : (n : ℕ) (waiting : Option Program) (events : List Event) → order_from n waiting events ≡ order_from (n + 0) waiting events
@@ -84,30 +84,30 @@ order_from-event n (Some program) (pump None) events = refl
 order_from-event n None (pump None) events = from_here n None events
 order_from-event n waiting _ events = from_here n waiting events
 
-order-after_commit : (world : World) (waiting : Option Program) → (after_commit world waiting).order ≡ world.order ++ txns (committed_by (length world.order) waiting (pump None))
+order-after_commit : (world : OneSite) (waiting : Option Program) → (after_commit world waiting).order ≡ world.order ++ txns (committed_by (length world.order) waiting (pump None))
 order-after_commit world None = sym (append-nil world.order)
 order-after_commit world (Some program) = refl
 
-order-after : (world : World) (event : Event) → (after world event).order ≡ world.order ++ txns (committed_by (length world.order) world.waiting event)
+order-after : (world : OneSite) (event : Event) → (after world event).order ≡ world.order ++ txns (committed_by (length world.order) world.waiting event)
 order-after world (pump None) = order-after_commit world world.waiting
 order-after world _ = sym (append-nil world.order)
 
-waiting-after_commit : (world : World) (waiting : Option Program) → world.waiting ≡ waiting → (after_commit world waiting).waiting ≡ None
+waiting-after_commit : (world : OneSite) (waiting : Option Program) → world.waiting ≡ waiting → (after_commit world waiting).waiting ≡ None
 waiting-after_commit world None is = is
 waiting-after_commit world (Some program) is = refl
 
-waiting-after : (world : World) (event : Event) → (after world event).waiting ≡ waiting_behind world.waiting event
+waiting-after : (world : OneSite) (event : Event) → (after world event).waiting ≡ waiting_behind world.waiting event
 waiting-after world (pump None) = waiting-after_commit world world.waiting refl
 waiting-after world _ = refl
 
-rows-after_commit : (world : World) (waiting : Option Program) (assignment : List TxnId)
+rows-after_commit : (world : OneSite) (waiting : Option Program) (assignment : List TxnId)
     → let done = committed_by (length world.order) waiting (pump None) in AllCommit assignment done
     → (after_commit world waiting).rows ≡ serial world.rows done assignment
 rows-after_commit world None assignment all = refl
 rows-after_commit world (Some program) assignment all =
     ap (λ (b : Bool). cond b (exec program world.rows).rows world.rows) (sym all.0)
 
-rows-after : (world : World) (event : Event) (assignment : List TxnId)
+rows-after : (world : OneSite) (event : Event) (assignment : List TxnId)
     → let done = committed_by (length world.order) world.waiting event in AllCommit assignment done
     → (after world event).rows ≡ serial world.rows done assignment
 rows-after world (pump None) assignment all = rows-after_commit world world.waiting assignment all
@@ -116,20 +116,20 @@ rows-after world _ assignment all = refl
 -- ---- the world after events is the serial run of their transactions
 
 -- the transactions that events commit behind this world
-abbrev order_in : World → List Event → List Entry
+abbrev order_in : OneSite → List Event → List Ordered
 order_in world events = order_from (length world.order) world.waiting events
 
-order_in-event : (world : World) (event : Event) (events : List Event)
+order_in-event : (world : OneSite) (event : Event) (events : List Event)
     → order_in world (event ∷ events) ≡ committed_by (length world.order) world.waiting event ++ order_in (after world event) events
 order_in-event world event events =
     let done = committed_by (length world.order) world.waiting event in
     let longer : length world.order + length done ≡ length (after world event).order =
-    sym (ap length (order-after world event) ∙ length-append world.order (txns done) ∙ ap (λ (k : ℕ). length world.order + k) (length-map done (λ (e : Entry). e.txn))) in
+    sym (ap length (order-after world event) ∙ length-append world.order (txns done) ∙ ap (λ (k : ℕ). length world.order + k) (length-map done (λ (e : Ordered). e.txn))) in
     order_from-event (length world.order) world.waiting event events
     ∙ ap (λ (k : ℕ). done ++ order_from k (waiting_behind world.waiting event) events) longer
     ∙ ap (λ (w : Option Program). done ++ order_from (length (after world event).order) w events) (sym (waiting-after world event))
 
-order-world_after : (world : World) (events : List Event) → (world_after world events).order ≡ world.order ++ txns (order_in world events)
+order-world_after : (world : OneSite) (events : List Event) → (world_after world events).order ≡ world.order ++ txns (order_in world events)
 order-world_after world [] = sym (append-nil world.order)
 order-world_after world (event ∷ events) =
     let done = committed_by (length world.order) world.waiting event in
@@ -137,25 +137,25 @@ order-world_after world (event ∷ events) =
     order-world_after (after world event) events
     ∙ ap (λ (l : List TxnId). l ++ txns behind) (order-after world event)
     ∙ append_assoc world.order (txns done) (txns behind)
-    ∙ ap (λ (l : List TxnId). world.order ++ l) (sym (map-append (λ (e : Entry). e.txn) done behind))
-    ∙ ap (λ (l : List Entry). world.order ++ txns l) (sym (order_in-event world event events))
+    ∙ ap (λ (l : List TxnId). world.order ++ l) (sym (map-append (λ (e : Ordered). e.txn) done behind))
+    ∙ ap (λ (l : List Ordered). world.order ++ txns l) (sym (order_in-event world event events))
 
-rows-world_after : (world : World) (events : List Event) (assignment : List TxnId) → AllCommit assignment (order_in world events)
+rows-world_after : (world : OneSite) (events : List Event) (assignment : List TxnId) → AllCommit assignment (order_in world events)
     → (world_after world events).rows ≡ serial world.rows (order_in world events) assignment
 rows-world_after world [] assignment all = refl
 rows-world_after world (event ∷ events) assignment all =
     let done = committed_by (length world.order) world.waiting event in
     let behind = order_in (after world event) events in
-    let both = subst (λ (l : List Entry). AllCommit assignment l) (order_in-event world event events) all in
+    let both = subst (λ (l : List Ordered). AllCommit assignment l) (order_in-event world event events) all in
     rows-world_after (after world event) events assignment (AllCommit-behind assignment done behind both)
     ∙ ap (λ (rows : List Row). serial rows behind assignment) (rows-after world event assignment (AllCommit-front assignment done behind both))
     ∙ sym (serial-append world.rows done behind assignment)
-    ∙ ap (λ (l : List Entry). serial world.rows l assignment) (sym (order_in-event world event events))
+    ∙ ap (λ (l : List Ordered). serial world.rows l assignment) (sym (order_in-event world event events))
 
 -- ---- what stands in the output behind events
 
 module _ (schedule : Schedule) (before : List Event) where
-  abbrev world_then : World
+  abbrev world_then : OneSite
   world_then = world_after (opening schedule.catalog) before
 
   order_then : world_then.order ≡ txns (order_of before)
@@ -192,7 +192,7 @@ is_same_txn-later : (m n : ℕ) → m < n → is_same_txn (txn_of m) (txn_of n) 
 is_same_txn-later m n later = ne_eqb m n (λ same. absurd (omega (arith, same, later)))
 
 -- The transactions are numbered from here on.
-abbrev AreNumbered : ℕ → List Entry → Type 0
+abbrev AreNumbered : ℕ → List Ordered → Type 0
 AreNumbered n [] = Unit {0}
 AreNumbered n (entry ∷ order) = (entry.txn ≡ txn_of n) × AreNumbered (n + 1) order
 
@@ -203,18 +203,18 @@ AreNumbered-order_from n (Some program) (pump None ∷ events) = (refl, AreNumbe
 AreNumbered-order_from n None (pump None ∷ events) = AreNumbered-order_from n None events
 AreNumbered-order_from n waiting (_ ∷ events) = AreNumbered-order_from n waiting events
 
-order_in-append : (world : World) (xs ys : List Event) → order_in world (xs ++ ys) ≡ order_in world xs ++ order_in (world_after world xs) ys
+order_in-append : (world : OneSite) (xs ys : List Event) → order_in world (xs ++ ys) ≡ order_in world xs ++ order_in (world_after world xs) ys
 order_in-append world [] ys = refl
 order_in-append world (x ∷ xs) ys =
     let done = committed_by (length world.order) world.waiting x in
     let next = after world x in
     order_in-event world x (xs ++ ys)
-    ∙ ap (λ (l : List Entry). done ++ l) (order_in-append next xs ys)
+    ∙ ap (λ (l : List Ordered). done ++ l) (order_in-append next xs ys)
     ∙ sym (append_assoc done (order_in next xs) (order_in (world_after next xs) ys))
-    ∙ ap (λ (l : List Entry). l ++ order_in (world_after next xs) ys) (sym (order_in-event world x xs))
+    ∙ ap (λ (l : List Ordered). l ++ order_in (world_after next xs) ys) (sym (order_in-event world x xs))
 
 -- The transaction behind those of an order replies to the rows that they leave.
-serial_reply-last : (rows : List Row) (order : List Entry) (n last : ℕ) (program : Program) (assignment : List TxnId)
+serial_reply-last : (rows : List Row) (order : List Ordered) (n last : ℕ) (program : Program) (assignment : List TxnId)
     → AreNumbered n order → last ≡ n + length order → commits assignment (txn_of last) ≡ true
     → serial_reply rows (order ++ record { txn = txn_of last; program = program } ∷ []) assignment (txn_of last)
     ≡ Some (exec program (serial rows order assignment)).reply
@@ -236,23 +236,23 @@ module _ (schedule : Schedule) (before rest : List Event) (site : ℕ) (query : 
   abbrev pair : List Event
   pair = submit site query text program ∷ pump None ∷ []
 
-  abbrev world : World
+  abbrev world : OneSite
   world = world_then schedule before
 
-  abbrev earlier : List Entry
+  abbrev earlier : List Ordered
   earlier = order_of before
 
   abbrev last : ℕ
   last = length earlier
 
-  abbrev done : List Entry
+  abbrev done : List Ordered
   done = order_of (before ++ pair)
 
   abbrev reply : Reply
   reply = (exec program world.rows).reply
 
   number : length world.order ≡ last
-  number = ap length (order_then schedule before) ∙ length-map earlier (λ (e : Entry). e.txn)
+  number = ap length (order_then schedule before) ∙ length-map earlier (λ (e : Ordered). e.txn)
 
   done_is : done ≡ earlier ++ record { txn = txn_of last; program = program } ∷ []
   done_is =
@@ -261,19 +261,19 @@ module _ (schedule : Schedule) (before rest : List Event) (site : ℕ) (query : 
 
   committed : commits (txns done) (txn_of last) ≡ true
   committed =
-      ap (λ (order : List Entry). commits (txns order) (txn_of last)) done_is
-      ∙ ap (λ (a : List TxnId). commits a (txn_of last)) (map-append (λ (e : Entry). e.txn) earlier (record { txn = txn_of last; program = program } ∷ []))
+      ap (λ (order : List Ordered). commits (txns order) (txn_of last)) done_is
+      ∙ ap (λ (a : List TxnId). commits a (txn_of last)) (map-append (λ (e : Ordered). e.txn) earlier (record { txn = txn_of last; program = program } ∷ []))
       ∙ commits-among (txns earlier) (txn_of last) []
 
   rows_are : world.rows ≡ serial (declared_rows schedule.catalog) earlier (txns done)
   rows_are =
       rows-world_after (opening schedule.catalog) before (txns done)
       (AllCommit-front (txns done) earlier (record { txn = txn_of last; program = program } ∷ [])
-      (subst (λ (order : List Entry). AllCommit (txns done) order) done_is (all_commit [] done)))
+      (subst (λ (order : List Ordered). AllCommit (txns done) order) done_is (all_commit [] done)))
 
   replied : serial_reply (declared_rows schedule.catalog) done (txns done) (txn_of last) ≡ Some reply
   replied =
-      ap (λ (order : List Entry). serial_reply (declared_rows schedule.catalog) order (txns done) (txn_of last)) done_is
+      ap (λ (order : List Ordered). serial_reply (declared_rows schedule.catalog) order (txns done) (txn_of last)) done_is
       ∙ serial_reply-last (declared_rows schedule.catalog) earlier 0 last program (txns done) (AreNumbered-order_from 0 None before) (sym (zero-add last)) committed
       ∙ ap (λ (r : List Row). Some (exec program r).reply) (sym rows_are)
 

@@ -8,13 +8,13 @@ use Rattle.std.proofs.lemmas.Bool.{false≢true, le-leb, lt-ltb}
 use Rattle.pv_base.specs.Catalog.{place_of}
 use Rattle.pv_base.specs.Name.{is_digit, is_name}
 use Rattle.pv_model.specs.Causes as causes
-use Rattle.pv_model.specs.Causes.{Before, or_default, declared_by, Cause, BeginsWith, HasCause, HasProgram, mode_words}
+use Rattle.pv_model.specs.Causes.{Before, or_default, declared_by, LineCause, BeginsWith, HasLineCause, HasProgram, mode_words}
 use Rattle.pv_model.specs.Check.{names, AreItems, has_assignment, has_return}
 use Rattle.pv_model.specs.LineForms.{Field, number, site, value, mode, name, program, first_of, first_word, forms_of, takes_program, arguments, form_of, fields_of, beside, are_digits, has_good_number}
 use Rattle.pv_model.specs.ProgramText.{IsProgramText, at_fault}
 use Rattle.pv_model.specs.Schedule.{IsIn, IsSite}
 use Rattle.pv_model.specs.Syntax.{Program}
-use Rattle.pv_model.specs.Text.{Line, words, IsText, value_of}
+use Rattle.pv_model.specs.Text.{TextLine, words, IsText, number_of_digits}
 use Rattle.pv_base.proofs.ContainsLemmas.{Contains-nil, Contains-cases}
 use Rattle.pv_law_programs.proofs.ItemLemmas.{one_items}
 use Rattle.pv_law_programs.proofs.NoRefusalLemmas.{no_refusal}
@@ -48,11 +48,11 @@ Suits before word (name, w) = (is_name w ≡ true) × (place_of w before.items �
 Suits before word (program, text) = (p : Program) × IsProgramText (declared_by before) text p × Runs p word
 
 -- the line has no cause
-pub record Fits (before : Before) (line : Line) : Type 0 where
+pub record Fits (before : Before) (line : TextLine) : Type 0 where
   pub text : IsText line
   pub said : before.sites ≡ None → first_word line ≡ codes "sites"
-  pub once : HasCause before line causes.twice → ⊥
-  pub early : HasCause before line causes.too_late → ⊥
+  pub once : HasLineCause before line causes.twice → ⊥
+  pub early : HasLineCause before line causes.too_late → ⊥
   pub form : List Field
   pub known : forms_of (first_word line) ≡ [] → ⊥
   pub formed : form_of line ≡ Some form
@@ -67,14 +67,14 @@ are_digits-of (b ∷ bs) some digits = digits
 
 pub good-in : (sites least most : ℕ) (w : List ℕ) (n : ℕ) → IsIn least most w n → has_good_number sites (number least most, w) ≡ true
 good-in sites least most w n is =
-    let low : least ≤ value_of w = omega (arith, is.0.value, is.1) in
-    let high : value_of w ≤ most = omega (arith, is.0.value, is.2) in
-    both_true (are_digits-of w is.0.some is.0.digits) (both_true (le-leb least (value_of w) low) (le-leb (value_of w) most high))
+    let low : least ≤ number_of_digits w = omega (arith, is.0.value, is.1) in
+    let high : number_of_digits w ≤ most = omega (arith, is.0.value, is.2) in
+    both_true (are_digits-of w is.0.some is.0.digits) (both_true (le-leb least (number_of_digits w) low) (le-leb (number_of_digits w) most high))
 
 pub good-site : (before : Before) (w : List ℕ) (n : ℕ) → IsSite before w n → has_good_number (or_default 0 before.sites) (site, w) ≡ true
 good-site before w n is =
-    let low : value_of w < or_default 0 before.sites = subst (λ (m : ℕ). m < or_default 0 before.sites) is.0.value is.1 in
-    both_true (are_digits-of w is.0.some is.0.digits) (lt-ltb (value_of w) (or_default 0 before.sites) low)
+    let low : number_of_digits w < or_default 0 before.sites = subst (λ (m : ℕ). m < or_default 0 before.sites) is.0.value is.1 in
+    both_true (are_digits-of w is.0.some is.0.digits) (lt-ltb (number_of_digits w) (or_default 0 before.sites) low)
 
 -- the form of a line, by its first word and what stands behind it
 
@@ -86,18 +86,18 @@ look-known word n form found none =
     let at : find (λ (form : List Field). length form == n) [] ≡ Some form = subst (λ (forms : List (List Field)). find (λ form. length form == n) forms ≡ Some form) none found in
     let never : ⊥ = cc in never
 
-pub look-known-line : (line : Line) (word : List ℕ) (n : ℕ) (form : List Field) → first_word line ≡ word → look word n ≡ Some form → forms_of (first_word line) ≡ [] → ⊥
+pub look-known-line : (line : TextLine) (word : List ℕ) (n : ℕ) (form : List Field) → first_word line ≡ word → look word n ≡ Some form → forms_of (first_word line) ≡ [] → ⊥
 look-known-line line word n form first found none = look-known word n form found (ap forms_of (sym first) ∙ none)
 
-pub form_of-look : (line : Line) → form_of line ≡ look (first_word line) (length (arguments line))
+pub form_of-look : (line : TextLine) → form_of line ≡ look (first_word line) (length (arguments line))
 unfolding form_of
 form_of-look line = refl
 
-pub arguments-plain : (line : Line) (word : List ℕ) (given : List (List ℕ)) → takes_program word ≡ false → words line ≡ word ∷ given → arguments line ≡ given
+pub arguments-plain : (line : TextLine) (word : List ℕ) (given : List (List ℕ)) → takes_program word ≡ false → words line ≡ word ∷ given → arguments line ≡ given
 unfolding arguments
 arguments-plain line word given plain is = rw is (rw plain refl)
 
-pub form-at : (line : Line) (word : List ℕ) (given : List (List ℕ)) (form : Option (List Field)) → first_word line ≡ word → arguments line ≡ given → look word (length given) ≡ form → form_of line ≡ form
+pub form-at : (line : TextLine) (word : List ℕ) (given : List (List ℕ)) (form : Option (List Field)) → first_word line ≡ word → arguments line ≡ given → look word (length given) ≡ form → form_of line ≡ form
 form-at line word given form first are found = form_of-look line ∙ (rw first (rw are found))
 
 -- first words that declare something
@@ -117,7 +117,7 @@ pub none-some-sites : (o : Option ℕ) (n : ℕ) → o ≡ Some n → o ≡ None
 none-some-sites o n some none = cc
 
 -- an event's line
-pub fits-formed : (before : Before) (line : Line) (n : ℕ) (word : List ℕ) (form : List Field) (given : List (List ℕ))
+pub fits-formed : (before : Before) (line : TextLine) (n : ℕ) (word : List ℕ) (form : List Field) (given : List (List ℕ))
     → IsText line → before.sites ≡ Some n → is_declaring word ≡ false → first_word line ≡ word → arguments line ≡ given
     → look word (length given) ≡ Some form → Each (Suits before word) (beside form given) → Fits before line
 fits-formed before line n word form given text said isnt first are found each = record {
@@ -132,7 +132,7 @@ fits-formed before line n word form given text said isnt first are found each = 
   room = λ item. absurd (declares-item word isnt (sym first ∙ item));
 }
 
-pub fits-plain : (before : Before) (line : Line) (n : ℕ) (word : List ℕ) (form : List Field) (given : List (List ℕ))
+pub fits-plain : (before : Before) (line : TextLine) (n : ℕ) (word : List ℕ) (form : List Field) (given : List (List ℕ))
     → IsText line → before.sites ≡ Some n → is_declaring word ≡ false → takes_program word ≡ false → look word (length given) ≡ Some form
     → words line ≡ word ∷ given → Each (Suits before word) (beside form given) → Fits before line
 fits-plain before line n word form given text said isnt plain found is each =
@@ -150,7 +150,7 @@ suits-good before word ((name, w) ∷ fields) each = both_true refl (suits-good 
 suits-good before word ((program, w) ∷ fields) each = both_true refl (suits-good before word fields each.1)
 
 -- the program of the line is the one that suits
-fits-program : (before : Before) (line : Line) (p : Program) → Fits before line → HasProgram before line p → Runs p (first_word line)
+fits-program : (before : Before) (line : TextLine) (p : Program) → Fits before line → HasProgram before line p → Runs p (first_word line)
 fits-program before line p fits has =
     let suits : Suits before (first_word line) (program, has.0) = Each-contains (Suits before (first_word line)) (fields_of line) (program, has.0) fits.each has.1 in
     subst (λ (q : Program). Runs q (first_word line)) (one_program_text (declared_by before) has.0 suits.0 p suits.1 has.2) suits.2
@@ -159,7 +159,7 @@ pub first-item : (p : Program) (items : List ℕ) → AreItems p items → 0 < l
 first-item p [] are some none = omega (arith, some)
 first-item p (n ∷ items) are some none = false≢true (sym (none n) ∙ are.each 0 n (omega arith))
 
-pub fits-no-cause : (before : Before) (line : Line) (cause : Cause) → Fits before line → HasCause before line cause → ⊥
+pub fits-no-cause : (before : Before) (line : TextLine) (cause : LineCause) → Fits before line → HasLineCause before line cause → ⊥
 fits-no-cause before line causes.too_long fits has = omega (arith, fits.text.short, has)
 fits-no-cause before line causes.not_text fits has = false≢true (sym has ∙ fits.text.bytes)
 fits-no-cause before line causes.sites_expected fits has = has.1 (fits.said has.0)

@@ -7,7 +7,7 @@ use Rattle.std.specs.Str.{bytes_eq}
 use Rattle.std.proofs.lemmas.Bool.{false≢true}
 use Rattle.pv_base.specs.declared.mode.Mode.{Mode}
 use Rattle.pv_base.specs.declared.mode.Mode.TheVariants.{Lost, Kept, Torn}
-use Rattle.pv_model.specs.Causes.{Before, or_default, Cause, HasCause, mode_words}
+use Rattle.pv_model.specs.Causes.{Before, or_default, LineCause, HasLineCause, mode_words}
 use Rattle.pv_model.specs.Events as events
 use Rattle.pv_model.specs.Events.{Event}
 use Rattle.pv_model.specs.LineForms as fields
@@ -15,7 +15,7 @@ use Rattle.pv_model.specs.LineForms.{Field, line_forms, first_of, first_word, ta
 use Rattle.pv_model.specs.Meaning.{fits_i64}
 use Rattle.pv_model.specs.Schedule.{IsIn, IsSite, IsMode, IsOne, IsAlone, IsArm, IsRequest, request_word, IsEvent, DeclaresSites, DeclaresJournal, DeclaresItem, Declares}
 use Rattle.pv_model.specs.Syntax.{Program}
-use Rattle.pv_model.specs.Text.{Line, IsText, IsSigned, digits_of}
+use Rattle.pv_model.specs.Text.{TextLine, IsText, IsSigned, digits_of}
 use Rattle.pv_base.proofs.ContainsLemmas.{Contains-first, Contains-behind}
 use Rattle.pv_law_schedules.proofs.LineFormLemmas.{Fits, look, is_declaring, are_digits-of, good-in, good-site, form-at, arguments-plain, look-known-line, none-some-sites, fits-formed, fits-plain, fits-no-cause}
 
@@ -28,24 +28,24 @@ mode-contained w Torn is = subst (Contains mode_words) (sym is) (Contains-behind
 
 -- Events.
 
-fits-number : (before : Before) (line : Line) (n : ℕ) (word : List ℕ) (least most m : ℕ) → IsText line → before.sites ≡ Some n
+fits-number : (before : Before) (line : TextLine) (n : ℕ) (word : List ℕ) (least most m : ℕ) → IsText line → before.sites ≡ Some n
     → is_declaring word ≡ false → takes_program word ≡ false → look word 1 ≡ Some (fields.number least most ∷ [])
     → IsOne word (λ w. IsIn least most w m) line → Fits before line
 fits-number before line n word least most m text said isnt plain found is =
     fits-plain before line n word (fields.number least most ∷ []) (is.0 ∷ []) text said isnt plain found is.1
     (good-in (or_default 0 before.sites) least most is.0 m is.2, tt)
 
-fits-site : (before : Before) (line : Line) (n : ℕ) (word : List ℕ) (m : ℕ) → IsText line → before.sites ≡ Some n
+fits-site : (before : Before) (line : TextLine) (n : ℕ) (word : List ℕ) (m : ℕ) → IsText line → before.sites ≡ Some n
     → is_declaring word ≡ false → takes_program word ≡ false → look word 1 ≡ Some (fields.site ∷ [])
     → IsOne word (λ w. IsSite before w m) line → Fits before line
 fits-site before line n word m text said isnt plain found is =
     fits-plain before line n word (fields.site ∷ []) (is.0 ∷ []) text said isnt plain found is.1 (good-site before is.0 m is.2, tt)
 
-fits-alone : (before : Before) (line : Line) (n : ℕ) (word : List ℕ) → IsText line → before.sites ≡ Some n
+fits-alone : (before : Before) (line : TextLine) (n : ℕ) (word : List ℕ) → IsText line → before.sites ≡ Some n
     → is_declaring word ≡ false → takes_program word ≡ false → look word 0 ≡ Some [] → IsAlone word line → Fits before line
 fits-alone before line n word text said isnt plain found is = fits-plain before line n word [] [] text said isnt plain found is tt
 
-fits-arm : (before : Before) (line : Line) (n : ℕ) (word : List ℕ) (m call : ℕ) (mode : Mode) → IsText line → before.sites ≡ Some n
+fits-arm : (before : Before) (line : TextLine) (n : ℕ) (word : List ℕ) (m call : ℕ) (mode : Mode) → IsText line → before.sites ≡ Some n
     → is_declaring word ≡ false → takes_program word ≡ false → look word 3 ≡ Some (fields.site ∷ fields.number 1 1000 ∷ fields.mode ∷ [])
     → IsArm before word m call mode line → Fits before line
 fits-arm before line n word m call mode text said isnt plain found is =
@@ -56,14 +56,14 @@ request-query : (query : Bool) → request_word query ≡ codes "query" → quer
 request-query true is = refl
 request-query false is = absurd (false≢true (ap (bytes_eq (codes "query")) is))
 
-fits-request : (before : Before) (line : Line) (n : ℕ) (query : Bool) (m : ℕ) (text : List ℕ) (p : Program) → IsText line → before.sites ≡ Some n
+fits-request : (before : Before) (line : TextLine) (n : ℕ) (query : Bool) (m : ℕ) (text : List ℕ) (p : Program) → IsText line → before.sites ≡ Some n
     → is_declaring (request_word query) ≡ false → look (request_word query) 2 ≡ Some (fields.site ∷ fields.program ∷ [])
     → IsRequest before m query text p line → Fits before line
 fits-request before line n query m text p short said isnt found is =
     fits-formed before line n (request_word query) (fields.site ∷ fields.program ∷ []) (is.at ∷ text ∷ []) short said isnt (ap first_of is.first) is.given found
     (good-site before is.at m is.place, ((p, is.is, record { items = is.may.items; are = is.may.are; some = is.may.some; few = is.may.few; answers = λ e. is.may.answers (request-query query e) }), tt))
 
-pub event-fits : (before : Before) (line : Line) (event : Event) → IsEvent before line event → Fits before line
+pub event-fits : (before : Before) (line : TextLine) (event : Event) → IsEvent before line event → Fits before line
 unfolding line_forms takes_program
 event-fits before line (events.submit m true text p) is = fits-request before line is.sites true m text p is.text is.said refl refl is.says
 event-fits before line (events.submit m false text p) is = fits-request before line is.sites false m text p is.text is.said refl refl is.says
@@ -82,16 +82,16 @@ event-fits before line events.sent is = fits-alone before line is.sites (codes "
 event-fits before line events.report is = fits-alone before line is.sites (codes "report") is.text is.said refl refl refl is.says
 event-fits before line events.total is = fits-alone before line is.sites (codes "total") is.text is.said refl refl refl is.says
 
-pub no-cause-event : {before : Before} {line : Line} {event : Event} (cause : Cause) → IsEvent before line event → HasCause before line cause → ⊥
+pub no-cause-event : {before : Before} {line : TextLine} {event : Event} (cause : LineCause) → IsEvent before line event → HasLineCause before line cause → ⊥
 no-cause-event {before} {line} {event} cause is has = fits-no-cause before line cause (event-fits before line event is) has
 
 -- Declarations.
 
-pub word-differs : (line : Line) (a b : List ℕ) → bytes_eq a b ≡ false → bytes_eq b b ≡ true → first_word line ≡ a → first_word line ≡ b → ⊥
+pub word-differs : (line : TextLine) (a b : List ℕ) → bytes_eq a b ≡ false → bytes_eq b b ≡ true → first_word line ≡ a → first_word line ≡ b → ⊥
 word-differs line a b differ same is other =
     false≢true (sym differ ∙ ap (λ (w : List ℕ). bytes_eq w b) (sym is ∙ other) ∙ same)
 
-fits-sites : (before after : Before) (line : Line) → DeclaresSites before line after → Fits before line
+fits-sites : (before after : Before) (line : TextLine) → DeclaresSites before line after → Fits before line
 unfolding line_forms takes_program
 fits-sites before after line is =
     let word = codes "sites" in
@@ -110,7 +110,7 @@ fits-sites before after line is =
       room = λ item. absurd (word-differs line word (codes "item") refl refl first item);
     }
 
-fits-journal : (before after : Before) (line : Line) → DeclaresJournal before line after → Fits before line
+fits-journal : (before after : Before) (line : TextLine) → DeclaresJournal before line after → Fits before line
 unfolding line_forms takes_program
 fits-journal before after line is =
     let word = codes "journal" in
@@ -133,7 +133,7 @@ good-value : (sites : ℕ) (w : List ℕ) (z : ℤ) → IsSigned w z → fits_i6
 good-value sites w z is fits =
     both_true (are_digits-of (digits_of w) is.some is.digits) (subst (λ (y : ℤ). fits_i64 y ≡ true) is.value fits)
 
-fits-item : (before after : Before) (line : Line) → DeclaresItem before line after → Fits before line
+fits-item : (before after : Before) (line : TextLine) → DeclaresItem before line after → Fits before line
 unfolding line_forms takes_program
 fits-item before after line is =
     let word = codes "item" in
@@ -153,8 +153,8 @@ fits-item before after line is =
       room = λ item. is.room;
     }
 
-pub declared-fits : (before after : Before) (line : Line) → Declares before line after → Fits before line
+pub declared-fits : (before after : Before) (line : TextLine) → Declares before line after → Fits before line
 declared-fits before after line = ⊎_elim (fits-sites before after line) (⊎_elim (fits-journal before after line) (fits-item before after line))
 
-pub no-cause-declared : {before after : Before} {line : Line} (cause : Cause) → Declares before line after → HasCause before line cause → ⊥
+pub no-cause-declared : {before after : Before} {line : TextLine} (cause : LineCause) → Declares before line after → HasLineCause before line cause → ⊥
 no-cause-declared {before} {after} {line} cause is has = fits-no-cause before line cause (declared-fits before after line is) has

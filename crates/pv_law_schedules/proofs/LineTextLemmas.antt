@@ -5,7 +5,7 @@ use Rattle.std.specs.List.{list_all, Contains}
 use Rattle.std.specs.Cmp.Derive.{both_true}
 use Rattle.std.proofs.lemmas.Bool.{false≢true}
 use Rattle.pv_model.specs.LineForms.{Field, program, line_forms, first_word, forms_of, arguments, form_of, fields_of, fields_in, beside}
-use Rattle.pv_model.specs.Text.{Line}
+use Rattle.pv_model.specs.Text.{TextLine}
 use Rattle.pv_base.proofs.Basics.{and-left, and-right}
 use Rattle.pv_base.proofs.ContainsLemmas.{Contains-nil, Contains-cases}
 
@@ -26,7 +26,7 @@ kept-all {K} {X} q p (y ∷ ys) all = go (kept-all q p ys (and-right (q y.1) (li
     go more false = more
 
 -- what holds of each form holds of the line's
-pub form-passes : (q : List Field → Bool) (line : Line) (form : List Field) → list_all (λ entry. q entry.1) line_forms ≡ true → form_of line ≡ Some form → q form ≡ true
+pub form-passes : (q : List Field → Bool) (line : TextLine) (form : List Field) → list_all (λ entry. q entry.1) line_forms ≡ true → form_of line ≡ Some form → q form ≡ true
 unfolding form_of
 form-passes q line form all found =
     found-in q (λ form. length form == length (arguments line)) (forms_of (first_word line)) form (kept-all q _ line_forms all) found
@@ -87,5 +87,5 @@ one-text-in : (form : Option (List Field)) (given : List (List ℕ)) (a b : List
 one-text-in None given a b one is also = absurd (Contains-nil (program, a) is)
 one-text-in (Some form) given a b one is also = one-stands form given a b (one form refl) is also
 
-pub one-text : (line : Line) (a b : List ℕ) → Contains (fields_of line) (program, a) → Contains (fields_of line) (program, b) → a ≡ b
+pub one-text : (line : TextLine) (a b : List ℕ) → Contains (fields_of line) (program, a) → Contains (fields_of line) (program, b) → a ≡ b
 one-text line a b is also = one-text-in (form_of line) (arguments line) a b (λ form e. form-passes lone line form forms-lone e) is also

@@ -9,13 +9,13 @@ use Rattle.std.proofs.lemmas.Slice.Eq.{bytes_eq-Decides}
 use Rattle.pv_base.specs.Catalog.{place_of}
 use Rattle.pv_base.specs.Name.{is_name}
 use Rattle.pv_model.specs.Causes as causes
-use Rattle.pv_model.specs.Causes.{Before, or_default, declared_by, Cause, HasCause, Has, HasProgram, mode_words}
+use Rattle.pv_model.specs.Causes.{Before, or_default, declared_by, LineCause, HasLineCause, Has, HasProgram, mode_words}
 use Rattle.pv_model.specs.Check.{AreItems, has_assignment, has_return}
 use Rattle.pv_model.specs.LineForms as fields
-use Rattle.pv_model.specs.LineForms.{Field, line_forms, first_word, forms_of, takes_program, behind_blanks, behind_word, before_blanks, program_text, site_and_text, rest_of, arguments, form_of, fields_of, fields_in, beside, has_good_number}
+use Rattle.pv_model.specs.LineForms.{Field, line_forms, first_word, forms_of, takes_program, after_blanks, after_word, before_blanks, program_text, site_and_text, rest_of, arguments, form_of, fields_of, fields_in, beside, has_good_number}
 use Rattle.pv_model.specs.ProgramText.{Refusal, too_large, at_fault, IsRefused, IsProgramText}
 use Rattle.pv_model.specs.Syntax.{Program}
-use Rattle.pv_model.specs.Text.{Line, words, is_blank, is_text_byte, IsText}
+use Rattle.pv_model.specs.Text.{TextLine, words, is_blank, is_text_byte, IsText}
 use Rattle.pv_base.proofs.Basics.{and-left, and-right}
 use Rattle.pv_base.proofs.ContainsLemmas.{Contains-first, Contains-behind, Contains-nil}
 use Rattle.pv_law_programs.proofs.ItemLemmas.{some_items}
@@ -38,30 +38,30 @@ length-cond : (b : Bool) (xs ys : List ℕ) (n : ℕ) → length xs ≤ n → le
 length-cond true xs ys n h k = h
 length-cond false xs ys n h k = k
 
-length-behind_blanks : (bs : List ℕ) → length (behind_blanks bs) ≤ length bs
-length-behind_blanks [] = omega arith
-length-behind_blanks (b ∷ bs) =
-    length-cond (is_blank b) (behind_blanks bs) (b ∷ bs) (length (b ∷ bs)) (let fewer = length-behind_blanks bs in omega (arith, fewer)) (omega arith)
+length-after_blanks : (bs : List ℕ) → length (after_blanks bs) ≤ length bs
+length-after_blanks [] = omega arith
+length-after_blanks (b ∷ bs) =
+    length-cond (is_blank b) (after_blanks bs) (b ∷ bs) (length (b ∷ bs)) (let fewer = length-after_blanks bs in omega (arith, fewer)) (omega arith)
 
-length-behind_word : (bs : List ℕ) → length (behind_word bs) ≤ length bs
-length-behind_word [] = omega arith
-length-behind_word (b ∷ bs) =
-    length-cond (is_blank b) (b ∷ bs) (behind_word bs) (length (b ∷ bs)) (omega arith) (let fewer = length-behind_word bs in omega (arith, fewer))
+length-after_word : (bs : List ℕ) → length (after_word bs) ≤ length bs
+length-after_word [] = omega arith
+length-after_word (b ∷ bs) =
+    length-cond (is_blank b) (b ∷ bs) (after_word bs) (length (b ∷ bs)) (omega arith) (let fewer = length-after_word bs in omega (arith, fewer))
 
 length-before_blanks : (bs : List ℕ) → length (before_blanks bs) ≤ length bs
 length-before_blanks [] = omega arith
 length-before_blanks (b ∷ bs) =
     length-cond (list_all is_blank (b ∷ bs)) [] (b ∷ before_blanks bs) (length (b ∷ bs)) (omega arith) (let fewer = length-before_blanks bs in omega (arith, fewer))
 
-length-program_text : (line : Line) → length (program_text line) ≤ length line
+length-program_text : (line : TextLine) → length (program_text line) ≤ length line
 unfolding program_text
 length-program_text line =
-    let a = behind_blanks line in
-    let b = behind_word a in
-    let c = behind_blanks b in
-    let d = behind_word c in
-    let e = behind_blanks d in
-    omega (arith, length-behind_blanks line, length-behind_word a, length-behind_blanks b, length-behind_word c, length-behind_blanks d, length-before_blanks e)
+    let a = after_blanks line in
+    let b = after_word a in
+    let c = after_blanks b in
+    let d = after_word c in
+    let e = after_blanks d in
+    omega (arith, length-after_blanks line, length-after_word a, length-after_blanks b, length-after_word c, length-after_blanks d, length-before_blanks e)
 
 -- The text of a program is what stands behind the first two words.
 
@@ -140,7 +140,7 @@ no-program : (form : Option (List Field)) (given : List (List ℕ)) (text : List
 no-program None given text less has = Contains-nil (fields.program, text) has
 no-program (Some form) given text less has = none-stands form given text (less form refl) has
 
-plain-no-program : (line : Line) (text : List ℕ) → takes_program (first_word line) ≡ false → Has line fields.program text → ⊥
+plain-no-program : (line : TextLine) (text : List ℕ) → takes_program (first_word line) ≡ false → Has line fields.program text → ⊥
 plain-no-program line text plain has =
     no-program (form_of line) (arguments line) text
     (λ form e. found-in programless _ (forms_of (first_word line)) form (programless-forms (first_word line) plain) (sym (form_of-look line) ∙ e)) has
@@ -164,10 +164,10 @@ one-form k n only form e = go (k == n) refl e
     go true same found = (eqb-true k n same, let is : only ≡ form = cc in is)
     go false same found = let never : ⊥ = cc in absurd never
 
-abbrev RequestForm : Line → List Field → Type 0
+abbrev RequestForm : TextLine → List Field → Type 0
 RequestForm line form = (2 ≡ length (arguments line)) × (fields.site ∷ fields.program ∷ [] ≡ form)
 
-request-form : (line : Line) (form : List Field) → takes_program (first_word line) ≡ true → form_of line ≡ Some form → RequestForm line form
+request-form : (line : TextLine) (form : List Field) → takes_program (first_word line) ≡ true → form_of line ≡ Some form → RequestForm line form
 unfolding line_forms
 request-form line form takes found =
     let at : look (first_word line) (length (arguments line)) ≡ Some form = sym (form_of-look line) ∙ found in
@@ -181,21 +181,21 @@ second-text text [] e = absurd (omega (arith, e))
 second-text text (at ∷ []) e = absurd (omega (arith, e))
 second-text text (at ∷ word ∷ more) e = (at, refl)
 
-abbrev GivesText : Line → Type 0
+abbrev GivesText : TextLine → Type 0
 GivesText line = (at : List ℕ) × (arguments line ≡ at ∷ program_text line ∷ [])
 
-pub arguments-request : (line : Line) → takes_program (first_word line) ≡ true → arguments line ≡ site_and_text (program_text line) (rest_of (words line))
+pub arguments-request : (line : TextLine) → takes_program (first_word line) ≡ true → arguments line ≡ site_and_text (program_text line) (rest_of (words line))
 unfolding arguments
 arguments-request line takes = rw takes refl
 
-gives-text : (line : Line) → takes_program (first_word line) ≡ true → 2 ≡ length (arguments line) → GivesText line
+gives-text : (line : TextLine) → takes_program (first_word line) ≡ true → 2 ≡ length (arguments line) → GivesText line
 gives-text line takes two =
     let is = arguments-request line takes in
     let second = second-text (program_text line) (rest_of (words line)) (two ∙ ap (λ (ws : List (List ℕ)). length ws) is) in
     (second.0, is ∙ second.1)
 
 -- the text that a line has, where it has a form
-pub text-of : (line : Line) (form : List Field) (text : List ℕ) → form_of line ≡ Some form → Has line fields.program text → text ≡ program_text line
+pub text-of : (line : TextLine) (form : List Field) (text : List ℕ) → form_of line ≡ Some form → Has line fields.program text → text ≡ program_text line
 text-of line form text found has = go (takes_program (first_word line)) refl
   where
     stands : GivesText line → fields.site ∷ fields.program ∷ [] ≡ form → Has line fields.program (program_text line)
@@ -220,15 +220,15 @@ each-of : {X : Type 0} (q : X → Bool) (xs : List X) → list_all q xs ≡ true
 each-of q [] all = tt
 each-of q (x ∷ xs) all = (and-left (q x) (list_all q xs) all, each-of q xs (and-right (q x) (list_all q xs) all))
 
-abbrev Free : Before → Line → Type 0
-Free before line = (c : Cause) → HasCause before line c → ⊥
+abbrev Free : Before → TextLine → Type 0
+Free before line = (c : LineCause) → HasLineCause before line c → ⊥
 
-free-good : (before : Before) (line : Line) → Free before line → (x : Field × List ℕ) → Contains (fields_of line) x → has_good_number (or_default 0 before.sites) x ≡ true
+free-good : (before : Before) (line : TextLine) → Free before line → (x : Field × List ℕ) → Contains (fields_of line) x → has_good_number (or_default 0 before.sites) x ≡ true
 free-good before line free x c =
     let all = isnt-false (list_all (has_good_number (or_default 0 before.sites)) (fields_of line)) (free causes.bad_number) in
     Each-contains (λ x. has_good_number (or_default 0 before.sites) x ≡ true) (fields_of line) x (each-of (has_good_number (or_default 0 before.sites)) (fields_of line) all) c
 
-free-text : (before : Before) (line : Line) → Free before line → IsText line
+free-text : (before : Before) (line : TextLine) → Free before line → IsText line
 free-text before line free = record {
   short = short (told-less 1000 (length line));
   bytes = isnt-false (list_all is_text_byte line) (free causes.not_text);
@@ -241,17 +241,17 @@ free-text before line free = record {
         by : (n : ℕ) → (1000 < n → ⊥) → n ≤ 1000
         by n isnt = omega (arith, isnt)
 
-free-form : (before : Before) (line : Line) → Free before line → (form : List Field) × (form_of line ≡ Some form)
+free-form : (before : Before) (line : TextLine) → Free before line → (form : List Field) × (form_of line ≡ Some form)
 free-form before line free = go (form_of line) refl
   where
     go : (o : Option (List Field)) → form_of line ≡ o → (form : List Field) × (form_of line ≡ Some form)
     go None e = absurd (free causes.wrong_count e)
     go (Some form) e = (form, e)
 
-abbrev SomeOf : Before → Line → List ℕ → Type 0
+abbrev SomeOf : Before → TextLine → List ℕ → Type 0
 SomeOf before line text = (p : Program) × IsProgramText (declared_by before) text p
 
-free-program : (before : Before) (line : Line) → Free before line → (text : List ℕ) → Has line fields.program text → SomeOf before line text
+free-program : (before : Before) (line : TextLine) → Free before line → (text : List ℕ) → Has line fields.program text → SomeOf before line text
 free-program before line free text has = ⊎_elim (λ p. p) (λ r. absurd (refused r.0 r.1)) (some_answer (declared_by before) text)
   where
     refused : (r : Refusal) → IsRefused (declared_by before) text r → ⊥
@@ -261,7 +261,7 @@ free-program before line free text has = ⊎_elim (λ p. p) (λ r. absurd (refus
         omega (arith, same, is.0, is.1, length-program_text line, (free-text before line free).short)
     refused (at_fault kind column) is = free (causes.at_program kind column) (text, has, is)
 
-free-runs : (before : Before) (line : Line) → Free before line → (p : Program) → HasProgram before line p → Runs p (first_word line)
+free-runs : (before : Before) (line : TextLine) → Free before line → (p : Program) → HasProgram before line p → Runs p (first_word line)
 free-runs before line free p has =
     let some = some_items p in
     record {
@@ -279,7 +279,7 @@ free-runs before line free p has =
     by : (n : ℕ) → (16 < n → ⊥) → n ≤ 16
     by n isnt = omega (arith, isnt)
 
-free-suits : (before : Before) (line : Line) → Free before line → (x : Field × List ℕ) → Contains (fields_of line) x → Suits before (first_word line) x
+free-suits : (before : Before) (line : TextLine) → Free before line → (x : Field × List ℕ) → Contains (fields_of line) x → Suits before (first_word line) x
 free-suits before line free (fields.number least most, w) c = free-good before line free (fields.number least most, w) c
 free-suits before line free (fields.site, w) c = free-good before line free (fields.site, w) c
 free-suits before line free (fields.value, w) c = free-good before line free (fields.value, w) c
@@ -290,7 +290,7 @@ free-suits before line free (fields.program, w) c =
     let some = free-program before line free w c in
     (some.0, some.1, free-runs before line free some.0 (w, c, some.1))
 
-pub free-fits : (before : Before) (line : Line) → ((c : Cause) → HasCause before line c → ⊥) → Fits before line
+pub free-fits : (before : Before) (line : TextLine) → ((c : LineCause) → HasLineCause before line c → ⊥) → Fits before line
 free-fits before line free =
     let form = free-form before line free in
     record {

@@ -6,13 +6,13 @@ use Rattle.std.specs.Str.{bytes_eq}
 use Rattle.std.proofs.lemmas.Bool.{false≢true, leb-true, leb-false}
 use Rattle.std.proofs.lemmas.Slice.Eq.{bytes_eq-Decides}
 use Rattle.pv_model.specs.Causes as causes
-use Rattle.pv_model.specs.Causes.{Before, or_default, declared_by, BeginsWith, IsSaid, Cause, rank, HasCause, HasProgram, Has, IsFirstCause, mode_words}
+use Rattle.pv_model.specs.Causes.{Before, or_default, declared_by, BeginsWith, IsSaid, LineCause, line_cause_rank, HasLineCause, HasProgram, Has, IsFirstCause, mode_words}
 use Rattle.pv_model.specs.Check.{names, AreItems}
 use Rattle.pv_model.specs.LineForms as fields
 use Rattle.pv_model.specs.LineForms.{Field, program, fields_of, first_word, forms_of, form_of, has_good_number}
 use Rattle.pv_model.specs.ProgramText.{Kind, Refusal, too_large, at_fault, IsRefused}
 use Rattle.pv_model.specs.Syntax.{Program}
-use Rattle.pv_model.specs.Text.{Line}
+use Rattle.pv_model.specs.Text.{TextLine}
 use Rattle.pv_base.proofs.ContainsLemmas.{Contains-first, Contains-behind, Contains-nil, Contains-cases}
 use Rattle.pv_law_programs.proofs.ItemLemmas.{one_items, some_items}
 use Rattle.pv_law_schedules.proofs.LineFormLemmas.{first-item}
@@ -94,7 +94,7 @@ in-mode P told (fields.mode, w) = told w
 in-mode P told (fields.name, w) = inr (λ h. h)
 in-mode P told (fields.program, w) = inr (λ h. h)
 
-from-mode : (P : List ℕ → Type 0) (line : Line) (x : Field × List ℕ) → Contains (fields_of line) x → InMode P x → (w : List ℕ) × Has line fields.mode w × P w
+from-mode : (P : List ℕ → Type 0) (line : TextLine) (x : Field × List ℕ) → Contains (fields_of line) x → InMode P x → (w : List ℕ) × Has line fields.mode w × P w
 from-mode P line (fields.number least most, w) c h = absurd h
 from-mode P line (fields.site, w) c h = absurd h
 from-mode P line (fields.value, w) c h = absurd h
@@ -114,7 +114,7 @@ in-name P told (fields.mode, w) = inr (λ h. h)
 in-name P told (fields.name, w) = told w
 in-name P told (fields.program, w) = inr (λ h. h)
 
-from-name : (P : List ℕ → Type 0) (line : Line) (x : Field × List ℕ) → Contains (fields_of line) x → InName P x → (w : List ℕ) × Has line fields.name w × P w
+from-name : (P : List ℕ → Type 0) (line : TextLine) (x : Field × List ℕ) → Contains (fields_of line) x → InName P x → (w : List ℕ) × Has line fields.name w × P w
 from-name P line (fields.number least most, w) c h = absurd h
 from-name P line (fields.site, w) c h = absurd h
 from-name P line (fields.value, w) c h = absurd h
@@ -134,7 +134,7 @@ in-program (fields.mode, w) = inr (λ h. h)
 in-program (fields.name, w) = inr (λ h. h)
 in-program (fields.program, w) = inl tt
 
-from-program : (line : Line) (x : Field × List ℕ) → Contains (fields_of line) x → InProgram x → (w : List ℕ) × Has line fields.program w
+from-program : (line : TextLine) (x : Field × List ℕ) → Contains (fields_of line) x → InProgram x → (w : List ℕ) × Has line fields.program w
 from-program line (fields.number least most, w) c h = absurd h
 from-program line (fields.site, w) c h = absurd h
 from-program line (fields.value, w) c h = absurd h
@@ -142,53 +142,53 @@ from-program line (fields.mode, w) c h = absurd h
 from-program line (fields.name, w) c h = absurd h
 from-program line (fields.program, w) c h = (w, c)
 
-pub told-mode : (P : List ℕ → Type 0) → ((w : List ℕ) → Told (P w)) → (line : Line) → Told ((w : List ℕ) × Has line fields.mode w × P w)
+pub told-mode : (P : List ℕ → Type 0) → ((w : List ℕ) → Told (P w)) → (line : TextLine) → Told ((w : List ℕ) × Has line fields.mode w × P w)
 told-mode P told line =
     ⊎_elim (λ h. inl (from-mode P line h.0 h.1 h.2)) (λ none. inr (λ h. none ((fields.mode, h.0), h.1, h.2))) (told-some (InMode P) (in-mode P told) (fields_of line))
 
-pub told-name : (P : List ℕ → Type 0) → ((w : List ℕ) → Told (P w)) → (line : Line) → Told ((w : List ℕ) × Has line fields.name w × P w)
+pub told-name : (P : List ℕ → Type 0) → ((w : List ℕ) → Told (P w)) → (line : TextLine) → Told ((w : List ℕ) × Has line fields.name w × P w)
 told-name P told line =
     ⊎_elim (λ h. inl (from-name P line h.0 h.1 h.2)) (λ none. inr (λ h. none ((fields.name, h.0), h.1, h.2))) (told-some (InName P) (in-name P told) (fields_of line))
 
-pub told-text : (line : Line) → Told ((text : List ℕ) × Has line fields.program text)
+pub told-text : (line : TextLine) → Told ((text : List ℕ) × Has line fields.program text)
 told-text line =
     ⊎_elim (λ h. inl (from-program line h.0 h.1 h.2)) (λ none. inr (λ h. none ((fields.program, h.0), h.1, tt))) (told-some InProgram in-program (fields_of line))
 
 -- the program of a line, or why it has none
-abbrev IsRefusedIn : Before → Line → Type 0
+abbrev IsRefusedIn : Before → TextLine → Type 0
 IsRefusedIn before line = (text : List ℕ) × Has line fields.program text × (refusal : Refusal) × IsRefused (declared_by before) text refusal
 
-abbrev HasNoText : Line → Type 0
+abbrev HasNoText : TextLine → Type 0
 HasNoText line = (text : List ℕ) × Has line fields.program text → ⊥
 
-abbrev SomeProgram : Before → Line → Type 0
+abbrev SomeProgram : Before → TextLine → Type 0
 SomeProgram before line = ((p : Program) × HasProgram before line p) ⊎ (IsRefusedIn before line ⊎ HasNoText line)
 
-pub some-program : (before : Before) (line : Line) → SomeProgram before line
+pub some-program : (before : Before) (line : TextLine) → SomeProgram before line
 some-program before line =
     ⊎_elim
     (λ t. ⊎_elim (λ p. inl (p.0, (t.0, t.1, p.1))) (λ r. inr (inl (t.0, t.1, r.0, r.1))) (some_answer (declared_by before) t.0))
     (λ none. inr (inr none))
     (told-text line)
 
-abbrev pub AtProgram : Before → Line → Type 0
-AtProgram before line = (kind : Kind) × (column : ℕ) × HasCause before line (causes.at_program kind column)
+abbrev pub AtProgram : Before → TextLine → Type 0
+AtProgram before line = (kind : Kind) × (column : ℕ) × HasLineCause before line (causes.at_program kind column)
 
-at-text : (before : Before) (line : Line) (text other : List ℕ) (refusal : Refusal) → Has line fields.program text → Has line fields.program other → IsRefused (declared_by before) text refusal → IsRefused (declared_by before) other refusal
+at-text : (before : Before) (line : TextLine) (text other : List ℕ) (refusal : Refusal) → Has line fields.program text → Has line fields.program other → IsRefused (declared_by before) text refusal → IsRefused (declared_by before) other refusal
 at-text before line text other refusal is also refused = subst (λ (t : List ℕ). IsRefused (declared_by before) t refusal) (one-text line text other is also) refused
 
-told-refused : (before : Before) (line : Line) (text : List ℕ) (refusal : Refusal) → Has line fields.program text → IsRefused (declared_by before) text refusal → Told (AtProgram before line)
+told-refused : (before : Before) (line : TextLine) (text : List ℕ) (refusal : Refusal) → Has line fields.program text → IsRefused (declared_by before) text refusal → Told (AtProgram before line)
 told-refused before line text (too_large n) has refused =
     inr (λ h. let same = ap (λ (t : List ℕ). length t) (one-text line text h.2.0 has h.2.1) in omega (arith, same, refused.0, refused.1, h.2.2.0))
 told-refused before line text (at_fault kind column) has refused = inl (kind, column, (text, has, refused))
 
-pub told-fault : (before : Before) (line : Line) → SomeProgram before line → Told (AtProgram before line)
+pub told-fault : (before : Before) (line : TextLine) → SomeProgram before line → Told (AtProgram before line)
 told-fault before line (inl (p, has)) =
     inr (λ h. no_refusal (declared_by before) has.0 p (at_fault h.0 h.1) has.2 (at-text before line h.2.0 has.0 (at_fault h.0 h.1) h.2.1 has.1 h.2.2))
 told-fault before line (inr (inl (text, has, refusal, refused))) = told-refused before line text refusal has refused
 told-fault before line (inr (inr none)) = inr (λ h. none (h.2.0, h.2.1))
 
-pub told-program : (before : Before) (line : Line) (Q : Program → Type 0) → ((p : Program) → Told (Q p)) → SomeProgram before line → Told ((p : Program) × HasProgram before line p × Q p)
+pub told-program : (before : Before) (line : TextLine) (Q : Program → Type 0) → ((p : Program) → Told (Q p)) → SomeProgram before line → Told ((p : Program) × HasProgram before line p × Q p)
 told-program before line Q told (inl (p, has)) =
     ⊎_elim (λ q. inl (p, has, q)) (λ no_q. inr (λ h. no_q (subst Q (same-program before line h.0 p h.1 has) h.2))) (told p)
 told-program before line Q told (inr (inl (text, has, refusal, refused))) =

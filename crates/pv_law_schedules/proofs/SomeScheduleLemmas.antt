@@ -1,11 +1,11 @@
 -- Each text is a schedule or is malformed.
 use Rattle.std.proofs.Common.{◌≡◌, ◌⊎◌, ⊎_elim, ℕ, ◌+◌, Some, List, [], ◌∷◌, ◌++◌, length, inl, inr, refl, sym, ap, subst, ◌∙◌}
 use Rattle.pv_model.specs.Causes as causes
-use Rattle.pv_model.specs.Causes.{Before, at_first, declared_by, Cause, IsFirstCause}
+use Rattle.pv_model.specs.Causes.{Before, at_first, declared_by, LineCause, IsFirstCause}
 use Rattle.pv_model.specs.Events.{Event, Schedule}
 use Rattle.pv_model.specs.FirstFault.{without_numbers}
-use Rattle.pv_model.specs.Schedule.{IsEvent, Declares, with_event, AreLines, none, declaration, event, IsSchedule, IsMalformed}
-use Rattle.pv_model.specs.Text.{Line, lines, numbered}
+use Rattle.pv_model.specs.Schedule.{IsEvent, Declares, with_event, AreLines, none, declaration, event, IsSchedule, IsMalformedSchedule}
+use Rattle.pv_model.specs.Text.{TextLine, lines, numbered}
 use Rattle.pv_law_schedules.proofs.SomeLineLemmas.{some_line}
 
 -- Numbered lines are all good, or one of them is the first at fault.
@@ -13,25 +13,25 @@ use Rattle.pv_law_schedules.proofs.SomeLineLemmas.{some_line}
 abbrev SitesIn : Before → Type 0
 SitesIn before = (n : ℕ) × (before.sites ≡ Some n)
 
-abbrev AllGood : Before → List (ℕ × Line) → Type 0
+abbrev AllGood : Before → List (ℕ × TextLine) → Type 0
 AllGood before all = (events : List Event) × (last : Before) × AreLines before (without_numbers all) events last
 
-record FirstAt (before : Before) (all : List (ℕ × Line)) : Type 0 where
+record FirstAt (before : Before) (all : List (ℕ × TextLine)) : Type 0 where
   pub number : ℕ
-  pub cause : Cause
-  pub front : List (ℕ × Line)
-  pub line : Line
-  pub rest : List (ℕ × Line)
+  pub cause : LineCause
+  pub front : List (ℕ × TextLine)
+  pub line : TextLine
+  pub rest : List (ℕ × TextLine)
   pub split : all ≡ front ++ (number, line) ∷ rest
   pub events : List Event
   pub last : Before
   pub are : AreLines before (without_numbers front) events last
   pub first : IsFirstCause last line cause
 
-abbrev Walked : Before → List (ℕ × Line) → Type 0
+abbrev Walked : Before → List (ℕ × TextLine) → Type 0
 Walked before all = AllGood before all ⊎ FirstAt before all
 
-with_declaration : (before after : Before) (x : ℕ × Line) (all : List (ℕ × Line)) → Declares before x.1 after → Walked after all → Walked before (x ∷ all)
+with_declaration : (before after : Before) (x : ℕ × TextLine) (all : List (ℕ × TextLine)) → Declares before x.1 after → Walked after all → Walked before (x ∷ all)
 with_declaration before after x all declares (inl good) = inl (good.0, good.1, declaration before after good.1 x.1 (without_numbers all) good.0 declares good.2)
 with_declaration before after x all declares (inr at) = inr (record {
   number = at.number;
@@ -39,14 +39,14 @@ with_declaration before after x all declares (inr at) = inr (record {
   front = x ∷ at.front;
   line = at.line;
   rest = at.rest;
-  split = ap (λ (l : List (ℕ × Line)). x ∷ l) at.split;
+  split = ap (λ (l : List (ℕ × TextLine)). x ∷ l) at.split;
   events = at.events;
   last = at.last;
   are = declaration before after at.last x.1 (without_numbers at.front) at.events declares at.are;
   first = at.first;
 })
 
-with_an_event : (before : Before) (x : ℕ × Line) (all : List (ℕ × Line)) (e : Event) → IsEvent before x.1 e → Walked (with_event before) all → Walked before (x ∷ all)
+with_an_event : (before : Before) (x : ℕ × TextLine) (all : List (ℕ × TextLine)) (e : Event) → IsEvent before x.1 e → Walked (with_event before) all → Walked before (x ∷ all)
 with_an_event before x all e is (inl good) = inl (e ∷ good.0, good.1, event before good.1 x.1 (without_numbers all) e good.0 is good.2)
 with_an_event before x all e is (inr at) = inr (record {
   number = at.number;
@@ -54,14 +54,14 @@ with_an_event before x all e is (inr at) = inr (record {
   front = x ∷ at.front;
   line = at.line;
   rest = at.rest;
-  split = ap (λ (l : List (ℕ × Line)). x ∷ l) at.split;
+  split = ap (λ (l : List (ℕ × TextLine)). x ∷ l) at.split;
   events = e ∷ at.events;
   last = at.last;
   are = event before at.last x.1 (without_numbers at.front) e at.events is at.are;
   first = at.first;
 })
 
-walk : (before : Before) (all : List (ℕ × Line)) → Walked before all
+walk : (before : Before) (all : List (ℕ × TextLine)) → Walked before all
 walk before [] = inl ([], before, none before)
 walk before (x ∷ all) =
     ⊎_elim
@@ -84,26 +84,26 @@ walk before (x ∷ all) =
 
 -- Behind a line the count of sites has been said.
 
-keeps : (before after : Before) (line : Line) → Declares before line after → SitesIn after
+keeps : (before after : Before) (line : TextLine) → Declares before line after → SitesIn after
 keeps before after line (inl x) = (x.count, ap (λ (b : Before). b.sites) x.same)
 keeps before after line (inr (inl x)) = (x.sites, ap (λ (b : Before). b.sites) x.same ∙ x.said)
 keeps before after line (inr (inr x)) = (x.sites, ap (λ (b : Before). b.sites) x.same ∙ x.said)
 
-said-from : {before last : Before} {ls : List Line} {es : List Event} → SitesIn before → AreLines before ls es last → SitesIn last
+said-from : {before last : Before} {ls : List TextLine} {es : List Event} → SitesIn before → AreLines before ls es last → SitesIn last
 said-from said (none before) = said
 said-from said (declaration before after last line ls es d more) = said-from (keeps before after line d) more
 said-from said (event before last line ls e es is more) = said-from (is.sites, is.said) more
 
-said-behind : {before last : Before} {line : Line} {ls : List Line} {es : List Event} → AreLines before (line ∷ ls) es last → SitesIn last
+said-behind : {before last : Before} {line : TextLine} {ls : List TextLine} {es : List Event} → AreLines before (line ∷ ls) es last → SitesIn last
 said-behind (declaration before after last line ls es d more) = said-from (keeps before after line d) more
 said-behind (event before last line ls e es is more) = said-from (is.sites, is.said) more
 
 -- Texts.
 
 abbrev Answer : List ℕ → Type 0
-Answer text = ((schedule : Schedule) × IsSchedule text schedule) ⊎ ((number : ℕ) × (cause : Cause) × IsMalformed text number cause)
+Answer text = ((schedule : Schedule) × IsSchedule text schedule) ⊎ ((number : ℕ) × (cause : LineCause) × IsMalformedSchedule text number cause)
 
-by-lines : (text : List ℕ) (all : List (ℕ × Line)) → numbered text ≡ all → AllGood at_first all → Answer text
+by-lines : (text : List ℕ) (all : List (ℕ × TextLine)) → numbered text ≡ all → AllGood at_first all → Answer text
 by-lines text [] empty good = inr (length (lines text) + 1, causes.sites_expected, inr (record { empty = empty; place = refl; is = refl }))
 by-lines text (x ∷ all) whole good =
     let said = said-behind good.2 in
@@ -111,14 +111,14 @@ by-lines text (x ∷ all) whole good =
       record { catalog = declared_by good.1; events = good.0 },
       record {
         last = good.1;
-        are = subst (λ (l : List (ℕ × Line)). AreLines at_first (without_numbers l) good.0 good.1) (sym whole) good.2;
+        are = subst (λ (l : List (ℕ × TextLine)). AreLines at_first (without_numbers l) good.0 good.1) (sym whole) good.2;
         sites = said.0;
         said = said.1;
         catalog = refl;
       },
     )
 
-pub some_schedule_or_fault : (text : List ℕ) → ((schedule : Schedule) × IsSchedule text schedule) ⊎ ((number : ℕ) × (cause : Cause) × IsMalformed text number cause)
+pub some_schedule_or_fault : (text : List ℕ) → ((schedule : Schedule) × IsSchedule text schedule) ⊎ ((number : ℕ) × (cause : LineCause) × IsMalformedSchedule text number cause)
 some_schedule_or_fault text =
     ⊎_elim (by-lines text (numbered text) refl)
     (λ at. inr (

@@ -1,5 +1,5 @@
 pub mod Alternatives
-pub mod Answers
+pub mod PossibleAnswers
 pub mod Causes
 pub mod Check
 pub mod Events

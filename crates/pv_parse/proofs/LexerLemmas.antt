@@ -8,7 +8,7 @@ use Rattle.std.proofs.lemmas.Bool.{cases_lt, both_ways, not_from_false}
 use Rattle.std.proofs.lemmas.List.{take-append-drop, length-take-le, length-append, get_or_append_left, get_or-take}
 use Rattle.std.proofs.Math.Seq.{take-append_seam}
 use Rattle.pv_base.specs.Name.{is_lower, is_digit, continues_name}
-use Rattle.pv_model.specs.Text.{is_blank, value_of}
+use Rattle.pv_model.specs.Text.{is_blank, number_of_digits}
 use Rattle.pv_model.specs.Tokens.{Token, number, stray, is_name_word, is_digits, token_of, AreTokens, at_token, at_stray}
 use Rattle.pv_parse.specs.TokenView.{StartsWith, IsOther, listed}
 use Rattle.pv_parse.proofs.TokenKinds.{word_at_lower, digits_at_digit, short_at_other, token_of-listed, no_token_at_other, token_of-digits, all_from_each, each_from_all, word_continues, word_short, word_from_each, digits_from_each, digits_all}
@@ -88,9 +88,9 @@ front_is_digits text size some within each =
 
 pub number_starts : (text : List ℕ) (size : ℕ) → is_digit (get_or text 0 0) ≡ true → 1 ≤ size → size ≤ length text →
     ((k : ℕ) → k < size → is_digit (get_or text k 0) ≡ true) →
-    (size < length text → is_digit (get_or text size 0) ≡ false) → StartsWith text (number (value_of (take size text))) size
+    (size < length text → is_digit (get_or text size 0) ≡ false) → StartsWith text (number (number_of_digits (take size text))) size
 number_starts text size digit some within each end =
-    starts text size (number (value_of (take size text))) some within (token_of-digits (take size text) (front_is_digits text size some within each)) longest
+    starts text size (number (number_of_digits (take size text))) some within (token_of-digits (take size text) (front_is_digits text size some within each)) longest
   where
     longest : (longer other : List ℕ) (u : Token) → text ≡ longer ++ other → token_of longer ≡ Some u → length longer ≤ size
     longest longer other u split token =

@@ -41,7 +41,7 @@ faults-of source before error h = h []
 
 -- the source of a text
 abbrev pub source_for : Declared → List ℕ → Source
-source_for catalog text = record { catalog = catalog; behind = length text + 1 }
+source_for catalog text = record { catalog = catalog; after_text = length text + 1 }
 
 pub program-text : (catalog : Declared) (text : List ℕ) (tokens : Columned) (p : model.Program) → length text ≤ 1000 → HasTokens text tokens → ReadsAll (source_for catalog text) tokens p
     → IsProgramText catalog text p

@@ -8,7 +8,7 @@ use Rattle.std.proofs.lemmas.Option.{none-some}
 use Rattle.std.proofs.lemmas.Bool.{and_parts, and_from, and_left, or_cases, or_left, or_right, leb-true, lt-leb, le-leb, cases_Bool, both_ways, not_from_true, not_from_false}
 use Rattle.std.proofs.lemmas.Slice.Eq.{bytes_eq-Decides}
 use Rattle.pv_base.specs.Name.{is_lower, is_digit, continues_name, is_spelled_as_name}
-use Rattle.pv_model.specs.Text.{value_of}
+use Rattle.pv_model.specs.Text.{number_of_digits}
 use Rattle.pv_model.specs.Tokens.{Token, name, number, words_and_symbols, is_name_word, is_digits, name_or_number, token_of}
 use denote.Ref.{Bor}
 use Rattle.pv_parse.specs.declared.token.Token as code
@@ -29,7 +29,7 @@ named : (bytes : List ℕ) (t : Token) (P : Type 0) → (is_name_word bytes ≡ 
 named bytes t P word digits is = go (is_name_word bytes) refl (is_digits bytes) refl is
   where
     go : (w : Bool) → is_name_word bytes ≡ w → (d : Bool) → is_digits bytes ≡ d →
-        cond w (Some (name bytes)) (cond d (Some (number (value_of bytes))) None) ≡ Some t → P
+        cond w (Some (name bytes)) (cond d (Some (number (number_of_digits bytes))) None) ≡ Some t → P
     go true is_word d e is = word is_word
     go false other true are_digits is = digits are_digits
     go false other false neither is = absurd (none-some t is)
@@ -169,7 +169,7 @@ token_of-unlisted bytes is = go (find (λ e. bytes_eq bytes e.0) words_and_symbo
 
 pub token_of-name : (bytes : List ℕ) → is_name_word bytes ≡ true → listed bytes ≡ None → token_of bytes ≡ Some (name bytes)
 token_of-name bytes word is =
-    token_of-unlisted bytes is ∙ ap (λ (b : Bool). cond b (Some (name bytes)) (cond (is_digits bytes) (Some (number (value_of bytes))) None)) word
+    token_of-unlisted bytes is ∙ ap (λ (b : Bool). cond b (Some (name bytes)) (cond (is_digits bytes) (Some (number (number_of_digits bytes))) None)) word
 
 no_word_at_other : (bytes : List ℕ) → IsOther (get_or bytes 0 0) → is_name_word bytes ≡ true → ⊥
 unfolding is_some
@@ -212,11 +212,11 @@ digits_no_word (b ∷ bs) digits =
     ⊎_elim (λ word. absurd (both_ways (is_lower b) (digit_no_lower b ((and_parts (is_digit b) (list_all is_digit bs) digits).0)) (first_is_lower b bs word)))
     (λ no. no) (cases_Bool (is_name_word (b ∷ bs)))
 
-pub token_of-digits : (bytes : List ℕ) → is_digits bytes ≡ true → token_of bytes ≡ Some (number (value_of bytes))
+pub token_of-digits : (bytes : List ℕ) → is_digits bytes ≡ true → token_of bytes ≡ Some (number (number_of_digits bytes))
 token_of-digits bytes digits =
     token_of-unlisted bytes (digits_unlisted bytes digits)
-    ∙ ap (λ (w : Bool). cond w (Some (name bytes)) (cond (is_digits bytes) (Some (number (value_of bytes))) None)) (digits_no_word bytes digits)
-    ∙ ap (λ (d : Bool). cond d (Some (number (value_of bytes))) None) digits
+    ∙ ap (λ (w : Bool). cond w (Some (name bytes)) (cond (is_digits bytes) (Some (number (number_of_digits bytes))) None)) (digits_no_word bytes digits)
+    ∙ ap (λ (d : Bool). cond d (Some (number (number_of_digits bytes))) None) digits
 
 -- A test of all bytes, and of each.
 pub all_from_each : (p : ℕ → Bool) (bytes : List ℕ) → ((k : ℕ) → k < length bytes → p (get_or bytes k 0) ≡ true) → list_all p bytes ≡ true

@@ -12,7 +12,7 @@ mod token;
 
 pub use cursor::MAX_DEPTH;
 pub use error::ParseError;
-pub use parsing::{MAX_TEXT, parse};
+pub use parsing::{MAX_PROGRAM, parse};
 
 #[cfg(test)]
 mod depth_tests;

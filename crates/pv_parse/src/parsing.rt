@@ -13,18 +13,18 @@ use pv_base::Catalog;
 use std::alloc::Global;
 
 /// The greatest length of a program text, in bytes.
-pub const MAX_TEXT: usize = 1000;
+pub const MAX_PROGRAM: usize = 1000;
 
 /// Reads a program over the items of a catalog from its text.
 ///
 /// It is refused with the first of these that holds:
 ///
-/// 1. `TooLarge`: the text has more than [`MAX_TEXT`] bytes. The error says how many.
+/// 1. `TooLarge`: the text has more than [`MAX_PROGRAM`] bytes. The error says how many.
 /// 2. The leftmost fault, and at one column the first of these. `Malformed`: the token at the column can't follow what
 ///    stands before it, or the text ends too early. `UnknownName`: the name at the column is no item's. `TooDeep`: the
 ///    token at the column is nested deeper than [`MAX_DEPTH`](crate::MAX_DEPTH).
 ///
-/// Want of memory, `NoMemory`, may come before a fault of the second kind is found.
+/// `NoMemory`, out of memory, may come before a fault of the second kind is found.
 ///
 /// Takes time linear in the text, besides looking up each name. Recursion goes as deep as tokens nest, at most
 /// [`MAX_DEPTH`](crate::MAX_DEPTH) levels; chains and rows of statements are read in loops.
@@ -38,16 +38,16 @@ pub fn parse(alloc: Global, text: &[u8], catalog: &Catalog) -> Result<Program, P
     ensures refused { IfErr result (λ error. IfSome (refusal_of error) (IsRefused catalog.now text.now)) }
     ensures refuses { (refusal : Refusal) → IsRefused catalog.now text.now refusal →
         IfOk result (λ _. ⊥) × IfErr result (λ error. error ≢ ParseError.NoMemory → refusal_of error ≡ Some refusal) }
-    ensures memory { result ≡ Err ParseError.NoMemory → length text.now ≤ MAX_TEXT }
+    ensures memory { result ≡ Err ParseError.NoMemory → length text.now ≤ MAX_PROGRAM }
 {
-    if text.len() > MAX_TEXT {
+    if text.len() > MAX_PROGRAM {
         return Err(ParseError::TooLarge(text.len() as u64));
     }
     let all = tokens_of(alloc, text)?;
     let parser = Parser {
         alloc,
         catalog,
-        behind: text.len() as u32 + 1,
+        after_text: text.len() as u32 + 1,
     };
     let program = parser.all(&mut Cursor::new(&all))?;
     Ok(program)

@@ -1,5 +1,5 @@
 pub mod LinesLeft
-pub mod Answers
+pub mod ScriptErrors
 pub mod View
 pub mod Faults
 pub mod Keywords

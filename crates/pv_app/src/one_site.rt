@@ -1,4 +1,4 @@
-// The world of one site: its transactions in order, each item's value, and the program whose messages wait.
+// The state of one site: its transactions in order, each item's value, and the program whose messages wait.
 ghost use Rattle.std.specs.Prelude.{◌≡◌, ◌-◌, ◌^◌, ◌<◌, Some, length, IfOk, OnOk, OnErr, IsTrue};
 ghost use Rattle.std.specs.Option.{option_map};
 ghost use Rattle.pv_ast.specs.ReplyView.{reply_of};
@@ -14,32 +14,32 @@ use std::marker::Model;
 /// The transactions that have committed, in order, each item's value, in order of declaration, and the program of the
 /// request whose messages haven't been delivered.
 #[derive(Debug, Drop)]
-pub struct World<'a> {
+pub struct OneSite<'a> {
     order: Vec<TxnId>,
     rows: Vec<Row>,
     waiting: Option<&'a Program>,
 }
 
-impl<'a> Model for World<'a> {
+impl<'a> Model for OneSite<'a> {
     ghost use Rattle.pv_model.specs.Run as model;
     ghost use Rattle.std.specs.Option.{option_map};
-    ghost use Rattle.pv_app.specs.WorldCode.{world_code};
+    ghost use Rattle.pv_app.specs.OneSiteCode.{one_site_code};
 
-    ghost Value = { model.World };
+    ghost Value = { model.OneSite };
 
-    ghost coded = { world_code };
+    ghost coded = { one_site_code };
 
     ghost view = { λ w. record { order = w.order.items; rows = w.rows.items; waiting = option_map (λ program. program.now) w.waiting } };
 }
 
-impl<'a> World<'a> {
+impl<'a> OneSite<'a> {
     ghost use Rattle.pv_model.specs.Run.{opening, after_commit, txn_of};
 
     /// No transaction yet, and the declared values.
-    pub fn new(alloc: Global, catalog: &Catalog) -> Result<World<'a>, NoMemory>
+    pub fn new(alloc: Global, catalog: &Catalog) -> Result<OneSite<'a>, NoMemory>
         ensures { IfOk result (λ world. world ≡ opening catalog.now) }
     {
-        Ok(World {
+        Ok(OneSite {
             order: Vec::new(alloc),
             rows: rows_of(alloc, catalog)?,
             waiting: None,
@@ -86,7 +86,7 @@ impl<'a> World<'a> {
         self.waiting = Some(program);
     }
 
-    /// Runs the program and commits it. Without memory the world stays as it was. Takes time in proportion to the parts of
+    /// Runs the program and commits it. Without memory the site stays as it was. Takes time in proportion to the parts of
     /// the program that run, times the items.
     pub fn commit(&mut self, alloc: Global, program: &Program) -> Result<Reply, NoMemory>
         requires number { length self.old.order < 2 ^ 32 - 1 }

@@ -4,7 +4,7 @@ use Rattle.std.proofs.lemmas.Int.{to_z-of_z}
 use Rattle.pv_model.specs.Meaning.{Row}
 use Rattle.pv_model.specs.Run.{rows_from}
 use Rattle.pv_app.proofs.RowLemmas.{rows_from-drop}
-use Rattle.pv_app.proofs.world.rows_of.Goals as goal
+use Rattle.pv_app.proofs.one_site.rows_of.Goals as goal
 
 pub loop-number-preserved : goal.loop-number-preserved
 loop-number-preserved c =

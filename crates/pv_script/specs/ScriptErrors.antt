@@ -8,7 +8,7 @@ use Rattle.pv_script.specs.declared.schedule.ScriptError.{ScriptError}
 use Rattle.pv_script.specs.declared.schedule.ScriptError.TheVariants.{Malformed, NoMemory}
 
 -- A line that is only not built isn't malformed.
-abbrev pub cause_of : LineCause → Option model.Cause
+abbrev pub cause_of : LineCause → Option model.LineCause
 cause_of TooLong = Some model.too_long
 cause_of NotText = Some model.not_text
 cause_of SitesExpected = Some model.sites_expected
@@ -31,11 +31,11 @@ cause_of NoReturn = Some model.no_return
 cause_of NotBuilt = None
 
 -- The error names the line of this number, for this cause.
-abbrev pub IsRefusal : ℕ → model.Cause → ScriptError → Type 0
-IsRefusal number cause (Malformed line told) = (line ≡ number) × (cause_of told ≡ Some cause)
+abbrev pub IsRefusal : ℕ → model.LineCause → ScriptError → Type 0
+IsRefusal number cause (Malformed line reported) = (line ≡ number) × (cause_of reported ≡ Some cause)
 IsRefusal number cause NoMemory = ⊥
 
--- A refusal names a line at fault and its cause. Want of memory may come at any place.
-abbrev pub Refuses : (ℕ → model.Cause → Type 0) → ScriptError → Type 0
-Refuses IsFault (Malformed line told) = (cause : model.Cause) × (cause_of told ≡ Some cause) × IsFault line cause
+-- A refusal names a line at fault and its cause. `NoMemory` may come at any place.
+abbrev pub Refuses : (ℕ → model.LineCause → Type 0) → ScriptError → Type 0
+Refuses IsFault (Malformed line reported) = (cause : model.LineCause) × (cause_of reported ≡ Some cause) × IsFault line cause
 Refuses IsFault NoMemory = Unit {0}

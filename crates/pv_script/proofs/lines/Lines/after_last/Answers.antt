@@ -2,7 +2,7 @@
 use Rattle.std.proofs.Common.{ap, length, arith, eqb-true}
 use Rattle.std.proofs.Common.{sym, ◌∙◌}
 use Rattle.pv_script.proofs.LineLemmas.{lines-nil}
-use Rattle.pv_script.proofs.lines.Lines.behind.Goals as goal
+use Rattle.pv_script.proofs.lines.Lines.after_last.Goals as goal
 
 pub returns : goal.returns
 returns c =

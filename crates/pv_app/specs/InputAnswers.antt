@@ -6,12 +6,12 @@ use Rattle.pv_app.specs.declared.status.Status.{Status}
 use Rattle.pv_app.specs.declared.status.Status.TheVariants.{Done, Usage, Malformed, ReadFault, WriteFault, TooLong, NoMemory}
 use Rattle.pv_app.specs.declared.run.RunEnd.{RunEnd}
 use Rattle.pv_app.specs.declared.run.RunEnd.TheVariants as end
-use Rattle.pv_model.specs.Causes.{Cause, too_long, not_text, sites_expected, unknown_word, twice, too_late, wrong_count, bad_number, bad_mode, bad_name, name_taken, too_many_items, at_program, names_no_item, too_many_names, query_assigns, no_return}
+use Rattle.pv_model.specs.Causes.{LineCause, too_long, not_text, sites_expected, unknown_word, twice, too_late, wrong_count, bad_number, bad_mode, bad_name, name_taken, too_many_items, at_program, names_no_item, too_many_names, query_assigns, no_return}
 use Rattle.pv_model.specs.Events.{Schedule}
 use Rattle.pv_script.specs.Form.{not_built}
 use Rattle.pv_model.specs.Print.{line_feed}
 use Rattle.pv_model.specs.ProgramText.{malformed, unknown_name, too_deep}
-use Rattle.pv_model.specs.Schedule.{IsSchedule, IsMalformed}
+use Rattle.pv_model.specs.Schedule.{IsSchedule, IsMalformedSchedule}
 use Rattle.pv_model.specs.Run.{output_of}
 
 -- the one command
@@ -22,7 +22,7 @@ abbrev pub usage_text : List ℕ
 usage_text = codes "usage: polydb run\n"
 
 -- what is wrong with a malformed line, as it is printed
-unfoldable pub cause_text : Cause → List ℕ
+unfoldable pub cause_text : LineCause → List ℕ
 cause_text too_long = codes "too long"
 cause_text not_text = codes "not text"
 cause_text sites_expected = codes "sites expected"
@@ -44,12 +44,12 @@ cause_text query_assigns = codes "query assigns"
 cause_text no_return = codes "no return"
 
 -- the same, and what is printed of a line that is well formed but can't be run so far
-abbrev pub reason_text : Option Cause → List ℕ
+abbrev pub reason_text : Option LineCause → List ℕ
 reason_text None = codes "not built"
 reason_text (Some cause) = cause_text cause
 
 -- what is written of an input that is refused at this line
-unfoldable pub fault_text : ℕ → Option Cause → List ℕ
+unfoldable pub fault_text : ℕ → Option LineCause → List ℕ
 fault_text number cause = codes "line " ++ (decimal number ++ (codes ": " ++ (reason_text cause ++ line_feed)))
 
 -- the greatest length of an input, in bytes
@@ -58,8 +58,8 @@ max_input = 16777216
 
 -- An input is refused at the line of this number: it is malformed there, for this cause, or it is a schedule of which this is the first
 -- line that can't be run so far.
-abbrev pub IsRefusedAt : List ℕ → ℕ → Option Cause → Type 0
-IsRefusedAt input number (Some cause) = IsMalformed input number cause
+abbrev pub IsRefusedAt : List ℕ → ℕ → Option LineCause → Type 0
+IsRefusedAt input number (Some cause) = IsMalformedSchedule input number cause
 IsRefusedAt input number None = (schedule : Schedule) × IsSchedule input schedule × (not_built input ≡ Some number)
 
 -- What `run` has to answer to an input, and the status with it: the output of the schedule that the input is, where it can be run, or
@@ -68,11 +68,11 @@ abbrev pub IsAnswer : List ℕ → Status → List ℕ → Type 0
 IsAnswer input Done output =
     (length input ≤ max_input) × (schedule : Schedule) × IsSchedule input schedule × (not_built input ≡ None) × (output ≡ output_of schedule)
 IsAnswer input Malformed output =
-    (length input ≤ max_input) × (number : ℕ) × (cause : Option Cause) × IsRefusedAt input number cause × (output ≡ fault_text number cause)
+    (length input ≤ max_input) × (number : ℕ) × (cause : Option LineCause) × IsRefusedAt input number cause × (output ≡ fault_text number cause)
 IsAnswer input TooLong output = (max_input < length input) × (output ≡ [])
 IsAnswer input _ output = ⊥
 
--- It gives up where something outside failed, or for want of memory.
+-- It gives up where something outside failed, or out of memory.
 abbrev pub GivesUp : Status → Type 0
 GivesUp ReadFault = Unit {0}
 GivesUp WriteFault = Unit {0}
