@@ -1,5 +1,6 @@
 pub mod FirstFaultLemmas
 pub mod ProgramLemmas
+pub mod AlikeRows
 pub mod GrammarLemmas
 pub mod TokenLemmas
 pub mod ProgramTextLemmas

@@ -97,7 +97,7 @@ items_stay program rows =
 value_in-tested : (row : Row) (rows : List Row) (n : ℕ) (b : Bool) → (row.item == n) ≡ b → value_in (row ∷ rows) n ≡ cond b row.value (value_in rows n)
 value_in-tested row rows n b is = ap (λ (c : Bool). cond c row.value (value_in rows n)) is
 
-value_in-with_row-other : (rows : List Row) (n m : ℕ) (v : ℤ) → (n == m) ≡ false → value_in (with_row rows n v) m ≡ value_in rows m
+pub value_in-with_row-other : (rows : List Row) (n m : ℕ) (v : ℤ) → (n == m) ≡ false → value_in (with_row rows n v) m ≡ value_in rows m
 value_in-with_row-other [] n m v other = refl
 value_in-with_row-other (row ∷ rows) n m v other = elim (cases_Bool (row.item == n)) [
   | inl same ↦
@@ -177,12 +177,12 @@ unfolding exec
 return_is_last program behind rows v is =
     ap (effect_of rows) (run-followed program behind rows) ∙ effect_of-returned rows (course_of program rows) (course_of behind) v is
 
--- ---- rows in another order
+-- ---- what a new value of an item changes
 
 lacks-tested : (row : Row) (rows : List Row) (n : ℕ) (b : Bool) → (row.item == n) ≡ b → lacks (row ∷ rows) n ≡ cond b false (lacks rows n)
 lacks-tested row rows n b is = ap (λ (c : Bool). cond c false (lacks rows n)) is
 
-lacks-with_row : (rows : List Row) (n m : ℕ) (v : ℤ) → lacks (with_row rows n v) m ≡ lacks rows m
+pub lacks-with_row : (rows : List Row) (n m : ℕ) (v : ℤ) → lacks (with_row rows n v) m ≡ lacks rows m
 lacks-with_row [] n m v = refl
 lacks-with_row (row ∷ rows) n m v = elim (cases_Bool (row.item == n)) [
   | inl same ↦
@@ -192,7 +192,7 @@ lacks-with_row (row ∷ rows) n m v = elim (cases_Bool (row.item == n)) [
       ∙ ap (λ (b : Bool). cond (row.item == m) false b) (lacks-with_row rows n m v)
 ]
 
-value_in-with_row-same : (rows : List Row) (n m : ℕ) (v : ℤ) → (n == m) ≡ true → value_in (with_row rows n v) m ≡ cond (lacks rows n) (pos 0) v
+pub value_in-with_row-same : (rows : List Row) (n m : ℕ) (v : ℤ) → (n == m) ≡ true → value_in (with_row rows n v) m ≡ cond (lacks rows n) (pos 0) v
 value_in-with_row-same [] n m v is = refl
 value_in-with_row-same (row ∷ rows) n m v is = elim (cases_Bool (row.item == n)) [
   | inl same ↦
@@ -205,93 +205,3 @@ value_in-with_row-same (row ∷ rows) n m v is = elim (cases_Bool (row.item == n
       ∙ value_in-with_row-same rows n m v is
       ∙ ap (λ (b : Bool). cond b (pos 0) v) (sym (lacks-tested row rows n false other))
 ]
-
-with_row-alike : (rows others : List Row) (n : ℕ) (v : ℤ) → HaveSameValues rows others → HaveSameValues (with_row rows n v) (with_row others n v)
-with_row-alike rows others n v same = λ m. (
-  lacks-with_row rows n m v ∙ (same m).0 ∙ sym (lacks-with_row others n m v),
-  elim (cases_Bool (n == m)) [
-    | inl is ↦
-        value_in-with_row-same rows n m v is
-        ∙ ap (λ (b : Bool). cond b (pos 0) v) (same n).0
-        ∙ sym (value_in-with_row-same others n m v is)
-    | inr other ↦ value_in-with_row-other rows n m v other ∙ (same m).1 ∙ sym (value_in-with_row-other others n m v other)
-  ],
-)
-
-value_of-alike : (e : Expr) (rows others : List Row) → HaveSameValues rows others → value_of e rows ≡ value_of e others
-value_of-alike (number z) rows others same = refl
-value_of-alike (item n) rows others same = ap (λ (z : ℤ). Ok z) (same n).1
-value_of-alike (minus e) rows others same = ap (λ (r : Result ℤ Decline). with_value r (λ v. within (neg_ℤ v))) (value_of-alike e rows others same)
-value_of-alike (negation e) rows others same =
-    ap (λ (r : Result ℤ Decline). with_value r (λ v. Ok (truth (not (holds v))))) (value_of-alike e rows others same)
-value_of-alike (two op left right) rows others same =
-    let on_left = value_of-alike left rows others same in
-    let on_right = value_of-alike right rows others same in
-    λ i. with_value (on_left i) (λ v. with_left op v (on_right i))
-
-abbrev AreAlike : Course → Course → Type 0
-AreAlike (ended rows) (ended others) = HaveSameValues rows others
-AreAlike (returned v rows) (returned w others) = (v ≡ w) × HaveSameValues rows others
-AreAlike (refused d) (refused e) = d ≡ e
-AreAlike o p = ⊥
-
-then_with-alike : (r s : Result ℤ Decline) (go on : ℤ → Course) → r ≡ s → ((v : ℤ) → AreAlike (go v) (on v)) → AreAlike (then_with r go) (then_with s on)
-then_with-alike r s go on same alike = subst (λ (t : Result ℤ Decline). AreAlike (then_with r go) (then_with t on)) same (on_one r)
-  where
-    on_one : (r : Result ℤ Decline) → AreAlike (then_with r go) (then_with r on)
-    on_one (Ok v) = alike v
-    on_one (Err d) = refl
-
-then_run-alike : (o p : Course) (go on : List Row → Course) → AreAlike o p → ((rows others : List Row) → HaveSameValues rows others → AreAlike (go rows) (on others))
-    → AreAlike (then_run o go) (then_run p on)
-then_run-alike (ended rows) (ended others) go on a alike = alike rows others a
-then_run-alike (ended rows) (returned w others) go on a alike = absurd a
-then_run-alike (ended rows) (refused e) go on a alike = absurd a
-then_run-alike (returned v rows) (ended others) go on a alike = absurd a
-then_run-alike (returned v rows) (returned w others) go on a alike = a
-then_run-alike (returned v rows) (refused e) go on a alike = absurd a
-then_run-alike (refused d) (ended others) go on a alike = absurd a
-then_run-alike (refused d) (returned w others) go on a alike = absurd a
-then_run-alike (refused d) (refused e) go on a alike = a
-
-cond-alike : (b : Bool) (x y z w : Course) → AreAlike x z → AreAlike y w → AreAlike (cond b x y) (cond b z w)
-cond-alike true x y z w p q = p
-cond-alike false x y z w p q = q
-
-run-alike : (program : Program) (rows others : List Row) → HaveSameValues rows others → AreAlike (course_of program rows) (course_of program others)
-run-alike end rows others same = same
-run-alike (assign n e next) rows others same =
-    then_with-alike (value_of e rows) (value_of e others) _ _ (value_of-alike e rows others same)
-    (λ v. run-alike next (with_row rows n v) (with_row others n v) (with_row-alike rows others n v same))
-run-alike (require e next) rows others same =
-    then_with-alike (value_of e rows) (value_of e others) _ _ (value_of-alike e rows others same)
-    (λ v. cond-alike (holds v) _ (refused unmet) _ (refused unmet) (run-alike next rows others same) refl)
-run-alike (return e next) rows others same =
-    then_with-alike (value_of e rows) (value_of e others) _ _ (value_of-alike e rows others same) (λ v. (refl, same))
-run-alike (when e body next) rows others same =
-    then_with-alike (value_of e rows) (value_of e others) _ _ (value_of-alike e rows others same)
-    (λ v. then_run-alike _ _ (course_of next) (course_of next)
-    (cond-alike (holds v) (course_of body rows) (ended rows) (course_of body others) (ended others) (run-alike body rows others same) same)
-    (run-alike next))
-run-alike (when_else e body other next) rows others same =
-    then_with-alike (value_of e rows) (value_of e others) _ _ (value_of-alike e rows others same)
-    (λ v. then_run-alike _ _ (course_of next) (course_of next)
-    (cond-alike (holds v) (course_of body rows) (course_of other rows) (course_of body others) (course_of other others) (run-alike body rows others same) (run-alike other rows others same))
-    (run-alike next))
-
-effect_of-alike : (rows others : List Row) (o p : Course) → HaveSameValues rows others → AreAlike o p
-    → ((effect_of rows o).reply ≡ (effect_of others p).reply) × HaveSameValues (effect_of rows o).rows (effect_of others p).rows
-effect_of-alike rows others (ended now) (ended then) same a = (refl, a)
-effect_of-alike rows others (ended now) (returned w then) same a = absurd a
-effect_of-alike rows others (ended now) (refused e) same a = absurd a
-effect_of-alike rows others (returned v now) (ended then) same a = absurd a
-effect_of-alike rows others (returned v now) (returned w then) same a = (ap (λ (z : ℤ). value z) a.0, a.1)
-effect_of-alike rows others (returned v now) (refused e) same a = absurd a
-effect_of-alike rows others (refused d) (ended then) same a = absurd a
-effect_of-alike rows others (refused d) (returned w then) same a = absurd a
-effect_of-alike rows others (refused d) (refused e) same a = (ap (λ (x : Decline). declined x) a, same)
-
-pub order_of_rows_is_free : (program : Program) (rows others : List Row) → HaveSameValues rows others
-    → ((exec program rows).reply ≡ (exec program others).reply) × HaveSameValues (exec program rows).rows (exec program others).rows
-unfolding exec
-order_of_rows_is_free program rows others same = effect_of-alike rows others (course_of program rows) (course_of program others) same (run-alike program rows others same)

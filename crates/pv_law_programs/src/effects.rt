@@ -1,7 +1,8 @@
 // Laws on what a program does to rows, and what it leaves alone.
-ghost use Rattle.std.specs.Prelude.{◌≡◌, ℕ, ℤ, false, List};
+ghost use Rattle.std.specs.Prelude.{◌≡◌, ℕ, ℤ, Bool, false, List, IsTrue};
+ghost use Rattle.pv_model.specs.Check.{names};
 ghost use Rattle.pv_model.specs.Meaning.{Row, Decline, value, declined, value_in, items_of_rows, exec};
-ghost use Rattle.pv_model.specs.ProgramLaws.{assigns, followed, HaveSameValues};
+ghost use Rattle.pv_model.specs.ProgramLaws.{assigns, followed, HaveSameValues, HaveSameValuesOf};
 ghost use Rattle.pv_model.specs.Syntax.{Program};
 
 /// A program that declines leaves every row as it was.
@@ -31,4 +32,12 @@ pub fn return_is_last()
 pub fn order_of_rows_is_free()
     ensures { (program : Program) (rows others : List Row) → HaveSameValues rows others →
         ((exec program rows).reply ≡ (exec program others).reply) × HaveSameValues (exec program rows).rows (exec program others).rows }
+{}
+
+/// A program looks only at the rows of its own items. On rows that have the same values of the items of a set, which has all items
+/// that the program names, it gives the same reply, and each item of the set the same value.
+pub fn own_rows_alone()
+    ensures { (set : ℕ → Bool) (program : Program) (rows others : List Row) → ((n : ℕ) → IsTrue (names program n) → IsTrue (set n)) →
+        HaveSameValuesOf set rows others →
+        ((exec program rows).reply ≡ (exec program others).reply) × HaveSameValuesOf set (exec program rows).rows (exec program others).rows }
 {}

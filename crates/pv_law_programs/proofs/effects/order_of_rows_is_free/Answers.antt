@@ -1,5 +1,5 @@
 -- The lemma, as the law of an empty function.
-use Rattle.pv_law_programs.proofs.ProgramLemmas as lemmas
+use Rattle.pv_law_programs.proofs.AlikeRows as lemmas
 use Rattle.pv_law_programs.proofs.effects.order_of_rows_is_free.Goals as goal
 
 pub returns : goal.returns
