@@ -11,7 +11,8 @@ ghost use Rattle.pv_query.specs.Sums.{added, totals, IsWithin, AreWithin};
 
 use crate::repeats::push_new;
 use pv_base::{HELD_NAMES, MAX_ITEMS, NoMemory, TxnId};
-use pv_poly::{Poly, ordered, push_names};
+use pv_cases::{ordered, push_names};
+use pv_poly::Poly;
 use std::alloc::Global;
 use std::error::Error;
 use std::fmt;
