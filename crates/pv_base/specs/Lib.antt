@@ -1,4 +1,5 @@
 pub mod Assignment
+pub mod BigEndian
 pub mod CaseFaults
 pub mod Catalog
 pub mod CatalogView
