@@ -6,3 +6,4 @@ pub mod Fault
 pub mod Name
 pub mod Polyvalue
 pub mod Txn
+pub mod Want
