@@ -7,3 +7,4 @@ pub mod Fault
 pub mod Name
 pub mod Polyvalue
 pub mod Txn
+pub mod Want

@@ -7,6 +7,7 @@ mod entries;
 mod exact;
 mod failure;
 mod faults;
+mod grant;
 mod literal;
 mod mode;
 mod naming;
@@ -18,6 +19,7 @@ pub use catalog::{Catalog, CatalogError, ItemId, MAX_ITEMS, MAX_JOURNAL, MAX_SIT
 pub use exact::Exact;
 pub use failure::{Failed, NoMemory};
 pub use faults::{CaseError, HELD_NAMES, NameError, READ_NAMES};
+pub use grant::GrantId;
 pub use literal::Literal;
 pub use mode::Mode;
 pub use naming::is_name;
