@@ -1,3 +1,5 @@
+pub mod FirstFault
+pub mod Layout
 pub mod Length
 pub mod Message
 pub mod MessageSpelling

@@ -6,7 +6,6 @@ use Rattle.pv_base.specs.declared.limits.TheConstants.{MAX_SITES, MAX_ITEMS, MAX
 use Rattle.pv_base.specs.declared.txn.TxnId.{TxnId}
 
 infixr 20 ◌followed_by◌
-
 -- The bytes are a front that is the one, and then a back that is the other.
 pub record ◌followed_by◌ (Front Back : List ℕ → Type 0) (bytes : List ℕ) : Type 0 where
   pub front : List ℕ
