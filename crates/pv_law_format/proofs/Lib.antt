@@ -1,7 +1,11 @@
+pub mod AnswerLemmas
 pub mod Bytes
 pub mod Codes
+pub mod EnvelopeCode
 pub mod ListCodes
 pub mod NumberCodes
 pub mod OneFault
 pub mod PartCodes
+pub mod PolyvalueCode
 pub mod PolyvalueDecided
+pub mod RecordCode
