@@ -4,6 +4,7 @@ pub mod Length
 pub mod Message
 pub mod MessageSpelling
 pub mod PolyvalueSpelling
+pub mod Range
 pub mod Record
 pub mod RecordSpelling
 pub mod Spelling

@@ -22,7 +22,7 @@ front-bytes (byte ∷ front) rest all =
 pub parted-at : (size : ℕ) (bytes : List ℕ) → size ≤ length bytes → (bytes ≡ take size bytes ++ drop size bytes) × (length (take size bytes) ≡ size)
 parted-at size bytes enough = (sym (take-append-drop size bytes), length-take-le size bytes enough)
 
-both-true : (a b : Bool) → (a && b) ≡ true → (a ≡ true) × (b ≡ true)
+pub both-true : (a b : Bool) → (a && b) ≡ true → (a ≡ true) × (b ≡ true)
 both-true true b is = (refl, is)
 both-true false b is = absurd (true≢false (sym is))
 
