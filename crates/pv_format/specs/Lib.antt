@@ -1,3 +1,4 @@
+pub mod Contents
 pub mod FirstFault
 pub mod Layout
 pub mod Length

@@ -1,6 +1,6 @@
 -- Bytes spell one value or have one fault.
 use Rattle.std.proofs.Common.{◌≡◌, ◌⊎◌, ⊎_elim, ℕ, zero, suc, ◌+◌, ◌/◌, ◌%◌, ◌^◌, ◌<◌, Bool, true, false, List, [], ◌∷◌, ◌++◌, length, inl, inr, refl, sym, ap, subst, ◌∙◌, arith}
-use Rattle.std.specs.Prelude.{ℤ, ◌≢◌, IsTrue, IsFalse}
+use Rattle.std.specs.Prelude.{ℤ, ◌≢◌, IsTrue, IsFalse, ⊤}
 use Rattle.std.proofs.lemmas.Bool.{true≢false}
 use Rattle.std.proofs.lemmas.List.{append-nil}
 use Rattle.pv_base.specs.Answer.{HasOneAnswer}
@@ -8,11 +8,12 @@ use Rattle.pv_base.specs.BigEndian.{big_endian, IsNumber, AreBytes}
 use Rattle.pv_base.specs.Polyvalue.{Case}
 use Rattle.pv_base.proofs.BigEndianLemmas.{IsNumber-length}
 use Rattle.pv_model.proofs.Basics.{heads, tails}
+use Rattle.pv_format.specs.Contents.{IsNoRecord}
 use Rattle.pv_format.specs.FirstFault.{Fault, short, bad_kind, bad_field, extra, HasFault, EndFault, is_extra, NumberFault, is_short, is_refused, is_later, PolyvalueFault, EnvelopeFault, has_no_kind, has_bad_kind, is_in_fields, is_kind}
 use Rattle.pv_format.specs.Layout.{Layout, anything, nothing_more, number_then, polyvalue_then, message_layout}
 use Rattle.pv_format.specs.Message.{Envelope}
 use Rattle.pv_format.specs.MessageSpelling.{SpellsEnvelope, kind_of}
-use Rattle.pv_format.specs.PolyvalueSpelling.{SpellsPolyvalue}
+use Rattle.pv_format.specs.PolyvalueSpelling.{SpellsPolyvalue, BeginsWith}
 use Rattle.pv_format.specs.Record.{Record}
 use Rattle.pv_format.specs.RecordSpelling.{SpellsRecord}
 use Rattle.pv_law_format.proofs.Codes.{Begins, IsCode, IsReadOnce}
@@ -120,11 +121,11 @@ one-envelope-answer bytes all = record {
 
 -- Records.
 
-records : IsCode SpellsPolyvalue PolyvalueFault SpellsRecord (record_layout SpellsPolyvalue PolyvalueFault polyvalue-code)
+pub records : IsCode SpellsPolyvalue PolyvalueFault SpellsRecord (record_layout SpellsPolyvalue PolyvalueFault polyvalue-code)
 records = record-code SpellsPolyvalue PolyvalueFault polyvalue-code
 
 pub one-record-answer : (bytes : List ℕ) → AreBytes bytes
-    → HasOneAnswer (λ record_. SpellsRecord record_ bytes) (λ (none : Unit {0}). (other : Record) → SpellsRecord other bytes → ⊥)
+    → HasOneAnswer (λ record_. SpellsRecord record_ bytes) (λ (none : ⊤). IsNoRecord bytes)
 one-record-answer bytes all = record {
   some = ⊎_elim
       (λ (b : Begins SpellsRecord bytes). ⊎_elim
@@ -137,4 +138,26 @@ one-record-answer bytes all = record {
   one_value = one-value SpellsRecord records.read bytes;
   one_fault = λ x y none none_too. refl;
   not_both = λ value fault s none. none value s;
+}
+
+pub one-record : (bytes : List ℕ) (entry other : Record) → SpellsRecord entry bytes → SpellsRecord other bytes → entry ≡ other
+one-record = one-value SpellsRecord records.read
+
+-- Polyvalues.
+
+pub one-polyvalue-answer : (bytes : List ℕ) (place : ℕ) → AreBytes bytes
+    → HasOneAnswer (λ (found : List (Case ℤ) × List ℕ). BeginsWith found.0 found.1 bytes) (PolyvalueFault place bytes)
+one-polyvalue-answer bytes place all = record {
+  some = ⊎_elim
+      (λ (b : Begins SpellsPolyvalue bytes).
+      inl ((b.value, b.rest), record { front = b.front; back = b.rest; whole = b.whole; first = b.spelled; second = refl }))
+      (λ wrong. inr wrong)
+      (polyvalue-either bytes all place);
+  one_value = λ x y s t.
+      let parts = polyvalue-part.read x.0 y.0 s.front t.front s.back t.back s.first t.first (sym s.whole ∙ t.whole) in
+      let rests = sym s.second ∙ parts.1 ∙ t.second in
+      (λ i. (parts.0 i, rests i));
+  one_fault = polyvalue-part.one place bytes;
+  not_both = λ x fault s wrong.
+      polyvalue-part.not_both x.0 s.front s.back place fault s.first (subst (λ (b : List ℕ). PolyvalueFault place b fault) s.whole wrong);
 }

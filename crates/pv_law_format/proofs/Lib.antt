@@ -12,3 +12,4 @@ pub mod PolyvalueCode
 pub mod PolyvalueDecided
 pub mod RangeLemmas
 pub mod RecordCode
+pub mod ReplayLemmas

@@ -106,7 +106,7 @@ case-spelled case is =
     (joined (each-spelled SpellsLiteral (λ literal. IsTxnInRange literal.txn) literal-spelled case.when is.0.literals)
     (signed case.value is.0.value))
 
-polyvalue-spelled : (cases : List (Case ℤ)) → IsPolyvalueInRange cases → HasSpelling (SpellsPolyvalue cases)
+pub polyvalue-spelled : (cases : List (Case ℤ)) → IsPolyvalueInRange cases → HasSpelling (SpellsPolyvalue cases)
 polyvalue-spelled cases is =
     let few = polyvalue-few HELD_NAMES cases is.polyvalue in
     let found = joined (number 2 (length cases) (omega (arith, few.count)))
