@@ -1,5 +1,5 @@
 -- Why bytes spell no message or no polyvalue: the first fault in reading order.
-use Rattle.std.specs.Prelude.{◌≡◌, ℕ, ◌+◌, ◌<◌, ◌≢◌, ℤ, Bool, false, nat_le, ◌&&◌, List, [], ◌∷◌, ◌++◌, length, IsTrue, IsFalse}
+use Rattle.std.specs.Prelude.{◌≡◌, ℕ, ◌+◌, ◌<◌, ◌≢◌, ℤ, Bool, nat_le, ◌&&◌, List, [], ◌∷◌, ◌++◌, length, IsTrue, IsFalse}
 use Rattle.pv_base.specs.BigEndian.{IsNumber}
 use Rattle.pv_base.specs.declared.limits.TheConstants.{HELD_NAMES}
 use Rattle.pv_base.specs.Polyvalue.{Case, IsPolyvalue}

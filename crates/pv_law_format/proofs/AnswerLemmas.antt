@@ -1,16 +1,15 @@
 -- Bytes spell one value or have one fault.
-use Rattle.std.proofs.Common.{◌≡◌, ◌⊎◌, ⊎_elim, ℕ, zero, suc, ◌+◌, ◌/◌, ◌%◌, ◌^◌, ◌<◌, Bool, true, false, List, [], ◌∷◌, ◌++◌, length, inl, inr, refl, sym, ap, subst, ◌∙◌, arith}
-use Rattle.std.specs.Prelude.{ℤ, ◌≢◌, IsTrue, IsFalse, ⊤}
+use Rattle.std.proofs.Common.{◌≡◌, ◌⊎◌, ⊎_elim, ℕ, ◌+◌, ◌/◌, ◌%◌, ◌^◌, ◌<◌, List, [], ◌∷◌, ◌++◌, length, inl, inr, refl, sym, ap, subst, ◌∙◌, arith}
+use Rattle.std.specs.Prelude.{ℤ, ◌≢◌, ⊤}
 use Rattle.std.proofs.lemmas.Bool.{true≢false}
 use Rattle.std.proofs.lemmas.List.{append-nil}
 use Rattle.pv_base.specs.Answer.{HasOneAnswer}
 use Rattle.pv_base.specs.BigEndian.{big_endian, IsNumber, AreBytes}
 use Rattle.pv_base.specs.Polyvalue.{Case}
-use Rattle.pv_base.proofs.BigEndianLemmas.{IsNumber-length}
 use Rattle.pv_model.proofs.Basics.{heads, tails}
 use Rattle.pv_format.specs.Contents.{IsNoRecord}
-use Rattle.pv_format.specs.FirstFault.{Fault, short, bad_kind, bad_field, extra, HasFault, EndFault, is_extra, NumberFault, is_short, is_refused, is_later, PolyvalueFault, EnvelopeFault, has_no_kind, has_bad_kind, is_in_fields, is_kind}
-use Rattle.pv_format.specs.Layout.{Layout, anything, nothing_more, number_then, polyvalue_then, message_layout}
+use Rattle.pv_format.specs.FirstFault.{Fault, short, bad_kind, extra, HasFault, EndFault, is_extra, is_short, is_refused, is_later, PolyvalueFault, EnvelopeFault, has_no_kind, has_bad_kind, is_in_fields, is_kind}
+use Rattle.pv_format.specs.Layout.{anything, nothing_more, number_then, message_layout}
 use Rattle.pv_format.specs.Message.{Envelope}
 use Rattle.pv_format.specs.MessageSpelling.{SpellsEnvelope, kind_of}
 use Rattle.pv_format.specs.PolyvalueSpelling.{SpellsPolyvalue, BeginsWith}
@@ -132,8 +131,11 @@ one-record-answer bytes all = record {
       (λ empty. inl (b.value, subst (λ (f : List ℕ). SpellsRecord b.value f) (sym (b.whole ∙ ap (λ (r : List ℕ). b.front ++ r) empty ∙ append-nil b.front)) b.spelled))
       (λ more. inr (tt, λ other t. more (no-more SpellsRecord records.read b.value other bytes b.front b.rest b.whole b.spelled t)))
       (empty-or-more b.rest))
-      (λ wrong. inr (tt, λ other t.
-      records.after other bytes [] anything 0 wrong.0 t (subst (λ (b : List ℕ). HasFault (record_layout SpellsPolyvalue PolyvalueFault polyvalue-code anything) 0 b wrong.0) (sym (append-nil bytes)) wrong.1)))
+      (λ wrong. inr (
+        tt,
+        λ other t.
+            records.after other bytes [] anything 0 wrong.0 t (subst (λ (b : List ℕ). HasFault (record_layout SpellsPolyvalue PolyvalueFault polyvalue-code anything) 0 b wrong.0) (sym (append-nil bytes)) wrong.1),
+      ))
       (records.either bytes all anything 0);
   one_value = one-value SpellsRecord records.read bytes;
   one_fault = λ x y none none_too. refl;

@@ -1,5 +1,5 @@
 -- Canonical cases of few names are few, and have few literals each.
-use Rattle.std.proofs.Common.{◌≡◌, ◌⊎◌, ⊎_elim, ℕ, zero, suc, ◌+◌, ◌<◌, ◌≤◌, ◌^◌, Bool, true, false, List, [], ◌∷◌, ◌++◌, cond, length, map, inl, inr, refl, sym, ap, subst, ◌∙◌, arith}
+use Rattle.std.proofs.Common.{◌≡◌, ⊎_elim, ℕ, zero, suc, ◌<◌, ◌≤◌, ◌^◌, Bool, true, false, List, [], ◌∷◌, ◌++◌, cond, length, sym, ap, subst, ◌∙◌, arith}
 use Rattle.std.specs.Prelude.{IsTrue, All}
 use Rattle.std.specs.List.{Contains, filter}
 use Rattle.std.proofs.lemmas.Bool.{false_from_ne_true}
@@ -54,7 +54,11 @@ module _ {V : Type 0} where
   both-few : (txn : TxnId) (most : ℕ) (front back : List (Case V)) → AreFew most front → AreFew most back → AreFew (suc most) (under txn false front ++ under txn true back)
   both-few txn most front back left right = record {
     count = omega (
-      arith, left.count, right.count, length-append (under txn false front) (under txn true back), pow-suc 2 most,
+      arith,
+      left.count,
+      right.count,
+      length-append (under txn false front) (under txn true back),
+      pow-suc 2 most,
       length-map {B = Case V} front (λ (case : Case V). record { when = record { txn = txn; commits = false } ∷ case.when; value = case.value }),
       length-map {B = Case V} back (λ (case : Case V). record { when = record { txn = txn; commits = true } ∷ case.when; value = case.value }),
     );

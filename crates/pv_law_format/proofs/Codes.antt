@@ -1,8 +1,8 @@
 -- Codes: spellings from whose first bytes the value can be read. Parts that are codes, one after another, are a code.
-use Rattle.std.proofs.Common.{◌≡◌, ◌⊎◌, ⊎_elim, ℕ, ◌+◌, ◌<◌, ◌^◌, Bool, List, [], ◌++◌, length, inl, inr, refl, sym, ap, ap₂, subst, ◌∙◌, append_assoc, arith}
-use Rattle.std.specs.Prelude.{ℤ, IsTrue}
+use Rattle.std.proofs.Common.{◌≡◌, ◌⊎◌, ⊎_elim, ℕ, ◌+◌, List, [], ◌++◌, length, inl, inr, refl, sym, ap, ap₂, subst, ◌∙◌, append_assoc, arith}
+use Rattle.std.specs.Prelude.{ℤ}
 use Rattle.std.proofs.lemmas.List.{length-append}
-use Rattle.pv_base.specs.BigEndian.{IsNumber, AreBytes}
+use Rattle.pv_base.specs.BigEndian.{AreBytes}
 use Rattle.pv_base.specs.Polyvalue.{Case}
 use Rattle.pv_format.specs.FirstFault.{Fault, HasFaultBy}
 use Rattle.pv_format.specs.Layout.{Layout}
@@ -161,7 +161,11 @@ module _ (SpellsPart : List (Case ℤ) → List ℕ → Type 0) (PartFault : ℕ
       either = λ bytes all next place.
           ⊎_elim
           (λ (b : Begins Spells bytes). inl (record {
-            value = value_of b.value; front = b.front; rest = b.rest; whole = b.whole; spelled = too b.value b.front b.spelled;
+            value = value_of b.value;
+            front = b.front;
+            rest = b.rest;
+            whole = b.whole;
+            spelled = too b.value b.front b.spelled;
           }))
           (λ wrong. inr wrong)
           (code.either bytes all next place);

@@ -1,20 +1,20 @@
 -- Messages are a code.
-use Rattle.std.proofs.Common.{◌≡◌, ◌⊎◌, ⊎_elim, ℕ, zero, suc, ◌+◌, Bool, true, false, List, [], ◌∷◌, ◌++◌, length, inl, inr, refl, sym, ap, subst, ◌∙◌, arith}
-use Rattle.std.specs.Prelude.{ℤ, nat_le, ◌&&◌, ◌==◌, IsTrue, if◌then◌else◌}
+use Rattle.std.proofs.Common.{◌≡◌, ℕ, zero, suc, Bool, List, [], ◌++◌, refl, sym, ap, subst, ◌∙◌, arith}
+use Rattle.std.specs.Prelude.{◌==◌, IsTrue, if◌then◌else◌}
 use Rattle.std.proofs.lemmas.Bool.{true≢false}
 use Rattle.std.proofs.lemmas.List.{append-nil}
-use Rattle.pv_base.specs.BigEndian.{IsNumber, AreBytes}
+use Rattle.pv_base.specs.BigEndian.{IsNumber}
 use Rattle.pv_base.specs.declared.grant.GrantId.{GrantId}
 use Rattle.pv_base.specs.declared.txn.TxnId.{TxnId}
 use Rattle.pv_base.specs.Want.{Want}
 use Rattle.pv_model.specs.Alternatives.{Read}
-use Rattle.pv_format.specs.FirstFault.{Fault, HasFault, PolyvalueFault, is_kind}
-use Rattle.pv_format.specs.Layout.{Layout, nothing_more, number_then, polyvalue_then, any, site_layout, txn_layout, grant_layout, counted_layout, truth_layout, cause_layout, body_layout, message_layout, is_cause}
+use Rattle.pv_format.specs.FirstFault.{PolyvalueFault, is_kind}
+use Rattle.pv_format.specs.Layout.{Layout, number_then, polyvalue_then, any, site_layout, txn_layout, grant_layout, counted_layout, truth_layout, cause_layout, body_layout, is_cause}
 use Rattle.pv_format.specs.Message.{Envelope, Message, lock, granted, denied, prepare, vote_yes, vote_no, outcome_told, ask, NoCause, grant_lost, journal_full, txn_of}
 use Rattle.pv_format.specs.MessageSpelling.{kind_of, SpellsWants, SpellsNoCause, SpellsBody, SpellsEnvelope}
 use Rattle.pv_format.specs.PolyvalueSpelling.{SpellsPolyvalue}
 use Rattle.pv_format.specs.RecordSpelling.{SpellsReads}
-use Rattle.pv_format.specs.Spelling.{◌followed_by◌, IsEmpty, IsAllowed, IsSite, IsTruth, SpellsTxn, SpellsGrant, is_site, is_item_from}
+use Rattle.pv_format.specs.Spelling.{◌followed_by◌, IsAllowed, IsSite, IsTruth, SpellsTxn, SpellsGrant, is_site, is_item_from}
 use Rattle.pv_law_format.proofs.Bytes.{within}
 use Rattle.pv_law_format.proofs.Codes.{IsCode, both-code, code-of, empty-code, with-first}
 use Rattle.pv_law_format.proofs.ListCodes.{numbered-code}

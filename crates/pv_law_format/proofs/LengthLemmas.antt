@@ -1,5 +1,5 @@
 -- How long spellings are.
-use Rattle.std.proofs.Common.{◌≡◌, ℕ, ◌+◌, ◌*◌, Bool, List, [], ◌∷◌, ◌++◌, length, refl, sym, ap, subst, ◌∙◌, arith}
+use Rattle.std.proofs.Common.{◌≡◌, ℕ, ◌+◌, ◌*◌, Bool, List, [], ◌∷◌, length, ap, ◌∙◌, arith}
 use Rattle.std.specs.Prelude.{ℤ}
 use Rattle.std.specs.List.{sum_by}
 use Rattle.std.proofs.Math.Nat.{mul-suc}
@@ -15,7 +15,7 @@ use Rattle.pv_base.proofs.BigEndianLemmas.{IsNumber-length, IsSigned-length}
 use Rattle.pv_model.specs.Alternatives.{Read}
 use Rattle.pv_format.specs.Length.{case_length, polyvalue_length, reads_length, record_length, cause_length, body_length, envelope_length}
 use Rattle.pv_format.specs.Message.{Envelope, Message, lock, granted, denied, prepare, vote_yes, vote_no, outcome_told, ask, NoCause, grant_lost, journal_full, txn_of}
-use Rattle.pv_format.specs.MessageSpelling.{SpellsWants, SpellsNoCause, SpellsBody, SpellsEnvelope, kind_of}
+use Rattle.pv_format.specs.MessageSpelling.{SpellsWants, SpellsNoCause, SpellsBody, SpellsEnvelope}
 use Rattle.pv_format.specs.PolyvalueSpelling.{SpellsLiteral, SpellsCase, SpellsCases, SpellsPolyvalue}
 use Rattle.pv_format.specs.Record.{Record, epoch_begun, prepared, outcome_known}
 use Rattle.pv_format.specs.RecordSpelling.{SpellsReads, SpellsRecord}
@@ -33,7 +33,11 @@ number-length {size} {n} bytes s = IsNumber-length size n bytes s
 txn-length : (txn : TxnId) (bytes : List ℕ) → SpellsTxn txn bytes → length bytes ≡ 9
 txn-length txn bytes s =
     omega (
-      arith, parts-length s, parts-length s.second, allowed-length s.front s.first, number-length s.second.front s.second.first,
+      arith,
+      parts-length s,
+      parts-length s.second,
+      allowed-length s.front s.first,
+      number-length s.second.front s.second.first,
       number-length s.second.back s.second.second,
     )
 
@@ -64,8 +68,13 @@ literal-length literal bytes s = omega (arith, parts-length s, number-length s.f
 case-length : (case : Case ℤ) (bytes : List ℕ) → SpellsCase case bytes → length bytes ≡ case_length case
 case-length case bytes s =
     omega (
-      arith, parts-length s, parts-length s.second, number-length s.front s.first, IsSigned-length case.value s.second.back s.second.second,
-      each-length SpellsLiteral (λ _. 10) literal-length case.when s.second.front s.second.first, sum-same 10 case.when,
+      arith,
+      parts-length s,
+      parts-length s.second,
+      number-length s.front s.first,
+      IsSigned-length case.value s.second.back s.second.second,
+      each-length SpellsLiteral (λ _. 10) literal-length case.when s.second.front s.second.first,
+      sum-same 10 case.when,
     )
 
 pub cases-length : (cases : List (Case ℤ)) (bytes : List ℕ) → SpellsCases cases bytes → length bytes ≡ polyvalue_length cases
@@ -75,7 +84,9 @@ cases-length cases bytes s =
 reads-length : (fewest : ℕ) (reads : List Read) (bytes : List ℕ) → SpellsReads fewest reads bytes → length bytes ≡ reads_length reads
 reads-length fewest reads bytes s =
     omega (
-      arith, parts-length s, allowed-length s.front s.first,
+      arith,
+      parts-length s,
+      allowed-length s.front s.first,
       entries-length (λ (read : Read). SpellsPolyvalue read.cases) (λ read. polyvalue_length read.cases) (λ read bs t. cases-length read.cases bs t.spelled)
           (λ read. read.item) 0 reads s.back s.second,
     )
@@ -83,7 +94,9 @@ reads-length fewest reads bytes s =
 wants-length : (fewest : ℕ) (wants : List Want) (bytes : List ℕ) → SpellsWants fewest wants bytes → length bytes ≡ 1 + 5 * length wants
 wants-length fewest wants bytes s =
     omega (
-      arith, parts-length s, allowed-length s.front s.first,
+      arith,
+      parts-length s,
+      allowed-length s.front s.first,
       entries-length (λ (want : Want). IsTruth want.exclusive) (λ _. 1) (λ want bs t. number-length bs t) (λ want. want.item) 0 wants s.back s.second,
       sum-same 5 wants,
     )
@@ -92,12 +105,20 @@ pub record-length : (record_ : Record) (bytes : List ℕ) → SpellsRecord recor
 record-length (epoch_begun epoch) bytes s = omega (arith, parts-length s, number-length s.front s.first, allowed-length s.back s.second)
 record-length (prepared txn writes) bytes s =
     omega (
-      arith, parts-length s, parts-length s.second, number-length s.front s.first, txn-length txn s.second.front s.second.first,
+      arith,
+      parts-length s,
+      parts-length s.second,
+      number-length s.front s.first,
+      txn-length txn s.second.front s.second.first,
       reads-length 0 writes s.second.back s.second.second,
     )
 record-length (outcome_known txn commits) bytes s =
     omega (
-      arith, parts-length s, parts-length s.second, number-length s.front s.first, txn-length txn s.second.front s.second.first,
+      arith,
+      parts-length s,
+      parts-length s.second,
+      number-length s.front s.first,
+      txn-length txn s.second.front s.second.first,
       number-length s.second.back s.second.second,
     )
 
@@ -118,8 +139,14 @@ body-length (ask txn) bytes s = ap (λ (b : List ℕ). length b) s
 pub envelope-length : (envelope : Envelope) (bytes : List ℕ) → SpellsEnvelope envelope bytes → length bytes ≡ envelope_length envelope
 envelope-length envelope bytes s =
     omega (
-      arith, parts-length s, parts-length s.second, parts-length s.second.second, parts-length s.second.second.second,
-      number-length s.front s.first, allowed-length s.second.front s.second.first, allowed-length s.second.second.front s.second.second.first,
+      arith,
+      parts-length s,
+      parts-length s.second,
+      parts-length s.second.second,
+      parts-length s.second.second.second,
+      number-length s.front s.first,
+      allowed-length s.second.front s.second.first,
+      allowed-length s.second.second.front s.second.second.first,
       txn-length (txn_of envelope.message) s.second.second.second.front s.second.second.second.first,
       body-length envelope.message s.second.second.second.back s.second.second.second.second,
     )

@@ -1,8 +1,8 @@
 -- Lists are codes: a count and then so many values, or so many entries with ascending items.
-use Rattle.std.proofs.Common.{◌≡◌, ◌⊎◌, ⊎_elim, ℕ, zero, suc, ◌+◌, ◌<◌, ◌≤◌, ◌^◌, Bool, true, false, List, [], ◌∷◌, ◌++◌, length, inl, inr, refl, sym, ap, ap₂, subst, ◌∙◌, append_assoc, arith}
+use Rattle.std.proofs.Common.{◌≡◌, ◌⊎◌, ⊎_elim, ℕ, zero, suc, ◌+◌, Bool, List, [], ◌∷◌, ◌++◌, length, inl, inr, refl, sym, ap, ap₂, subst, ◌∙◌, append_assoc, arith}
 use Rattle.std.specs.Prelude.{ℤ, IsTrue}
 use Rattle.std.proofs.lemmas.List.{length-append}
-use Rattle.pv_base.specs.BigEndian.{IsNumber, AreBytes}
+use Rattle.pv_base.specs.BigEndian.{AreBytes}
 use Rattle.pv_base.specs.Polyvalue.{Case}
 use Rattle.pv_base.proofs.BigEndianLemmas.{IsNumber-begins, IsNumber-length}
 use Rattle.pv_format.specs.FirstFault.{Fault, HasFaultBy, is_later}
@@ -127,12 +127,16 @@ module _ (SpellsPart : List (Case ℤ) → List ℕ → Type 0) (PartFault : ℕ
         (λ (xs : List X). IsAllowed size allows (length xs) followed_by SpellsEach Spells xs)
         many_of (λ p. list_of p.0 p.1) list-many
         (λ xs front s. record {
-          front = s.front; back = s.back; whole = s.whole;
+          front = s.front;
+          back = s.back;
+          whole = s.whole;
           first = subst (λ (n : ℕ). IsAllowed size allows n s.front) (sym (count-many xs)) s.first;
           second = subst (λ (ys : List X). SpellsEach Spells ys s.back) (sym (list-many xs)) s.second;
         })
         (λ p front s. record {
-          front = s.front; back = s.back; whole = s.whole;
+          front = s.front;
+          back = s.back;
+          whole = s.whole;
           first = subst (λ (n : ℕ). IsAllowed size allows n s.front) (sym (length-list_of X p.0 p.1)) s.first;
           second = s.second;
         })
@@ -158,7 +162,9 @@ module _ (SpellsPart : List (Case ℤ) → List ℕ → Type 0) (PartFault : ℕ
         (λ many. (λ i. (whole many.0 i, many.1)))
         (λ many front s. s)
         (λ p front s. record {
-          front = s.front; back = s.back; whole = s.whole;
+          front = s.front;
+          back = s.back;
+          whole = s.whole;
           first = subst (λ (k : ℕ). IsAllowed 4 (is_item_from least) k s.front) (sym (items p.0 p.1.0)) s.first;
           second = subst (λ (k : ℕ). (Spells (part_of (entry p.0 p.1.0)) followed_by Entries (k + 1) (list_of n p.1.1)) s.back) (sym (items p.0 p.1.0))
               (subst (λ (q : P). (Spells q followed_by Entries (p.0 + 1) (list_of n p.1.1)) s.back) (sym (parts p.0 p.1.0)) s.second);
@@ -171,12 +177,16 @@ module _ (SpellsPart : List (Case ℤ) → List ℕ → Type 0) (PartFault : ℕ
         (SpellsEntries (λ x. Spells (part_of x)) item_of fewest)
         many_of (λ p. list_of p.0 p.1) list-many
         (λ xs front s. record {
-          front = s.front; back = s.back; whole = s.whole;
+          front = s.front;
+          back = s.back;
+          whole = s.whole;
           first = subst (λ (n : ℕ). IsAllowed 1 (is_count_from fewest) n s.front) (sym (count-many xs)) s.first;
           second = subst (λ (ys : List X). Entries 0 ys s.back) (sym (list-many xs)) s.second;
         })
         (λ p front s. record {
-          front = s.front; back = s.back; whole = s.whole;
+          front = s.front;
+          back = s.back;
+          whole = s.whole;
           first = subst (λ (n : ℕ). IsAllowed 1 (is_count_from fewest) n s.front) (sym (length-list_of X p.0 p.1)) s.first;
           second = s.second;
         })

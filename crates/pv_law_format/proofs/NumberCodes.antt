@@ -1,18 +1,18 @@
 -- Numbers are codes, and so are truth values and signed numbers.
-use Rattle.std.proofs.Common.{◌≡◌, ◌⊎◌, ⊎_elim, ℕ, ◌+◌, ◌<◌, ◌≤◌, ◌^◌, Bool, true, false, List, [], ◌++◌, length, take, drop, inl, inr, refl, sym, ap, ap₂, subst, ◌∙◌, append_assoc, arith}
-use Rattle.std.specs.Prelude.{ℤ, IsTrue, IsFalse, if◌then◌else◌, FitsSigned}
+use Rattle.std.proofs.Common.{◌≡◌, ◌⊎◌, ⊎_elim, ℕ, ◌+◌, ◌<◌, ◌^◌, Bool, true, false, List, ◌++◌, length, take, drop, inl, inr, refl, sym, ap, subst, ◌∙◌, arith}
+use Rattle.std.specs.Prelude.{ℤ, IsTrue, IsFalse, if◌then◌else◌}
 use Rattle.std.specs.Int.{w64, cast_signed}
 use Rattle.std.proofs.Math.Facts.{sfits_to_z}
 use Rattle.std.proofs.lemmas.List.{length-append}
 use Rattle.std.proofs.lemmas.Bool.{cases_lt, ltb-true, true≢false}
 use Rattle.pv_base.specs.BigEndian.{IsNumber, IsSigned, AreBytes, big_endian, number_of, twos_complement}
 use Rattle.pv_base.specs.Polyvalue.{Case}
-use Rattle.pv_base.proofs.BigEndianLemmas.{IsNumber-begins, IsNumber-length, IsSigned-begins, big_endian-number_of, number_of-lt, twos_complement-lt, twos_complement-cast_signed, twos_complement-injective}
+use Rattle.pv_base.proofs.BigEndianLemmas.{IsNumber-begins, IsNumber-length, big_endian-number_of, number_of-lt, twos_complement-lt, twos_complement-cast_signed, twos_complement-injective}
 use Rattle.pv_format.specs.FirstFault.{Fault, HasFaultBy, short, bad_field, NumberFault, is_short, is_refused, is_later}
 use Rattle.pv_format.specs.Layout.{Layout, number_then, any, truth_layout}
 use Rattle.pv_format.specs.Spelling.{IsAllowed, IsTruth, is_truth}
 use Rattle.pv_law_format.proofs.Bytes.{front-bytes, parted-at}
-use Rattle.pv_law_format.proofs.Codes.{Begins, IsCode, IsSpelledOnce, IsReadOnce}
+use Rattle.pv_law_format.proofs.Codes.{Begins, IsCode}
 
 true-or-false : (b : Bool) → (IsTrue b) ⊎ (IsFalse b)
 true-or-false true = inl refl
@@ -113,10 +113,13 @@ module _ (SpellsPart : List (Case ℤ) → List ℕ → Type 0) (PartFault : ℕ
       (λ b front s. record { spelled = s; allowed = truth-allowed b }) (λ b c front other s t same. truth-one b c same) truth-some
 
   signed-some : (number : ℕ) (front : List ℕ) → IsAllowed 8 any number front → (z : ℤ) × IsSigned z front
-  signed-some number front s = (cast_signed w64 number, record {
-    fits = sfits_to_z {w = w64} {n = number} (record { fits = omega (arith, s.spelled.fits) });
-    spelled = s.spelled.spelled ∙ ap (λ (n : ℕ). big_endian 8 n) (sym (twos_complement-cast_signed number s.spelled.fits));
-  })
+  signed-some number front s = (
+    cast_signed w64 number,
+    record {
+      fits = sfits_to_z {w = w64} {n = number} (record { fits = omega (arith, s.spelled.fits) });
+      spelled = s.spelled.spelled ∙ ap (λ (n : ℕ). big_endian 8 n) (sym (twos_complement-cast_signed number s.spelled.fits));
+    },
+  )
 
   pub signed-code : IsCode SpellsPart PartFault IsSigned (λ next. number_then 8 any (λ _. next))
   signed-code =

@@ -1,12 +1,12 @@
 -- A layout finds one fault at most.
-use Rattle.std.proofs.Common.{◌≡◌, ℕ, ◌+◌, ◌<◌, Bool, List, [], ◌∷◌, ◌++◌, length, refl, sym, ap, subst, ◌∙◌, arith}
-use Rattle.std.specs.Prelude.{ℤ, ◌≢◌, IsTrue, IsFalse}
+use Rattle.std.proofs.Common.{◌≡◌, ℕ, ◌+◌, ◌<◌, Bool, List, ◌++◌, length, refl, sym, ap, subst, ◌∙◌, arith}
+use Rattle.std.specs.Prelude.{ℤ, IsFalse}
 use Rattle.std.proofs.lemmas.Bool.{true≢false}
 use Rattle.std.proofs.lemmas.List.{length-append}
 use Rattle.pv_base.specs.BigEndian.{IsNumber}
 use Rattle.pv_base.specs.Polyvalue.{Case}
 use Rattle.pv_base.proofs.BigEndianLemmas.{IsNumber-begins, IsNumber-length}
-use Rattle.pv_format.specs.FirstFault.{Fault, short, bad_field, extra, HasFaultBy, NumberFault, is_short, is_refused, is_later, EndFault, is_extra, PartFault, is_within, is_after}
+use Rattle.pv_format.specs.FirstFault.{Fault, HasFaultBy, NumberFault, is_short, is_refused, is_later, EndFault, is_extra, PartFault, is_within, is_after}
 use Rattle.pv_format.specs.Layout.{Layout, anything, nothing_more, number_then, polyvalue_then}
 use Rattle.pv_format.specs.Spelling.{IsAllowed}
 use Rattle.pv_law_format.proofs.Codes.{IsReadOnce}
@@ -61,7 +61,12 @@ module _ {SpellsPart : List (Case ℤ) → List ℕ → Type 0} {Faults : ℕ �
   one-part-fault Later place bytes later-one _ _ (is_after cases front rest fault whole is wrong) (is_after others begin end other whole_too is_too wrong_too) =
       let parts = part.read others cases begin front end rest is_too is (sym whole_too ∙ whole) in
       let lengths : length begin ≡ length front = omega (
-        arith, ap (λ (b : List ℕ). length b) (sym whole_too ∙ whole), length-append begin end, length-append front rest, ap (λ (b : List ℕ). length b) parts.1) in
+        arith,
+        ap (λ (b : List ℕ). length b) (sym whole_too ∙ whole),
+        length-append begin end,
+        length-append front rest,
+        ap (λ (b : List ℕ). length b) parts.1,
+      ) in
       later-one (place + length front) rest fault other wrong
       (subst (λ (r : List ℕ). Later (place + length front) r other) parts.1 (subst (λ (n : ℕ). Later (place + n) end other) lengths wrong_too))
 

@@ -1,19 +1,16 @@
 -- The parts that messages and records have in common are codes.
-use Rattle.std.proofs.Common.{◌≡◌, ℕ, Bool, true, List, [], ◌∷◌, ◌++◌, length, refl, sym, ap, subst, arith}
-use Rattle.std.specs.Prelude.{ℤ, IsTrue}
-use Rattle.pv_base.specs.BigEndian.{IsNumber, IsSigned}
-use Rattle.pv_base.specs.declared.grant.GrantId.{GrantId}
-use Rattle.pv_base.specs.declared.literal.Literal.{Literal}
-use Rattle.pv_base.specs.declared.txn.TxnId.{TxnId}
+use Rattle.std.proofs.Common.{ℕ, List, length, refl}
+use Rattle.std.specs.Prelude.{ℤ}
+use Rattle.pv_base.specs.BigEndian.{IsNumber}
 use Rattle.pv_base.specs.Polyvalue.{Case}
 use Rattle.pv_base.specs.Want.{Want}
 use Rattle.pv_model.specs.Alternatives.{Read}
 use Rattle.pv_format.specs.FirstFault.{Fault}
-use Rattle.pv_format.specs.Layout.{Layout, any, truth_layout, txn_layout, grant_layout, literal_layout, case_layout, cases_layout, counted_layout, number_then, repeated}
+use Rattle.pv_format.specs.Layout.{Layout, any, truth_layout, txn_layout, grant_layout, literal_layout, case_layout, cases_layout, counted_layout}
 use Rattle.pv_format.specs.MessageSpelling.{SpellsWants}
 use Rattle.pv_format.specs.PolyvalueSpelling.{SpellsLiteral, SpellsCase, SpellsCases}
 use Rattle.pv_format.specs.RecordSpelling.{SpellsReadsBy}
-use Rattle.pv_format.specs.Spelling.{◌followed_by◌, IsAllowed, IsSite, IsTruth, is_site, SpellsTxn, SpellsGrant, SpellsEach}
+use Rattle.pv_format.specs.Spelling.{IsAllowed, is_site, SpellsTxn, SpellsGrant}
 use Rattle.pv_law_format.proofs.Codes.{IsCode, both-code, code-of, to-left, to-right, with-first}
 use Rattle.pv_law_format.proofs.ListCodes.{each-code, entries-code}
 use Rattle.pv_law_format.proofs.NumberCodes.{allowed-code, number-code, truth-code, signed-code}

@@ -1,10 +1,10 @@
 -- Polyvalues are a code, and their faults are told one at a time.
-use Rattle.std.proofs.Common.{◌≡◌, ◌⊎◌, ⊎_elim, ℕ, ◌+◌, List, [], ◌++◌, length, inl, inr, refl, sym, subst, ◌∙◌}
+use Rattle.std.proofs.Common.{◌≡◌, ◌⊎◌, ⊎_elim, ℕ, ◌+◌, List, ◌++◌, length, inl, inr, refl, sym, subst}
 use Rattle.std.specs.Prelude.{ℤ}
 use Rattle.pv_base.specs.BigEndian.{AreBytes}
 use Rattle.pv_base.specs.declared.limits.TheConstants.{HELD_NAMES}
 use Rattle.pv_base.specs.Polyvalue.{Case, IsPolyvalue}
-use Rattle.pv_format.specs.FirstFault.{Fault, short, bad_field, bad_poly, HasFaultBy, HasFieldFault, PartFault, is_within, is_after, PolyvalueFault, is_in_fields, is_no_polyvalue}
+use Rattle.pv_format.specs.FirstFault.{Fault, bad_poly, HasFaultBy, HasFieldFault, PartFault, is_within, is_after, PolyvalueFault, is_in_fields, is_no_polyvalue}
 use Rattle.pv_format.specs.Layout.{Layout, anything, cases_layout, polyvalue_then}
 use Rattle.pv_format.specs.PolyvalueSpelling.{SpellsCases, SpellsPolyvalue}
 use Rattle.pv_law_format.proofs.Codes.{Begins, IsCode, IsReadOnce}

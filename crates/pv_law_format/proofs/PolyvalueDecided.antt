@@ -1,12 +1,11 @@
 -- Whether cases of numbers are a polyvalue is decided: they are canonical where they are the canonical cases of their own values.
-use Rattle.std.proofs.Common.{◌≡◌, ◌⊎◌, ⊎_elim, ℕ, ◌<◌, ◌≤◌, Bool, true, Some, List, length, inl, inr, refl, sym, ap, subst, ◌∙◌, arith, rules}
+use Rattle.std.proofs.Common.{◌≡◌, ◌⊎◌, ⊎_elim, ℕ, true, Some, List, length, inl, inr, sym, ap, subst, ◌∙◌, arith, rules}
 use Rattle.std.specs.Prelude.{ℤ, pos}
 use Rattle.std.specs.Option.{unwrap_or}
 use Rattle.std.specs.Ordering.{int_eq}
 use Rattle.std.proofs.lemmas.Bool.{cases_lt}
 use Rattle.std.proofs.lemmas.Cmp.{int_eq_equiv}
-use Rattle.pv_base.specs.declared.txn.TxnId.{TxnId}
-use Rattle.pv_base.specs.Polyvalue.{Case, IsCanonical, IsPolyvalue, NamesAtMost, value_at}
+use Rattle.pv_base.specs.Polyvalue.{Case, IsCanonical, IsPolyvalue, NamesAtMost}
 use Rattle.pv_model.specs.Alternatives.{number_at}
 use Rattle.pv_model.proofs.ExistenceLemmas.{IsExact, cases-equal, some-polyvalue}
 use Rattle.pv_model.proofs.NameLemmas.{some-names, NamesAtMost-from}

@@ -1,6 +1,6 @@
 -- The values that are in range are those that have a spelling.
-use Rattle.std.proofs.Common.{◌≡◌, ℕ, zero, suc, ◌+◌, ◌<◌, ◌≤◌, ◌^◌, Bool, true, false, List, [], ◌∷◌, ◌++◌, length, map, refl, sym, ap, subst, ◌∙◌, arith}
-use Rattle.std.specs.Prelude.{ℤ, nat_lt, nat_le, ◌&&◌, IsTrue, All, if◌then◌else◌}
+use Rattle.std.proofs.Common.{◌≡◌, ℕ, zero, suc, ◌+◌, ◌<◌, ◌≤◌, ◌^◌, Bool, true, false, List, [], ◌∷◌, ◌++◌, length, map, refl, arith}
+use Rattle.std.specs.Prelude.{ℤ, nat_lt, nat_le, ◌&&◌, IsTrue, All}
 use Rattle.std.specs.List.{AllPairs}
 use Rattle.std.specs.Int.{w64}
 use Rattle.std.specs.Int.RustNames.{FitsSigned}
@@ -13,18 +13,18 @@ use Rattle.pv_base.specs.declared.grant.GrantId.{GrantId}
 use Rattle.pv_base.specs.declared.limits.TheConstants.{MAX_SITES, MAX_ITEMS, MAX_PROGRAM_ITEMS, HELD_NAMES}
 use Rattle.pv_base.specs.declared.literal.Literal.{Literal}
 use Rattle.pv_base.specs.declared.txn.TxnId.{TxnId}
-use Rattle.pv_base.specs.Polyvalue.{Case, IsPolyvalue}
+use Rattle.pv_base.specs.Polyvalue.{Case}
 use Rattle.pv_base.specs.Want.{Want}
 use Rattle.pv_model.specs.Alternatives.{Read}
 use Rattle.pv_format.specs.Message.{Envelope, Message, lock, granted, denied, prepare, vote_yes, vote_no, outcome_told, ask, NoCause, grant_lost, journal_full, txn_of}
 use Rattle.pv_format.specs.MessageSpelling.{SpellsWants, SpellsNoCause, SpellsBody, SpellsEnvelope, kind_of}
-use Rattle.pv_format.specs.PolyvalueSpelling.{SpellsLiteral, SpellsCase, SpellsCases, SpellsPolyvalue}
+use Rattle.pv_format.specs.PolyvalueSpelling.{SpellsLiteral, SpellsCase, SpellsPolyvalue}
 use Rattle.pv_format.specs.Range.{IsTxnInRange, IsGrantInRange, AreItemsInRange, IsCaseInRange, IsPolyvalueInRange, AreReadsInRange, AreWantsInRange, IsCauseInRange, IsBodyInRange, IsEnvelopeInRange, IsRecordInRange}
 use Rattle.pv_format.specs.Record.{Record, epoch_begun, prepared, outcome_known}
 use Rattle.pv_format.specs.RecordSpelling.{SpellsReads, SpellsRecord}
 use Rattle.pv_format.specs.Spelling.{◌followed_by◌, IsAllowed, IsEmpty, IsSite, IsTruth, SpellsTxn, SpellsGrant, SpellsEach, SpellsEntriesFrom, SpellsEntries, is_site, is_item_from, is_count_from}
 use Rattle.pv_law_format.proofs.Bytes.{both-true, within}
-use Rattle.pv_law_format.proofs.CaseCount.{AreFew, polyvalue-few}
+use Rattle.pv_law_format.proofs.CaseCount.{polyvalue-few}
 use Rattle.pv_law_format.proofs.EnvelopeCode.{is-kind}
 
 -- Some bytes are this.

@@ -1,8 +1,7 @@
 -- Records are a code.
-use Rattle.std.proofs.Common.{◌≡◌, ◌⊎◌, ⊎_elim, ℕ, zero, suc, ◌+◌, Bool, true, false, List, [], ◌∷◌, ◌++◌, length, inl, inr, refl, sym, ap, subst, ◌∙◌, arith}
-use Rattle.std.specs.Prelude.{ℤ, nat_le, ◌&&◌, ◌==◌, IsTrue, if◌then◌else◌}
+use Rattle.std.proofs.Common.{◌≡◌, ℕ, zero, suc, Bool, List, refl, sym, arith}
+use Rattle.std.specs.Prelude.{ℤ, nat_le, ◌&&◌, IsTrue}
 use Rattle.std.proofs.lemmas.Bool.{true≢false}
-use Rattle.pv_base.specs.BigEndian.{IsNumber, AreBytes}
 use Rattle.pv_base.specs.declared.txn.TxnId.{TxnId}
 use Rattle.pv_base.specs.Polyvalue.{Case}
 use Rattle.pv_model.specs.Alternatives.{Read}

@@ -1,6 +1,6 @@
 -- Contents spell one list of records, or one of them is the first that spells none.
-use Rattle.std.proofs.Common.{◌≡◌, ◌⊎◌, ⊎_elim, ℕ, zero, suc, ◌+◌, ◌<◌, List, [], ◌∷◌, take, length, Option, Some, None, inl, inr, refl, sym, ap, ap₂, subst, ◌∙◌, arith}
-use Rattle.std.specs.Prelude.{All, slice_get, ⊤}
+use Rattle.std.proofs.Common.{◌≡◌, ◌⊎◌, ⊎_elim, ℕ, zero, suc, List, [], ◌∷◌, take, inl, inr, refl, sym, ap, ap₂, subst}
+use Rattle.std.specs.Prelude.{All}
 use Rattle.std.proofs.lemmas.List.Elements.{All-head, All-tail}
 use Rattle.std.proofs.lemmas.Option.{none-some}
 use Rattle.pv_base.specs.Answer.{HasOneAnswer}
@@ -18,9 +18,16 @@ some-replay (content ∷ contents) all =
     ⊎_elim
     (λ found. ⊎_elim
     (λ rest. inl (found.0 ∷ rest.0, (found.1, rest.1)))
-    (λ bad. inr (suc bad.0, record {
-      content = bad.1.content; there = bad.1.there; none = bad.1.none; records = found.0 ∷ bad.1.records; before = (found.1, bad.1.before);
-    }))
+    (λ bad. inr (
+      suc bad.0,
+      record {
+        content = bad.1.content;
+        there = bad.1.there;
+        none = bad.1.none;
+        records = found.0 ∷ bad.1.records;
+        before = (found.1, bad.1.before);
+      },
+    ))
     (some-replay contents (All-tail AreBytes content contents all)))
     (λ none. inr (zero, record { content = content; there = refl; none = none.1; records = []; before = tt }))
     (one-record-answer content (All-head AreBytes content contents all)).some
