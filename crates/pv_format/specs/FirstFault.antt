@@ -3,7 +3,7 @@ use Rattle.std.specs.Prelude.{◌≡◌, ℕ, ◌+◌, ◌<◌, ◌≢◌, ℤ, 
 use Rattle.pv_base.specs.BigEndian.{IsNumber}
 use Rattle.pv_base.specs.declared.limits.TheConstants.{HELD_NAMES}
 use Rattle.pv_base.specs.Polyvalue.{Case, IsPolyvalue}
-use Rattle.pv_format.specs.Layout.{Layout, anything, nothing_more, number_then, polyvalue_then, cases_layout, message_layout}
+use Rattle.pv_format.specs.Layout.{Layout, anything, nothing_more, number_then, polyvalue_then, cases_layout, message_layout, record_layout}
 use Rattle.pv_format.specs.PolyvalueSpelling.{SpellsCases, SpellsPolyvalue}
 use Rattle.pv_format.specs.Spelling.{IsAllowed}
 
@@ -69,3 +69,7 @@ pub data EnvelopeFault (bytes : List ℕ) : Fault → Type 0 where
   has_bad_kind : (kind : ℕ) (rest : List ℕ) → bytes ≡ kind ∷ rest → IsFalse (is_kind kind) → EnvelopeFault bytes (bad_kind kind)
   is_in_fields : (kind : ℕ) (rest : List ℕ) (fault : Fault) → bytes ≡ kind ∷ rest → IsTrue (is_kind kind)
       → HasFault (message_layout kind) 1 rest fault → EnvelopeFault bytes fault
+
+-- The first fault of bytes that are to spell a record.
+abbrev pub RecordFault : List ℕ → Fault → Type 0
+RecordFault bytes fault = HasFault (record_layout polyvalue_then nothing_more) 0 bytes fault

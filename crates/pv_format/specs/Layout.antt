@@ -74,3 +74,17 @@ body_layout kind next =
 -- what a message of this kind has after the kind
 abbrev pub message_layout : ℕ → Layout
 message_layout kind = site_layout (site_layout (txn_layout (body_layout kind nothing_more)))
+
+-- The first bytes of records.
+abbrev pub is_record_kind : ℕ → Bool
+is_record_kind number = nat_le 1 number && nat_le number 3
+
+-- what a record that begins with this byte has after it, with polyvalues laid out in this way
+abbrev pub content_layout : (Layout → Layout) → ℕ → Layout → Layout
+content_layout part kind next =
+    if kind == 1 then number_then 4 (nat_le 1) (λ _. next) else
+    (if kind == 2 then txn_layout (counted_layout 0 part next) else txn_layout (truth_layout next))
+
+-- what a record has, with polyvalues laid out in this way
+abbrev pub record_layout : (Layout → Layout) → Layout → Layout
+record_layout part next = number_then 1 is_record_kind (λ kind. content_layout part kind next)

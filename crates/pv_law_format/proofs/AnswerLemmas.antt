@@ -1,15 +1,14 @@
 -- Bytes spell one value or have one fault.
 use Rattle.std.proofs.Common.{◌≡◌, ◌⊎◌, ⊎_elim, ℕ, ◌+◌, ◌/◌, ◌%◌, ◌^◌, ◌<◌, List, [], ◌∷◌, ◌++◌, length, inl, inr, refl, sym, ap, subst, ◌∙◌, arith}
-use Rattle.std.specs.Prelude.{ℤ, ◌≢◌, ⊤}
+use Rattle.std.specs.Prelude.{ℤ, ◌≢◌}
 use Rattle.std.proofs.lemmas.Bool.{true≢false}
 use Rattle.std.proofs.lemmas.List.{append-nil}
 use Rattle.pv_base.specs.Answer.{HasOneAnswer}
 use Rattle.pv_base.specs.BigEndian.{big_endian, IsNumber, AreBytes}
 use Rattle.pv_base.specs.Polyvalue.{Case}
 use Rattle.pv_model.proofs.Basics.{heads, tails}
-use Rattle.pv_format.specs.Contents.{IsNoRecord}
-use Rattle.pv_format.specs.FirstFault.{Fault, short, bad_kind, extra, HasFault, EndFault, is_extra, is_short, is_refused, is_later, PolyvalueFault, EnvelopeFault, has_no_kind, has_bad_kind, is_in_fields, is_kind}
-use Rattle.pv_format.specs.Layout.{anything, nothing_more, number_then, message_layout}
+use Rattle.pv_format.specs.FirstFault.{Fault, short, bad_kind, extra, HasFault, EndFault, is_extra, is_short, is_refused, is_later, PolyvalueFault, EnvelopeFault, RecordFault, has_no_kind, has_bad_kind, is_in_fields, is_kind}
+use Rattle.pv_format.specs.Layout.{nothing_more, number_then, polyvalue_then, message_layout, record_layout}
 use Rattle.pv_format.specs.Message.{Envelope}
 use Rattle.pv_format.specs.MessageSpelling.{SpellsEnvelope, kind_of}
 use Rattle.pv_format.specs.PolyvalueSpelling.{SpellsPolyvalue, BeginsWith}
@@ -19,7 +18,7 @@ use Rattle.pv_law_format.proofs.Codes.{Begins, IsCode, IsReadOnce}
 use Rattle.pv_law_format.proofs.EnvelopeCode.{envelope-code, is-kind}
 use Rattle.pv_law_format.proofs.OneFault.{one-fault}
 use Rattle.pv_law_format.proofs.PolyvalueCode.{polyvalue-part, polyvalue-code, polyvalue-either}
-use Rattle.pv_law_format.proofs.RecordCode.{record-code, record_layout}
+use Rattle.pv_law_format.proofs.RecordCode.{record-code}
 
 module _ {X : Type 0} (Spells : X → List ℕ → Type 0) (read : IsReadOnce Spells) where
   -- Where bytes spell a value, those that are longer spell none.
@@ -120,30 +119,35 @@ one-envelope-answer bytes all = record {
 
 -- Records.
 
-pub records : IsCode SpellsPolyvalue PolyvalueFault SpellsRecord (record_layout SpellsPolyvalue PolyvalueFault polyvalue-code)
+pub records : IsCode SpellsPolyvalue PolyvalueFault SpellsRecord (record_layout polyvalue_then)
 records = record-code SpellsPolyvalue PolyvalueFault polyvalue-code
 
-pub one-record-answer : (bytes : List ℕ) → AreBytes bytes
-    → HasOneAnswer (λ record_. SpellsRecord record_ bytes) (λ (none : ⊤). IsNoRecord bytes)
+pub one-record : (bytes : List ℕ) (entry other : Record) → SpellsRecord entry bytes → SpellsRecord other bytes → entry ≡ other
+one-record = one-value SpellsRecord records.read
+
+-- A record has no fault.
+pub record-not-both : (bytes : List ℕ) (entry : Record) (fault : Fault) → SpellsRecord entry bytes → RecordFault bytes fault → ⊥
+record-not-both bytes entry fault s wrong =
+    no-end-fault (0 + length bytes) fault
+    (records.after entry bytes [] nothing_more 0 fault s (subst (λ (b : List ℕ). RecordFault b fault) (sym (append-nil bytes)) wrong))
+
+pub one-record-answer : (bytes : List ℕ) → AreBytes bytes → HasOneAnswer (λ entry. SpellsRecord entry bytes) (RecordFault bytes)
 one-record-answer bytes all = record {
   some = ⊎_elim
       (λ (b : Begins SpellsRecord bytes). ⊎_elim
       (λ empty. inl (b.value, subst (λ (f : List ℕ). SpellsRecord b.value f) (sym (b.whole ∙ ap (λ (r : List ℕ). b.front ++ r) empty ∙ append-nil b.front)) b.spelled))
-      (λ more. inr (tt, λ other t. more (no-more SpellsRecord records.read b.value other bytes b.front b.rest b.whole b.spelled t)))
-      (empty-or-more b.rest))
-      (λ wrong. inr (
-        tt,
-        λ other t.
-            records.after other bytes [] anything 0 wrong.0 t (subst (λ (b : List ℕ). HasFault (record_layout SpellsPolyvalue PolyvalueFault polyvalue-code anything) 0 b wrong.0) (sym (append-nil bytes)) wrong.1),
+      (λ more. inr (
+        extra (0 + length b.front),
+        subst (λ (f : List ℕ). RecordFault f (extra (0 + length b.front))) (sym b.whole)
+            (records.before b.value b.front b.rest nothing_more 0 (extra (0 + length b.front)) b.spelled (is_extra more)),
       ))
-      (records.either bytes all anything 0);
-  one_value = one-value SpellsRecord records.read bytes;
-  one_fault = λ x y none none_too. refl;
-  not_both = λ value fault s none. none value s;
+      (empty-or-more b.rest))
+      (λ wrong. inr wrong)
+      (records.either bytes all nothing_more 0);
+  one_value = one-record bytes;
+  one_fault = one-fault polyvalue-part (record_layout polyvalue_then nothing_more) 0 bytes;
+  not_both = record-not-both bytes;
 }
-
-pub one-record : (bytes : List ℕ) (entry other : Record) → SpellsRecord entry bytes → SpellsRecord other bytes → entry ≡ other
-one-record = one-value SpellsRecord records.read
 
 -- Polyvalues.
 

@@ -9,7 +9,7 @@ use Rattle.pv_model.proofs.Basics.{Some_inj}
 use Rattle.pv_format.specs.Contents.{IsNoRecord, SpellRecords, IsFirstBadContent}
 use Rattle.pv_format.specs.Record.{Record}
 use Rattle.pv_format.specs.RecordSpelling.{SpellsRecord}
-use Rattle.pv_law_format.proofs.AnswerLemmas.{one-record-answer, one-record}
+use Rattle.pv_law_format.proofs.AnswerLemmas.{one-record-answer, one-record, record-not-both}
 
 some-replay : (contents : List (List ℕ)) → All AreBytes contents
     → ((records : List Record) × SpellRecords records contents) ⊎ ((place : ℕ) × IsFirstBadContent contents place)
@@ -29,7 +29,7 @@ some-replay (content ∷ contents) all =
       },
     ))
     (some-replay contents (All-tail AreBytes content contents all)))
-    (λ none. inr (zero, record { content = content; there = refl; none = none.1; records = []; before = tt }))
+    (λ none. inr (zero, record { content = content; there = refl; none = λ other t. record-not-both content other none.0 t none.1; records = []; before = tt }))
     (one-record-answer content (All-head AreBytes content contents all)).some
 
 one-replay : (contents : List (List ℕ)) (records others : List Record) → SpellRecords records contents → SpellRecords others contents → records ≡ others

@@ -1,8 +1,9 @@
 // Laws on the spellings of records.
-ghost use Rattle.std.specs.Prelude.{◌≡◌, ◌↔◌, ℕ, List, [], ◌++◌, length, All, ⊤};
+ghost use Rattle.std.specs.Prelude.{◌≡◌, ◌↔◌, ℕ, List, [], ◌++◌, length, All};
 ghost use Rattle.pv_base.specs.Answer.{HasOneAnswer};
 ghost use Rattle.pv_base.specs.BigEndian.{AreBytes};
-ghost use Rattle.pv_format.specs.Contents.{IsNoRecord, SpellRecords, IsFirstBadContent};
+ghost use Rattle.pv_format.specs.Contents.{SpellRecords, IsFirstBadContent};
+ghost use Rattle.pv_format.specs.FirstFault.{RecordFault};
 ghost use Rattle.pv_format.specs.Length as size;
 ghost use Rattle.pv_format.specs.Range.{IsRecordInRange};
 ghost use Rattle.pv_format.specs.Record.{Record};
@@ -33,9 +34,9 @@ pub fn record_length()
     ensures { (entry : Record) (bytes : List ℕ) → SpellsRecord entry bytes → length bytes ≡ size.record_length entry }
 {}
 
-/// Bytes spell exactly one record, or none.
+/// Bytes spell exactly one record, or have exactly one first fault.
 pub fn one_record_answer()
-    ensures { (bytes : List ℕ) → AreBytes bytes → HasOneAnswer (λ entry. SpellsRecord entry bytes) (λ (none : ⊤). IsNoRecord bytes) }
+    ensures { (bytes : List ℕ) → AreBytes bytes → HasOneAnswer (λ entry. SpellsRecord entry bytes) (RecordFault bytes) }
 {}
 
 /// Contents spell exactly one list of records, or there is exactly one first content that spells none.
