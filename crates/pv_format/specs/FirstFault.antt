@@ -1,4 +1,4 @@
--- Why bytes spell no message or no polyvalue: the first fault in reading order.
+-- Why bytes spell no message, no record or no polyvalue: the first fault in reading order.
 use Rattle.std.specs.Prelude.{◌≡◌, ℕ, ◌+◌, ◌<◌, ◌≢◌, ℤ, Bool, nat_le, ◌&&◌, List, [], ◌∷◌, ◌++◌, length, IsTrue, IsFalse}
 use Rattle.pv_base.specs.BigEndian.{IsNumber}
 use Rattle.pv_base.specs.declared.limits.TheConstants.{HELD_NAMES}
@@ -47,7 +47,7 @@ module _ (Spells : List (Case ℤ) → List ℕ → Type 0) (PolyvalueFault : �
   HasFaultBy (number_then size allows next) place bytes fault = NumberFault size allows (λ value. HasFaultBy (next value)) place bytes fault
   HasFaultBy (polyvalue_then next) place bytes fault = PartFault (HasFaultBy next) place bytes fault
 
--- The same where no polyvalue is expected.
+-- The first fault by a layout in which there is no polyvalue.
 abbrev pub HasFieldFault : Layout → ℕ → List ℕ → Fault → Type 0
 HasFieldFault = HasFaultBy (λ cases bytes. ⊥) (λ place bytes fault. ⊥)
 
@@ -57,9 +57,11 @@ pub data PolyvalueFault (place : ℕ) (bytes : List ℕ) : Fault → Type 0 wher
   is_no_polyvalue : (cases : List (Case ℤ)) (front rest : List ℕ) → bytes ≡ front ++ rest → SpellsCases cases front
       → (IsPolyvalue HELD_NAMES cases → ⊥) → PolyvalueFault place bytes (bad_poly place)
 
+-- The first fault by any layout, with polyvalues spelled as they are written.
 abbrev pub HasFault : Layout → ℕ → List ℕ → Fault → Type 0
 HasFault = HasFaultBy SpellsPolyvalue PolyvalueFault
 
+-- The number stands for a kind of message.
 abbrev pub is_kind : ℕ → Bool
 is_kind number = nat_le 1 number && nat_le number 8
 

@@ -3,6 +3,7 @@ use Rattle.std.proofs.Common.{◌≡◌, ⊎_elim, ℕ, zero, suc, ◌<◌, ◌�
 use Rattle.std.specs.Prelude.{IsTrue, All}
 use Rattle.std.specs.List.{Contains, filter}
 use Rattle.std.proofs.lemmas.Bool.{false_from_ne_true}
+use Rattle.std.proofs.lemmas.List.Sums.{count_by-le-length, length-filter}
 use Rattle.std.proofs.lemmas.List.{length-append, length-map}
 use Rattle.std.proofs.lemmas.List.Elements.{All-append, All-cons, All-map, All-nil}
 use Rattle.std.proofs.Math.Nat.{one-le-pow, pow-suc}
@@ -14,13 +15,8 @@ use Rattle.pv_model.proofs.ItemLemmas.{Contains-cases, Contains-nil, Contains-fi
 use Rattle.pv_model.proofs.NameLemmas.{some-names}
 use Rattle.pv_model.proofs.PolyvalueLemmas.{names-self, names-front, names-back}
 
-kept-or-not : {X : Type 0} (b : Bool) (x : X) (kept xs : List X) → length kept ≤ length xs → length (cond b (x ∷ kept) kept) ≤ length (x ∷ xs)
-kept-or-not true x kept xs less = omega (arith, less)
-kept-or-not false x kept xs less = omega (arith, less)
-
 filtered : {X : Type 0} (p : X → Bool) (xs : List X) → length (filter p xs) ≤ length xs
-filtered p [] = omega arith
-filtered p (x ∷ xs) = kept-or-not (p x) x (filter p xs) xs (filtered p xs)
+filtered p xs = omega (arith, length-filter p xs, count_by-le-length p xs)
 
 kept-less : {X : Type 0} (b : Bool) (x : X) (kept xs : List X) → length kept < length xs → length (cond b (x ∷ kept) kept) < length (x ∷ xs)
 kept-less true x kept xs less = omega (arith, less)

@@ -1,22 +1,19 @@
 -- Numbers are codes, and so are truth values and signed numbers.
 use Rattle.std.proofs.Common.{◌≡◌, ◌⊎◌, ⊎_elim, ℕ, ◌+◌, ◌<◌, ◌^◌, Bool, true, false, List, ◌++◌, length, take, drop, inl, inr, refl, sym, ap, subst, ◌∙◌, arith}
-use Rattle.std.specs.Prelude.{ℤ, IsTrue, IsFalse, if◌then◌else◌}
+use Rattle.std.specs.Prelude.{ℤ, IsTrue, if◌then◌else◌}
 use Rattle.std.specs.Int.{w64, cast_signed}
 use Rattle.std.proofs.Math.Facts.{sfits_to_z}
 use Rattle.std.proofs.lemmas.List.{length-append}
-use Rattle.std.proofs.lemmas.Bool.{cases_lt, ltb-true, true≢false}
+use Rattle.std.proofs.lemmas.List.Elements.{All-take}
+use Rattle.std.proofs.lemmas.Bool.{cases_Bool, cases_lt, ltb-true, true≢false}
 use Rattle.pv_base.specs.BigEndian.{IsNumber, IsSigned, AreBytes, big_endian, number_of, twos_complement}
 use Rattle.pv_base.specs.Polyvalue.{Case}
 use Rattle.pv_base.proofs.BigEndianLemmas.{IsNumber-begins, IsNumber-length, big_endian-number_of, number_of-lt, twos_complement-lt, twos_complement-cast_signed, twos_complement-injective}
 use Rattle.pv_format.specs.FirstFault.{Fault, HasFaultBy, short, bad_field, NumberFault, is_short, is_refused, is_later}
 use Rattle.pv_format.specs.Layout.{Layout, number_then, any, truth_layout}
 use Rattle.pv_format.specs.Spelling.{IsAllowed, IsTruth, is_truth}
-use Rattle.pv_law_format.proofs.Bytes.{front-bytes, parted-at}
+use Rattle.pv_law_format.proofs.Bytes.{parted-at}
 use Rattle.pv_law_format.proofs.Codes.{Begins, IsCode}
-
-true-or-false : (b : Bool) → (IsTrue b) ⊎ (IsFalse b)
-true-or-false true = inl refl
-true-or-false false = inr refl
 
 module _ (SpellsPart : List (Case ℤ) → List ℕ → Type 0) (PartFault : ℕ → List ℕ → Fault → Type 0) (size : ℕ) (allows : ℕ → Bool) where
   abbrev Faulty : Layout → ℕ → List ℕ → Fault → Type 0
@@ -43,7 +40,7 @@ module _ (SpellsPart : List (Case ℤ) → List ℕ → Type 0) (PartFault : ℕ
       (λ less. inr (short place, is_short less))
       (λ enough.
       let parts = parted-at size bytes enough in
-      let all_front = front-bytes (take size bytes) (drop size bytes) (subst AreBytes parts.0 all) in
+      let all_front = All-take (λ byte. byte < 256) size bytes all in
       let number = number_of (take size bytes) in
       let is : IsNumber size number (take size bytes) = record {
         fits = subst (λ (n : ℕ). number < 256 ^ n) parts.1 (number_of-lt (take size bytes) all_front);
@@ -52,7 +49,7 @@ module _ (SpellsPart : List (Case ℤ) → List ℕ → Type 0) (PartFault : ℕ
       ⊎_elim
       (λ allowed. inl (record { value = number; front = take size bytes; rest = drop size bytes; whole = parts.0; spelled = record { spelled = is; allowed = allowed } }))
       (λ refused. inr (bad_field place, is_refused number (take size bytes) (drop size bytes) parts.0 is refused))
-      (true-or-false (allows number)))
+      (cases_Bool (allows number)))
       (cases_lt (length bytes) size)
 
   -- A value that stands for a number in so many bytes.

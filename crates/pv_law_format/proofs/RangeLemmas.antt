@@ -1,10 +1,10 @@
 -- The values that are in range are those that have a spelling.
-use Rattle.std.proofs.Common.{◌≡◌, ℕ, zero, suc, ◌+◌, ◌<◌, ◌≤◌, ◌^◌, Bool, true, false, List, [], ◌∷◌, ◌++◌, length, map, refl, arith}
+use Rattle.std.proofs.Common.{ℕ, zero, suc, ◌+◌, ◌<◌, ◌≤◌, ◌^◌, Bool, true, false, List, [], ◌∷◌, ◌++◌, length, map, refl, arith}
 use Rattle.std.specs.Prelude.{ℤ, nat_lt, nat_le, ◌&&◌, IsTrue, All}
 use Rattle.std.specs.List.{AllPairs}
 use Rattle.std.specs.Int.{w64}
 use Rattle.std.specs.Int.RustNames.{FitsSigned}
-use Rattle.std.proofs.lemmas.Bool.{lt-ltb, ltb-true, le-leb, leb-true}
+use Rattle.std.proofs.lemmas.Bool.{and_from, and_parts, lt-ltb, ltb-true, le-leb, leb-true}
 use Rattle.std.proofs.lemmas.List.{length-map}
 use Rattle.std.proofs.lemmas.List.Elements.{All-nil, All-cons, All-head, All-tail}
 use Rattle.std.proofs.lemmas.List.Kept.{AllPairs-cons}
@@ -23,7 +23,7 @@ use Rattle.pv_format.specs.Range.{IsTxnInRange, IsGrantInRange, AreItemsInRange,
 use Rattle.pv_format.specs.Record.{Record, epoch_begun, prepared, outcome_known}
 use Rattle.pv_format.specs.RecordSpelling.{SpellsReads, SpellsRecord}
 use Rattle.pv_format.specs.Spelling.{◌followed_by◌, IsAllowed, IsEmpty, IsSite, IsTruth, SpellsTxn, SpellsGrant, SpellsEach, SpellsEntriesFrom, SpellsEntries, is_site, is_item_from, is_count_from}
-use Rattle.pv_law_format.proofs.Bytes.{both-true, within}
+use Rattle.pv_law_format.proofs.Bytes.{within}
 use Rattle.pv_law_format.proofs.CaseCount.{polyvalue-few}
 use Rattle.pv_law_format.proofs.EnvelopeCode.{is-kind}
 
@@ -47,19 +47,15 @@ truth : (b : Bool) → HasSpelling (IsTruth b)
 truth true = number 1 1 (omega arith)
 truth false = number 1 0 (omega arith)
 
-both-tests : (a b : Bool) → a ≡ true → b ≡ true → (a && b) ≡ true
-both-tests true b is also = also
-both-tests false b is also = is
-
 in-range : (least most n : ℕ) → least ≤ n → n ≤ most → IsTrue (nat_le least n && nat_le n most)
-in-range least most n more less = both-tests (nat_le least n) (nat_le n most) (le-leb least n more) (le-leb n most less)
+in-range least most n more less = and_from (nat_le least n) (nat_le n most) (le-leb least n more) (le-leb n most less)
 
 site : (n : ℕ) → n < MAX_SITES → HasSpelling (IsSite n)
 site n few = allowed 1 is_site n (omega (arith, few)) (lt-ltb n MAX_SITES few)
 
 item : (least n : ℕ) → least ≤ n → n < MAX_ITEMS → HasSpelling (IsAllowed 4 (is_item_from least) n)
 item least n more less =
-    allowed 4 (is_item_from least) n (omega (arith, less)) (both-tests (nat_le least n) (nat_lt n MAX_ITEMS) (le-leb least n more) (lt-ltb n MAX_ITEMS less))
+    allowed 4 (is_item_from least) n (omega (arith, less)) (and_from (nat_le least n) (nat_lt n MAX_ITEMS) (le-leb least n more) (lt-ltb n MAX_ITEMS less))
 
 txn-spelled : (txn : TxnId) → IsTxnInRange txn → HasSpelling (SpellsTxn txn)
 txn-spelled txn is = joined (site txn.site.0 is.site) (joined (number 4 txn.epoch (omega (arith, is.epoch))) (number 4 txn.number (omega (arith, is.number))))
@@ -172,7 +168,7 @@ each-from Spells P of (x ∷ xs) bytes s = All-cons P x xs (of x s.front s.first
 
 item-from : (least n : ℕ) (bytes : List ℕ) → IsAllowed 4 (is_item_from least) n bytes → (least ≤ n) × (n < MAX_ITEMS)
 item-from least n bytes s =
-    let parts = both-true (nat_le least n) (nat_lt n MAX_ITEMS) s.allowed in
+    let parts = and_parts (nat_le least n) (nat_lt n MAX_ITEMS) s.allowed in
     (leb-true least n parts.0, ltb-true n MAX_ITEMS parts.1)
 
 module _ {X : Type 0} (Spells : X → List ℕ → Type 0) (item_of : X → ℕ) (P : X → Type 0) (of : (x : X) (bytes : List ℕ) → Spells x bytes → P x) where
