@@ -1,6 +1,6 @@
 // What a schedule says, and why a text is none.
 ghost use Rattle.std.specs.Prelude.{◌≡◌, Some};
-ghost use Rattle.pv_script.specs.CauseTexts.{reason_text};
+ghost use Rattle.pv_script.specs.CauseTexts.{error_text, reason_text};
 ghost use Rattle.pv_script.specs.ScriptErrors.{cause_of};
 
 use pv_ast::Program;
@@ -162,6 +162,8 @@ impl fmt::Display for LineCause {
 }
 
 impl fmt::Display for ScriptError {
+    ghost output = { λ error. Some (error_text error) };
+
     fn fmt<W: fmt::Write>(&self, f: &mut fmt::Formatter<W>) -> fmt::Result {
         match self {
             ScriptError::Malformed { line, cause } => write!(f, "line {line}: {cause}"),
