@@ -9,9 +9,6 @@ use crate::lines::is_blank;
 use std::alloc::{AllocError, Global};
 use std::str;
 
-/// The greatest length of a line that counts, in bytes.
-pub const MAX_LINE: usize = 1000;
-
 /// Whether a line has printable bytes and tabs alone.
 pub fn is_text(line: &[u8]) -> bool
     ensures { result ≡ list_all is_text_byte line.now }
