@@ -3,30 +3,60 @@ use Rattle.std.proofs.Common.{◌≡◌, ◌⊎◌, ⊎_elim, ℕ, ◌+◌, ◌�
 use Rattle.std.specs.List.{list_any}
 use Rattle.std.specs.Prelude.{◌↔◌}
 use Rattle.std.proofs.lemmas.Bool.{false≢true, true_from_ne_false, or_cases, or_left, or_right}
-use Rattle.std.proofs.lemmas.List.Elements.{Contains-append_left, Contains-append_right}
+use Rattle.std.proofs.lemmas.List.Elements.{All-head, Contains-append_left, Contains-append_right}
 use Rattle.std.proofs.lemmas.List.Folds.{list_any-append}
+use Rattle.pv_base.specs.declared.literal.Literal.{Literal}
 use Rattle.pv_base.specs.declared.txn.TxnId.{TxnId}
 use Rattle.pv_base.specs.Assignment.{is_same_txn, commits, with_outcome}
 use Rattle.pv_base.specs.Polyvalue.{Case, value_at, names, IsCanonical, AreNames, NamesAtMost, IsPolyvalue, IsChoice, IsSettled, ChoiceNames}
 use Rattle.pv_base.specs.Polyvalue.IsCanonical.{sure}
 use Rattle.pv_base.proofs.AssignmentLemmas.{same-refl, same-eq, commits-with-same, commits-with-alike}
 use Rattle.pv_law_polyvalues.proofs.PolyvalueLemmas.{value_at-agree, unnamed-free, depends-named, one-canonical}
+use Rattle.pv_law_polyvalues.proofs.ExistenceLemmas.{own-outcome}
 use Rattle.pv_law_polyvalues.proofs.NameLemmas.{some-names, one-names, names-one-more, NamesAtMost-within}
+
+-- the one outcome of one transaction
+abbrev pub known : TxnId → Bool → List Literal
+known txn outcome = record { txn = txn; commits = outcome } ∷ []
 
 module _ {V : Type 0} where
   pub names-append : (front back : List (Case V)) (u : TxnId) → names (front ++ back) u ≡ (names front u || names back u)
   names-append front back u = list_any-append (λ (case : Case V). list_any (λ literal. is_same_txn u literal.txn) case.when) front back
 
+  -- Wherever the transaction has the outcome, a settled value is as it was.
+  settled-where : {txn : TxnId} {outcome : Bool} {before after : List (Case V)} → IsSettled (known txn outcome) before after → (a : List TxnId)
+      → commits a txn ≡ outcome → value_at after a ≡ value_at before a
+  settled-where {txn} {outcome} {before} is a comes =
+      is.same a ∙ value_at-agree before (with_outcome txn outcome a) a (λ u named. own-outcome txn outcome a comes u)
+
+  pub settled-unnamed : {txn : TxnId} {outcome : Bool} {before after : List (Case V)} → IsSettled (known txn outcome) before after → names after txn ≡ false
+  settled-unnamed {txn} {outcome} {before} {after} is =
+      All-head (λ (literal : Literal). names after literal.txn ≡ false) (record { txn = txn; commits = outcome }) [] is.unnamed
+
   -- A choice between two values is one between what they are once the outcome is known.
 
-  settled-side : {txn : TxnId} {new old front back : List (Case V)} → IsSettled txn false old front → IsSettled txn true new back → (b : Bool) (a : List TxnId)
+  settled-side : {txn : TxnId} {new old front back : List (Case V)} → IsSettled (known txn false) old front → IsSettled (known txn true) new back → (b : Bool) (a : List TxnId)
       → commits a txn ≡ b → value_at (if b then new else old) a ≡ value_at (if b then back else front) a
-  settled-side first second true a is = sym (second.same a is)
-  settled-side first second false a is = sym (first.same a is)
+  settled-side first second true a is = sym (settled-where second a is)
+  settled-side first second false a is = sym (settled-where first a is)
 
-  pub choice-settled : {txn : TxnId} {new old front back : List (Case V)} → IsSettled txn false old front → IsSettled txn true new back
-      → (cases : List (Case V)) → IsChoice txn new old cases → IsChoice txn back front cases
+  pub choice-settled : {txn : TxnId} {new old front back : List (Case V)} → IsSettled (known txn false) old front → IsSettled (known txn true) new back
+      → (cases : List (Case V)) → IsChoice txn old new cases → IsChoice txn front back cases
   choice-settled {txn} first second cases choice a = choice a ∙ settled-side first second (commits a txn) a refl
+
+  -- And the other way round.
+  pub choice-unsettled : {txn : TxnId} {new old front back : List (Case V)} → IsSettled (known txn false) old front → IsSettled (known txn true) new back
+      → (cases whole : List (Case V)) → whole ≡ cases → IsChoice txn front back cases → IsChoice txn old new whole
+  choice-unsettled {txn} first second cases whole same choice a =
+      ap (λ (c : List (Case V)). value_at c a) same ∙ choice a ∙ sym (settled-side first second (commits a txn) a refl)
+
+  same-value : (b : Bool) {front back : List (Case V)} → front ≡ back → (if b then back else front) ≡ front
+  same-value true same = sym same
+  same-value false same = refl
+
+  -- Where both sides are one, the choice is that side.
+  pub same-choice : (txn : TxnId) {front back : List (Case V)} → front ≡ back → IsChoice txn front back front
+  same-choice txn same a = ap (λ (c : List (Case V)). value_at c a) (sym (same-value (commits a txn) same))
 
   -- What the canonical cases of a choice name.
 
@@ -37,7 +67,7 @@ module _ {V : Type 0} where
     pub canonical : IsCanonical cases
     pub front_unnamed : names front txn ≡ false
     pub back_unnamed : names back txn ≡ false
-    pub choice : IsChoice txn back front cases
+    pub choice : IsChoice txn front back cases
 
   front-of : {txn : TxnId} {front back cases : List (Case V)} → AreChoices txn front back cases → (a : List TxnId)
       → value_at front a ≡ value_at cases (with_outcome txn false a)
@@ -136,45 +166,41 @@ module _ {V : Type 0} where
 
   -- The count of a choice whose sides differ.
 
-  choices-of : {txn : TxnId} {new old front back : List (Case V)} {count : ℕ} → IsSettled txn false old front → IsSettled txn true new back → IsCanonical front
-      → IsCanonical back → (chosen : ChoiceNames txn new old count) → AreChoices txn front back chosen.cases
+  choices-of : {txn : TxnId} {new old front back : List (Case V)} {count : ℕ} → IsSettled (known txn false) old front → IsSettled (known txn true) new back → IsCanonical front
+      → IsCanonical back → (chosen : ChoiceNames txn old new count) → AreChoices txn front back chosen.cases
   choices-of first second f b chosen =
       record {
         front_canonical = f;
         back_canonical = b;
         canonical = chosen.canonical;
-        front_unnamed = first.unnamed;
-        back_unnamed = second.unnamed;
+        front_unnamed = settled-unnamed first;
+        back_unnamed = settled-unnamed second;
         choice = choice-settled first second chosen.cases chosen.choice;
       }
 
-  pub refused-count : {txn : TxnId} {new old front back : List (Case V)} → IsSettled txn false old front → IsSettled txn true new back → IsCanonical front
+  pub refused-count : {txn : TxnId} {new old front back : List (Case V)} → IsSettled (known txn false) old front → IsSettled (known txn true) new back → IsCanonical front
       → IsCanonical back → (front ≡ back → ⊥) → (counted : ℕ) → ((txns : List TxnId) → AreNames (front ++ back) txns → length txns ≡ counted)
-      → (count : ℕ) → ChoiceNames txn new old count → counted + 1 ≡ count
+      → (count : ℕ) → ChoiceNames txn old new count → counted + 1 ≡ count
   refused-count {front = front} {back} first second f b differ counted counts count chosen =
       let both = some-names (front ++ back) in
       omega (arith, choice-count (choices-of first second f b chosen) differ both.0 chosen.txns both.1 chosen.named, counts both.0 both.1, chosen.counted)
 
-  pub chosen-polyvalue : {txn : TxnId} {new old front back tree : List (Case V)} (limit : ℕ) → IsSettled txn false old front → IsSettled txn true new back → IsCanonical front
+  pub chosen-polyvalue : {txn : TxnId} {new old front back tree : List (Case V)} (limit : ℕ) → IsSettled (known txn false) old front → IsSettled (known txn true) new back → IsCanonical front
       → IsCanonical back → (front ≡ back → ⊥) → (counted : ℕ) → ((txns : List TxnId) → AreNames (front ++ back) txns → length txns ≡ counted)
-      → counted + 1 ≤ limit → IsCanonical tree → IsChoice txn back front tree → IsPolyvalue limit tree
+      → counted + 1 ≤ limit → IsCanonical tree → IsChoice txn front back tree → IsPolyvalue limit tree
   chosen-polyvalue {front = front} {back} {tree} limit first second f b differ counted counts short canonical choice =
       record {
         canonical = canonical;
         few = λ us named.
             let both = some-names (front ++ back) in
             let are : AreChoices _ front back tree =
-            record { front_canonical = f; back_canonical = b; canonical = canonical; front_unnamed = first.unnamed; back_unnamed = second.unnamed; choice = choice } in
+            record { front_canonical = f; back_canonical = b; canonical = canonical; front_unnamed = settled-unnamed first; back_unnamed = settled-unnamed second; choice = choice } in
             omega (arith, choice-count are differ both.0 us both.1 named, counts both.0 both.1, short);
       }
 
-  same-value : (b : Bool) {front back : List (Case V)} → front ≡ back → (if b then back else front) ≡ front
-  same-value true same = sym same
-  same-value false same = refl
-
   -- Where the sides are equal, the choice is that side, which names few.
-  pub same-few : {txn : TxnId} {new old front back : List (Case V)} (limit : ℕ) → IsSettled txn false old front → IsSettled txn true new back → IsCanonical front
-      → front ≡ back → NamesAtMost limit front → (count : ℕ) → ChoiceNames txn new old count → count ≤ limit
+  pub same-few : {txn : TxnId} {new old front back : List (Case V)} (limit : ℕ) → IsSettled (known txn false) old front → IsSettled (known txn true) new back → IsCanonical front
+      → front ≡ back → NamesAtMost limit front → (count : ℕ) → ChoiceNames txn old new count → count ≤ limit
   same-few {txn} {front = front} {back} limit first second f same few count chosen =
       let is : chosen.cases ≡ front =
       one-canonical chosen.cases front chosen.canonical f

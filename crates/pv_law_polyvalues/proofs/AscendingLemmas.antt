@@ -17,16 +17,16 @@ Ascending txns = AllPairs (λ txn later. IsTrue (precedes txn later)) txns
 abbrev pub Distinct : List TxnId → Type 0
 Distinct txns = AllPairs (λ txn later. is_same_txn txn later ≡ false) txns
 
-module _ (P : TxnId → Type 0) where
-  pub All-from_members : (txns : List TxnId) → ((t : TxnId) → Contains txns t → P t) → All P txns
-  All-from_members txns each = λ k d within. each _ (All-contains_itself txns k d within)
+module _ {X : Type 0} (P : X → Type 0) where
+  pub All-from_members : (xs : List X) → ((x : X) → Contains xs x → P x) → All P xs
+  All-from_members xs each = λ k d within. each _ (All-contains_itself xs k d within)
 
-module _ (R : TxnId → TxnId → Type 0) where
-  pub pairs-tail : (t : TxnId) (txns : List TxnId) → AllPairs R (t ∷ txns) → AllPairs R txns
-  pairs-tail t txns pairs = λ i j d before within. pairs (suc i) (suc j) d (omega (arith, before)) (omega (arith, within))
+module _ {X : Type 0} (R : X → X → Type 0) where
+  pub pairs-tail : (x : X) (xs : List X) → AllPairs R (x ∷ xs) → AllPairs R xs
+  pairs-tail x xs pairs = λ i j d before within. pairs (suc i) (suc j) d (omega (arith, before)) (omega (arith, within))
 
-  pub pairs-first : (t : TxnId) (txns : List TxnId) → AllPairs R (t ∷ txns) → (u : TxnId) → Contains txns u → R t u
-  pairs-first t txns pairs u (k, within, at) = subst (R t) at (pairs zero (suc k) u (omega arith) (omega (arith, within)))
+  pub pairs-first : (x : X) (xs : List X) → AllPairs R (x ∷ xs) → (y : X) → Contains xs y → R x y
+  pairs-first x xs pairs y (k, within, at) = subst (R x) at (pairs zero (suc k) y (omega arith) (omega (arith, within)))
 
 pub ascending-tail : (t : TxnId) (txns : List TxnId) → Ascending (t ∷ txns) → Ascending txns
 ascending-tail t txns up = pairs-tail (λ txn later. IsTrue (precedes txn later)) t txns up

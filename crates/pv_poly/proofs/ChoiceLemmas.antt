@@ -1,16 +1,19 @@
 -- Trees whose test is settled, and trees that choose by a transaction below an earlier test.
-use Rattle.std.proofs.Common.{◌≡◌, ◌⊎◌, ⊎_elim, ◌+◌, ◌<◌, Bool, true, false, List, ◌++◌, length, Option, None, Some, Result, Ok, Err, IfOk, inl, inr, if◌then◌else◌, IsTrue, refl, sym, ap, subst, ◌∙◌, arith}
+use Rattle.std.proofs.Common.{◌≡◌, ◌⊎◌, ⊎_elim, ◌+◌, ◌<◌, Bool, true, false, List, ◌∷◌, ◌++◌, length, Option, None, Some, Result, Ok, Err, IfOk, inl, inr, if◌then◌else◌, IsTrue, refl, sym, ap, subst, ◌∙◌, arith}
 use Rattle.std.proofs.lemmas.Bool.{false≢true, false_from_ne_true}
+use Rattle.std.specs.List.{All}
+use Rattle.pv_base.specs.declared.literal.Literal.{Literal}
 use Rattle.pv_base.specs.declared.txn.TxnId.{TxnId}
 use Rattle.pv_base.specs.Assignment.{precedes, commits}
 use Rattle.pv_base.specs.Polyvalue.{Case, value_at, names, NamesOnlyAfter, under, IsCanonical, IsChoice, IsSettled}
 use Rattle.pv_base.specs.Polyvalue.IsCanonical.{tested}
 use Rattle.pv_base.proofs.AssignmentLemmas.{precedes-irrefl, precedes-trans, order-of-two}
-use Rattle.pv_law_polyvalues.proofs.PolyvalueLemmas.{value_at-tested, names-tested}
+use Rattle.pv_law_polyvalues.proofs.PolyvalueLemmas.{behind-unnamed, value_at-tested, names-tested}
+use Rattle.pv_cases.proofs.SettledLemmas.{NamesKept, side-settled, test-settled, unnamed-settled}
 use Rattle.pv_poly.specs.From.{NamesFrom, IsFirst, IsFirstOf, IsSide, before, first_of}
 use Rattle.pv_poly.specs.TreeView.{AreSides}
 use Rattle.pv_poly.proofs.TopOfTree.{IsTested}
-use Rattle.pv_poly.proofs.TestLemmas.{test-named, test-front, test-back, test-value}
+use Rattle.pv_poly.proofs.TestLemmas.{test-named, test-front, test-back, test-from}
 
 -- Two facts of the value of a result give a third one.
 pub both-ok : {T E : Type 0} (P Q R : T → Type 0) (result : Result T E) → IfOk result P → IfOk result Q → ((x : T) → P x → Q x → R x) → IfOk result R
@@ -32,10 +35,10 @@ module _ {V : Type 0} where
       (record { front_canonical = f; back_canonical = b; front_behind = fb; back_behind = bb; differ = differ }))
 
   pub new-choice : (t : TxnId) {front back front' back' : List (Case V)} → front' ≡ front → back' ≡ back
-      → IsChoice t back front (under t false front' ++ under t true back')
+      → IsChoice t front back (under t false front' ++ under t true back')
   new-choice t {front} {back} {front'} {back'} first second =
-      subst (λ (c : List (Case V)). IsChoice t back c (under t false front' ++ under t true back')) first
-      (subst (λ (c : List (Case V)). IsChoice t c front' (under t false front' ++ under t true back')) second (value_at-tested t front' back'))
+      subst (λ (c : List (Case V)). IsChoice t c back (under t false front' ++ under t true back')) first
+      (subst (λ (c : List (Case V)). IsChoice t front' c (under t false front' ++ under t true back')) second (value_at-tested t front' back'))
 
   pub new-names : (t : TxnId) {front back front' back' : List (Case V)} → front' ≡ front → back' ≡ back
       → NamesOfBoth t front back (under t false front' ++ under t true back')
@@ -103,28 +106,56 @@ module _ {V : Type 0} where
   at-first txn front back top other first second is found =
       subst (λ (o : Option TxnId). IsFirstOf txn front back o) (sym is ∙ found) (first-is txn front back top other first second)
 
-  -- The outcome of a transaction is settled.
+  -- Outcomes are settled.
 
-  settled-sides : (b : Bool) (a : List TxnId) (front back front' back' : List (Case V)) → value_at front' a ≡ value_at front a → value_at back' a ≡ value_at back a
-      → value_at (if b then back' else front') a ≡ value_at (if b then back else front) a
-  settled-sides true a front back front' back' first second = second
-  settled-sides false a front back front' back' first second = first
+  picked-behind : {t : TxnId} {cases front back : List (Case V)} (outcome : Bool) → IsTested t front back cases → NamesOnlyAfter t (if outcome then back else front)
+  picked-behind true at = at.sides.back_behind
+  picked-behind false at = at.sides.front_behind
 
-  pub test-settled : {txn t : TxnId} {outcome : Bool} {cases after front back front' back' : List (Case V)} → IsTested t front back cases → IsTrue (precedes t txn)
-      → IsSettled txn outcome front front' → IsSettled txn outcome back back' → IsChoice t back' front' after → NamesOfBoth t front' back' after
-      → IsSettled txn outcome cases after
-  test-settled {txn} {t} {outcome} {cases} {after} {front} {back} {front'} {back'} at early first second choice kept =
-      record {
-        same = λ a is. choice a ∙ settled-sides (commits a t) a front back front' back' (first.same a is) (second.same a is) ∙ sym (test-value at a);
-        unnamed = false_from_ne_true (names after txn) (λ named. ⊎_elim
-            (λ same. precedes-irrefl txn (subst (λ (w : TxnId). IsTrue (precedes w txn)) same early))
-            (⊎_elim (λ here. false≢true (sym first.unnamed ∙ here)) (λ here. false≢true (sym second.unnamed ∙ here)))
-            (kept txn named));
-      }
+  -- A tree that tests a later transaction than the first one settles only the others.
+  pub earlier-settled : {t : TxnId} {cases front back : List (Case V)} (literal : Literal) (rest : List Literal) (after : List (Case V)) → IsTested t front back cases
+      → IsTrue (precedes literal.txn t) → NamesKept after cases → IsSettled rest cases after → IsSettled (literal ∷ rest) cases after
+  earlier-settled {cases = cases} literal rest after at early kept is =
+      unnamed-settled literal rest cases after
+      (behind-unnamed literal.txn cases (λ u named. ⊎_elim
+      (λ same. subst (λ (w : TxnId). IsTrue (precedes literal.txn w)) same early)
+      (λ later. precedes-trans literal.txn _ u early later)
+      (test-from at u named)))
+      kept is
+
+  -- A tree that tests the first transaction settles the side that its outcome takes.
+  equal-settled : {t : TxnId} {cases front back : List (Case V)} (literal : Literal) (rest : List Literal) (after : List (Case V)) → IsTested t front back cases
+      → literal.txn ≡ t → NamesKept after (if literal.commits then back else front) → IsSettled rest (if literal.commits then back else front) after
+      → IsSettled (literal ∷ rest) cases after
+  equal-settled {t} {cases} {front} {back} literal rest after at same kept is =
+      subst (λ (c : List (Case V)). IsSettled (literal ∷ rest) c after) (sym (at.is ∙ ap (λ (w : TxnId). under w false front ++ under w true back) (sym same)))
+      (side-settled literal rest front back after
+      (subst (λ (w : TxnId). NamesOnlyAfter w (if literal.commits then back else front)) (sym same) (picked-behind literal.commits at)) kept is)
+
+  pub committed-settled : {t : TxnId} {cases front back : List (Case V)} (literal : Literal) (rest : List Literal) (after : List (Case V)) → IsTested t front back cases
+      → literal.txn ≡ t → literal.commits ≡ true → NamesKept after back → IsSettled rest back after → IsSettled (literal ∷ rest) cases after
+  committed-settled {front = front} {back} literal rest after at same comes kept is =
+      equal-settled literal rest after at same
+      (subst (λ (b : Bool). NamesKept after (if b then back else front)) (sym comes) kept)
+      (subst (λ (b : Bool). IsSettled rest (if b then back else front) after) (sym comes) is)
+
+  pub aborted-settled : {t : TxnId} {cases front back : List (Case V)} (literal : Literal) (rest : List Literal) (after : List (Case V)) → IsTested t front back cases
+      → literal.txn ≡ t → literal.commits ≡ false → NamesKept after front → IsSettled rest front after → IsSettled (literal ∷ rest) cases after
+  aborted-settled {front = front} {back} literal rest after at same aborts kept is =
+      equal-settled literal rest after at same
+      (subst (λ (b : Bool). NamesKept after (if b then back else front)) (sym aborts) kept)
+      (subst (λ (b : Bool). IsSettled rest (if b then back else front) after) (sym aborts) is)
+
+  -- A tree that tests an earlier transaction settles both sides.
+  pub later-settled : {t : TxnId} {cases front back front' back' after : List (Case V)} (literals : List Literal) → IsTested t front back cases
+      → All (λ l. IsTrue (precedes t l.txn)) literals → IsSettled literals front front' → IsSettled literals back back' → IsChoice t front' back' after
+      → NamesOfBoth t front' back' after → IsSettled literals cases after
+  later-settled {t} {cases} {front} {back} {front'} {back'} {after} literals at before first second choice all =
+      subst (λ (c : List (Case V)). IsSettled literals c after) (sym at.is)
+      (test-settled t literals front back front' back' after before first second choice all)
 
   pub test-settled-names : {t : TxnId} {cases front back : List (Case V)} (front' back' after : List (Case V)) → IsTested t front back cases
-      → ((u : TxnId) → IsTrue (names front' u) → IsTrue (names front u)) → ((u : TxnId) → IsTrue (names back' u) → IsTrue (names back u))
-      → NamesOfBoth t front' back' after → (u : TxnId) → IsTrue (names after u) → IsTrue (names cases u)
+      → NamesKept front' front → NamesKept back' back → NamesOfBoth t front' back' after → NamesKept after cases
   test-settled-names {cases = cases} front' back' after at first second kept u named =
       ⊎_elim
       (λ same. subst (λ (w : TxnId). IsTrue (names cases w)) same (test-named at))

@@ -70,7 +70,7 @@ module _ {V : Type 0} where
       (names-tested txn front back u (subst (λ all. IsTrue (names all u)) top.is named)))
 
   -- the values of what chooses between both sides
-  pub values-choice : (cases front back : List (Case V)) (txn : TxnId) (txns rest : List TxnId) (xs ys : List V) → IsChoice txn back front cases →
+  pub values-choice : (cases front back : List (Case V)) (txn : TxnId) (txns rest : List TxnId) (xs ys : List V) → IsChoice txn front back cases →
       NamesOnlyAfter txn front → NamesOnlyAfter txn back → txns ≡ txn ∷ rest → Ascending txns → AreValues front rest xs → AreValues back rest ys →
       AreValues cases txns (xs ++ ys)
   values-choice cases front back txn txns rest xs ys choice behind behind-too is up are them =

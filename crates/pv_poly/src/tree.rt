@@ -1,6 +1,6 @@
 // Decision trees over ascending transactions: how a polyvalue is worked on (Bryant, 1986). A tree stands for its cases.
 ghost use Rattle.std.specs.Prelude.{◌≡◌, ◌⊎◌, false, true, [], ◌∷◌, IsTrue, IfOk};
-ghost use Rattle.pv_base.specs.Polyvalue.{names, IsCanonical, NamesOnlyAfter, IsChoice, IsSettled};
+ghost use Rattle.pv_base.specs.Polyvalue.{names, IsCanonical, NamesOnlyAfter, IsChoice};
 ghost use Rattle.pv_base.specs.declared.txn.TxnId.{TxnId};
 
 use pv_base::{Exact, NoMemory, TxnId};
@@ -62,7 +62,7 @@ impl<V: Exact> Tree<V> {
     ) -> Result<Tree<V>, NoMemory>
         requires aborted_behind { NamesOnlyAfter txn aborted }
         requires committed_behind { NamesOnlyAfter txn committed }
-        ensures choice { IfOk result (IsChoice txn committed aborted) }
+        ensures choice { IfOk result (IsChoice txn aborted committed) }
         ensures names { IfOk result (λ tree. (named : TxnId) → IsTrue (names tree named) →
             (txn ≡ named) ⊎ (IsTrue (names aborted named) ⊎ IsTrue (names committed named))) }
         ensures canonical { IfOk result IsCanonical }

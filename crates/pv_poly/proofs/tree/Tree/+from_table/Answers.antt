@@ -52,7 +52,7 @@ returns-clause-values g t c =
     let committed = c.in_ok-committed.committed in
     let is = c.in-Some.ensures.cases.0 in
     let up = c.requires.ascending in
-    IfOk-weaker c.test.result (IsChoice first committed aborted) (λ tree. AreValues tree txns c.args.values.now)
+    IfOk-weaker c.test.result (IsChoice first aborted committed) (λ tree. AreValues tree txns c.args.values.now)
     (λ tree choice. subst (λ values. AreValues tree txns values) (sym c.split_at.ensures.by_index.0)
     (values-choice tree aborted committed first txns rest c.split_at.result.0.now c.split_at.result.1.now choice
     (rest-behind aborted first txns rest is up c.in_ok-aborted.ensures.names) (rest-behind committed first txns rest is up c.in_ok-committed.ensures.names)
