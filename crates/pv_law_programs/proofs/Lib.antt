@@ -16,3 +16,4 @@ pub mod NumberLemmas
 pub mod ItemLemmas
 pub mod DeclaredItems
 pub mod RowLemmas
+pub mod NameLemmas

@@ -9,4 +9,4 @@ pub use effects::{
     decline_leaves_rows, items_stay, order_of_rows_is_free, return_is_last, unassigned_keeps_value,
 };
 pub use items::{one_items, some_items};
-pub use texts::{no_refusal, one_program, one_refusal, some_answer};
+pub use texts::{name_is_token, no_refusal, one_program, one_refusal, some_answer};
