@@ -59,7 +59,7 @@ token_of-name (b ∷ bs) is =
     let parts = and_parts (nat_le (length text) MAX_NAME) (is_spelled_as_name text) is_none.0 in
     let lower = (and_parts (is_lower b) (list_all continues_name bs) parts.1).0 in
     let none = find-more text (take 10 words_and_symbols) (drop 10 words_and_symbols) (not-true (is_keyword text) is_none.1)
-        ∙ find-signs b bs (drop 10 words_and_symbols) lower refl in
+    ∙ find-signs b bs (drop 10 words_and_symbols) lower refl in
     let word : is_name_word text ≡ true = and_from (nat_le (length text) MAX_NAME) (is_spelled_as_name text) parts.0 parts.1 in
     ap (λ (found : Option (List ℕ × Token)). option_map_or (λ (e : List ℕ × Token). Some e.1) found (name_or_number text)) none
     ∙ ap (λ (c : Bool). cond c (Some (name text)) (cond (is_digits text) (Some (Token.number (number_of_digits text))) None)) word
