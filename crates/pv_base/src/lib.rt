@@ -27,7 +27,7 @@ pub use limits::{
 };
 pub use literal::Literal;
 pub use mode::Mode;
-pub use naming::is_name;
+pub use naming::{continues_name, is_blank, is_name};
 pub use txn::{SiteId, TxnId, print_txn, push_txn};
 pub use want::Want;
 

@@ -10,4 +10,4 @@ pub use effects::{
     unassigned_keeps_value,
 };
 pub use items::{one_items, some_items};
-pub use texts::{no_refusal, one_program, one_refusal, some_answer};
+pub use texts::{name_is_token, no_refusal, one_program, one_refusal, some_answer};
