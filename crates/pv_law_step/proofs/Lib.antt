@@ -1,1 +1,4 @@
+pub mod NameLists
+pub mod OutcomeLemmas
+pub mod ShownLemmas
 pub mod StepCases
