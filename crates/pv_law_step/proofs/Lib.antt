@@ -1,3 +1,4 @@
+pub mod Appended
 pub mod NameLists
 pub mod OutcomeLemmas
 pub mod ShownLemmas

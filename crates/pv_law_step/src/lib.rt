@@ -3,6 +3,7 @@
 
 mod cases;
 mod examples;
+mod steps;
 mod values;
 
 pub use cases::{
@@ -10,4 +11,5 @@ pub use cases::{
     request_cases, yes_cases,
 };
 pub use examples::{alone_it_commits, in_doubt_it_asks};
+pub use steps::{appends_what_it_may, numbers_rise};
 pub use values::{names_are_listed, shown_has_the_value, shown_is_canonical};
