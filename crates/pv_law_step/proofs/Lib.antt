@@ -3,3 +3,4 @@ pub mod NameLists
 pub mod OutcomeLemmas
 pub mod ShownLemmas
 pub mod StepCases
+pub mod WidthLemmas

@@ -1,29 +1,29 @@
 -- The shown value is the canonical one of the item's value.
-use Rattle.std.proofs.Common.{◌≡◌, ◌⊎◌, ⊎_elim, ℕ, ℤ, pos, Bool, true, false, Some, None, Option, List, [], ◌∷◌, ◌++◌, inl, inr, refl, sym, ap, ap₂, subst, ◌∙◌, arith}
-use Rattle.std.specs.Prelude.{IsTrue, is_none, if◌then◌else◌}
+use Rattle.std.proofs.Common.{◌≡◌, ℕ, ℤ, pos, Bool, true, false, Some, None, Option, List, [], ◌∷◌, refl, sym, ap, ap₂, ◌∙◌, arith}
+use Rattle.std.specs.Prelude.{IsTrue, if◌then◌else◌}
 use Rattle.std.specs.List.{Contains}
 use Rattle.std.specs.Option.{unwrap_or}
 use Rattle.std.specs.Ordering.{int_eq}
 use Rattle.std.proofs.lemmas.Bool.Decides.{Decides-int_eq}
 use Rattle.pv_base.specs.declared.txn.TxnId.{TxnId}
 use Rattle.pv_base.specs.Assignment.{AreAscending, commits}
-use Rattle.pv_base.specs.Canonical.{IsExact, IsFunctionOf, canonical_cases}
+use Rattle.pv_base.specs.Canonical.{IsExact, IsFunctionOf}
 use Rattle.pv_base.specs.Catalog.{Declared}
-use Rattle.pv_base.specs.Named.{with_txn, with_txns, names_of}
+use Rattle.pv_base.specs.Named.{with_txns, names_of}
 use Rattle.pv_base.specs.Polyvalue.{Case, IsCanonical, names, value_at}
 use Rattle.pv_format.specs.Record.{Record, epoch_begun, prepared, outcome_known}
 use Rattle.pv_law_canonical.proofs.CanonicalLemmas as canonical
-use Rattle.pv_law_step.proofs.NameLists.{inserted, united, names-listed, names-ascend, undecided-ascend, undecided-is, listed-undecided}
+use Rattle.pv_law_step.proofs.NameLists.{inserted, united, names-listed, names-ascend, undecided-ascend, listed-undecided}
 use Rattle.pv_law_step.proofs.OutcomeLemmas.{choice-alike, choice-known}
 use Rattle.pv_model.proofs.PolyvalueLemmas.{value_at-agree}
-use Rattle.pv_model.specs.Alternatives.{Read, number_at}
-use Rattle.pv_protocol.specs.Records.{known, is_undecided, undecided, choice}
+use Rattle.pv_model.specs.Alternatives.{number_at}
+use Rattle.pv_protocol.specs.Records.{known, undecided, choice}
 use Rattle.pv_protocol.specs.Shown.{written, written_or, value_after, newest, declared_value, item_within, names_of_choice, names_after_write, names_after, names_within, shown_within}
 
 pub int-exact : IsExact int_eq
 int-exact = record { exact = λ x y. (Decides-int_eq x y).0; itself = λ x. (Decides-int_eq x x).1 refl }
 
-if-same : {X : Type 0} (b : Bool) (x : X) → (if b then x else x) ≡ x
+pub if-same : {X : Type 0} (b : Bool) (x : X) → (if b then x else x) ≡ x
 if-same true x = refl
 if-same false x = refl
 
