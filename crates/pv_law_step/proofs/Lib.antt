@@ -1,4 +1,5 @@
 pub mod Appended
+pub mod ComputedLemmas
 pub mod NameLists
 pub mod OutcomeLemmas
 pub mod ShownLemmas
