@@ -1,3 +1,4 @@
+pub mod Answer
 pub mod Assignment
 pub mod CaseFaults
 pub mod Catalog
