@@ -1,10 +1,12 @@
 pub mod Answer
 pub mod Assignment
+pub mod Canonical
 pub mod CaseFaults
 pub mod Catalog
 pub mod CatalogView
 pub mod Fault
 pub mod Name
+pub mod Named
 pub mod Polyvalue
 pub mod Txn
 pub mod Want

@@ -1,1 +1,14 @@
+pub mod Coordinate
+pub mod Granted
+pub mod Here
+pub mod Keyed
+pub mod Lock
+pub mod Outcome
+pub mod Records
+pub mod Shown
+pub mod Start
 pub mod State
+pub mod Step
+pub mod Tick
+pub mod Vote
+pub mod Width
