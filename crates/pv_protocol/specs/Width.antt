@@ -8,7 +8,6 @@ use Rattle.pv_model.specs.Alternatives.{Read}
 use Rattle.pv_protocol.specs.Shown.{shown_within}
 
 -- After each prepared record every item's value names so many outcomes at most, with all outcomes known that any record tells.
-abbrev pub IsNarrow : ℕ → Declared → List Record → Type 0
-IsNarrow limit catalog records =
-    (before after : List Record) (txn : TxnId) (writes : List Read) (item : ℕ) → records ≡ before ++ prepared txn writes ∷ after
-    → length (names_of (shown_within catalog records (before ++ prepared txn writes ∷ []) item)) ≤ limit
+pub record IsNarrow (limit : ℕ) (catalog : Declared) (records : List Record) : Type 0 where
+  pub few : (before after : List Record) (txn : TxnId) (writes : List Read) (item : ℕ) → records ≡ before ++ prepared txn writes ∷ after
+      → length (names_of (shown_within catalog records (before ++ prepared txn writes ∷ []) item)) ≤ limit
