@@ -7,8 +7,7 @@ use Rattle.pv_base.specs.declared.txn.TxnId.{TxnId}
 use Rattle.pv_format.specs.Message.{granted, prepare}
 use Rattle.pv_format.specs.Record.{Record, prepared, outcome_known}
 use Rattle.pv_model.specs.Alternatives.{Read, all_cases}
-use Rattle.pv_protocol.specs.CommitAnswers.{entry_of}
-use Rattle.pv_protocol.specs.Committed.{home_of, is_grant}
+use Rattle.pv_protocol.specs.Committed.{home_of, entry_of, is_grant}
 use Rattle.pv_protocol.specs.Conflicts.{WasDenied}
 use Rattle.pv_protocol.specs.Coordinate.{reads_of}
 use Rattle.pv_protocol.specs.Lines.{Line}

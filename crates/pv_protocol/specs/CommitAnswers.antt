@@ -1,5 +1,5 @@
 -- What a commit answers.
-use Rattle.std.specs.Prelude.{◌≡◌, Option, Some, List, Contains}
+use Rattle.std.specs.Prelude.{◌≡◌, Some, List, Contains}
 use Rattle.pv_base.specs.declared.txn.TxnId.{TxnId}
 use Rattle.pv_base.specs.Polyvalue.{Case, IsCanonical, value_at}
 use Rattle.pv_model.specs.Answers.{possible}
@@ -7,18 +7,13 @@ use Rattle.pv_model.specs.Meaning.{Reply}
 use Rattle.pv_model.specs.Replies.{is_same_reply}
 use Rattle.pv_model.specs.Run.{declared_rows}
 use Rattle.pv_model.specs.Serial.{serial_reply}
-use Rattle.pv_protocol.specs.Committed.{home_of, entries_of, Fits, programs_of}
+use Rattle.pv_protocol.specs.Committed.{home_of, entry_of, Fits, programs_of}
 use Rattle.pv_protocol.specs.Coordinate.{reply_after}
-use Rattle.pv_protocol.specs.Keyed.{of_txn}
 use Rattle.pv_protocol.specs.Lines.{Line}
 use Rattle.pv_protocol.specs.Places.{Place, world_before}
 use Rattle.pv_protocol.specs.State.{Setup, Entry}
 use Rattle.pv_protocol.specs.World.{World, site_at}
 use Rattle.pv_protocol.specs.WorldStep.{Turn}
-
--- the entry of the transaction at its site
-abbrev pub entry_of : World → TxnId → Option Entry
-entry_of world txn = of_txn (λ (entry : Entry). entry.txn) txn (entries_of (site_at world (home_of txn)).running)
 
 -- The replies are the possible ones: the values of the cases of the polyvalue that is at each assignment what the program
 -- replies on the values that were taken, settled by what its site knows after this turn.

@@ -1,5 +1,5 @@
 -- Which transactions are committed and open, which items are readable, and when a world agrees with the serial run.
-use Rattle.std.specs.Prelude.{◌≡◌, ℕ, Bool, true, false, not, ◌&&◌, ◌||◌, ◌==◌, Option, Some, None, is_none, List, [], ◌∷◌, map, slice_get, ◌⊎◌, IsTrue, if◌then◌else◌}
+use Rattle.std.specs.Prelude.{◌≡◌, ℕ, Bool, true, false, not, ◌&&◌, ◌||◌, ◌==◌, Option, Some, None, is_some, is_none, List, [], ◌∷◌, map, slice_get, ◌⊎◌, IsTrue, if◌then◌else◌}
 use Rattle.std.specs.List.{list_any, list_all}
 use Rattle.pv_base.specs.Assignment.{is_same_txn, commits}
 use Rattle.pv_base.specs.Catalog.{Item}
@@ -10,9 +10,11 @@ use Rattle.pv_format.specs.Record.{Record, outcome_known}
 use Rattle.pv_model.specs.Meaning.{Row, value_in}
 use Rattle.pv_model.specs.Run.{declared_rows}
 use Rattle.pv_model.specs.Serial as serial
+use Rattle.pv_protocol.specs.Keyed.{of_txn}
 use Rattle.pv_protocol.specs.Records.{is_prepared}
 use Rattle.pv_protocol.specs.Shown.{item_value}
 use Rattle.pv_protocol.specs.State.{Setup, Grant, Entry, Running, TakenGrant, Placed}
+use Rattle.pv_protocol.specs.Vote.{is_same_grant}
 use Rattle.pv_protocol.specs.World.{World, site_at}
 
 -- the site that a transaction's number names, which coordinates it
@@ -33,17 +35,14 @@ abbrev pub grants_of : Option Running → List Grant
 grants_of None = []
 grants_of (Some running) = running.grants
 
--- the entries of the transactions that a site works on: none where it is down
-abbrev pub entries_of : Option Running → List Entry
-entries_of None = []
-entries_of (Some running) = running.entries
+-- the entry of a transaction at a site: there is none where the site is down
+abbrev pub entry_in : Option Running → TxnId → Option Entry
+entry_in None txn = None
+entry_in (Some running) txn = of_txn (λ (entry : Entry). entry.txn) txn running.entries
 
--- The transaction's site works on it: it has an entry of it.
-abbrev pub works_on : World → TxnId → Bool
-works_on world txn = list_any (λ entry. is_same_txn entry.txn txn) (entries_of (site_at world (home_of txn)).running)
-
-abbrev pub is_same_grant : GrantId → GrantId → Bool
-is_same_grant id other = id.epoch == other.epoch && id.number == other.number
+-- the entry of the transaction at its own site, which works on it while it has one
+abbrev pub entry_of : World → TxnId → Option Entry
+entry_of world txn = entry_in (site_at world (home_of txn)).running txn
 
 -- The grant is of the transaction, and has this number.
 abbrev pub is_grant : TxnId → GrantId → Grant → Bool
@@ -58,7 +57,7 @@ is_bound world txn taken =
 -- A transaction of the order is open where it isn't committed, its site works on it, and each participant is bound by it.
 abbrev pub is_open : World → Placed → Bool
 is_open world placed =
-    not (is_committed world placed.txn) && (works_on world placed.txn && list_all (is_bound world placed.txn) placed.grants)
+    not (is_committed world placed.txn) && (is_some (entry_of world placed.txn) && list_all (is_bound world placed.txn) placed.grants)
 
 -- The transaction is in the order, and open.
 abbrev pub IsOpen : World → TxnId → Type 0

@@ -6,8 +6,7 @@ use Rattle.pv_base.specs.declared.txn.TxnId.{TxnId}
 use Rattle.pv_model.specs.Check.{names, IsAt}
 use Rattle.pv_model.specs.Events.{Event}
 use Rattle.pv_model.specs.Syntax.{Program}
-use Rattle.pv_protocol.specs.CommitAnswers.{entry_of}
-use Rattle.pv_protocol.specs.Committed.{home_of}
+use Rattle.pv_protocol.specs.Committed.{home_of, entry_of}
 use Rattle.pv_protocol.specs.Places.{Place, world_before}
 use Rattle.pv_protocol.specs.Run.{world_after, worlds_of}
 use Rattle.pv_protocol.specs.State.{Setup, Stage, locking, voting, Entry}
