@@ -3,4 +3,7 @@
 
 mod examples;
 
-pub use examples::{smallest_commit};
+pub use examples::{
+    conflict_refuses, fault_in_promise, restart_loses_grants, silence_expires, site_alone_commits,
+    stop_in_commit_record, transfer_commits, unheard_outcome_leaves_doubt,
+};
