@@ -1,1 +1,5 @@
 pub mod Examples
+pub mod GrantCases
+pub mod LockCases
+pub mod OutcomeCases
+pub mod VoteCases

@@ -1,11 +1,10 @@
 -- What a site's records say: outcomes, promises, the epoch, and how long the journal is that holds them.
-use Rattle.std.specs.Prelude.{ℕ, ℤ, ◌+◌, ◌*◌, max, Bool, true, false, ◌||◌, List, [], ◌∷◌, length, filter, Option, Some, None, is_none, if◌then◌else◌}
+use Rattle.std.specs.Prelude.{ℕ, ◌+◌, max, Bool, true, false, ◌||◌, List, [], ◌∷◌, filter, Option, Some, None, is_none, if◌then◌else◌}
 use Rattle.std.specs.List.{sum_by}
 use Rattle.pv_base.specs.declared.txn.TxnId.{TxnId}
 use Rattle.pv_base.specs.Assignment.{is_same_txn, with_outcome}
-use Rattle.pv_base.specs.Polyvalue.{Case}
+use Rattle.pv_format.specs.Length.{record_length}
 use Rattle.pv_format.specs.Record.{Record, epoch_begun, prepared, outcome_known}
-use Rattle.pv_model.specs.Alternatives.{Read}
 
 -- The known outcome of the transaction: the first record of its outcome counts.
 abbrev pub known : List Record → TxnId → Option Bool
@@ -39,23 +38,9 @@ last_epoch [] = 0
 last_epoch (epoch_begun epoch ∷ records) = max epoch (last_epoch records)
 last_epoch (other ∷ records) = last_epoch records
 
--- how many bytes a case has: the count of its literals, 10 for each of them, and its value
-abbrev pub case_bytes : Case ℤ → ℕ
-case_bytes case = 1 + 10 * length case.when + 8
-
--- how many bytes a written item has: its number, the count of its cases, and these
-abbrev pub write_bytes : Read → ℕ
-write_bytes write = 4 + (2 + sum_by case_bytes write.cases)
-
--- how many bytes a record's content has
-unfoldable pub content_bytes : Record → ℕ
-content_bytes (epoch_begun epoch) = 5
-content_bytes (prepared txn writes) = 11 + sum_by write_bytes writes
-content_bytes (outcome_known txn commits) = 11
-
 -- how many bytes a record takes in the journal: a gate, a length and its content
 abbrev pub record_bytes : Record → ℕ
-record_bytes kept = 5 + content_bytes kept
+record_bytes kept = 5 + record_length kept
 
 -- how many bytes a journal of these records has: its header, the records, and the gate at its end
 unfoldable pub journal_bytes : List Record → ℕ
