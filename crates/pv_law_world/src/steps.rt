@@ -1,11 +1,13 @@
 // Laws of single turns.
-ghost use Rattle.std.specs.Prelude.{◌≡◌, ℕ, Some, List, ◌++◌, All, IsSome};
+ghost use Rattle.std.specs.Prelude.{◌≡◌, ℕ, Some, List, ◌++◌, All, IsSome, slice_get};
 ghost use Rattle.pv_format.specs.Message.{Envelope};
 ghost use Rattle.pv_format.specs.Record.{Record};
-ghost use Rattle.pv_law_world.specs.Turns.{site_of};
+ghost use Rattle.pv_law_world.specs.Turns.{site_of, AreTurns, WasSent};
 ghost use Rattle.pv_model.specs.Events.{Event};
+ghost use Rattle.pv_protocol.specs.Places.{Place, world_before};
+ghost use Rattle.pv_protocol.specs.Run.{run, world_after};
 ghost use Rattle.pv_protocol.specs.State.{Setup};
-ghost use Rattle.pv_protocol.specs.World.{World, site_at};
+ghost use Rattle.pv_protocol.specs.World.{World, opening, site_at};
 ghost use Rattle.pv_protocol.specs.WorldStep.{turn_of};
 
 /// What a report, a total or a list of the messages prints is all that they do.
@@ -24,16 +26,27 @@ pub fn other_sites_stay()
 {}
 
 /// The records of each site only grow.
-#[tactic(auto, unfolding(pv_protocol::specs::Attempt::begun, pv_protocol::specs::WorldStep::turn_of))]
 pub fn records_grow()
-    ensures { (setup : Setup) (world : World) (event : Event) (n : ℕ) →
+    ensures turn { (setup : Setup) (world : World) (event : Event) (n : ℕ) →
         (more : List Record) × ((site_at (turn_of setup world event).world n).records ≡ (site_at world n).records ++ more) }
+    ensures run { (setup : Setup) (world : World) (events : List Event) (n : ℕ) →
+        (more : List Record) × ((site_at (world_after world (run setup world events)) n).records ≡ (site_at world n).records ++ more) }
 {}
 
 /// What is sent in a turn comes from a site that was up.
-#[tactic(auto, unfolding(pv_protocol::specs::Attempt::begun, pv_protocol::specs::WorldStep::turn_of))]
 pub fn down_sites_are_silent()
     ensures { (setup : Setup) (world : World) (event : Event) →
         (more : List Envelope) × ((turn_of setup world event).world.sent ≡ world.sent ++ more)
         × All (λ envelope. IsSome (site_at world envelope.from).running) more }
+{}
+
+/// The turns of a run are what its events do, one after another.
+pub fn a_run_is_its_turns()
+    ensures { (setup : Setup) (world : World) (events : List Event) → AreTurns setup world (run setup world events) }
+{}
+
+/// A message that is there to be delivered was sent in an earlier turn, by a site that was up then.
+pub fn delivered_was_sent()
+    ensures { (setup : Setup) (events : List Event) (place : Place (run setup (opening setup) events)) (number : ℕ) (envelope : Envelope) →
+        slice_get (world_before (opening setup) place).sent number ≡ Some envelope → WasSent (opening setup) place.earlier number envelope }
 {}
