@@ -1,2 +1,3 @@
+pub mod DisarmLemmas
 pub mod GrowthLemmas
 pub mod TurnLemmas

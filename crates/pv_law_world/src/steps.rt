@@ -25,12 +25,10 @@ pub fn other_sites_stay()
         site_at (turn_of setup world event).world n ≡ site_at world n }
 {}
 
-/// The records of each site only grow.
-pub fn records_grow()
-    ensures turn { (setup : Setup) (world : World) (event : Event) (n : ℕ) →
+/// In a turn the records of each site only grow.
+pub fn turn_adds_records()
+    ensures { (setup : Setup) (world : World) (event : Event) (n : ℕ) →
         (more : List Record) × ((site_at (turn_of setup world event).world n).records ≡ (site_at world n).records ++ more) }
-    ensures run { (setup : Setup) (world : World) (events : List Event) (n : ℕ) →
-        (more : List Record) × ((site_at (world_after world (run setup world events)) n).records ≡ (site_at world n).records ++ more) }
 {}
 
 /// What is sent in a turn comes from a site that was up.
@@ -38,15 +36,4 @@ pub fn down_sites_are_silent()
     ensures { (setup : Setup) (world : World) (event : Event) →
         (more : List Envelope) × ((turn_of setup world event).world.sent ≡ world.sent ++ more)
         × All (λ envelope. IsSome (site_at world envelope.from).running) more }
-{}
-
-/// The turns of a run are what its events do, one after another.
-pub fn a_run_is_its_turns()
-    ensures { (setup : Setup) (world : World) (events : List Event) → AreTurns setup world (run setup world events) }
-{}
-
-/// A message that is there to be delivered was sent in an earlier turn, by a site that was up then.
-pub fn delivered_was_sent()
-    ensures { (setup : Setup) (events : List Event) (place : Place (run setup (opening setup) events)) (number : ℕ) (envelope : Envelope) →
-        slice_get (world_before (opening setup) place).sent number ≡ Some envelope → WasSent (opening setup) place.earlier number envelope }
 {}
