@@ -1,13 +1,15 @@
 // Laws of whole runs.
-ghost use Rattle.std.specs.Prelude.{◌≡◌, ℕ, Some, List, ◌++◌, map, slice_get};
+ghost use Rattle.std.specs.Prelude.{◌≡◌, ℕ, Some, List, ◌++◌, map, slice_get, All};
 ghost use Rattle.pv_format.specs.Message.{Envelope};
 ghost use Rattle.pv_format.specs.Record.{Record};
 ghost use Rattle.pv_law_world.specs.Turns.{AreTurns, WasSent};
-ghost use Rattle.pv_model.specs.Events.{Event};
+ghost use Rattle.pv_model.specs.Events.{Event, Schedule};
+ghost use Rattle.pv_model.specs.Schedule.{IsSchedule};
 ghost use Rattle.pv_protocol.specs.Anywhere.{IsAnyRun, without_arms};
 ghost use Rattle.pv_protocol.specs.Places.{Place, world_before};
 ghost use Rattle.pv_protocol.specs.Run.{run, world_after};
 ghost use Rattle.pv_protocol.specs.State.{Setup};
+ghost use Rattle.pv_protocol.specs.WellFormed.{IsWellFormed};
 ghost use Rattle.pv_protocol.specs.World.{World, opening, site_at};
 
 /// The turns of a run are what its events do, one after another.
@@ -31,4 +33,9 @@ pub fn delivered_was_sent()
 /// forgotten.
 pub fn faults_come_anywhere()
     ensures { (setup : Setup) (events : List Event) → IsAnyRun setup (opening setup) (map without_arms (run setup (opening setup) events)) }
+{}
+
+/// Each event of a schedule's text satisfies what a step asks of it.
+pub fn schedules_are_well_formed()
+    ensures { (text : List ℕ) (schedule : Schedule) → IsSchedule text schedule → All (IsWellFormed schedule.catalog) schedule.events }
 {}
