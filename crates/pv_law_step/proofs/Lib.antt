@@ -1,1 +1,5 @@
+pub mod Appended
+pub mod NameLists
+pub mod OutcomeLemmas
+pub mod ShownLemmas
 pub mod StepCases

@@ -1,3 +1,4 @@
+pub mod Appends
 pub mod Examples
 pub mod GrantCases
 pub mod LockCases

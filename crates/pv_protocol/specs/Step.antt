@@ -1,5 +1,6 @@
 -- A running site's step, by what it is given.
-use Rattle.std.specs.Prelude.{ℕ, List}
+use Rattle.std.specs.Prelude.{ℕ, List, ◌++◌}
+use Rattle.std.specs.Option.{option_to_list}
 use Rattle.pv_format.specs.Message.{Message, lock, granted, denied, prepare, vote_yes, vote_no, outcome_told, ask}
 use Rattle.pv_format.specs.Record.{Record}
 use Rattle.pv_protocol.specs.Granted.{on_granted, on_denied}
@@ -30,3 +31,7 @@ step_on here tick = on_tick here
 -- The step of the site of this number, with these records and this memory.
 abbrev pub site_step : Setup → ℕ → List Record → Running → Input → Step
 site_step setup me records running input = step_on (record { me = me; setup = setup; records = records; running = running }) input
+
+-- the records after a step
+abbrev pub records_after : List Record → Step → List Record
+records_after records step = records ++ option_to_list step.appended
