@@ -1,6 +1,6 @@
 -- A coordinator's steps on the answers to the locks that it asked for. With the last one its transaction is at its lock point.
 use Rattle.std.specs.Prelude.{ℕ, not, Bool, ◌||◌, ◌==◌, nat_lt, List, [], map, length, Option, Some, None, if◌then◌else◌}
-use Rattle.std.specs.List.{list_any}
+use Rattle.std.specs.List.{list_any, filter_map, find}
 use Rattle.pv_base.specs.declared.grant.GrantId.{GrantId}
 use Rattle.pv_base.specs.declared.txn.TxnId.{TxnId}
 use Rattle.pv_base.specs.Want.{Want}
@@ -31,13 +31,21 @@ taking entry from grant values = record entry { taken = with_taken (record { sit
 abbrev pub grants_taken : Entry → List TakenGrant
 grants_taken entry = map (λ taken. record { site = taken.site; grant = taken.grant }) entry.taken
 
--- Each participant is asked for its vote on the new values of its exclusive items, under the grant that was taken from it.
+-- what was taken from the site, if anything was
+abbrev pub taken_from : Entry → ℕ → Option Taken
+taken_from entry site = find (λ taken. taken.site == site) entry.taken
+
+-- A participant is asked for its vote on the new values of its exclusive items, under the grant that was taken from it.
+abbrev pub prepare_under : Here → Entry → Option Taken → Option Outgoing
+prepare_under here entry None = None
+prepare_under here entry (Some taken) = Some (record {
+  to = taken.site;
+  message = prepare entry.txn taken.grant (writes_to here.records entry (exclusive_items (asked_of here entry taken.site)));
+})
+
+-- Each participant is asked for its vote.
 abbrev pub prepare_sends : Here → Entry → List Outgoing
-prepare_sends here entry =
-    map (λ taken. record {
-      to = taken.site;
-      message = prepare entry.txn taken.grant (writes_to here.records entry (exclusive_items (asked_of here entry taken.site)));
-    }) entry.taken
+prepare_sends here entry = filter_map (λ site. prepare_under here entry (taken_from entry site)) (participants here entry)
 
 -- The lock point: the program is computed for each alternative of what was taken, and votes are asked for.
 abbrev pub at_lock_point : Here → Entry → Step

@@ -1,3 +1,3 @@
-//! What a site does, as plain data: its records and the values that they show, and its step for each input. It holds
-//! definitions alone, in `specs/`.
+//! What polydb's sites do, as plain data: a site's records and the values that they show, its step for each input, the world
+//! of all sites, its runs, and what they print. It holds definitions alone, in `specs/`.
 #![tactic(auto)]

@@ -1,0 +1,4 @@
+pub mod DisarmLemmas
+pub mod GrowthLemmas
+pub mod ScheduleLemmas
+pub mod TurnLemmas
