@@ -9,7 +9,7 @@ use Rattle.pv_model.specs.Alternatives.{Read}
 use Rattle.pv_model.specs.Plan.{wants_of}
 use Rattle.pv_protocol.specs.Coordinate.{locking_entry, has_taken, with_taken, has_all_grants, names_taken, exclusive_items, writes_to, are_values_of}
 use Rattle.pv_protocol.specs.Here.{Here, remembering, nothing, is_among, with_entry, participants, refusing}
-use Rattle.pv_protocol.specs.State.{Entry, voting, TakenGrant, conflict, outcome_limit, Outgoing, Step}
+use Rattle.pv_protocol.specs.State.{Entry, voting, Taken, TakenGrant, conflict, outcome_limit, Outgoing, Step}
 
 -- what was asked of the site
 abbrev pub asked_of : Here → Entry → ℕ → List Want
