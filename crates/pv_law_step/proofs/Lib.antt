@@ -1,10 +1,13 @@
 pub mod Appended
 pub mod ComputedLemmas
 pub mod FitLemmas
+pub mod Kept
 pub mod Lists
 pub mod NameLists
 pub mod OutcomeLemmas
 pub mod ShownLemmas
+pub mod SoundLemmas
+pub mod SoundSteps
 pub mod StepCases
 pub mod ValueRanges
 pub mod WantRanges

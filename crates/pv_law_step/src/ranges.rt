@@ -5,14 +5,15 @@ ghost use Rattle.std.specs.List.{Contains};
 ghost use Rattle.std.specs.Prelude.{◌<◌, ◌≤◌, ℕ, All, IsTrue, length, List};
 ghost use Rattle.pv_base.specs.Catalog.{Declared};
 ghost use Rattle.pv_base.specs.Named.{names_of};
-ghost use Rattle.pv_base.specs.declared.limits.TheConstants.{HELD_NAMES, MAX_ITEMS};
+ghost use Rattle.pv_base.specs.declared.limits.TheConstants.{HELD_NAMES, MAX_ITEMS, MAX_SITES};
 ghost use Rattle.pv_format.specs.Range.{AreWantsInRange, IsPolyvalueInRange, IsRecordInRange};
 ghost use Rattle.pv_format.specs.Record.{Record};
 ghost use Rattle.pv_model.specs.Meaning.{Row, exec};
 ghost use Rattle.pv_model.specs.Plan.{participants_of, wants_of};
 ghost use Rattle.pv_model.specs.Syntax.{Program};
+ghost use Rattle.pv_protocol.specs.Here.{Here};
 ghost use Rattle.pv_protocol.specs.Shown.{shown};
-ghost use Rattle.pv_protocol.specs.Sound.{CanRun, has_small_numbers};
+ghost use Rattle.pv_protocol.specs.Sound.{CanRun, IsSound, has_small_numbers};
 
 /// A program of numbers of 64 bits leaves values of 64 bits where it finds such values.
 pub fn programs_stay_in_range()
@@ -31,4 +32,9 @@ pub fn plans_are_in_range()
     ensures { (catalog : Declared) (program : Program) (site : ℕ) → length catalog.items ≤ MAX_ITEMS →
         All (λ item. item.site < catalog.sites) catalog.items → CanRun catalog program → Contains (participants_of program catalog.items) site →
         (site < catalog.sites) × AreWantsInRange (wants_of program catalog.items site) }
+{}
+
+/// A
+pub fn steps_stay_in_range()
+    ensures { (here : Here) → IsSound here → here.me < MAX_SITES }
 {}
