@@ -1,6 +1,7 @@
 pub mod Appended
 pub mod ComputedLemmas
 pub mod FitLemmas
+pub mod JournalLemmas
 pub mod Kept
 pub mod Lists
 pub mod NameLists
@@ -12,3 +13,4 @@ pub mod StepCases
 pub mod ValueRanges
 pub mod WantRanges
 pub mod WidthLemmas
+pub mod WidthSteps

@@ -14,7 +14,8 @@ pub use cases::{
 };
 pub use examples::{alone_it_commits, in_doubt_it_asks};
 pub use ranges::{
-    plans_are_in_range, programs_stay_in_range, shown_values_are_in_range, steps_stay_in_range,
+    plans_are_in_range, programs_stay_in_range, sends_are_in_range, shown_values_are_in_range,
+    steps_stay_sound,
 };
 pub use steps::{appends_what_it_may, numbers_rise};
 pub use values::{

@@ -5,7 +5,7 @@ ghost use Rattle.std.specs.List.{Contains};
 ghost use Rattle.std.specs.Prelude.{◌<◌, ◌≤◌, ℕ, All, IsTrue, length, List};
 ghost use Rattle.pv_base.specs.Catalog.{Declared};
 ghost use Rattle.pv_base.specs.Named.{names_of};
-ghost use Rattle.pv_base.specs.declared.limits.TheConstants.{HELD_NAMES, MAX_ITEMS, MAX_SITES};
+ghost use Rattle.pv_base.specs.declared.limits.TheConstants.{HELD_NAMES, MAX_ITEMS};
 ghost use Rattle.pv_format.specs.Range.{AreWantsInRange, IsPolyvalueInRange, IsRecordInRange};
 ghost use Rattle.pv_format.specs.Record.{Record};
 ghost use Rattle.pv_model.specs.Meaning.{Row, exec};
@@ -13,7 +13,9 @@ ghost use Rattle.pv_model.specs.Plan.{participants_of, wants_of};
 ghost use Rattle.pv_model.specs.Syntax.{Program};
 ghost use Rattle.pv_protocol.specs.Here.{Here};
 ghost use Rattle.pv_protocol.specs.Shown.{shown};
-ghost use Rattle.pv_protocol.specs.Sound.{CanRun, IsSound, has_small_numbers};
+ghost use Rattle.pv_protocol.specs.Sound.{CanRun, IsInputInRange, IsSentInRange, IsSound, has_small_numbers};
+ghost use Rattle.pv_protocol.specs.State.{Input};
+ghost use Rattle.pv_protocol.specs.Step.{after_step, step_on};
 
 /// A program of numbers of 64 bits leaves values of 64 bits where it finds such values.
 pub fn programs_stay_in_range()
@@ -34,7 +36,12 @@ pub fn plans_are_in_range()
         (site < catalog.sites) × AreWantsInRange (wants_of program catalog.items site) }
 {}
 
-/// A
-pub fn steps_stay_in_range()
-    ensures { (here : Here) → IsSound here → here.me < MAX_SITES }
+/// What a site sends is in range where what it holds and what it is given is.
+pub fn sends_are_in_range()
+    ensures { (here : Here) (input : Input) → IsSound here → IsInputInRange here input → All (IsSentInRange here) (step_on here input).sends }
+{}
+
+/// What a site holds stays in range where what it is given is.
+pub fn steps_stay_sound()
+    ensures { (here : Here) (input : Input) → IsSound here → IsInputInRange here input → IsSound (after_step here (step_on here input)) }
 {}
