@@ -1,5 +1,5 @@
 -- A program has at most as many participants as there are sites.
-use Rattle.std.proofs.Common.{arith, ◌≡◌, ◌⊎◌, ⊎_elim, inl, inr, ℕ, zero, suc, ◌+◌, ◌-◌, ◌<◌, ◌≤◌, Bool, true, false, List, [], ◌∷◌, length, refl, sym, subst}
+use Rattle.std.proofs.Common.{arith, ◌≡◌, ℕ, suc, ◌+◌, ◌-◌, ◌<◌, ◌≤◌, Bool, true, false, List, [], ◌∷◌, length, refl}
 use Rattle.std.specs.Prelude.{◌==◌, nat_lt, All, if◌then◌else◌}
 use Rattle.std.proofs.lemmas.Bool.Decides.{nat_tests}
 use Rattle.std.proofs.lemmas.List.Elements.{All-head, All-tail}
@@ -24,9 +24,9 @@ module _ (bound : ℕ) where
   with_site-ascends low site (first ∷ sites) from below (one_more low' first' sites' first_from first_below rest) =
       if-case (Ascend bound low) (site == first) (λ same. one_more low first sites first_from first_below rest)
       (λ other. if-case (Ascend bound low) (nat_lt site first)
-          (λ before. one_more low site (first ∷ sites) from below (one_more (suc site) first sites (grind arith) first_below rest))
-          (λ after. one_more low first (with_site site sites) first_from first_below
-              (with_site-ascends (suc first) site sites (grind (arith, nat_tests)) below rest)))
+      (λ before. one_more low site (first ∷ sites) from below (one_more (suc site) first sites (grind arith) first_below rest))
+      (λ after. one_more low first (with_site site sites) first_from first_below
+      (with_site-ascends (suc first) site sites (grind (arith, nat_tests)) below rest)))
 
   sites-ascend : (program : Program) (n : ℕ) (items : List Item) → All (λ item. item.site < bound) items → Ascend bound 0 (sites_from program n items)
   sites-ascend program n [] homes = none 0
@@ -44,5 +44,5 @@ module _ (bound : ℕ) where
 pub few-participants : (catalog : Declared) (program : Program) → HasFewSites catalog → length (participants_of program catalog.items) ≤ 16
 few-participants catalog program is =
     let few : length (participants_of program catalog.items) ≤ catalog.sites - 0 =
-          ascending-few catalog.sites 0 _ (sites-ascend catalog.sites program 0 catalog.items is.homes) in
+    ascending-few catalog.sites 0 _ (sites-ascend catalog.sites program 0 catalog.items is.homes) in
     let limit : catalog.sites ≤ 16 = is.few in omega arith

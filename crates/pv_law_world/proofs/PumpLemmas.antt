@@ -1,6 +1,6 @@
 -- A pump comes to its end: each delivery leaves less to deliver.
-use Rattle.std.proofs.Common.{arith, ◌≡◌, ℕ, zero, suc, ◌+◌, ◌<◌, ◌≤◌, Bool, true, false, Option, Some, None, List, [], ◌∷◌, ◌++◌, length, map, refl, sym, ap, ◌∙◌, subst, length-append, lt_of_lt_of_le}
-use Rattle.std.specs.Prelude.{get_or, set, slice_get, replicate, position}
+use Rattle.std.proofs.Common.{arith, ◌≡◌, ℕ, zero, suc, ◌+◌, ◌<◌, ◌≤◌, Bool, true, false, Option, Some, None, List, [], ◌∷◌, ◌++◌, length, refl, sym, ap, ◌∙◌, subst, length-append}
+use Rattle.std.specs.Prelude.{get_or, set, slice_get, replicate}
 use Rattle.std.proofs.lemmas.List.{length-set, length-replicate}
 use Rattle.std.proofs.lemmas.List.Quantifiers.{position-Some}
 use Rattle.std.proofs.lemmas.Option.{slice_get-get_or}
@@ -8,13 +8,12 @@ use Rattle.pv_format.specs.Message.{Message, ask, Envelope}
 use Rattle.pv_law_world.proofs.WeightLemmas.{weight_sent, message-light}
 use Rattle.pv_law_world.specs.Pumps.{AreMarked, HasFewSites}
 use Rattle.pv_model.proofs.Basics.{Some_inj}
-use Rattle.pv_model.specs.Events.{Event, deliver}
-use Rattle.pv_protocol.specs.Arms.{Reached, waits, fires, reached, calls_of, attempted}
-use Rattle.pv_protocol.specs.Attempt.{Attempt, Begun, settled, attempts, begun, given, delivered, of_step}
-use Rattle.pv_protocol.specs.Lines.{Line}
+use Rattle.pv_model.specs.Events.{deliver}
+use Rattle.pv_protocol.specs.Arms.{Reached, waits, fires, attempted}
+use Rattle.pv_protocol.specs.Attempt.{Attempt, begun, given, delivered, of_step}
 use Rattle.pv_protocol.specs.Pump.{next_fresh, with_fresh, deliveries, weight, weight_left, enough}
 use Rattle.pv_protocol.specs.Run.{world_after}
-use Rattle.pv_protocol.specs.State.{Setup, Running, Input, receive, Outgoing}
+use Rattle.pv_protocol.specs.State.{Setup, Running, receive, Outgoing}
 use Rattle.pv_protocol.specs.Step.{site_step}
 use Rattle.pv_protocol.specs.World.{World, site_at, with_done, from_site}
 use Rattle.pv_protocol.specs.WorldStep.{Turn, ended, turn_of}
@@ -53,7 +52,7 @@ sent-heavier [] (mark ∷ fresh) n sends same = absurd (omega arith)
 sent-heavier (first ∷ sent) [] n sends same = absurd (omega arith)
 sent-heavier (first ∷ sent) (true ∷ fresh) n sends same =
     let rest : weight_left (sent ++ from_site n sends) (fresh ++ replicate (length (from_site n sends)) true) ≡ weight_left sent fresh + weight_sent sends
-          = sent-heavier sent fresh n sends (omega arith) in omega arith
+    = sent-heavier sent fresh n sends (omega arith) in omega arith
 sent-heavier (first ∷ sent) (false ∷ fresh) n sends same = sent-heavier sent fresh n sends (omega arith)
 
 some-weight : (message : Message) → 0 < weight message
@@ -87,20 +86,25 @@ module _ (setup : Setup) (few : HasFewSites setup.catalog) (world : World) (mark
       marked = sent-marked;
       less =
           let sum : weight_left (world.sent ++ from_site to attempt.sends) (set world.fresh n false ++ replicate (length (from_site to attempt.sends)) true)
-                ≡ enough (with_done world n) + weight_sent attempt.sends
-                = sent-heavier world.sent (set world.fresh n false) to attempt.sends done-marked in
+          ≡ enough (with_done world n) + weight_sent attempt.sends
+          = sent-heavier world.sent (set world.fresh n false) to attempt.sends done-marked in
           let less : enough (with_done world n) + weight envelope.message ≡ enough world = done-less in
-          omega arith }
+          omega arith;
+    }
       where
         sent-marked : length (world.sent ++ from_site to attempt.sends)
             ≡ length (set world.fresh n false ++ replicate (length (from_site to attempt.sends)) true)
         sent-marked =
-            rw (length-append world.sent (from_site to attempt.sends), length-append (set world.fresh n false) (replicate (length (from_site to attempt.sends)) true),
-            length-replicate (length (from_site to attempt.sends)) true)
+            rw (
+              length-append world.sent (from_site to attempt.sends),
+              length-append (set world.fresh n false) (replicate (length (from_site to attempt.sends)) true),
+              length-replicate (length (from_site to attempt.sends)) true,
+            )
             (ap (λ (count : ℕ). count + length (from_site to attempt.sends)) done-marked)
     attempted-lighter to attempt light (fires arm) = record {
       marked = done-marked;
-      less = let less : enough (with_done world n) + weight envelope.message ≡ enough world = done-less in omega arith }
+      less = let less : enough (with_done world n) + weight envelope.message ≡ enough world = done-less in omega arith;
+    }
 
     given-lighter : (running : Option Running)
         → IsLighter (enough world) (ended (given setup (with_done world n) envelope.to (receive envelope.from envelope.message) running)).1
@@ -108,7 +112,8 @@ module _ (setup : Setup) (few : HasFewSites setup.catalog) (world : World) (mark
       marked = done-marked;
       less =
           let less : enough (with_done world n) + weight envelope.message ≡ enough world = done-less in
-          let some : 0 < weight envelope.message = some-weight envelope.message in omega arith }
+          let some : 0 < weight envelope.message = some-weight envelope.message in omega arith;
+    }
     given-lighter (Some running) =
         attempted-lighter envelope.to
         (of_step envelope.to (site_step setup envelope.to (site_at (with_done world n) envelope.to).records running (receive envelope.from envelope.message)))

@@ -1,5 +1,5 @@
 -- The events of a schedule's text are well formed.
-use Rattle.std.proofs.Common.{arith, ◌≡◌, inl, inr, ℕ, ◌+◌, ◌<◌, ◌≤◌, true, false, Option, Some, None, List, [], ◌∷◌, ◌++◌, length, length-append, le_trans, lt_of_lt_of_le, sym, subst}
+use Rattle.std.proofs.Common.{arith, ◌≡◌, inl, inr, ℕ, ◌<◌, ◌≤◌, true, false, Option, Some, None, List, [], ◌∷◌, length, length-append, le_trans, lt_of_lt_of_le, sym, subst}
 use Rattle.std.specs.Prelude.{get_or, All, IsTrue}
 use Rattle.pv_base.specs.Catalog.{Declared}
 use Rattle.std.proofs.lemmas.List.Elements.{All-nil, All-cons, All-get_or}
@@ -7,7 +7,7 @@ use Rattle.pv_model.proofs.DeclaredItems.{declared-items}
 use Rattle.pv_model.specs.Causes.{Before, or_default, declared_by, at_first}
 use Rattle.pv_model.specs.Check.{names}
 use Rattle.pv_model.specs.Events.{Event, submit, deliver, pump, lose, drop, tick, stop, start, arm, mend, sent, report, total, Schedule}
-use Rattle.pv_model.specs.Schedule.{IsSite, Says, IsEvent, Declares, AreLines, none, declaration, event, with_event, IsSchedule}
+use Rattle.pv_model.specs.Schedule.{IsSite, Says, Declares, AreLines, none, declaration, event, with_event, IsSchedule}
 use Rattle.pv_model.specs.Text.{Line}
 use Rattle.pv_protocol.specs.WellFormed.{IsWellFormed}
 
@@ -44,9 +44,16 @@ module _ (before last : Before) (count : ℕ) (said : before.sites ≡ Some coun
   site-well word n is = rw (lasts.sites count said) (subst (λ (sites : Option ℕ). n < or_default 0 sites) said is.1)
 
   says-well : (line : Line) (e : Event) → Says before line e → IsWellFormed (declared_by last) e
-  says-well line (submit n query text p) says = (site-well says.at n says.place, record {
-    items = says.may.items; are = says.may.are; some = says.may.some; few = says.may.few;
-    known = λ k d below. lt_of_lt_of_le (declared-items (declared_by before) text p says.is (get_or says.may.items k d) (All-get_or (λ m. IsTrue (names p m)) says.may.items k d below says.may.are.each)) lasts.items })
+  says-well line (submit n query text p) says = (
+    site-well says.at n says.place,
+    record {
+      items = says.may.items;
+      are = says.may.are;
+      some = says.may.some;
+      few = says.may.few;
+      known = λ k d below. lt_of_lt_of_le (declared-items (declared_by before) text p says.is (get_or says.may.items k d) (All-get_or (λ m. IsTrue (names p m)) says.may.items k d below says.may.are.each)) lasts.items;
+    },
+  )
   says-well line (deliver n) says = tt
   says-well line (pump most) says = tt
   says-well line (lose n) says = tt

@@ -1,5 +1,5 @@
 -- Which transactions are committed and open, which items are readable, and when a world agrees with the serial run.
-use Rattle.std.specs.Prelude.{◌≡◌, ℕ, Bool, true, false, not, ◌&&◌, ◌||◌, ◌==◌, Option, Some, None, is_some, is_none, List, [], ◌∷◌, map, slice_get, ◌⊎◌, IsTrue, if◌then◌else◌}
+use Rattle.std.specs.Prelude.{◌≡◌, ℕ, Bool, false, not, ◌&&◌, ◌||◌, ◌==◌, Option, Some, None, is_some, is_none, List, [], ◌∷◌, map, slice_get, ◌⊎◌, IsTrue, if◌then◌else◌}
 use Rattle.std.specs.List.{list_any, list_all}
 use Rattle.pv_base.specs.Assignment.{is_same_txn, commits}
 use Rattle.pv_base.specs.Catalog.{Item}

@@ -1,6 +1,6 @@
 -- What `report`, `total` and `sent` print. They change nothing.
 use Rattle.std.specs.Prelude.{ℕ, ◌+◌, ℤ, Option, Some, None, List, [], ◌∷◌, ◌++◌, map, flat_map, filter, length, nat_lt, if◌then◌else◌}
-use Rattle.pv_base.specs.Catalog.{Item, Declared}
+use Rattle.pv_base.specs.Catalog.{Item}
 use Rattle.pv_base.specs.Named.{names_of}
 use Rattle.pv_base.specs.Polyvalue.{Case}
 use Rattle.pv_base.specs.declared.txn.TxnId.{TxnId}
