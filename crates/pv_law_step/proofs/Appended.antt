@@ -7,7 +7,7 @@ use Rattle.pv_base.specs.Want.{Want}
 use Rattle.pv_format.specs.Message.{Message, lock, granted, denied, prepare, vote_yes, vote_no, outcome_told, ask, NoCause}
 use Rattle.pv_format.specs.Record.{prepared}
 use Rattle.pv_law_step.proofs.StepCases.{submit-case, lock-case, granted-case, denied-case, prepare-case, yes-case, no-case, outcome-case, ask-case}
-use Rattle.pv_law_step.specs.Appends.{Appends, nothing_at_all, an_outcome, a_promise, IsPromise, Rises}
+use Rattle.pv_law_step.specs.Appends.{Appends, nothing_at_all, an_outcome, a_promise, Rises}
 use Rattle.pv_law_step.specs.GrantCases as of_grants
 use Rattle.pv_law_step.specs.LockCases as of_locks
 use Rattle.pv_law_step.specs.OutcomeCases as of_outcomes

@@ -1,5 +1,5 @@
 -- The shown value is the canonical one of the item's value.
-use Rattle.std.proofs.Common.{◌≡◌, ◌⊎◌, ⊎_elim, ℕ, ℤ, pos, Bool, true, false, Some, None, Option, List, [], ◌∷◌, ◌++◌, inl, inr, refl, sym, ap, ap₂, subst, ◌∙◌, arith}
+use Rattle.std.proofs.Common.{◌≡◌, ⊎_elim, ℕ, ℤ, pos, Bool, true, false, Some, None, Option, List, [], ◌∷◌, refl, sym, ap, ap₂, subst, ◌∙◌, arith}
 use Rattle.std.specs.Prelude.{IsTrue, is_none, if◌then◌else◌}
 use Rattle.std.specs.List.{Contains}
 use Rattle.std.specs.Option.{unwrap_or}
@@ -7,23 +7,24 @@ use Rattle.std.specs.Ordering.{int_eq}
 use Rattle.std.proofs.lemmas.Bool.Decides.{Decides-int_eq}
 use Rattle.pv_base.specs.declared.txn.TxnId.{TxnId}
 use Rattle.pv_base.specs.Assignment.{AreAscending, commits}
-use Rattle.pv_base.specs.Canonical.{IsExact, IsFunctionOf, canonical_cases}
+use Rattle.pv_base.specs.Canonical.{IsExact, IsFunctionOf}
 use Rattle.pv_base.specs.Catalog.{Declared}
-use Rattle.pv_base.specs.Named.{with_txn, with_txns, names_of}
+use Rattle.pv_base.specs.Named.{with_txns, names_of}
 use Rattle.pv_base.specs.Polyvalue.{Case, IsCanonical, names, value_at}
 use Rattle.pv_format.specs.Record.{Record, epoch_begun, prepared, outcome_known}
 use Rattle.pv_law_canonical.proofs.CanonicalLemmas as canonical
 use Rattle.pv_law_step.proofs.NameLists.{inserted, united, names-listed, names-ascend, undecided-ascend, undecided-is, listed-undecided}
 use Rattle.pv_law_step.proofs.OutcomeLemmas.{choice-alike, choice-known}
+use Rattle.pv_model.proofs.ItemLemmas.{Contains-nil}
 use Rattle.pv_model.proofs.PolyvalueLemmas.{value_at-agree}
-use Rattle.pv_model.specs.Alternatives.{Read, number_at}
+use Rattle.pv_model.specs.Alternatives.{number_at}
 use Rattle.pv_protocol.specs.Records.{known, is_undecided, undecided, choice}
 use Rattle.pv_protocol.specs.Shown.{written, written_or, value_after, newest, declared_value, item_within, names_of_choice, names_after_write, names_after, names_within, shown_within}
 
 pub int-exact : IsExact int_eq
 int-exact = record { exact = λ x y. (Decides-int_eq x y).0; itself = λ x. (Decides-int_eq x x).1 refl }
 
-if-same : {X : Type 0} (b : Bool) (x : X) → (if b then x else x) ≡ x
+pub if-same : {X : Type 0} (b : Bool) (x : X) → (if b then x else x) ≡ x
 if-same true x = refl
 if-same false x = refl
 
@@ -125,3 +126,40 @@ module _ (catalog : Declared) (records front : List Record) (item : ℕ) where
   pub shown-names : (t : TxnId) → IsTrue (names (shown_within catalog records front item) t) → Contains (names_within records item [] front) t
   unfolding shown_within
   shown-names t named = canonical.names-listed int_eq (names_within records item [] front) (item_within catalog records front item) t named
+
+-- What the item's value may depend on isn't known.
+
+module _ (records : List Record) where
+  abbrev AreUndecided : List TxnId → Type 0
+  AreUndecided txns = (t : TxnId) → Contains txns t → is_undecided records t ≡ true
+
+  choice-undecided : (txn : TxnId) (cases : List (Case ℤ)) (old : List TxnId) → AreAscending old → AreUndecided old → (outcome : Option Bool) → known records txn ≡ outcome
+      → AreUndecided (names_of_choice outcome txn (undecided records (names_of cases)) old)
+  choice-undecided txn cases old up all (Some true) is t h = undecided-is records (names_of cases) t h
+  choice-undecided txn cases old up all (Some false) is t h = all t h
+  choice-undecided txn cases old up all None is t h =
+      let both = united (undecided records (names_of cases)) old up in
+      ⊎_elim
+      (λ same. subst (λ u. is_undecided records u ≡ true) same (ap is_none is))
+      (λ rest. ⊎_elim (λ new. undecided-is records (names_of cases) t new) (λ older. all t older) (both.only t rest))
+      ((inserted txn (with_txns (undecided records (names_of cases)) old) both.ascending).only t h)
+
+  write-undecided : (txn : TxnId) (old : List TxnId) → AreAscending old → AreUndecided old → (cases : Option (List (Case ℤ)))
+      → AreUndecided (names_after_write records txn old cases)
+  write-undecided txn old up all None = all
+  write-undecided txn old up all (Some cases) = choice-undecided txn cases old up all (known records txn) refl
+
+  after-undecided : (item : ℕ) (old : List TxnId) → AreAscending old → AreUndecided old → (first : Record) → AreUndecided (names_after records item old first)
+  after-undecided item old up all (epoch_begun epoch) = all
+  after-undecided item old up all (prepared txn writes) = write-undecided txn old up all (written item writes)
+  after-undecided item old up all (outcome_known txn outcome) = all
+
+  front-undecided : (item : ℕ) (front : List Record) (old : List TxnId) → AreAscending old → AreUndecided old → AreUndecided (names_within records item old front)
+  front-undecided item [] old up all = all
+  front-undecided item (first ∷ front) old up all =
+      front-undecided item front (names_after records item old first) (after-ascends records item old up first) (after-undecided item old up all first)
+
+pub shown-undecided : (catalog : Declared) (records front : List Record) (item : ℕ) (t : TxnId) → IsTrue (names (shown_within catalog records front item) t)
+    → is_undecided records t ≡ true
+shown-undecided catalog records front item t named =
+    front-undecided records item front [] none-ascend (λ u h. absurd (Contains-nil u h)) t (shown-names catalog records front item t named)

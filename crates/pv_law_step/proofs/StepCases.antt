@@ -1,13 +1,12 @@
 -- Each step is one of its cases.
 use Rattle.std.proofs.Common.{◌≡◌, ℕ, Bool, true, false, Some, None, Option, List, refl, sym, ◌∙◌}
 use Rattle.std.specs.Prelude.{◌≢◌, ◌||◌, ◌==◌, not, if◌then◌else◌}
-use Rattle.std.proofs.lemmas.Bool.{false≢true}
 use Rattle.pv_base.specs.declared.grant.GrantId.{GrantId}
 use Rattle.pv_base.specs.declared.limits.TheConstants.{NEVER_GIVEN}
 use Rattle.pv_base.specs.declared.txn.TxnId.{TxnId}
 use Rattle.pv_base.specs.Want.{Want}
 use Rattle.pv_format.specs.Message.{NoCause}
-use Rattle.pv_format.specs.Record.{prepared, outcome_known}
+use Rattle.pv_format.specs.Record.{outcome_known}
 use Rattle.pv_model.specs.Alternatives.{Read}
 use Rattle.pv_model.specs.Syntax.{Program}
 use Rattle.pv_law_step.specs.GrantCases as of_grants
@@ -19,12 +18,12 @@ use Rattle.pv_law_step.specs.OutcomeCases.{OutcomeCase, AskCase}
 use Rattle.pv_law_step.specs.VoteCases as of_votes
 use Rattle.pv_law_step.specs.VoteCases.{PrepareCase, YesCase, NoCase, voted}
 use Rattle.pv_protocol.specs.Coordinate.{locking_entry, voting_entry}
-use Rattle.pv_protocol.specs.Granted.{on_granted, at_granted, on_denied, at_denied, taking}
+use Rattle.pv_protocol.specs.Granted.{on_granted, at_granted, on_denied, at_denied}
 use Rattle.pv_protocol.specs.Here.{Here, remembering, nothing, noting, grant_of, without_grant, length_with, is_full}
 use Rattle.pv_protocol.specs.Lock.{on_submit, on_lock, at_standing, at_conflict, Conflict, first_conflict, is_lock_ignored}
 use Rattle.pv_protocol.specs.Outcome.{on_outcome, is_needed, learning, is_issued, on_ask, at_known}
 use Rattle.pv_protocol.specs.Records.{known, is_undecided}
-use Rattle.pv_protocol.specs.State.{Grant, Entry, full, Step}
+use Rattle.pv_protocol.specs.State.{Grant, Entry, full}
 use Rattle.pv_protocol.specs.Vote.{on_prepare, at_prepare, on_yes, at_yes, on_no, at_no}
 
 pub if_case : {X : Type 0} (P : X → Type 0) (test : Bool) {x y : X} → (test ≡ true → P x) → (test ≡ false → P y) → P (if test then x else y)
@@ -71,9 +70,9 @@ module _ (here : Here) (from : ℕ) (txn : TxnId) (grant : GrantId) (values : Li
   entry-case (Some entry) is =
       if_case (GrantedCase here from txn grant values) _ (of_grants.ignored entry is)
       (λ heard. let taken : of_grants.IsTaken here from txn values entry = record { found = is; heard = heard } in
-          unless_case (GrantedCase here from txn grant values) _ (of_grants.waits entry taken)
-          (λ whole. let last : of_grants.IsLastGrant here from txn grant values entry = record { taken = taken; whole = whole } in
-              if_case (GrantedCase here from txn grant values) _ (of_grants.too_wide entry last) (of_grants.reaches_lock_point entry last)))
+      unless_case (GrantedCase here from txn grant values) _ (of_grants.waits entry taken)
+      (λ whole. let last : of_grants.IsLastGrant here from txn grant values entry = record { taken = taken; whole = whole } in
+      if_case (GrantedCase here from txn grant values) _ (of_grants.too_wide entry last) (of_grants.reaches_lock_point entry last)))
 
   pub granted-case : GrantedCase here from txn grant values (on_granted here from txn grant values)
   unfolding on_granted
@@ -97,8 +96,8 @@ module _ (here : Here) (from : ℕ) (txn : TxnId) (grant : GrantId) (writes : Li
   grant-case asked (Some standing) is =
       if_case (PrepareCase here from txn grant writes) _
       (λ same. let stands : of_votes.Stands here txn grant standing = record { found = is; same = same } in
-          if_case (PrepareCase here from txn grant writes) _ (of_votes.ignored standing asked stands)
-          (λ right. if_case (PrepareCase here from txn grant writes) _ (of_votes.no_room standing asked stands right) (of_votes.promises standing asked stands right)))
+      if_case (PrepareCase here from txn grant writes) _ (of_votes.ignored standing asked stands)
+      (λ right. if_case (PrepareCase here from txn grant writes) _ (of_votes.no_room standing asked stands right) (of_votes.promises standing asked stands right)))
       (of_votes.other_stands standing asked is)
 
   pub prepare-case : PrepareCase here from txn grant writes (on_prepare here from txn grant writes)
@@ -106,7 +105,7 @@ module _ (here : Here) (from : ℕ) (txn : TxnId) (grant : GrantId) (writes : Li
   prepare-case =
       unless_case (PrepareCase here from txn grant writes) _ of_votes.not_its_site
       (λ own. if_case (PrepareCase here from txn grant writes) _ (of_votes.again own)
-          (λ unprepared. grant-case (record { own = own; unprepared = unprepared }) (grant_of here.running txn) refl))
+      (λ unprepared. grant-case (record { own = own; unprepared = unprepared }) (grant_of here.running txn) refl))
 
 module _ (here : Here) (from : ℕ) (txn : TxnId) where
   vote-case : (entry : Option Entry) → voting_entry here.running txn ≡ entry → YesCase here from txn (at_yes here from entry)
@@ -114,8 +113,8 @@ module _ (here : Here) (from : ℕ) (txn : TxnId) where
   vote-case (Some entry) is =
       if_case (YesCase here from txn) _ (of_votes.ignored entry is)
       (λ heard. let vote : of_votes.IsVote here from txn entry = record { found = is; heard = heard } in
-          unless_case (YesCase here from txn) _ (of_votes.waits entry vote)
-          (λ whole. if_case (YesCase here from txn) _ (of_votes.no_room entry vote whole) (of_votes.commits entry vote whole)))
+      unless_case (YesCase here from txn) _ (of_votes.waits entry vote)
+      (λ whole. if_case (YesCase here from txn) _ (of_votes.no_room entry vote whole) (of_votes.commits entry vote whole)))
 
   pub yes-case : YesCase here from txn (on_yes here from txn)
   unfolding on_yes

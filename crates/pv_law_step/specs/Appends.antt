@@ -1,5 +1,5 @@
 -- What a step may append, and what never falls.
-use Rattle.std.specs.Prelude.{◌≡◌, ◌≤◌, ℕ, Bool, true, false, List, Option, Some, None}
+use Rattle.std.specs.Prelude.{◌≡◌, ◌≤◌, Bool, false, List, Option, Some, None}
 use Rattle.pv_base.specs.declared.txn.TxnId.{TxnId}
 use Rattle.pv_format.specs.Record.{Record, prepared, outcome_known}
 use Rattle.pv_model.specs.Alternatives.{Read}

@@ -1,12 +1,9 @@
 -- Examples of steps: one site that takes the messages that it sends itself, and a participant that is left in doubt.
-use Rattle.std.specs.Prelude.{ℕ, zero, suc, ℤ, pos, Bool, true, false, List, [], ◌∷◌, ◌++◌, codes, Option, Some, None}
+use Rattle.std.specs.Prelude.{ℕ, zero, suc, ℤ, pos, Bool, true, false, List, [], ◌∷◌, ◌++◌, codes}
 use Rattle.std.specs.Option.{option_to_list}
-use Rattle.pv_base.specs.Catalog.{Declared}
-use Rattle.pv_base.specs.declared.grant.GrantId.{GrantId}
 use Rattle.pv_base.specs.declared.literal.Literal.{Literal}
 use Rattle.pv_base.specs.declared.txn.TxnId.{TxnId}
 use Rattle.pv_base.specs.Polyvalue.{Case}
-use Rattle.pv_base.specs.Want.{Want}
 use Rattle.pv_format.specs.Message.{lock, prepare}
 use Rattle.pv_format.specs.Record.{Record, epoch_begun}
 use Rattle.pv_model.specs.Alternatives.{Read}

@@ -1,5 +1,5 @@
 -- The cases of a coordinator's steps on answers to locks, each with what it comes from and the step that it is.
-use Rattle.std.specs.Prelude.{◌≡◌, ℕ, ◌||◌, not, nat_lt, length, true, false, List, Option, Some, None}
+use Rattle.std.specs.Prelude.{◌≡◌, ℕ, ◌||◌, not, nat_lt, length, true, false, List, Some, None}
 use Rattle.pv_base.specs.declared.grant.GrantId.{GrantId}
 use Rattle.pv_base.specs.declared.txn.TxnId.{TxnId}
 use Rattle.pv_model.specs.Alternatives.{Read}

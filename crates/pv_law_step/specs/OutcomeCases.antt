@@ -1,5 +1,5 @@
 -- The cases of a site's steps on outcomes and on questions for them, each with what it comes from and the step that it is.
-use Rattle.std.specs.Prelude.{◌≡◌, ◌≢◌, ℕ, ◌||◌, ◌==◌, not, Bool, true, false, Some}
+use Rattle.std.specs.Prelude.{◌≡◌, ◌≢◌, ℕ, ◌==◌, Bool, true, false, Some}
 use Rattle.pv_base.specs.declared.txn.TxnId.{TxnId}
 use Rattle.pv_format.specs.Message.{outcome_told}
 use Rattle.pv_format.specs.Record.{outcome_known}

@@ -5,6 +5,7 @@ mod cases;
 mod examples;
 mod steps;
 mod values;
+mod width;
 
 pub use cases::{
     ask_cases, denied_cases, granted_cases, lock_cases, no_cases, outcome_cases, prepare_cases,
@@ -12,4 +13,8 @@ pub use cases::{
 };
 pub use examples::{alone_it_commits, in_doubt_it_asks};
 pub use steps::{appends_what_it_may, numbers_rise};
-pub use values::{names_are_listed, shown_has_the_value, shown_is_canonical};
+pub use values::{
+    names_are_listed, new_values_are_computed, replies_are_computed, shown_has_the_value,
+    shown_is_canonical, shown_names_no_known,
+};
+pub use width::{no_records_are_narrow, starts_keep_width, steps_keep_width};

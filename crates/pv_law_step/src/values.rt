@@ -1,11 +1,14 @@
 // What shown values are.
-ghost use Rattle.std.specs.Prelude.{◌≡◌, ℕ, List, Some};
+ghost use Rattle.std.specs.Prelude.{◌≡◌, ℕ, IsTrue, List, Some, true};
 ghost use Rattle.pv_base.specs.declared.txn.TxnId.{TxnId};
 ghost use Rattle.pv_base.specs.Catalog.{Declared};
 ghost use Rattle.pv_base.specs.Named.{names_of};
-ghost use Rattle.pv_base.specs.Polyvalue.{AreNames, Case, IsCanonical, value_at};
+ghost use Rattle.pv_base.specs.Polyvalue.{AreNames, Case, IsCanonical, names, value_at};
 ghost use Rattle.pv_format.specs.Record.{Record};
+ghost use Rattle.pv_protocol.specs.Coordinate.{new_value, reply_after, reply_value, row_after};
+ghost use Rattle.pv_protocol.specs.Records.{is_undecided};
 ghost use Rattle.pv_protocol.specs.Shown.{item_value, shown};
+ghost use Rattle.pv_protocol.specs.State.{Entry};
 
 /// The list of names is that of the transactions that the cases name.
 pub fn names_are_listed<V>()
@@ -21,4 +24,24 @@ pub fn shown_is_canonical()
 pub fn shown_has_the_value()
     ensures { (catalog : Declared) (records : List Record) (item : ℕ) (assignment : List TxnId) →
         value_at (shown catalog records item) assignment ≡ Some (item_value catalog records item assignment) }
+{}
+
+/// A shown value names no outcome that is known.
+pub fn shown_names_no_known()
+    ensures { (catalog : Declared) (records : List Record) (item : ℕ) (txn : TxnId) → IsTrue (names (shown catalog records item) txn) →
+        is_undecided records txn ≡ true }
+{}
+
+/// A new value is canonical, and at every assignment what the item is after the program.
+pub fn new_values_are_computed()
+    ensures canonical { (records : List Record) (entry : Entry) (item : ℕ) → IsCanonical (new_value records entry item) }
+    ensures values { (records : List Record) (entry : Entry) (item : ℕ) (assignment : List TxnId) →
+        value_at (new_value records entry item) assignment ≡ Some (row_after records entry item assignment) }
+{}
+
+/// A reply is canonical, and at every assignment what the program replies.
+pub fn replies_are_computed()
+    ensures canonical { (records : List Record) (entry : Entry) → IsCanonical (reply_value records entry) }
+    ensures values { (records : List Record) (entry : Entry) (assignment : List TxnId) →
+        value_at (reply_value records entry) assignment ≡ Some (reply_after records entry assignment) }
 {}

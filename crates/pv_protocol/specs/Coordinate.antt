@@ -1,5 +1,5 @@
 -- What a coordinator knows of its transactions, and what it computes for them once the locks are held.
-use Rattle.std.specs.Prelude.{ℕ, ℤ, Bool, true, false, not, ◌&&◌, ◌==◌, nat_lt, nat_eq, List, [], ◌∷◌, map, length, filter, find, Option, if◌then◌else◌}
+use Rattle.std.specs.Prelude.{ℕ, ℤ, Bool, true, false, not, ◌&&◌, ◌==◌, nat_lt, nat_eq, List, [], ◌∷◌, map, filter, find, Option, if◌then◌else◌}
 use Rattle.std.specs.Cmp.Lexicographic.{pointwise}
 use Rattle.std.specs.List.{list_all, list_any, flat_map}
 use Rattle.std.specs.Ordering.{int_eq}
@@ -14,7 +14,6 @@ use Rattle.pv_model.specs.Alternatives.{Read, all_cases, rows_at}
 use Rattle.pv_model.specs.Answers.{possible}
 use Rattle.pv_model.specs.Meaning.{Reply, value_in, exec}
 use Rattle.pv_model.specs.Replies.{is_same_reply}
-use Rattle.pv_model.specs.Syntax.{Program}
 use Rattle.pv_protocol.specs.Here.{Here, is_among, participants}
 use Rattle.pv_protocol.specs.Records.{undecided, choice}
 use Rattle.pv_protocol.specs.State.{Stage, locking, voting, Taken, Entry, Running}

@@ -1,5 +1,5 @@
 -- A coordinator's steps on the answers to the locks that it asked for. With the last one its transaction is at its lock point.
-use Rattle.std.specs.Prelude.{ℕ, not, Bool, ◌||◌, ◌==◌, nat_lt, List, [], ◌∷◌, map, length, Option, Some, None, if◌then◌else◌}
+use Rattle.std.specs.Prelude.{ℕ, not, Bool, ◌||◌, ◌==◌, nat_lt, List, [], map, length, Option, Some, None, if◌then◌else◌}
 use Rattle.std.specs.List.{list_any, filter_map, find}
 use Rattle.pv_base.specs.declared.grant.GrantId.{GrantId}
 use Rattle.pv_base.specs.declared.txn.TxnId.{TxnId}
@@ -9,7 +9,7 @@ use Rattle.pv_model.specs.Alternatives.{Read}
 use Rattle.pv_model.specs.Plan.{wants_of}
 use Rattle.pv_protocol.specs.Coordinate.{locking_entry, has_taken, with_taken, has_all_grants, names_taken, exclusive_items, writes_to, are_values_of}
 use Rattle.pv_protocol.specs.Here.{Here, remembering, nothing, is_among, with_entry, participants, refusing}
-use Rattle.pv_protocol.specs.State.{Entry, voting, Taken, TakenGrant, Running, conflict, outcome_limit, Outgoing, Step}
+use Rattle.pv_protocol.specs.State.{Entry, voting, Taken, TakenGrant, conflict, outcome_limit, Outgoing, Step}
 
 -- what was asked of the site
 abbrev pub asked_of : Here → Entry → ℕ → List Want

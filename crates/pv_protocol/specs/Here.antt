@@ -1,5 +1,5 @@
 -- What a site's step looks at, and the plainest steps.
-use Rattle.std.specs.Prelude.{ℕ, ◌+◌, Bool, ◌==◌, false, nat_lt, List, [], ◌∷◌, map, Option, Some, None}
+use Rattle.std.specs.Prelude.{ℕ, ◌+◌, Bool, ◌==◌, false, nat_lt, List, [], ◌∷◌, map, Option, None}
 use Rattle.std.specs.List.{list_any}
 use Rattle.pv_base.specs.declared.txn.TxnId.{TxnId}
 use Rattle.pv_format.specs.Message.{Message, outcome_told}

@@ -1,5 +1,5 @@
 -- Lists of things that belong to transactions, ascending, one of each transaction at most.
-use Rattle.std.specs.Prelude.{not, Bool, List, [], ◌∷◌, filter, find, Option, if◌then◌else◌}
+use Rattle.std.specs.Prelude.{not, List, [], ◌∷◌, filter, find, Option, if◌then◌else◌}
 use Rattle.pv_base.specs.declared.txn.TxnId.{TxnId}
 use Rattle.pv_base.specs.Assignment.{is_same_txn, precedes}
 

@@ -1,15 +1,13 @@
 -- A site's steps on requests and on the locks that they ask for (two-phase locking: Eswaran, Gray, Lorie, Traiger, 1976).
-use Rattle.std.specs.Prelude.{ℕ, ◌+◌, Bool, false, not, ◌&&◌, ◌||◌, ◌==◌, List, [], ◌∷◌, map, slice_get, Option, Some, None, is_none, if◌then◌else◌}
+use Rattle.std.specs.Prelude.{ℕ, ◌+◌, Bool, false, not, ◌&&◌, ◌||◌, ◌==◌, List, [], ◌∷◌, map, slice_get, Option, Some, None, if◌then◌else◌}
 use Rattle.std.specs.Bool.{beq}
 use Rattle.std.specs.Cmp.Lexicographic.{pointwise}
 use Rattle.std.specs.List.{list_all, list_any, find}
 use Rattle.pv_base.specs.Catalog.{Item, Declared}
-use Rattle.pv_base.specs.declared.grant.GrantId.{GrantId}
 use Rattle.pv_base.specs.declared.limits.TheConstants.{NEVER_GIVEN}
 use Rattle.pv_base.specs.declared.txn.TxnId.{TxnId}
 use Rattle.pv_base.specs.Want.{Want}
 use Rattle.pv_format.specs.Message.{lock, granted, denied}
-use Rattle.pv_format.specs.Record.{Record}
 use Rattle.pv_model.specs.Alternatives.{Read}
 use Rattle.pv_model.specs.Check.{Part}
 use Rattle.pv_model.specs.Plan.{plan_of}
@@ -17,7 +15,7 @@ use Rattle.pv_model.specs.Syntax.{Program}
 use Rattle.pv_protocol.specs.Here.{Here, nothing, sending, noting, only_to, grant_of, with_grant, with_entry}
 use Rattle.pv_protocol.specs.Records.{is_undecided, is_prepared}
 use Rattle.pv_protocol.specs.Shown.{shown}
-use Rattle.pv_protocol.specs.State.{Grant, Entry, locking, Running, began, spent, Outgoing, Step}
+use Rattle.pv_protocol.specs.State.{Grant, locking, Running, began, spent, Outgoing, Step}
 
 -- Requests.
 

@@ -1,5 +1,5 @@
 -- The value that a site's records show of an item: a polyvalue over the outcomes that they leave open.
-use Rattle.std.specs.Prelude.{ℕ, ℤ, pos, Bool, true, false, ◌==◌, List, [], ◌∷◌, map, slice_get, Option, Some, None, if◌then◌else◌}
+use Rattle.std.specs.Prelude.{ℕ, ℤ, pos, Bool, true, false, ◌==◌, List, [], ◌∷◌, slice_get, Option, Some, None, if◌then◌else◌}
 use Rattle.std.specs.Ordering.{int_eq}
 use Rattle.pv_base.specs.Assignment.{commits}
 use Rattle.pv_base.specs.Canonical.{canonical_cases}

@@ -1,5 +1,5 @@
 -- A site's step on a tick, with which grants and entries age and end.
-use Rattle.std.specs.Prelude.{ℕ, ◌+◌, Bool, false, not, ◌==◌, nat_lt, List, [], ◌∷◌, ◌++◌, map, filter, find, is_none, Option, Some, None, if◌then◌else◌}
+use Rattle.std.specs.Prelude.{ℕ, ◌+◌, Bool, false, not, nat_lt, List, ◌++◌, map, filter, find, is_none, None}
 use Rattle.std.specs.List.{flat_map}
 use Rattle.std.specs.Option.{unwrap_or}
 use Rattle.pv_base.specs.declared.limits.TheConstants.{TICKS}

@@ -1,7 +1,7 @@
 -- The example computes.
 use Rattle.std.proofs.Common.{refl}
 use Rattle.pv_base.specs.Canonical.{canonical_cases}
-use Rattle.pv_law_step.specs.Examples.{alone, in_doubt}
+use Rattle.pv_law_step.specs.Examples.{alone}
 use Rattle.pv_law_step.proofs.examples.alone_it_commits.Goals as goal
 use Rattle.pv_model.specs.Meaning.{exec}
 use Rattle.pv_model.specs.Plan.{plan_of}

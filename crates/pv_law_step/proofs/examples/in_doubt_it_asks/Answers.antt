@@ -1,7 +1,7 @@
 -- The example computes.
 use Rattle.std.proofs.Common.{refl}
 use Rattle.pv_base.specs.Canonical.{canonical_cases}
-use Rattle.pv_law_step.specs.Examples.{alone, in_doubt}
+use Rattle.pv_law_step.specs.Examples.{in_doubt}
 use Rattle.pv_law_step.proofs.examples.in_doubt_it_asks.Goals as goal
 use Rattle.pv_model.specs.Meaning.{exec}
 use Rattle.pv_model.specs.Plan.{plan_of}
