@@ -7,7 +7,7 @@ use Rattle.std.proofs.lemmas.Option.{slice_get-get_or}
 use Rattle.pv_format.specs.Message.{Message, ask, Envelope}
 use Rattle.pv_law_world.proofs.WeightLemmas.{weight_sent, message-light}
 use Rattle.pv_law_world.specs.Pumps.{AreMarked, HasFewSites}
-use Rattle.pv_model.proofs.Basics.{Some_inj}
+use Rattle.pv_base.proofs.Basics.{Some_inj}
 use Rattle.pv_model.specs.Events.{deliver}
 use Rattle.pv_protocol.specs.Arms.{Reached, waits, fires, attempted}
 use Rattle.pv_protocol.specs.Attempt.{Attempt, begun, given, delivered, of_step}

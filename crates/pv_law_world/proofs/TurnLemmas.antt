@@ -9,7 +9,7 @@ use Rattle.pv_format.specs.Record.{Record}
 use Rattle.pv_law_world.proofs.GrowthLemmas.{Extends, same, Grown, turn-grown}
 use Rattle.pv_law_world.specs.Pumps.{AreMarked}
 use Rattle.pv_law_world.specs.Turns.{AreTurns, none, one_more, WasSent}
-use Rattle.pv_model.proofs.Basics.{Some_inj}
+use Rattle.pv_base.proofs.Basics.{Some_inj}
 use Rattle.pv_model.specs.Events.{Event, deliver}
 use Rattle.pv_protocol.specs.Places.{Place, world_before}
 use Rattle.pv_protocol.specs.Pump.{next_fresh, with_fresh, deliveries, enough}

@@ -83,7 +83,7 @@ is_readable None n = false
 is_readable (Some running) n = is_none (holder_of running.grants n)
 
 -- the transactions of the order, with their programs
-abbrev pub programs_of : List Placed → List serial.Entry
+abbrev pub programs_of : List Placed → List serial.Ordered
 programs_of order = map (λ placed. record { txn = placed.txn; program = placed.program }) order
 
 -- the rows that the serial run of the world's order leaves, where the assignment says which transactions commit

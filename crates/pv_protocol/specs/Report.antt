@@ -5,7 +5,7 @@ use Rattle.pv_base.specs.Named.{names_of}
 use Rattle.pv_base.specs.Polyvalue.{Case}
 use Rattle.pv_base.specs.declared.txn.TxnId.{TxnId}
 use Rattle.pv_format.specs.Message.{Envelope}
-use Rattle.pv_model.specs.Answers.{sums}
+use Rattle.pv_model.specs.PossibleAnswers.{sums}
 use Rattle.pv_protocol.specs.Committed.{is_committed, is_open, holder_of}
 use Rattle.pv_protocol.specs.Lines.{Line}
 use Rattle.pv_protocol.specs.Shown.{shown}
