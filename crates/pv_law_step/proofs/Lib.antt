@@ -1,7 +1,10 @@
 pub mod Appended
 pub mod ComputedLemmas
+pub mod FitLemmas
+pub mod Lists
 pub mod NameLists
 pub mod OutcomeLemmas
 pub mod ShownLemmas
 pub mod StepCases
+pub mod ValueRanges
 pub mod WidthLemmas

@@ -89,7 +89,7 @@ module _ (records : List Record) where
     after-depends old value up depends (prepared txn writes) = write-depends txn old value up depends (written item writes)
     after-depends old value up depends (outcome_known txn outcome) = depends
 
-    after-ascends : (old : List TxnId) → AreAscending old → (first : Record) → AreAscending (names_after records item old first)
+    pub after-ascends : (old : List TxnId) → AreAscending old → (first : Record) → AreAscending (names_after records item old first)
     after-ascends old up (epoch_begun epoch) = up
     after-ascends old up (prepared txn writes) = write-ascends txn old up (written item writes)
     after-ascends old up (outcome_known txn outcome) = up
@@ -105,7 +105,7 @@ module _ (records : List Record) where
     front-ascends [] old up = up
     front-ascends (first ∷ front) old up = front-ascends front (names_after records item old first) (after-ascends old up first)
 
-none-ascend : AreAscending []
+pub none-ascend : AreAscending []
 none-ascend = λ i j d before within. absurd (omega (arith, within))
 
 module _ (catalog : Declared) (records front : List Record) (item : ℕ) where

@@ -21,6 +21,7 @@ pub mod Records
 pub mod Report
 pub mod Run
 pub mod Shown
+pub mod Sound
 pub mod Start
 pub mod State
 pub mod Step

@@ -1,0 +1,25 @@
+// What a site holds, sends and records is in range.
+ghost use Rattle.std.specs.Int.RustNames.{FitsSigned};
+ghost use Rattle.std.specs.Int.{w64};
+ghost use Rattle.std.specs.Prelude.{◌≤◌, ℕ, All, IsTrue, length, List};
+ghost use Rattle.pv_base.specs.Catalog.{Declared};
+ghost use Rattle.pv_base.specs.Named.{names_of};
+ghost use Rattle.pv_base.specs.declared.limits.TheConstants.{HELD_NAMES};
+ghost use Rattle.pv_format.specs.Range.{IsPolyvalueInRange, IsRecordInRange};
+ghost use Rattle.pv_format.specs.Record.{Record};
+ghost use Rattle.pv_model.specs.Meaning.{Row, exec};
+ghost use Rattle.pv_model.specs.Syntax.{Program};
+ghost use Rattle.pv_protocol.specs.Shown.{shown};
+ghost use Rattle.pv_protocol.specs.Sound.{has_small_numbers};
+
+/// A program of numbers of 64 bits leaves values of 64 bits where it finds such values.
+pub fn programs_stay_in_range()
+    ensures { (program : Program) (rows : List Row) → IsTrue (has_small_numbers program) → All (λ row. FitsSigned w64 row.value) rows →
+        All (λ row. FitsSigned w64 row.value) (exec program rows).rows }
+{}
+
+/// Shown values are in range where the records are, and name no more outcomes than a polyvalue may.
+pub fn shown_values_are_in_range()
+    ensures { (catalog : Declared) (records : List Record) (item : ℕ) → All (λ item. FitsSigned w64 item.value) catalog.items →
+        All IsRecordInRange records → length (names_of (shown catalog records item)) ≤ HELD_NAMES → IsPolyvalueInRange (shown catalog records item) }
+{}
