@@ -7,4 +7,5 @@ pub mod OutcomeLemmas
 pub mod ShownLemmas
 pub mod StepCases
 pub mod ValueRanges
+pub mod WantRanges
 pub mod WidthLemmas

@@ -174,3 +174,16 @@ none-written p [] none item cases is = absurd (let wrong : ⊥ = cc in wrong)
 none-written p (write ∷ writes) none item cases is =
     let parts = or-none (p write.item) (list_any (λ (other : Read). p other.item) writes) none in
     written-by p (write.item == item) item write (written item writes) cases refl parts.0 (λ later. none-written p writes parts.1 item cases later) is
+
+-- What is shown now is what was shown after the last promise.
+pub narrow-now : (limit : ℕ) (catalog : Declared) (records : List Record) → IsNarrow limit catalog records → (item : ℕ)
+    → length (names_of (shown catalog records item)) ≤ limit
+narrow-now limit catalog records narrow item = now-by (ending records) where
+  now-by : Ending records → length (names_of (shown catalog records item)) ≤ limit
+  now-by (unwritten same) =
+      omega (arith, nameless catalog records records item (declared_value catalog item) (λ a. same item (choice records a) (declared_value catalog item)))
+  now-by (written_last before after txn writes split same) =
+      omega (arith,
+      narrower catalog records (before ++ prepared txn writes ∷ []) records records item (λ a. a) (λ a b t alike. alike)
+      (λ a. same item (choice records a) (declared_value catalog item)),
+      narrow.few before after txn writes item split)

@@ -13,7 +13,7 @@ pub use cases::{
     request_cases, yes_cases,
 };
 pub use examples::{alone_it_commits, in_doubt_it_asks};
-pub use ranges::{programs_stay_in_range, shown_values_are_in_range};
+pub use ranges::{plans_are_in_range, programs_stay_in_range, shown_values_are_in_range};
 pub use steps::{appends_what_it_may, numbers_rise};
 pub use values::{
     names_are_listed, new_values_are_computed, replies_are_computed, shown_has_the_value,

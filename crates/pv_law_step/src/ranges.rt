@@ -1,16 +1,18 @@
 // What a site holds, sends and records is in range.
 ghost use Rattle.std.specs.Int.RustNames.{FitsSigned};
 ghost use Rattle.std.specs.Int.{w64};
-ghost use Rattle.std.specs.Prelude.{◌≤◌, ℕ, All, IsTrue, length, List};
+ghost use Rattle.std.specs.List.{Contains};
+ghost use Rattle.std.specs.Prelude.{◌<◌, ◌≤◌, ℕ, All, IsTrue, length, List};
 ghost use Rattle.pv_base.specs.Catalog.{Declared};
 ghost use Rattle.pv_base.specs.Named.{names_of};
-ghost use Rattle.pv_base.specs.declared.limits.TheConstants.{HELD_NAMES};
-ghost use Rattle.pv_format.specs.Range.{IsPolyvalueInRange, IsRecordInRange};
+ghost use Rattle.pv_base.specs.declared.limits.TheConstants.{HELD_NAMES, MAX_ITEMS};
+ghost use Rattle.pv_format.specs.Range.{AreWantsInRange, IsPolyvalueInRange, IsRecordInRange};
 ghost use Rattle.pv_format.specs.Record.{Record};
 ghost use Rattle.pv_model.specs.Meaning.{Row, exec};
+ghost use Rattle.pv_model.specs.Plan.{participants_of, wants_of};
 ghost use Rattle.pv_model.specs.Syntax.{Program};
 ghost use Rattle.pv_protocol.specs.Shown.{shown};
-ghost use Rattle.pv_protocol.specs.Sound.{has_small_numbers};
+ghost use Rattle.pv_protocol.specs.Sound.{CanRun, has_small_numbers};
 
 /// A program of numbers of 64 bits leaves values of 64 bits where it finds such values.
 pub fn programs_stay_in_range()
@@ -22,4 +24,11 @@ pub fn programs_stay_in_range()
 pub fn shown_values_are_in_range()
     ensures { (catalog : Declared) (records : List Record) (item : ℕ) → All (λ item. FitsSigned w64 item.value) catalog.items →
         All IsRecordInRange records → length (names_of (shown catalog records item)) ≤ HELD_NAMES → IsPolyvalueInRange (shown catalog records item) }
+{}
+
+/// What a program wants of each participant is in range, and the participants are sites of the catalog.
+pub fn plans_are_in_range()
+    ensures { (catalog : Declared) (program : Program) (site : ℕ) → length catalog.items ≤ MAX_ITEMS →
+        All (λ item. item.site < catalog.sites) catalog.items → CanRun catalog program → Contains (participants_of program catalog.items) site →
+        (site < catalog.sites) × AreWantsInRange (wants_of program catalog.items site) }
 {}
