@@ -7,7 +7,7 @@ use Rattle.pv_base.specs.Answer.{HasOneAnswer}
 use Rattle.pv_base.specs.BigEndian.{big_endian, IsNumber, AreBytes}
 use Rattle.pv_base.specs.Polyvalue.{Case}
 use Rattle.pv_base.proofs.BigEndianLemmas.{IsNumber-length}
-use Rattle.pv_model.proofs.Basics.{heads, tails}
+use Rattle.pv_base.proofs.Basics.{heads, tails}
 use Rattle.pv_format.specs.Contents.{IsNoRecord}
 use Rattle.pv_format.specs.FirstFault.{Fault, short, bad_kind, bad_field, extra, HasFault, EndFault, is_extra, NumberFault, is_short, is_refused, is_later, PolyvalueFault, EnvelopeFault, has_no_kind, has_bad_kind, is_in_fields, is_kind}
 use Rattle.pv_format.specs.Layout.{Layout, anything, nothing_more, number_then, polyvalue_then, message_layout}

@@ -22,7 +22,7 @@ use Rattle.pv_protocol.specs.Step.{on_message, step_on}
 use Rattle.pv_protocol.specs.Tick.{on_tick}
 use Rattle.std.specs.List.{find}
 use Rattle.pv_base.specs.Assignment.{is_same_txn}
-use Rattle.pv_model.proofs.AssignmentLemmas.{same-eq}
+use Rattle.pv_base.proofs.AssignmentLemmas.{same-eq}
 
 -- What is found passes the test.
 

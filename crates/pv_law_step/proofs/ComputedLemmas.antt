@@ -17,7 +17,7 @@ use Rattle.pv_law_canonical.proofs.CanonicalLemmas as canonical
 use Rattle.pv_law_step.proofs.NameLists.{names-listed, names-ascend, undecided-ascend, undecided-is, undecided-listed, listed-undecided}
 use Rattle.pv_law_step.proofs.OutcomeLemmas.{choice-alike}
 use Rattle.pv_law_step.proofs.ShownLemmas.{int-exact}
-use Rattle.pv_model.proofs.PolyvalueLemmas.{value_at-agree}
+use Rattle.pv_law_polyvalues.proofs.PolyvalueLemmas.{value_at-agree}
 use Rattle.pv_model.specs.Alternatives.{Read, all_cases, number_at, rows_at}
 use Rattle.pv_model.specs.Meaning.{Decline, unmet, overflow, zero_divisor, Reply, value, nothing, declined, Row, Effect, exec, value_in}
 use Rattle.pv_model.specs.Replies.{is_same_decline, is_same_reply}

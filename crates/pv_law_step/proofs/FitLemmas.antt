@@ -13,9 +13,9 @@ use Rattle.std.proofs.lemmas.Int.{ints, rem_below, fits_signed_from_abs}
 use Rattle.pv_base.specs.declared.txn.TxnId.{TxnId}
 use Rattle.pv_base.specs.Polyvalue.{Case, meets, value_at}
 use Rattle.pv_law_step.proofs.StepCases.{if_case}
-use Rattle.pv_model.proofs.ItemLemmas.{Contains-first, Contains-behind, Contains-nil, Contains-cases}
+use Rattle.pv_base.proofs.ContainsLemmas.{Contains-first, Contains-behind, Contains-nil, Contains-cases}
 use Rattle.pv_model.specs.Alternatives.{Read, number_at, rows_at}
-use Rattle.pv_model.specs.Meaning.{Row, Decline, Outcome, ended, returned, refused, fits_i64, within, truth, holds, quotient, remainder, computed, with_value, with_left, value_in, with_row, value_of, then_with, then_run, run, effect_of, exec, unmet, overflow, zero_divisor}
+use Rattle.pv_model.specs.Meaning.{Row, Decline, Course, ended, returned, refused, fits_i64, within, truth, holds, quotient, remainder, computed, with_value, with_left, value_in, with_row, value_of, then_with, then_run, course_of, effect_of, exec, unmet, overflow, zero_divisor}
 use Rattle.pv_model.specs.Syntax.{Op, or, and, equal, unequal, less, at_most, greater, at_least, plus, sub, times, over, rest, lesser, larger, Expr, number, item, minus, negation, two, Program, end, assign, require, return, when, when_else}
 use Rattle.pv_protocol.specs.Sound.{is_of_small_numbers, has_small_numbers}
 
@@ -126,57 +126,57 @@ expression-fits (two op left right) rows small fit =
     (λ v h. left-fits op v (value_of right rows) h (expression-fits right rows parts.1 fit))
 
 -- The rows that are left, if any are, fit.
-abbrev OutcomeFits : Outcome → Type 0
-OutcomeFits (ended rows) = AllFit rows
-OutcomeFits (returned v rows) = AllFit rows
-OutcomeFits (refused d) = ⊤
+abbrev CourseFits : Course → Type 0
+CourseFits (ended rows) = AllFit rows
+CourseFits (returned v rows) = AllFit rows
+CourseFits (refused d) = ⊤
 
-then-with-fits : (r : Result ℤ Decline) (go : ℤ → Outcome) → FitsResult r → ((v : ℤ) → Fits v → OutcomeFits (go v)) → OutcomeFits (then_with r go)
+then-with-fits : (r : Result ℤ Decline) (go : ℤ → Course) → FitsResult r → ((v : ℤ) → Fits v → CourseFits (go v)) → CourseFits (then_with r go)
 then-with-fits (Ok v) go fits next = next v fits
 then-with-fits (Err d) go fits next = tt
 
-then-run-fits : (o : Outcome) (go : List Row → Outcome) → OutcomeFits o → ((rows : List Row) → AllFit rows → OutcomeFits (go rows)) → OutcomeFits (then_run o go)
+then-run-fits : (o : Course) (go : List Row → Course) → CourseFits o → ((rows : List Row) → AllFit rows → CourseFits (go rows)) → CourseFits (then_run o go)
 then-run-fits (ended rows) go fits next = next rows fits
 then-run-fits (returned v rows) go fits next = fits
 then-run-fits (refused d) go fits next = tt
 
-run-fits : (program : Program) (rows : List Row) → IsTrue (has_small_numbers program) → AllFit rows → OutcomeFits (run program rows)
-run-fits end rows small fit = fit
-run-fits (assign n e next) rows small fit =
+course-fits : (program : Program) (rows : List Row) → IsTrue (has_small_numbers program) → AllFit rows → CourseFits (course_of program rows)
+course-fits end rows small fit = fit
+course-fits (assign n e next) rows small fit =
     let parts = and_parts (is_of_small_numbers e) (has_small_numbers next) small in
     then-with-fits (value_of e rows) _ (expression-fits e rows parts.0 fit)
-    (λ v h. run-fits next (with_row rows n v) parts.1 (with-row-fits rows n v fit h))
-run-fits (require e next) rows small fit =
+    (λ v h. course-fits next (with_row rows n v) parts.1 (with-row-fits rows n v fit h))
+course-fits (require e next) rows small fit =
     let parts = and_parts (is_of_small_numbers e) (has_small_numbers next) small in
     then-with-fits (value_of e rows) _ (expression-fits e rows parts.0 fit)
-    (λ v h. if_case OutcomeFits (holds v) (λ met. run-fits next rows parts.1 fit) (λ unmet_now. tt))
-run-fits (return e next) rows small fit =
+    (λ v h. if_case CourseFits (holds v) (λ met. course-fits next rows parts.1 fit) (λ unmet_now. tt))
+course-fits (return e next) rows small fit =
     let parts = and_parts (is_of_small_numbers e) (has_small_numbers next) small in
     then-with-fits (value_of e rows) _ (expression-fits e rows parts.0 fit) (λ v h. fit)
-run-fits (when e body next) rows small fit =
+course-fits (when e body next) rows small fit =
     let parts = and_parts (is_of_small_numbers e) (has_small_numbers body && has_small_numbers next) small in
     let later = and_parts (has_small_numbers body) (has_small_numbers next) parts.1 in
     then-with-fits (value_of e rows) _ (expression-fits e rows parts.0 fit)
-    (λ v h. then-run-fits (if holds v then run body rows else ended rows) (run next)
-        (if_case OutcomeFits (holds v) (λ met. run-fits body rows later.0 fit) (λ passed. fit))
-        (λ left fits. run-fits next left later.1 fits))
-run-fits (when_else e body other next) rows small fit =
+    (λ v h. then-run-fits (if holds v then course_of body rows else ended rows) (course_of next)
+        (if_case CourseFits (holds v) (λ met. course-fits body rows later.0 fit) (λ passed. fit))
+        (λ left fits. course-fits next left later.1 fits))
+course-fits (when_else e body other next) rows small fit =
     let parts = and_parts (is_of_small_numbers e) (has_small_numbers body && (has_small_numbers other && has_small_numbers next)) small in
     let later = and_parts (has_small_numbers body) (has_small_numbers other && has_small_numbers next) parts.1 in
     let last = and_parts (has_small_numbers other) (has_small_numbers next) later.1 in
     then-with-fits (value_of e rows) _ (expression-fits e rows parts.0 fit)
-    (λ v h. then-run-fits (if holds v then run body rows else run other rows) (run next)
-        (if_case OutcomeFits (holds v) (λ met. run-fits body rows later.0 fit) (λ passed. run-fits other rows last.0 fit))
-        (λ left fits. run-fits next left last.1 fits))
+    (λ v h. then-run-fits (if holds v then course_of body rows else course_of other rows) (course_of next)
+        (if_case CourseFits (holds v) (λ met. course-fits body rows later.0 fit) (λ passed. course-fits other rows last.0 fit))
+        (λ left fits. course-fits next left last.1 fits))
 
-effect-fits : (before : List Row) (o : Outcome) → AllFit before → OutcomeFits o → AllFit (effect_of before o).rows
+effect-fits : (before : List Row) (o : Course) → AllFit before → CourseFits o → AllFit (effect_of before o).rows
 effect-fits before (ended rows) fit fits = fits
 effect-fits before (returned v rows) fit fits = fits
 effect-fits before (refused d) fit fits = fit
 
 pub exec-fits : (program : Program) (rows : List Row) → IsTrue (has_small_numbers program) → AllFit rows → AllFit (exec program rows).rows
 unfolding exec
-exec-fits program rows small fit = effect-fits rows (run program rows) fit (run-fits program rows small fit)
+exec-fits program rows small fit = effect-fits rows (course_of program rows) fit (course-fits program rows small fit)
 
 -- Rows as lists of what they have.
 

@@ -3,7 +3,7 @@ use Rattle.std.proofs.Common.{◌≡◌, ⊎_elim, ℕ, zero, suc, Bool, true, f
 use Rattle.std.specs.Prelude.{All, map, slice_get, ⊤}
 use Rattle.std.specs.List.{Contains, filter, flat_map}
 use Rattle.std.proofs.lemmas.List.Elements.{All-append, All-contains, All-contains_itself, All-filter, All-cons, All-map, All-nil}
-use Rattle.pv_model.proofs.ItemLemmas.{Contains-first, Contains-behind, Contains-nil, Contains-cases}
+use Rattle.pv_base.proofs.ContainsLemmas.{Contains-first, Contains-behind, Contains-nil, Contains-cases}
 
 module _ {X : Type 0} (P : X → Type 0) where
   pub all-from : (xs : List X) → ((x : X) → Contains xs x → P x) → All P xs

@@ -12,9 +12,9 @@ use Rattle.pv_base.specs.Named.{with_txn, with_txns, txns_in, names_of}
 use Rattle.pv_base.specs.Polyvalue.{Case, AreNames, names}
 use Rattle.pv_format.specs.Record.{Record}
 use Rattle.pv_law_canonical.proofs.FilterLemmas.{kept-listed}
-use Rattle.pv_model.proofs.AscendingLemmas.{All-from_members, IsInserted, ascending-tail, ascending-cons, insert-behind, insert-first, insert-same}
-use Rattle.pv_model.proofs.AssignmentLemmas.{same-refl, same-eq, order-of-two, apart-from-test}
-use Rattle.pv_model.proofs.ItemLemmas.{Contains-first, Contains-behind, Contains-nil, Contains-cases, Contains-filter}
+use Rattle.pv_law_polyvalues.proofs.AscendingLemmas.{All-from_members, IsInserted, ascending-tail, ascending-cons, insert-behind, insert-first, insert-same}
+use Rattle.pv_base.proofs.AssignmentLemmas.{same-refl, same-eq, order-of-two, apart-from-test}
+use Rattle.pv_base.proofs.ContainsLemmas.{Contains-first, Contains-behind, Contains-nil, Contains-cases, Contains-filter}
 use Rattle.pv_protocol.specs.Records.{is_undecided, undecided}
 
 -- One more transaction.

@@ -4,7 +4,7 @@ use Rattle.std.specs.Prelude.{is_none, if◌then◌else◌}
 use Rattle.pv_base.specs.declared.txn.TxnId.{TxnId}
 use Rattle.pv_base.specs.Assignment.{is_same_txn, commits, with_outcome}
 use Rattle.pv_format.specs.Record.{Record, epoch_begun, prepared, outcome_known}
-use Rattle.pv_model.proofs.AssignmentLemmas.{same-sym, commits-with, commits-with-alike}
+use Rattle.pv_base.proofs.AssignmentLemmas.{same-sym, commits-with, commits-with-alike}
 use Rattle.pv_protocol.specs.Records.{known, is_undecided, choice}
 
 -- the known outcome, or the assigned one

@@ -15,8 +15,8 @@ use Rattle.pv_format.specs.Record.{Record, epoch_begun, prepared, outcome_known}
 use Rattle.pv_law_canonical.proofs.CanonicalLemmas as canonical
 use Rattle.pv_law_step.proofs.NameLists.{inserted, united, names-listed, names-ascend, undecided-ascend, undecided-is, listed-undecided}
 use Rattle.pv_law_step.proofs.OutcomeLemmas.{choice-alike, choice-known}
-use Rattle.pv_model.proofs.ItemLemmas.{Contains-nil}
-use Rattle.pv_model.proofs.PolyvalueLemmas.{value_at-agree}
+use Rattle.pv_base.proofs.ContainsLemmas.{Contains-nil}
+use Rattle.pv_law_polyvalues.proofs.PolyvalueLemmas.{value_at-agree}
 use Rattle.pv_model.specs.Alternatives.{number_at}
 use Rattle.pv_protocol.specs.Records.{known, is_undecided, undecided, choice}
 use Rattle.pv_protocol.specs.Shown.{written, written_or, value_after, newest, declared_value, item_within, names_of_choice, names_after_write, names_after, names_within, shown_within}

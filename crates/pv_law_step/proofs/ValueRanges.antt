@@ -21,10 +21,10 @@ use Rattle.pv_law_step.proofs.Lists.{all-from, all-head, all-tail, OfSome, of-so
 use Rattle.pv_law_step.proofs.NameLists.{inserted, united, names-are, listed-names, names-listed, names-ascend, undecided-ascend, undecided-listed}
 use Rattle.pv_law_step.proofs.ShownLemmas.{after-ascends, none-ascend, shown-canonical, shown-value, shown-names}
 use Rattle.pv_law_step.proofs.StepCases.{if_case}
-use Rattle.pv_model.proofs.AssignmentLemmas.{same-refl, same-eq}
-use Rattle.pv_model.proofs.ExistenceLemmas.{case-met}
-use Rattle.pv_model.proofs.ItemLemmas.{Contains-first, Contains-behind, Contains-nil, Contains-cases}
-use Rattle.pv_model.proofs.NameLemmas.{NamesAtMost-from}
+use Rattle.pv_base.proofs.AssignmentLemmas.{same-refl, same-eq}
+use Rattle.pv_law_polyvalues.proofs.ExistenceLemmas.{case-met}
+use Rattle.pv_base.proofs.ContainsLemmas.{Contains-first, Contains-behind, Contains-nil, Contains-cases}
+use Rattle.pv_law_polyvalues.proofs.NameLemmas.{NamesAtMost-from}
 use Rattle.pv_model.specs.Alternatives.{Read, number_at}
 use Rattle.pv_protocol.specs.Records.{known, undecided, choice}
 use Rattle.pv_protocol.specs.Shown.{written, written_or, value_after, newest, declared_or_zero, declared_value, item_within, names_of_choice, names_after_write, names_after, names_within, shown_within}

@@ -11,8 +11,8 @@ use Rattle.pv_base.specs.Want.{Want}
 use Rattle.pv_format.specs.Range.{AreItemsInRange, AreWantsInRange}
 use Rattle.pv_law_step.proofs.Lists.{all-from, all-head, all-tail}
 use Rattle.pv_law_step.proofs.StepCases.{if_case}
-use Rattle.pv_model.proofs.ItemLemmas.{Contains-first, Contains-behind, Contains-nil, Contains-cases}
-use Rattle.pv_model.proofs.MapLemmas.{Contains-unmap}
+use Rattle.pv_base.proofs.ContainsLemmas.{Contains-first, Contains-behind, Contains-nil, Contains-cases}
+use Rattle.pv_base.proofs.MapLemmas.{Contains-unmap}
 use Rattle.pv_model.specs.Check.{AreItems, names}
 use Rattle.pv_model.specs.Plan.{want_of, wants_from, wants_of, with_site, sites_from, participants_of}
 use Rattle.pv_model.specs.ProgramLaws.{assigns}

@@ -12,8 +12,8 @@ use Rattle.pv_format.specs.Record.{Record, epoch_begun, prepared, outcome_known}
 use Rattle.pv_law_step.proofs.NameLists.{names-listed, listed-names, names-ascend}
 use Rattle.pv_law_step.proofs.OutcomeLemmas.{told_by, choice-more, told-alike}
 use Rattle.pv_law_step.proofs.ShownLemmas.{if-same, shown-canonical, shown-value}
-use Rattle.pv_model.proofs.AscendingLemmas.{fewer-ascending}
-use Rattle.pv_model.proofs.PolyvalueLemmas.{value_at-agree, depends-named}
+use Rattle.pv_law_polyvalues.proofs.AscendingLemmas.{fewer-ascending}
+use Rattle.pv_law_polyvalues.proofs.PolyvalueLemmas.{value_at-agree, depends-named}
 use Rattle.pv_model.specs.Alternatives.{Read}
 use Rattle.pv_protocol.specs.Records.{choice}
 use Rattle.pv_protocol.specs.Shown.{written, written_or, value_after, newest, declared_value, item_within, shown_within, shown}

@@ -1,6 +1,6 @@
 -- A world without armed faults does what the same world does with them, but for where they fire.
 use Rattle.std.proofs.Common.{arith, ◌≡◌, ℕ, zero, suc, ◌<◌, Bool, true, false, Some, None, Option, List, [], ◌∷◌, ◌++◌, map, refl, sym, ap, ◌∙◌, subst}
-use Rattle.std.specs.Prelude.{get_or, set, slice_get, option_to_list, replicate, nat_lt, ◌+◌, ◌&&◌, filter, if◌then◌else◌}
+use Rattle.std.specs.Prelude.{set, slice_get, option_to_list, replicate, nat_lt, ◌+◌, ◌&&◌, filter, if◌then◌else◌}
 use Rattle.std.specs.List.{list_all}
 use Rattle.std.proofs.lemmas.List.{map-set}
 use Rattle.std.proofs.Math.ListN as lists
@@ -16,7 +16,7 @@ use Rattle.pv_protocol.specs.Arms.{Reached, waits, fires, reached, calls_of, is_
 use Rattle.pv_protocol.specs.Attempt.{Attempt, Begun, settled, attempts, begun, given, delivered, lost, halted, opened, without_site, of_step, of_start}
 use Rattle.pv_protocol.specs.Committed.{is_committed, entry_of, is_bound, is_open}
 use Rattle.pv_protocol.specs.Lines.{Line}
-use Rattle.pv_protocol.specs.Report.{Reading, readings_from, report_of, total_of, sent_lines}
+use Rattle.pv_protocol.specs.Report.{readings_from, report_of, total_of, sent_lines}
 use Rattle.pv_protocol.specs.Run.{run}
 use Rattle.pv_protocol.specs.Start.{site_start}
 use Rattle.pv_protocol.specs.State.{Setup, Running, Site, Arm, Input, submit, receive, tick, TakenGrant, Placed}
@@ -222,7 +222,7 @@ turn-may : (setup : Setup) (world : World) (event : Event) → MayFollow setup (
 unfolding turn_of
 turn-may setup world event =
     let possible : IsPossible (begun setup (disarmed world) event) (ended (begun setup world event)).0 (ended (begun setup world event)).1 =
-          ended-possible (begun setup world event) (begun setup (disarmed world) event) (begun-same setup world event) in
+    ended-possible (begun setup world event) (begun setup (disarmed world) event) (begun-same setup world event) in
     record { left = possible.left; comes = possible.comes; after = possible.after }
 
 turns-may : (setup : Setup) (world : World) (turns : List Turn) → AreTurns setup world turns → IsAnyRun setup (disarmed world) (map without_arms turns)

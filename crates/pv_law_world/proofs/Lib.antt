@@ -1,4 +1,7 @@
 pub mod DisarmLemmas
 pub mod GrowthLemmas
+pub mod ParticipantLemmas
+pub mod PumpLemmas
 pub mod ScheduleLemmas
 pub mod TurnLemmas
+pub mod WeightLemmas

@@ -1,14 +1,15 @@
 -- The turns of a run are what its events do, one after another; a message that is delivered was sent before.
 use Rattle.std.proofs.Common.{◌≡◌, ℕ, zero, suc, Some, None, Option, List, [], ◌∷◌, ◌++◌, refl, sym, ap, ◌∙◌, subst}
-use Rattle.std.specs.Prelude.{slice_get, IsSome, All, Contains}
+use Rattle.std.specs.Prelude.{slice_get, IsSome, Contains}
 use Rattle.std.proofs.lemmas.List.{append_assoc}
 use Rattle.std.proofs.lemmas.List.Elements.{All-contains}
 use Rattle.std.proofs.lemmas.Option.{slice_get_within, get_or_from_slice_get}
 use Rattle.pv_format.specs.Message.{Envelope}
 use Rattle.pv_format.specs.Record.{Record}
 use Rattle.pv_law_world.proofs.GrowthLemmas.{Extends, same, Grown, turn-grown}
+use Rattle.pv_law_world.specs.Pumps.{AreMarked}
 use Rattle.pv_law_world.specs.Turns.{AreTurns, none, one_more, WasSent}
-use Rattle.pv_model.proofs.Basics.{Some_inj}
+use Rattle.pv_base.proofs.Basics.{Some_inj}
 use Rattle.pv_model.specs.Events.{Event, deliver}
 use Rattle.pv_protocol.specs.Places.{Place, world_before}
 use Rattle.pv_protocol.specs.Pump.{next_fresh, with_fresh, deliveries, enough}
@@ -81,7 +82,10 @@ module _ (setup : Setup) where
       → WasSent world (turn ∷ turns) number envelope
   shifted world turn turns number envelope was = record {
     sender = record { earlier = turn ∷ was.sender.earlier; turn = was.sender.turn; later = was.sender.later; split = ap (λ (all : List Turn). turn ∷ all) was.sender.split };
-    new = was.new; there = was.there; up = was.up }
+    new = was.new;
+    there = was.there;
+    up = was.up;
+  }
 
   -- a message that is there after the turns was sent in the first of them, or in one of the rest
   sent-here : (world : World) (turn : Turn) (turns : List Turn) → turn ≡ turn_of setup world turn.event → AreTurns setup turn.world turns
@@ -95,9 +99,11 @@ module _ (setup : Setup) where
       let is_there : slice_get turn.world.sent number ≡ Some envelope = found ∙ ap Some one in
       record {
         sender = record { earlier = []; turn = turn; later = turns; split = refl };
-        new = new; there = is_there;
+        new = new;
+        there = is_there;
         up = All-contains (λ (e : Envelope). IsSome (site_at world e.from).running) grown.sent.0 envelope grown.sent.2
-            (added world.sent grown.sent.0 number envelope new (subst (λ (all : List Envelope). slice_get all number ≡ Some envelope) grown.sent.1 is_there)) }
+            (added world.sent grown.sent.0 number envelope new (subst (λ (all : List Envelope). slice_get all number ≡ Some envelope) grown.sent.1 is_there));
+      }
 
   pub was-sent : (world : World) (turns : List Turn) → AreTurns setup world turns → (number : ℕ) (envelope : Envelope)
       → slice_get world.sent number ≡ None → slice_get (world_after world turns).sent number ≡ Some envelope → WasSent world turns number envelope
@@ -126,3 +132,15 @@ module _ (setup : Setup) where
   pub run-records : (world : World) (events : List Event) (n : ℕ)
       → Extends (site_at world n).records (site_at (world_after world (run setup world events)) n).records
   run-records world events n = turns-records world (run setup world events) (run-turns setup world events) n
+
+  turns-marked : (world : World) (turns : List Turn) → AreTurns setup world turns → AreMarked world → AreMarked (world_after world turns)
+  turns-marked world [] are marked = marked
+  turns-marked world (turn ∷ turns) (one_more world' turn' turns' is rest) marked =
+      let grown : Grown world turn.world = subst (λ (t : Turn). Grown world t.world) (sym is) (turn-grown setup world turn.event) in
+      turns-marked turn.world turns rest (grown.marked marked)
+
+  pub places-marked : (events : List Event) (place : Place (run setup (opening setup) events)) → AreMarked (world_before (opening setup) place)
+  places-marked events place =
+      turns-marked (opening setup) place.earlier
+      (front-turns setup (opening setup) place.earlier (place.turn ∷ place.later)
+      (subst (AreTurns setup (opening setup)) place.split (run-turns setup (opening setup) events))) refl

@@ -1,5 +1,5 @@
 -- Lines that schedules print.
-use Rattle.std.specs.Prelude.{ℕ, ℤ, pos, Bool, false, true, List, [], ◌∷◌, ◌++◌, if◌then◌else◌}
+use Rattle.std.specs.Prelude.{ℕ, ℤ, pos, Bool, false, true, List, [], ◌∷◌, ◌++◌}
 use Rattle.pv_base.specs.Polyvalue.{Case}
 use Rattle.pv_base.specs.declared.txn.TxnId.{TxnId}
 use Rattle.pv_protocol.specs.Lines.{Line}

@@ -1,5 +1,5 @@
 -- What a pump needs to come to an end.
-use Rattle.std.specs.Prelude.{◌≡◌, ℕ, ◌<◌, ◌≤◌, length, All}
+use Rattle.std.specs.Prelude.{◌≡◌, ◌<◌, ◌≤◌, length, All}
 use Rattle.pv_base.specs.Catalog.{Declared}
 use Rattle.pv_protocol.specs.World.{World}
 

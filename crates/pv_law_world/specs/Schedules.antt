@@ -1,5 +1,5 @@
 -- Catalogs and schedules of which laws say what they print.
-use Rattle.std.specs.Prelude.{ℕ, ℤ, pos, Bool, false, true, Some, None, List, [], ◌∷◌, ◌++◌, codes}
+use Rattle.std.specs.Prelude.{ℕ, pos, false, true, Some, None, List, [], ◌∷◌, ◌++◌, codes}
 use Rattle.pv_base.specs.Catalog.{Item}
 use Rattle.pv_base.specs.declared.mode.Mode.{Mode}
 use Rattle.pv_model.specs.Events.{Event, submit, deliver, pump, lose, drop, tick, stop, start, arm, report}

@@ -1,7 +1,7 @@
 -- Which site an event is of, which turns follow one another, and which turn a message was sent in.
 use Rattle.std.specs.Prelude.{◌≡◌, ℕ, Option, Some, None, List, [], ◌∷◌, slice_get, IsSome}
 use Rattle.pv_format.specs.Message.{Envelope}
-use Rattle.pv_model.specs.Events.{Event, submit, deliver, pump, lose, drop, tick, stop, start, arm, mend}
+use Rattle.pv_model.specs.Events.{Event, submit, deliver, tick, stop, start, arm, mend}
 use Rattle.pv_protocol.specs.Places.{Place, world_before}
 use Rattle.pv_protocol.specs.State.{Setup}
 use Rattle.pv_protocol.specs.World.{World, site_at}

@@ -15,12 +15,12 @@ assigns (when_else e body other next) n = assigns body n || (assigns other n || 
 
 -- the statements of one program and then those of another
 abbrev pub followed : Program → Program → Program
-followed end behind = behind
-followed (assign n e next) behind = assign n e (followed next behind)
-followed (require e next) behind = require e (followed next behind)
-followed (return e next) behind = return e (followed next behind)
-followed (when e body next) behind = when e body (followed next behind)
-followed (when_else e body other next) behind = when_else e body other (followed next behind)
+followed end after = after
+followed (assign n e next) after = assign n e (followed next after)
+followed (require e next) after = require e (followed next after)
+followed (return e next) after = return e (followed next after)
+followed (when e body next) after = when e body (followed next after)
+followed (when_else e body other next) after = when_else e body other (followed next after)
 
 -- Two lists of rows have the same items with the same values, as two orders of the same rows have.
 abbrev pub HaveSameValues : List Row → List Row → Type 0

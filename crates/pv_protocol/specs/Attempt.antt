@@ -1,5 +1,5 @@
 -- What an event comes to before any write or sync is made.
-use Rattle.std.specs.Prelude.{ℕ, Bool, false, not, ◌&&◌, ◌==◌, Option, Some, None, List, [], ◌∷◌, set, slice_get}
+use Rattle.std.specs.Prelude.{ℕ, Bool, not, ◌&&◌, ◌==◌, Option, Some, None, List, [], ◌∷◌, slice_get}
 use Rattle.pv_format.specs.Message.{Envelope}
 use Rattle.pv_format.specs.Record.{Record}
 use Rattle.pv_model.specs.Events.{Event}
@@ -24,8 +24,13 @@ pub record Attempt : Type 0 where
 abbrev pub of_step : ℕ → Step → Attempt
 of_step n step =
     record {
-      syncs = 0; appended = step.appended; running = Some step.running; sends = step.sends; lines = lines_of n step.notes;
-      placed = step.placed }
+      syncs = 0;
+      appended = step.appended;
+      running = Some step.running;
+      sends = step.sends;
+      lines = lines_of n step.notes;
+      placed = step.placed;
+    }
 
 -- a start that is refused, for the cause that this line tells; the journal was synced to be read
 abbrev pub refused_start : Line → Attempt

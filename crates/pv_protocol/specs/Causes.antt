@@ -1,5 +1,5 @@
 -- The cause of each refusal.
-use Rattle.std.specs.Prelude.{◌≡◌, ℕ, ◌+◌, ◌<◌, true, false, Some, List, ◌∷◌, ◌++◌, map, length, ◌⊎◌, All, Contains}
+use Rattle.std.specs.Prelude.{◌≡◌, ℕ, ◌+◌, ◌<◌, true, false, Some, List, ◌++◌, length, ◌⊎◌, All, Contains}
 use Rattle.std.specs.List.{list_any}
 use Rattle.pv_base.specs.Polyvalue.{AreNames}
 use Rattle.pv_base.specs.declared.grant.GrantId.{GrantId}

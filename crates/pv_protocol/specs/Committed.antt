@@ -1,5 +1,5 @@
 -- Which transactions are committed and open, which items are readable, and when a world agrees with the serial run.
-use Rattle.std.specs.Prelude.{◌≡◌, ℕ, Bool, true, false, not, ◌&&◌, ◌||◌, ◌==◌, Option, Some, None, is_some, is_none, List, [], ◌∷◌, map, slice_get, ◌⊎◌, IsTrue, if◌then◌else◌}
+use Rattle.std.specs.Prelude.{◌≡◌, ℕ, Bool, false, not, ◌&&◌, ◌||◌, ◌==◌, Option, Some, None, is_some, is_none, List, [], ◌∷◌, map, slice_get, ◌⊎◌, IsTrue, if◌then◌else◌}
 use Rattle.std.specs.List.{list_any, list_all}
 use Rattle.pv_base.specs.Assignment.{is_same_txn, commits}
 use Rattle.pv_base.specs.Catalog.{Item}
@@ -83,7 +83,7 @@ is_readable None n = false
 is_readable (Some running) n = is_none (holder_of running.grants n)
 
 -- the transactions of the order, with their programs
-abbrev pub programs_of : List Placed → List serial.Entry
+abbrev pub programs_of : List Placed → List serial.Ordered
 programs_of order = map (λ placed. record { txn = placed.txn; program = placed.program }) order
 
 -- the rows that the serial run of the world's order leaves, where the assignment says which transactions commit

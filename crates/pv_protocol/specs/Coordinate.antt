@@ -11,7 +11,7 @@ use Rattle.pv_base.specs.Polyvalue.{Case}
 use Rattle.pv_base.specs.Want.{Want}
 use Rattle.pv_format.specs.Record.{Record}
 use Rattle.pv_model.specs.Alternatives.{Read, all_cases, rows_at}
-use Rattle.pv_model.specs.Answers.{possible}
+use Rattle.pv_model.specs.PossibleAnswers.{possible}
 use Rattle.pv_model.specs.Meaning.{Reply, value_in, exec}
 use Rattle.pv_model.specs.Replies.{is_same_reply}
 use Rattle.pv_protocol.specs.Here.{Here, is_among, participants}

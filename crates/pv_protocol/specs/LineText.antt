@@ -1,12 +1,11 @@
 -- The text of lines.
-use Rattle.std.specs.Prelude.{ℕ, ℤ, Bool, true, false, Some, None, List, [], ◌∷◌, ◌++◌, flat_map, slice_get, codes, if◌then◌else◌}
+use Rattle.std.specs.Prelude.{ℕ, ℤ, List, [], ◌∷◌, ◌++◌, flat_map, slice_get, codes, if◌then◌else◌}
 use Rattle.std.specs.Fmt.{decimal, signed_decimal}
 use Rattle.std.specs.Option.{option_map_or}
 use Rattle.pv_base.specs.Catalog.{Declared}
 use Rattle.pv_base.specs.Polyvalue.{Case}
 use Rattle.pv_base.specs.Txn.{txn_text}
 use Rattle.pv_base.specs.declared.literal.Literal.{Literal}
-use Rattle.pv_base.specs.declared.txn.TxnId.{TxnId}
 use Rattle.pv_format.specs.Message.{Message, lock, granted, denied, prepare, vote_yes, vote_no, outcome_told, ask, txn_of}
 use Rattle.pv_model.specs.Meaning.{Reply, value, nothing, declined, unmet, overflow, zero_divisor}
 use Rattle.pv_protocol.specs.Lines.{Line}

@@ -1,6 +1,6 @@
 -- Turns of a run, each with what came before it and after it.
 use Rattle.std.specs.Prelude.{◌≡◌, ℕ, Some, List, ◌∷◌, ◌++◌, slice_get}
-use Rattle.pv_format.specs.Message.{Message, Envelope}
+use Rattle.pv_format.specs.Message.{Message}
 use Rattle.pv_model.specs.Events.{deliver}
 use Rattle.pv_protocol.specs.Run.{world_after}
 use Rattle.pv_protocol.specs.State.{Running}

@@ -1,5 +1,5 @@
 -- A pump: fresh messages are delivered, the least first.
-use Rattle.std.specs.Prelude.{ℕ, zero, suc, ◌+◌, ◌*◌, ◌^◌, Bool, true, false, Option, Some, None, List, [], ◌∷◌, position}
+use Rattle.std.specs.Prelude.{ℕ, zero, suc, ◌+◌, ◌^◌, Bool, true, false, Option, Some, None, List, [], ◌∷◌, position}
 use Rattle.pv_format.specs.Message.{Message, lock, granted, denied, prepare, vote_yes, vote_no, outcome_told, ask, Envelope}
 use Rattle.pv_model.specs.Events.{deliver}
 use Rattle.pv_protocol.specs.State.{Setup}

@@ -1,11 +1,11 @@
 -- What `report`, `total` and `sent` print. They change nothing.
 use Rattle.std.specs.Prelude.{ℕ, ◌+◌, ℤ, Option, Some, None, List, [], ◌∷◌, ◌++◌, map, flat_map, filter, length, nat_lt, if◌then◌else◌}
-use Rattle.pv_base.specs.Catalog.{Item, Declared}
+use Rattle.pv_base.specs.Catalog.{Item}
 use Rattle.pv_base.specs.Named.{names_of}
 use Rattle.pv_base.specs.Polyvalue.{Case}
 use Rattle.pv_base.specs.declared.txn.TxnId.{TxnId}
 use Rattle.pv_format.specs.Message.{Envelope}
-use Rattle.pv_model.specs.Answers.{sums}
+use Rattle.pv_model.specs.PossibleAnswers.{sums}
 use Rattle.pv_protocol.specs.Committed.{is_committed, is_open, holder_of}
 use Rattle.pv_protocol.specs.Lines.{Line}
 use Rattle.pv_protocol.specs.Shown.{shown}

@@ -1,6 +1,6 @@
 -- A run of a schedule, with all worlds on the way.
-use Rattle.std.specs.Prelude.{ℕ, Some, None, List, [], ◌∷◌, ◌++◌, map, flat_map}
-use Rattle.pv_model.specs.Events.{Event, pump, Schedule}
+use Rattle.std.specs.Prelude.{Some, None, List, [], ◌∷◌, ◌++◌, map, flat_map}
+use Rattle.pv_model.specs.Events.{Event, pump}
 use Rattle.pv_protocol.specs.Lines.{Line}
 use Rattle.pv_protocol.specs.Pump.{deliveries, enough}
 use Rattle.pv_protocol.specs.State.{Setup}

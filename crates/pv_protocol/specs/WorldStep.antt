@@ -1,5 +1,5 @@
 -- One event of a run: what it prints, and the world after it.
-use Rattle.std.specs.Prelude.{ℕ, List, ◌∷◌}
+use Rattle.std.specs.Prelude.{List}
 use Rattle.pv_model.specs.Events.{Event}
 use Rattle.pv_protocol.specs.Arms.{calls_of, reached, attempted}
 use Rattle.pv_protocol.specs.Attempt.{Begun, settled, attempts, begun}

@@ -1,12 +1,12 @@
 -- What `joined` owes.
 use Rattle.std.proofs.Common.{◌<◌, ◌≤◌, ◌^◌, List, inr, length, sym, ap, subst, ◌∙◌, arith}
 use Rattle.std.specs.Prelude.{slice_get}
-use Rattle.pv_base.specs.declared.faults.TheConstants.{HELD_NAMES}
+use Rattle.pv_base.specs.declared.limits.TheConstants.{HELD_NAMES}
 use Rattle.pv_base.specs.declared.txn.TxnId.{TxnId}
 use Rattle.pv_base.specs.Assignment.{assignments}
 use Rattle.pv_base.specs.CaseFaults.{too_many, overlap, gap, AreComplete}
 use Rattle.pv_base.specs.Polyvalue.{AreValues}
-use Rattle.pv_model.proofs.TableLemmas.{length-values}
+use Rattle.pv_law_polyvalues.proofs.TableLemmas.{length-values}
 use Rattle.pv_poly.specs.Meetings.{meetings_of}
 use Rattle.pv_poly.proofs.ValuesMetLemmas.{names-of-literals}
 use Rattle.pv_poly.proofs.GapLemmas.{disjoint-complete-sound}

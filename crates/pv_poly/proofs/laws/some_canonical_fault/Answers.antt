@@ -1,5 +1,5 @@
 -- The lemma, as the law of an empty function. What `==` is at the type says which values are one.
-use Rattle.pv_model.proofs.ExistenceLemmas.{IsExact}
+use Rattle.pv_law_polyvalues.proofs.ExistenceLemmas.{IsExact}
 use Rattle.pv_poly.proofs.SomeFaultLemmas as lemmas
 use Rattle.pv_poly.proofs.laws.some_canonical_fault.Goals as goal
 
