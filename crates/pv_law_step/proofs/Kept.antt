@@ -7,7 +7,7 @@ use Rattle.pv_base.specs.declared.txn.TxnId.{TxnId}
 use Rattle.pv_base.specs.Assignment.{is_same_txn, precedes}
 use Rattle.pv_law_step.proofs.Lists.{all-from, all-head, all-tail, OfSome}
 use Rattle.pv_law_step.proofs.StepCases.{if_case}
-use Rattle.pv_model.proofs.ItemLemmas.{Contains-first, Contains-behind}
+use Rattle.pv_base.proofs.ContainsLemmas.{Contains-first, Contains-behind}
 use Rattle.pv_protocol.specs.Coordinate.{with_taken}
 use Rattle.pv_protocol.specs.Keyed.{with_one, without}
 use Rattle.pv_protocol.specs.State.{Taken}

@@ -26,9 +26,9 @@ use Rattle.pv_law_step.proofs.NameLists.{names-ascend, names-listed, listed-name
 use Rattle.pv_law_step.proofs.ValueRanges.{names-in-range, number-fits, polyvalue-in-range, shown-in-range}
 use Rattle.pv_law_step.proofs.WantRanges.{wants-in-range, exclusive-in-range, part-in-range}
 use Rattle.pv_law_step.proofs.WidthLemmas.{narrow-now}
-use Rattle.pv_model.proofs.AscendingLemmas.{fewer-ascending}
-use Rattle.pv_model.proofs.ItemLemmas.{Contains-first, Contains-behind, Contains-nil, Contains-cases}
-use Rattle.pv_model.proofs.MapLemmas.{Contains-unmap, map-map}
+use Rattle.pv_law_polyvalues.proofs.AscendingLemmas.{fewer-ascending}
+use Rattle.pv_base.proofs.ContainsLemmas.{Contains-first, Contains-behind, Contains-nil, Contains-cases}
+use Rattle.pv_base.proofs.MapLemmas.{Contains-unmap, map-map}
 use Rattle.pv_model.specs.Alternatives.{Read, all_cases, rows_at, number_at}
 use Rattle.pv_model.specs.Meaning.{Row, exec, value_in}
 use Rattle.pv_model.specs.Plan.{wants_of, participants_of}

@@ -29,8 +29,8 @@ use Rattle.pv_law_step.specs.GrantCases as of_grants
 use Rattle.pv_law_step.specs.LockCases as of_locks
 use Rattle.pv_law_step.specs.OutcomeCases as of_outcomes
 use Rattle.pv_law_step.specs.VoteCases as of_votes
-use Rattle.pv_model.proofs.ItemLemmas.{Contains-nil}
-use Rattle.pv_model.proofs.MapLemmas.{Contains-unmap}
+use Rattle.pv_base.proofs.ContainsLemmas.{Contains-nil}
+use Rattle.pv_base.proofs.MapLemmas.{Contains-unmap}
 use Rattle.pv_model.specs.Alternatives.{Read}
 use Rattle.pv_model.specs.Check.{Part}
 use Rattle.pv_model.specs.Plan.{part_of, plan_of, participants_of}
