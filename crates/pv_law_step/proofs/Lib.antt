@@ -6,6 +6,7 @@ pub mod Kept
 pub mod KeyedLemmas
 pub mod Lists
 pub mod NameLists
+pub mod OrderLemmas
 pub mod OutcomeLemmas
 pub mod ShownLemmas
 pub mod SoundLemmas

@@ -14,7 +14,7 @@ pub use cases::{
     request_cases, start_cases, yes_cases,
 };
 pub use examples::{alone_it_commits, in_doubt_it_asks};
-pub use keyed::{one_less_is_gone, one_more_is_found};
+pub use keyed::{memory_stays_in_order, one_less_is_gone, one_more_is_found};
 pub use ranges::{
     plans_are_in_range, programs_stay_in_range, sends_are_in_range, shown_values_are_in_range,
     starts_are_sound, steps_stay_sound,
