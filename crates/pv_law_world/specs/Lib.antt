@@ -1,4 +1,4 @@
 pub mod Lines
 pub mod Pumps
 pub mod Schedules
-pub mod Turns
+pub mod Transitions

@@ -12,9 +12,9 @@ pub use examples::{
 };
 pub use pumps::{messages_are_marked, pump_ends};
 pub use runs::{
-    delivered_was_sent, faults_come_anywhere, records_grow, run_is_its_turns,
+    delivered_was_sent, faults_come_anywhere, records_grow, run_is_its_transitions,
     schedules_are_well_formed,
 };
 pub use steps::{
-    down_sites_are_silent, other_sites_stay, reports_change_nothing, turn_adds_records,
+    down_sites_are_silent, other_sites_stay, reports_change_nothing, transition_adds_records,
 };

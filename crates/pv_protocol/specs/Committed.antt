@@ -8,7 +8,7 @@ use Rattle.pv_base.specs.declared.grant.GrantId.{GrantId}
 use Rattle.pv_base.specs.declared.txn.TxnId.{TxnId}
 use Rattle.pv_format.specs.Record.{Record, outcome_known}
 use Rattle.pv_model.specs.Meaning.{Row, value_in}
-use Rattle.pv_model.specs.Run.{declared_rows}
+use Rattle.pv_model.specs.Serial.{declared_rows}
 use Rattle.pv_model.specs.Serial as serial
 use Rattle.pv_protocol.specs.Keyed.{of_txn}
 use Rattle.pv_protocol.specs.Records.{is_prepared}
