@@ -69,3 +69,11 @@ fault_in_prepare mode = transfer ∷ (pumped 5 ∷ (arm 1 3 mode false ∷ (deli
 -- The request for locks at site 1 is lost.
 abbrev pub lock_lost : List Event
 lock_lost = transfer ∷ (drop 1 ∷ (pump_all ∷ (three_ticks 0 ++ report ∷ [])))
+
+-- one item at one site, with journals of at most so many bytes
+abbrev pub short_of_room : ℕ → Setup
+short_of_room bytes = record (alone 100) { catalog = record { sites = 1; journal = bytes; items = (alone 100).catalog.items } }
+
+-- A site stops and starts, twice.
+abbrev pub two_restarts : List Event
+two_restarts = stop 0 ∷ (start 0 ∷ (stop 0 ∷ (start 0 ∷ [])))

@@ -7,7 +7,7 @@ mod runs;
 mod steps;
 
 pub use examples::{
-    conflict_refuses, fault_in_promise, restart_loses_grants, silence_expires, site_alone_commits,
+    conflict_refuses, fault_in_promise, limit_is_passed, no_room_refuses, no_room_to_start, restart_loses_grants, silence_expires, site_alone_commits,
     stop_in_commit_record, transfer_commits, unheard_outcome_leaves_doubt,
 };
 pub use pumps::{messages_are_marked, pump_ends};
