@@ -1,11 +1,16 @@
 pub mod Appended
 pub mod ComputedLemmas
 pub mod FitLemmas
+pub mod JournalLemmas
+pub mod Kept
 pub mod Lists
 pub mod NameLists
 pub mod OutcomeLemmas
 pub mod ShownLemmas
+pub mod SoundLemmas
+pub mod SoundSteps
 pub mod StepCases
 pub mod ValueRanges
 pub mod WantRanges
 pub mod WidthLemmas
+pub mod WidthSteps

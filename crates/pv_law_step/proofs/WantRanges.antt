@@ -110,7 +110,8 @@ module _ (program : Program) (site : ℕ) where
       record {
         ascending = is.ascending;
         each = all-from (λ n. n < MAX_ITEMS) (wanted 0 catalog.items) (λ n h. omega (arith, (is.each n h).most, small));
-        few = omega (arith, fewer-numbers can.items (wanted 0 catalog.items) is.ascending can.named.ascending (λ n h. can.named.whole n (is.each n h).named), can.few);
+        few = omega (arith, fewer-numbers can.runnable.items (wanted 0 catalog.items) is.ascending can.runnable.are.ascending
+      (λ n h. can.runnable.are.whole n (is.each n h).named), can.runnable.few);
       }
 
 -- Participants.

@@ -40,7 +40,7 @@ ends (x ∷ xs) r (y ∷ ys) p zs e =
     (ends xs r ys p zs rest)
 
 -- The newest write, with one more record.
-newest-more : (item : ℕ) (a : List TxnId) (front : List Record) (more : Record) (value : ℤ)
+pub newest-more : (item : ℕ) (a : List TxnId) (front : List Record) (more : Record) (value : ℤ)
     → newest item a value (front ++ more ∷ []) ≡ value_after item a (newest item a value front) more
 newest-more item a [] more value = refl
 newest-more item a (first ∷ front) more value = newest-more item a front more (value_after item a value first)

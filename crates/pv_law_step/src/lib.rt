@@ -13,10 +13,14 @@ pub use cases::{
     request_cases, yes_cases,
 };
 pub use examples::{alone_it_commits, in_doubt_it_asks};
-pub use ranges::{plans_are_in_range, programs_stay_in_range, shown_values_are_in_range};
-pub use steps::{appends_what_it_may, numbers_rise};
+pub use ranges::{
+    plans_are_in_range, programs_stay_in_range, sends_are_in_range, shown_values_are_in_range,
+    steps_stay_sound,
+};
+pub use steps::{appends_what_it_may, few_inputs_append, numbers_rise, only_grants_place};
 pub use values::{
-    names_are_listed, new_values_are_computed, replies_are_computed, shown_has_the_value,
-    shown_is_canonical, shown_names_no_known,
+    epochs_change_no_value, names_are_listed, new_values_are_computed, outcomes_settle,
+    promises_are_choices, replies_are_computed, shown_has_the_value, shown_is_canonical,
+    shown_names_no_known,
 };
 pub use width::{no_records_are_narrow, starts_keep_width, steps_keep_width};

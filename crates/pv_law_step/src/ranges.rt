@@ -11,8 +11,11 @@ ghost use Rattle.pv_format.specs.Record.{Record};
 ghost use Rattle.pv_model.specs.Meaning.{Row, exec};
 ghost use Rattle.pv_model.specs.Plan.{participants_of, wants_of};
 ghost use Rattle.pv_model.specs.Syntax.{Program};
+ghost use Rattle.pv_protocol.specs.Here.{Here};
 ghost use Rattle.pv_protocol.specs.Shown.{shown};
-ghost use Rattle.pv_protocol.specs.Sound.{CanRun, has_small_numbers};
+ghost use Rattle.pv_protocol.specs.Sound.{CanRun, IsInputInRange, IsSentInRange, IsSound, has_small_numbers};
+ghost use Rattle.pv_protocol.specs.State.{Input};
+ghost use Rattle.pv_protocol.specs.Step.{after_step, step_on};
 
 /// A program of numbers of 64 bits leaves values of 64 bits where it finds such values.
 pub fn programs_stay_in_range()
@@ -31,4 +34,14 @@ pub fn plans_are_in_range()
     ensures { (catalog : Declared) (program : Program) (site : ℕ) → length catalog.items ≤ MAX_ITEMS →
         All (λ item. item.site < catalog.sites) catalog.items → CanRun catalog program → Contains (participants_of program catalog.items) site →
         (site < catalog.sites) × AreWantsInRange (wants_of program catalog.items site) }
+{}
+
+/// What a site sends is in range where what it holds and what it is given is.
+pub fn sends_are_in_range()
+    ensures { (here : Here) (input : Input) → IsSound here → IsInputInRange here input → All (IsSentInRange here) (step_on here input).sends }
+{}
+
+/// What a site holds stays in range where what it is given is.
+pub fn steps_stay_sound()
+    ensures { (here : Here) (input : Input) → IsSound here → IsInputInRange here input → IsSound (after_step here (step_on here input)) }
 {}

@@ -7,12 +7,12 @@ use Rattle.pv_base.specs.declared.limits.TheConstants.{MAX_SITES, MAX_ITEMS, MAX
 use Rattle.pv_format.specs.Message.{Envelope}
 use Rattle.pv_format.specs.Range.{IsTxnInRange, IsGrantInRange, AreReadsInRange, AreWantsInRange, IsEnvelopeInRange, IsRecordInRange}
 use Rattle.pv_format.specs.Record.{Record}
-use Rattle.pv_model.specs.Check.{AreItems}
 use Rattle.pv_model.specs.Meaning.{fits_i64}
 use Rattle.pv_model.specs.Syntax.{Expr, number, item, minus, negation, two, Program, end, assign, require, return, when, when_else}
 use Rattle.pv_protocol.specs.Here.{Here}
 use Rattle.pv_protocol.specs.Records.{journal_bytes}
 use Rattle.pv_protocol.specs.State.{Setup, Grant, Taken, Entry, Running, Input, submit, receive, tick, Outgoing}
+use Rattle.pv_protocol.specs.WellFormed.{IsRunnable}
 use Rattle.pv_protocol.specs.Width.{IsNarrow}
 
 -- Each number that stands in the expression has 64 bits.
@@ -35,11 +35,7 @@ has_small_numbers (when_else e body other next) =
 
 -- The program can run: it names some items, all of the catalog and not too many, and its numbers have 64 bits.
 pub record CanRun (catalog : Declared) (program : Program) : Type 0 where
-  pub items : List ℕ
-  pub named : AreItems program items
-  pub some : 1 ≤ length items
-  pub few : length items ≤ MAX_PROGRAM_ITEMS
-  pub known : All (λ n. n < length catalog.items) items
+  pub runnable : IsRunnable catalog program
   pub numbers : IsTrue (has_small_numbers program)
 
 -- The catalog and the limits are in range.

@@ -35,3 +35,7 @@ site_step setup me records running input = step_on (record { me = me; setup = se
 -- the records after a step
 abbrev pub records_after : List Record → Step → List Record
 records_after records step = records ++ option_to_list step.appended
+
+-- the site after a step
+abbrev pub after_step : Here → Step → Here
+after_step here step = record here { records = records_after here.records step; running = step.running }
