@@ -8,8 +8,8 @@ use Rattle.pv_base.specs.Catalog.{Item}
 use Rattle.pv_base.specs.declared.txn.TxnId.{TxnId}
 use Rattle.pv_format.specs.Message.{Envelope}
 use Rattle.pv_format.specs.Record.{Record}
-use Rattle.pv_law_world.proofs.TurnLemmas.{run-turns}
-use Rattle.pv_law_world.specs.Turns.{AreTurns, one_more}
+use Rattle.pv_law_world.proofs.TransitionLemmas.{run-transitions}
+use Rattle.pv_law_world.specs.Transitions.{AreTransitions, one_more}
 use Rattle.pv_model.specs.Events.{Event}
 use Rattle.pv_protocol.specs.Anywhere.{MayEnd, whole, without, with_record, MayCome, at_once, by_attempt, disarmed_site, disarmed, MayFollow, IsAnyRun, ends, goes_on, without_arms}
 use Rattle.pv_protocol.specs.Arms.{Reached, waits, fires, reached, calls_of, is_kept, completed, broken, broken_line, attempted}
@@ -22,7 +22,7 @@ use Rattle.pv_protocol.specs.Start.{site_start}
 use Rattle.pv_protocol.specs.State.{Setup, Running, Site, Arm, Input, submit, receive, tick, TakenGrant, Placed}
 use Rattle.pv_protocol.specs.Step.{site_step}
 use Rattle.pv_protocol.specs.World.{World, no_site, first_site, site_at, with_site, with_done, opening}
-use Rattle.pv_protocol.specs.WorldStep.{Turn, ended, turn_of}
+use Rattle.pv_protocol.specs.WorldStep.{Transition, ended, transition_of}
 
 pub site-disarmed : (world : World) (n : ℕ) → site_at (disarmed world) n ≡ disarmed_site (site_at world n)
 site-disarmed world n = lists.get_or-map disarmed_site world.sites n no_site
@@ -218,19 +218,19 @@ ended-possible b other (both_settle lines after left same) = record { left = lef
 ended-possible b other (both_attempt before n attempt) =
     reached-possible before n attempt (reached (calls_of attempt) (site_at before n).arm) refl
 
-turn-may : (setup : Setup) (world : World) (event : Event) → MayFollow setup (disarmed world) (without_arms (turn_of setup world event))
-unfolding turn_of
-turn-may setup world event =
+transition-may : (setup : Setup) (world : World) (event : Event) → MayFollow setup (disarmed world) (without_arms (transition_of setup world event))
+unfolding transition_of
+transition-may setup world event =
     let possible : IsPossible (begun setup (disarmed world) event) (ended (begun setup world event)).0 (ended (begun setup world event)).1 =
     ended-possible (begun setup world event) (begun setup (disarmed world) event) (begun-same setup world event) in
     record { left = possible.left; comes = possible.comes; after = possible.after }
 
-turns-may : (setup : Setup) (world : World) (turns : List Turn) → AreTurns setup world turns → IsAnyRun setup (disarmed world) (map without_arms turns)
-turns-may setup world [] are = ends (disarmed world)
-turns-may setup world (turn ∷ turns) (one_more world' turn' turns' is rest) =
-    goes_on (disarmed world) (without_arms turn) (map without_arms turns)
-    (subst (λ (t : Turn). MayFollow setup (disarmed world) (without_arms t)) (sym is) (turn-may setup world turn.event))
-    (turns-may setup turn.world turns rest)
+transitions-may : (setup : Setup) (world : World) (transitions : List Transition) → AreTransitions setup world transitions → IsAnyRun setup (disarmed world) (map without_arms transitions)
+transitions-may setup world [] are = ends (disarmed world)
+transitions-may setup world (transition ∷ transitions) (one_more world' transition' transitions' is rest) =
+    goes_on (disarmed world) (without_arms transition) (map without_arms transitions)
+    (subst (λ (t : Transition). MayFollow setup (disarmed world) (without_arms t)) (sym is) (transition-may setup world transition.event))
+    (transitions-may setup transition.world transitions rest)
 
 opening-disarmed : (setup : Setup) → disarmed (opening setup) ≡ opening setup
 opening-disarmed setup = ap (λ (sites : List Site). record { sites = sites; sent = []; fresh = []; order = [] }) (all-disarmed setup.catalog.sites)
@@ -242,4 +242,4 @@ opening-disarmed setup = ap (λ (sites : List Site). record { sites = sites; sen
 pub run-may : (setup : Setup) (events : List Event) → IsAnyRun setup (opening setup) (map without_arms (run setup (opening setup) events))
 run-may setup events =
     subst (λ (first : World). IsAnyRun setup first (map without_arms (run setup (opening setup) events))) (opening-disarmed setup)
-    (turns-may setup (opening setup) (run setup (opening setup) events) (run-turns setup (opening setup) events))
+    (transitions-may setup (opening setup) (run setup (opening setup) events) (run-transitions setup (opening setup) events))

@@ -13,7 +13,7 @@ use Rattle.pv_protocol.specs.Lines.{Line}
 use Rattle.pv_protocol.specs.Start.{Started, starts, too_long, no_epoch, site_start}
 use Rattle.pv_protocol.specs.State.{Setup, Running, Site, Input, submit, receive, tick, Placed}
 use Rattle.pv_protocol.specs.World.{World, no_site, site_at, with_site, with_done, from_site}
-use Rattle.pv_protocol.specs.WorldStep.{ended, turn_of}
+use Rattle.pv_protocol.specs.WorldStep.{ended, transition_of}
 
 abbrev pub Extends : {A : Type 0} → List A → List A → Type 0
 Extends {A} old new = (more : List A) × (new ≡ old ++ more)
@@ -170,7 +170,7 @@ ended-grown world b (settles lines after keeps) = keeps-grown keeps
 ended-grown world b (goes_on before n attempt sites messages order marks audible) =
     attempted-grown world before n attempt sites messages order marks audible (reached (calls_of attempt) (site_at before n).arm)
 
--- A turn's world grows out of the one before it.
-pub turn-grown : (setup : Setup) (world : World) (event : Event) → Grown world (turn_of setup world event).world
-unfolding turn_of
-turn-grown setup world event = ended-grown world (begun setup world event) (begun-leaves setup world event)
+-- A transition's world grows out of the one before it.
+pub transition-grown : (setup : Setup) (world : World) (event : Event) → Grown world (transition_of setup world event).world
+unfolding transition_of
+transition-grown setup world event = ended-grown world (begun setup world event) (begun-leaves setup world event)

@@ -3,5 +3,5 @@ pub mod GrowthLemmas
 pub mod ParticipantLemmas
 pub mod PumpLemmas
 pub mod ScheduleLemmas
-pub mod TurnLemmas
+pub mod TransitionLemmas
 pub mod WeightLemmas

@@ -16,7 +16,7 @@ use Rattle.pv_protocol.specs.Run.{world_after}
 use Rattle.pv_protocol.specs.State.{Setup, Running, receive, Outgoing}
 use Rattle.pv_protocol.specs.Step.{site_step}
 use Rattle.pv_protocol.specs.World.{World, site_at, with_done, from_site}
-use Rattle.pv_protocol.specs.WorldStep.{Turn, ended, turn_of}
+use Rattle.pv_protocol.specs.WorldStep.{Transition, ended, transition_of}
 
 -- an envelope that isn't there
 abbrev no_envelope : Envelope
@@ -126,8 +126,8 @@ module _ (setup : Setup) (few : HasFewSites setup.catalog) (world : World) (mark
       (subst (λ (count : ℕ). n < count) (sym marked) place.0, place.1)
 
   -- A delivery of the least fresh message leaves less to deliver.
-  delivery-lighter : (n : ℕ) → next_fresh world ≡ Some n → IsLighter (enough world) (turn_of setup world (deliver n)).world
-  unfolding turn_of begun
+  delivery-lighter : (n : ℕ) → next_fresh world ≡ Some n → IsLighter (enough world) (transition_of setup world (deliver n)).world
+  unfolding transition_of begun
   delivery-lighter n next =
       let place = next-sent n next in
       let found : slice_get world.sent n ≡ Some (get_or world.sent n no_envelope) = slice_get-get_or world.sent n no_envelope place.0 in
@@ -138,8 +138,8 @@ module _ (setup : Setup) (few : HasFewSites setup.catalog) (world : World) (mark
   -- Where a message is fresh there is something to deliver.
   next-some : (n : ℕ) → next_fresh world ≡ Some n → 0 < enough world
   next-some n next =
-      let lighter : IsLighter (enough world) (turn_of setup world (deliver n)).world = delivery-lighter n next in
-      let less : enough (turn_of setup world (deliver n)).world < enough world = lighter.less in omega arith
+      let lighter : IsLighter (enough world) (transition_of setup world (deliver n)).world = delivery-lighter n next in
+      let less : enough (transition_of setup world (deliver n)).world < enough world = lighter.less in omega arith
 
 -- ---- all deliveries
 
@@ -150,8 +150,8 @@ module _ (setup : Setup) (few : HasFewSites setup.catalog) where
   none-fresh world marked nothing (Some n) is =
       let some : 0 < enough world = next-some setup few world marked n is in absurd (omega arith)
 
-  abbrev Going : ℕ → World → Option ℕ → List Turn
-  Going fuel world next = with_fresh next (λ n. let turn = turn_of setup world (deliver n) in turn ∷ deliveries fuel setup turn.world)
+  abbrev Going : ℕ → World → Option ℕ → List Transition
+  Going fuel world next = with_fresh next (λ n. let transition = transition_of setup world (deliver n) in transition ∷ deliveries fuel setup transition.world)
 
   -- no delivery where no message is fresh
   none-delivered : (more : ℕ) (world : World) → next_fresh world ≡ None → deliveries more setup world ≡ []
@@ -164,10 +164,10 @@ module _ (setup : Setup) (few : HasFewSites setup.catalog) where
       → (next : Option ℕ) → next_fresh world ≡ next → Going count world next ≡ Going fuel world next
   going-same fuel count world marked least rest None is = refl
   going-same fuel count world marked least rest (Some n) is =
-      let lighter : IsLighter (enough world) (turn_of setup world (deliver n)).world = delivery-lighter setup few world marked n is in
-      let less : enough (turn_of setup world (deliver n)).world < enough world = lighter.less in
-      ap (λ (turns : List Turn). turn_of setup world (deliver n) ∷ turns)
-      (rest (turn_of setup world (deliver n)).world lighter.marked (omega arith))
+      let lighter : IsLighter (enough world) (transition_of setup world (deliver n)).world = delivery-lighter setup few world marked n is in
+      let less : enough (transition_of setup world (deliver n)).world < enough world = lighter.less in
+      ap (λ (transitions : List Transition). transition_of setup world (deliver n) ∷ transitions)
+      (rest (transition_of setup world (deliver n)).world lighter.marked (omega arith))
 
   pub more-fuel : (fuel more : ℕ) (world : World) → AreMarked world → enough world ≤ fuel → deliveries (fuel + more) setup world ≡ deliveries fuel setup world
   more-fuel zero more world marked least =
@@ -183,9 +183,9 @@ module _ (setup : Setup) (few : HasFewSites setup.catalog) where
       → (next : Option ℕ) → next_fresh world ≡ next → next_fresh (world_after world (Going fuel world next)) ≡ None
   going-idle fuel world marked least rest None is = is
   going-idle fuel world marked least rest (Some n) is =
-      let lighter : IsLighter (enough world) (turn_of setup world (deliver n)).world = delivery-lighter setup few world marked n is in
-      let less : enough (turn_of setup world (deliver n)).world < enough world = lighter.less in
-      rest (turn_of setup world (deliver n)).world lighter.marked (omega arith)
+      let lighter : IsLighter (enough world) (transition_of setup world (deliver n)).world = delivery-lighter setup few world marked n is in
+      let less : enough (transition_of setup world (deliver n)).world < enough world = lighter.less in
+      rest (transition_of setup world (deliver n)).world lighter.marked (omega arith)
 
   pub none-left : (fuel : ℕ) (world : World) → AreMarked world → enough world ≤ fuel → next_fresh (world_after world (deliveries fuel setup world)) ≡ None
   none-left zero world marked least = none-fresh world marked least (next_fresh world) refl

@@ -1,4 +1,5 @@
 pub mod Lines
 pub mod Pumps
 pub mod Schedules
-pub mod Turns
+pub mod Spellings
+pub mod Transitions

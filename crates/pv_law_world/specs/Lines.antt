@@ -24,20 +24,20 @@ sure value = record { when = []; value = pos value } ∷ []
 abbrev pub either : ℕ → ℕ → List (Case ℤ)
 either old new =
     record { when = record { txn = t; commits = false } ∷ []; value = pos old }
-    ∷ (record { when = record { txn = t; commits = true } ∷ []; value = pos new } ∷ [])
+    ∷ record { when = record { txn = t; commits = true } ∷ []; value = pos new } ∷ []
 
 -- a report: the order, the committed, the open, and the items
 abbrev pub report_of : List TxnId → List TxnId → List TxnId → List Line → List Line
-report_of order committed open_ones items = Line.order order ∷ (Line.committed committed ∷ (Line.open_ones open_ones ∷ (items ++ Line.end ∷ [])))
+report_of order committed open_ones items = Line.order order ∷ Line.committed committed ∷ Line.open_ones open_ones ∷ items ++ Line.end ∷ []
 
 -- the values of both items
 abbrev pub values : List (Case ℤ) → List (Case ℤ) → List Line
-values a b = Line.item 0 a ∷ (Line.item 1 b ∷ [])
+values a b = Line.item 0 a ∷ Line.item 1 b ∷ []
 
 -- what a report says of the first transaction after a stop in its commit record: it has committed, or it hasn't
 abbrev pub report_after_stop : Bool → List Line
-report_after_stop true = report_of (t ∷ []) (t ∷ []) [] (Line.item 0 (sure 90) ∷ (Line.item_locked 1 t ∷ []))
-report_after_stop false = report_of (t ∷ []) [] [] (Line.item 0 (either 100 90) ∷ (Line.item_locked 1 t ∷ []))
+report_after_stop true = report_of (t ∷ []) (t ∷ []) [] (Line.item 0 (sure 90) ∷ Line.item_locked 1 t ∷ [])
+report_after_stop false = report_of (t ∷ []) [] [] (Line.item 0 (either 100 90) ∷ Line.item_locked 1 t ∷ [])
 
 -- the same, when every site has heard the outcome
 abbrev pub report_after_outcome : Bool → List Line

@@ -16,7 +16,7 @@ alone value = setup_of 1 (record { name = codes "a"; site = 0; value = pos value
 
 -- `item a 0 100` and `item b 1 50` at two sites
 abbrev pub bank : Setup
-bank = setup_of 2 (record { name = codes "a"; site = 0; value = pos 100 } ∷ (record { name = codes "b"; site = 1; value = pos 50 } ∷ []))
+bank = setup_of 2 (record { name = codes "a"; site = 0; value = pos 100 } ∷ record { name = codes "b"; site = 1; value = pos 50 } ∷ [])
 
 -- an item gets its value and a number more or less, and then the rest of the program runs
 abbrev pub changed : Op → ℕ → ℕ → Program → Program
@@ -43,29 +43,37 @@ pumped most = pump (Some most)
 
 -- the site ticks three times, which ends what waits there
 abbrev pub three_ticks : ℕ → List Event
-three_ticks site = tick site ∷ (tick site ∷ (tick site ∷ []))
+three_ticks site = tick site ∷ tick site ∷ tick site ∷ []
 
 -- Site 1 doesn't hear of the outcome, and its question for it is lost.
 abbrev pub outcome_unheard : List Event
-outcome_unheard = transfer ∷ (pumped 8 ∷ (lose 8 ∷ (three_ticks 1 ++ lose 9 ∷ (report ∷ []))))
+outcome_unheard = transfer ∷ pumped 8 ∷ lose 8 ∷ three_ticks 1 ++ lose 9 ∷ report ∷ []
 
 -- Site 1 restarts while it holds a grant, takes the request for locks again, and then the vote that was asked for under the old grant.
 abbrev pub old_prepare : List Event
 old_prepare =
-    transfer ∷ (pumped 4 ∷ (stop 1 ∷ (start 1 ∷ (deliver 1 ∷ (deliver 5 ∷ (deliver 7 ∷ (pump_all ∷ (report ∷ []))))))))
+    transfer ∷ pumped 4 ∷ stop 1 ∷ start 1 ∷ deliver 1 ∷ deliver 5 ∷ deliver 7 ∷ pump_all ∷ report ∷ []
 
 -- Site 0 stops in this call of the append of its commit record, with what was written kept or not, and is started again.
 abbrev pub stop_in_commit : ℕ → Mode → List Event
-stop_in_commit call mode = transfer ∷ (pumped 7 ∷ (arm 0 call mode true ∷ (deliver 7 ∷ (start 0 ∷ (report ∷ [])))))
+stop_in_commit call mode = transfer ∷ pumped 7 ∷ arm 0 call mode true ∷ deliver 7 ∷ start 0 ∷ report ∷ []
 
 -- Then each site comes to ask for the outcome, and hears it.
 abbrev pub outcome_asked : List Event
-outcome_asked = tick 0 ∷ (three_ticks 1 ++ pump_all ∷ (report ∷ []))
+outcome_asked = tick 0 ∷ three_ticks 1 ++ pump_all ∷ report ∷ []
 
 -- The third call of site 1 fails while it records its promise, with what was written kept or not, and it is started again.
 abbrev pub fault_in_prepare : Mode → List Event
-fault_in_prepare mode = transfer ∷ (pumped 5 ∷ (arm 1 3 mode false ∷ (deliver 5 ∷ (start 1 ∷ (report ∷ [])))))
+fault_in_prepare mode = transfer ∷ pumped 5 ∷ arm 1 3 mode false ∷ deliver 5 ∷ start 1 ∷ report ∷ []
 
 -- The request for locks at site 1 is lost.
 abbrev pub lock_lost : List Event
-lock_lost = transfer ∷ (drop 1 ∷ (pump_all ∷ (three_ticks 0 ++ report ∷ [])))
+lock_lost = transfer ∷ drop 1 ∷ pump_all ∷ three_ticks 0 ++ report ∷ []
+
+-- one item at one site, with journals of at most so many bytes
+abbrev pub short_of_room : ℕ → Setup
+short_of_room bytes = record (alone 100) { catalog = record { sites = 1; journal = bytes; items = (alone 100).catalog.items } }
+
+-- A site stops and starts, twice.
+abbrev pub two_restarts : List Event
+two_restarts = stop 0 ∷ start 0 ∷ stop 0 ∷ start 0 ∷ []

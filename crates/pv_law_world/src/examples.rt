@@ -1,15 +1,17 @@
 // What some schedules print, found by computing.
-#![tactic(auto, unfolding(pv_base::specs::Canonical::canonical_cases, pv_model::specs::Meaning::exec, pv_model::specs::Plan::plan_of, pv_protocol::specs::Attempt::begun, pv_protocol::specs::Coordinate::new_value, pv_protocol::specs::Coordinate::reply_value, pv_protocol::specs::Granted::on_denied, pv_protocol::specs::Granted::on_granted, pv_protocol::specs::Lock::on_lock, pv_protocol::specs::Lock::on_submit, pv_protocol::specs::Outcome::is_named_here, pv_protocol::specs::Outcome::named_here, pv_protocol::specs::Outcome::on_ask, pv_protocol::specs::Outcome::on_outcome, pv_protocol::specs::Records::journal_bytes, pv_protocol::specs::Report::report_of, pv_protocol::specs::Run::printed, pv_protocol::specs::Run::turns_of, pv_protocol::specs::Shown::shown_within, pv_protocol::specs::Start::site_start, pv_protocol::specs::Tick::on_tick, pv_protocol::specs::Vote::on_no, pv_protocol::specs::Vote::on_prepare, pv_protocol::specs::Vote::on_yes, pv_protocol::specs::WorldStep::turn_of))]
+#![tactic(auto, unfolding(pv_base::specs::Canonical::canonical_cases, pv_model::specs::Meaning::exec, pv_model::specs::Plan::plan_of, pv_protocol::specs::Attempt::begun, pv_protocol::specs::Coordinate::new_value, pv_protocol::specs::Coordinate::reply_value, pv_protocol::specs::Granted::on_denied, pv_protocol::specs::Granted::on_granted, pv_protocol::specs::Limit::over_limit, pv_protocol::specs::Lock::on_lock, pv_protocol::specs::Lock::on_submit, pv_protocol::specs::Outcome::is_named_here, pv_protocol::specs::Outcome::named_here, pv_protocol::specs::Outcome::on_ask, pv_protocol::specs::Outcome::on_outcome, pv_protocol::specs::Records::journal_bytes, pv_protocol::specs::Report::report_of, pv_protocol::specs::Run::printed, pv_protocol::specs::Run::transitions_of, pv_protocol::specs::Shown::shown_within, pv_protocol::specs::Start::site_start, pv_protocol::specs::Tick::on_tick, pv_protocol::specs::Vote::on_no, pv_protocol::specs::Vote::on_prepare, pv_protocol::specs::Vote::on_yes, pv_protocol::specs::WorldStep::transition_of))]
 
-ghost use Rattle.std.specs.Prelude.{◌≡◌, [], ◌∷◌, ◌++◌, false, true};
+ghost use Rattle.std.specs.Prelude.{◌≡◌, [], ◌∷◌, ◌++◌, false, true, Some};
 ghost use Rattle.pv_base.specs.declared.mode.Mode.TheVariants.{Kept, Lost, Torn};
 ghost use Rattle.pv_law_world.specs.Lines.{either, report_of, stopped_in_commit, sure, t, u, values};
-ghost use Rattle.pv_law_world.specs.Schedules.{alone, bank, fault_in_prepare, lock_lost, old_prepare, one_more, outcome_asked, outcome_unheard, pump_all, stop_in_commit, transfer, two_more};
+ghost use Rattle.pv_law_world.specs.Schedules.{alone, bank, fault_in_prepare, lock_lost, old_prepare, one_more, outcome_asked, outcome_unheard, pump_all, short_of_room, stop_in_commit, transfer, two_more, two_restarts};
 ghost use Rattle.pv_model.specs.Events.{report};
 ghost use Rattle.pv_model.specs.Meaning.{nothing};
+ghost use Rattle.pv_protocol.specs.Limit.{run_within};
 ghost use Rattle.pv_protocol.specs.Lines.{Line};
 ghost use Rattle.pv_protocol.specs.Run.{printed};
 ghost use Rattle.pv_protocol.specs.State as state;
+ghost use Rattle.pv_protocol.specs.World.{opening};
 
 /// A transaction at one site commits.
 pub fn site_alone_commits()
@@ -69,4 +71,20 @@ pub fn fault_in_promise()
 pub fn silence_expires()
     ensures { printed bank lock_lost ≡
         Line.txn t ∷ Line.refuse t (state.expired 1) ∷ report_of [] [] [] (values (sure 100) (sure 50)) }
+{}
+
+/// A coordinator without room for the commit record refuses, and then has no room for the outcome either.
+pub fn no_room_refuses()
+    ensures { printed (short_of_room 64) (one_more ∷ pump_all ∷ report ∷ []) ≡
+        Line.txn t ∷ Line.refuse t (state.journal_full 0 66) ∷ Line.full 0 66 ∷ report_of (t ∷ []) [] [] (Line.item_locked 0 t ∷ []) }
+{}
+
+/// A site without room for its new epoch stays down.
+pub fn no_room_to_start()
+    ensures { printed (short_of_room 32) two_restarts ≡ Line.stopped 0 ∷ Line.started 0 2 ∷ Line.stopped 0 ∷ Line.full 0 39 ∷ [] }
+{}
+
+/// The total that passes the limit on sent bytes is that of the first message with which it does; its event prints nothing.
+pub fn limit_is_passed()
+    ensures { run_within 30 (alone 100) (opening (alone 100)) (one_more ∷ pump_all ∷ report ∷ []) ≡ record { lines = Line.txn t ∷ []; over = Some 54 } }
 {}

@@ -2,7 +2,7 @@
 ghost use Rattle.std.specs.Prelude.{◌≡◌, ℕ, Some, List, ◌++◌, map, slice_get, All};
 ghost use Rattle.pv_format.specs.Message.{Envelope};
 ghost use Rattle.pv_format.specs.Record.{Record};
-ghost use Rattle.pv_law_world.specs.Turns.{AreTurns, WasSent};
+ghost use Rattle.pv_law_world.specs.Transitions.{AreTransitions, WasSent};
 ghost use Rattle.pv_model.specs.Events.{Event, Schedule};
 ghost use Rattle.pv_model.specs.Schedule.{IsSchedule};
 ghost use Rattle.pv_protocol.specs.Anywhere.{IsAnyRun, without_arms};
@@ -12,9 +12,9 @@ ghost use Rattle.pv_protocol.specs.State.{Setup};
 ghost use Rattle.pv_protocol.specs.WellFormed.{IsWellFormed};
 ghost use Rattle.pv_protocol.specs.World.{World, opening, site_at};
 
-/// The turns of a run are what its events do, one after another.
-pub fn run_is_its_turns()
-    ensures { (setup : Setup) (world : World) (events : List Event) → AreTurns setup world (run setup world events) }
+/// The transitions of a run are what its events do, one after another.
+pub fn run_is_its_transitions()
+    ensures { (setup : Setup) (world : World) (events : List Event) → AreTransitions setup world (run setup world events) }
 {}
 
 /// The records of each site only grow.
@@ -23,7 +23,7 @@ pub fn records_grow()
         (more : List Record) × ((site_at (world_after world (run setup world events)) n).records ≡ (site_at world n).records ++ more) }
 {}
 
-/// A message that is there to be delivered was sent in an earlier turn, by a site that was up then.
+/// A message that is there to be delivered was sent in an earlier transition, by a site that was up then.
 pub fn delivered_was_sent()
     ensures { (setup : Setup) (events : List Event) (place : Place (run setup (opening setup) events)) (number : ℕ) (envelope : Envelope) →
         slice_get (world_before (opening setup) place).sent number ≡ Some envelope → WasSent (opening setup) place.earlier number envelope }

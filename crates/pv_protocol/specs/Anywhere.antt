@@ -6,7 +6,7 @@ use Rattle.pv_protocol.specs.Attempt.{Attempt, Begun, settled, attempts, begun}
 use Rattle.pv_protocol.specs.Lines.{Line}
 use Rattle.pv_protocol.specs.State.{Setup, Site}
 use Rattle.pv_protocol.specs.World.{World}
-use Rattle.pv_protocol.specs.WorldStep.{Turn}
+use Rattle.pv_protocol.specs.WorldStep.{Transition}
 
 -- An attempt may end so: all of it is written; or, where it makes calls, the site stops in one of them or one of them fails,
 -- and its record, if it appends one, is there or isn't.
@@ -30,19 +30,19 @@ disarmed_site site = record site { arm = None }
 abbrev pub disarmed : World → World
 disarmed world = record world { sites = map disarmed_site world.sites }
 
--- In this world the event may have this turn. What it arms is forgotten.
-pub record MayFollow (setup : Setup) (world : World) (turn : Turn) : Type 0 where
+-- In this world the event may have this transition. What it arms is forgotten.
+pub record MayFollow (setup : Setup) (world : World) (transition : Transition) : Type 0 where
   pub left : World
-  pub comes : MayCome (begun setup world turn.event) turn.lines left
-  pub after : turn.world ≡ disarmed left
+  pub comes : MayCome (begun setup world transition.event) transition.lines left
+  pub after : transition.world ≡ disarmed left
 
--- Turns that may follow one another from this world on, with a stop or a fault in any write or sync. A pump counts as its
+-- Transitions that may follow one another from this world on, with a stop or a fault in any write or sync. A pump counts as its
 -- deliveries.
-pub data IsAnyRun (setup : Setup) : World → List Turn → Type 0 where
+pub data IsAnyRun (setup : Setup) : World → List Transition → Type 0 where
   ends : (world : World) → IsAnyRun setup world []
-  goes_on : (world : World) (turn : Turn) (turns : List Turn) → MayFollow setup world turn → IsAnyRun setup turn.world turns
-      → IsAnyRun setup world (turn ∷ turns)
+  goes_on : (world : World) (transition : Transition) (transitions : List Transition) → MayFollow setup world transition → IsAnyRun setup transition.world transitions
+      → IsAnyRun setup world (transition ∷ transitions)
 
--- the turn without armed faults
-abbrev pub without_arms : Turn → Turn
-without_arms turn = record turn { world = disarmed turn.world }
+-- the transition without armed faults
+abbrev pub without_arms : Transition → Transition
+without_arms transition = record transition { world = disarmed transition.world }

@@ -29,6 +29,7 @@ reached (suc more) None = waits None
 reached (suc more) (Some arm) =
     if nat_lt (suc more) arm.call then waits (Some (record arm { call = arm.call - suc more })) else fires arm
 
+-- What was written is kept.
 abbrev pub is_kept : Mode → Bool
 is_kept Kept = true
 is_kept Lost = false

@@ -18,14 +18,14 @@ use Rattle.pv_protocol.specs.Run.{world_after, worlds_of}
 use Rattle.pv_protocol.specs.State.{Setup, Entry, Cause, conflict, outcome_limit, expired, grant_lost, journal_full}
 use Rattle.pv_protocol.specs.Waiting.{IsLastTick}
 use Rattle.pv_protocol.specs.World.{World, site_at}
-use Rattle.pv_protocol.specs.WorldStep.{Turn}
+use Rattle.pv_protocol.specs.WorldStep.{Transition}
 
--- In this turn the last values are taken, and together they name so many outcomes, which is more than the limit.
-pub record IsTooWide (setup : Setup) (world : World) (turn : Turn) (txn : TxnId) (count : ℕ) : Type 0 where
+-- In this transition the last values are taken, and together they name so many outcomes, which is more than the limit.
+pub record IsTooWide (setup : Setup) (world : World) (transition : Transition) (txn : TxnId) (count : ℕ) : Type 0 where
   pub from : ℕ
   pub grant : GrantId
   pub values : List Read
-  pub takes : Takes world turn (home_of txn) from (granted txn grant values)
+  pub takes : Takes world transition (home_of txn) from (granted txn grant values)
   pub entry : Entry
   pub works : entry_of world txn ≡ Some entry
   pub txns : List TxnId
@@ -34,12 +34,12 @@ pub record IsTooWide (setup : Setup) (world : World) (turn : Turn) (txn : TxnId)
   pub above : setup.read_names < count
 
 -- The site took the request for its vote, where it neither had the transaction prepared nor that very grant.
-pub record HadLost (first : World) (turns : List Turn) (txn : TxnId) (n : ℕ) : Type 0 where
-  pub place : Place turns
+pub record HadLost (first : World) (transitions : List Transition) (txn : TxnId) (n : ℕ) : Type 0 where
+  pub place : Place transitions
   pub from : ℕ
   pub grant : GrantId
   pub writes : List Read
-  pub takes : Takes (world_before first place) place.turn n from (prepare txn grant writes)
+  pub takes : Takes (world_before first place) place.transition n from (prepare txn grant writes)
   pub unprepared : is_prepared (site_at (world_before first place) n).records txn ≡ false
   pub gone : list_any (is_grant txn grant) takes.running.grants ≡ false
 
@@ -49,12 +49,12 @@ pub record IsTooLong (setup : Setup) (world : World) (n : ℕ) (more : Record) (
   pub above : setup.catalog.journal < bytes
 
 -- The site took the request for its vote, and its journal had no room for the writes.
-pub record HadNoRoom (setup : Setup) (first : World) (turns : List Turn) (txn : TxnId) (n bytes : ℕ) : Type 0 where
-  pub place : Place turns
+pub record HadNoRoom (setup : Setup) (first : World) (transitions : List Transition) (txn : TxnId) (n bytes : ℕ) : Type 0 where
+  pub place : Place transitions
   pub from : ℕ
   pub grant : GrantId
   pub writes : List Read
-  pub takes : Takes (world_before first place) place.turn n from (prepare txn grant writes)
+  pub takes : Takes (world_before first place) place.transition n from (prepare txn grant writes)
   pub long : IsTooLong setup (world_before first place) n (prepared txn writes) bytes
 
 -- The transaction's own site has no room for the commit now.
@@ -62,18 +62,18 @@ pub record HasNoRoom (setup : Setup) (world : World) (txn : TxnId) (n bytes : �
   pub here : n ≡ home_of txn
   pub long : IsTooLong setup world n (outcome_known txn true) bytes
 
--- The transaction is refused in this turn, after these others, for this cause.
-abbrev pub HasCause : Setup → World → List Turn → Turn → TxnId → Cause → Type 0
-HasCause setup first earlier turn txn (conflict n item holder) = WasDenied first earlier txn n item holder
-HasCause setup first earlier turn txn (outcome_limit count) = IsTooWide setup (world_after first earlier) turn txn count
-HasCause setup first earlier turn txn (expired n) = IsLastTick setup first earlier turn txn n
-HasCause setup first earlier turn txn (grant_lost n) = HadLost first earlier txn n
-HasCause setup first earlier turn txn (journal_full n bytes) =
+-- The transaction is refused in this transition, after these others, for this cause.
+abbrev pub HasCause : Setup → World → List Transition → Transition → TxnId → Cause → Type 0
+HasCause setup first earlier transition txn (conflict n item holder) = WasDenied first earlier txn n item holder
+HasCause setup first earlier transition txn (outcome_limit count) = IsTooWide setup (world_after first earlier) transition txn count
+HasCause setup first earlier transition txn (expired n) = IsLastTick setup first earlier transition txn n
+HasCause setup first earlier transition txn (grant_lost n) = HadLost first earlier txn n
+HasCause setup first earlier transition txn (journal_full n bytes) =
     HadNoRoom setup first earlier txn n bytes ⊎ HasNoRoom setup (world_after first earlier) txn n bytes
 
 -- A transaction that a run prints as refused is neither committed nor open, in that world and in every later one, and the
 -- refusal has its cause.
-abbrev pub RefusalsHold : Setup → World → List Turn → Type 0
-RefusalsHold setup first turns =
-    (place : Place turns) (txn : TxnId) (cause : Cause) → Contains place.turn.lines (Line.refuse txn cause)
-    → All (IsOut txn) (worlds_of place.turn.world place.later) × HasCause setup first place.earlier place.turn txn cause
+abbrev pub RefusalsHold : Setup → World → List Transition → Type 0
+RefusalsHold setup first transitions =
+    (place : Place transitions) (txn : TxnId) (cause : Cause) → Contains place.transition.lines (Line.refuse txn cause)
+    → All (IsOut txn) (worlds_of place.transition.world place.later) × HasCause setup first place.earlier place.transition txn cause

@@ -1,18 +1,16 @@
--- Which transactions are committed and open, which items are readable, and when a world agrees with the serial run.
-use Rattle.std.specs.Prelude.{◌≡◌, ℕ, Bool, false, not, ◌&&◌, ◌||◌, ◌==◌, Option, Some, None, is_some, is_none, List, [], ◌∷◌, map, slice_get, ◌⊎◌, IsTrue, if◌then◌else◌}
+-- Which transactions are committed and open, which assignments fit a world, and which items are readable.
+use Rattle.std.specs.Prelude.{ℕ, Bool, false, not, ◌&&◌, ◌||◌, ◌==◌, Option, Some, None, is_some, is_none, List, [], ◌∷◌, map, ◌⊎◌, IsTrue, if◌then◌else◌}
 use Rattle.std.specs.List.{list_any, list_all}
 use Rattle.pv_base.specs.Assignment.{is_same_txn, commits}
-use Rattle.pv_base.specs.Catalog.{Item}
 use Rattle.pv_base.specs.Want.{Want}
 use Rattle.pv_base.specs.declared.grant.GrantId.{GrantId}
 use Rattle.pv_base.specs.declared.txn.TxnId.{TxnId}
 use Rattle.pv_format.specs.Record.{Record, outcome_known}
-use Rattle.pv_model.specs.Meaning.{Row, value_in}
-use Rattle.pv_model.specs.Run.{declared_rows}
+use Rattle.pv_model.specs.Meaning.{Row}
+use Rattle.pv_model.specs.Serial.{declared_rows}
 use Rattle.pv_model.specs.Serial as serial
 use Rattle.pv_protocol.specs.Keyed.{of_txn}
 use Rattle.pv_protocol.specs.Records.{is_prepared}
-use Rattle.pv_protocol.specs.Shown.{item_value}
 use Rattle.pv_protocol.specs.State.{Setup, Grant, Entry, Running, TakenGrant, Placed}
 use Rattle.pv_protocol.specs.Vote.{is_same_grant}
 use Rattle.pv_protocol.specs.World.{World, site_at}
@@ -89,11 +87,3 @@ programs_of order = map (λ placed. record { txn = placed.txn; program = placed.
 -- the rows that the serial run of the world's order leaves, where the assignment says which transactions commit
 abbrev pub serial_rows : Setup → World → List TxnId → List Row
 serial_rows setup world assignment = serial.serial (declared_rows setup.catalog) (programs_of world.order) assignment
-
--- A world agrees where, for each assignment that fits, each readable item has by its site's records the value that the
--- serial run leaves it.
-abbrev pub Agrees : Setup → World → Type 0
-Agrees setup world =
-    (assignment : List TxnId) → Fits world assignment → (n : ℕ) (item : Item) → slice_get setup.catalog.items n ≡ Some item
-    → IsTrue (is_readable (site_at world item.site).running n)
-    → item_value setup.catalog (site_at world item.site).records n assignment ≡ value_in (serial_rows setup world assignment) n

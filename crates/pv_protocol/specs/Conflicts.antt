@@ -7,7 +7,7 @@ use Rattle.pv_format.specs.Message.{lock}
 use Rattle.pv_protocol.specs.Places.{Place, world_before, Takes}
 use Rattle.pv_protocol.specs.State.{Grant}
 use Rattle.pv_protocol.specs.World.{World}
-use Rattle.pv_protocol.specs.WorldStep.{Turn}
+use Rattle.pv_protocol.specs.WorldStep.{Transition}
 
 -- A grant of the holder is on an item that is wanted, and one of the two is exclusive.
 pub record IsConflict (grants : List Grant) (wants : List Want) (item : ℕ) (holder : TxnId) : Type 0 where
@@ -28,9 +28,9 @@ pub record IsLeastConflict (grants : List Grant) (wants : List Want) (item : ℕ
       → (item < other) ⊎ ((item ≡ other) × ((holder ≡ another) ⊎ IsTrue (precedes holder another)))
 
 -- The site took the transaction's request for locks while the holder's grant stood in its way.
-pub record WasDenied (first : World) (turns : List Turn) (txn : TxnId) (n item : ℕ) (holder : TxnId) : Type 0 where
-  pub place : Place turns
+pub record WasDenied (first : World) (transitions : List Transition) (txn : TxnId) (n item : ℕ) (holder : TxnId) : Type 0 where
+  pub place : Place transitions
   pub from : ℕ
   pub wants : List Want
-  pub takes : Takes (world_before first place) place.turn n from (lock txn wants)
+  pub takes : Takes (world_before first place) place.transition n from (lock txn wants)
   pub least : IsLeastConflict takes.running.grants wants item holder

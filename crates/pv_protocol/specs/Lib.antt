@@ -1,3 +1,4 @@
+pub mod Agreement
 pub mod Anywhere
 pub mod Arms
 pub mod Attempt

@@ -4,7 +4,7 @@ use Rattle.pv_format.specs.Length.{envelope_length}
 use Rattle.pv_format.specs.Message.{Envelope}
 use Rattle.pv_model.specs.Events.{Event}
 use Rattle.pv_protocol.specs.Lines.{Line}
-use Rattle.pv_protocol.specs.Run.{turns_of, world_after, lines_of_turns}
+use Rattle.pv_protocol.specs.Run.{transitions_of, world_after, lines_of_transitions}
 use Rattle.pv_protocol.specs.State.{Setup}
 use Rattle.pv_protocol.specs.World.{World}
 
@@ -34,6 +34,6 @@ unless_over None lines rest = record { lines = lines ++ rest.lines; over = rest.
 abbrev pub run_within : ℕ → Setup → World → List Event → Output
 run_within limit setup world [] = record { lines = []; over = None }
 run_within limit setup world (event ∷ events) =
-    let now = turns_of setup world event in
+    let now = transitions_of setup world event in
     let after = world_after world now in
-    unless_over (over_limit limit after) (lines_of_turns now) (run_within limit setup after events)
+    unless_over (over_limit limit after) (lines_of_transitions now) (run_within limit setup after events)

@@ -11,6 +11,7 @@ use Rattle.pv_model.specs.Meaning.{Reply, value, nothing, declined, unmet, overf
 use Rattle.pv_protocol.specs.Lines.{Line}
 use Rattle.pv_protocol.specs.State.{Cause, conflict, outcome_limit, expired, grant_lost, journal_full}
 
+-- what ends a line
 abbrev pub line_feed : List ℕ
 line_feed = 10 ∷ []
 
@@ -22,6 +23,7 @@ name_of catalog n = option_map_or (λ item. item.name) (slice_get catalog.items 
 abbrev pub spaced : {A : Type 0} → (A → List ℕ) → List A → List ℕ
 spaced text things = flat_map (λ thing. codes " " ++ text thing) things
 
+-- a number, `nothing`, or why the program declined
 abbrev pub reply_text : Reply → List ℕ
 reply_text (value v) = signed_decimal v
 reply_text nothing = codes "nothing"
@@ -38,6 +40,7 @@ certainty answers = codes " possible"
 abbrev pub answers_text : {A : Type 0} → (A → List ℕ) → List A → List ℕ
 answers_text text answers = certainty answers ++ spaced text answers
 
+-- why a transaction is refused, with the site, the item and the numbers that belong to it
 abbrev pub cause_text : Declared → Cause → List ℕ
 cause_text catalog (conflict site item holder) =
     codes "conflict " ++ (decimal site ++ (codes " " ++ (name_of catalog item ++ (codes " " ++ txn_text holder))))
@@ -46,6 +49,7 @@ cause_text catalog (expired site) = codes "expired " ++ decimal site
 cause_text catalog (grant_lost site) = codes "grant-lost " ++ decimal site
 cause_text catalog (journal_full site length) = codes "journal-full " ++ (decimal site ++ (codes " " ++ decimal length))
 
+-- what a message is called
 abbrev pub kind_text : Message → List ℕ
 kind_text (lock txn wants) = codes "lock"
 kind_text (granted txn grant values) = codes "granted"
@@ -65,6 +69,7 @@ abbrev pub when_text : List Literal → List ℕ
 when_text [] = []
 when_text (literal ∷ literals) = codes " if" ++ spaced literal_text (literal ∷ literals)
 
+-- one case
 abbrev pub case_text : Case ℤ → List ℕ
 case_text case = signed_decimal case.value ++ when_text case.when
 

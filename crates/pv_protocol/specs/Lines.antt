@@ -6,6 +6,7 @@ use Rattle.pv_format.specs.Message.{Message}
 use Rattle.pv_model.specs.Meaning.{Reply}
 use Rattle.pv_protocol.specs.State.{Cause, Note}
 
+-- one line
 pub data Line : Type 0 where
   -- a request has begun a transaction
   txn : TxnId → Line
@@ -53,5 +54,6 @@ line_of site (Note.refused t cause) = refuse t cause
 line_of site (Note.full length) = full site length
 line_of site Note.spent = spent site
 
+-- what the notes of a step print, in their order
 abbrev pub lines_of : ℕ → List Note → List Line
 lines_of site notes = map (line_of site) notes

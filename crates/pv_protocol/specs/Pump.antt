@@ -4,22 +4,22 @@ use Rattle.pv_format.specs.Message.{Message, lock, granted, denied, prepare, vot
 use Rattle.pv_model.specs.Events.{deliver}
 use Rattle.pv_protocol.specs.State.{Setup}
 use Rattle.pv_protocol.specs.World.{World}
-use Rattle.pv_protocol.specs.WorldStep.{Turn, turn_of}
+use Rattle.pv_protocol.specs.WorldStep.{Transition, transition_of}
 
 -- the least fresh message
 abbrev pub next_fresh : World → Option ℕ
 next_fresh world = position (λ fresh. fresh) world.fresh
 
 -- goes on with the least fresh message, if there is one
-abbrev pub with_fresh : Option ℕ → (ℕ → List Turn) → List Turn
+abbrev pub with_fresh : Option ℕ → (ℕ → List Transition) → List Transition
 with_fresh None go = []
 with_fresh (Some n) go = go n
 
 -- The least fresh message is delivered, again and again, until none is fresh or so many were delivered.
-abbrev pub deliveries : ℕ → Setup → World → List Turn
+abbrev pub deliveries : ℕ → Setup → World → List Transition
 deliveries zero setup world = []
 deliveries (suc more) setup world =
-    with_fresh (next_fresh world) (λ n. let turn = turn_of setup world (deliver n) in turn ∷ deliveries more setup turn.world)
+    with_fresh (next_fresh world) (λ n. let transition = transition_of setup world (deliver n) in transition ∷ deliveries more setup transition.world)
 
 -- Each message that a delivery causes is of a later kind. This is how many kinds may come after a message's own.
 abbrev pub kinds_left : Message → ℕ

@@ -5,34 +5,34 @@ use Rattle.pv_protocol.specs.Lines.{Line}
 use Rattle.pv_protocol.specs.Pump.{deliveries, enough}
 use Rattle.pv_protocol.specs.State.{Setup}
 use Rattle.pv_protocol.specs.World.{World, opening}
-use Rattle.pv_protocol.specs.WorldStep.{Turn, turn_of}
+use Rattle.pv_protocol.specs.WorldStep.{Transition, transition_of}
 
--- An event's turns: those of a pump are its deliveries, and any other event is one.
-unfoldable pub turns_of : Setup → World → Event → List Turn
-turns_of setup world (pump None) = deliveries (enough world) setup world
-turns_of setup world (pump (Some most)) = deliveries most setup world
-turns_of setup world event = turn_of setup world event ∷ []
+-- An event's transitions: those of a pump are its deliveries, and any other event is one.
+unfoldable pub transitions_of : Setup → World → Event → List Transition
+transitions_of setup world (pump None) = deliveries (enough world) setup world
+transitions_of setup world (pump (Some most)) = deliveries most setup world
+transitions_of setup world event = transition_of setup world event ∷ []
 
--- the world after these turns
-abbrev pub world_after : World → List Turn → World
+-- the world after these transitions
+abbrev pub world_after : World → List Transition → World
 world_after world [] = world
-world_after world (turn ∷ turns) = world_after turn.world turns
+world_after world (transition ∷ transitions) = world_after transition.world transitions
 
--- what these turns print
-abbrev pub lines_of_turns : List Turn → List Line
-lines_of_turns turns = flat_map (λ turn. turn.lines) turns
+-- what these transitions print
+abbrev pub lines_of_transitions : List Transition → List Line
+lines_of_transitions transitions = flat_map (λ transition. transition.lines) transitions
 
--- the turns of all events, one after another
-abbrev pub run : Setup → World → List Event → List Turn
+-- the transitions of all events, one after another
+abbrev pub run : Setup → World → List Event → List Transition
 run setup world [] = []
 run setup world (event ∷ events) =
-    let now = turns_of setup world event in
+    let now = transitions_of setup world event in
     now ++ run setup (world_after world now) events
 
--- all worlds of a run: the one where it begins, and the one after each turn
-abbrev pub worlds_of : World → List Turn → List World
-worlds_of first turns = first ∷ map (λ turn. turn.world) turns
+-- all worlds of a run: the one where it begins, and the one after each transition
+abbrev pub worlds_of : World → List Transition → List World
+worlds_of first transitions = first ∷ map (λ transition. transition.world) transitions
 
 -- what events print, from the opening world on
 unfoldable pub printed : Setup → List Event → List Line
-printed setup events = lines_of_turns (run setup (opening setup) events)
+printed setup events = lines_of_transitions (run setup (opening setup) events)

@@ -11,7 +11,7 @@ use Rattle.pv_protocol.specs.Places.{Place, world_before}
 use Rattle.pv_protocol.specs.Run.{world_after, worlds_of}
 use Rattle.pv_protocol.specs.State.{Setup, Stage, locking, voting, Entry}
 use Rattle.pv_protocol.specs.World.{World}
-use Rattle.pv_protocol.specs.WorldStep.{Turn}
+use Rattle.pv_protocol.specs.WorldStep.{Transition}
 
 -- The transaction's site works on it, in this stage.
 pub record IsInStage (txn : TxnId) (stage : Stage) (world : World) : Type 0 where
@@ -24,15 +24,15 @@ abbrev pub is_tick_of : ℕ → Event → Bool
 is_tick_of n (Event.tick site) = site == n
 is_tick_of n other = false
 
--- how many of the turns are ticks of the site
-abbrev pub ticks_of : ℕ → List Turn → ℕ
-ticks_of n turns = count_by (λ turn. is_tick_of n turn.event) turns
+-- how many of the transitions are ticks of the site
+abbrev pub ticks_of : ℕ → List Transition → ℕ
+ticks_of n transitions = count_by (λ transition. is_tick_of n transition.event) transitions
 
--- The transaction began this stage in a turn after which its site has ticked so often.
-pub record HasWaited (first : World) (turns : List Turn) (txn : TxnId) (stage : Stage) (ticks : ℕ) : Type 0 where
-  pub begin : Place turns
+-- The transaction began this stage in a transition after which its site has ticked so often.
+pub record HasWaited (first : World) (transitions : List Transition) (txn : TxnId) (stage : Stage) (ticks : ℕ) : Type 0 where
+  pub begin : Place transitions
   pub not_before : IsInStage txn stage (world_before first begin) → ⊥
-  pub since : All (IsInStage txn stage) (worlds_of begin.turn.world begin.later)
+  pub since : All (IsInStage txn stage) (worlds_of begin.transition.world begin.later)
   pub counted : ticks_of (home_of txn) begin.later ≡ ticks
 
 -- The site owns an item of the program.
@@ -52,12 +52,12 @@ pub record IsAwaited (catalog : Declared) (entry : Entry) (n : ℕ) : Type 0 whe
   pub silent : HasAnswered entry.stage entry n → ⊥
   pub least : (other : ℕ) → IsParticipant catalog entry.program other → (HasAnswered entry.stage entry other → ⊥) → n ≤ other
 
--- The turn is the last tick that the coordinator waits, counted from where the stage began.
-pub record IsLastTick (setup : Setup) (first : World) (turns : List Turn) (turn : Turn) (txn : TxnId) (n : ℕ) : Type 0 where
-  pub event : turn.event ≡ Event.tick (home_of txn)
+-- The transition is the last tick that the coordinator waits, counted from where the stage began.
+pub record IsLastTick (setup : Setup) (first : World) (transitions : List Transition) (transition : Transition) (txn : TxnId) (n : ℕ) : Type 0 where
+  pub event : transition.event ≡ Event.tick (home_of txn)
   pub entry : Entry
-  pub works : entry_of (world_after first turns) txn ≡ Some entry
+  pub works : entry_of (world_after first transitions) txn ≡ Some entry
   pub ticks : ℕ
-  pub waited : HasWaited first turns txn entry.stage ticks
+  pub waited : HasWaited first transitions txn entry.stage ticks
   pub last : ticks + 1 ≡ TICKS
   pub awaited : IsAwaited setup.catalog entry n

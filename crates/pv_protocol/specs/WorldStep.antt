@@ -8,7 +8,7 @@ use Rattle.pv_protocol.specs.State.{Setup}
 use Rattle.pv_protocol.specs.World.{World, site_at}
 
 -- an event, what it prints, and the world after it
-pub record Turn : Type 0 where
+pub record Transition : Type 0 where
   pub event : Event
   pub lines : List Line
   pub world : World
@@ -19,5 +19,5 @@ ended (settled lines world) = (lines, world)
 ended (attempts world n attempt) = attempted world n attempt (reached (calls_of attempt) (site_at world n).arm)
 
 -- One event that isn't a pump.
-unfoldable pub turn_of : Setup → World → Event → Turn
-turn_of setup world event = let now = ended (begun setup world event) in record { event = event; lines = now.0; world = now.1 }
+unfoldable pub transition_of : Setup → World → Event → Transition
+transition_of setup world event = let now = ended (begun setup world event) in record { event = event; lines = now.0; world = now.1 }

@@ -1,4 +1,4 @@
-use Rattle.pv_law_world.proofs.TurnLemmas.{places-marked}
+use Rattle.pv_law_world.proofs.TransitionLemmas.{places-marked}
 use Rattle.pv_law_world.proofs.pumps.messages_are_marked.Goals as goal
 
 pub returns : goal.returns

@@ -1,4 +1,4 @@
-use Rattle.pv_law_world.proofs.TurnLemmas.{delivered-was-sent}
+use Rattle.pv_law_world.proofs.TransitionLemmas.{delivered-was-sent}
 use Rattle.pv_law_world.proofs.runs.delivered_was_sent.Goals as goal
 
 pub returns : goal.returns

@@ -1,4 +1,4 @@
-use Rattle.pv_law_world.proofs.TurnLemmas.{run-records}
+use Rattle.pv_law_world.proofs.TransitionLemmas.{run-records}
 use Rattle.pv_law_world.proofs.runs.records_grow.Goals as goal
 
 pub returns : goal.returns

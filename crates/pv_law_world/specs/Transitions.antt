@@ -1,11 +1,11 @@
--- Which site an event is of, which turns follow one another, and which turn a message was sent in.
+-- Which site an event is of, which transitions follow one another, and which transition a message was sent in.
 use Rattle.std.specs.Prelude.{◌≡◌, ℕ, Option, Some, None, List, [], ◌∷◌, slice_get, IsSome}
 use Rattle.pv_format.specs.Message.{Envelope}
 use Rattle.pv_model.specs.Events.{Event, submit, deliver, tick, stop, start, arm, mend}
 use Rattle.pv_protocol.specs.Places.{Place, world_before}
 use Rattle.pv_protocol.specs.State.{Setup}
 use Rattle.pv_protocol.specs.World.{World, site_at}
-use Rattle.pv_protocol.specs.WorldStep.{Turn, turn_of}
+use Rattle.pv_protocol.specs.WorldStep.{Transition, transition_of}
 
 -- the site that a message goes to
 abbrev pub receiver_of : Option Envelope → Option ℕ
@@ -23,15 +23,15 @@ site_of world (arm n call mode stops) = Some n
 site_of world (mend n) = Some n
 site_of world other = None
 
--- Each turn is what its event does in the world before it, the first of them in this world.
-pub data AreTurns (setup : Setup) : World → List Turn → Type 0 where
-  none : (world : World) → AreTurns setup world []
-  one_more : (world : World) (turn : Turn) (turns : List Turn) → turn ≡ turn_of setup world turn.event → AreTurns setup turn.world turns
-      → AreTurns setup world (turn ∷ turns)
+-- Each transition is what its event does in the world before it, the first of them in this world.
+pub data AreTransitions (setup : Setup) : World → List Transition → Type 0 where
+  none : (world : World) → AreTransitions setup world []
+  one_more : (world : World) (transition : Transition) (transitions : List Transition) → transition ≡ transition_of setup world transition.event → AreTransitions setup transition.world transitions
+      → AreTransitions setup world (transition ∷ transitions)
 
--- The message of this number was sent in one of these turns, by a site that was up.
-pub record WasSent (first : World) (turns : List Turn) (number : ℕ) (envelope : Envelope) : Type 0 where
-  pub sender : Place turns
+-- The message of this number was sent in one of these transitions, by a site that was up.
+pub record WasSent (first : World) (transitions : List Transition) (number : ℕ) (envelope : Envelope) : Type 0 where
+  pub sender : Place transitions
   pub new : slice_get (world_before first sender).sent number ≡ None
-  pub there : slice_get sender.turn.world.sent number ≡ Some envelope
+  pub there : slice_get sender.transition.world.sent number ≡ Some envelope
   pub up : IsSome (site_at (world_before first sender) envelope.from).running
