@@ -19,7 +19,9 @@ pub use ranges::{
     plans_are_in_range, programs_stay_in_range, sends_are_in_range, shown_values_are_in_range,
     starts_are_sound, steps_stay_sound,
 };
-pub use steps::{appends_what_it_may, few_inputs_append, numbers_rise, only_grants_place};
+pub use steps::{
+    appends_what_it_may, denials_name_the_least, few_inputs_append, numbers_rise, only_grants_place,
+};
 pub use values::{
     epochs_change_no_value, names_are_listed, new_values_are_computed, outcomes_settle,
     promises_are_choices, replies_are_computed, shown_has_the_value, shown_is_canonical,
