@@ -27,4 +27,7 @@ pub use values::{
     promises_are_choices, replies_are_computed, shown_has_the_value, shown_is_canonical,
     shown_names_no_known,
 };
-pub use width::{no_records_are_narrow, starts_keep_width, steps_keep_width};
+pub use width::{
+    no_records_are_narrow, only_written_values_widen, shown_values_are_narrow, starts_keep_width,
+    steps_keep_width,
+};
