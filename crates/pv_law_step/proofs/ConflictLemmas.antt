@@ -1,12 +1,12 @@
 -- The conflict that is found is the least.
-use Rattle.std.proofs.Common.{◌≡◌, ◌⊎◌, ⊎_elim, ℕ, ◌<◌, Bool, true, false, Some, None, Option, List, [], ◌∷◌, map, inl, inr, refl, sym, ap, subst, ◌∙◌, arith}
-use Rattle.std.specs.Prelude.{IsTrue, ◌&&◌, ◌||◌, ◌==◌, find, if◌then◌else◌, ⊤}
+use Rattle.std.proofs.Common.{◌≡◌, ◌⊎◌, ⊎_elim, ℕ, ◌<◌, Bool, true, false, Some, None, Option, List, [], ◌∷◌, map, inl, inr, refl, sym, ap, subst, ◌∙◌}
+use Rattle.std.specs.Prelude.{IsTrue, ◌||◌, ◌==◌, find, if◌then◌else◌, ⊤}
 use Rattle.std.specs.List.{Contains, list_any}
 use Rattle.std.proofs.lemmas.Bool.{and_parts, and_from, eqb-true, eq-eqb, false≢true, or_cases, or_left, or_right}
 use Rattle.pv_base.proofs.ContainsLemmas.{Contains-first, Contains-behind, Contains-nil, Contains-cases}
 use Rattle.pv_base.proofs.MapLemmas.{Contains-map}
 use Rattle.pv_base.specs.declared.txn.TxnId.{TxnId}
-use Rattle.pv_base.specs.Assignment.{AreAscending, precedes}
+use Rattle.pv_base.specs.Assignment.{precedes}
 use Rattle.pv_base.specs.Want.{Want}
 use Rattle.pv_law_polyvalues.proofs.AscendingLemmas.{ascending-first, ascending-tail}
 use Rattle.pv_law_step.proofs.Appended.{found-passes}
@@ -94,14 +94,28 @@ module _ (grants : List Grant) (order : AreInOrder (λ (g : Grant). g.txn) grant
 
   behind : (want : Want) (wants : List Want) (item : ℕ) (holder : TxnId) → IsConflict grants wants item holder → IsConflict grants (want ∷ wants) item holder
   behind want wants item holder is = record {
-    grant = is.grant; stands = is.stands; of = is.of; want = is.want; wanted = Contains-behind want wants is.want is.wanted;
-    held = is.held; has = is.has; same = is.same; exclusive = is.exclusive;
+    grant = is.grant;
+    stands = is.stands;
+    of = is.of;
+    want = is.want;
+    wanted = Contains-behind want wants is.want is.wanted;
+    held = is.held;
+    has = is.has;
+    same = is.same;
+    exclusive = is.exclusive;
   }
 
   within : (want : Want) (wants : List Want) (item : ℕ) (holder : TxnId) (is : IsConflict grants (want ∷ wants) item holder) → Contains wants is.want → IsConflict grants wants item holder
   within want wants item holder is h = record {
-    grant = is.grant; stands = is.stands; of = is.of; want = is.want; wanted = h;
-    held = is.held; has = is.has; same = is.same; exclusive = is.exclusive;
+    grant = is.grant;
+    stands = is.stands;
+    of = is.of;
+    want = is.want;
+    wanted = h;
+    held = is.held;
+    has = is.has;
+    same = is.same;
+    exclusive = is.exclusive;
   }
 
   here-least : (want : Want) (wants : List Want) → Ascend (map (λ (w : Want). w.item) (want ∷ wants)) → (grant : Grant) → find (is_in_the_way want) grants ≡ Some grant
@@ -111,18 +125,24 @@ module _ (grants : List Grant) (order : AreInOrder (λ (g : Grant). g.txn) grant
       let parts = and_parts (want.item == found-held.0.item) (want.exclusive || found-held.0.exclusive) found-held.1.1 in
       record {
         is = record {
-          grant = grant; stands = found-listed (is_in_the_way want) grants grant found; of = refl;
-          want = want; wanted = Contains-first want wants; held = found-held.0; has = found-held.1.0;
-          same = (refl, sym (eqb-true want.item found-held.0.item parts.0)); exclusive = parts.1;
+          grant = grant;
+          stands = found-listed (is_in_the_way want) grants grant found;
+          of = refl;
+          want = want;
+          wanted = Contains-first want wants;
+          held = found-held.0;
+          has = found-held.1.0;
+          same = (refl, sym (eqb-true want.item found-held.0.item parts.0));
+          exclusive = parts.1;
         };
         least = λ other another conflict. ⊎_elim
             (λ one. inr (
               ap (λ (w : Want). w.item) one ∙ conflict.same.0,
               subst (AtOrBefore grant.txn) conflict.of
-              (first-found (is_in_the_way want) grants order grant conflict.grant found conflict.stands (told (want ∷ wants) want other another conflict one)),
+                  (first-found (is_in_the_way want) grants order grant conflict.grant found conflict.stands (told (want ∷ wants) want other another conflict one)),
             ))
             (λ later. inl (subst (λ n. want.item < n) conflict.same.0
-                (ascend-first want.item (map (λ (w : Want). w.item) wants) up conflict.want.item (Contains-map (λ (w : Want). w.item) wants conflict.want later))))
+            (ascend-first want.item (map (λ (w : Want). w.item) wants) up conflict.want.item (Contains-map (λ (w : Want). w.item) wants conflict.want later))))
             (Contains-cases want wants conflict.want conflict.wanted);
       }
 
