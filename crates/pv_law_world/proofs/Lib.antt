@@ -1,5 +1,6 @@
 pub mod DisarmLemmas
 pub mod GrowthLemmas
+pub mod NumberLemmas
 pub mod ParticipantLemmas
 pub mod PumpLemmas
 pub mod ScheduleLemmas

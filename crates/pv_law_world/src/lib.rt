@@ -18,6 +18,7 @@ pub use runs::{
     schedules_are_well_formed,
 };
 pub use steps::{
-    down_sites_are_silent, other_sites_stay, reports_change_nothing, transition_adds_records,
+    down_sites_are_silent, numbers_rise, other_sites_stay, reports_change_nothing,
+    transition_adds_records,
 };
 pub use texts::lines_are_spelled;
