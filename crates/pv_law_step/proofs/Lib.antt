@@ -3,12 +3,15 @@ pub mod ComputedLemmas
 pub mod FitLemmas
 pub mod JournalLemmas
 pub mod Kept
+pub mod KeyedLemmas
 pub mod Lists
 pub mod NameLists
+pub mod OrderLemmas
 pub mod OutcomeLemmas
 pub mod ShownLemmas
 pub mod SoundLemmas
 pub mod SoundSteps
+pub mod StartLemmas
 pub mod StepCases
 pub mod ValueRanges
 pub mod WantRanges

@@ -19,7 +19,7 @@ use Rattle.pv_protocol.specs.Records.{is_undecided, undecided}
 
 -- One more transaction.
 
-precedes-not : (t u : TxnId) → precedes t u ≡ false → is_same_txn t u ≡ false → IsTrue (precedes u t)
+pub precedes-not : (t u : TxnId) → precedes t u ≡ false → is_same_txn t u ≡ false → IsTrue (precedes u t)
 precedes-not t u later apart =
     ⊎_elim (λ before. absurd (false≢true (sym later ∙ before)))
     (λ rest. ⊎_elim (λ same. absurd (apart-from-test apart same)) (λ behind. behind) rest)

@@ -3,4 +3,5 @@ pub mod Examples
 pub mod GrantCases
 pub mod LockCases
 pub mod OutcomeCases
+pub mod StartCases
 pub mod VoteCases

@@ -4,9 +4,11 @@ ghost use Rattle.pv_base.specs.declared.grant.GrantId.{GrantId};
 ghost use Rattle.pv_base.specs.declared.txn.TxnId.{TxnId};
 ghost use Rattle.pv_base.specs.Want.{Want};
 ghost use Rattle.pv_format.specs.Message.{NoCause};
+ghost use Rattle.pv_format.specs.Record.{Record};
 ghost use Rattle.pv_law_step.specs.GrantCases.{DeniedCase, GrantedCase};
 ghost use Rattle.pv_law_step.specs.LockCases.{LockCase, SubmitCase};
 ghost use Rattle.pv_law_step.specs.OutcomeCases.{AskCase, OutcomeCase};
+ghost use Rattle.pv_law_step.specs.StartCases.{StartCase};
 ghost use Rattle.pv_law_step.specs.VoteCases.{NoCase, PrepareCase, YesCase};
 ghost use Rattle.pv_model.specs.Alternatives.{Read};
 ghost use Rattle.pv_model.specs.Syntax.{Program};
@@ -14,6 +16,8 @@ ghost use Rattle.pv_protocol.specs.Granted.{on_denied, on_granted};
 ghost use Rattle.pv_protocol.specs.Here.{Here};
 ghost use Rattle.pv_protocol.specs.Lock.{on_lock, on_submit};
 ghost use Rattle.pv_protocol.specs.Outcome.{on_ask, on_outcome};
+ghost use Rattle.pv_protocol.specs.Start.{site_start};
+ghost use Rattle.pv_protocol.specs.State.{Setup};
 ghost use Rattle.pv_protocol.specs.Vote.{on_no, on_prepare, on_yes};
 
 /// A request gets no number, or begins.
@@ -62,4 +66,9 @@ pub fn outcome_cases()
 /// A question for an outcome is answered, unless the site didn't number the transaction or still works on it.
 pub fn ask_cases()
     ensures { (here : Here) (from : ℕ) (txn : TxnId) → AskCase here from txn (on_ask here from txn) }
+{}
+
+/// A start finds no epoch left or no room, or begins.
+pub fn start_cases()
+    ensures { (setup : Setup) (records : List Record) → StartCase setup records (site_start setup records) }
 {}

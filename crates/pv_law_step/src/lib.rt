@@ -3,6 +3,7 @@
 
 mod cases;
 mod examples;
+mod keyed;
 mod ranges;
 mod steps;
 mod values;
@@ -10,12 +11,13 @@ mod width;
 
 pub use cases::{
     ask_cases, denied_cases, granted_cases, lock_cases, no_cases, outcome_cases, prepare_cases,
-    request_cases, yes_cases,
+    request_cases, start_cases, yes_cases,
 };
 pub use examples::{alone_it_commits, in_doubt_it_asks};
+pub use keyed::{memory_stays_in_order, one_less_is_gone, one_more_is_found};
 pub use ranges::{
     plans_are_in_range, programs_stay_in_range, sends_are_in_range, shown_values_are_in_range,
-    steps_stay_sound,
+    starts_are_sound, steps_stay_sound,
 };
 pub use steps::{appends_what_it_may, few_inputs_append, numbers_rise, only_grants_place};
 pub use values::{

@@ -2,7 +2,7 @@
 ghost use Rattle.std.specs.Int.RustNames.{FitsSigned};
 ghost use Rattle.std.specs.Int.{w64};
 ghost use Rattle.std.specs.List.{Contains};
-ghost use Rattle.std.specs.Prelude.{◌<◌, ◌≤◌, ℕ, All, IsTrue, length, List};
+ghost use Rattle.std.specs.Prelude.{◌++◌, ◌∷◌, ◌≡◌, [], ◌<◌, ◌≤◌, ℕ, All, IsTrue, length, List};
 ghost use Rattle.pv_base.specs.Catalog.{Declared};
 ghost use Rattle.pv_base.specs.Named.{names_of};
 ghost use Rattle.pv_base.specs.declared.limits.TheConstants.{HELD_NAMES, MAX_ITEMS};
@@ -13,9 +13,11 @@ ghost use Rattle.pv_model.specs.Plan.{participants_of, wants_of};
 ghost use Rattle.pv_model.specs.Syntax.{Program};
 ghost use Rattle.pv_protocol.specs.Here.{Here};
 ghost use Rattle.pv_protocol.specs.Shown.{shown};
-ghost use Rattle.pv_protocol.specs.Sound.{CanRun, IsInputInRange, IsSentInRange, IsSound, has_small_numbers};
-ghost use Rattle.pv_protocol.specs.State.{Input};
+ghost use Rattle.pv_protocol.specs.Sound.{CanRun, IsInputInRange, IsSentInRange, IsSetupInRange, IsSound, has_small_numbers};
+ghost use Rattle.pv_protocol.specs.Start.{site_start, starts};
+ghost use Rattle.pv_protocol.specs.State.{Input, Running, Setup};
 ghost use Rattle.pv_protocol.specs.Step.{after_step, step_on};
+ghost use Rattle.pv_protocol.specs.Width.{IsNarrow};
 
 /// A program of numbers of 64 bits leaves values of 64 bits where it finds such values.
 pub fn programs_stay_in_range()
@@ -44,4 +46,11 @@ pub fn sends_are_in_range()
 /// What a site holds stays in range where what it is given is.
 pub fn steps_stay_sound()
     ensures { (here : Here) (input : Input) → IsSound here → IsInputInRange here input → IsSound (after_step here (step_on here input)) }
+{}
+
+/// A site that starts is sound where its records are in range and narrow.
+pub fn starts_are_sound()
+    ensures { (setup : Setup) (me : ℕ) (records : List Record) → IsSetupInRange setup → me < setup.catalog.sites → All IsRecordInRange records →
+        IsNarrow setup.held_names setup.catalog records → (running : Running) (new : Record) → site_start setup records ≡ starts running new →
+        IsSound (record { me = me; setup = setup; records = records ++ new ∷ []; running = running }) }
 {}

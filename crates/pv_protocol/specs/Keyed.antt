@@ -1,7 +1,7 @@
 -- Lists of things that belong to transactions, ascending, one of each transaction at most.
-use Rattle.std.specs.Prelude.{not, List, [], ◌∷◌, filter, find, Option, if◌then◌else◌}
+use Rattle.std.specs.Prelude.{not, map, List, [], ◌∷◌, filter, find, Option, if◌then◌else◌}
 use Rattle.pv_base.specs.declared.txn.TxnId.{TxnId}
-use Rattle.pv_base.specs.Assignment.{is_same_txn, precedes}
+use Rattle.pv_base.specs.Assignment.{AreAscending, is_same_txn, precedes}
 
 module _ {X : Type 0} (txn_of : X → TxnId) where
   -- what belongs to the transaction, if anything does
@@ -18,3 +18,7 @@ module _ {X : Type 0} (txn_of : X → TxnId) where
   -- the list without what belongs to the transaction
   abbrev pub without : TxnId → List X → List X
   without txn list = filter (λ x. not (is_same_txn txn (txn_of x))) list
+
+  -- They stand in the order of their transactions, one of each at most.
+  abbrev pub AreInOrder : List X → Type 0
+  AreInOrder list = AreAscending (map txn_of list)

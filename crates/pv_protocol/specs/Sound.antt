@@ -10,6 +10,7 @@ use Rattle.pv_format.specs.Record.{Record}
 use Rattle.pv_model.specs.Meaning.{fits_i64}
 use Rattle.pv_model.specs.Syntax.{Expr, number, item, minus, negation, two, Program, end, assign, require, return, when, when_else}
 use Rattle.pv_protocol.specs.Here.{Here}
+use Rattle.pv_protocol.specs.Keyed.{AreInOrder}
 use Rattle.pv_protocol.specs.Records.{journal_bytes}
 use Rattle.pv_protocol.specs.State.{Setup, Grant, Taken, Entry, Running, Input, submit, receive, tick, Outgoing}
 use Rattle.pv_protocol.specs.WellFormed.{IsRunnable}
@@ -91,3 +92,8 @@ IsInputInRange here tick = ⊤
 -- What a site sends is in range.
 abbrev pub IsSentInRange : Here → Outgoing → Type 0
 IsSentInRange here sent = IsEnvelopeInRange (record { from = here.me; to = sent.to; message = sent.message })
+
+-- What a site has in memory stands in the order of transactions, one grant and one entry of each at most.
+pub record IsInOrder (running : Running) : Type 0 where
+  pub grants : AreInOrder (λ (grant : Grant). grant.txn) running.grants
+  pub entries : AreInOrder (λ (entry : Entry). entry.txn) running.entries
