@@ -9,8 +9,8 @@ mod texts;
 
 pub use examples::{
     conflict_refuses, fault_in_promise, limit_is_passed, no_room_refuses, no_room_to_start,
-    restart_loses_grants, silence_expires, site_alone_commits, stop_in_commit_record,
-    transfer_commits, unheard_outcome_leaves_doubt,
+    other_grant_counts_for_nothing, restart_loses_grants, silence_expires, site_alone_commits,
+    stop_in_commit_record, transfer_commits, unheard_outcome_leaves_doubt,
 };
 pub use pumps::{messages_are_marked, pump_ends};
 pub use runs::{
