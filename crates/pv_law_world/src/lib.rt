@@ -3,6 +3,7 @@
 
 mod examples;
 mod pumps;
+mod ranges;
 mod runs;
 mod steps;
 mod texts;
@@ -13,6 +14,7 @@ pub use examples::{
     stop_in_commit_record, transfer_commits, unheard_outcome_leaves_doubt,
 };
 pub use pumps::{messages_are_marked, pump_ends};
+pub use ranges::worlds_stay_in_range;
 pub use runs::{
     delivered_was_sent, faults_come_anywhere, records_grow, run_is_its_transitions,
     schedules_are_well_formed,
