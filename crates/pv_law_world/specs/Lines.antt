@@ -3,6 +3,7 @@ use Rattle.std.specs.Prelude.{ℕ, ℤ, pos, Bool, false, true, List, [], ◌∷
 use Rattle.pv_base.specs.Polyvalue.{Case}
 use Rattle.pv_base.specs.declared.txn.TxnId.{TxnId}
 use Rattle.pv_protocol.specs.Lines.{Line}
+use Rattle.pv_protocol.specs.State.{grant_lost}
 
 -- a transaction of site 0, by its epoch and its number
 abbrev pub txn_of : ℕ → ℕ → TxnId
@@ -48,3 +49,15 @@ report_after_outcome false = report_of (t ∷ []) [] [] (values (sure 100) (sure
 abbrev pub stopped_in_commit : Bool → List Line
 stopped_in_commit committed =
     Line.txn t ∷ (Line.stopped 0 ∷ (Line.started 0 2 ∷ (report_after_stop committed ++ report_after_outcome committed)))
+
+-- both items, held by the first transaction
+abbrev pub both_held : List Line
+both_held = Line.item_locked 0 t ∷ Line.item_locked 1 t ∷ []
+
+-- what is printed where the grant of site 1 ends and its locks are granted anew: the transaction isn't open any more
+abbrev pub lost_for_good : List Line
+lost_for_good =
+    Line.txn t ∷ report_of (t ∷ []) [] (t ∷ []) both_held
+    ++ report_of (t ∷ []) [] [] (Line.item_locked 0 t ∷ Line.item 1 (sure 50) ∷ [])
+    ++ report_of (t ∷ []) [] [] both_held ++ report_of (t ∷ []) [] [] both_held
+    ++ Line.refuse t (grant_lost 1) ∷ report_of (t ∷ []) [] [] (values (sure 100) (sure 50))

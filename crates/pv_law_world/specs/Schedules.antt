@@ -77,3 +77,8 @@ short_of_room bytes = record (alone 100) { catalog = record { sites = 1; journal
 -- A site stops and starts, twice.
 abbrev pub two_restarts : List Event
 two_restarts = stop 0 ∷ start 0 ∷ stop 0 ∷ start 0 ∷ []
+
+-- Site 1's grant ends before the transaction is prepared there, and an old request for locks is granted anew, with a report
+-- before and after each. The vote that is asked for comes last.
+abbrev pub granted_anew : List Event
+granted_anew = transfer ∷ pumped 4 ∷ report ∷ three_ticks 1 ++ report ∷ deliver 1 ∷ report ∷ deliver 5 ∷ report ∷ pump_all ∷ report ∷ []

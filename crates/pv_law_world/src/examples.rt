@@ -3,8 +3,8 @@
 
 ghost use Rattle.std.specs.Prelude.{◌≡◌, [], ◌∷◌, ◌++◌, false, true, Some};
 ghost use Rattle.pv_base.specs.declared.mode.Mode.TheVariants.{Kept, Lost, Torn};
-ghost use Rattle.pv_law_world.specs.Lines.{either, report_of, stopped_in_commit, sure, t, u, values};
-ghost use Rattle.pv_law_world.specs.Schedules.{alone, bank, fault_in_prepare, lock_lost, old_prepare, one_more, outcome_asked, outcome_unheard, pump_all, short_of_room, stop_in_commit, transfer, two_more, two_restarts};
+ghost use Rattle.pv_law_world.specs.Lines.{either, lost_for_good, report_of, stopped_in_commit, sure, t, u, values};
+ghost use Rattle.pv_law_world.specs.Schedules.{alone, bank, fault_in_prepare, granted_anew, lock_lost, old_prepare, one_more, outcome_asked, outcome_unheard, pump_all, short_of_room, stop_in_commit, transfer, two_more, two_restarts};
 ghost use Rattle.pv_model.specs.Events.{report};
 ghost use Rattle.pv_model.specs.Meaning.{nothing};
 ghost use Rattle.pv_protocol.specs.Limit.{run_within};
@@ -87,4 +87,9 @@ pub fn no_room_to_start()
 /// The total that passes the limit on sent bytes is that of the first message with which it does; its event prints nothing.
 pub fn limit_is_passed()
     ensures { run_within 30 (alone 100) (opening (alone 100)) (one_more ∷ pump_all ∷ report ∷ []) ≡ record { lines = Line.txn t ∷ []; over = Some 54 } }
+{}
+
+/// A transaction is open only while the very grant stands that was taken: one that an old request was given anew counts for nothing.
+pub fn other_grant_counts_for_nothing()
+    ensures { printed bank granted_anew ≡ lost_for_good }
 {}
