@@ -4,7 +4,7 @@ ghost use Rattle.std.specs.Option.{option_map};
 ghost use Rattle.pv_ast.specs.ReplyView.{reply_of};
 ghost use Rattle.pv_model.specs.Items.{has_all_items};
 ghost use Rattle.pv_model.specs.Meaning.{exec};
-ghost use Rattle.pv_model.specs.Run.{declared_rows};
+ghost use Rattle.pv_model.specs.Serial.{declared_rows};
 
 use pv_ast::{Program, Reply, Row, exec};
 use pv_base::{Catalog, ItemId, NEVER_GIVEN, NoMemory, SiteId, TxnId};

@@ -115,7 +115,7 @@ pub record IsInserted (t : TxnId) (txns more : List TxnId) : Type 0 where
   pub kept : (x : TxnId) → Contains txns x → Contains more x
   pub only : (x : TxnId) → Contains more x → (t ≡ x) ⊎ Contains txns x
 
-insert-behind : (t u : TxnId) (us more : List TxnId) → Ascending (u ∷ us) → IsTrue (precedes u t) → IsInserted t us more → IsInserted t (u ∷ us) (u ∷ more)
+pub insert-behind : (t u : TxnId) (us more : List TxnId) → Ascending (u ∷ us) → IsTrue (precedes u t) → IsInserted t us more → IsInserted t (u ∷ us) (u ∷ more)
 insert-behind t u us more up before is = record {
   ascending = ascending-cons u more
       (λ x h. ⊎_elim (λ same. subst (λ z. IsTrue (precedes u z)) same before) (λ old. ascending-first u us up x old) (is.only x h))
@@ -128,7 +128,7 @@ insert-behind t u us more up before is = record {
       (Contains-cases u more x h);
 }
 
-insert-first : (t u : TxnId) (us : List TxnId) → Ascending (u ∷ us) → IsTrue (precedes t u) → IsInserted t (u ∷ us) (t ∷ u ∷ us)
+pub insert-first : (t u : TxnId) (us : List TxnId) → Ascending (u ∷ us) → IsTrue (precedes t u) → IsInserted t (u ∷ us) (t ∷ u ∷ us)
 insert-first t u us up before = record {
   ascending = ascending-cons t (u ∷ us)
       (λ x h. ⊎_elim (λ same. subst (λ z. IsTrue (precedes t z)) same before) (λ old. precedes-trans t u x before (ascending-first u us up x old)) (Contains-cases u us x h))
@@ -138,7 +138,7 @@ insert-first t u us up before = record {
   only = λ x h. Contains-cases t (u ∷ us) x h;
 }
 
-insert-same : (t u : TxnId) (us : List TxnId) → Ascending (u ∷ us) → t ≡ u → IsInserted t (u ∷ us) (u ∷ us)
+pub insert-same : (t u : TxnId) (us : List TxnId) → Ascending (u ∷ us) → t ≡ u → IsInserted t (u ∷ us) (u ∷ us)
 insert-same t u us up same = record {
   ascending = up;
   first = subst (Contains (u ∷ us)) (sym same) (Contains-first u us);
