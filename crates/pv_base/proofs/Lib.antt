@@ -5,3 +5,4 @@ pub mod AssignmentLemmas
 pub mod Basics
 pub mod ContainsLemmas
 pub mod MapLemmas
+pub mod OrderLemmas

@@ -17,3 +17,4 @@ pub mod NumberLemmas
 pub mod ItemLemmas
 pub mod DeclaredItems
 pub mod RowLemmas
+pub mod PlanLemmas

@@ -8,6 +8,7 @@ pub mod Grammar
 pub mod Items
 pub mod LineForms
 pub mod Meaning
+pub mod Plan
 pub mod Print
 pub mod ProgramLaws
 pub mod ProgramText
