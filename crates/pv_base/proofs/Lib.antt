@@ -6,3 +6,4 @@ pub mod BigEndianLemmas
 pub mod ContainsLemmas
 pub mod EntryLemmas
 pub mod MapLemmas
+pub mod OrderLemmas

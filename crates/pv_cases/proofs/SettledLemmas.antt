@@ -7,7 +7,8 @@ use Rattle.pv_base.specs.declared.literal.Literal.{Literal}
 use Rattle.pv_base.specs.declared.txn.TxnId.{TxnId}
 use Rattle.pv_base.specs.Assignment.{is_same_txn, precedes, commits, with_outcome}
 use Rattle.pv_base.specs.Polyvalue.{Case, value_at, names, under, with_outcomes, AreOutcomes, IsChoice, IsSettled, NamesOnlyAfter}
-use Rattle.pv_law_polyvalues.proofs.AscendingLemmas.{All-from_members, pairs-first, pairs-tail}
+use Rattle.pv_law_polyvalues.proofs.AscendingLemmas.{All-from_members}
+use Rattle.pv_base.proofs.OrderLemmas.{pairs-first, pairs-tail}
 use Rattle.pv_base.proofs.AssignmentLemmas.{commits-with-other, commits-with-same, precedes-irrefl, precedes-other', precedes-trans}
 use Rattle.pv_base.proofs.ContainsLemmas.{Contains-first, Contains-behind, Contains-cases}
 use Rattle.pv_law_polyvalues.proofs.PolyvalueLemmas.{behind-unnamed, unnamed-free, value_at-agree, value_at-tested}

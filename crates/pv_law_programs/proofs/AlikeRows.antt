@@ -1,11 +1,10 @@
 -- A program does the same to rows that have the same values of its items.
-use Rattle.std.proofs.Common.{◌≡◌, ℕ, ℤ, pos, Bool, true, false, ◌||◌, cond, List, Result, Ok, Err, refl, sym, ap, ◌∙◌, subst, inl, inr}
+use Rattle.std.proofs.Common.{◌≡◌, ℕ, ℤ, pos, Bool, true, false, cond, List, Result, Ok, Err, refl, sym, ap, ◌∙◌, subst, inl, inr}
 use Rattle.std.specs.Prelude.{◌==◌, IsTrue, neg_ℤ, not}
-use Rattle.std.proofs.lemmas.Bool.{cases_Bool, eq-eqb, eqb-true, or_left, or_right}
+use Rattle.std.proofs.lemmas.Bool.{cases_Bool, eq-eqb, or_left, or_right}
 use Rattle.pv_model.specs.Check.{reads, names}
 use Rattle.pv_model.specs.Syntax.{Expr, number, item, minus, negation, two, Program, end, assign, require, return, when, when_else}
-use Rattle.pv_model.specs.Items.{lacks}
-use Rattle.pv_model.specs.Meaning.{Row, Decline, value, declined, value_in, with_row, unmet, within, holds, truth, with_value, with_left, value_of, Course, ended, returned, refused, then_with, then_run, course_of, effect_of, exec}
+use Rattle.pv_model.specs.Meaning.{Row, Decline, value, declined, with_row, unmet, within, holds, truth, with_value, with_left, value_of, Course, ended, returned, refused, then_with, then_run, course_of, effect_of, exec}
 use Rattle.pv_model.specs.ProgramLaws.{HaveSameValues, HaveSameValuesOf}
 use Rattle.pv_law_programs.proofs.ProgramLemmas.{lacks-with_row, value_in-with_row-same, value_in-with_row-other}
 

@@ -18,3 +18,4 @@ pub mod ItemLemmas
 pub mod DeclaredItems
 pub mod RowLemmas
 pub mod NameLemmas
+pub mod PlanLemmas

@@ -1,12 +1,12 @@
 -- What a program leaves alone, what stands behind a `return`, and that the order of the rows doesn't matter.
 use Rattle.std.proofs.Common.{◌≡◌, ℕ, ℤ, pos, Bool, true, false, ◌||◌, cond, List, [], ◌∷◌, Result, Ok, Err, refl, sym, ap, ◌∙◌, subst, inl, inr}
-use Rattle.std.specs.Prelude.{◌==◌, neg_ℤ, not}
+use Rattle.std.specs.Prelude.{◌==◌}
 use Rattle.std.proofs.Math.Bool.{or-true}
 use Rattle.std.proofs.lemmas.Bool.{eqb-true, eq-eqb, cases_Bool}
-use Rattle.pv_model.specs.Syntax.{Expr, number, item, minus, negation, two, Program, end, assign, require, return, when, when_else}
+use Rattle.pv_model.specs.Syntax.{Program, end, assign, require, return, when, when_else}
 use Rattle.pv_model.specs.Items.{lacks}
-use Rattle.pv_model.specs.Meaning.{Row, items_of_rows, Decline, unmet, value, declined, value_in, with_row, within, holds, truth, with_value, with_left, value_of, Course, ended, returned, refused, then_with, then_run, course_of, effect_of, exec}
-use Rattle.pv_model.specs.ProgramLaws.{assigns, followed, HaveSameValues}
+use Rattle.pv_model.specs.Meaning.{Row, items_of_rows, Decline, unmet, value, declined, value_in, with_row, holds, value_of, Course, ended, returned, refused, then_with, then_run, course_of, effect_of, exec}
+use Rattle.pv_model.specs.ProgramLaws.{assigns, followed}
 
 -- ---- a decline
 
