@@ -1,3 +1,4 @@
+pub mod Answer
 pub mod Assignment
 pub mod BigEndian
 pub mod CaseFaults

@@ -1,5 +1,6 @@
 -- Why a line of a schedule is malformed.
 use Rattle.std.specs.Prelude.{◌≡◌, ◌≢◌, ℕ, ◌<◌, ◌≤◌, Bool, true, false, Option, Some, None, List, [], ◌∷◌, length, ◌⊎◌, codes}
+use Rattle.pv_base.specs.declared.limits.TheConstants.{MAX_ITEMS, MAX_JOURNAL, MAX_LINE, MAX_PROGRAM_ITEMS}
 use Rattle.std.specs.List.{list_all, Contains}
 use Rattle.pv_base.specs.Catalog.{Item, Declared, place_of}
 use Rattle.pv_base.specs.Name.{is_name}
@@ -27,7 +28,7 @@ or_default default (Some n) = n
 
 -- What is declared by what was said. Journals have the greatest limit where none is declared.
 abbrev pub declared_by : Before → Declared
-declared_by before = record { sites = or_default 0 before.sites; journal = or_default 4294967296 before.journal; items = before.items }
+declared_by before = record { sites = or_default 0 before.sites; journal = or_default MAX_JOURNAL before.journal; items = before.items }
 
 pub data Cause : Type 0 where
   too_long : Cause
@@ -90,7 +91,7 @@ mode_words = codes "lost" ∷ codes "kept" ∷ codes "torn" ∷ []
 
 -- The line has this cause behind what was said, whatever other causes it has.
 abbrev pub HasCause : Before → Line → Cause → Type 0
-HasCause before line too_long = 1000 < length line
+HasCause before line too_long = MAX_LINE < length line
 HasCause before line not_text = list_all is_text_byte line ≡ false
 HasCause before line sites_expected = (before.sites ≡ None) × (BeginsWith (codes "sites") line → ⊥)
 HasCause before line unknown_word = forms_of (first_word line) ≡ []
@@ -101,10 +102,10 @@ HasCause before line bad_number = list_all (has_good_number (or_default 0 before
 HasCause before line bad_mode = (word : List ℕ) × Has line mode word × (Contains mode_words word → ⊥)
 HasCause before line bad_name = (word : List ℕ) × Has line name word × (is_name word ≡ false)
 HasCause before line name_taken = (word : List ℕ) × Has line name word × (place_of word before.items ≢ None)
-HasCause before line too_many_items = BeginsWith (codes "item") line × (1024 ≤ length before.items)
+HasCause before line too_many_items = BeginsWith (codes "item") line × (MAX_ITEMS ≤ length before.items)
 HasCause before line (at_program kind column) = (text : List ℕ) × Has line program text × IsRefused (declared_by before) text (at_fault kind column)
 HasCause before line names_no_item = (p : Program) × HasProgram before line p × ((n : ℕ) → names p n ≡ false)
-HasCause before line (too_many_names n) = (p : Program) × HasProgram before line p × (items : List ℕ) × AreItems p items × (n ≡ length items) × (16 < n)
+HasCause before line (too_many_names n) = (p : Program) × HasProgram before line p × (items : List ℕ) × AreItems p items × (n ≡ length items) × (MAX_PROGRAM_ITEMS < n)
 HasCause before line query_assigns = (p : Program) × HasProgram before line p × BeginsWith (codes "query") line × (has_assignment p ≡ true)
 HasCause before line no_return = (p : Program) × HasProgram before line p × BeginsWith (codes "query") line × (has_return p ≡ false)
 

@@ -1,5 +1,6 @@
 -- The lines of schedules: which words they have, and what stands behind the first.
 use Rattle.std.specs.Prelude.{ℕ, ◌^◌, ◌-◌, Bool, true, false, ◌&&◌, ◌||◌, ◌==◌, nat_le, nat_lt, Option, Some, None, List, [], ◌∷◌, length, map, filter, find, if◌then◌else◌, codes}
+use Rattle.pv_base.specs.declared.limits.TheConstants.{MAX_SITES, MIN_JOURNAL, MAX_JOURNAL, MAX_PUMP, MAX_CALL}
 use Rattle.std.specs.List.{list_all}
 use Rattle.std.specs.Str.{bytes_eq}
 use Rattle.pv_base.specs.Name.{is_digit}
@@ -18,14 +19,14 @@ pub data Field : Type 0 where
 -- The first words, each with what stands behind it. `pump` has two forms.
 unfoldable pub line_forms : List (List ℕ × List Field)
 line_forms =
-    (codes "sites", number 1 16 ∷ []) ∷ (codes "journal", number 32 (2 ^ 32) ∷ [])
+    (codes "sites", number 1 MAX_SITES ∷ []) ∷ (codes "journal", number MIN_JOURNAL MAX_JOURNAL ∷ [])
     ∷ (codes "item", name ∷ site ∷ value ∷ [])
     ∷ (codes "submit", site ∷ program ∷ []) ∷ (codes "query", site ∷ program ∷ [])
     ∷ (codes "deliver", number 0 (2 ^ 64 - 1) ∷ []) ∷ (codes "lose", number 0 (2 ^ 64 - 1) ∷ [])
-    ∷ (codes "pump", []) ∷ (codes "pump", number 1 1000000 ∷ [])
+    ∷ (codes "pump", []) ∷ (codes "pump", number 1 MAX_PUMP ∷ [])
     ∷ (codes "drop", site ∷ []) ∷ (codes "tick", site ∷ []) ∷ (codes "stop", site ∷ []) ∷ (codes "start", site ∷ [])
     ∷ (codes "mend", site ∷ [])
-    ∷ (codes "cut", site ∷ number 1 1000 ∷ mode ∷ []) ∷ (codes "fail", site ∷ number 1 1000 ∷ mode ∷ [])
+    ∷ (codes "cut", site ∷ number 1 MAX_CALL ∷ mode ∷ []) ∷ (codes "fail", site ∷ number 1 MAX_CALL ∷ mode ∷ [])
     ∷ (codes "sent", []) ∷ (codes "report", []) ∷ (codes "total", []) ∷ []
 
 -- the first word of a line that counts

@@ -1,5 +1,6 @@
 -- Which token a program may go on with, as a reader from left to right knows it by one token of lookahead (Lewis and Stearns, 1968).
 use Rattle.std.specs.Prelude.{ℕ, suc, ◌^◌, Bool, true, false, nat_lt, Option, Some, None, List, [], ◌∷◌, if◌then◌else◌}
+use Rattle.pv_base.specs.declared.limits.TheConstants.{MAX_DEPTH}
 use Rattle.std.specs.List.{list_all}
 use Rattle.std.specs.Option.{option_map_or}
 use Rattle.pv_model.specs.Syntax.{Op}
@@ -133,5 +134,5 @@ first_fault item_of behind expected (t ∷ ts) =
     option_map_or
     (λ now.
     if is_unknown item_of t.1 then Some (unknown_name, t.0) else
-    (if nat_lt 32 now.0 then Some (too_deep, t.0) else first_fault item_of behind now.1 ts))
+    (if nat_lt MAX_DEPTH now.0 then Some (too_deep, t.0) else first_fault item_of behind now.1 ts))
     (step expected t.1) (Some (malformed, t.0))

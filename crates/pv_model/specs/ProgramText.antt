@@ -1,5 +1,6 @@
 -- The texts that are programs over the items of a catalog, and why another text is refused.
 use Rattle.std.specs.Prelude.{◌≡◌, ℕ, ◌+◌, ◌<◌, ◌≤◌, nat_le, Option, Some, None, List, [], ◌∷◌, ◌++◌, length, map, ◌⊎◌, IsTrue}
+use Rattle.pv_base.specs.declared.limits.TheConstants.{MAX_DEPTH, MAX_LINE}
 use Rattle.std.specs.List.{list_all}
 use Rattle.pv_base.specs.Catalog.{Declared, place_of}
 use Rattle.pv_model.specs.Syntax.{Program}
@@ -33,13 +34,14 @@ pub record AreProgram (item_of : List ℕ → Option ℕ) (tokens : List Token) 
 abbrev pub AreSomeProgram : List Token → Type 0
 AreSomeProgram tokens = (program : Program) × AreProgram any_item tokens program
 
--- A text has at most 1,000 bytes. Its tokens are the program, its names are items of the catalog, and no token is nested deeper than 32.
+-- A text has at most 1,000 bytes. Its tokens are the program, its names are items of the catalog, and no token is nested deeper than
+-- `MAX_DEPTH`.
 pub record IsProgramText (catalog : Declared) (text : List ℕ) (program : Program) : Type 0 where
-  pub short : length text ≤ 1000
+  pub short : length text ≤ MAX_LINE
   pub tokens : List (ℕ × Token)
   pub has : HasTokens text tokens
   pub are : AreProgram (item_in catalog) (without_numbers tokens) program
-  pub shallow : IsTrue (list_all (λ t. nat_le t.0 32) are.placed)
+  pub shallow : IsTrue (list_all (λ t. nat_le t.0 MAX_DEPTH) are.placed)
 
 -- The first token that can't continue a program begins at this column, or the text ends before it is one.
 abbrev pub IsMalformed : List ℕ → ℕ → Type 0
@@ -53,7 +55,7 @@ pub record NamesNoItem (catalog : Declared) (text : List ℕ) (column : ℕ) : T
   pub has : HasTokens text (front ++ (column, Token.name name) ∷ behind)
   pub none : place_of name catalog.items ≡ None
 
--- At this column stands a token that is nested deeper than 32 in a program that the tokens up to it begin.
+-- At this column stands a token that is nested deeper than `MAX_DEPTH` in a program that the tokens up to it begin.
 pub record IsTooDeep (text : List ℕ) (column : ℕ) : Type 0 where
   pub front : List (ℕ × Token)
   pub token : Token
@@ -65,7 +67,7 @@ pub record IsTooDeep (text : List ℕ) (column : ℕ) : Type 0 where
   pub after : List Placed
   pub same : without_numbers front ≡ without_nestings before
   pub reads : ArePlaced any_item (before ++ (nesting, token) ∷ after) program
-  pub deep : 32 < nesting
+  pub deep : MAX_DEPTH < nesting
 
 -- the kinds of faults, as they are ranked at one column
 pub data Kind : Type 0 where
@@ -100,5 +102,5 @@ pub data Refusal : Type 0 where
 
 -- A text of more than 1,000 bytes is refused with its length, and another for its leftmost fault.
 abbrev pub IsRefused : Declared → List ℕ → Refusal → Type 0
-IsRefused catalog text (too_large n) = (n ≡ length text) × (1000 < n)
-IsRefused catalog text (at_fault kind column) = (length text ≤ 1000) × IsLeftmost catalog text kind column
+IsRefused catalog text (too_large n) = (n ≡ length text) × (MAX_LINE < n)
+IsRefused catalog text (at_fault kind column) = (length text ≤ MAX_LINE) × IsLeftmost catalog text kind column

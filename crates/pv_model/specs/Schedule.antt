@@ -1,5 +1,6 @@
 -- The texts that are schedules, line by line, and the first line at fault of another text.
 use Rattle.std.specs.Prelude.{◌≡◌, ℕ, ◌+◌, ◌-◌, ◌^◌, ◌<◌, ◌≤◌, Bool, true, false, Some, None, List, [], ◌∷◌, ◌++◌, length, ◌⊎◌, IsTrue, codes}
+use Rattle.pv_base.specs.declared.limits.TheConstants.{MAX_CALL, MAX_ITEMS, MAX_JOURNAL, MAX_PROGRAM_ITEMS, MAX_PUMP, MAX_SITES, MIN_JOURNAL}
 use Rattle.pv_base.specs.Catalog.{Item, place_of}
 use Rattle.pv_base.specs.Name.{is_name}
 use Rattle.pv_base.specs.declared.mode.Mode.{Mode}
@@ -38,7 +39,7 @@ IsAlone word line = words line ≡ word ∷ []
 -- The line is a first word with a site, a number of a call and a mode.
 abbrev pub IsArm : Before → List ℕ → ℕ → ℕ → Mode → Line → Type 0
 IsArm before word site call mode line =
-    (at number left : List ℕ) × (words line ≡ word ∷ at ∷ number ∷ left ∷ []) × IsSite before at site × IsIn 1 1000 number call × IsMode left mode
+    (at number left : List ℕ) × (words line ≡ word ∷ at ∷ number ∷ left ∷ []) × IsSite before at site × IsIn 1 MAX_CALL number call × IsMode left mode
 
 -- what a request is called
 abbrev pub request_word : Bool → List ℕ
@@ -50,7 +51,7 @@ pub record MayRun (p : Program) (query : Bool) : Type 0 where
   pub items : List ℕ
   pub are : AreItems p items
   pub some : 0 < length items
-  pub few : length items ≤ 16
+  pub few : length items ≤ MAX_PROGRAM_ITEMS
   pub answers : query ≡ true → (has_assignment p ≡ false) × (has_return p ≡ true)
 
 -- The line is a request at the site with the text of a program that may run.
@@ -69,7 +70,7 @@ Says before line (submit site query text p) = IsRequest before site query text p
 Says before line (deliver n) = IsOne (codes "deliver") (λ word. IsIn 0 (2 ^ 64 - 1) word n) line
 Says before line (lose n) = IsOne (codes "lose") (λ word. IsIn 0 (2 ^ 64 - 1) word n) line
 Says before line (pump None) = IsAlone (codes "pump") line
-Says before line (pump (Some n)) = IsOne (codes "pump") (λ word. IsIn 1 1000000 word n) line
+Says before line (pump (Some n)) = IsOne (codes "pump") (λ word. IsIn 1 MAX_PUMP word n) line
 Says before line (drop site) = IsOne (codes "drop") (λ word. IsSite before word site) line
 Says before line (tick site) = IsOne (codes "tick") (λ word. IsSite before word site) line
 Says before line (stop site) = IsOne (codes "stop") (λ word. IsSite before word site) line
@@ -97,7 +98,7 @@ pub record DeclaresSites (before : Before) (line : Line) (after : Before) : Type
   pub text : IsText line
   pub first : before.sites ≡ None
   pub count : ℕ
-  pub is : IsOne (codes "sites") (λ word. IsIn 1 16 word count) line
+  pub is : IsOne (codes "sites") (λ word. IsIn 1 MAX_SITES word count) line
   pub same : after ≡ record before { sites = Some count }
 
 -- `journal N`, once and before all events
@@ -108,7 +109,7 @@ pub record DeclaresJournal (before : Before) (line : Line) (after : Before) : Ty
   pub once : before.journal ≡ None
   pub early : before.begun ≡ false
   pub limit : ℕ
-  pub is : IsOne (codes "journal") (λ word. IsIn 32 (2 ^ 32) word limit) line
+  pub is : IsOne (codes "journal") (λ word. IsIn MIN_JOURNAL MAX_JOURNAL word limit) line
   pub same : after ≡ record before { journal = Some limit }
 
 -- `item NAME SITE VALUE`, with a name that no item has, before all events
@@ -126,7 +127,7 @@ pub record DeclaresItem (before : Before) (line : Line) (after : Before) : Type 
   pub fits : IsTrue (fits_i64 item.value)
   pub name : IsTrue (is_name item.name)
   pub free : place_of item.name before.items ≡ None
-  pub room : length before.items < 1024
+  pub room : length before.items < MAX_ITEMS
   pub same : after ≡ record before { items = before.items ++ item ∷ [] }
 
 -- The line declares something.

@@ -1,5 +1,6 @@
 -- Lines, blanks, comments, words and numbers, as each text that polydb reads has them.
 use Rattle.std.specs.Prelude.{◌≡◌, ℕ, ◌+◌, ◌-◌, ◌*◌, ◌^◌, ◌<◌, ◌≤◌, ℤ, pos, Bool, false, not, ◌&&◌, ◌||◌, ◌==◌, nat_le, List, [], ◌∷◌, length, map, filter, find, if◌then◌else◌, IsTrue}
+use Rattle.pv_base.specs.declared.limits.TheConstants.{MAX_LINE}
 use lib.IntN.{neg_ℤ}
 use Rattle.std.specs.List.{slice_split, list_all, enumerate_from}
 use Rattle.std.specs.Option.{option_map_or}
@@ -46,7 +47,7 @@ is_text_byte b = b == 9 || (nat_le 32 b && nat_le b 126)
 
 -- A line that counts is well formed where it has at most 1,000 bytes and all of them are printable or tabs.
 pub record IsText (line : Line) : Type 0 where
-  pub short : length line ≤ 1000
+  pub short : length line ≤ MAX_LINE
   pub bytes : IsTrue (list_all is_text_byte line)
 
 -- what digits stand for, each by the weight of its place

@@ -1,5 +1,6 @@
 -- The tokens of a program text, each with its column.
 use Rattle.std.specs.Prelude.{◌≡◌, ℕ, suc, ◌+◌, ◌≤◌, Bool, false, not, ◌&&◌, nat_le, Option, Some, None, List, [], ◌∷◌, ◌++◌, length, find, if◌then◌else◌, IsTrue, codes}
+use Rattle.pv_base.specs.declared.limits.TheConstants.{MAX_NAME}
 use Rattle.std.specs.List.{list_all}
 use Rattle.std.specs.Option.{option_map_or}
 use Rattle.std.specs.Str.{bytes_eq}
@@ -44,7 +45,7 @@ words_and_symbols =
 
 -- a lower-case letter and then up to 15 lower-case letters, digits and `_`
 abbrev pub is_name_word : List ℕ → Bool
-is_name_word bytes = nat_le (length bytes) 16 && is_spelled_as_name bytes
+is_name_word bytes = nat_le (length bytes) MAX_NAME && is_spelled_as_name bytes
 
 -- one or more decimal digits, of any value
 unfoldable pub is_digits : List ℕ → Bool
