@@ -41,7 +41,7 @@ pub struct Plan {
 pub enum CheckError {
     /// The program names no item: its plan would be empty.
     NoItem,
-    /// The program names this many items, more than [`MAX_ITEMS`](crate::MAX_ITEMS).
+    /// The program names this many items, more than [`MAX_PROGRAM_ITEMS`].
     TooManyItems(u32),
     /// The program is a query, and an assignment stands in it, whether or not it would run.
     Assigns,

@@ -2,7 +2,7 @@
 use Rattle.std.proofs.Common.{◌≡◌, ◌<◌, ◌++◌, length, vec_len, take, drop, ◌∙◌, arith, rules}
 use Rattle.std.proofs.lemmas.List.{length-take, take_at}
 use Rattle.pv_io.proofs.ReadLemmas.{Consumes-none, Consumes-grown, whole_text, long_text, taken_twice}
-use Rattle.pv_io.proofs.source.read_all.Goals as goal
+use Rattle.pv_io.proofs.reading.read_all.Goals as goal
 
 pub loop-piece-init : goal.loop-piece-init
 loop-piece-init g c = record {
@@ -13,18 +13,22 @@ loop-piece-init g c = record {
   counted = search rules;
 }
 
-pub returns-then-count-eq0-clause-whole : goal.returns-then-count-eq0-clause-whole
-returns-then-count-eq0-clause-whole g c =
+pub returns-then-count-eq0 : goal.returns-then-count-eq0
+returns-then-count-eq0 g c =
+    let before = c.loop-piece.invariant in
+    let read = c.in_ok-count.ensures in
     let room : 0 < length c.read.new.into = omega (arith, c.deref_mut.ensures.len) in
     let none = c.if-count-eq0.true in
-    let read = c.in_ok-count.ensures.bytes in
-    whole_text _ _ _ _ _ _ c.loop-piece.invariant.consumed read.0 none (read.1 none room)
-
-pub returns-then-count-limit-clause-too_long : goal.returns-then-count-limit-clause-too_long
-returns-then-count-limit-clause-too_long g c = λ _ text is.
-    let read = c.in_ok-count.ensures in
-    let both = long_text _ _ _ _ _ c.loop-piece.invariant.consumed read.bytes.0 text is in
-    omega (arith, both, read.bound, length-take c.in_ok-count.count c.read.new.into, c.loop-piece.bytes.ok.0)
+    let whole = whole_text _ _ _ _ _ _ before.consumed read.bytes.0 none (read.bytes.1 none room) in
+    record {
+      whole = whole;
+      within = before.within;
+      too_long = search rules;
+      failed = search rules;
+      taken = search (rules, before, read);
+      told = read.told ∙ before.told;
+      counted = omega (arith, before.counted, read.cause.0);
+    }
 
 pub loop-piece-preserved : goal.loop-piece-preserved
 loop-piece-preserved g c =
@@ -46,17 +50,35 @@ loop-piece-preserved g c =
     }
 
 -- The read that passed the limit took one piece more.
-pub returns-then-count-limit-clause-taken : goal.returns-then-count-limit-clause-taken
-returns-then-count-limit-clause-taken g c =
+pub returns-then-count-limit : goal.returns-then-count-limit
+returns-then-count-limit g c =
     let before = c.loop-piece.invariant in
     let read = c.in_ok-count.ensures in
     let size = length-take c.in_ok-count.count c.read.new.into in
-    taken_twice _ _ _ _ _ before.consumed read.bytes.0 (omega (arith, before.within, before.room, read.bound, size, c.deref_mut.ensures.len, c.loop-piece.bytes.ok.0))
+    record {
+      whole = search rules;
+      within = search rules;
+      too_long = λ _ text is.
+          let both = long_text _ _ _ _ _ before.consumed read.bytes.0 text is in
+          omega (arith, both, read.bound, size, c.loop-piece.bytes.ok.0);
+      failed = search rules;
+      taken = taken_twice _ _ _ _ _ before.consumed read.bytes.0 (omega (arith, before.within, before.room, read.bound, size, c.deref_mut.ensures.len, c.loop-piece.bytes.ok.0));
+      told = read.told ∙ before.told;
+      counted = omega (arith, before.counted, read.cause.0);
+    }
 
 -- So did the read for whose bytes there was no memory.
-pub returns-in_err-extend_from_slice-clause-taken : goal.returns-in_err-extend_from_slice-clause-taken
-returns-in_err-extend_from_slice-clause-taken g c =
+pub returns-in_err-extend_from_slice : goal.returns-in_err-extend_from_slice
+returns-in_err-extend_from_slice g c =
     let before = c.loop-piece.invariant in
     let read = c.in_ok-count.ensures in
     let size = length-take c.in_ok-count.count c.read.new.into in
-    taken_twice _ _ _ _ _ before.consumed read.bytes.0 (omega (arith, before.within, before.room, read.bound, size, c.deref_mut.ensures.len, c.loop-piece.bytes.ok.0))
+    record {
+      whole = search rules;
+      within = search rules;
+      too_long = search rules;
+      failed = search rules;
+      taken = taken_twice _ _ _ _ _ before.consumed read.bytes.0 (omega (arith, before.within, before.room, read.bound, size, c.deref_mut.ensures.len, c.loop-piece.bytes.ok.0));
+      told = read.told ∙ before.told;
+      counted = omega (arith, before.counted, read.cause.0);
+    }

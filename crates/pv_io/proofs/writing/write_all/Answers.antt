@@ -3,7 +3,7 @@ use Rattle.std.proofs.Common.{◌++◌, take, subst, sym, ◌∙◌, ap, arith}
 use Rattle.std.proofs.Math.Seq.{take-add}
 use Rattle.std.proofs.KnownBytes.{Appends-trans}
 use Rattle.std.specs.Io.KnownBytes.{Appends}
-use Rattle.pv_io.proofs.sink.write_all.Goals as goal
+use Rattle.pv_io.proofs.writing.write_all.Goals as goal
 
 pub loop-written-preserved : goal.loop-written-preserved
 loop-written-preserved g c =

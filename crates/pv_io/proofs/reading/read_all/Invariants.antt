@@ -2,7 +2,7 @@
 use Rattle.std.proofs.Common.{◌≡◌, ◌-◌, ◌≤◌, vec_len}
 use Rattle.std.specs.Io.KnownBytes.{Consumes}
 use Rattle.pv_io.specs.Stream.{TellsAlike}
-use Rattle.pv_io.proofs.source.read_all.Given as goal
+use Rattle.pv_io.proofs.reading.read_all.Given as goal
 
 abbrev pub invariant-loop-piece : goal.invariant-loop-piece
 invariant-loop-piece g l = record {
