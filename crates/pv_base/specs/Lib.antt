@@ -1,6 +1,7 @@
 pub mod Answer
 pub mod Assignment
 pub mod BigEndian
+pub mod Canonical
 pub mod CaseFaults
 pub mod Catalog
 pub mod CatalogView

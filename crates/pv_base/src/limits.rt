@@ -15,7 +15,8 @@ pub const MAX_NAME: usize = 16;
 /// The greatest length of a line of text, and of a program's text, in bytes.
 pub const MAX_LINE: usize = 1000;
 
-/// How deep the parts of a program may nest.
+/// How deep the tokens of a program may nest: the greatest count of `(`, `{`, `not` and `-` before its one side that are open
+/// round a token.
 pub const MAX_DEPTH: u32 = 32;
 
 /// The greatest length of an input, in bytes.

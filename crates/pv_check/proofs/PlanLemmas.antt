@@ -13,7 +13,7 @@ use Rattle.pv_base.specs.Catalog.{Item}
 use Rattle.pv_model.specs.Syntax.{Program}
 use Rattle.pv_model.specs.ProgramLaws.{assigns}
 use Rattle.pv_model.specs.Check.{Part, names, IsWant, IsPart, IsPlan}
-use Rattle.pv_model.proofs.ItemLemmas.{Contains-filter}
+use Rattle.pv_base.proofs.ContainsLemmas.{Contains-filter}
 use Rattle.pv_check.specs.Wants.{AreWants, is_home, is_at, wants_at, with_part, parts_among}
 
 is_home-true : (home : Option ℕ) (site : ℕ) → is_home home site ≡ true → home ≡ Some site

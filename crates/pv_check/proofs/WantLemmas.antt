@@ -10,7 +10,8 @@ use Rattle.pv_base.specs.Want.{Want}
 use Rattle.pv_model.specs.Syntax.{Program}
 use Rattle.pv_model.specs.ProgramLaws.{assigns}
 use Rattle.pv_model.specs.Check.{names, AreItems}
-use Rattle.pv_model.proofs.ItemLemmas.{one_items}
+use Rattle.pv_base.proofs.MapLemmas.{Contains-map}
+use Rattle.pv_law_programs.proofs.ItemLemmas.{one_items}
 use Rattle.pv_check.specs.declared.marks.Mark.{Mark}
 use Rattle.pv_check.specs.declared.marks.Mark.TheVariants.{Unnamed}
 use Rattle.pv_check.specs.Marks.{is_named, mark_at, AreMarks}
@@ -118,9 +119,6 @@ pairs-map R f (x ∷ xs) h = λ i j d before within.
     let first : i < length (x ∷ xs) = omega (arith, before, inside) in
     subst (λ z. R (get_or (map f (x ∷ xs)) i d) z) (sym (get_or-map f (x ∷ xs) j x d inside))
     (subst (λ y. R y (f (get_or (x ∷ xs) j x))) (sym (get_or-map f (x ∷ xs) i x d first)) (h i j x before inside))
-
-Contains-map : {X Y : Type 0} (f : X → Y) (xs : List X) (x : X) → Contains xs x → Contains (map f xs) (f x)
-Contains-map f xs x (k, l, at) = (k, omega (arith, l, length-map xs f), get_or-map f xs k x (f x) l ∙ ap f at)
 
 AreItems-wants : (program : Program) (wants : List Want) → AreWants program wants → AreItems program (map (λ (want : Want). want.item) wants)
 AreItems-wants program wants are = record {

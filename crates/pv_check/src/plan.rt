@@ -36,7 +36,7 @@ pub struct Plan {
     pub parts: Vec<Part>,
 }
 
-/// Why a program may not run, or has no plan. The first cause that holds is told, in the order in which they stand here.
+/// Why a program may not run, or has no plan. The first cause that holds is reported, in the order in which they stand here.
 #[derive(Clone, Copy, Debug, PartialEq, Eq, Hash)]
 pub enum CheckError {
     /// The program names no item: its plan would be empty.

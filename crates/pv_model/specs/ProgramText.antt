@@ -44,23 +44,23 @@ pub record IsProgramText (catalog : Declared) (text : List ℕ) (program : Progr
   pub shallow : IsTrue (list_all (λ t. nat_le t.0 MAX_DEPTH) are.placed)
 
 -- The first token that can't continue a program begins at this column, or the text ends before it is one.
-abbrev pub IsMalformed : List ℕ → ℕ → Type 0
-IsMalformed text column = (tokens : List (ℕ × Token)) × HasTokens text tokens × IsFirstFault AreSomeProgram tokens (length text + 1) column
+abbrev pub IsMalformedProgram : List ℕ → ℕ → Type 0
+IsMalformedProgram text column = (tokens : List (ℕ × Token)) × HasTokens text tokens × IsFirstFault AreSomeProgram tokens (length text + 1) column
 
 -- At this column stands a name that no item has.
 pub record NamesNoItem (catalog : Declared) (text : List ℕ) (column : ℕ) : Type 0 where
   pub front : List (ℕ × Token)
   pub name : List ℕ
-  pub behind : List (ℕ × Token)
-  pub has : HasTokens text (front ++ (column, Token.name name) ∷ behind)
+  pub later : List (ℕ × Token)
+  pub has : HasTokens text (front ++ (column, Token.name name) ∷ later)
   pub none : place_of name catalog.items ≡ None
 
 -- At this column stands a token that is nested deeper than `MAX_DEPTH` in a program that the tokens up to it begin.
 pub record IsTooDeep (text : List ℕ) (column : ℕ) : Type 0 where
   pub front : List (ℕ × Token)
   pub token : Token
-  pub behind : List (ℕ × Token)
-  pub has : HasTokens text (front ++ (column, token) ∷ behind)
+  pub later : List (ℕ × Token)
+  pub has : HasTokens text (front ++ (column, token) ∷ later)
   pub program : Program
   pub before : List Placed
   pub nesting : ℕ
@@ -75,20 +75,20 @@ pub data Kind : Type 0 where
   unknown_name : Kind
   too_deep : Kind
 
-abbrev pub rank : Kind → ℕ
-rank malformed = 0
-rank unknown_name = 1
-rank too_deep = 2
+abbrev pub kind_rank : Kind → ℕ
+kind_rank malformed = 0
+kind_rank unknown_name = 1
+kind_rank too_deep = 2
 
 -- A text has a fault of this kind at this column.
 abbrev pub HasFault : Declared → List ℕ → Kind → ℕ → Type 0
-HasFault catalog text malformed column = IsMalformed text column
+HasFault catalog text malformed column = IsMalformedProgram text column
 HasFault catalog text unknown_name column = NamesNoItem catalog text column
 HasFault catalog text too_deep column = IsTooDeep text column
 
 -- A fault comes before another one, or both are one: it is further left, or at the same column and of no higher rank.
 abbrev pub ComesFirst : Kind → ℕ → Kind → ℕ → Type 0
-ComesFirst kind column other place = (column < place) ⊎ ((column ≡ place) × (rank kind ≤ rank other))
+ComesFirst kind column other place = (column < place) ⊎ ((column ≡ place) × (kind_rank kind ≤ kind_rank other))
 
 -- the fault that is answered: the leftmost, and at one column the first by rank
 pub record IsLeftmost (catalog : Declared) (text : List ℕ) (kind : Kind) (column : ℕ) : Type 0 where
