@@ -1,9 +1,9 @@
--- Why bytes spell no message or no polyvalue: the first fault in reading order.
-use Rattle.std.specs.Prelude.{◌≡◌, ℕ, ◌+◌, ◌<◌, ◌≢◌, ℤ, Bool, false, nat_le, ◌&&◌, List, [], ◌∷◌, ◌++◌, length, IsTrue, IsFalse}
+-- Why bytes spell no message, no record or no polyvalue: the first fault in reading order.
+use Rattle.std.specs.Prelude.{◌≡◌, ℕ, ◌+◌, ◌<◌, ◌≢◌, ℤ, Bool, nat_le, ◌&&◌, List, [], ◌∷◌, ◌++◌, length, IsTrue, IsFalse}
 use Rattle.pv_base.specs.BigEndian.{IsNumber}
 use Rattle.pv_base.specs.declared.limits.TheConstants.{HELD_NAMES}
 use Rattle.pv_base.specs.Polyvalue.{Case, IsPolyvalue}
-use Rattle.pv_format.specs.Layout.{Layout, anything, nothing_more, number_then, polyvalue_then, cases_layout, message_layout}
+use Rattle.pv_format.specs.Layout.{Layout, anything, nothing_more, number_then, polyvalue_then, cases_layout, message_layout, record_layout}
 use Rattle.pv_format.specs.PolyvalueSpelling.{SpellsCases, SpellsPolyvalue}
 use Rattle.pv_format.specs.Spelling.{IsAllowed}
 
@@ -47,7 +47,7 @@ module _ (Spells : List (Case ℤ) → List ℕ → Type 0) (PolyvalueFault : �
   HasFaultBy (number_then size allows next) place bytes fault = NumberFault size allows (λ value. HasFaultBy (next value)) place bytes fault
   HasFaultBy (polyvalue_then next) place bytes fault = PartFault (HasFaultBy next) place bytes fault
 
--- The same where no polyvalue is expected.
+-- The first fault by a layout in which there is no polyvalue.
 abbrev pub HasFieldFault : Layout → ℕ → List ℕ → Fault → Type 0
 HasFieldFault = HasFaultBy (λ cases bytes. ⊥) (λ place bytes fault. ⊥)
 
@@ -57,9 +57,11 @@ pub data PolyvalueFault (place : ℕ) (bytes : List ℕ) : Fault → Type 0 wher
   is_no_polyvalue : (cases : List (Case ℤ)) (front rest : List ℕ) → bytes ≡ front ++ rest → SpellsCases cases front
       → (IsPolyvalue HELD_NAMES cases → ⊥) → PolyvalueFault place bytes (bad_poly place)
 
+-- The first fault by any layout, with polyvalues spelled as they are written.
 abbrev pub HasFault : Layout → ℕ → List ℕ → Fault → Type 0
 HasFault = HasFaultBy SpellsPolyvalue PolyvalueFault
 
+-- The number stands for a kind of message.
 abbrev pub is_kind : ℕ → Bool
 is_kind number = nat_le 1 number && nat_le number 8
 
@@ -69,3 +71,7 @@ pub data EnvelopeFault (bytes : List ℕ) : Fault → Type 0 where
   has_bad_kind : (kind : ℕ) (rest : List ℕ) → bytes ≡ kind ∷ rest → IsFalse (is_kind kind) → EnvelopeFault bytes (bad_kind kind)
   is_in_fields : (kind : ℕ) (rest : List ℕ) (fault : Fault) → bytes ≡ kind ∷ rest → IsTrue (is_kind kind)
       → HasFault (message_layout kind) 1 rest fault → EnvelopeFault bytes fault
+
+-- The first fault of bytes that are to spell a record.
+abbrev pub RecordFault : List ℕ → Fault → Type 0
+RecordFault bytes fault = HasFault (record_layout polyvalue_then nothing_more) 0 bytes fault

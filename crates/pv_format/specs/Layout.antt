@@ -17,17 +17,21 @@ pub data Layout : Type 0 where
 abbrev pub any : ℕ → Bool
 any number = true
 
--- what each spelling has, with what comes after it
+-- Each layout below is of the spelling that it is named after, with what comes after it.
 
+-- a site's number
 abbrev pub site_layout : Layout → Layout
 site_layout next = number_then 1 is_site (λ _. next)
 
+-- a truth value
 abbrev pub truth_layout : Layout → Layout
 truth_layout next = number_then 1 is_truth (λ _. next)
 
+-- a transaction: site, epoch, number
 abbrev pub txn_layout : Layout → Layout
 txn_layout next = site_layout (number_then 4 any (λ _. number_then 4 any (λ _. next)))
 
+-- a grant: epoch, number
 abbrev pub grant_layout : Layout → Layout
 grant_layout next = number_then 4 any (λ _. number_then 4 any (λ _. next))
 
@@ -46,18 +50,23 @@ entries_layout (suc count) each least next =
 abbrev pub counted_layout : ℕ → (Layout → Layout) → Layout → Layout
 counted_layout fewest each next = number_then 1 (is_count_from fewest) (λ count. entries_layout count each 0 next)
 
+-- a literal: the outcome that it asks for, and the transaction
 abbrev pub literal_layout : Layout → Layout
 literal_layout next = truth_layout (txn_layout next)
 
+-- a case: the count of its literals, the literals, the value
 abbrev pub case_layout : Layout → Layout
 case_layout next = number_then 1 any (λ count. repeated count literal_layout (number_then 8 any (λ _. next)))
 
+-- cases: their count, and the cases
 abbrev pub cases_layout : Layout → Layout
 cases_layout next = number_then 2 any (λ count. repeated count case_layout next)
 
+-- The number stands for a cause of a vote for no.
 abbrev pub is_cause : ℕ → Bool
 is_cause number = nat_le 1 number && nat_le number 2
 
+-- such a cause, with a length after the second
 abbrev pub cause_layout : Layout → Layout
 cause_layout next = number_then 1 is_cause (λ cause. if cause == 1 then next else number_then 8 any (λ _. next))
 
@@ -74,3 +83,17 @@ body_layout kind next =
 -- what a message of this kind has after the kind
 abbrev pub message_layout : ℕ → Layout
 message_layout kind = site_layout (site_layout (txn_layout (body_layout kind nothing_more)))
+
+-- The number stands for a kind of record.
+abbrev pub is_record_kind : ℕ → Bool
+is_record_kind number = nat_le 1 number && nat_le number 3
+
+-- what a record that begins with this byte has after it, with polyvalues laid out in this way
+abbrev pub content_layout : (Layout → Layout) → ℕ → Layout → Layout
+content_layout part kind next =
+    if kind == 1 then number_then 4 (nat_le 1) (λ _. next) else
+    (if kind == 2 then txn_layout (counted_layout 0 part next) else txn_layout (truth_layout next))
+
+-- what a record has, with polyvalues laid out in this way
+abbrev pub record_layout : (Layout → Layout) → Layout → Layout
+record_layout part next = number_then 1 is_record_kind (λ kind. content_layout part kind next)

@@ -1,8 +1,7 @@
 -- How many bytes a spelling has.
-use Rattle.std.specs.Prelude.{ℕ, ℤ, ◌+◌, ◌*◌, List, map, length}
-use Rattle.std.specs.List.{sum}
+use Rattle.std.specs.Prelude.{ℕ, ℤ, ◌+◌, ◌*◌, List, length}
+use Rattle.std.specs.List.{sum_by}
 use Rattle.pv_base.specs.Polyvalue.{Case}
-use Rattle.pv_base.specs.Want.{Want}
 use Rattle.pv_model.specs.Alternatives.{Read}
 use Rattle.pv_format.specs.Message.{Envelope, Message, lock, granted, denied, prepare, vote_yes, vote_no, outcome_told, ask, NoCause, grant_lost, journal_full}
 use Rattle.pv_format.specs.Record.{Record, epoch_begun, prepared, outcome_known}
@@ -13,11 +12,11 @@ case_length case = 9 + 10 * length case.when
 
 -- of a polyvalue: the count of its cases, and the cases
 abbrev pub polyvalue_length : List (Case ℤ) → ℕ
-polyvalue_length cases = 2 + sum (map case_length cases)
+polyvalue_length cases = 2 + sum_by case_length cases
 
 -- of items with their polyvalues: their count, and for each the item and the polyvalue
 abbrev pub reads_length : List Read → ℕ
-reads_length reads = 1 + sum (map (λ read. 4 + polyvalue_length read.cases) reads)
+reads_length reads = 1 + sum_by (λ read. 4 + polyvalue_length read.cases) reads
 
 -- of a record
 abbrev pub record_length : Record → ℕ

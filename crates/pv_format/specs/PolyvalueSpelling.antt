@@ -1,5 +1,5 @@
 -- Which bytes spell a polyvalue of numbers.
-use Rattle.std.specs.Prelude.{ℕ, ℤ, List, length}
+use Rattle.std.specs.Prelude.{◌≡◌, ℕ, ℤ, List, length}
 use Rattle.pv_base.specs.BigEndian.{IsNumber, IsSigned}
 use Rattle.pv_base.specs.declared.limits.TheConstants.{HELD_NAMES}
 use Rattle.pv_base.specs.declared.literal.Literal.{Literal}
@@ -22,3 +22,7 @@ SpellsCases cases = IsNumber 2 (length cases) followed_by SpellsEach SpellsCase 
 pub record SpellsPolyvalue (cases : List (Case ℤ)) (bytes : List ℕ) : Type 0 where
   pub polyvalue : IsPolyvalue HELD_NAMES cases
   pub spelled : SpellsCases cases bytes
+
+-- The bytes begin with the polyvalue, and this is what comes after it.
+abbrev pub BeginsWith : List (Case ℤ) → List ℕ → List ℕ → Type 0
+BeginsWith cases rest = SpellsPolyvalue cases followed_by (λ back. back ≡ rest)

@@ -18,9 +18,10 @@ module _ (Spells : List (Case ℤ) → List ℕ → Type 0) where
   SpellsRecordBy (prepared txn writes) = IsNumber 1 2 followed_by SpellsTxn txn followed_by SpellsReadsBy 0 writes
   SpellsRecordBy (outcome_known txn commits) = IsNumber 1 3 followed_by SpellsTxn txn followed_by IsTruth commits
 
+-- The same, with polyvalues as they are written.
 abbrev pub SpellsReads : ℕ → List Read → List ℕ → Type 0
 SpellsReads = SpellsReadsBy SpellsPolyvalue
 
--- A record, as it is written.
+-- A record, with polyvalues as they are written.
 abbrev pub SpellsRecord : Record → List ℕ → Type 0
 SpellsRecord = SpellsRecordBy SpellsPolyvalue

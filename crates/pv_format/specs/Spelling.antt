@@ -23,17 +23,19 @@ pub record IsAllowed (size : ℕ) (allows : ℕ → Bool) (number : ℕ) (bytes 
   pub spelled : IsNumber size number bytes
   pub allowed : IsTrue (allows number)
 
--- The number of a site.
+-- There may be a site of this number.
 abbrev pub is_site : ℕ → Bool
 is_site number = nat_lt number MAX_SITES
 
+-- The bytes are the number of a site.
 abbrev pub IsSite : ℕ → List ℕ → Type 0
 IsSite site = IsAllowed 1 is_site site
 
--- A truth value is 0 or 1.
+-- The number stands for a truth value.
 abbrev pub is_truth : ℕ → Bool
 is_truth number = nat_lt number 2
 
+-- A truth value is 1, or 0 where it is false.
 abbrev pub IsTruth : Bool → List ℕ → Type 0
 IsTruth truth = IsNumber 1 (if truth then 1 else 0)
 
