@@ -5,6 +5,8 @@ mod error;
 mod fields;
 mod order;
 mod poly;
+mod reads;
+mod record;
 
 pub use error::{PolyError, ReplayError};
 pub use fields::{
@@ -12,3 +14,5 @@ pub use fields::{
 };
 pub use poly::{put_poly, take_poly};
 pub use pv_poly::Read;
+pub use reads::{put_reads, take_reads};
+pub use record::{Record, encode_record};
