@@ -1,10 +1,8 @@
 -- What the records of the code are.
-use Rattle.std.specs.Prelude.{ℕ, List, Option, Some, None}
-use Rattle.pv_format.specs.PolyvalueSpelling.{SpellsPolyvalue}
+use Rattle.std.specs.Prelude.{ℕ, List, map, Option, Some, None}
+use Rattle.std.specs.Global.{Vec}
 use Rattle.pv_format.specs.Record as model
 use Rattle.pv_format.specs.Record.{epoch_begun, prepared, outcome_known}
-use Rattle.pv_format.specs.RecordSpelling.{SpellsReads}
-use Rattle.pv_format.specs.Spelling.{◌followed_by◌, IsAllowed, IsTruth, SpellsTxn}
 use Rattle.pv_replay.specs.declared.error.ReplayError.{ReplayError}
 use Rattle.pv_replay.specs.declared.error.ReplayError.TheVariants.{BadRecord, NoMemory}
 use Rattle.pv_replay.specs.declared.record.Record.{Record}
@@ -20,3 +18,10 @@ record_of (Outcome txn commits) = outcome_known txn commits
 abbrev pub index_of : ReplayError → Option ℕ
 index_of (BadRecord index) = Some index
 index_of NoMemory = None
+
+abbrev pub records_of : List Record → List model.Record
+records_of records = map record_of records
+
+-- What the contents are, as bytes.
+abbrev pub contents_of : List (Vec ℕ) → List (List ℕ)
+contents_of contents = map (λ (content : Vec ℕ). content.items) contents

@@ -4,6 +4,7 @@
 mod error;
 mod fields;
 mod order;
+mod past;
 mod poly;
 mod reads;
 mod record;
@@ -16,3 +17,4 @@ pub use poly::{put_poly, take_poly};
 pub use pv_poly::Read;
 pub use reads::{put_reads, take_reads};
 pub use record::{Record, encode_record};
+pub use past::{Past, replay};
