@@ -1,0 +1,4 @@
+pub mod OrderLemmas
+pub mod RefusalLemmas
+pub mod ContentLemmas
+pub mod ReplayLemmas
