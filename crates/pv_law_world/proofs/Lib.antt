@@ -4,6 +4,7 @@ pub mod NumberLemmas
 pub mod ParticipantLemmas
 pub mod PumpLemmas
 pub mod RangeLemmas
+pub mod RunRangeLemmas
 pub mod ScheduleLemmas
 pub mod TransitionLemmas
 pub mod WeightLemmas
