@@ -1,3 +1,4 @@
+pub mod AnyRunRangeLemmas
 pub mod DisarmLemmas
 pub mod GrowthLemmas
 pub mod NumberLemmas

@@ -33,7 +33,7 @@ no-some : {A : Type 0} {x : A} → None ≡ Some x → ⊥
 no-some is = cc
 
 -- A site that is down, with the records of one in range.
-down-in-range : {setup : Setup} {site : Site} → IsSiteInRange setup site → (down : Site) → down.records ≡ site.records → down.running ≡ None → IsSiteInRange setup down
+pub down-in-range : {setup : Setup} {site : Site} → IsSiteInRange setup site → (down : Site) → down.records ≡ site.records → down.running ≡ None → IsSiteInRange setup down
 down-in-range {setup} {site} fine down records none = record {
   records = rw records fine.records;
   narrow = subst (IsNarrow setup.held_names setup.catalog) (sym records) fine.narrow;
@@ -59,12 +59,12 @@ up-within (first ∷ sites) zero running is = omega arith
 up-within (first ∷ sites) (suc n) running is = let rest : n < length sites = up-within sites n running is in omega arith
 
 -- What a site attempts leaves it in range, and sends what is in range.
-record IsAttemptInRange (setup : Setup) (site : Site) (n : ℕ) (attempt : Attempt) : Type 0 where
-  whole : (whole : Site) → whole.records ≡ site.records ++ option_to_list attempt.appended → whole.running ≡ attempt.running → IsSiteInRange setup whole
-  sends : All IsEnvelopeInRange (from_site n attempt.sends)
+pub record IsAttemptInRange (setup : Setup) (site : Site) (n : ℕ) (attempt : Attempt) : Type 0 where
+  pub whole : (whole : Site) → whole.records ≡ site.records ++ option_to_list attempt.appended → whole.running ≡ attempt.running → IsSiteInRange setup whole
+  pub sends : All IsEnvelopeInRange (from_site n attempt.sends)
 
 -- What an event comes to before any write is in range.
-data IsBegunInRange (setup : Setup) : Begun → Type 0 where
+pub data IsBegunInRange (setup : Setup) : Begun → Type 0 where
   settles : (lines : List Line) (after : World) → IsWorldInRange setup after → IsBegunInRange setup (settled lines after)
   goes_on : (before : World) (n : ℕ) (attempt : Attempt) → IsWorldInRange setup before
       → (n < length before.sites → IsSiteInRange setup (site_at before n) → IsAttemptInRange setup (site_at before n) n attempt)
@@ -72,7 +72,7 @@ data IsBegunInRange (setup : Setup) : Begun → Type 0 where
 
 module _ (setup : Setup) where
   -- a site in range, put into a world in range
-  put-world : (world : World) (n : ℕ) (site : Site) → IsWorldInRange setup world
+  pub put-world : (world : World) (n : ℕ) (site : Site) → IsWorldInRange setup world
       → (n < length world.sites → IsSiteInRange setup (site_at world n) → IsSiteInRange setup site) → IsWorldInRange setup (with_site world n site)
   put-world world n site fine put = record {
     count = length-set world.sites n site ∙ fine.count;
@@ -84,7 +84,7 @@ module _ (setup : Setup) where
     sent = fine.sent;
   }
 
-  attempted-range : (before : World) (n : ℕ) (attempt : Attempt) → IsWorldInRange setup before
+  pub attempted-range : (before : World) (n : ℕ) (attempt : Attempt) → IsWorldInRange setup before
       → (n < length before.sites → IsSiteInRange setup (site_at before n) → IsAttemptInRange setup (site_at before n) n attempt)
       → All IsEnvelopeInRange (from_site n attempt.sends) → (left : Reached) → IsWorldInRange setup (attempted before n attempt left).1
   attempted-range before n attempt fine may sends (waits arm) =
@@ -220,7 +220,7 @@ module _ (sends_stay : SendsInRange) (sound_stays : StaysSound) (starts_sound : 
   opened-range n None =
       goes_on world n _ fine (started-range n (site_start setup (site_at world n).records) refl) (start-silent n (site_start setup (site_at world n).records))
 
-  begun-range : (event : Event) → IsEventInRange setup.catalog event → IsBegunInRange setup (begun setup world event)
+  pub begun-range : (event : Event) → IsEventInRange setup.catalog event → IsBegunInRange setup (begun setup world event)
   unfolding begun
   begun-range (Event.submit n query text program) good = given-here world fine n (submit program) (λ running. good.1)
   begun-range (Event.deliver number) good = delivered-range number (slice_get world.sent number) refl

@@ -23,7 +23,7 @@ use Rattle.pv_protocol.specs.WorldStep.{Transition, transition_of}
 
 module _ (setup : Setup) where
   -- The transition's event is in range.
-  abbrev IsOfRange : Transition → Type 0
+  abbrev pub IsOfRange : Transition → Type 0
   IsOfRange transition = IsEventInRange setup.catalog transition.event
 
   one-of-range : (world : World) (event : Event) → IsEventInRange setup.catalog event → IsOfRange (transition_of setup world event)
@@ -80,7 +80,7 @@ module _ (sends_stay : SendsInRange) (sound_stays : StaysSound) (starts_sound : 
       });
     }
 
-    opening-fine : IsWorldInRange setup (opening setup)
+    pub opening-fine : IsWorldInRange setup (opening setup)
     opening-fine = record {
       count = length-replicate setup.catalog.sites first_site;
       sites = λ n below. rw (get_or-replicate setup.catalog.sites n first_site no_site below) first-fine;
