@@ -1,7 +1,7 @@
 -- New values and replies are the canonical ones of what the program makes of the values that were taken.
-use Rattle.std.proofs.Common.{◌≡◌, ℕ, ℤ, Bool, true, false, Some, List, [], ◌∷◌, ◌++◌, length, refl, sym, ap, ap₂, ◌∙◌, pos}
+use Rattle.std.proofs.Common.{◌≡◌, ℕ, ℤ, true, Some, List, [], ◌∷◌, ◌++◌, refl, ap, ap₂, ◌∙◌, pos}
 use Rattle.std.specs.Prelude.{IsTrue, ◌||◌}
-use Rattle.std.specs.List.{Contains, list_any}
+use Rattle.std.specs.List.{Contains}
 use Rattle.std.specs.Option.{unwrap_or}
 use Rattle.std.specs.Ordering.{int_eq}
 use Rattle.std.proofs.lemmas.Bool.{false≢true, or_left, or_right}
@@ -10,19 +10,18 @@ use Rattle.std.proofs.lemmas.List.Folds.{list_any-append}
 use Rattle.pv_base.specs.declared.txn.TxnId.{TxnId}
 use Rattle.pv_base.specs.Assignment.{AgreeOn, AreAscending, commits}
 use Rattle.pv_base.specs.Canonical.{IsExact, IsFunctionOf}
-use Rattle.pv_base.specs.Named.{names_of}
 use Rattle.pv_base.specs.Polyvalue.{Case, IsCanonical, names, value_at}
 use Rattle.pv_format.specs.Record.{Record}
 use Rattle.pv_law_canonical.proofs.CanonicalLemmas as canonical
-use Rattle.pv_law_step.proofs.NameLists.{names-listed, names-ascend, undecided-ascend, undecided-is, undecided-listed, listed-undecided}
+use Rattle.pv_law_step.proofs.NameLists.{names-listed, names-ascend, undecided-ascend, listed-undecided}
 use Rattle.pv_law_step.proofs.OutcomeLemmas.{choice-alike}
 use Rattle.pv_law_step.proofs.ShownLemmas.{int-exact}
 use Rattle.pv_law_polyvalues.proofs.PolyvalueLemmas.{value_at-agree}
-use Rattle.pv_model.specs.Alternatives.{Read, all_cases, number_at, rows_at}
-use Rattle.pv_model.specs.Meaning.{Decline, unmet, overflow, zero_divisor, Reply, value, nothing, declined, Row, Effect, exec, value_in}
+use Rattle.pv_model.specs.Alternatives.{Read, all_cases, rows_at}
+use Rattle.pv_model.specs.Meaning.{Decline, unmet, overflow, zero_divisor, Reply, value, nothing, declined, Row, exec, value_in}
 use Rattle.pv_model.specs.Replies.{is_same_decline, is_same_reply}
 use Rattle.pv_protocol.specs.Coordinate.{reads_of, names_taken, open_names, row_after, reply_after, new_value, reply_value}
-use Rattle.pv_protocol.specs.Records.{is_undecided, choice}
+use Rattle.pv_protocol.specs.Records.{choice}
 use Rattle.pv_protocol.specs.State.{Entry}
 
 -- Replies are told apart exactly.
@@ -84,7 +83,7 @@ module _ (records : List Record) (entry : Entry) where
   reads-alike a b agree =
       rows-alike (reads_of entry) (choice records a) (choice records b)
       (λ t named. choice-alike records a b t
-          (λ unknown. agree t (listed-undecided records (names_taken entry) t unknown (names-listed (all_cases (reads_of entry)) t named))))
+      (λ unknown. agree t (listed-undecided records (names_taken entry) t unknown (names-listed (all_cases (reads_of entry)) t named))))
 
   row-depends : (item : ℕ) → IsFunctionOf (open_names records entry) (row_after records entry item)
   row-depends item a b agree = ap (λ rows. value_in (exec entry.program rows).rows item) (reads-alike a b agree)

@@ -1,21 +1,17 @@
 -- A program on values of 64 bits leaves values of 64 bits.
-use Rattle.std.proofs.Common.{◌≡◌, ⊎_elim, ℕ, zero, suc, ◌<◌, ◌≤◌, ◌^◌, ℤ, pos, Bool, true, false, Some, None, Option, List, [], ◌∷◌, Ok, Err, Result, refl, sym, ap, subst, ◌∙◌, arith}
+use Rattle.std.proofs.Common.{◌≡◌, ⊎_elim, ℕ, zero, suc, ◌<◌, ◌≤◌, ◌^◌, ℤ, pos, Bool, true, false, List, [], ◌∷◌, Ok, Err, Result, refl, sym, subst, ◌∙◌, arith}
 use lib.IntN.{negsuc}
-use Rattle.std.specs.Prelude.{IsTrue, ◌&&◌, ◌==◌, int_div, int_rem, int_lt, ◌+ℤ◌, ◌-ℤ◌, ◌*ℤ◌, neg_ℤ, unsigned_abs, map, All, if◌then◌else◌, ⊤}
+use Rattle.std.specs.Prelude.{IsTrue, ◌&&◌, ◌==◌, int_div, int_rem, int_lt, ◌+ℤ◌, ◌-ℤ◌, ◌*ℤ◌, neg_ℤ, unsigned_abs, if◌then◌else◌, ⊤}
 use Rattle.std.specs.Int.{w64}
 use Rattle.std.specs.Int.RustNames.{FitsSigned}
 use Rattle.std.specs.List.{Contains}
-use Rattle.std.specs.Option.{unwrap_or}
 use Rattle.std.specs.Ordering.{int_eq}
 use Rattle.std.proofs.lemmas.Bool.{ltb-true, and_parts, false≢true}
 use Rattle.std.proofs.lemmas.Bool.Decides.{Decides-int_eq}
 use Rattle.std.proofs.lemmas.Int.{ints, rem_below, fits_signed_from_abs}
-use Rattle.pv_base.specs.declared.txn.TxnId.{TxnId}
-use Rattle.pv_base.specs.Polyvalue.{Case, meets, value_at}
 use Rattle.pv_law_step.proofs.StepCases.{if_case}
 use Rattle.pv_base.proofs.ContainsLemmas.{Contains-first, Contains-behind, Contains-nil, Contains-cases}
-use Rattle.pv_model.specs.Alternatives.{Read, number_at, rows_at}
-use Rattle.pv_model.specs.Meaning.{Row, Decline, Course, ended, returned, refused, fits_i64, within, truth, holds, quotient, remainder, computed, with_value, with_left, value_in, with_row, value_of, then_with, then_run, course_of, effect_of, exec, unmet, overflow, zero_divisor}
+use Rattle.pv_model.specs.Meaning.{Row, Decline, Course, ended, returned, refused, fits_i64, within, truth, holds, computed, with_value, with_left, value_in, with_row, value_of, then_with, then_run, course_of, effect_of, exec}
 use Rattle.pv_model.specs.Syntax.{Op, or, and, equal, unequal, less, at_most, greater, at_least, plus, sub, times, over, rest, lesser, larger, Expr, number, item, minus, negation, two, Program, end, assign, require, return, when, when_else}
 use Rattle.pv_protocol.specs.Sound.{is_of_small_numbers, has_small_numbers}
 
@@ -158,16 +154,16 @@ course-fits (when e body next) rows small fit =
     let later = and_parts (has_small_numbers body) (has_small_numbers next) parts.1 in
     then-with-fits (value_of e rows) _ (expression-fits e rows parts.0 fit)
     (λ v h. then-run-fits (if holds v then course_of body rows else ended rows) (course_of next)
-        (if_case CourseFits (holds v) (λ met. course-fits body rows later.0 fit) (λ passed. fit))
-        (λ left fits. course-fits next left later.1 fits))
+    (if_case CourseFits (holds v) (λ met. course-fits body rows later.0 fit) (λ passed. fit))
+    (λ left fits. course-fits next left later.1 fits))
 course-fits (when_else e body other next) rows small fit =
     let parts = and_parts (is_of_small_numbers e) (has_small_numbers body && (has_small_numbers other && has_small_numbers next)) small in
     let later = and_parts (has_small_numbers body) (has_small_numbers other && has_small_numbers next) parts.1 in
     let last = and_parts (has_small_numbers other) (has_small_numbers next) later.1 in
     then-with-fits (value_of e rows) _ (expression-fits e rows parts.0 fit)
     (λ v h. then-run-fits (if holds v then course_of body rows else course_of other rows) (course_of next)
-        (if_case CourseFits (holds v) (λ met. course-fits body rows later.0 fit) (λ passed. course-fits other rows last.0 fit))
-        (λ left fits. course-fits next left last.1 fits))
+    (if_case CourseFits (holds v) (λ met. course-fits body rows later.0 fit) (λ passed. course-fits other rows last.0 fit))
+    (λ left fits. course-fits next left last.1 fits))
 
 effect-fits : (before : List Row) (o : Course) → AllFit before → CourseFits o → AllFit (effect_of before o).rows
 effect-fits before (ended rows) fit fits = fits

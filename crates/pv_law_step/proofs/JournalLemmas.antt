@@ -1,7 +1,7 @@
 -- How long a journal is with one more record.
-use Rattle.std.proofs.Common.{◌≡◌, ℕ, ℤ, ◌+◌, ◌*◌, ◌<◌, ◌≤◌, ◌^◌, List, [], ◌∷◌, ◌++◌, length, map, refl, sym, ap, ◌∙◌, arith}
+use Rattle.std.proofs.Common.{◌≡◌, ℕ, ℤ, ◌+◌, ◌*◌, ◌<◌, ◌≤◌, ◌^◌, List, [], ◌∷◌, ◌++◌, length, map, arith}
 use Rattle.std.specs.Prelude.{All}
-use Rattle.std.specs.List.{sum, sum_by}
+use Rattle.std.specs.List.{sum_by}
 use Rattle.std.proofs.lemmas.List.Elements.{All-contains}
 use Rattle.std.proofs.lemmas.List.{length-map}
 use Rattle.std.proofs.lemmas.List.Sums.{sum_by-append, sum_by-cons}
@@ -9,7 +9,7 @@ use Rattle.std.proofs.Math.Nat.{mul-suc}
 use Rattle.pv_base.specs.declared.limits.TheConstants.{HELD_NAMES}
 use Rattle.pv_base.specs.declared.txn.TxnId.{TxnId}
 use Rattle.pv_base.specs.Polyvalue.{Case}
-use Rattle.pv_format.specs.Length.{case_length, polyvalue_length, record_length}
+use Rattle.pv_format.specs.Length.{case_length, polyvalue_length}
 use Rattle.pv_format.specs.Range.{IsPolyvalueInRange, AreReadsInRange}
 use Rattle.pv_format.specs.Record.{Record, prepared}
 use Rattle.pv_law_format.proofs.CaseCount.{polyvalue-few}

@@ -1,11 +1,11 @@
 -- What holds of each member stays so when a list is changed.
-use Rattle.std.proofs.Common.{◌≡◌, ⊎_elim, ℕ, Bool, true, false, Some, None, Option, List, [], ◌∷◌, refl, subst}
-use Rattle.std.specs.Prelude.{All, nat_lt, map, not, find, filter_map, if◌then◌else◌, ⊤}
-use Rattle.std.specs.List.{Contains, cons_option, filter}
-use Rattle.std.proofs.lemmas.List.Elements.{All-cons, All-contains, All-filter, All-nil}
+use Rattle.std.proofs.Common.{Bool, Some, None, Option, List, [], ◌∷◌}
+use Rattle.std.specs.Prelude.{All, nat_lt, not, find, filter_map}
+use Rattle.std.specs.List.{Contains, cons_option}
+use Rattle.std.proofs.lemmas.List.Elements.{All-cons, All-filter, All-nil}
 use Rattle.pv_base.specs.declared.txn.TxnId.{TxnId}
 use Rattle.pv_base.specs.Assignment.{is_same_txn, precedes}
-use Rattle.pv_law_step.proofs.Lists.{all-from, all-head, all-tail, OfSome}
+use Rattle.pv_law_step.proofs.Lists.{all-head, all-tail, OfSome}
 use Rattle.pv_law_step.proofs.StepCases.{if_case}
 use Rattle.pv_base.proofs.ContainsLemmas.{Contains-first, Contains-behind}
 use Rattle.pv_protocol.specs.Coordinate.{with_taken}
@@ -24,8 +24,8 @@ module _ {X : Type 0} (P : X → Type 0) where
         if_case (All P) (is_same_txn (txn_of x) (txn_of first))
         (λ same. All-cons P x rest new (all-tail P first rest all))
         (λ other. if_case (All P) (precedes (txn_of x) (txn_of first))
-            (λ before. All-cons P x (first ∷ rest) new all)
-            (λ behind. All-cons P first (with_one txn_of x rest) (all-head P first rest all) (with-one-all x rest new (all-tail P first rest all))))
+        (λ before. All-cons P x (first ∷ rest) new all)
+        (λ behind. All-cons P first (with_one txn_of x rest) (all-head P first rest all) (with-one-all x rest new (all-tail P first rest all))))
 
     pub without-all : (txn : TxnId) (xs : List X) → All P xs → All P (without txn_of txn xs)
     without-all txn xs all = All-filter (λ x. not (is_same_txn txn (txn_of x))) P xs all

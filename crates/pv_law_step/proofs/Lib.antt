@@ -1,5 +1,6 @@
 pub mod Appended
 pub mod ComputedLemmas
+pub mod ConflictLemmas
 pub mod FitLemmas
 pub mod JournalLemmas
 pub mod Kept

@@ -1,9 +1,9 @@
 -- What holds of each member of a list.
-use Rattle.std.proofs.Common.{◌≡◌, ⊎_elim, ℕ, zero, suc, Bool, true, false, Some, None, Option, List, [], ◌∷◌, ◌++◌, refl, subst}
-use Rattle.std.specs.Prelude.{All, map, slice_get, ⊤}
-use Rattle.std.specs.List.{Contains, filter, flat_map}
-use Rattle.std.proofs.lemmas.List.Elements.{All-append, All-contains, All-contains_itself, All-filter, All-cons, All-map, All-nil}
-use Rattle.pv_base.proofs.ContainsLemmas.{Contains-first, Contains-behind, Contains-nil, Contains-cases}
+use Rattle.std.proofs.Common.{◌≡◌, ℕ, zero, suc, Some, None, Option, List, [], ◌∷◌, subst}
+use Rattle.std.specs.Prelude.{All, slice_get, ⊤}
+use Rattle.std.specs.List.{Contains, flat_map}
+use Rattle.std.proofs.lemmas.List.Elements.{All-append, All-contains, All-contains_itself, All-nil}
+use Rattle.pv_base.proofs.ContainsLemmas.{Contains-first, Contains-behind}
 
 module _ {X : Type 0} (P : X → Type 0) where
   pub all-from : (xs : List X) → ((x : X) → Contains xs x → P x) → All P xs

@@ -1,5 +1,5 @@
 -- What a site has in memory stays in order.
-use Rattle.std.proofs.Common.{◌≡◌, ℕ, Bool, true, false, List, [], ◌∷◌, map, refl, sym, ap, subst, ◌∙◌, ◌+◌, arith}
+use Rattle.std.proofs.Common.{◌≡◌, ℕ, Bool, true, false, List, [], ◌∷◌, map, refl, sym, ap, subst, ◌+◌}
 use Rattle.std.specs.Prelude.{nat_lt, not, if◌then◌else◌}
 use Rattle.std.specs.List.{Contains, filter}
 use Rattle.pv_base.proofs.AssignmentLemmas.{same-eq}
@@ -25,14 +25,14 @@ use Rattle.pv_model.specs.Syntax.{Program}
 use Rattle.pv_protocol.specs.Here.{Here}
 use Rattle.pv_protocol.specs.Keyed.{AreInOrder, with_one, without}
 use Rattle.pv_protocol.specs.Sound.{IsInOrder}
-use Rattle.pv_protocol.specs.State.{Grant, Entry, Running, Input, submit, receive, tick, Step}
+use Rattle.pv_protocol.specs.State.{Grant, Entry, Input, submit, receive, tick, Step}
 use Rattle.pv_protocol.specs.Step.{on_message, step_on}
 use Rattle.pv_protocol.specs.Tick.{older_grants, older_entries, on_tick}
 
 module _ {X : Type 0} (txn_of : X → TxnId) where
   put-by : (a b : Bool) (x first : X) (rest put : List X) → is_same_txn (txn_of x) (txn_of first) ≡ a → map txn_of put ≡ with_txn (txn_of x) (map txn_of rest)
       → map txn_of (if a then x ∷ rest else (if b then x ∷ (first ∷ rest) else first ∷ put))
-        ≡ (if a then txn_of first ∷ map txn_of rest else (if b then txn_of x ∷ (txn_of first ∷ map txn_of rest) else txn_of first ∷ with_txn (txn_of x) (map txn_of rest)))
+      ≡ (if a then txn_of first ∷ map txn_of rest else (if b then txn_of x ∷ (txn_of first ∷ map txn_of rest) else txn_of first ∷ with_txn (txn_of x) (map txn_of rest)))
   put-by true b x first rest put same later = ap (λ t. t ∷ map txn_of rest) (same-eq {t = txn_of x} {u = txn_of first} same)
   put-by false true x first rest put apart later = refl
   put-by false false x first rest put apart later = ap (λ ts. txn_of first ∷ ts) later

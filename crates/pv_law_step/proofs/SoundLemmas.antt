@@ -1,45 +1,36 @@
 -- What a sound site sends is in range, and it stays sound.
-use Rattle.std.proofs.Common.{◌≡◌, ⊎_elim, ℕ, ◌+◌, ◌*◌, ◌<◌, ◌≤◌, ◌^◌, ℤ, Bool, true, false, Some, None, Option, List, [], ◌∷◌, ◌++◌, length, map, refl, sym, ap, subst, ◌∙◌, arith}
-use Rattle.std.specs.Prelude.{IsTrue, All, nat_lt, ◌==◌, if◌then◌else◌, ⊤}
-use Rattle.std.specs.List.{Contains, sum, sum_by, filter, find, flat_map}
-use Rattle.std.specs.Option.{option_to_list}
-use Rattle.std.proofs.lemmas.Bool.{ltb-false}
-use Rattle.std.proofs.lemmas.List.Elements.{All-append, All-contains, All-cons, All-filter, All-map, All-nil}
+use Rattle.std.proofs.Common.{◌≡◌, ℕ, ◌<◌, ◌≤◌, Bool, List, [], ◌∷◌, length, map, refl, sym, ap, subst, ◌∙◌, arith}
+use Rattle.std.specs.Prelude.{All}
+use Rattle.std.specs.List.{Contains}
+use Rattle.std.proofs.lemmas.List.Elements.{All-contains, All-cons, All-map, All-nil}
 use Rattle.std.proofs.lemmas.List.{length-map}
-use Rattle.std.proofs.lemmas.List.Sums.{sum_by-append}
-use Rattle.pv_base.specs.declared.grant.GrantId.{GrantId}
-use Rattle.pv_base.specs.declared.limits.TheConstants.{MAX_SITES, MAX_ITEMS, MAX_JOURNAL, MAX_PROGRAM_ITEMS, HELD_NAMES, NEVER_GIVEN}
+use Rattle.pv_base.specs.declared.limits.TheConstants.{MAX_SITES, HELD_NAMES}
 use Rattle.pv_base.specs.declared.txn.TxnId.{TxnId}
-use Rattle.pv_base.specs.Catalog.{Item, Declared}
-use Rattle.pv_base.specs.Named.{with_txns, names_of}
-use Rattle.pv_base.specs.Polyvalue.{Case, names}
+use Rattle.pv_base.specs.Catalog.{Declared}
+use Rattle.pv_base.specs.Named.{names_of}
 use Rattle.pv_base.specs.Want.{Want}
-use Rattle.pv_format.specs.Length.{record_length}
-use Rattle.pv_format.specs.Message.{Envelope, Message, prepare}
-use Rattle.pv_format.specs.Range.{IsTxnInRange, IsGrantInRange, AreItemsInRange, IsCaseInRange, IsPolyvalueInRange, AreReadsInRange, AreWantsInRange, IsEnvelopeInRange, IsRecordInRange}
-use Rattle.pv_format.specs.Record.{Record, prepared, outcome_known}
+use Rattle.pv_format.specs.Message.{Message}
+use Rattle.pv_format.specs.Range.{IsTxnInRange, AreItemsInRange, IsCaseInRange, IsPolyvalueInRange, AreReadsInRange, AreWantsInRange}
+use Rattle.pv_format.specs.Record.{Record}
 use Rattle.pv_law_step.proofs.ComputedLemmas.{new-canonical, new-value, new-names}
-use Rattle.pv_law_step.proofs.FitLemmas.{Fits, AllFit, value-in-fits, exec-fits}
-use Rattle.pv_law_step.proofs.Kept.{find-of, with-one-all, without-all, filter-map-all, with-taken-all}
-use Rattle.pv_law_step.proofs.Lists.{all-from, all-head, all-tail, OfSome, of-some, all-flat}
-use Rattle.pv_law_step.proofs.NameLists.{names-ascend, names-listed, listed-names, undecided-listed, united}
+use Rattle.pv_law_step.proofs.FitLemmas.{AllFit, value-in-fits, exec-fits}
+use Rattle.pv_law_step.proofs.Lists.{all-from, all-head, all-tail, all-flat}
+use Rattle.pv_law_step.proofs.NameLists.{names-ascend, names-listed, listed-names, undecided-listed}
 use Rattle.pv_law_step.proofs.ValueRanges.{names-in-range, number-fits, polyvalue-in-range, shown-in-range}
-use Rattle.pv_law_step.proofs.WantRanges.{wants-in-range, exclusive-in-range, part-in-range}
+use Rattle.pv_law_step.proofs.WantRanges.{part-in-range}
 use Rattle.pv_law_step.proofs.WidthLemmas.{narrow-now}
 use Rattle.pv_law_polyvalues.proofs.AscendingLemmas.{fewer-ascending}
-use Rattle.pv_base.proofs.ContainsLemmas.{Contains-first, Contains-behind, Contains-nil, Contains-cases}
-use Rattle.pv_base.proofs.MapLemmas.{Contains-unmap, map-map}
-use Rattle.pv_model.specs.Alternatives.{Read, all_cases, rows_at, number_at}
-use Rattle.pv_model.specs.Meaning.{Row, exec, value_in}
-use Rattle.pv_model.specs.Plan.{wants_of, participants_of}
-use Rattle.pv_protocol.specs.Coordinate.{reads_of, names_taken, open_names, row_after, new_value, exclusive_items, writes_to}
+use Rattle.pv_base.proofs.MapLemmas.{map-map}
+use Rattle.pv_model.specs.Alternatives.{Read, all_cases, rows_at}
+use Rattle.pv_model.specs.Meaning.{exec}
+use Rattle.pv_protocol.specs.Coordinate.{reads_of, names_taken, row_after, new_value, writes_to}
 use Rattle.pv_protocol.specs.Granted.{asked_of}
 use Rattle.pv_protocol.specs.Here.{Here, participants, outcome_sends}
 use Rattle.pv_protocol.specs.Lock.{values_of}
-use Rattle.pv_protocol.specs.Records.{choice, undecided}
+use Rattle.pv_protocol.specs.Records.{choice}
 use Rattle.pv_protocol.specs.Shown.{shown}
-use Rattle.pv_protocol.specs.Sound.{CanRun, IsSetupInRange, IsHeldInRange, IsTakenInRange, IsEntryInRange, IsRunningInRange, IsSound, IsSentInRange}
-use Rattle.pv_protocol.specs.State.{Grant, Taken, Entry, Running, Outgoing, Step}
+use Rattle.pv_protocol.specs.Sound.{CanRun, IsTakenInRange, IsSound, IsSentInRange}
+use Rattle.pv_protocol.specs.State.{Taken, Entry}
 
 -- The values of an entry.
 
@@ -73,7 +64,7 @@ module _ (entry : Entry) (taken : All IsTakenInRange entry.taken) where
       (λ t named. names-in-range (all_cases (reads_of entry)) cases-in-range t (listed-names (all_cases (reads_of entry)) t (within t (names-listed value t named))))
       (row_after records entry item) (new-value records entry item)
       (λ a. value-in-fits (exec entry.program (rows_at (reads_of entry) (choice records a))).rows item
-          (exec-fits entry.program (rows_at (reads_of entry) (choice records a)) can.numbers (rows-fit (reads_of entry) reads-in-range (choice records a))))
+      (exec-fits entry.program (rows_at (reads_of entry) (choice records a)) can.numbers (rows-fit (reads_of entry) reads-in-range (choice records a))))
 
 map-itself : {X : Type 0} (xs : List X) → map (λ x. x) xs ≡ xs
 map-itself [] = refl

@@ -1,25 +1,26 @@
 -- Each step of a sound site sends what is in range, and keeps all that it holds in range.
-use Rattle.std.proofs.Common.{◌≡◌, ⊎_elim, ℕ, zero, suc, ◌+◌, ◌*◌, ◌<◌, ◌≤◌, ◌^◌, Bool, true, false, Some, None, Option, List, [], ◌∷◌, ◌++◌, length, map, refl, sym, ap, subst, ◌∙◌, arith}
-use Rattle.std.specs.Prelude.{IsTrue, All, nat_lt, ◌==◌, ◌≢◌, is_none, not, if◌then◌else◌, ⊤}
-use Rattle.std.specs.List.{Contains, filter, find, flat_map, sum}
+use Rattle.std.proofs.Common.{◌≡◌, ⊎_elim, ℕ, ◌+◌, ◌<◌, ◌≤◌, ◌^◌, Bool, true, false, Some, None, Option, List, [], ◌∷◌, ◌++◌, length, map, refl, sym, subst, arith}
+use Rattle.std.specs.Option.{option_to_list}
+use Rattle.std.specs.Prelude.{All, nat_lt, ◌==◌, ◌≢◌, is_none, not}
+use Rattle.std.specs.List.{Contains, find}
 use Rattle.std.proofs.lemmas.Bool.{ltb-false, eqb-false, eqb-true}
-use Rattle.std.proofs.lemmas.List.Elements.{All-append, All-contains, All-cons, All-filter, All-map, All-nil}
+use Rattle.std.proofs.lemmas.List.Elements.{All-append, All-cons, All-contains, All-filter, All-map, All-nil}
 use Rattle.pv_base.specs.declared.grant.GrantId.{GrantId}
-use Rattle.pv_base.specs.declared.limits.TheConstants.{MAX_SITES, MAX_ITEMS, MAX_JOURNAL, MAX_PROGRAM_ITEMS, HELD_NAMES, NEVER_GIVEN, TICKS}
+use Rattle.pv_base.specs.declared.limits.TheConstants.{MAX_SITES, MAX_ITEMS, HELD_NAMES, NEVER_GIVEN, TICKS}
 use Rattle.pv_base.specs.Assignment.{AreAscending}
 use Rattle.pv_base.specs.declared.txn.TxnId.{TxnId}
 use Rattle.pv_base.specs.Catalog.{Declared}
-use Rattle.pv_base.specs.Named.{with_txns, names_of}
+use Rattle.pv_base.specs.Named.{names_of}
 use Rattle.pv_base.specs.Want.{Want}
-use Rattle.pv_format.specs.Message.{Envelope, Message, lock, granted, denied, prepare, vote_yes, vote_no, outcome_told, ask, NoCause, grant_lost, journal_full}
+use Rattle.pv_format.specs.Message.{Message, lock, granted, denied, prepare, vote_yes, vote_no, outcome_told, ask, NoCause, grant_lost, journal_full}
 use Rattle.pv_format.specs.Range.{IsTxnInRange, IsGrantInRange, AreItemsInRange, AreReadsInRange, AreWantsInRange, IsEnvelopeInRange, IsRecordInRange}
-use Rattle.pv_format.specs.Record.{Record, prepared, outcome_known}
+use Rattle.pv_format.specs.Record.{Record, prepared}
 use Rattle.pv_law_canonical.proofs.FilterLemmas.{kept-listed}
 use Rattle.pv_law_step.proofs.Appended.{found-passes}
 use Rattle.pv_law_step.proofs.JournalLemmas.{length-short}
 use Rattle.pv_law_step.proofs.Kept.{find-of, with-one-all, without-all, filter-map-all, with-taken-all}
 use Rattle.pv_law_step.proofs.Lists.{all-from, all-head, all-tail, OfSome, of-some, all-flat}
-use Rattle.pv_law_step.proofs.NameLists.{listed-names, united, names-ascend}
+use Rattle.pv_law_step.proofs.NameLists.{listed-names, united}
 use Rattle.pv_law_step.proofs.ShownLemmas.{none-ascend}
 use Rattle.pv_law_step.proofs.SoundLemmas.{new-in-range, writes-in-range, me-in-range, shown-here, values-in-range, participant-in-range, outcome-in-range, one-in-range}
 use Rattle.pv_law_step.proofs.StepCases.{submit-case, lock-case, granted-case, denied-case, prepare-case, yes-case, no-case, outcome-case, ask-case}
@@ -30,22 +31,21 @@ use Rattle.pv_law_step.specs.LockCases as of_locks
 use Rattle.pv_law_step.specs.OutcomeCases as of_outcomes
 use Rattle.pv_law_step.specs.VoteCases as of_votes
 use Rattle.pv_base.proofs.ContainsLemmas.{Contains-nil}
-use Rattle.pv_base.proofs.MapLemmas.{Contains-unmap}
 use Rattle.pv_model.specs.Alternatives.{Read}
 use Rattle.pv_model.specs.Check.{Part}
 use Rattle.pv_model.specs.Plan.{part_of, plan_of, participants_of}
 use Rattle.pv_model.specs.Syntax.{Program}
-use Rattle.pv_protocol.specs.Coordinate.{is_locking, locking_entry, voting_entry, names_taken, exclusive_items, writes_to}
-use Rattle.pv_protocol.specs.Granted.{asked_of, taking, taken_from, prepare_under, prepare_sends, at_lock_point}
+use Rattle.pv_protocol.specs.Coordinate.{locking_entry, voting_entry, names_taken, exclusive_items}
+use Rattle.pv_protocol.specs.Granted.{asked_of, taking, taken_from, prepare_under, at_lock_point}
 use Rattle.pv_protocol.specs.Here.{Here, nothing, remembering, sending, grant_of, with_grant, without_grant, with_entry, without_entry, participants, outcome_sends, refusing, length_with}
-use Rattle.pv_protocol.specs.Lock.{next_txn, beginning, lock_sends, is_in_the_way, Conflict, conflict_or, first_conflict, next_grant, granting, values_of}
+use Rattle.pv_protocol.specs.Lock.{next_txn, lock_sends, is_in_the_way, Conflict, conflict_or, first_conflict, next_grant, granting, values_of}
 use Rattle.pv_protocol.specs.Outcome.{items_here, names_shown, named_here}
 use Rattle.pv_protocol.specs.Shown.{shown}
 use Rattle.pv_protocol.specs.Sound.{CanRun, IsHeldInRange, IsTakenInRange, IsEntryInRange, IsRunningInRange, IsSound, IsInputInRange, IsSentInRange}
-use Rattle.pv_protocol.specs.State.{Grant, Taken, Stage, locking, voting, Entry, Running, Cause, Input, submit, receive, tick, Outgoing, Step}
+use Rattle.pv_protocol.specs.State.{Grant, Taken, locking, voting, Entry, Running, Cause, Input, submit, receive, tick, Step}
 use Rattle.pv_protocol.specs.Step.{on_message, step_on}
-use Rattle.pv_protocol.specs.Tick.{older_grants, older_entries, lasting_grants, lasting_entries, expired_entries, expiry_sends, ask_sends, older, without_grants, on_tick}
-use Rattle.pv_protocol.specs.Vote.{promising, others_than, committing}
+use Rattle.pv_protocol.specs.Tick.{older_grants, older_entries, expired_entries, expiry_sends, ask_sends, older, without_grants, on_tick}
+use Rattle.pv_protocol.specs.Vote.{others_than, committing}
 
 -- What a step sends and leaves is in range.
 pub record IsSafe (here : Here) (step : Step) : Type 0 where
@@ -58,25 +58,37 @@ pub record IsSafe (here : Here) (step : Step) : Type 0 where
 module _ (catalog : Declared) (running : Running) (is : IsRunningInRange catalog running) where
   with-grant-safe : (grant : Grant) → IsHeldInRange grant → IsRunningInRange catalog (with_grant running grant)
   with-grant-safe grant held = record {
-    epoch = is.epoch; next_txn = is.next_txn; next_grant = is.next_grant; entries = is.entries;
+    epoch = is.epoch;
+    next_txn = is.next_txn;
+    next_grant = is.next_grant;
+    entries = is.entries;
     grants = with-one-all IsHeldInRange (λ (g : Grant). g.txn) grant running.grants held is.grants;
   }
 
   without-grant-safe : (txn : TxnId) → IsRunningInRange catalog (without_grant running txn)
   without-grant-safe txn = record {
-    epoch = is.epoch; next_txn = is.next_txn; next_grant = is.next_grant; entries = is.entries;
+    epoch = is.epoch;
+    next_txn = is.next_txn;
+    next_grant = is.next_grant;
+    entries = is.entries;
     grants = without-all IsHeldInRange (λ (g : Grant). g.txn) txn running.grants is.grants;
   }
 
   with-entry-safe : (entry : Entry) → IsEntryInRange catalog entry → IsRunningInRange catalog (with_entry running entry)
   with-entry-safe entry fine = record {
-    epoch = is.epoch; next_txn = is.next_txn; next_grant = is.next_grant; grants = is.grants;
+    epoch = is.epoch;
+    next_txn = is.next_txn;
+    next_grant = is.next_grant;
+    grants = is.grants;
     entries = with-one-all (IsEntryInRange catalog) (λ (e : Entry). e.txn) entry running.entries fine is.entries;
   }
 
   without-entry-safe : (txn : TxnId) → IsRunningInRange catalog (without_entry running txn)
   without-entry-safe txn = record {
-    epoch = is.epoch; next_txn = is.next_txn; next_grant = is.next_grant; grants = is.grants;
+    epoch = is.epoch;
+    next_txn = is.next_txn;
+    next_grant = is.next_grant;
+    grants = is.grants;
     entries = without-all (IsEntryInRange catalog) (λ (e : Entry). e.txn) txn running.entries is.entries;
   }
 
@@ -141,8 +153,11 @@ module _ (here : Here) (sound : IsSound here) where
       let apart : here.running.next_txn ≢ NEVER_GIVEN = eqb-false here.running.next_txn NEVER_GIVEN left in
       let counted : IsRunningInRange here.setup.catalog (record here.running { next_txn = here.running.next_txn + 1 }) =
       record {
-        epoch = sound.running.epoch; next_txn = omega (arith, sound.running.next_txn, apart); next_grant = sound.running.next_grant;
-        grants = sound.running.grants; entries = sound.running.entries;
+        epoch = sound.running.epoch;
+        next_txn = omega (arith, sound.running.next_txn, apart);
+        next_grant = sound.running.next_grant;
+        grants = sound.running.grants;
+        entries = sound.running.entries;
       } in
       record {
         sends = parts-safe program can (next_txn here) small;
@@ -188,8 +203,11 @@ module _ (here : Here) (sound : IsSound here) where
       record { txn = is; id = record { epoch = omega (arith, sound.running.epoch); number = omega (arith, sound.running.next_grant, apart) }; wants = are } in
       let counted : IsRunningInRange here.setup.catalog (record here.running { next_grant = here.running.next_grant + 1 }) =
       record {
-        epoch = sound.running.epoch; next_txn = sound.running.next_txn; next_grant = omega (arith, sound.running.next_grant, apart);
-        grants = sound.running.grants; entries = sound.running.entries;
+        epoch = sound.running.epoch;
+        next_txn = sound.running.next_txn;
+        next_grant = omega (arith, sound.running.next_grant, apart);
+        grants = sound.running.grants;
+        entries = sound.running.entries;
       } in
       granting-safe (with_grant (record here.running { next_grant = here.running.next_grant + 1 }) (next_grant here txn wants)) (next_grant here txn wants)
       (with-grant-safe here.setup.catalog (record here.running { next_grant = here.running.next_grant + 1 }) counted (next_grant here txn wants) new) new
@@ -221,8 +239,8 @@ module _ (here : Here) (sound : IsSound here) where
           body = (
             fine.grant,
             writes-in-range entry here.records (exclusive_items (asked_of here entry taken.site))
-            (exclusive-in-range (asked_of here entry taken.site) (asked-items entry is taken.site))
-            (new-in-range entry is.taken here.setup.catalog is.program few here.records),
+                (exclusive-in-range (asked_of here entry taken.site) (asked-items entry is taken.site))
+                (new-in-range entry is.taken here.setup.catalog is.program few here.records),
           );
         }
 
@@ -394,7 +412,9 @@ module _ (here : Here) (sound : IsSound here) where
         (ask_sends (without_grants (older here.running) (named_here here))) expiry-safe (asks-safe (older here.running));
     appended = tt;
     running = record {
-      epoch = sound.running.epoch; next_txn = sound.running.next_txn; next_grant = sound.running.next_grant;
+      epoch = sound.running.epoch;
+      next_txn = sound.running.next_txn;
+      next_grant = sound.running.next_grant;
       grants = All-filter (λ (grant : Grant). nat_lt grant.age TICKS) IsHeldInRange (older_grants here.running.grants) older-grants-safe;
       entries = All-filter (λ (entry : Entry). nat_lt entry.age TICKS) (IsEntryInRange here.setup.catalog) (older_entries here.running.entries) older-entries-safe;
     };
@@ -417,3 +437,8 @@ module _ (here : Here) (sound : IsSound here) where
   safe (submit program) can = submit-safe program can _ (submit-case here program)
   safe (receive from message) is = message-safe from message is
   safe tick is = tick-safe
+
+  -- The records are in range, with one more that is.
+  pub all-records : (more : Option Record) → OfSome IsRecordInRange more → All IsRecordInRange (here.records ++ option_to_list more)
+  all-records None is = All-append IsRecordInRange here.records [] sound.records (All-nil IsRecordInRange)
+  all-records (Some more) is = All-append IsRecordInRange here.records (more ∷ []) sound.records (All-cons IsRecordInRange more [] is (All-nil IsRecordInRange))

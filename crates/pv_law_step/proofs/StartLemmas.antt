@@ -1,5 +1,5 @@
 -- A start is one of its cases, and a site that starts is sound.
-use Rattle.std.proofs.Common.{◌≡◌, ℕ, ◌+◌, ◌<◌, ◌≤◌, true, false, List, [], ◌∷◌, ◌++◌, refl, sym, subst, arith}
+use Rattle.std.proofs.Common.{◌≡◌, ℕ, ◌+◌, ◌<◌, false, List, [], ◌∷◌, ◌++◌, subst, arith}
 use Rattle.std.specs.Prelude.{All, nat_le, nat_lt}
 use Rattle.std.proofs.lemmas.Bool.{ltb-false}
 use Rattle.std.proofs.lemmas.Bool.{leb-false}
@@ -11,10 +11,9 @@ use Rattle.pv_law_step.proofs.JournalLemmas.{journal-more}
 use Rattle.pv_law_step.proofs.StepCases.{if_case}
 use Rattle.pv_law_step.proofs.WidthLemmas.{other-narrow}
 use Rattle.pv_law_step.specs.StartCases.{StartCase, no_epoch_left, no_room, begins}
-use Rattle.pv_protocol.specs.Here.{Here}
 use Rattle.pv_protocol.specs.Records.{last_epoch, record_bytes, journal_bytes}
 use Rattle.pv_protocol.specs.Sound.{IsSetupInRange, IsHeldInRange, IsEntryInRange, IsSound}
-use Rattle.pv_protocol.specs.Start.{Started, starts, too_long, no_epoch, fresh, site_start}
+use Rattle.pv_protocol.specs.Start.{Started, starts, fresh, site_start}
 use Rattle.pv_protocol.specs.State.{Setup, Running}
 use Rattle.pv_protocol.specs.Width.{IsNarrow}
 
@@ -23,7 +22,7 @@ unfolding site_start
 start-case setup records =
     if_case (StartCase setup records) (nat_le NEVER_GIVEN (last_epoch records + 1)) no_epoch_left
     (λ left. if_case (StartCase setup records) (nat_lt setup.catalog.journal (journal_bytes records + record_bytes (epoch_begun (last_epoch records + 1))))
-        (no_room left) (begins left))
+    (no_room left) (begins left))
 
 module _ (setup : Setup) (me : ℕ) (records : List Record) (fine : IsSetupInRange setup) (here : me < setup.catalog.sites) (all : All IsRecordInRange records)
     (narrow : IsNarrow setup.held_names setup.catalog records) where

@@ -1,29 +1,28 @@
 -- Shown values and new values are in range where records and what was taken are.
-use Rattle.std.proofs.Common.{◌≡◌, ⊎_elim, ℕ, ◌≤◌, ℤ, pos, Bool, true, false, Some, None, Option, List, [], ◌∷◌, ◌++◌, length, refl, sym, ap, subst, ◌∙◌, arith}
-use Rattle.std.specs.Prelude.{IsTrue, ◌||◌, ◌==◌, All, slice_get, if◌then◌else◌, ⊤}
+use Rattle.std.proofs.Common.{◌≡◌, ⊎_elim, ℕ, ◌≤◌, ℤ, pos, Bool, true, false, Some, None, Option, List, [], ◌∷◌, length, sym, subst, ◌∙◌}
+use Rattle.std.specs.Prelude.{IsTrue, ◌==◌, All, slice_get}
 use Rattle.std.specs.Int.{w64}
 use Rattle.std.specs.Int.RustNames.{FitsSigned}
 use Rattle.std.specs.List.{Contains, list_any}
 use Rattle.std.specs.Option.{unwrap_or}
 use Rattle.std.proofs.lemmas.Bool.{or_cases, or_left, or_right, false≢true}
-use Rattle.std.proofs.lemmas.List.Elements.{All-contains}
 use Rattle.pv_base.specs.declared.limits.TheConstants.{HELD_NAMES}
 use Rattle.pv_base.specs.declared.literal.Literal.{Literal}
 use Rattle.pv_base.specs.declared.txn.TxnId.{TxnId}
 use Rattle.pv_base.specs.Assignment.{AreAscending, is_same_txn, commits}
 use Rattle.pv_base.specs.Catalog.{Item, Declared}
-use Rattle.pv_base.specs.Named.{with_txn, with_txns, names_of}
+use Rattle.pv_base.specs.Named.{with_txns, names_of}
 use Rattle.pv_base.specs.Polyvalue.{Case, IsCanonical, meets, names, value_at}
 use Rattle.pv_format.specs.Range.{IsTxnInRange, IsCaseInRange, IsPolyvalueInRange, IsRecordInRange}
 use Rattle.pv_format.specs.Record.{Record, epoch_begun, prepared, outcome_known}
 use Rattle.pv_law_step.proofs.FitLemmas.{Fits, zero-fits}
-use Rattle.pv_law_step.proofs.Lists.{all-from, all-head, all-tail, OfSome, of-some, slice-of}
-use Rattle.pv_law_step.proofs.NameLists.{inserted, united, names-are, listed-names, names-listed, names-ascend, undecided-ascend, undecided-listed}
+use Rattle.pv_law_step.proofs.Lists.{all-from, all-head, all-tail, OfSome, slice-of}
+use Rattle.pv_law_step.proofs.NameLists.{inserted, united, names-are, listed-names, undecided-listed}
 use Rattle.pv_law_step.proofs.ShownLemmas.{after-ascends, none-ascend, shown-canonical, shown-value, shown-names}
 use Rattle.pv_law_step.proofs.StepCases.{if_case}
 use Rattle.pv_base.proofs.AssignmentLemmas.{same-refl, same-eq}
 use Rattle.pv_law_polyvalues.proofs.ExistenceLemmas.{case-met}
-use Rattle.pv_base.proofs.ContainsLemmas.{Contains-first, Contains-behind, Contains-nil, Contains-cases}
+use Rattle.pv_base.proofs.ContainsLemmas.{Contains-nil, Contains-cases}
 use Rattle.pv_law_polyvalues.proofs.NameLemmas.{NamesAtMost-from}
 use Rattle.pv_model.specs.Alternatives.{Read, number_at}
 use Rattle.pv_protocol.specs.Records.{known, undecided, choice}
@@ -71,7 +70,7 @@ literal-named [] literal h = absurd (Contains-nil literal h)
 literal-named (first ∷ rest) literal h =
     ⊎_elim
     (λ same. or_left (is_same_txn literal.txn first.txn) (list_any (λ (l : Literal). is_same_txn literal.txn l.txn) rest)
-        (subst (λ (l : Literal). is_same_txn l.txn first.txn ≡ true) same (same-refl first.txn)))
+    (subst (λ (l : Literal). is_same_txn l.txn first.txn ≡ true) same (same-refl first.txn)))
     (λ behind. or_right (is_same_txn literal.txn first.txn) (list_any (λ (l : Literal). is_same_txn literal.txn l.txn) rest) (literal-named rest literal behind))
     (Contains-cases first rest literal h)
 
@@ -81,7 +80,7 @@ case-named (first ∷ rest) case literal h k =
     let first-names = list_any (λ (l : Literal). is_same_txn literal.txn l.txn) first.when in
     ⊎_elim
     (λ same. or_left (list_any (λ (l : Literal). is_same_txn literal.txn l.txn) first.when) (names rest literal.txn)
-        (literal-named first.when literal (subst (λ (c : Case ℤ). Contains c.when literal) (sym same) k)))
+    (literal-named first.when literal (subst (λ (c : Case ℤ). Contains c.when literal) (sym same) k)))
     (λ behind. or_right (list_any (λ (l : Literal). is_same_txn literal.txn l.txn) first.when) (names rest literal.txn) (case-named rest case literal behind k))
     (Contains-cases first rest case h)
 
@@ -166,4 +165,4 @@ shown-in-range catalog values records front all item few =
     (λ t named. front-in-range records item front all [] none-ascend (λ u h. absurd (Contains-nil u h)) t (shown-names catalog records front item t named))
     (item_within catalog records front item) (shown-value catalog records front item)
     (λ a. newest-fits item (choice records a) front all (declared_value catalog item)
-        (declared-fits (slice_get catalog.items item) (slice-of (λ (i : Item). FitsSigned w64 i.value) catalog.items item values)))
+    (declared-fits (slice_get catalog.items item) (slice-of (λ (i : Item). FitsSigned w64 i.value) catalog.items item values)))

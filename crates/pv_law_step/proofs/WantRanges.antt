@@ -1,21 +1,19 @@
 -- What a program wants of a site is in range.
-use Rattle.std.proofs.Common.{◌≡◌, ◌⊎◌, ⊎_elim, ℕ, zero, suc, ◌+◌, ◌<◌, ◌≤◌, Bool, true, false, Some, None, List, [], ◌∷◌, inl, inr, length, refl, sym, ap, subst, ◌∙◌, arith}
-use Rattle.std.specs.Prelude.{IsTrue, ◌&&◌, ◌==◌, nat_lt, map, filter, All, if◌then◌else◌}
+use Rattle.std.proofs.Common.{◌≡◌, ◌⊎◌, ⊎_elim, ℕ, zero, suc, ◌+◌, ◌<◌, ◌≤◌, Bool, true, false, List, [], ◌∷◌, inl, inr, length, refl, sym, subst, arith}
+use Rattle.std.specs.Prelude.{IsTrue, ◌&&◌, ◌==◌, nat_lt, map, All, if◌then◌else◌}
 use Rattle.std.specs.List.{AllPairs, Contains}
-use Rattle.std.proofs.lemmas.Bool.{and_parts, and_from, eqb-true, eq-eqb, ltb-true, false≢true}
-use Rattle.std.proofs.lemmas.List.Elements.{All-contains, All-contains_itself, All-cons, All-nil}
+use Rattle.std.proofs.lemmas.Bool.{and_parts, and_from, eq-eqb}
+use Rattle.std.proofs.lemmas.List.Elements.{All-contains}
 use Rattle.std.proofs.lemmas.List.Kept.{AllPairs-cons}
 use Rattle.pv_base.specs.Catalog.{Item, Declared}
-use Rattle.pv_base.specs.declared.limits.TheConstants.{MAX_ITEMS, MAX_PROGRAM_ITEMS}
+use Rattle.pv_base.specs.declared.limits.TheConstants.{MAX_ITEMS}
 use Rattle.pv_base.specs.Want.{Want}
 use Rattle.pv_format.specs.Range.{AreItemsInRange, AreWantsInRange}
 use Rattle.pv_law_step.proofs.Lists.{all-from, all-head, all-tail}
 use Rattle.pv_law_step.proofs.StepCases.{if_case}
 use Rattle.pv_base.proofs.ContainsLemmas.{Contains-first, Contains-behind, Contains-nil, Contains-cases}
-use Rattle.pv_base.proofs.MapLemmas.{Contains-unmap}
-use Rattle.pv_model.specs.Check.{AreItems, names}
+use Rattle.pv_model.specs.Check.{names}
 use Rattle.pv_model.specs.Plan.{want_of, wants_from, wants_of, with_site, sites_from, participants_of}
-use Rattle.pv_model.specs.ProgramLaws.{assigns}
 use Rattle.pv_model.specs.Syntax.{Program}
 use Rattle.pv_protocol.specs.Coordinate.{exclusive_items}
 use Rattle.pv_protocol.specs.Sound.{CanRun}
@@ -54,9 +52,9 @@ fewer-numbers (y ∷ ys) (x ∷ xs) up down within =
     let rest = fewer-numbers ys (x ∷ xs) up (ascend-tail y ys down)
     (λ n h. ⊎_elim
     (λ first. absurd (⊎_elim
-        (λ here. omega (arith, ascend-first y ys down x later, first, here))
-        (λ there. omega (arith, ascend-first y ys down x later, ascend-first x xs up n there, first))
-        (Contains-cases x xs n h)))
+    (λ here. omega (arith, ascend-first y ys down x later, first, here))
+    (λ there. omega (arith, ascend-first y ys down x later, ascend-first x xs up n there, first))
+    (Contains-cases x xs n h)))
     (λ behind. behind)
     (Contains-cases y ys n (within n h))) in
     omega (arith, rest))
@@ -110,8 +108,12 @@ module _ (program : Program) (site : ℕ) where
       record {
         ascending = is.ascending;
         each = all-from (λ n. n < MAX_ITEMS) (wanted 0 catalog.items) (λ n h. omega (arith, (is.each n h).most, small));
-        few = omega (arith, fewer-numbers can.runnable.items (wanted 0 catalog.items) is.ascending can.runnable.are.ascending
-      (λ n h. can.runnable.are.whole n (is.each n h).named), can.runnable.few);
+        few = omega (
+          arith,
+          fewer-numbers can.runnable.items (wanted 0 catalog.items) is.ascending can.runnable.are.ascending
+              (λ n h. can.runnable.are.whole n (is.each n h).named),
+          can.runnable.few,
+        );
       }
 
 -- Participants.
@@ -122,11 +124,11 @@ with-site-cases site (first ∷ rest) s h =
     if_case (λ (sites : List ℕ). Contains sites s → (site ≡ s) ⊎ Contains (first ∷ rest) s) (site == first)
     (λ same k. inr k)
     (λ other. if_case (λ (sites : List ℕ). Contains sites s → (site ≡ s) ⊎ Contains (first ∷ rest) s) (nat_lt site first)
-        (λ before k. Contains-cases site (first ∷ rest) s k)
-        (λ behind k. ⊎_elim
-            (λ here. inr (subst (Contains (first ∷ rest)) here (Contains-first first rest)))
-            (λ there. ⊎_elim (λ new. inl new) (λ old. inr (Contains-behind first rest s old)) (with-site-cases site rest s there))
-            (Contains-cases first (with_site site rest) s k)))
+    (λ before k. Contains-cases site (first ∷ rest) s k)
+    (λ behind k. ⊎_elim
+    (λ here. inr (subst (Contains (first ∷ rest)) here (Contains-first first rest)))
+    (λ there. ⊎_elim (λ new. inl new) (λ old. inr (Contains-behind first rest s old)) (with-site-cases site rest s there))
+    (Contains-cases first (with_site site rest) s k)))
     h
 
 grown : (b : Bool) (wants : List Want) (want : Want) → 1 ≤ length wants → 1 ≤ length (if b then want ∷ wants else wants)
@@ -175,9 +177,9 @@ exclusive-members [] n h = absurd (Contains-nil n h)
 exclusive-members (want ∷ wants) n h =
     if_case (λ (kept : List Want). Contains (map (λ (w : Want). w.item) kept) n → Contains (want.item ∷ map (λ (w : Want). w.item) wants) n) want.exclusive
     (λ exclusive k. ⊎_elim
-        (λ same. subst (Contains (want.item ∷ map (λ (w : Want). w.item) wants)) same (Contains-first want.item (map (λ (w : Want). w.item) wants)))
-        (λ behind. Contains-behind want.item (map (λ (w : Want). w.item) wants) n (exclusive-members wants n behind))
-        (Contains-cases want.item (exclusive_items wants) n k))
+    (λ same. subst (Contains (want.item ∷ map (λ (w : Want). w.item) wants)) same (Contains-first want.item (map (λ (w : Want). w.item) wants)))
+    (λ behind. Contains-behind want.item (map (λ (w : Want). w.item) wants) n (exclusive-members wants n behind))
+    (Contains-cases want.item (exclusive_items wants) n k))
     (λ shared k. Contains-behind want.item (map (λ (w : Want). w.item) wants) n (exclusive-members wants n k))
     h
 
@@ -187,7 +189,7 @@ exclusive-ascend (want ∷ wants) up =
     let rest = exclusive-ascend wants (ascend-tail want.item (map (λ (w : Want). w.item) wants) up) in
     if_case (λ (kept : List Want). Ascend (map (λ (w : Want). w.item) kept)) want.exclusive
     (λ exclusive. ascend-cons want.item (exclusive_items wants)
-        (λ m h. ascend-first want.item (map (λ (w : Want). w.item) wants) up m (exclusive-members wants m h)) rest)
+    (λ m h. ascend-first want.item (map (λ (w : Want). w.item) wants) up m (exclusive-members wants m h)) rest)
     (λ shared. rest)
 
 exclusive-few : (wants : List Want) → length (exclusive_items wants) ≤ length (map (λ (want : Want). want.item) wants)

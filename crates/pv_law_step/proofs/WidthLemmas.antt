@@ -183,7 +183,14 @@ narrow-now limit catalog records narrow item = now-by (ending records) where
   now-by (unwritten same) =
       omega (arith, nameless catalog records records item (declared_value catalog item) (λ a. same item (choice records a) (declared_value catalog item)))
   now-by (written_last before after txn writes split same) =
-      omega (arith,
-      narrower catalog records (before ++ prepared txn writes ∷ []) records records item (λ a. a) (λ a b t alike. alike)
-      (λ a. same item (choice records a) (declared_value catalog item)),
-      narrow.few before after txn writes item split)
+      omega (
+        arith,
+        narrower catalog records (before ++ prepared txn writes ∷ []) records records item (λ a. a) (λ a b t alike. alike)
+            (λ a. same item (choice records a) (declared_value catalog item)),
+        narrow.few before after txn writes item split,
+      )
+
+-- An item that a promise doesn't write stays narrow.
+pub unwritten-narrow : (limit : ℕ) (catalog : Declared) (records : List Record) → IsNarrow limit catalog records → (txn : TxnId) (writes : List Read) (item : ℕ)
+    → written item writes ≡ None → length (names_of (shown catalog (records ++ prepared txn writes ∷ []) item)) ≤ limit
+unwritten-narrow limit catalog records narrow txn writes item none = unwritten-fits catalog limit records narrow txn writes item none (ending records)

@@ -12,10 +12,11 @@ use Rattle.pv_protocol.specs.Start.{fresh}
 use Rattle.pv_protocol.specs.State.{Setup, Running, Input, submit, receive, tick, Note, Outgoing, Step}
 use Rattle.pv_protocol.specs.Step.{site_step}
 
--- the site `number` in its first epoch: its transaction of this number
+-- the site's transaction of this number, in its first epoch
 abbrev pub txn_at : ℕ → ℕ → TxnId
 txn_at site number = record { site = record { 0 = site }; epoch = 1; number = number }
 
+-- a literal: the transaction has this outcome
 abbrev pub when : TxnId → Bool → Literal
 when txn outcome = record { txn = txn; commits = outcome }
 
@@ -28,6 +29,7 @@ abbrev pub either : TxnId → ℤ → ℤ → List (Case ℤ)
 either txn aborted committed =
     record { when = when txn false ∷ []; value = aborted } ∷ record { when = when txn true ∷ []; value = committed } ∷ []
 
+-- an item and its new value
 abbrev pub write : ℕ → List (Case ℤ) → Read
 write item cases = record { item = item; cases = cases }
 
@@ -43,7 +45,7 @@ bank = record {
   held_names = 8;
 }
 
--- a := a + 1
+-- the program `a := a + 1`
 abbrev pub raise : syntax.Program
 raise = syntax.assign 0 (syntax.two syntax.plus (syntax.item 0) (syntax.number (pos 1))) syntax.end
 

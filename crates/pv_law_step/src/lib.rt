@@ -16,13 +16,18 @@ pub use cases::{
 pub use examples::{alone_it_commits, in_doubt_it_asks};
 pub use keyed::{memory_stays_in_order, one_less_is_gone, one_more_is_found};
 pub use ranges::{
-    plans_are_in_range, programs_stay_in_range, sends_are_in_range, shown_values_are_in_range,
-    starts_are_sound, steps_stay_sound,
+    plans_are_in_range, programs_stay_in_range, records_are_spelled, sends_are_in_range,
+    sends_are_spelled, shown_values_are_in_range, starts_are_sound, steps_stay_sound,
 };
-pub use steps::{appends_what_it_may, few_inputs_append, numbers_rise, only_grants_place};
+pub use steps::{
+    appends_what_it_may, denials_name_the_least, few_inputs_append, numbers_rise, only_grants_place,
+};
 pub use values::{
     epochs_change_no_value, names_are_listed, new_values_are_computed, outcomes_settle,
     promises_are_choices, replies_are_computed, shown_has_the_value, shown_is_canonical,
     shown_names_no_known,
 };
-pub use width::{no_records_are_narrow, starts_keep_width, steps_keep_width};
+pub use width::{
+    no_records_are_narrow, only_written_values_widen, shown_values_are_narrow, starts_keep_width,
+    steps_keep_width,
+};

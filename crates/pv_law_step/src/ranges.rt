@@ -7,7 +7,9 @@ ghost use Rattle.pv_base.specs.Catalog.{Declared};
 ghost use Rattle.pv_base.specs.Named.{names_of};
 ghost use Rattle.pv_base.specs.declared.limits.TheConstants.{HELD_NAMES, MAX_ITEMS};
 ghost use Rattle.pv_format.specs.Range.{AreWantsInRange, IsPolyvalueInRange, IsRecordInRange};
+ghost use Rattle.pv_format.specs.MessageSpelling.{SpellsEnvelope};
 ghost use Rattle.pv_format.specs.Record.{Record};
+ghost use Rattle.pv_format.specs.RecordSpelling.{SpellsRecord};
 ghost use Rattle.pv_model.specs.Meaning.{Row, exec};
 ghost use Rattle.pv_model.specs.Plan.{participants_of, wants_of};
 ghost use Rattle.pv_model.specs.Syntax.{Program};
@@ -16,7 +18,7 @@ ghost use Rattle.pv_protocol.specs.Shown.{shown};
 ghost use Rattle.pv_protocol.specs.Sound.{CanRun, IsInputInRange, IsSentInRange, IsSetupInRange, IsSound, has_small_numbers};
 ghost use Rattle.pv_protocol.specs.Start.{site_start, starts};
 ghost use Rattle.pv_protocol.specs.State.{Input, Running, Setup};
-ghost use Rattle.pv_protocol.specs.Step.{after_step, step_on};
+ghost use Rattle.pv_protocol.specs.Step.{after_step, records_after, step_on};
 ghost use Rattle.pv_protocol.specs.Width.{IsNarrow};
 
 /// A program of numbers of 64 bits leaves values of 64 bits where it finds such values.
@@ -53,4 +55,16 @@ pub fn starts_are_sound()
     ensures { (setup : Setup) (me : ℕ) (records : List Record) → IsSetupInRange setup → me < setup.catalog.sites → All IsRecordInRange records →
         IsNarrow setup.held_names setup.catalog records → (running : Running) (new : Record) → site_start setup records ≡ starts running new →
         IsSound (record { me = me; setup = setup; records = records ++ new ∷ []; running = running }) }
+{}
+
+/// Each message that a site sends has a spelling, where what it holds and what it is given is in range.
+pub fn sends_are_spelled()
+    ensures { (here : Here) (input : Input) → IsSound here → IsInputInRange here input →
+        All (λ sent. (bytes : List ℕ) × SpellsEnvelope (record { from = here.me; to = sent.to; message = sent.message }) bytes) (step_on here input).sends }
+{}
+
+/// The records of a site have spellings, also the one that a step appends.
+pub fn records_are_spelled()
+    ensures { (here : Here) (input : Input) → IsSound here → IsInputInRange here input →
+        All (λ kept. (bytes : List ℕ) × SpellsRecord kept bytes) (records_after here.records (step_on here input)) }
 {}

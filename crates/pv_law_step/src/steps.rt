@@ -1,17 +1,20 @@
 // What every step keeps.
-ghost use Rattle.std.specs.Prelude.{◌≡◌, ℕ, Bool, List, None};
+ghost use Rattle.std.specs.Prelude.{◌≡◌, ℕ, Bool, List, None, Some, map};
 ghost use Rattle.pv_base.specs.Want.{Want};
 ghost use Rattle.pv_base.specs.declared.grant.GrantId.{GrantId};
 ghost use Rattle.pv_base.specs.declared.txn.TxnId.{TxnId};
 ghost use Rattle.pv_format.specs.Message.{NoCause};
+ghost use Rattle.pv_format.specs.Range.{AreItemsInRange};
 ghost use Rattle.pv_law_step.specs.Appends.{Appends, Rises};
 ghost use Rattle.pv_model.specs.Alternatives.{Read};
 ghost use Rattle.pv_model.specs.Syntax.{Program};
+ghost use Rattle.pv_protocol.specs.Conflicts.{IsLeastConflict};
 ghost use Rattle.pv_protocol.specs.Granted.{on_denied, on_granted};
 ghost use Rattle.pv_protocol.specs.Here.{Here};
-ghost use Rattle.pv_protocol.specs.Lock.{on_lock, on_submit};
+ghost use Rattle.pv_protocol.specs.Keyed.{AreInOrder};
+ghost use Rattle.pv_protocol.specs.Lock.{Conflict, first_conflict, on_lock, on_submit};
 ghost use Rattle.pv_protocol.specs.Outcome.{on_ask, on_outcome};
-ghost use Rattle.pv_protocol.specs.State.{Input};
+ghost use Rattle.pv_protocol.specs.State.{Grant, Input};
 ghost use Rattle.pv_protocol.specs.Step.{step_on};
 ghost use Rattle.pv_protocol.specs.Tick.{on_tick};
 ghost use Rattle.pv_protocol.specs.Vote.{on_no, on_prepare, on_yes};
@@ -48,4 +51,10 @@ pub fn only_grants_place()
     ensures outcomes { (here : Here) (from : ℕ) (txn : TxnId) (commits : Bool) → (on_outcome here from txn commits).placed ≡ None }
     ensures questions { (here : Here) (from : ℕ) (txn : TxnId) → (on_ask here from txn).placed ≡ None }
     ensures ticks { (here : Here) → (on_tick here).placed ≡ None }
+{}
+
+/// A denial names the least item over which there is a conflict, and its least holder.
+pub fn denials_name_the_least()
+    ensures { (grants : List Grant) (wants : List Want) → AreInOrder (λ (grant : Grant). grant.txn) grants → AreItemsInRange (map (λ (want : Want). want.item) wants) →
+        (conflict : Conflict) → first_conflict grants wants ≡ Some conflict → IsLeastConflict grants wants conflict.item conflict.holder }
 {}

@@ -1,12 +1,10 @@
 -- What a site holds is in range. Then so is what it sends and records.
-use Rattle.std.specs.Prelude.{ℕ, ◌<◌, ◌≤◌, ◌^◌, Bool, true, ◌&&◌, List, length, All, IsTrue, ⊤}
+use Rattle.std.specs.Prelude.{◌<◌, ◌≤◌, Bool, true, ◌&&◌, length, All, IsTrue, ⊤}
 use Rattle.std.specs.Int.{w64}
 use Rattle.std.specs.Int.RustNames.{FitsSigned}
 use Rattle.pv_base.specs.Catalog.{Declared}
-use Rattle.pv_base.specs.declared.limits.TheConstants.{MAX_SITES, MAX_ITEMS, MAX_JOURNAL, MAX_PROGRAM_ITEMS, HELD_NAMES, NEVER_GIVEN}
-use Rattle.pv_format.specs.Message.{Envelope}
+use Rattle.pv_base.specs.declared.limits.TheConstants.{MAX_SITES, MAX_ITEMS, MAX_JOURNAL, HELD_NAMES, NEVER_GIVEN}
 use Rattle.pv_format.specs.Range.{IsTxnInRange, IsGrantInRange, AreReadsInRange, AreWantsInRange, IsEnvelopeInRange, IsRecordInRange}
-use Rattle.pv_format.specs.Record.{Record}
 use Rattle.pv_model.specs.Meaning.{fits_i64}
 use Rattle.pv_model.specs.Syntax.{Expr, number, item, minus, negation, two, Program, end, assign, require, return, when, when_else}
 use Rattle.pv_protocol.specs.Here.{Here}

@@ -1,22 +1,18 @@
 -- By what a step may append.
-use Rattle.std.proofs.Common.{◌≡◌, ℕ, ◌≤◌, false, Some, None, Option, List, [], ◌∷◌, ◌++◌, refl, sym, subst, arith}
-use Rattle.std.specs.Prelude.{All}
+use Rattle.std.proofs.Common.{◌≡◌, ◌≤◌, false, Option, [], ◌∷◌, ◌++◌, sym, subst, arith}
 use Rattle.std.specs.Option.{option_to_list}
 use Rattle.std.proofs.lemmas.Bool.{ltb-false}
 use Rattle.std.proofs.lemmas.List.{append-nil}
-use Rattle.std.proofs.lemmas.List.Elements.{All-append, All-cons, All-nil}
-use Rattle.pv_format.specs.Range.{IsRecordInRange}
 use Rattle.pv_format.specs.Record.{Record}
 use Rattle.pv_law_step.proofs.Appended.{steady}
 use Rattle.pv_law_step.proofs.JournalLemmas.{journal-more}
-use Rattle.pv_law_step.proofs.Lists.{OfSome}
-use Rattle.pv_law_step.proofs.SoundSteps.{safe}
+use Rattle.pv_law_step.proofs.SoundSteps.{all-records, safe}
 use Rattle.pv_law_step.proofs.WidthSteps.{step-narrow}
 use Rattle.pv_law_step.proofs.ranges.steps_stay_sound.Goals as goal
 use Rattle.pv_law_step.specs.Appends.{Appends, nothing_at_all, an_outcome, a_promise}
 use Rattle.pv_protocol.specs.Here.{Here, is_full, length_with}
 use Rattle.pv_protocol.specs.Records.{journal_bytes}
-use Rattle.pv_protocol.specs.Sound.{IsSound, IsInputInRange}
+use Rattle.pv_protocol.specs.Sound.{IsSound}
 
 module _ (here : Here) (sound : IsSound here) where
   with-room : (more : Record) → is_full here more ≡ false → journal_bytes (here.records ++ more ∷ []) ≤ here.setup.catalog.journal
@@ -26,10 +22,6 @@ module _ (here : Here) (sound : IsSound here) where
   room-left more nothing_at_all = subst (λ records. journal_bytes records ≤ here.setup.catalog.journal) (sym (append-nil here.records)) sound.room
   room-left more (an_outcome txn commits room) = with-room _ room
   room-left more (a_promise txn writes is room) = with-room _ room
-
-  all-records : (more : Option Record) → OfSome IsRecordInRange more → All IsRecordInRange (here.records ++ option_to_list more)
-  all-records None is = All-append IsRecordInRange here.records [] sound.records (All-nil IsRecordInRange)
-  all-records (Some more) is = All-append IsRecordInRange here.records (more ∷ []) sound.records (All-cons IsRecordInRange more [] is (All-nil IsRecordInRange))
 
 pub returns : goal.returns
 returns c = λ here input sound is.

@@ -1,10 +1,10 @@
 -- Each case of these steps says so.
-use Rattle.std.proofs.Common.{◌≡◌, ℕ, Bool, None, List, refl}
+use Rattle.std.proofs.Common.{◌≡◌, ℕ, None, List, refl}
 use Rattle.pv_base.specs.declared.grant.GrantId.{GrantId}
 use Rattle.pv_base.specs.declared.txn.TxnId.{TxnId}
 use Rattle.pv_base.specs.Want.{Want}
 use Rattle.pv_format.specs.Message.{NoCause}
-use Rattle.pv_law_step.proofs.StepCases.{submit-case, lock-case, granted-case, denied-case, prepare-case, yes-case, no-case, outcome-case, ask-case}
+use Rattle.pv_law_step.proofs.StepCases.{submit-case, lock-case, granted-case, denied-case, no-case, ask-case}
 use Rattle.pv_law_step.proofs.steps.few_inputs_append.Goals as goal
 use Rattle.pv_law_step.specs.GrantCases as of_grants
 use Rattle.pv_law_step.specs.LockCases as of_locks

@@ -1,7 +1,6 @@
 -- By what one more record does to the outcomes and to the newest write.
 use Rattle.std.proofs.Common.{[], ◌∷◌, ◌++◌, ap, ◌∙◌}
-use Rattle.pv_base.specs.Assignment.{with_outcome}
-use Rattle.pv_format.specs.Record.{epoch_begun, prepared, outcome_known}
+use Rattle.pv_format.specs.Record.{prepared}
 use Rattle.pv_law_step.proofs.OutcomeLemmas.{choice-more}
 use Rattle.pv_law_step.proofs.WidthLemmas.{newest-more}
 use Rattle.pv_law_step.proofs.values.promises_are_choices.Goals as goal
