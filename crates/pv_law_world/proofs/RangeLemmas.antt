@@ -1,5 +1,5 @@
 -- Worlds stay in range.
-use Rattle.std.proofs.Common.{arith, ◌≡◌, ℕ, zero, suc, ◌+◌, ◌<◌, ◌≤◌, Bool, true, false, Some, None, Option, List, [], ◌∷◌, ◌++◌, length, map, refl, sym, ap, ◌∙◌, subst}
+use Rattle.std.proofs.Common.{arith, ◌≡◌, ℕ, zero, suc, ◌+◌, ◌<◌, Bool, true, false, Some, None, Option, List, [], ◌∷◌, ◌++◌, length, refl, sym, ◌∙◌, subst}
 use Rattle.std.specs.Prelude.{get_or, set, slice_get, option_to_list, nat_lt, ◌&&◌, if◌then◌else◌, All}
 use Rattle.std.proofs.lemmas.List.{append-nil, length-set}
 use Rattle.std.proofs.lemmas.List.Elements.{All-append, All-map, All-nil, All-contains}
@@ -11,12 +11,12 @@ use Rattle.pv_format.specs.Record.{Record}
 use Rattle.pv_law_world.specs.Ranges.{IsSiteInRange, IsWorldInRange, IsEventInRange}
 use Rattle.pv_model.specs.Events.{Event}
 use Rattle.pv_protocol.specs.Arms.{Reached, waits, fires, reached, calls_of, is_kept, attempted}
-use Rattle.pv_protocol.specs.Attempt.{Attempt, Begun, settled, attempts, begun, given, delivered, lost, halted, opened, of_step, of_start}
+use Rattle.pv_protocol.specs.Attempt.{Attempt, Begun, settled, attempts, begun, given, delivered, lost, halted, opened, of_start}
 use Rattle.pv_protocol.specs.Here.{Here}
 use Rattle.pv_protocol.specs.Lines.{Line}
-use Rattle.pv_protocol.specs.Sound.{CanRun, IsRunningInRange, IsSetupInRange, IsSound, IsInputInRange, IsSentInRange}
+use Rattle.pv_protocol.specs.Sound.{IsRunningInRange, IsSetupInRange, IsSound, IsInputInRange, IsSentInRange}
 use Rattle.pv_protocol.specs.Start.{Started, starts, too_long, no_epoch, site_start}
-use Rattle.pv_protocol.specs.State.{Setup, Running, Site, Input, submit, receive, tick, Outgoing}
+use Rattle.pv_protocol.specs.State.{Setup, Running, Site, Input, submit, receive, tick}
 use Rattle.pv_protocol.specs.Step.{step_on, after_step}
 use Rattle.pv_protocol.specs.Width.{IsNarrow}
 use Rattle.pv_protocol.specs.World.{World, no_site, site_at, with_site, with_done, from_site}
@@ -33,12 +33,13 @@ no-some : {A : Type 0} {x : A} → None ≡ Some x → ⊥
 no-some is = cc
 
 -- A site that is down, with the records of one in range.
-down-in-range : {setup : Setup} {site : Site} → IsSiteInRange setup site → (down : Site) → down.records ≡ site.records → down.running ≡ None → IsSiteInRange setup down
+pub down-in-range : {setup : Setup} {site : Site} → IsSiteInRange setup site → (down : Site) → down.records ≡ site.records → down.running ≡ None → IsSiteInRange setup down
 down-in-range {setup} {site} fine down records none = record {
   records = rw records fine.records;
   narrow = subst (IsNarrow setup.held_names setup.catalog) (sym records) fine.narrow;
   room = rw records fine.room;
-  running = λ running is. absurd (no-some (sym none ∙ is)) }
+  running = λ running is. absurd (no-some (sym none ∙ is));
+}
 
 -- A site's place in the list, put in range.
 put-in-range : (setup : Setup) (sites : List Site) (k : ℕ) (site : Site) → (k < length sites → IsSiteInRange setup site)
@@ -58,12 +59,12 @@ up-within (first ∷ sites) zero running is = omega arith
 up-within (first ∷ sites) (suc n) running is = let rest : n < length sites = up-within sites n running is in omega arith
 
 -- What a site attempts leaves it in range, and sends what is in range.
-record IsAttemptInRange (setup : Setup) (site : Site) (n : ℕ) (attempt : Attempt) : Type 0 where
-  whole : (whole : Site) → whole.records ≡ site.records ++ option_to_list attempt.appended → whole.running ≡ attempt.running → IsSiteInRange setup whole
-  sends : All IsEnvelopeInRange (from_site n attempt.sends)
+pub record IsAttemptInRange (setup : Setup) (site : Site) (n : ℕ) (attempt : Attempt) : Type 0 where
+  pub whole : (whole : Site) → whole.records ≡ site.records ++ option_to_list attempt.appended → whole.running ≡ attempt.running → IsSiteInRange setup whole
+  pub sends : All IsEnvelopeInRange (from_site n attempt.sends)
 
 -- What an event comes to before any write is in range.
-data IsBegunInRange (setup : Setup) : Begun → Type 0 where
+pub data IsBegunInRange (setup : Setup) : Begun → Type 0 where
   settles : (lines : List Line) (after : World) → IsWorldInRange setup after → IsBegunInRange setup (settled lines after)
   goes_on : (before : World) (n : ℕ) (attempt : Attempt) → IsWorldInRange setup before
       → (n < length before.sites → IsSiteInRange setup (site_at before n) → IsAttemptInRange setup (site_at before n) n attempt)
@@ -71,23 +72,24 @@ data IsBegunInRange (setup : Setup) : Begun → Type 0 where
 
 module _ (setup : Setup) where
   -- a site in range, put into a world in range
-  put-world : (world : World) (n : ℕ) (site : Site) → IsWorldInRange setup world
+  pub put-world : (world : World) (n : ℕ) (site : Site) → IsWorldInRange setup world
       → (n < length world.sites → IsSiteInRange setup (site_at world n) → IsSiteInRange setup site) → IsWorldInRange setup (with_site world n site)
   put-world world n site fine put = record {
     count = length-set world.sites n site ∙ fine.count;
     sites = λ m below.
-      put-in-range setup world.sites n site
-      (λ within. put within (fine.sites n (subst (λ (count : ℕ). n < count) fine.count within)))
-      (λ k under. fine.sites k (subst (λ (count : ℕ). k < count) fine.count under))
-      m (subst (λ (count : ℕ). m < count) (sym fine.count) below);
-    sent = fine.sent }
+        put-in-range setup world.sites n site
+        (λ within. put within (fine.sites n (subst (λ (count : ℕ). n < count) fine.count within)))
+        (λ k under. fine.sites k (subst (λ (count : ℕ). k < count) fine.count under))
+        m (subst (λ (count : ℕ). m < count) (sym fine.count) below);
+    sent = fine.sent;
+  }
 
-  attempted-range : (before : World) (n : ℕ) (attempt : Attempt) → IsWorldInRange setup before
+  pub attempted-range : (before : World) (n : ℕ) (attempt : Attempt) → IsWorldInRange setup before
       → (n < length before.sites → IsSiteInRange setup (site_at before n) → IsAttemptInRange setup (site_at before n) n attempt)
       → All IsEnvelopeInRange (from_site n attempt.sends) → (left : Reached) → IsWorldInRange setup (attempted before n attempt left).1
   attempted-range before n attempt fine may sends (waits arm) =
       let put : IsWorldInRange setup (with_site before n (record { records = (site_at before n).records ++ option_to_list attempt.appended; arm = arm; running = attempt.running }))
-            = put-world before n _ fine (λ within site_fine. (may within site_fine).whole _ refl refl) in
+      = put-world before n _ fine (λ within site_fine. (may within site_fine).whole _ refl refl) in
       record { count = put.count; sites = put.sites; sent = All-append IsEnvelopeInRange before.sent (from_site n attempt.sends) fine.sent sends }
   attempted-range before n attempt fine may sends (fires arm) = left-over (nat_lt (attempt.syncs + 2) arm.call && is_kept arm.mode)
     where
@@ -115,7 +117,13 @@ module _ (sends_stay : SendsInRange) (sound_stays : StaysSound) (setup : Setup) 
       let within : n < setup.catalog.sites = subst (λ (count : ℕ). n < count) fine.count (up-within world.sites n running is) in
       let site : IsSiteInRange setup (site_at world n) = fine.sites n within in
       record {
-        me = within; setup = setup_fine; records = site.records; narrow = site.narrow; room = site.room; running = site.running running is }
+        me = within;
+        setup = setup_fine;
+        records = site.records;
+        narrow = site.narrow;
+        room = site.room;
+        running = site.running running is;
+      }
 
   step-sends : (n : ℕ) (running : Running) (input : Input) → (site_at world n).running ≡ Some running → IsInputInRange (here_at setup world n running) input
       → All IsEnvelopeInRange (from_site n (step_on (here_at setup world n running) input).sends)
@@ -132,7 +140,8 @@ module _ (sends_stay : SendsInRange) (sound_stays : StaysSound) (setup : Setup) 
         records = rw records sound.records;
         narrow = subst (IsNarrow setup.held_names setup.catalog) (sym records) sound.narrow;
         room = rw records sound.room;
-        running = λ now was. subst (IsRunningInRange setup.catalog) (Some_inj (sym memory ∙ was)) sound.running }
+        running = λ now was. subst (IsRunningInRange setup.catalog) (Some_inj (sym memory ∙ was)) sound.running;
+      }
 
   given-range : (n : ℕ) (input : Input) → ((running : Running) → IsInputInRange (here_at setup world n running) input)
       → (running : Option Running) → (site_at world n).running ≡ running → IsBegunInRange setup (given setup world n input running)
@@ -182,18 +191,24 @@ module _ (sends_stay : SendsInRange) (sound_stays : StaysSound) (starts_sound : 
       → IsSiteInRange setup (site_at world n) → IsAttemptInRange setup (site_at world n) n (of_start n started)
   started-range n (starts running new) is within site = record {
     whole = λ whole records memory.
-      let sound : IsSound (record { me = n; setup = setup; records = (site_at world n).records ++ new ∷ []; running = running })
-            = starts_sound setup n (site_at world n).records setup_fine (subst (λ (count : ℕ). n < count) fine.count within) site.records site.narrow running new is in
-      record {
-        records = rw records sound.records;
-        narrow = subst (IsNarrow setup.held_names setup.catalog) (sym records) sound.narrow;
-        room = rw records sound.room;
-        running = λ now was. subst (IsRunningInRange setup.catalog) (Some_inj (sym memory ∙ was)) sound.running };
-    sends = All-nil IsEnvelopeInRange }
+        let sound : IsSound (record { me = n; setup = setup; records = (site_at world n).records ++ new ∷ []; running = running })
+        = starts_sound setup n (site_at world n).records setup_fine (subst (λ (count : ℕ). n < count) fine.count within) site.records site.narrow running new is in
+        record {
+          records = rw records sound.records;
+          narrow = subst (IsNarrow setup.held_names setup.catalog) (sym records) sound.narrow;
+          room = rw records sound.room;
+          running = λ now was. subst (IsRunningInRange setup.catalog) (Some_inj (sym memory ∙ was)) sound.running;
+        };
+    sends = All-nil IsEnvelopeInRange;
+  }
   started-range n (too_long bytes) is within site = record {
-    whole = λ whole records memory. down-in-range site whole (records ∙ append-nil _) memory; sends = All-nil IsEnvelopeInRange }
+    whole = λ whole records memory. down-in-range site whole (records ∙ append-nil _) memory;
+    sends = All-nil IsEnvelopeInRange;
+  }
   started-range n no_epoch is within site = record {
-    whole = λ whole records memory. down-in-range site whole (records ∙ append-nil _) memory; sends = All-nil IsEnvelopeInRange }
+    whole = λ whole records memory. down-in-range site whole (records ∙ append-nil _) memory;
+    sends = All-nil IsEnvelopeInRange;
+  }
 
   start-silent : (n : ℕ) (started : Started) → All IsEnvelopeInRange (from_site n (of_start n started).sends)
   start-silent n (starts running new) = All-nil IsEnvelopeInRange
@@ -205,7 +220,7 @@ module _ (sends_stay : SendsInRange) (sound_stays : StaysSound) (starts_sound : 
   opened-range n None =
       goes_on world n _ fine (started-range n (site_start setup (site_at world n).records) refl) (start-silent n (site_start setup (site_at world n).records))
 
-  begun-range : (event : Event) → IsEventInRange setup.catalog event → IsBegunInRange setup (begun setup world event)
+  pub begun-range : (event : Event) → IsEventInRange setup.catalog event → IsBegunInRange setup (begun setup world event)
   unfolding begun
   begun-range (Event.submit n query text program) good = given-here world fine n (submit program) (λ running. good.1)
   begun-range (Event.deliver number) good = delivered-range number (slice_get world.sent number) refl

@@ -1,5 +1,5 @@
 -- Worlds and events that are in range.
-use Rattle.std.specs.Prelude.{◌≡◌, ℕ, ◌<◌, ◌≤◌, Some, List, length, All}
+use Rattle.std.specs.Prelude.{◌≡◌, ℕ, ◌<◌, ◌≤◌, Some, length, All}
 use Rattle.pv_base.specs.Catalog.{Declared}
 use Rattle.pv_format.specs.Range.{IsEnvelopeInRange, IsRecordInRange}
 use Rattle.pv_model.specs.Events.{Event, submit}
