@@ -1,5 +1,5 @@
 -- What `==` says of two cases, and of two lists of them: whether they are one.
-use Rattle.std.proofs.Common.{◌≡◌, Bool, true, false, ◌&&◌, Decides, MatchBool, List, refl, sym, ap, subst, ◌∙◌}
+use Rattle.std.proofs.Common.{◌≡◌, Bool, true, false, ◌&&◌, Decides, MatchBool, List, refl, ap, subst}
 use Rattle.std.specs.Bool.{beq}
 use Rattle.std.specs.Cmp.{booleans_Decides}
 use Rattle.std.specs.Cmp.Lexicographic.{pointwise, pointwise_decides}

@@ -1,16 +1,16 @@
 -- Values once some outcomes are known: of cases that name nothing, of those that name none of the first transaction, and of tests.
-use Rattle.std.proofs.Common.{◌≡◌, ◌⊎◌, ⊎_elim, Bool, true, false, List, [], ◌∷◌, ◌++◌, if◌then◌else◌, IsTrue, refl, sym, ap, subst, ◌∙◌, arith}
+use Rattle.std.proofs.Common.{◌≡◌, ◌⊎◌, ⊎_elim, Bool, true, false, List, [], ◌∷◌, ◌++◌, if◌then◌else◌, IsTrue, refl, sym, ap, subst, ◌∙◌}
 use Rattle.std.specs.List.{All, Contains}
 use Rattle.std.proofs.lemmas.Bool.{false≢true, false_from_ne_true}
 use Rattle.std.proofs.lemmas.List.Elements.{All-nil, All-cons, All-contains}
 use Rattle.pv_base.specs.declared.literal.Literal.{Literal}
 use Rattle.pv_base.specs.declared.txn.TxnId.{TxnId}
-use Rattle.pv_base.specs.Assignment.{is_same_txn, precedes, commits, with_outcome}
+use Rattle.pv_base.specs.Assignment.{precedes, commits, with_outcome}
 use Rattle.pv_base.specs.Polyvalue.{Case, value_at, names, under, with_outcomes, AreOutcomes, IsChoice, IsSettled, NamesOnlyAfter}
 use Rattle.pv_law_polyvalues.proofs.AscendingLemmas.{All-from_members}
 use Rattle.pv_base.proofs.OrderLemmas.{pairs-first, pairs-tail}
 use Rattle.pv_base.proofs.AssignmentLemmas.{commits-with-other, commits-with-same, precedes-irrefl, precedes-other', precedes-trans}
-use Rattle.pv_base.proofs.ContainsLemmas.{Contains-first, Contains-behind, Contains-cases}
+use Rattle.pv_base.proofs.ContainsLemmas.{Contains-first, Contains-behind}
 use Rattle.pv_law_polyvalues.proofs.PolyvalueLemmas.{behind-unnamed, unnamed-free, value_at-agree, value_at-tested}
 
 -- The outcomes of ascending literals without the first ..

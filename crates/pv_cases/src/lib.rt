@@ -13,8 +13,8 @@ pub use copy::copy_cases;
 pub use count::count_of_both;
 pub use difference::first_difference;
 pub use laws::{
-    equal_cases_are_one, no_canonical_fault, no_join_fault, one_canonical_fault, one_join_fault, some_canonical_fault,
-    some_join_fault,
+    equal_cases_are_one, no_canonical_fault, no_join_fault, one_canonical_fault, one_join_fault,
+    some_canonical_fault, some_join_fault,
 };
 pub use names::{names_of, ordered, push_names};
 pub use table::{Table, table_of};

@@ -53,24 +53,24 @@ impl<V: Exact> Tree<V> {
     {
         match first_of(txn, aborted.top(), committed.top()) {
             None => {
-                let without = aborted.copy(alloc)?;
-                let with = committed.copy(alloc)?;
-                Tree::test(alloc, txn, without, with)
+                let aborted = aborted.copy(alloc)?;
+                let committed = committed.copy(alloc)?;
+                Tree::test(alloc, txn, aborted, committed)
             }
             Some(first) => {
-                let without = Tree::choose(
+                let aborted_side = Tree::choose(
                     alloc,
                     txn,
                     aborted.side(first, false),
                     committed.side(first, false),
                 )?;
-                let with = Tree::choose(
+                let committed_side = Tree::choose(
                     alloc,
                     txn,
                     aborted.side(first, true),
                     committed.side(first, true),
                 )?;
-                Tree::test(alloc, first, without, with)
+                Tree::test(alloc, first, aborted_side, committed_side)
             }
         }
     }

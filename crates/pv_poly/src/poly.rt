@@ -84,7 +84,13 @@ impl<V: Exact> Poly<V> {
         ensures refuses { (count : ℕ) → ChoiceNames txn old.now new.now count → HELD_NAMES < count →
             (result ≡ Err (NameError.TooManyOutcomes count)) ⊎ (result ≡ Err NameError.NoMemory) }
     {
-        let aborted = old.settled_tree(alloc, &[Literal { txn, commits: false }])?;
+        let aborted = old.settled_tree(
+            alloc,
+            &[Literal {
+                txn,
+                commits: false,
+            }],
+        )?;
         let committed = new.settled_tree(alloc, &[Literal { txn, commits: true }])?;
         if aborted.same(&committed) {
             return Ok(Poly {
@@ -143,7 +149,7 @@ impl<V: Exact> Poly<V> {
         ensures few { IfOk result (NamesAtMost HELD_NAMES) }
         ensures canonical { IfOk result IsCanonical }
     {
-        let tree = Tree::from_cases(alloc, &self.cases)?;
+        let tree = Tree::read(alloc, &self.cases)?;
         tree.settle(alloc, literals)
     }
 
@@ -238,7 +244,7 @@ impl<V: Exact> Poly<V> {
         requires few { length txns.now ≤ HELD_NAMES }
         ensures values { IfOk result (λ values. AreValues self.now txns.now values.items) }
     {
-        let tree = Tree::from_cases(alloc, &self.cases)?;
+        let tree = Tree::read(alloc, &self.cases)?;
         let mut values = Vec::new(alloc);
         tree.push_table(txns, &mut values)?;
         Ok(values)

@@ -60,8 +60,8 @@ impl<V: Exact> Tree<V> {
         aborted: Tree<V>,
         committed: Tree<V>,
     ) -> Result<Tree<V>, NoMemory>
-        requires aborted_behind { NamesOnlyAfter txn aborted }
-        requires committed_behind { NamesOnlyAfter txn committed }
+        requires aborted_after { NamesOnlyAfter txn aborted }
+        requires committed_after { NamesOnlyAfter txn committed }
         ensures choice { IfOk result (IsChoice txn aborted committed) }
         ensures names { IfOk result (λ tree. (named : TxnId) → IsTrue (names tree named) →
             (txn ≡ named) ⊎ (IsTrue (names aborted named) ⊎ IsTrue (names committed named))) }
@@ -87,9 +87,10 @@ impl<V: Exact> Tree<V> {
     {
         match (&self.node, &other.node) {
             (Node::Sure(value), Node::Sure(second)) => value == second,
-            (Node::Test(txn, aborted, committed), Node::Test(second, front, back)) => {
-                txn == second && aborted.same(front) && committed.same(back)
-            }
+            (
+                Node::Test(txn, aborted, committed),
+                Node::Test(second, other_aborted, other_committed),
+            ) => { txn == second && aborted.same(other_aborted) && committed.same(other_committed) }
             _ => false,
         }
     }

@@ -33,13 +33,13 @@ from_table-requires-2 g t c κs within =
       ),
     )
 
-pub test-requires-clause-aborted_behind : goal.test-requires-clause-aborted_behind
-test-requires-clause-aborted_behind g t c =
+pub test-requires-clause-aborted_after : goal.test-requires-clause-aborted_after
+test-requires-clause-aborted_after g t c =
     rest-behind c.in_ok-aborted.aborted c.in-Some.first.now c.args.txns.now c.in-Some.rest.now c.in-Some.ensures.cases.0 c.requires.ascending
     c.in_ok-aborted.ensures.names
 
-pub test-requires-clause-committed_behind : goal.test-requires-clause-committed_behind
-test-requires-clause-committed_behind g t c =
+pub test-requires-clause-committed_after : goal.test-requires-clause-committed_after
+test-requires-clause-committed_after g t c =
     rest-behind c.in_ok-committed.committed c.in-Some.first.now c.args.txns.now c.in-Some.rest.now c.in-Some.ensures.cases.0 c.requires.ascending
     c.in_ok-committed.ensures.names
 

@@ -1,14 +1,14 @@
 use Rattle.std.specs.List.{All}
 use Rattle.pv_base.specs.Assignment.{precedes}
-use Rattle.std.proofs.Common.{◌≡◌, IsTrue, true, false, List, ◌∷◌, length, if◌then◌else◌, ap, sym, subst, arith}
+use Rattle.std.proofs.Common.{◌≡◌, IsTrue, List, length, ap, sym, subst, arith}
 use Rattle.std.proofs.lemmas.Result.{IfOk-weaker}
 use Rattle.pv_base.specs.declared.literal.Literal.{Literal}
 use Rattle.pv_base.specs.Polyvalue.{Case, AreOutcomes, IsCanonical, IsChoice, IsSettled}
 use Rattle.pv_cases.proofs.SettledLemmas.{NamesKept, before-outcomes, outcomes-rest}
 use Rattle.pv_cases.proofs.TxnTests.{less-precedes, greater-precedes, equal-same}
 use Rattle.pv_poly.proofs.ChoiceLemmas.{NamesOfBoth, both-ok, earlier-settled, aborted-settled, committed-settled, later-settled, test-settled-names}
-use Rattle.pv_poly.proofs.TestLemmas.{reduced-canonical, test-front, test-back}
-use Rattle.pv_poly.proofs.TopOfTree.{at_Test, front-shorter, back-shorter}
+use Rattle.pv_poly.proofs.TestLemmas.{reduced-canonical, test-aborted, test-committed}
+use Rattle.pv_poly.proofs.TopOfTree.{at_Test, aborted-shorter, committed-shorter}
 use Rattle.pv_poly.proofs.tree.Tree.+settle.Goals as goal
 
 pub returns-in_default-clause-canonical : goal.returns-in_default-clause-canonical
@@ -29,14 +29,14 @@ settle-requires g t c κs within = (
 
 pub settle-requires-in-Equal : goal.settle-requires-in-Equal
 settle-requires-in-Equal g t c κs within =
-    let shorter = back-shorter (at_Test c.self.view_is c.self.invariant c.in-Test.is) in (
+    let shorter = committed-shorter (at_Test c.self.view_is c.self.invariant c.in-Test.is) in (
       omega (arith, shorter, ap length c.deref.ensures, ap length c.in-Some.ensures.cases.0, c.decreases),
       (within, outcomes-rest c.in-Some.literal.now c.in-Some.rest.now (subst AreOutcomes c.in-Some.ensures.cases.0 c.requires.outcomes)),
     )
 
 pub settle-requires-in-Equal-2 : goal.settle-requires-in-Equal-2
 settle-requires-in-Equal-2 g t c κs within =
-    let shorter = front-shorter (at_Test c.self.view_is c.self.invariant c.in-Test.is) in (
+    let shorter = aborted-shorter (at_Test c.self.view_is c.self.invariant c.in-Test.is) in (
       omega (arith, shorter, ap length c.deref-in-Equal-2.ensures, ap length c.in-Some.ensures.cases.0, c.decreases),
       (within, outcomes-rest c.in-Some.literal.now c.in-Some.rest.now (subst AreOutcomes c.in-Some.ensures.cases.0 c.requires.outcomes)),
     )
@@ -63,7 +63,7 @@ returns-in-Equal-clause-settled g t c =
 pub returns-in-Equal-clause-names : goal.returns-in-Equal-clause-names
 returns-in-Equal-clause-names g t c =
     IfOk-weaker c.settle-in-Equal.result (λ tree. NamesKept tree c.deref.result.now) (λ tree. NamesKept tree c.args.self.now)
-    (λ tree kept u named. test-back (at_Test c.self.view_is c.self.invariant c.in-Test.is) u (subst (λ (s : List (Case _)). NamesKept tree s) c.deref.ensures kept u named))
+    (λ tree kept u named. test-committed (at_Test c.self.view_is c.self.invariant c.in-Test.is) u (subst (λ (s : List (Case _)). NamesKept tree s) c.deref.ensures kept u named))
     c.settle-in-Equal.ensures.names
 
 pub returns-in-Equal-2-clause-settled : goal.returns-in-Equal-2-clause-settled
@@ -79,7 +79,7 @@ returns-in-Equal-2-clause-settled g t c =
 pub returns-in-Equal-2-clause-names : goal.returns-in-Equal-2-clause-names
 returns-in-Equal-2-clause-names g t c =
     IfOk-weaker c.settle-in-Equal-2.result (λ tree. NamesKept tree c.deref-in-Equal-2.result.now) (λ tree. NamesKept tree c.args.self.now)
-    (λ tree kept u named. test-front (at_Test c.self.view_is c.self.invariant c.in-Test.is) u (subst (λ (s : List (Case _)). NamesKept tree s) c.deref-in-Equal-2.ensures kept u named))
+    (λ tree kept u named. test-aborted (at_Test c.self.view_is c.self.invariant c.in-Test.is) u (subst (λ (s : List (Case _)). NamesKept tree s) c.deref-in-Equal-2.ensures kept u named))
     c.settle-in-Equal-2.ensures.names
 
 pub returns-in_ok-committed-in-Greater-clause-settled : goal.returns-in_ok-committed-in-Greater-clause-settled
