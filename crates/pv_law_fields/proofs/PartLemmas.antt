@@ -158,6 +158,15 @@ pub appended_both : (old mid new front back bytes : List ℕ) → bytes ≡ fron
 appended_both old mid new front back bytes whole first second =
     second ∙ ap (λ done. done ++ back) first ∙ append_assoc old front back ∙ ap (λ all. old ++ all) (sym whole)
 
+-- A number after which the layout goes on at once.
+pub passes_alone : (Is : List ℕ → Type 0) (size : ℕ) (allows : ℕ → Bool) (value : ℕ) (layouts : ℕ → Layout → Layout) (old new : Rest) → PassesNumber Is size allows value old new
+    → ((next : Layout) → layouts value next ≡ next) → Passes Is (λ next. number_then size allows (λ number. layouts number next)) old new
+passes_alone Is size allows value layouts old new number same = record {
+    taken = number.taken;
+    later = λ next fault has.
+      number.later (λ n. layouts n next) fault (subst (λ layout. HasFault layout new.place new.left fault) (sym (same next)) has);
+  }
+
 -- What follows from two clauses on an `Ok`.
 pub ok_from_both : {X E : Type 0} (r : Result X E) (P Q R : X → Type 0) → ((x : X) → P x → Q x → R x) → IfOk r P → IfOk r Q → IfOk r R
 ok_from_both (Ok x) P Q R both p q = both x p q
