@@ -2,7 +2,6 @@
 ghost use Rattle.std.specs.Prelude.{◌≡◌, ◌-◌, ◌^◌, ◌<◌, Some, All, IsTrue, length, vec_len, OnOk};
 ghost use Rattle.pv_app.specs.Ready.{IsReady, FitsCatalog};
 ghost use Rattle.pv_app.specs.View.{Writes};
-ghost use Rattle.pv_ast.specs.ReplyView.{reply_of};
 ghost use Rattle.pv_model.specs.Items.{has_all_items};
 ghost use Rattle.pv_model.specs.Meaning.{exec};
 ghost use Rattle.pv_model.specs.Print as model;
@@ -160,7 +159,7 @@ fn write_commit<W: Sink>(
     sink: &mut W,
 ) -> Result<(), RunEnd>
     ensures { Writes (W.held sink.old) (W.held sink.new) (W.faults sink.old) (W.faults sink.new) result
-        (line_text (model.commit txn (reply_of reply))) }
+        (line_text (model.commit txn reply)) }
 {
     text.clear();
     push_commit_line(text, txn, reply)?;

@@ -7,5 +7,6 @@ pub mod CatalogView
 pub mod Fault
 pub mod Name
 pub mod Polyvalue
+pub mod ReplyExact
 pub mod Txn
 pub mod Want
