@@ -1,7 +1,6 @@
 // The state of one site: its transactions in order, each item's value, and the program whose messages wait.
 ghost use Rattle.std.specs.Prelude.{◌≡◌, ◌<◌, Some, length, IfOk, OnOk, OnErr, IsTrue};
 ghost use Rattle.std.specs.Option.{option_map};
-ghost use Rattle.pv_ast.specs.ReplyView.{reply_of};
 ghost use Rattle.pv_model.specs.Items.{has_all_items};
 ghost use Rattle.pv_model.specs.Meaning.{exec};
 ghost use Rattle.pv_model.specs.Serial.{declared_rows};
@@ -92,7 +91,7 @@ impl<'a> OneSite<'a> {
         requires number { length self.old.order < NEVER_GIVEN }
         requires items { IsTrue (has_all_items self.old.rows program.now) }
         ensures after { OnOk result (self.new ≡ after_commit self.old (Some program.now)) }
-        ensures reply { IfOk result (λ reply. reply_of reply ≡ (exec program.now self.old.rows).reply) }
+        ensures reply { IfOk result (λ reply. reply ≡ (exec program.now self.old.rows).reply) }
         ensures unchanged { OnErr result (self.new ≡ self.old) }
     {
         let txn = self.next_txn();

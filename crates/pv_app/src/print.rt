@@ -1,7 +1,6 @@
 // The lines that a run prints, each put after what a buffer holds. After an error the buffer's content is of no use.
 ghost use Rattle.std.specs.Prelude.{◌≡◌, ◌++◌, length, OnOk};
-ghost use Rattle.pv_ast.specs.ReplyView.{decline_of, reply_of};
-ghost use Rattle.pv_model.specs.Meaning.{declined};
+ghost use Rattle.pv_base.specs.declared.reply.Reply.TheVariants.{Declined};
 ghost use Rattle.pv_model.specs.Print as model;
 ghost use Rattle.pv_model.specs.Print.{line_text, list_text, text_of};
 ghost use Rattle.pv_model.specs.Run.{item_lines, report_lines};
@@ -34,7 +33,7 @@ pub fn push_txn_line(text: &mut Vec<u8>, txn: TxnId) -> Result<(), NoMemory>
 /// `commit T certain REPLY`
 #[tactic(auto, unfolding(pv_model::specs::Print::line_text))]
 pub fn push_commit_line(text: &mut Vec<u8>, txn: TxnId, reply: Reply) -> Result<(), NoMemory>
-    ensures { OnOk result (text.new.items ≡ text.old.items ++ line_text (model.commit txn (reply_of reply))) }
+    ensures { OnOk result (text.new.items ≡ text.old.items ++ line_text (model.commit txn reply)) }
 {
     text.extend_from_slice(b"commit ")?;
     push_txn(text, txn)?;
@@ -45,7 +44,7 @@ pub fn push_commit_line(text: &mut Vec<u8>, txn: TxnId, reply: Reply) -> Result<
 
 // The reply, as it is printed.
 fn push_reply(text: &mut Vec<u8>, reply: Reply) -> Result<(), NoMemory>
-    ensures { OnOk result (text.new.items ≡ text.old.items ++ model.reply_text (reply_of reply)) }
+    ensures { OnOk result (text.new.items ≡ text.old.items ++ model.reply_text reply) }
 {
     match reply {
         Reply::Value(value) => {
@@ -59,7 +58,7 @@ fn push_reply(text: &mut Vec<u8>, reply: Reply) -> Result<(), NoMemory>
 
 // Why a program declined, as it is printed.
 fn decline_text(decline: Decline) -> &'static [u8]
-    ensures { result.now ≡ model.reply_text (declined (decline_of decline)) }
+    ensures { result.now ≡ model.reply_text (Declined decline) }
 {
     match decline {
         Decline::Require => b"declined-require",

@@ -3,7 +3,6 @@ ghost use Rattle.std.specs.Prelude.{◌≡◌, ◌<◌, Some, All, IsTrue, lengt
 ghost use Rattle.pv_app.specs.Ready.{IsReady, FitsCatalog};
 ghost use Rattle.pv_app.specs.View.{IsWriteFault};
 ghost use Rattle.pv_io.specs.SinkEffects.{Writes};
-ghost use Rattle.pv_ast.specs.ReplyView.{reply_of};
 ghost use Rattle.pv_model.specs.Items.{has_all_items};
 ghost use Rattle.pv_model.specs.Meaning.{exec};
 ghost use Rattle.pv_model.specs.Print as model;
@@ -154,7 +153,7 @@ fn write_commit<W: Sink>(
     text: &mut Vec<u8>,
     sink: &mut W,
 ) -> Result<(), RunEnd>
-    ensures { Writes W.Sink IsWriteFault sink.old sink.new (line_text (model.commit txn (reply_of reply))) result }
+    ensures { Writes W.Sink IsWriteFault sink.old sink.new (line_text (model.commit txn reply)) result }
 {
     text.clear();
     push_commit_line(text, txn, reply)?;

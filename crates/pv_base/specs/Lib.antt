@@ -9,5 +9,6 @@ pub mod Fault
 pub mod Name
 pub mod Named
 pub mod Polyvalue
+pub mod ReplyExact
 pub mod Txn
 pub mod Want

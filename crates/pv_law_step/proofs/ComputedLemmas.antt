@@ -18,7 +18,11 @@ use Rattle.pv_law_step.proofs.OutcomeLemmas.{choice-alike}
 use Rattle.pv_law_step.proofs.ShownLemmas.{int-exact}
 use Rattle.pv_law_polyvalues.proofs.PolyvalueLemmas.{value_at-agree}
 use Rattle.pv_model.specs.Alternatives.{Read, all_cases, rows_at}
-use Rattle.pv_model.specs.Meaning.{Decline, unmet, overflow, zero_divisor, Reply, value, nothing, declined, Row, exec, value_in}
+use Rattle.pv_base.specs.declared.reply.Decline.{Decline}
+use Rattle.pv_base.specs.declared.reply.Decline.TheVariants.{Require, Overflow, ZeroDivisor}
+use Rattle.pv_base.specs.declared.reply.Reply.{Reply}
+use Rattle.pv_base.specs.declared.reply.Reply.TheVariants.{Value, Nothing, Declined}
+use Rattle.pv_model.specs.Meaning.{Row, exec, value_in}
 use Rattle.pv_model.specs.Replies.{is_same_decline, is_same_reply}
 use Rattle.pv_protocol.specs.Coordinate.{reads_of, names_taken, open_names, row_after, reply_after, new_value, reply_value}
 use Rattle.pv_protocol.specs.Records.{choice}
@@ -27,36 +31,36 @@ use Rattle.pv_protocol.specs.State.{Entry}
 -- Replies are told apart exactly.
 
 same-decline : (d e : Decline) → is_same_decline d e ≡ true → d ≡ e
-same-decline unmet unmet h = refl
-same-decline overflow overflow h = refl
-same-decline zero_divisor zero_divisor h = refl
-same-decline unmet overflow h = absurd (false≢true h)
-same-decline unmet zero_divisor h = absurd (false≢true h)
-same-decline overflow unmet h = absurd (false≢true h)
-same-decline overflow zero_divisor h = absurd (false≢true h)
-same-decline zero_divisor unmet h = absurd (false≢true h)
-same-decline zero_divisor overflow h = absurd (false≢true h)
+same-decline Require Require h = refl
+same-decline Overflow Overflow h = refl
+same-decline ZeroDivisor ZeroDivisor h = refl
+same-decline Require Overflow h = absurd (false≢true h)
+same-decline Require ZeroDivisor h = absurd (false≢true h)
+same-decline Overflow Require h = absurd (false≢true h)
+same-decline Overflow ZeroDivisor h = absurd (false≢true h)
+same-decline ZeroDivisor Require h = absurd (false≢true h)
+same-decline ZeroDivisor Overflow h = absurd (false≢true h)
 
 same-reply : (r s : Reply) → is_same_reply r s ≡ true → r ≡ s
-same-reply (value z) (value w) h = ap value ((Decides-int_eq z w).0 h)
-same-reply nothing nothing h = refl
-same-reply (declined d) (declined e) h = ap declined (same-decline d e h)
-same-reply (value z) nothing h = absurd (false≢true h)
-same-reply (value z) (declined e) h = absurd (false≢true h)
-same-reply nothing (value w) h = absurd (false≢true h)
-same-reply nothing (declined e) h = absurd (false≢true h)
-same-reply (declined d) (value w) h = absurd (false≢true h)
-same-reply (declined d) nothing h = absurd (false≢true h)
+same-reply (Value z) (Value w) h = ap Value ((Decides-int_eq z w).0 h)
+same-reply Nothing Nothing h = refl
+same-reply (Declined d) (Declined e) h = ap Declined (same-decline d e h)
+same-reply (Value z) Nothing h = absurd (false≢true h)
+same-reply (Value z) (Declined e) h = absurd (false≢true h)
+same-reply Nothing (Value w) h = absurd (false≢true h)
+same-reply Nothing (Declined e) h = absurd (false≢true h)
+same-reply (Declined d) (Value w) h = absurd (false≢true h)
+same-reply (Declined d) Nothing h = absurd (false≢true h)
 
 decline-itself : (d : Decline) → is_same_decline d d ≡ true
-decline-itself unmet = refl
-decline-itself overflow = refl
-decline-itself zero_divisor = refl
+decline-itself Require = refl
+decline-itself Overflow = refl
+decline-itself ZeroDivisor = refl
 
 reply-itself : (r : Reply) → is_same_reply r r ≡ true
-reply-itself (value z) = (Decides-int_eq z z).1 refl
-reply-itself nothing = refl
-reply-itself (declined d) = decline-itself d
+reply-itself (Value z) = (Decides-int_eq z z).1 refl
+reply-itself Nothing = refl
+reply-itself (Declined d) = decline-itself d
 
 pub reply-exact : IsExact is_same_reply
 reply-exact = record { exact = same-reply; itself = reply-itself }

@@ -3,14 +3,14 @@ ghost use Rattle.std.specs.Prelude.{◌≡◌, List, [], ◌∷◌, false, pos, 
 ghost use Rattle.pv_format.specs.Message as message;
 ghost use Rattle.pv_format.specs.Record.{epoch_begun, outcome_known, prepared};
 ghost use Rattle.pv_law_step.specs.Examples.{alone, bank, either, in_doubt, sure, txn_at, write};
-ghost use Rattle.pv_model.specs.Meaning.{nothing};
+ghost use Rattle.pv_base.specs.declared.reply.Reply.TheVariants.{Nothing};
 ghost use Rattle.pv_protocol.specs.Shown.{shown};
 ghost use Rattle.pv_protocol.specs.State.{began, committed};
 
 /// A site alone commits: it records the new value and the outcome, reports both, and holds nothing.
 pub fn alone_it_commits()
     ensures records { alone.records ≡ epoch_begun 1 ∷ (prepared (txn_at 0 0) (write 0 (sure (pos 101)) ∷ []) ∷ (outcome_known (txn_at 0 0) true ∷ [])) }
-    ensures notes { alone.notes ≡ began (txn_at 0 0) ∷ (committed (txn_at 0 0) (nothing ∷ []) ∷ []) }
+    ensures notes { alone.notes ≡ began (txn_at 0 0) ∷ (committed (txn_at 0 0) (Nothing ∷ []) ∷ []) }
     ensures waiting { alone.waiting ≡ [] }
 {}
 

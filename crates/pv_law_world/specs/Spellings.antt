@@ -3,7 +3,8 @@ use Rattle.std.specs.Prelude.{ℕ, ℤ, pos, negsuc, true, false, List, [], ◌�
 use Rattle.pv_base.specs.Polyvalue.{Case}
 use Rattle.pv_format.specs.Message.{ask}
 use Rattle.pv_law_world.specs.Lines.{either, sure, t, u}
-use Rattle.pv_model.specs.Meaning.{declined, nothing, overflow, value, zero_divisor}
+use Rattle.pv_base.specs.declared.reply.Decline.TheVariants.{Overflow, ZeroDivisor}
+use Rattle.pv_base.specs.declared.reply.Reply.TheVariants.{Value, Nothing, Declined}
 use Rattle.pv_protocol.specs.Lines.{Line}
 use Rattle.pv_protocol.specs.State as state
 
@@ -23,8 +24,8 @@ two_names =
 abbrev pub examples : List Spelled
 examples =
     record { line = Line.txn t; text = codes "txn 0.1.0" }
-    ∷ record { line = Line.commit t (nothing ∷ []); text = codes "commit 0.1.0 certain nothing" }
-    ∷ record { line = Line.commit u (value (negsuc 4) ∷ declined zero_divisor ∷ declined overflow ∷ []); text = codes "commit 0.1.1 possible -5 declined-zero-divisor declined-overflow" }
+    ∷ record { line = Line.commit t (Nothing ∷ []); text = codes "commit 0.1.0 certain nothing" }
+    ∷ record { line = Line.commit u (Value (negsuc 4) ∷ Declined ZeroDivisor ∷ Declined Overflow ∷ []); text = codes "commit 0.1.1 possible -5 declined-zero-divisor declined-overflow" }
     ∷ record { line = Line.refuse u (state.conflict 1 0 t); text = codes "refuse 0.1.1 conflict 1 a 0.1.0" }
     ∷ record { line = Line.refuse t (state.outcome_limit 8); text = codes "refuse 0.1.0 outcome-limit 8" }
     ∷ record { line = Line.refuse t (state.expired 1); text = codes "refuse 0.1.0 expired 1" }

@@ -6,7 +6,7 @@ ghost use Rattle.pv_base.specs.declared.mode.Mode.TheVariants.{Kept, Lost, Torn}
 ghost use Rattle.pv_law_world.specs.Lines.{either, lost_for_good, report_of, stopped_in_commit, sure, t, u, values};
 ghost use Rattle.pv_law_world.specs.Schedules.{alone, bank, fault_in_prepare, granted_anew, lock_lost, old_prepare, one_more, outcome_asked, outcome_unheard, pump_all, short_of_room, stop_in_commit, transfer, two_more, two_restarts};
 ghost use Rattle.pv_model.specs.Events.{report};
-ghost use Rattle.pv_model.specs.Meaning.{nothing};
+ghost use Rattle.pv_base.specs.declared.reply.Reply.TheVariants.{Nothing};
 ghost use Rattle.pv_protocol.specs.Limit.{run_within};
 ghost use Rattle.pv_protocol.specs.Lines.{Line};
 ghost use Rattle.pv_protocol.specs.Run.{printed};
@@ -16,25 +16,25 @@ ghost use Rattle.pv_protocol.specs.World.{opening};
 /// A transaction at one site commits.
 pub fn site_alone_commits()
     ensures { printed (alone 100) (one_more ∷ pump_all ∷ report ∷ []) ≡
-        Line.txn t ∷ Line.commit t (nothing ∷ []) ∷ report_of (t ∷ []) (t ∷ []) [] (Line.item 0 (sure 101) ∷ []) }
+        Line.txn t ∷ Line.commit t (Nothing ∷ []) ∷ report_of (t ∷ []) (t ∷ []) [] (Line.item 0 (sure 101) ∷ []) }
 {}
 
 /// A transfer between two sites commits when all is delivered.
 pub fn transfer_commits()
     ensures { printed bank (transfer ∷ pump_all ∷ report ∷ []) ≡
-        Line.txn t ∷ Line.commit t (nothing ∷ []) ∷ report_of (t ∷ []) (t ∷ []) [] (values (sure 90) (sure 60)) }
+        Line.txn t ∷ Line.commit t (Nothing ∷ []) ∷ report_of (t ∷ []) (t ∷ []) [] (values (sure 90) (sure 60)) }
 {}
 
 /// A participant that doesn't hear of the outcome shows both values when its grant ends.
 pub fn unheard_outcome_leaves_doubt()
     ensures { printed bank outcome_unheard ≡
-        Line.txn t ∷ Line.commit t (nothing ∷ []) ∷ report_of (t ∷ []) (t ∷ []) [] (values (sure 90) (either 50 60)) }
+        Line.txn t ∷ Line.commit t (Nothing ∷ []) ∷ report_of (t ∷ []) (t ∷ []) [] (values (sure 90) (either 50 60)) }
 {}
 
 /// Of two transactions that change one item, the second is refused for the first.
 pub fn conflict_refuses()
     ensures { printed (alone 5) (one_more ∷ two_more ∷ pump_all ∷ report ∷ []) ≡
-        Line.txn t ∷ Line.txn u ∷ Line.refuse u (state.conflict 0 0 t) ∷ Line.commit t (nothing ∷ []) ∷
+        Line.txn t ∷ Line.txn u ∷ Line.refuse u (state.conflict 0 0 t) ∷ Line.commit t (Nothing ∷ []) ∷
         report_of (t ∷ []) (t ∷ []) [] (Line.item 0 (sure 6) ∷ []) }
 {}
 

@@ -3,7 +3,8 @@ use Rattle.std.specs.Prelude.{◌≡◌, ℕ, ◌+◌, Bool, Option, Some, None,
 use Rattle.pv_base.specs.Catalog.{Item, Declared}
 use Rattle.pv_base.specs.declared.txn.TxnId.{TxnId}
 use Rattle.pv_model.specs.Events.{Event, submit, pump, report, Schedule}
-use Rattle.pv_model.specs.Meaning.{Row, Reply, exec}
+use Rattle.pv_base.specs.declared.reply.Reply.{Reply}
+use Rattle.pv_model.specs.Meaning.{Row, exec}
 use Rattle.pv_model.specs.Print.{Printed, txn, commit, order, committed, open_ones, item, end, text_of}
 use Rattle.pv_model.specs.Serial.{Ordered, serial, serial_reply, txns, declared_rows}
 use Rattle.pv_model.specs.Syntax.{Program}

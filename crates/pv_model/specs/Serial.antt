@@ -4,7 +4,8 @@ use Rattle.std.specs.Prelude.{ℕ, ◌+◌, List, [], ◌∷◌, map, Option, So
 use Rattle.pv_base.specs.declared.txn.TxnId.{TxnId}
 use Rattle.pv_base.specs.Assignment.{is_same_txn, commits}
 use Rattle.pv_base.specs.Catalog.{Item, Declared}
-use Rattle.pv_model.specs.Meaning.{Row, Reply, exec}
+use Rattle.pv_base.specs.declared.reply.Reply.{Reply}
+use Rattle.pv_model.specs.Meaning.{Row, exec}
 use Rattle.pv_model.specs.Syntax.{Program}
 
 -- a row for each item, numbered from here on, with its declared value

@@ -3,7 +3,7 @@ use Rattle.std.specs.Prelude.{◌≡◌, Some, List, Contains}
 use Rattle.pv_base.specs.declared.txn.TxnId.{TxnId}
 use Rattle.pv_base.specs.Polyvalue.{Case, IsCanonical, value_at}
 use Rattle.pv_model.specs.PossibleAnswers.{possible}
-use Rattle.pv_model.specs.Meaning.{Reply}
+use Rattle.pv_base.specs.declared.reply.Reply.{Reply}
 use Rattle.pv_model.specs.Replies.{is_same_reply}
 use Rattle.pv_model.specs.Serial.{declared_rows, serial_reply}
 use Rattle.pv_protocol.specs.Committed.{home_of, entry_of, Fits, programs_of}

@@ -12,7 +12,8 @@ use Rattle.pv_base.specs.Want.{Want}
 use Rattle.pv_format.specs.Record.{Record}
 use Rattle.pv_model.specs.Alternatives.{Read, all_cases, rows_at}
 use Rattle.pv_model.specs.PossibleAnswers.{possible}
-use Rattle.pv_model.specs.Meaning.{Reply, value_in, exec}
+use Rattle.pv_base.specs.declared.reply.Reply.{Reply}
+use Rattle.pv_model.specs.Meaning.{value_in, exec}
 use Rattle.pv_model.specs.Replies.{is_same_reply}
 use Rattle.pv_protocol.specs.Here.{Here, is_among, participants}
 use Rattle.pv_protocol.specs.Records.{undecided, choice}

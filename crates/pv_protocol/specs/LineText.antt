@@ -7,7 +7,9 @@ use Rattle.pv_base.specs.Polyvalue.{Case}
 use Rattle.pv_base.specs.Txn.{txn_text}
 use Rattle.pv_base.specs.declared.literal.Literal.{Literal}
 use Rattle.pv_format.specs.Message.{Message, lock, granted, denied, prepare, vote_yes, vote_no, outcome_told, ask, txn_of}
-use Rattle.pv_model.specs.Meaning.{Reply, value, nothing, declined, unmet, overflow, zero_divisor}
+use Rattle.pv_base.specs.declared.reply.Decline.TheVariants.{Require, Overflow, ZeroDivisor}
+use Rattle.pv_base.specs.declared.reply.Reply.{Reply}
+use Rattle.pv_base.specs.declared.reply.Reply.TheVariants.{Value, Nothing, Declined}
 use Rattle.pv_protocol.specs.Lines.{Line}
 use Rattle.pv_protocol.specs.State.{Cause, conflict, outcome_limit, expired, grant_lost, journal_full}
 
@@ -25,11 +27,11 @@ spaced text things = flat_map (λ thing. codes " " ++ text thing) things
 
 -- a number, `nothing`, or why the program declined
 abbrev pub reply_text : Reply → List ℕ
-reply_text (value v) = signed_decimal v
-reply_text nothing = codes "nothing"
-reply_text (declined unmet) = codes "declined-require"
-reply_text (declined overflow) = codes "declined-overflow"
-reply_text (declined zero_divisor) = codes "declined-zero-divisor"
+reply_text (Value v) = signed_decimal v
+reply_text Nothing = codes "nothing"
+reply_text (Declined Require) = codes "declined-require"
+reply_text (Declined Overflow) = codes "declined-overflow"
+reply_text (Declined ZeroDivisor) = codes "declined-zero-divisor"
 
 -- One possible answer is certain.
 abbrev pub certainty : {A : Type 0} → List A → List ℕ

@@ -3,7 +3,7 @@ use Rattle.std.specs.Prelude.{ℕ, ℤ, List, map}
 use Rattle.pv_base.specs.Polyvalue.{Case}
 use Rattle.pv_base.specs.declared.txn.TxnId.{TxnId}
 use Rattle.pv_format.specs.Message.{Message}
-use Rattle.pv_model.specs.Meaning.{Reply}
+use Rattle.pv_base.specs.declared.reply.Reply.{Reply}
 use Rattle.pv_protocol.specs.State.{Cause, Note}
 
 -- one line

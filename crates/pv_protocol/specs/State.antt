@@ -8,7 +8,7 @@ use Rattle.pv_base.specs.declared.txn.TxnId.{TxnId}
 use Rattle.pv_format.specs.Message.{Message}
 use Rattle.pv_format.specs.Record.{Record}
 use Rattle.pv_model.specs.Alternatives.{Read}
-use Rattle.pv_model.specs.Meaning.{Reply}
+use Rattle.pv_base.specs.declared.reply.Reply.{Reply}
 use Rattle.pv_model.specs.Syntax.{Program}
 
 -- What is fixed for a whole run: the catalog, how many outcomes the values granted to one transaction may name together,

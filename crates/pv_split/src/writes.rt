@@ -5,7 +5,6 @@ ghost use Rattle.std.specs.Option.{option_map};
 ghost use Rattle.pv_base.specs.Assignment.{AreAscending, assignments};
 ghost use Rattle.pv_base.specs.Polyvalue.{value_at, names, AreValues, IsPolyvalue};
 ghost use Rattle.pv_base.specs.declared.txn.TxnId.{TxnId};
-ghost use Rattle.pv_ast.specs.ReplyView.{reply_of};
 ghost use Rattle.pv_model.specs.Alternatives.{all_cases, rows_at, assigned};
 ghost use Rattle.pv_model.specs.Meaning.{exec};
 ghost use Rattle.pv_split.specs.Columns.{effects_at, values_in_row};
@@ -86,7 +85,7 @@ pub(crate) fn reply_over(
     requires ascending { AreAscending txns.now }
     requires few { length txns.now ≤ READ_NAMES }
     requires whole { length effects.now ≡ 2 ^ length txns.now }
-    ensures values { IfOk result (λ reply. map (λ assignment. option_map reply_of (value_at reply assignment)) (assignments txns.now)
+    ensures values { IfOk result (λ reply. map (value_at reply) (assignments txns.now)
         ≡ map (λ effect. Some effect.reply) effects.now) }
     ensures names { IfOk result (λ reply. (txn : TxnId) → IsTrue (names reply txn) → Contains txns.now txn) }
     ensures polyvalue { IfOk result (λ reply. IsPolyvalue READ_NAMES reply) }
@@ -97,7 +96,7 @@ pub(crate) fn reply_over(
 
 // The reply of each effect.
 fn replies_of(alloc: Global, effects: &[Effect]) -> Result<Vec<Reply>, NoMemory>
-    ensures { IfOk result (λ replies. map reply_of replies.items ≡ map (λ effect. effect.reply) effects.now) }
+    ensures { IfOk result (λ replies. replies.items ≡ map (λ effect. effect.reply) effects.now) }
 {
     let mut replies = Vec::new(alloc);
     for effect in effects {

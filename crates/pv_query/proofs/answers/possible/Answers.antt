@@ -4,9 +4,9 @@ use Rattle.std.specs.Prelude.{IsSomeAnd, All, ◌≡◌, ◌≢◌, List, Some, 
 use Rattle.std.specs.List.{AllPairs, Contains}
 use Rattle.pv_base.specs.declared.txn.TxnId.{TxnId}
 use Rattle.pv_base.specs.Polyvalue.{Case, value_at}
-use Rattle.pv_ast.specs.ReplyExact.{reply_exact}
-use Rattle.pv_ast.specs.contracts.effect.ReplyEq.TheImpl.Laws as reply_laws
-use Rattle.pv_ast.specs.contracts.effect.ReplyPartialEq.TheImpl as reply_eq
+use Rattle.pv_base.specs.ReplyExact.{reply_exact}
+use Rattle.pv_base.specs.contracts.reply.ReplyEq.TheImpl.Laws as reply_laws
+use Rattle.pv_base.specs.contracts.reply.ReplyPartialEq.TheImpl as reply_eq
 use Rattle.pv_query.proofs.RepeatLemmas.{left-start, left-step, left-end, repeats-distinct}
 use Rattle.pv_query.proofs.AnswerLemmas.{every-possible, each-given}
 use Rattle.pv_model.specs.PossibleAnswers.{possible}

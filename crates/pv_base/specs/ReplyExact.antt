@@ -2,12 +2,12 @@
 use Rattle.std.specs.Prelude.{◌≡◌, ℤ, true, refl}
 use Rattle.std.specs.Ordering.{int_eq}
 use Rattle.std.proofs.Common.{ap, rules}
-use Rattle.pv_ast.specs.declared.effect.Decline.{Decline}
-use Rattle.pv_ast.specs.declared.effect.Decline.TheVariants.{Require, Overflow, ZeroDivisor}
-use Rattle.pv_ast.specs.declared.effect.Reply.{Reply}
-use Rattle.pv_ast.specs.declared.effect.Reply.TheVariants.{Value, Nothing, Declined}
-use Rattle.pv_ast.specs.contracts.effect.DeclinePartialEq.TheImpl as decline_eq
-use Rattle.pv_ast.specs.contracts.effect.ReplyPartialEq.TheImpl as reply_eq
+use Rattle.pv_base.specs.declared.reply.Decline.{Decline}
+use Rattle.pv_base.specs.declared.reply.Decline.TheVariants.{Require, Overflow, ZeroDivisor}
+use Rattle.pv_base.specs.declared.reply.Reply.{Reply}
+use Rattle.pv_base.specs.declared.reply.Reply.TheVariants.{Value, Nothing, Declined}
+use Rattle.pv_base.specs.contracts.reply.DeclinePartialEq.TheImpl as decline_eq
+use Rattle.pv_base.specs.contracts.reply.ReplyPartialEq.TheImpl as reply_eq
 
 value_exact : (v w : ℤ) → int_eq v w ≡ true → v ≡ w
 value_exact v w e = search rules
