@@ -6,7 +6,7 @@ use Rattle.pv_base.specs.declared.reply.Decline.TheVariants.{Require, Overflow, 
 use Rattle.pv_base.specs.declared.reply.Reply.{Reply}
 use Rattle.pv_base.specs.declared.reply.Reply.TheVariants.{Value, Nothing, Declined}
 
--- The program declines for the same reason.
+-- Both declines are for the same reason.
 abbrev pub is_same_decline : Decline → Decline → Bool
 is_same_decline Require Require = true
 is_same_decline Overflow Overflow = true
