@@ -3,18 +3,18 @@
 
 mod arithmetic;
 mod effect;
+mod execution;
 mod expr;
 mod items;
 mod program;
 mod rows;
-mod execution;
 
 pub use effect::Effect;
+pub use execution::exec;
 pub use expr::{Expr, Op, Operand};
 pub use program::{Program, Stmt};
-pub use rows::Row;
-pub use execution::exec;
 pub use pv_base::{Decline, Reply};
+pub use rows::Row;
 
 #[cfg(test)]
 mod tests;

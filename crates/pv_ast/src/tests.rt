@@ -277,11 +277,7 @@ fn and_and_or_look_right_only_where_they_must(rt: HostRuntime) -> Result<(), Fai
         (Op::Less, 0, zero_divisor),
     ] {
         let value = two(alloc, op, Expr::Number(left), fault(alloc)?)?;
-        assert_eq!(rt;
-            reply(&rt, alloc, value)?,
-            wanted,
-            "at {op:?} after {left}"
-        );
+        assert_eq!(rt; reply(&rt, alloc, value)?, wanted, "at {op:?} after {left}");
     }
     // The left side is always looked at, and first.
     for op in [Op::Or, Op::And, Op::Plus] {

@@ -22,9 +22,9 @@ use Rattle.pv_law_fields.proofs.PartLemmas.{passes_any}
 pub passes_signed : (value : ℤ) (old new : Rest) → HasTaken (big_endian 8 (twos_complement value)) old new → FitsSigned w64 value
     → Passes (IsSigned value) (λ next. number_then 8 any (λ _. next)) old new
 passes_signed value old new taken fits = record {
-    taken = record { front = big_endian 8 (twos_complement value); is = record { fits = fits; spelled = refl }; taken = taken };
-    later = (passes_any 8 (twos_complement value) old new taken (twos_complement-lt value fits)).later;
-  }
+  taken = record { front = big_endian 8 (twos_complement value); is = record { fits = fits; spelled = refl }; taken = taken };
+  later = (passes_any 8 (twos_complement value) old new taken (twos_complement-lt value fits)).later;
+}
 
 -- No polyvalue is expected in the layout.
 abbrev pub OnlyNumbers : Layout → Type 0
@@ -74,10 +74,10 @@ stops_poly cases old new taken isnt = λ next. is_within (bad_poly old.place) (i
 -- A polyvalue was read.
 pub passes_poly : (cases : List (Case ℤ)) (old new : Rest) → IsTaken (SpellsCases cases) old new → IsPolyvalue HELD_NAMES cases → Passes (SpellsPolyvalue cases) polyvalue_then old new
 passes_poly cases old new taken is = record {
-    taken = record { front = taken.front; is = record { polyvalue = is; spelled = taken.is }; taken = taken.taken };
-    later = λ next fault has. is_after cases taken.front new.left fault taken.taken.bytes (record { polyvalue = is; spelled = taken.is })
-              (subst (λ place. HasFault next place new.left fault) taken.taken.place has);
-  }
+  taken = record { front = taken.front; is = record { polyvalue = is; spelled = taken.is }; taken = taken.taken };
+  later = λ next fault has. is_after cases taken.front new.left fault taken.taken.bytes (record { polyvalue = is; spelled = taken.is })
+      (subst (λ place. HasFault next place new.left fault) taken.taken.place has);
+}
 
 -- A case that is spelled has fewer than 256 literals.
 pub few_literals : (cases : List (Case ℤ)) (bytes : List ℕ) → SpellsEach SpellsCase cases bytes → All (λ (case : Case ℤ). length case.when < 256) cases

@@ -28,8 +28,8 @@ both_true false b first second = first
 same_self : (txn : TxnId) → is_same_txn txn txn ≡ true
 same_self txn =
     both_true (txn.site.0 == txn.site.0 && txn.epoch == txn.epoch) (txn.number == txn.number)
-      (both_true (txn.site.0 == txn.site.0) (txn.epoch == txn.epoch) (eq-eqb txn.site.0 txn.site.0 refl) (eq-eqb txn.epoch txn.epoch refl))
-      (eq-eqb txn.number txn.number refl)
+    (both_true (txn.site.0 == txn.site.0) (txn.epoch == txn.epoch) (eq-eqb txn.site.0 txn.site.0 refl) (eq-eqb txn.epoch txn.epoch refl))
+    (eq-eqb txn.number txn.number refl)
 
 -- The same literal in front of both changes nothing.
 before_under : (literal : Literal) (when other : List Literal) → stands_before (literal ∷ when) (literal ∷ other) ≡ stands_before when other
@@ -51,9 +51,9 @@ order_both txn (case ∷ []) [] first second = refl
 order_both txn (case ∷ []) (next ∷ back) first second = rw (same_self txn) second
 order_both txn (case ∷ next ∷ front) back first second =
     let here = left_true (stands_before (record { txn = txn; commits = false } ∷ case.when) (record { txn = txn; commits = false } ∷ next.when))
-                 (are_in_order (under txn false (next ∷ front))) first in
+    (are_in_order (under txn false (next ∷ front))) first in
     let rest = right_true (stands_before (record { txn = txn; commits = false } ∷ case.when) (record { txn = txn; commits = false } ∷ next.when))
-                 (are_in_order (under txn false (next ∷ front))) first in
+    (are_in_order (under txn false (next ∷ front))) first in
     both_true _ _ here (order_both txn (next ∷ front) back rest second)
 
 -- Canonical cases are in order.
@@ -80,7 +80,7 @@ order_broken cases place left right first second some inside left_is right_is fi
     let stands = order_at cases (place - 1) left order (omega arith) in
     let left_when : first ≡ (get_or cases (place - 1) left).when = first_is ∙ ap (λ (case : Case ℤ). case.when) left_is in
     let right_when : second ≡ (get_or cases (suc (place - 1)) left).when =
-          second_is ∙ ap (λ (case : Case ℤ). case.when) (right_is ∙ get_or_default cases place right left inside)
-          ∙ ap (λ n. (get_or cases n left).when) (sym next) in
+    second_is ∙ ap (λ (case : Case ℤ). case.when) (right_is ∙ get_or_default cases place right left inside)
+    ∙ ap (λ n. (get_or cases n left).when) (sym next) in
     let both : stands_before first second ≡ true = (λ i. stands_before (left_when i) (right_when i)) ∙ stands in
     cc

@@ -10,11 +10,9 @@ mod reads;
 mod record;
 
 pub use error::{PolyError, ReplayError};
-pub use fields::{
-    put_truth, put_txn, take_count, take_item, take_site, take_truth, take_txn,
-};
+pub use fields::{put_truth, put_txn, take_count, take_item, take_site, take_truth, take_txn};
+pub use past::{Past, replay};
 pub use poly::{put_poly, take_poly};
 pub use pv_poly::Read;
 pub use reads::{put_reads, take_reads};
 pub use record::{Record, encode_record};
-pub use past::{Past, replay};

@@ -21,11 +21,11 @@ pub returns-then-not-are_in_order-clause-stops : goal.returns-then-not-are_in_or
 returns-then-not-are_in_order-clause-stops c =
     rw c.place-place.ensures
     (stops_poly c.in_ok-cases.cases.items c.args.take.now c.take_cases.new.take c.in_ok-cases.ensures.passes.taken
-      (λ poly.
-        let order = c.are_in_order.ensures (subst (λ cases. IsTrue (are_in_order cases)) (sym c.deref.ensures.value) (canonical_order c.in_ok-cases.cases.items poly.canonical)) in
-        let is : c.are_in_order.result ≡ false = c.if-not-are_in_order.true in
-        let both : false ≡ true = sym is ∙ order in
-        cc))
+    (λ poly.
+    let order = c.are_in_order.ensures (subst (λ cases. IsTrue (are_in_order cases)) (sym c.deref.ensures.value) (canonical_order c.in_ok-cases.cases.items poly.canonical)) in
+    let is : c.are_in_order.result ≡ false = c.if-not-are_in_order.true in
+    let both : false ≡ true = sym is ∙ order in
+    cc))
 
 pub from_cases-requires-clause-few_literals : goal.from_cases-requires-clause-few_literals
 from_cases-requires-clause-few_literals c =
@@ -38,11 +38,11 @@ pub returns-in-Ok-clause-passes : goal.returns-in-Ok-clause-passes
 returns-in-Ok-clause-passes c =
     rw c.in-Ok.ensures.cases
     (passes_poly c.in_ok-cases.cases.items c.args.take.now c.take_cases.new.take c.in_ok-cases.ensures.passes.taken
-      (subst (IsPolyvalue HELD_NAMES) c.in-Ok.ensures.cases c.in-Ok.ensures.polyvalue))
+    (subst (IsPolyvalue HELD_NAMES) c.in-Ok.ensures.cases c.in-Ok.ensures.polyvalue))
 
 pub returns-in-Err-clause-stops : goal.returns-in-Err-clause-stops
 returns-in-Err-clause-stops c =
     refused_poly c.in_ok-cases.cases.items c.args.take.now c.take_cases.new.take c.in_ok-cases.ensures.passes.taken
-      (λ fault. c.no_canonical_fault.ensures HELD_NAMES c.in_ok-cases.cases.items fault)
-      (case_fault_of c.in-Err.e) c.refusal.result c.in-Err.ensures.refused
-      (subst (λ place. MatchOption (case_fault_of c.in-Err.e) (c.refusal.result ≡ NoMemory) (λ _. c.refusal.result ≡ BadPoly place)) c.place-place.ensures c.refusal.ensures)
+    (λ fault. c.no_canonical_fault.ensures HELD_NAMES c.in_ok-cases.cases.items fault)
+    (case_fault_of c.in-Err.e) c.refusal.result c.in-Err.ensures.refused
+    (subst (λ place. MatchOption (case_fault_of c.in-Err.e) (c.refusal.result ≡ NoMemory) (λ _. c.refusal.result ≡ BadPoly place)) c.place-place.ensures c.refusal.ensures)
