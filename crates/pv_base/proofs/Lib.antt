@@ -1,2 +1,8 @@
 -- The lemmas of this crate.
+pub mod AnswerLemmas
+pub mod AssignmentLemmas
+pub mod Basics
+pub mod BigEndianLemmas
+pub mod ContainsLemmas
 pub mod EntryLemmas
+pub mod MapLemmas

@@ -1,4 +1,6 @@
+pub mod Answer
 pub mod Assignment
+pub mod BigEndian
 pub mod Canonical
 pub mod CaseFaults
 pub mod Catalog
@@ -7,3 +9,4 @@ pub mod Fault
 pub mod Name
 pub mod Polyvalue
 pub mod Txn
+pub mod Want

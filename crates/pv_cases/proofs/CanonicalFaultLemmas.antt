@@ -7,9 +7,9 @@ use Rattle.pv_base.specs.declared.faults.CaseError.TheVariants.{NoMemory}
 use Rattle.pv_base.specs.declared.txn.TxnId.{TxnId}
 use Rattle.pv_base.specs.CaseFaults.{CaseFault, too_many, unreduced, fault_of, IsJoinFault, names_too_many, IsCanonicalFault, are_no_polyvalue, is_not_reduced, DifferFrom}
 use Rattle.pv_base.specs.Polyvalue.{Case, IsCanonical, IsSound, AreNames, AreSameEverywhere}
-use Rattle.pv_model.proofs.Basics.{Some_inj}
-use Rattle.pv_model.proofs.NameLemmas.{some-names}
-use Rattle.pv_model.proofs.PolyvalueLemmas.{one-canonical}
+use Rattle.pv_base.proofs.Basics.{Some_inj}
+use Rattle.pv_law_polyvalues.proofs.NameLemmas.{some-names}
+use Rattle.pv_law_polyvalues.proofs.PolyvalueLemmas.{one-canonical}
 use Rattle.pv_cases.proofs.CaseFaultLemmas.{no-case-fault, one-list-fault}
 use Rattle.pv_cases.proofs.DifferenceLemmas.{tells-or-memory}
 use Rattle.pv_cases.proofs.GapLemmas.{sound-disjoint, sound-complete}

@@ -7,9 +7,9 @@ use Rattle.pv_base.specs.declared.txn.TxnId.{TxnId}
 use Rattle.pv_base.specs.Assignment.{assignments}
 use Rattle.pv_base.specs.Polyvalue.{Case, value_at, AreNames}
 use Rattle.pv_base.specs.CaseFaults.{CaseFault, too_many, overlap, gap, unreduced, IsFirstOverlap, IsFirstGap, AreDisjoint, AreComplete, DifferFrom, IsJoinFault, names_too_many, are_not_disjoint, are_not_complete, IsCanonicalFault, are_no_polyvalue, is_not_reduced}
-use Rattle.pv_model.proofs.Basics.{Some_inj}
-use Rattle.pv_model.proofs.NameLemmas.{one-names}
-use Rattle.pv_model.proofs.PolyvalueLemmas.{one-canonical}
+use Rattle.pv_base.proofs.Basics.{Some_inj}
+use Rattle.pv_law_polyvalues.proofs.NameLemmas.{one-names}
+use Rattle.pv_law_polyvalues.proofs.PolyvalueLemmas.{one-canonical}
 use Rattle.pv_cases.proofs.CountLemmas.{same-count}
 use Rattle.pv_cases.proofs.OverlapLemmas.{one-first-overlap}
 use Rattle.pv_cases.proofs.GapLemmas.{found-passes}

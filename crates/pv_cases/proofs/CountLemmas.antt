@@ -10,10 +10,10 @@ use Rattle.pv_base.specs.declared.txn.TxnId.{TxnId}
 use Rattle.pv_base.specs.Assignment.{is_same_txn, commits, with_outcome}
 use Rattle.pv_base.specs.Polyvalue.{Case, value_at, names, IsCanonical, AreNames, NamesAtMost, IsPolyvalue, IsChoice, IsSettled, ChoiceNames}
 use Rattle.pv_base.specs.Polyvalue.IsCanonical.{sure}
-use Rattle.pv_model.proofs.AssignmentLemmas.{same-refl, same-eq, commits-with-same, commits-with-alike}
-use Rattle.pv_model.proofs.PolyvalueLemmas.{value_at-agree, unnamed-free, depends-named, one-canonical}
-use Rattle.pv_model.proofs.ExistenceLemmas.{own-outcome}
-use Rattle.pv_model.proofs.NameLemmas.{some-names, one-names, names-one-more, NamesAtMost-within}
+use Rattle.pv_base.proofs.AssignmentLemmas.{same-refl, same-eq, commits-with-same, commits-with-alike}
+use Rattle.pv_law_polyvalues.proofs.PolyvalueLemmas.{value_at-agree, unnamed-free, depends-named, one-canonical}
+use Rattle.pv_law_polyvalues.proofs.ExistenceLemmas.{own-outcome}
+use Rattle.pv_law_polyvalues.proofs.NameLemmas.{some-names, one-names, names-one-more, NamesAtMost-within}
 
 -- the one outcome of one transaction
 abbrev pub known : TxnId → Bool → List Literal

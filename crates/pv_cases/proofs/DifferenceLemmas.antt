@@ -5,7 +5,7 @@ use Rattle.std.proofs.lemmas.Option.{none-some}
 use Rattle.pv_base.specs.declared.faults.CaseError.{CaseError}
 use Rattle.pv_base.specs.declared.faults.CaseError.TheVariants.{TooManyOutcomes, NotDisjoint, NotComplete, NotReduced, NoMemory}
 use Rattle.pv_base.specs.CaseFaults.{CaseFault, too_many, overlap, gap, unreduced, fault_of}
-use Rattle.pv_model.proofs.Basics.{Some_inj}
+use Rattle.pv_base.proofs.Basics.{Some_inj}
 
 -- Lists that are the same at each place are equal.
 pub same-everywhere : {X : Type 0} (n : ℕ) (xs ys : List X) → length xs ≤ n → length ys ≤ n → ((k : ℕ) → k < n → slice_get xs k ≡ slice_get ys k) → xs ≡ ys

@@ -10,7 +10,7 @@ use Rattle.pv_base.specs.declared.txn.TxnId.{TxnId}
 use Rattle.pv_base.specs.Assignment.{assignments}
 use Rattle.pv_base.specs.Polyvalue.{Case, value_at, AreNames, IsSound}
 use Rattle.pv_base.specs.CaseFaults.{Overlap, IsFirstGap, AreDisjoint, AreComplete}
-use Rattle.pv_model.proofs.Basics.{Some_inj}
+use Rattle.pv_base.proofs.Basics.{Some_inj}
 use Rattle.pv_cases.specs.Meetings.{places_met, meeting_of, meetings_of}
 use Rattle.pv_cases.specs.Joining.{is_gap}
 use Rattle.pv_cases.proofs.MeetingLemmas.{places-up, placed, met-at, gap-of-meeting, length-places, one-place, no-two-places, some-place}

@@ -8,8 +8,8 @@ use Rattle.pv_base.specs.declared.txn.TxnId.{TxnId}
 use Rattle.pv_base.specs.Assignment.{assignments}
 use Rattle.pv_base.specs.Polyvalue.{Case, AreNames, AreValues, AreSameEverywhere, names}
 use Rattle.pv_base.specs.CaseFaults.{CaseFault, too_many, overlap, gap, AreDisjoint, AreComplete, IsJoinFault, names_too_many, are_not_disjoint, are_not_complete}
-use Rattle.pv_model.proofs.Basics.{Some_inj}
-use Rattle.pv_model.proofs.TableLemmas.{length-assignments}
+use Rattle.pv_base.proofs.Basics.{Some_inj}
+use Rattle.pv_law_polyvalues.proofs.TableLemmas.{length-assignments}
 use Rattle.pv_cases.specs.declared.meetings.Meeting.{Meeting}
 use Rattle.pv_cases.specs.Meetings.{places_met, meeting_of, meetings_of}
 use Rattle.pv_cases.specs.Joining.{IsLeastPair, HasNoPair, is_gap, value_met}

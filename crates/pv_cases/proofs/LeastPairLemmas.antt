@@ -5,7 +5,7 @@ use Rattle.std.specs.List.{Contains}
 use Rattle.std.proofs.lemmas.Option.{none-some}
 use Rattle.std.proofs.lemmas.List.{take_more}
 use Rattle.std.proofs.lemmas.List.Elements.{Contains-append_left, Contains-push, Contains-push_cases}
-use Rattle.pv_model.proofs.Basics.{Some_inj}
+use Rattle.pv_base.proofs.Basics.{Some_inj}
 use Rattle.pv_cases.specs.declared.meetings.Meeting.{Meeting}
 use Rattle.pv_cases.specs.Joining.{IsPairBefore, HasNoPair, IsLeastPair}
 use Rattle.pv_cases.proofs.MeetingLemmas.{pair}

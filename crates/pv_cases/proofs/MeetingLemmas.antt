@@ -10,9 +10,9 @@ use Rattle.pv_base.specs.declared.txn.TxnId.{TxnId}
 use Rattle.pv_base.specs.Assignment.{is_same_txn, AgreeOn}
 use Rattle.pv_base.specs.Polyvalue.{Case, meets, value_at, names}
 use Rattle.pv_base.specs.CaseFaults.{IsMetAt}
-use Rattle.pv_model.proofs.Basics.{Some_inj}
-use Rattle.pv_model.proofs.ItemLemmas.{Contains-first, Contains-behind, Contains-nil, Contains-cases}
-use Rattle.pv_model.proofs.AssignmentLemmas.{same-refl}
+use Rattle.pv_base.proofs.Basics.{Some_inj}
+use Rattle.pv_base.proofs.ContainsLemmas.{Contains-first, Contains-behind, Contains-nil, Contains-cases}
+use Rattle.pv_base.proofs.AssignmentLemmas.{same-refl}
 use Rattle.pv_cases.specs.declared.meetings.Meeting.{Meeting}
 use Rattle.pv_cases.specs.Meetings.{places_from, places_met, meeting_of}
 use Rattle.pv_cases.specs.Joining.{IsPairBefore, is_gap, value_met}

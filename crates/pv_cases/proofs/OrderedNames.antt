@@ -15,8 +15,8 @@ use Rattle.pv_base.specs.declared.literal.Literal.{Literal}
 use Rattle.pv_base.specs.declared.txn.TxnId.{TxnId}
 use Rattle.pv_base.specs.Assignment.{is_same_txn, txn_cmp, precedes}
 use Rattle.pv_base.specs.Polyvalue.{Case, names, AreNames}
-use Rattle.pv_model.proofs.AscendingLemmas.{Ascending}
-use Rattle.pv_model.proofs.AssignmentLemmas.{same-refl, same-eq, same-from-eq, same-sym}
+use Rattle.pv_law_polyvalues.proofs.AscendingLemmas.{Ascending}
+use Rattle.pv_base.proofs.AssignmentLemmas.{same-refl, same-eq, same-from-eq, same-sym}
 use Rattle.pv_cases.specs.Names.{txns_of}
 use Rattle.pv_cases.proofs.TxnTests.{txn-total, ties}
 

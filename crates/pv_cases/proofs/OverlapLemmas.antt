@@ -5,8 +5,8 @@ use Rattle.pv_base.specs.declared.txn.TxnId.{TxnId}
 use Rattle.pv_base.specs.Assignment.{commits, assignments}
 use Rattle.pv_base.specs.Polyvalue.{Case, AreNames}
 use Rattle.pv_base.specs.CaseFaults.{Overlap, IsFirstOverlap, AreDisjoint}
-use Rattle.pv_model.proofs.MapLemmas.{Contains-map, Contains-unmap}
-use Rattle.pv_model.proofs.TableLemmas.{chosen-is-assignment, chosen-agrees}
+use Rattle.pv_base.proofs.MapLemmas.{Contains-map, Contains-unmap}
+use Rattle.pv_law_polyvalues.proofs.TableLemmas.{chosen-is-assignment, chosen-agrees}
 use Rattle.pv_cases.specs.Meetings.{places_met, meeting_of, meetings_of}
 use Rattle.pv_cases.specs.Joining.{IsPairBefore, HasNoPair, IsLeastPair}
 use Rattle.pv_cases.proofs.MeetingLemmas.{pair, places-up, places-agree, placed, met-at, pair-places, two-places}

@@ -15,9 +15,9 @@ use Rattle.pv_base.specs.declared.literal.Literal.{Literal}
 use Rattle.pv_base.specs.declared.txn.TxnId.{TxnId}
 use Rattle.pv_base.specs.Assignment.{is_same_txn, precedes, commits, assignments}
 use Rattle.pv_base.specs.Polyvalue.{Case, is_met, meets, names, AreNames}
-use Rattle.pv_model.proofs.MapLemmas.{map-same}
-use Rattle.pv_model.proofs.AscendingLemmas.{Ascending, All-from_members, ascending-first, ascending-tail}
-use Rattle.pv_model.proofs.AssignmentLemmas.{same-refl, same-eq, same-from-eq, same-sym, precedes-other}
+use Rattle.pv_base.proofs.MapLemmas.{map-same}
+use Rattle.pv_law_polyvalues.proofs.AscendingLemmas.{Ascending, All-from_members, ascending-first, ascending-tail}
+use Rattle.pv_base.proofs.AssignmentLemmas.{same-refl, same-eq, same-from-eq, same-sym, precedes-other}
 use Rattle.pv_cases.specs.declared.meetings.Meeting.{Meeting}
 use Rattle.pv_cases.specs.Meetings.{places_from, places_met, meeting_of, meetings_of}
 use Rattle.pv_cases.specs.Partings.{allows, meets_on, condition_at, places_with, meetings_among}

@@ -7,7 +7,7 @@ use Rattle.std.proofs.lemmas.Nat.{one_shl}
 use Rattle.std.proofs.lemmas.Option.{slice_get-map}
 use Rattle.pv_base.specs.declared.txn.TxnId.{TxnId}
 use Rattle.pv_base.specs.Assignment.{assignments}
-use Rattle.pv_model.proofs.TableLemmas.{length-assignments}
+use Rattle.pv_law_polyvalues.proofs.TableLemmas.{length-assignments}
 
 in-front : {X : Type 0} (xs ys : List X) (at : ℕ) → at < length xs → slice_get (xs ++ ys) at ≡ slice_get xs at
 in-front [] ys at within = absurd (omega (arith, within))

@@ -4,8 +4,8 @@ use Rattle.std.specs.List.{Contains}
 use Rattle.std.proofs.lemmas.List.{drop_all}
 use Rattle.pv_base.specs.declared.txn.TxnId.{TxnId}
 use Rattle.pv_base.specs.Polyvalue.{Case, value_at, names, IsCanonical, IsPolyvalue}
-use Rattle.pv_model.proofs.NameLemmas.{NamesAtMost-within}
-use Rattle.pv_model.proofs.PolyvalueLemmas.{canonical-complete}
+use Rattle.pv_law_polyvalues.proofs.NameLemmas.{NamesAtMost-within}
+use Rattle.pv_law_polyvalues.proofs.PolyvalueLemmas.{canonical-complete}
 
 module _ {V : Type 0} where
   -- A list that is equal to canonical cases, which name only what stands in a short list, is a polyvalue.

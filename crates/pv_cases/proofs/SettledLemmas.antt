@@ -7,10 +7,10 @@ use Rattle.pv_base.specs.declared.literal.Literal.{Literal}
 use Rattle.pv_base.specs.declared.txn.TxnId.{TxnId}
 use Rattle.pv_base.specs.Assignment.{precedes, commits, with_outcome}
 use Rattle.pv_base.specs.Polyvalue.{Case, value_at, names, under, with_outcomes, AreOutcomes, IsChoice, IsSettled, NamesOnlyAfter}
-use Rattle.pv_model.proofs.AscendingLemmas.{All-from_members, pairs-first, pairs-tail}
-use Rattle.pv_model.proofs.AssignmentLemmas.{commits-with-other, commits-with-same, precedes-irrefl, precedes-other', precedes-trans}
-use Rattle.pv_model.proofs.ItemLemmas.{Contains-first, Contains-behind}
-use Rattle.pv_model.proofs.PolyvalueLemmas.{behind-unnamed, unnamed-free, value_at-agree, value_at-tested}
+use Rattle.pv_law_polyvalues.proofs.AscendingLemmas.{All-from_members, pairs-first, pairs-tail}
+use Rattle.pv_base.proofs.AssignmentLemmas.{commits-with-other, commits-with-same, precedes-irrefl, precedes-other', precedes-trans}
+use Rattle.pv_base.proofs.ContainsLemmas.{Contains-first, Contains-behind}
+use Rattle.pv_law_polyvalues.proofs.PolyvalueLemmas.{behind-unnamed, unnamed-free, value_at-agree, value_at-tested}
 
 -- The outcomes of ascending literals without the first ..
 pub outcomes-rest : (literal : Literal) (rest : List Literal) → AreOutcomes (literal ∷ rest) → AreOutcomes rest

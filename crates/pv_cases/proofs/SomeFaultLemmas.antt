@@ -8,12 +8,13 @@ use Rattle.pv_base.specs.declared.txn.TxnId.{TxnId}
 use Rattle.pv_base.specs.Assignment.{assignments}
 use Rattle.pv_base.specs.Polyvalue.{Case, value_at, AreNames, NamesAtMost, IsCanonical, IsSound, IsPolyvalue}
 use Rattle.pv_base.specs.CaseFaults.{CaseFault, too_many, overlap, gap, unreduced, AreComplete, DifferFrom, IsJoinFault, names_too_many, are_not_disjoint, are_not_complete, IsCanonicalFault, are_no_polyvalue, is_not_reduced}
-use Rattle.pv_model.proofs.Basics.{Some_inj, heads}
-use Rattle.pv_model.proofs.ItemLemmas.{Contains-first, Contains-behind, Contains-nil, Contains-cases}
-use Rattle.pv_model.proofs.PolyvalueLemmas.{value_at-agree, canonical-sound}
-use Rattle.pv_model.proofs.NameLemmas.{some-names, NamesAtMost-from}
-use Rattle.pv_model.proofs.TableLemmas.{chosen-is-assignment, value_at-chosen}
-use Rattle.pv_model.proofs.ExistenceLemmas.{IsExact, cases-equal, some-polyvalue}
+use Rattle.pv_base.proofs.Basics.{Some_inj, heads}
+use Rattle.pv_base.proofs.ContainsLemmas.{Contains-first, Contains-behind, Contains-nil, Contains-cases}
+use Rattle.pv_law_polyvalues.proofs.PolyvalueLemmas.{value_at-agree, canonical-sound}
+use Rattle.pv_law_polyvalues.proofs.NameLemmas.{some-names, NamesAtMost-from}
+use Rattle.pv_law_polyvalues.proofs.TableLemmas.{chosen-is-assignment, value_at-chosen}
+use Rattle.pv_base.specs.Canonical.{IsExact}
+use Rattle.pv_law_polyvalues.proofs.ExistenceLemmas.{cases-equal, some-polyvalue}
 use Rattle.pv_cases.specs.declared.meetings.Meeting.{Meeting}
 use Rattle.pv_cases.specs.Meetings.{meetings_of}
 use Rattle.pv_cases.specs.Joining.{IsPairBefore, HasNoPair, IsLeastPair}

@@ -6,7 +6,7 @@ use Rattle.std.proofs.Math.Bool.{and_assoc}
 use Rattle.std.proofs.lemmas.Bool.{false≢true, true≢false}
 use Rattle.pv_base.specs.declared.txn.TxnId.{TxnId}
 use Rattle.pv_base.specs.Assignment.{is_same_txn, txn_cmp, precedes}
-use Rattle.pv_model.proofs.AssignmentLemmas.{same-eq, same-from-eq, precedes-other, precedes-other', order-of-two}
+use Rattle.pv_base.proofs.AssignmentLemmas.{same-eq, same-from-eq, precedes-other, precedes-other', order-of-two}
 
 -- What `==` says.
 

@@ -11,11 +11,11 @@ use Rattle.pv_base.specs.declared.txn.TxnId.{TxnId}
 use Rattle.pv_base.specs.Assignment.{is_same_txn, assignments}
 use Rattle.pv_base.specs.Polyvalue.{Case, value_at, names, AreNames, AreValues, AreSameEverywhere}
 use Rattle.pv_base.specs.CaseFaults.{AreComplete}
-use Rattle.pv_model.proofs.ItemLemmas.{Contains-first, Contains-behind}
-use Rattle.pv_model.proofs.AssignmentLemmas.{same-eq}
-use Rattle.pv_model.proofs.MapLemmas.{map-map, map-same}
-use Rattle.pv_model.proofs.NameLemmas.{NamesAtMost-within}
-use Rattle.pv_model.proofs.TableLemmas.{same-by-values}
+use Rattle.pv_base.proofs.ContainsLemmas.{Contains-first, Contains-behind}
+use Rattle.pv_base.proofs.AssignmentLemmas.{same-eq}
+use Rattle.pv_base.proofs.MapLemmas.{map-map, map-same}
+use Rattle.pv_law_polyvalues.proofs.NameLemmas.{NamesAtMost-within}
+use Rattle.pv_law_polyvalues.proofs.TableLemmas.{same-by-values}
 use Rattle.pv_cases.specs.declared.meetings.Meeting.{Meeting}
 use Rattle.pv_cases.specs.Meetings.{places_met, meeting_of, meetings_of}
 use Rattle.pv_cases.specs.Joining.{value_met}

@@ -2,7 +2,7 @@
 ghost use Rattle.std.specs.Prelude.{◌≡◌, ◌++◌, ◌≤◌, ◌*◌, List, IfOk, length};
 ghost use Rattle.pv_base.specs.Polyvalue.{AreNames, NamesAtMost};
 ghost use Rattle.pv_base.specs.declared.txn.TxnId.{TxnId};
-ghost use Rattle.pv_base.specs.declared.faults.TheConstants.{HELD_NAMES};
+ghost use Rattle.pv_base.specs.declared.limits.TheConstants.{HELD_NAMES};
 
 use crate::names::{ordered, push_names};
 use pv_base::{Case, NoMemory, TxnId};

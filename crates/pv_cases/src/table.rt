@@ -3,7 +3,7 @@ ghost use Rattle.std.specs.Prelude.{◌≡◌, ◌<◌, ◌≤◌, ◌^◌, ◌�
 ghost use Rattle.std.specs.List.{sum, filter_map, position};
 ghost use Rattle.pv_base.specs.CaseFaults.{CaseFault, fault_of, IsJoinFault};
 ghost use Rattle.pv_base.specs.Polyvalue.{AreNames, AreValues, IsSound};
-ghost use Rattle.pv_base.specs.declared.faults.TheConstants.{HELD_NAMES};
+ghost use Rattle.pv_base.specs.declared.limits.TheConstants.{HELD_NAMES};
 ghost use Rattle.pv_cases.specs.Joining.{value_met, IsPairBefore, IsLeastPair, HasNoPair, is_gap};
 
 use crate::meetings::{Meeting, assignment_at, meetings};

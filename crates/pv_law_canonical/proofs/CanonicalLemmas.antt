@@ -7,11 +7,11 @@ use Rattle.pv_base.specs.declared.txn.TxnId.{TxnId}
 use Rattle.pv_base.specs.Assignment.{AreAscending, commits, with_outcome, assignments}
 use Rattle.pv_base.specs.Canonical.{IsExact, IsFunctionOf, are_same_cases, decision, canonical_cases}
 use Rattle.pv_base.specs.Polyvalue.{Case, AreValues, IsCanonical, NamesOnlyAfter, sure, tested, names, under, value_at}
-use Rattle.pv_model.proofs.AscendingLemmas.{ascending-tail, ascending-first}
-use Rattle.pv_model.proofs.ItemLemmas.{Contains-first, Contains-behind}
-use Rattle.pv_model.proofs.MapLemmas.{map-same, map-map}
-use Rattle.pv_model.proofs.PolyvalueLemmas.{names-tested, one-canonical, value_at-tested}
-use Rattle.pv_model.proofs.TableLemmas.{assigned-listed, chosen-agrees}
+use Rattle.pv_law_polyvalues.proofs.AscendingLemmas.{ascending-tail, ascending-first}
+use Rattle.pv_base.proofs.ContainsLemmas.{Contains-first, Contains-behind}
+use Rattle.pv_base.proofs.MapLemmas.{map-same, map-map}
+use Rattle.pv_law_polyvalues.proofs.PolyvalueLemmas.{names-tested, one-canonical, value_at-tested}
+use Rattle.pv_law_polyvalues.proofs.TableLemmas.{assigned-listed, chosen-agrees}
 use Rattle.pv_law_canonical.proofs.ComparedLemmas.{same-cases}
 use Rattle.pv_law_canonical.proofs.FilterLemmas.{aborted-already, assignment-own, assignment-with, assignment-without, kept-listed}
 

@@ -6,7 +6,7 @@ use Rattle.std.proofs.lemmas.Bool.{and_parts, and_from, false≢true}
 use Rattle.pv_base.specs.Assignment.{is_same_txn}
 use Rattle.pv_base.specs.Canonical.{IsExact, is_same_literal, is_same_case, are_same_cases}
 use Rattle.pv_base.specs.Polyvalue.{Case}
-use Rattle.pv_model.proofs.AssignmentLemmas.{same-refl, same-eq}
+use Rattle.pv_base.proofs.AssignmentLemmas.{same-refl, same-eq}
 
 beq-same : (b c : Bool) → beq b c ≡ true → b ≡ c
 beq-same true true h = refl

@@ -6,11 +6,11 @@ use Rattle.std.proofs.lemmas.Bool.{or_left}
 use Rattle.std.proofs.lemmas.List.Elements.{All-contains, All-contains_itself, All-filter, Contains-append_left, Contains-append_right, Contains-append_cases}
 use Rattle.pv_base.specs.declared.txn.TxnId.{TxnId}
 use Rattle.pv_base.specs.Assignment.{AreAscending, is_same_txn, precedes, commits, with_outcome, assignments}
-use Rattle.pv_model.proofs.AscendingLemmas.{All-from_members, ascending-tail, ascending-first}
-use Rattle.pv_model.proofs.AssignmentLemmas.{same-refl, precedes-other, precedes-other'}
-use Rattle.pv_model.proofs.ItemLemmas.{Contains-first, Contains-behind, Contains-nil, Contains-cases}
-use Rattle.pv_model.proofs.MapLemmas.{Contains-map, Contains-unmap}
-use Rattle.pv_model.proofs.TableLemmas.{before-aborts}
+use Rattle.pv_law_polyvalues.proofs.AscendingLemmas.{All-from_members, ascending-tail, ascending-first}
+use Rattle.pv_base.proofs.AssignmentLemmas.{same-refl, precedes-other, precedes-other'}
+use Rattle.pv_base.proofs.ContainsLemmas.{Contains-first, Contains-behind, Contains-nil, Contains-cases}
+use Rattle.pv_base.proofs.MapLemmas.{Contains-map, Contains-unmap}
+use Rattle.pv_law_polyvalues.proofs.TableLemmas.{before-aborts}
 
 cond-step : {X : Type 0} (b c : Bool) (x : X) (xs ys : List X) → b ≡ c → xs ≡ ys → cond b (x ∷ xs) xs ≡ cond c (x ∷ ys) ys
 cond-step b c x xs ys test rest = ap₂ (λ b xs. cond b (x ∷ xs) xs) test rest

@@ -7,8 +7,8 @@ use Rattle.pv_base.specs.declared.txn.TxnId.{TxnId}
 use Rattle.pv_base.specs.Assignment.{precedes}
 use Rattle.pv_base.specs.Polyvalue.{Case, names, NamesOnlyAfter, under, IsCanonical, IsChoice, IsSettled}
 use Rattle.pv_base.specs.Polyvalue.IsCanonical.{tested}
-use Rattle.pv_model.proofs.AssignmentLemmas.{precedes-trans, order-of-two}
-use Rattle.pv_model.proofs.PolyvalueLemmas.{behind-unnamed, value_at-tested, names-tested}
+use Rattle.pv_base.proofs.AssignmentLemmas.{precedes-trans, order-of-two}
+use Rattle.pv_law_polyvalues.proofs.PolyvalueLemmas.{behind-unnamed, value_at-tested, names-tested}
 use Rattle.pv_cases.proofs.SettledLemmas.{NamesKept, side-settled, test-settled, unnamed-settled}
 use Rattle.pv_poly.specs.From.{NamesFrom, IsFirst, IsFirstOf, IsSide, before, first_of}
 use Rattle.pv_poly.specs.TreeView.{AreSides}

@@ -5,12 +5,12 @@ use Rattle.std.proofs.Math.Nat.{pow-suc}
 use Rattle.pv_base.specs.declared.txn.TxnId.{TxnId}
 use Rattle.pv_base.specs.Assignment.{precedes, assignments}
 use Rattle.pv_base.specs.Polyvalue.{Case, names, NamesOnlyAfter, IsChoice, AreValues}
-use Rattle.pv_model.proofs.AssignmentLemmas.{precedes-trans}
-use Rattle.pv_model.proofs.AscendingLemmas.{Ascending, All-from_members, ascending-first}
-use Rattle.pv_model.proofs.ItemLemmas.{Contains-cases, Contains-first, Contains-behind}
-use Rattle.pv_model.proofs.MapLemmas.{map-same}
-use Rattle.pv_model.proofs.PolyvalueLemmas.{value_at-tested, behind-unnamed, names-tested}
-use Rattle.pv_model.proofs.TableLemmas.{values-before, values-skip, values-tested, one-values}
+use Rattle.pv_base.proofs.AssignmentLemmas.{precedes-trans}
+use Rattle.pv_law_polyvalues.proofs.AscendingLemmas.{Ascending, All-from_members, ascending-first}
+use Rattle.pv_base.proofs.ContainsLemmas.{Contains-cases, Contains-first, Contains-behind}
+use Rattle.pv_base.proofs.MapLemmas.{map-same}
+use Rattle.pv_law_polyvalues.proofs.PolyvalueLemmas.{value_at-tested, behind-unnamed, names-tested}
+use Rattle.pv_law_polyvalues.proofs.TableLemmas.{values-before, values-skip, values-tested, one-values}
 use Rattle.pv_cases.proofs.PartingLemmas.{first-before}
 use Rattle.pv_poly.proofs.TopOfTree.{IsTested}
 

@@ -6,7 +6,7 @@ ghost use Rattle.pv_base.specs.CaseFaults.{CaseFault, fault_of, IsJoinFault, IsC
 ghost use Rattle.pv_base.specs.Polyvalue as model;
 ghost use Rattle.pv_base.specs.Polyvalue.{value_at, names, AreNames, AreOutcomes, NamesAtMost, IsCanonical, IsSound, IsPolyvalue, AreSameEverywhere, IsChoice, ChoiceNames, IsSettled, AreValues};
 ghost use Rattle.pv_base.specs.declared.txn.TxnId.{TxnId};
-ghost use Rattle.pv_base.specs.declared.faults.TheConstants.{HELD_NAMES};
+ghost use Rattle.pv_base.specs.declared.limits.TheConstants.{HELD_NAMES};
 
 use crate::tree::Tree;
 use pv_base::{Case, CaseError, Exact, HELD_NAMES, Literal, NameError, NoMemory, TxnId};

@@ -13,8 +13,8 @@ use Rattle.pv_base.specs.Assignment.{is_same_txn}
 use Rattle.pv_base.specs.Polyvalue.{Case, names, AreNames, IsPolyvalue}
 use Rattle.pv_cases.specs.Names.{txns_of}
 use Rattle.pv_cases.proofs.OrderedNames.{txns_of-append}
-use Rattle.pv_model.proofs.NameLemmas.{some-names, listed-named}
-use Rattle.pv_model.proofs.AscendingLemmas.{fewer-ascending}
+use Rattle.pv_law_polyvalues.proofs.NameLemmas.{some-names, listed-named}
+use Rattle.pv_law_polyvalues.proofs.AscendingLemmas.{fewer-ascending}
 
 among-more : (limit count : ℕ) (own rest : List TxnId) → length own ≤ limit → length rest ≤ limit * count → length (own ++ rest) ≤ limit * (suc count)
 among-more limit count own rest first others = omega (arith, length-append own rest, first, others, mul-suc limit count)

@@ -6,7 +6,7 @@ ghost use Rattle.pv_base.specs.Assignment.{AreAscending, assignments};
 ghost use Rattle.pv_base.specs.Polyvalue.{AreNames, IsPolyvalue};
 ghost use Rattle.pv_base.specs.declared.txn.TxnId.{TxnId};
 ghost use Rattle.pv_model.specs.Alternatives.{number_at};
-ghost use Rattle.pv_model.specs.Answers.{sum_at, sums, without_repeats};
+ghost use Rattle.pv_model.specs.PossibleAnswers.{sum_at, sums, without_repeats};
 ghost use Rattle.pv_query.specs.Sums.{added, totals, IsWithin, AreWithin};
 
 use crate::repeats::push_new;

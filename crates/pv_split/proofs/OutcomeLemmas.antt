@@ -13,9 +13,9 @@ use Rattle.pv_base.specs.Assignment.{is_same_txn, commits, assignments}
 use Rattle.pv_base.specs.Polyvalue.{Case, names, AreNames}
 use Rattle.pv_model.specs.Alternatives.{Read, all_cases, number_at, rows_at}
 use Rattle.pv_model.specs.Meaning.{Row}
-use Rattle.pv_model.proofs.MapLemmas.{same-mapped}
-use Rattle.pv_model.proofs.NameLemmas.{one-names}
-use Rattle.pv_model.proofs.TableLemmas.{chosen-is-assignment, value_at-chosen}
+use Rattle.pv_base.proofs.MapLemmas.{same-mapped}
+use Rattle.pv_law_polyvalues.proofs.NameLemmas.{one-names}
+use Rattle.pv_law_polyvalues.proofs.TableLemmas.{chosen-is-assignment, value_at-chosen}
 use Rattle.pv_cases.specs.Names.{txns_of}
 use Rattle.pv_cases.proofs.OrderedNames.{txns_of-append}
 

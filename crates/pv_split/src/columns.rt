@@ -1,7 +1,7 @@
 // What is read, at each alternative.
 ghost use Rattle.std.specs.Prelude.{◌≡◌, ◌<◌, ◌≤◌, map, length, All, IfOk};
 ghost use Rattle.pv_base.specs.Assignment.{AreAscending};
-ghost use Rattle.pv_base.specs.declared.faults.TheConstants.{READ_NAMES};
+ghost use Rattle.pv_base.specs.declared.limits.TheConstants.{READ_NAMES};
 ghost use Rattle.pv_split.specs.Columns.{columns_of, row_at};
 
 use pv_ast::Row;

@@ -1,6 +1,6 @@
 -- The lemma on functions with one table.
 use Rattle.pv_base.specs.Assignment.{assignments}
-use Rattle.pv_model.proofs.MapLemmas.{same-mapped}
+use Rattle.pv_base.proofs.MapLemmas.{same-mapped}
 use Rattle.pv_law_canonical.proofs.CanonicalLemmas as lemmas
 use Rattle.pv_law_canonical.proofs.follow_the_table.Goals as goal
 

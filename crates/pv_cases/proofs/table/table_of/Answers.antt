@@ -1,7 +1,7 @@
 -- What `table_of` owes.
 use Rattle.std.proofs.Common.{◌<◌, ◌≤◌, ◌^◌, List, inr, length, sym, ap, subst, ◌∙◌, arith}
 use Rattle.std.specs.Prelude.{slice_get}
-use Rattle.pv_base.specs.declared.faults.TheConstants.{HELD_NAMES}
+use Rattle.pv_base.specs.declared.limits.TheConstants.{HELD_NAMES}
 use Rattle.pv_base.specs.declared.txn.TxnId.{TxnId}
 use Rattle.pv_base.specs.Assignment.{assignments}
 use Rattle.pv_base.specs.CaseFaults.{too_many, overlap, gap, AreComplete}

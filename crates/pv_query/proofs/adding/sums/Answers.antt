@@ -6,8 +6,8 @@ use Rattle.std.specs.Ordering.{int_eq}
 use Rattle.std.proofs.lemmas.Cmp.{int_eq_equiv}
 use Rattle.pv_base.specs.declared.txn.TxnId.{TxnId}
 use Rattle.pv_base.specs.Assignment.{assignments}
-use Rattle.pv_model.specs.Answers.{sum_at, sums}
-use Rattle.pv_model.proofs.NameLemmas.{one-names}
+use Rattle.pv_model.specs.PossibleAnswers.{sum_at, sums}
+use Rattle.pv_law_polyvalues.proofs.NameLemmas.{one-names}
 use Rattle.pv_query.proofs.OutcomeLemmas.{together}
 use Rattle.pv_query.proofs.RepeatLemmas.{repeats-distinct}
 use Rattle.pv_query.proofs.EverySumLemmas.{every-sum, each-sum}

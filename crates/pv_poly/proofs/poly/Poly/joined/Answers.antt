@@ -1,7 +1,7 @@
 -- The polyvalue of the table has the values of the cases.
 use Rattle.std.proofs.Common.{◌^◌, List, length, sym, ap, ◌∙◌}
 use Rattle.pv_base.specs.declared.txn.TxnId.{TxnId}
-use Rattle.pv_model.proofs.TableLemmas.{length-values}
+use Rattle.pv_law_polyvalues.proofs.TableLemmas.{length-values}
 use Rattle.pv_cases.proofs.JoinedLemmas.{joined-read}
 use Rattle.pv_poly.proofs.poly.Poly.joined.Goals as goal
 
