@@ -13,7 +13,8 @@ use Rattle.pv_base.proofs.ContainsLemmas.{Contains-first, Contains-behind, Conta
 use Rattle.pv_law_polyvalues.proofs.PolyvalueLemmas.{value_at-agree, canonical-sound}
 use Rattle.pv_law_polyvalues.proofs.NameLemmas.{some-names, NamesAtMost-from}
 use Rattle.pv_law_polyvalues.proofs.TableLemmas.{chosen-is-assignment, value_at-chosen}
-use Rattle.pv_law_polyvalues.proofs.ExistenceLemmas.{IsExact, cases-equal, some-polyvalue}
+use Rattle.pv_base.specs.Canonical.{IsExact}
+use Rattle.pv_law_polyvalues.proofs.ExistenceLemmas.{cases-equal, some-polyvalue}
 use Rattle.pv_cases.specs.declared.meetings.Meeting.{Meeting}
 use Rattle.pv_cases.specs.Meetings.{meetings_of}
 use Rattle.pv_cases.specs.Joining.{IsPairBefore, HasNoPair, IsLeastPair}

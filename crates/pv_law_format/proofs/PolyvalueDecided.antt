@@ -7,7 +7,8 @@ use Rattle.std.proofs.lemmas.Bool.{cases_lt}
 use Rattle.std.proofs.lemmas.Cmp.{int_eq_equiv}
 use Rattle.pv_base.specs.Polyvalue.{Case, IsCanonical, IsPolyvalue, NamesAtMost}
 use Rattle.pv_model.specs.Alternatives.{number_at}
-use Rattle.pv_law_polyvalues.proofs.ExistenceLemmas.{IsExact, cases-equal, some-polyvalue}
+use Rattle.pv_base.specs.Canonical.{IsExact}
+use Rattle.pv_law_polyvalues.proofs.ExistenceLemmas.{cases-equal, some-polyvalue}
 use Rattle.pv_law_polyvalues.proofs.NameLemmas.{some-names, NamesAtMost-from}
 use Rattle.pv_law_polyvalues.proofs.PolyvalueLemmas.{canonical-complete, one-canonical, value_at-agree}
 
@@ -15,7 +16,7 @@ int_eq-exact : (x y : ℤ) → int_eq x y ≡ true → x ≡ y
 int_eq-exact x y same = search rules
 
 numbers-exact : IsExact int_eq
-numbers-exact = record { exact = int_eq-exact; same-itself = int_eq_equiv.refl }
+numbers-exact = record { exact = int_eq-exact; itself = int_eq_equiv.refl }
 
 canonical-or-not : (cases : List (Case ℤ)) → IsCanonical cases ⊎ (IsCanonical cases → ⊥)
 canonical-or-not cases =

@@ -7,6 +7,7 @@ use Rattle.std.proofs.lemmas.List.Elements.{Contains-append_left, Contains-appen
 use Rattle.pv_base.specs.declared.literal.Literal.{Literal}
 use Rattle.pv_base.specs.declared.txn.TxnId.{TxnId}
 use Rattle.pv_base.specs.Assignment.{is_same_txn, commits, with_outcome}
+use Rattle.pv_base.specs.Canonical.{IsExact}
 use Rattle.pv_base.specs.Polyvalue.{Case, value_at, names, under, IsCanonical, sure, tested, IsChoice, ChoiceNames}
 use Rattle.pv_base.proofs.Basics.{Some_inj, heads, tails}
 use Rattle.pv_base.proofs.ContainsLemmas.{Contains-first, Contains-behind, Contains-nil, Contains-cases}
@@ -15,11 +16,6 @@ use Rattle.pv_law_polyvalues.proofs.PolyvalueLemmas.{value_at-agree, value_at-te
 use Rattle.pv_law_polyvalues.proofs.AscendingLemmas.{Ascending, ascending-tail, ascending-first, some-ordered}
 use Rattle.pv_law_polyvalues.proofs.NameLemmas.{some-names, one-names, listed-named}
 use Rattle.pv_base.proofs.MapLemmas.{Contains-unmap}
-
--- The test says exactly which values are one.
-pub record IsExact {V : Type 0} (same : V → V → Bool) : Type 0 where
-  pub exact : (x y : V) → same x y ≡ true → x ≡ y
-  pub same-itself : (x : V) → same x x ≡ true
 
 -- Equality of cases is decided.
 
@@ -67,7 +63,7 @@ module _ {V : Type 0} where
   pub cases-equal : {same : V → V → Bool} → IsExact same → (cases others : List (Case V)) → (cases ≡ others) ⊎ (cases ≡ others → ⊥)
   cases-equal {same} laws cases others =
       lists-equal
-      (cases-equal-by (λ x y. decided (same x y) (laws.exact x y) (λ e. subst (λ z. same x z ≡ true) e (laws.same-itself x))))
+      (cases-equal-by (λ x y. decided (same x y) (laws.exact x y) (λ e. subst (λ z. same x z ≡ true) e (laws.itself x))))
       cases others
 
 -- Outcomes that are set.
