@@ -29,7 +29,8 @@ use Rattle.pv_protocol.specs.Here.{Here, participants, outcome_sends}
 use Rattle.pv_protocol.specs.Lock.{values_of}
 use Rattle.pv_protocol.specs.Records.{choice}
 use Rattle.pv_protocol.specs.Shown.{shown}
-use Rattle.pv_protocol.specs.Sound.{CanRun, IsTakenInRange, IsSound, IsSentInRange}
+use Rattle.pv_protocol.specs.Sound.{IsTakenInRange, IsSound, IsSentInRange}
+use Rattle.pv_protocol.specs.WellFormed.{CanRun}
 use Rattle.pv_protocol.specs.State.{Taken, Entry}
 
 -- The values of an entry.

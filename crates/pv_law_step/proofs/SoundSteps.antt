@@ -41,7 +41,8 @@ use Rattle.pv_protocol.specs.Here.{Here, nothing, remembering, sending, grant_of
 use Rattle.pv_protocol.specs.Lock.{next_txn, lock_sends, is_in_the_way, Conflict, conflict_or, first_conflict, next_grant, granting, values_of}
 use Rattle.pv_protocol.specs.Outcome.{items_here, names_shown, named_here}
 use Rattle.pv_protocol.specs.Shown.{shown}
-use Rattle.pv_protocol.specs.Sound.{CanRun, IsHeldInRange, IsTakenInRange, IsEntryInRange, IsRunningInRange, IsSound, IsInputInRange, IsSentInRange}
+use Rattle.pv_protocol.specs.Sound.{IsHeldInRange, IsTakenInRange, IsEntryInRange, IsRunningInRange, IsSound, IsInputInRange, IsSentInRange}
+use Rattle.pv_protocol.specs.WellFormed.{CanRun}
 use Rattle.pv_protocol.specs.State.{Grant, Taken, locking, voting, Entry, Running, Cause, Input, submit, receive, tick, Step}
 use Rattle.pv_protocol.specs.Step.{on_message, step_on}
 use Rattle.pv_protocol.specs.Tick.{older_grants, older_entries, expired_entries, expiry_sends, ask_sends, older, without_grants, on_tick}
@@ -264,7 +265,7 @@ module _ (here : Here) (sound : IsSound here) where
       refusing-safe (taking entry from grant values) _ (taking-safe entry from grant values (locking-safe txn entry last.taken.found) is are)
   granted-safe from txn grant values is are step (of_grants.reaches_lock_point entry last few) =
       lock-point-safe (taking entry from grant values) (taking-safe entry from grant values (locking-safe txn entry last.taken.found) is are)
-      (omega (arith, ltb-false here.setup.read_names (length (names_taken (taking entry from grant values))) few, sound.setup.read))
+      (omega (arith, ltb-false here.setup.read_names (length (names_taken (taking entry from grant values))) few, sound.setup.apart, sound.setup.held))
 
   denied-safe : (from : ℕ) (txn : TxnId) (item : ℕ) (holder : TxnId) (step : Step) → of_grants.DeniedCase here from txn item holder step → IsSafe here step
   denied-safe from txn item holder step (of_grants.no_entry h) = same-running

@@ -13,7 +13,7 @@ use Rattle.pv_law_step.proofs.WidthLemmas.{other-narrow}
 use Rattle.pv_law_step.specs.StartCases.{StartCase, no_epoch_left, no_room, begins}
 use Rattle.pv_protocol.specs.Records.{last_epoch, record_bytes, journal_bytes}
 use Rattle.pv_protocol.specs.Sound.{IsSetupInRange, IsHeldInRange, IsEntryInRange, IsSound}
-use Rattle.pv_protocol.specs.Start.{Started, starts, fresh, site_start}
+use Rattle.pv_protocol.specs.Start.{Started, starts, just_started, site_start}
 use Rattle.pv_protocol.specs.State.{Setup, Running}
 use Rattle.pv_protocol.specs.Width.{IsNarrow}
 
@@ -30,10 +30,10 @@ module _ (setup : Setup) (me : ℕ) (records : List Record) (fine : IsSetupInRan
   abbrev Sound : Running → Record → Type 0
   Sound running new = IsSound (record { me = me; setup = setup; records = records ++ new ∷ []; running = running })
 
-  fresh-sound : nat_le NEVER_GIVEN (last_epoch records + 1) ≡ false
+  started-sound : nat_le NEVER_GIVEN (last_epoch records + 1) ≡ false
       → nat_lt setup.catalog.journal (journal_bytes records + record_bytes (epoch_begun (last_epoch records + 1))) ≡ false
-      → Sound (fresh (last_epoch records + 1)) (epoch_begun (last_epoch records + 1))
-  fresh-sound left room =
+      → Sound (just_started (last_epoch records + 1)) (epoch_begun (last_epoch records + 1))
+  started-sound left room =
       let epoch = last_epoch records + 1 in
       let below : last_epoch records + 1 < NEVER_GIVEN = leb-false NEVER_GIVEN (last_epoch records + 1) left in
       record {
@@ -50,6 +50,6 @@ module _ (setup : Setup) (me : ℕ) (records : List Record) (fine : IsSetupInRan
   start-sound started (no_epoch_left h) running new same = absurd (let wrong : ⊥ = cc in wrong)
   start-sound started (no_room h i) running new same = absurd (let wrong : ⊥ = cc in wrong)
   start-sound started (begins left room) running new same =
-      let memory : fresh (last_epoch records + 1) ≡ running = cc in
+      let memory : just_started (last_epoch records + 1) ≡ running = cc in
       let written : epoch_begun (last_epoch records + 1) ≡ new = cc in
-      subst (λ r. Sound r new) memory (subst (λ w. Sound (fresh (last_epoch records + 1)) w) written (fresh-sound left room))
+      subst (λ r. Sound r new) memory (subst (λ w. Sound (just_started (last_epoch records + 1)) w) written (started-sound left room))

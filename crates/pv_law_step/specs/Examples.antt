@@ -8,7 +8,7 @@ use Rattle.pv_format.specs.Message.{lock, prepare}
 use Rattle.pv_format.specs.Record.{Record, epoch_begun}
 use Rattle.pv_model.specs.Alternatives.{Read}
 use Rattle.pv_model.specs.Syntax as syntax
-use Rattle.pv_protocol.specs.Start.{fresh}
+use Rattle.pv_protocol.specs.Start.{just_started}
 use Rattle.pv_protocol.specs.State.{Setup, Running, Input, submit, receive, tick, Note, Outgoing, Step}
 use Rattle.pv_protocol.specs.Step.{site_step}
 
@@ -81,7 +81,7 @@ pump (suc count) setup me play = let next : Play = take_first setup me play play
 
 -- a site that has just started
 abbrev pub started : Play
-started = record { records = epoch_begun 1 ∷ []; running = fresh 1; waiting = []; notes = [] }
+started = record { records = epoch_begun 1 ∷ []; running = just_started 1; waiting = []; notes = [] }
 
 -- the site takes inputs
 abbrev pub take_all : Setup → ℕ → Play → List Input → Play

@@ -15,10 +15,11 @@ ghost use Rattle.pv_model.specs.Plan.{participants_of, wants_of};
 ghost use Rattle.pv_model.specs.Syntax.{Program};
 ghost use Rattle.pv_protocol.specs.Here.{Here};
 ghost use Rattle.pv_protocol.specs.Shown.{shown};
-ghost use Rattle.pv_protocol.specs.Sound.{CanRun, IsInputInRange, IsSentInRange, IsSetupInRange, IsSound, has_small_numbers};
+ghost use Rattle.pv_protocol.specs.Sound.{IsInputInRange, IsSentInRange, IsSetupInRange, IsSound};
 ghost use Rattle.pv_protocol.specs.Start.{site_start, starts};
 ghost use Rattle.pv_protocol.specs.State.{Input, Running, Setup};
 ghost use Rattle.pv_protocol.specs.Step.{after_step, records_after, step_on};
+ghost use Rattle.pv_protocol.specs.WellFormed.{CanRun, has_small_numbers};
 ghost use Rattle.pv_protocol.specs.Width.{IsNarrow};
 
 /// A program of numbers of 64 bits leaves values of 64 bits where it finds such values.

@@ -8,7 +8,7 @@ use Rattle.pv_format.specs.Record.{Record}
 use Rattle.pv_law_world.specs.Pumps.{AreMarked}
 use Rattle.pv_model.specs.Events.{Event}
 use Rattle.pv_protocol.specs.Arms.{Reached, waits, fires, reached, calls_of, record_left, attempted}
-use Rattle.pv_protocol.specs.Attempt.{Attempt, Begun, settled, attempts, begun, given, delivered, lost, without_site, halted, opened, of_start}
+use Rattle.pv_protocol.specs.Attempt.{Attempt, Begun, at_once, attempts, begun, given, delivered, lost, without_site, halted, opened, of_start}
 use Rattle.pv_protocol.specs.Lines.{Line}
 use Rattle.pv_protocol.specs.Start.{Started, starts, too_long, no_epoch, site_start}
 use Rattle.pv_protocol.specs.State.{Setup, Running, Site, Input, submit, receive, tick, Placed}
@@ -52,7 +52,7 @@ IsAudible world n attempt = IsSome (site_at world n).running ⊎ (attempt.sends 
 
 -- What an event comes to before any write leaves all of that as it was.
 pub data Leaves (world : World) : Begun → Type 0 where
-  settles : (lines : List Line) (after : World) → Keeps world after → Leaves world (settled lines after)
+  settles : (lines : List Line) (after : World) → Keeps world after → Leaves world (at_once lines after)
   goes_on : (before : World) (n : ℕ) (attempt : Attempt) → before.sites ≡ world.sites → before.sent ≡ world.sent → before.order ≡ world.order
       → length before.fresh ≡ length world.fresh → IsAudible world n attempt → Leaves world (attempts before n attempt)
 

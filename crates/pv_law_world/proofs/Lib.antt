@@ -2,10 +2,12 @@ pub mod AnyRunRangeLemmas
 pub mod DisarmLemmas
 pub mod GrowthLemmas
 pub mod NumberLemmas
+pub mod NumeralLemmas
 pub mod ParticipantLemmas
 pub mod PumpLemmas
 pub mod RangeLemmas
 pub mod RunRangeLemmas
 pub mod ScheduleLemmas
+pub mod SetupLemmas
 pub mod TransitionLemmas
 pub mod WeightLemmas

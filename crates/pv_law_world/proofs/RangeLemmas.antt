@@ -8,16 +8,17 @@ use Rattle.pv_base.proofs.Basics.{Some_inj}
 use Rattle.pv_format.specs.Message.{Envelope}
 use Rattle.pv_format.specs.Range.{IsEnvelopeInRange, IsRecordInRange}
 use Rattle.pv_format.specs.Record.{Record}
-use Rattle.pv_law_world.specs.Ranges.{IsSiteInRange, IsWorldInRange, IsEventInRange}
+use Rattle.pv_law_world.specs.Ranges.{IsSiteInRange, IsWorldInRange}
 use Rattle.pv_model.specs.Events.{Event}
 use Rattle.pv_protocol.specs.Arms.{Reached, waits, fires, reached, calls_of, is_kept, attempted}
-use Rattle.pv_protocol.specs.Attempt.{Attempt, Begun, settled, attempts, begun, given, delivered, lost, halted, opened, of_start}
+use Rattle.pv_protocol.specs.Attempt.{Attempt, Begun, at_once, attempts, begun, given, delivered, lost, halted, opened, of_start}
 use Rattle.pv_protocol.specs.Here.{Here}
 use Rattle.pv_protocol.specs.Lines.{Line}
 use Rattle.pv_protocol.specs.Sound.{IsRunningInRange, IsSetupInRange, IsSound, IsInputInRange, IsSentInRange}
 use Rattle.pv_protocol.specs.Start.{Started, starts, too_long, no_epoch, site_start}
 use Rattle.pv_protocol.specs.State.{Setup, Running, Site, Input, submit, receive, tick}
 use Rattle.pv_protocol.specs.Step.{step_on, after_step}
+use Rattle.pv_protocol.specs.WellFormed.{IsWellFormed}
 use Rattle.pv_protocol.specs.Width.{IsNarrow}
 use Rattle.pv_protocol.specs.World.{World, no_site, site_at, with_site, with_done, from_site}
 use Rattle.pv_protocol.specs.WorldStep.{ended, transition_of}
@@ -65,7 +66,7 @@ pub record IsAttemptInRange (setup : Setup) (site : Site) (n : ℕ) (attempt : A
 
 -- What an event comes to before any write is in range.
 pub data IsBegunInRange (setup : Setup) : Begun → Type 0 where
-  settles : (lines : List Line) (after : World) → IsWorldInRange setup after → IsBegunInRange setup (settled lines after)
+  settles : (lines : List Line) (after : World) → IsWorldInRange setup after → IsBegunInRange setup (at_once lines after)
   goes_on : (before : World) (n : ℕ) (attempt : Attempt) → IsWorldInRange setup before
       → (n < length before.sites → IsSiteInRange setup (site_at before n) → IsAttemptInRange setup (site_at before n) n attempt)
       → All IsEnvelopeInRange (from_site n attempt.sends) → IsBegunInRange setup (attempts before n attempt)
@@ -220,7 +221,7 @@ module _ (sends_stay : SendsInRange) (sound_stays : StaysSound) (starts_sound : 
   opened-range n None =
       goes_on world n _ fine (started-range n (site_start setup (site_at world n).records) refl) (start-silent n (site_start setup (site_at world n).records))
 
-  pub begun-range : (event : Event) → IsEventInRange setup.catalog event → IsBegunInRange setup (begun setup world event)
+  pub begun-range : (event : Event) → IsWellFormed setup.catalog event → IsBegunInRange setup (begun setup world event)
   unfolding begun
   begun-range (Event.submit n query text program) good = given-here world fine n (submit program) (λ running. good.1)
   begun-range (Event.deliver number) good = delivered-range number (slice_get world.sent number) refl
@@ -238,6 +239,6 @@ module _ (sends_stay : SendsInRange) (sound_stays : StaysSound) (starts_sound : 
   begun-range Event.report good = settles _ world fine
   begun-range Event.total good = settles _ world fine
 
-  pub transition-range : (event : Event) → IsEventInRange setup.catalog event → IsWorldInRange setup (transition_of setup world event).world
+  pub transition-range : (event : Event) → IsWellFormed setup.catalog event → IsWorldInRange setup (transition_of setup world event).world
   unfolding transition_of
   transition-range event good = ended-range setup (begun setup world event) (begun-range event good)

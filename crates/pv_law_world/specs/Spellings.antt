@@ -1,10 +1,9 @@
 -- Lines, each with its text.
 use Rattle.std.specs.Prelude.{ℕ, ℤ, pos, negsuc, true, false, List, [], ◌∷◌, codes}
 use Rattle.pv_base.specs.Polyvalue.{Case}
-use Rattle.pv_format.specs.Message.{ask}
 use Rattle.pv_law_world.specs.Lines.{either, sure, t, u}
 use Rattle.pv_model.specs.Meaning.{declined, nothing, overflow, value, zero_divisor}
-use Rattle.pv_protocol.specs.Lines.{Line}
+use Rattle.pv_protocol.specs.Lines.{Line, MessageKind}
 use Rattle.pv_protocol.specs.State as state
 
 -- a line of a run with items `a` and `b`, and its text without the line feed
@@ -38,7 +37,7 @@ examples =
     ∷ record { line = Line.fault 1; text = codes "fault 1" }
     ∷ record { line = Line.started 1 2; text = codes "started 1 2" }
     ∷ record { line = Line.no_message 99; text = codes "no message 99" }
-    ∷ record { line = Line.sent 9 1 0 (ask t); text = codes "sent 9 1>0 ask 0.1.0" }
+    ∷ record { line = Line.sent 9 1 0 MessageKind.ask t; text = codes "sent 9 1>0 ask 0.1.0" }
     ∷ record { line = Line.order (t ∷ u ∷ []); text = codes "order 0.1.0 0.1.1" }
     ∷ record { line = Line.open_ones []; text = codes "open" }
     ∷ record { line = Line.item 0 (sure 90); text = codes "item a 90" }

@@ -14,7 +14,10 @@ pub use examples::{
     stop_in_commit_record, transfer_commits, unheard_outcome_leaves_doubt,
 };
 pub use pumps::{messages_are_marked, pump_ends};
-pub use ranges::{any_runs_stay_in_range, runs_stay_in_range, worlds_stay_in_range};
+pub use ranges::{
+    any_runs_stay_in_range, runs_of_texts_stay_in_range, runs_stay_in_range,
+    schedules_are_in_range, worlds_stay_in_range,
+};
 pub use runs::{
     delivered_was_sent, faults_come_anywhere, records_grow, run_is_its_transitions,
     schedules_are_well_formed,

@@ -1,50 +1,26 @@
 -- What a site holds is in range. Then so is what it sends and records.
-use Rattle.std.specs.Prelude.{◌<◌, ◌≤◌, Bool, true, ◌&&◌, length, All, IsTrue, ⊤}
+use Rattle.std.specs.Prelude.{◌<◌, ◌≤◌, length, All, ⊤}
 use Rattle.std.specs.Int.{w64}
 use Rattle.std.specs.Int.RustNames.{FitsSigned}
 use Rattle.pv_base.specs.Catalog.{Declared}
-use Rattle.pv_base.specs.declared.limits.TheConstants.{MAX_SITES, MAX_ITEMS, MAX_JOURNAL, HELD_NAMES, NEVER_GIVEN}
+use Rattle.pv_base.specs.declared.limits.TheConstants.{MAX_SITES, MAX_ITEMS, MIN_JOURNAL, MAX_JOURNAL, HELD_NAMES, NEVER_GIVEN}
 use Rattle.pv_format.specs.Range.{IsTxnInRange, IsGrantInRange, AreReadsInRange, AreWantsInRange, IsEnvelopeInRange, IsRecordInRange}
-use Rattle.pv_model.specs.Meaning.{fits_i64}
-use Rattle.pv_model.specs.Syntax.{Expr, number, item, minus, negation, two, Program, end, assign, require, return, when, when_else}
 use Rattle.pv_protocol.specs.Here.{Here}
 use Rattle.pv_protocol.specs.Keyed.{AreInOrder}
 use Rattle.pv_protocol.specs.Records.{journal_bytes}
 use Rattle.pv_protocol.specs.State.{Setup, Grant, Taken, Entry, Running, Input, submit, receive, tick, Outgoing}
-use Rattle.pv_protocol.specs.WellFormed.{IsRunnable}
+use Rattle.pv_protocol.specs.WellFormed.{CanRun}
 use Rattle.pv_protocol.specs.Width.{IsNarrow}
 
--- Each number that stands in the expression has 64 bits.
-abbrev pub is_of_small_numbers : Expr → Bool
-is_of_small_numbers (number z) = fits_i64 z
-is_of_small_numbers (item n) = true
-is_of_small_numbers (minus e) = is_of_small_numbers e
-is_of_small_numbers (negation e) = is_of_small_numbers e
-is_of_small_numbers (two op left right) = is_of_small_numbers left && is_of_small_numbers right
-
--- Each number that stands in the program has 64 bits.
-abbrev pub has_small_numbers : Program → Bool
-has_small_numbers end = true
-has_small_numbers (assign n e next) = is_of_small_numbers e && has_small_numbers next
-has_small_numbers (require e next) = is_of_small_numbers e && has_small_numbers next
-has_small_numbers (return e next) = is_of_small_numbers e && has_small_numbers next
-has_small_numbers (when e body next) = is_of_small_numbers e && (has_small_numbers body && has_small_numbers next)
-has_small_numbers (when_else e body other next) =
-    is_of_small_numbers e && (has_small_numbers body && (has_small_numbers other && has_small_numbers next))
-
--- The program can run: it names some items, all of the catalog and not too many, and its numbers have 64 bits.
-pub record CanRun (catalog : Declared) (program : Program) : Type 0 where
-  pub runnable : IsRunnable catalog program
-  pub numbers : IsTrue (has_small_numbers program)
-
--- The catalog and the limits are in range.
+-- The catalog and the limits are in range, and a value that is read names fewer outcomes than one may that is held.
 pub record IsSetupInRange (setup : Setup) : Type 0 where
   pub sites : setup.catalog.sites ≤ MAX_SITES
   pub items : length setup.catalog.items ≤ MAX_ITEMS
+  pub least : MIN_JOURNAL ≤ setup.catalog.journal
   pub journal : setup.catalog.journal ≤ MAX_JOURNAL
   pub homes : All (λ item. item.site < setup.catalog.sites) setup.catalog.items
   pub values : All (λ item. FitsSigned w64 item.value) setup.catalog.items
-  pub read : setup.read_names ≤ HELD_NAMES
+  pub apart : setup.read_names < setup.held_names
   pub held : setup.held_names ≤ HELD_NAMES
 
 -- A grant that stands is in range.

@@ -18,6 +18,9 @@ pub record Setup : Type 0 where
   pub read_names : ℕ
   pub held_names : ℕ
 
+-- A transaction is begun and decided by the site that its number names, its coordinator. The sites that own an item of its
+-- program are its participants: each grants its locks there, and votes.
+
 -- The items that a transaction holds at a site, each shared or exclusive, and for how many ticks.
 pub record Grant : Type 0 where
   pub txn : TxnId
@@ -25,7 +28,8 @@ pub record Grant : Type 0 where
   pub wants : List Want
   pub age : ℕ
 
--- A coordinator first asks for locks, and after the lock point for votes.
+-- A coordinator first asks for locks, and after the lock point for votes. A transaction reaches its lock point when its
+-- coordinator has taken the last of the grants that it asked for: from then on it holds all locks that it will ever hold.
 pub data Stage : Type 0 where
   locking : Stage
   voting : Stage
