@@ -25,7 +25,7 @@ start-case setup records =
     (no_room left) (begins left))
 
 module _ (setup : Setup) (me : ℕ) (records : List Record) (fine : IsSetupInRange setup) (here : me < setup.catalog.sites) (all : All IsRecordInRange records)
-    (narrow : IsNarrow setup.held_names setup.catalog records) where
+    (narrow : IsNarrow setup.held_names setup.catalog me records) where
   -- The site with its new record and this memory is sound.
   abbrev Sound : Running → Record → Type 0
   Sound running new = IsSound (record { me = me; setup = setup; records = records ++ new ∷ []; running = running })
@@ -41,9 +41,9 @@ module _ (setup : Setup) (me : ℕ) (records : List Record) (fine : IsSetupInRan
         setup = fine;
         records = All-append IsRecordInRange records (epoch_begun (last_epoch records + 1) ∷ []) all
             (All-cons IsRecordInRange (epoch_begun (last_epoch records + 1)) [] (omega arith, omega (arith, below)) (All-nil IsRecordInRange));
-        narrow = other-narrow setup.catalog setup.held_names records narrow (epoch_begun (last_epoch records + 1)) (λ txn writes same. cc);
+        narrow = other-narrow setup.catalog setup.held_names me records narrow (epoch_begun (last_epoch records + 1)) (λ txn writes same. cc);
         room = omega (arith, journal-more records (epoch_begun (last_epoch records + 1)), ltb-false _ _ room);
-        running = record { epoch = below; next_txn = omega arith; next_grant = omega arith; grants = All-nil IsHeldInRange; entries = All-nil (IsEntryInRange setup.catalog) };
+        running = record { epoch = below; next_txn = omega arith; next_grant = omega arith; grants = All-nil (IsHeldInRange setup.catalog me); entries = All-nil (IsEntryInRange setup.catalog) };
       }
 
   pub start-sound : (started : Started) → StartCase setup records started → (running : Running) (new : Record) → started ≡ starts running new → Sound running new

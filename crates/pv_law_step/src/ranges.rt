@@ -54,7 +54,7 @@ pub fn steps_stay_sound()
 /// A site that starts is sound where its records are in range and narrow.
 pub fn starts_are_sound()
     ensures { (setup : Setup) (me : ℕ) (records : List Record) → IsSetupInRange setup → me < setup.catalog.sites → All IsRecordInRange records →
-        IsNarrow setup.held_names setup.catalog records → (running : Running) (new : Record) → site_start setup records ≡ starts running new →
+        IsNarrow setup.held_names setup.catalog me records → (running : Running) (new : Record) → site_start setup records ≡ starts running new →
         IsSound (record { me = me; setup = setup; records = records ++ new ∷ []; running = running }) }
 {}
 

@@ -26,14 +26,14 @@ module _ (setup : Setup) where
   disarmed-fine world fine = record {
     count = length-map world.sites disarmed_site ∙ fine.count;
     sites = λ n below.
-        let site : IsSiteInRange setup (site_at world n) = fine.sites n below in
-        subst (IsSiteInRange setup) (sym (site-disarmed world n))
+        let site : IsSiteInRange setup n (site_at world n) = fine.sites n below in
+        subst (IsSiteInRange setup n) (sym (site-disarmed world n))
         (record { records = site.records; narrow = site.narrow; room = site.room; running = site.running });
     sent = fine.sent;
   }
 
   module _ (before : World) (n : ℕ) (attempt : Attempt) (fine : IsWorldInRange setup before)
-      (may : n < length before.sites → IsSiteInRange setup (site_at before n) → IsAttemptInRange setup (site_at before n) n attempt)
+      (may : n < length before.sites → IsSiteInRange setup n (site_at before n) → IsAttemptInRange setup (site_at before n) n attempt)
       (sends : All IsEnvelopeInRange (from_site n attempt.sends)) where
     end-fine : (lines : List Line) (after : World) → MayEnd before n attempt lines after → IsWorldInRange setup after
     end-fine lines after anywhere.whole = attempted-range setup before n attempt fine may sends (waits None)
@@ -66,7 +66,7 @@ module _ (sends_stay : SendsInRange) (sound_stays : StaysSound) (starts_sound : 
       All-cons (IsWorldInRange setup) world (worlds_of transition.world rest) fine
       (any-worlds transition.world rest (follow-fine world transition fine follows) run)
 
-  pub any-run-range : IsNarrow setup.held_names setup.catalog (epoch_begun 1 ∷ [])
+  pub any-run-range : ((n : ℕ) → IsNarrow setup.held_names setup.catalog n (epoch_begun 1 ∷ []))
       → (transitions : List Transition) → IsRunWithFaults setup (opening setup) transitions
       → All (IsWorldInRange setup) (worlds_of (opening setup) transitions)
   any-run-range narrow transitions run =

@@ -64,14 +64,14 @@ module _ (sends_stay : SendsInRange) (sound_stays : StaysSound) (starts_sound : 
       All-cons (IsWorldInRange setup) world (worlds_of transition.world transitions) fine
       (worlds-range transition.world next transitions rest (All-tail (HasGoodEvent setup) transition transitions good))
 
-  module _ (narrow : IsNarrow setup.held_names setup.catalog (epoch_begun 1 ∷ [])) where
-    first-fine : IsSiteInRange setup first_site
+  module _ (narrow : (n : ℕ) → IsNarrow setup.held_names setup.catalog n (epoch_begun 1 ∷ [])) where
+    first-fine : (n : ℕ) → IsSiteInRange setup n first_site
     unfolding journal_bytes
-    first-fine = record {
+    first-fine n = record {
       records = All-cons IsRecordInRange (epoch_begun 1) [] (omega arith, omega arith) (All-nil IsRecordInRange);
-      narrow = narrow;
+      narrow = narrow n;
       room = omega (arith, setup_fine.least);
-      running = λ running is. subst (IsRunningInRange setup.catalog) (Some_inj is) (record {
+      running = λ running is. subst (IsRunningInRange setup.catalog n) (Some_inj is) (record {
         epoch = omega arith;
         next_txn = omega arith;
         next_grant = omega arith;
@@ -83,7 +83,7 @@ module _ (sends_stay : SendsInRange) (sound_stays : StaysSound) (starts_sound : 
     pub opening-fine : IsWorldInRange setup (opening setup)
     opening-fine = record {
       count = length-replicate setup.catalog.sites first_site;
-      sites = λ n below. rw (get_or-replicate setup.catalog.sites n first_site no_site below) first-fine;
+      sites = λ n below. rw (get_or-replicate setup.catalog.sites n first_site no_site below) (first-fine n);
       sent = All-nil _;
     }
 

@@ -8,17 +8,18 @@ use Rattle.pv_protocol.specs.State.{Setup, Running, Site}
 use Rattle.pv_protocol.specs.Width.{IsNarrow}
 use Rattle.pv_protocol.specs.World.{World, site_at}
 
--- The site's records are in range, its values narrow, its journal has room, and what it has in memory, where it is up, is in range.
-pub record IsSiteInRange (setup : Setup) (site : Site) : Type 0 where
+-- The records of the site of this number are in range, its values narrow, its journal has room, and what it has in memory, where
+-- it is up, is in range.
+pub record IsSiteInRange (setup : Setup) (n : ℕ) (site : Site) : Type 0 where
   pub records : All IsRecordInRange site.records
-  pub narrow : IsNarrow setup.held_names setup.catalog site.records
+  pub narrow : IsNarrow setup.held_names setup.catalog n site.records
   pub room : journal_bytes site.records ≤ setup.catalog.journal
-  pub running : (running : Running) → site.running ≡ Some running → IsRunningInRange setup.catalog running
+  pub running : (running : Running) → site.running ≡ Some running → IsRunningInRange setup.catalog n running
 
 -- Each site of the catalog is in range, there are no others, and each message that was sent is in range: it has a spelling.
 pub record IsWorldInRange (setup : Setup) (world : World) : Type 0 where
   pub count : length world.sites ≡ setup.catalog.sites
-  pub sites : (n : ℕ) → n < setup.catalog.sites → IsSiteInRange setup (site_at world n)
+  pub sites : (n : ℕ) → n < setup.catalog.sites → IsSiteInRange setup n (site_at world n)
   pub sent : All IsEnvelopeInRange world.sent
 
 -- what is fixed for a run with this catalog and these limits on names

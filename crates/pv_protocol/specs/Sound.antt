@@ -1,5 +1,5 @@
 -- What a site holds is in range. Then so is what it sends and records.
-use Rattle.std.specs.Prelude.{◌<◌, ◌≤◌, length, All, ⊤}
+use Rattle.std.specs.Prelude.{◌<◌, ◌≤◌, ℕ, length, All, IsTrue, ⊤}
 use Rattle.std.specs.Int.{w64}
 use Rattle.std.specs.Int.RustNames.{FitsSigned}
 use Rattle.pv_base.specs.Catalog.{Declared}
@@ -7,6 +7,7 @@ use Rattle.pv_base.specs.declared.limits.TheConstants.{MAX_SITES, MAX_ITEMS, MIN
 use Rattle.pv_format.specs.Range.{IsTxnInRange, IsGrantInRange, AreReadsInRange, AreWantsInRange, IsEnvelopeInRange, IsRecordInRange}
 use Rattle.pv_protocol.specs.Here.{Here}
 use Rattle.pv_protocol.specs.Keyed.{AreInOrder}
+use Rattle.pv_protocol.specs.Lock.{is_home}
 use Rattle.pv_protocol.specs.Records.{journal_bytes}
 use Rattle.pv_protocol.specs.State.{Setup, Grant, Taken, Entry, Running, Input, submit, receive, tick, Outgoing}
 use Rattle.pv_protocol.specs.WellFormed.{CanRun}
@@ -23,11 +24,12 @@ pub record IsSetupInRange (setup : Setup) : Type 0 where
   pub apart : setup.read_names < setup.held_names
   pub held : setup.held_names ≤ HELD_NAMES
 
--- A grant that stands is in range.
-pub record IsHeldInRange (grant : Grant) : Type 0 where
+-- A grant that stands at the site is in range, and of items of the site.
+pub record IsHeldInRange (catalog : Declared) (site : ℕ) (grant : Grant) : Type 0 where
   pub txn : IsTxnInRange grant.txn
   pub id : IsGrantInRange grant.id
   pub wants : AreWantsInRange grant.wants
+  pub homes : All (λ want. IsTrue (is_home catalog site want.item)) grant.wants
 
 -- What was taken from a participant is in range.
 pub record IsTakenInRange (taken : Taken) : Type 0 where
@@ -40,12 +42,12 @@ pub record IsEntryInRange (catalog : Declared) (entry : Entry) : Type 0 where
   pub program : CanRun catalog entry.program
   pub taken : All IsTakenInRange entry.taken
 
--- What a site has in memory is in range.
-pub record IsRunningInRange (catalog : Declared) (running : Running) : Type 0 where
+-- What the site has in memory is in range.
+pub record IsRunningInRange (catalog : Declared) (site : ℕ) (running : Running) : Type 0 where
   pub epoch : running.epoch < NEVER_GIVEN
   pub next_txn : running.next_txn ≤ NEVER_GIVEN
   pub next_grant : running.next_grant ≤ NEVER_GIVEN
-  pub grants : All IsHeldInRange running.grants
+  pub grants : All (IsHeldInRange catalog site) running.grants
   pub entries : All (IsEntryInRange catalog) running.entries
 
 -- All that a site holds is in range, its shown values are narrow, and its journal has room for its records.
@@ -53,9 +55,9 @@ pub record IsSound (here : Here) : Type 0 where
   pub me : here.me < here.setup.catalog.sites
   pub setup : IsSetupInRange here.setup
   pub records : All IsRecordInRange here.records
-  pub narrow : IsNarrow here.setup.held_names here.setup.catalog here.records
+  pub narrow : IsNarrow here.setup.held_names here.setup.catalog here.me here.records
   pub room : journal_bytes here.records ≤ here.setup.catalog.journal
-  pub running : IsRunningInRange here.setup.catalog here.running
+  pub running : IsRunningInRange here.setup.catalog here.me here.running
 
 -- What a site is given is in range.
 abbrev pub IsInputInRange : Here → Input → Type 0
