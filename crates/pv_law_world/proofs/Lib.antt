@@ -9,5 +9,6 @@ pub mod RangeLemmas
 pub mod RunRangeLemmas
 pub mod ScheduleLemmas
 pub mod SetupLemmas
+pub mod SiteLemmas
 pub mod TransitionLemmas
 pub mod WeightLemmas

@@ -44,7 +44,7 @@ down-in-range {setup} {n} {site} fine down records none = record {
 }
 
 -- A site's place in the list, put where each has what is asked at its number.
-put-in-range : (P : ℕ → Site → Type 0) (sites : List Site) (k : ℕ) (site : Site) → (k < length sites → P k site)
+pub put-in-range : (P : ℕ → Site → Type 0) (sites : List Site) (k : ℕ) (site : Site) → (k < length sites → P k site)
     → ((n : ℕ) → n < length sites → P n (get_or sites n no_site)) → (n : ℕ) → n < length sites → P n (get_or (set sites k site) n no_site)
 put-in-range P [] k site fine all n below = absurd (omega arith)
 put-in-range P (first ∷ sites) zero site fine all zero below = fine (omega arith)
