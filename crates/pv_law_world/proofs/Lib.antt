@@ -1,5 +1,6 @@
 pub mod AnyRunRangeLemmas
 pub mod DisarmLemmas
+pub mod EpochLemmas
 pub mod GrowthLemmas
 pub mod NumberLemmas
 pub mod NumeralLemmas

@@ -54,7 +54,7 @@ put-in-range P (first ∷ sites) (suc k) site fine all (suc n) below =
     put-in-range (λ m s. P (suc m) s) sites k site (λ within. fine (omega arith)) (λ m under. all (suc m) (omega arith)) n (omega arith)
 
 -- A site that is up is one of the list.
-up-within : (sites : List Site) (n : ℕ) (running : Running) → (get_or sites n no_site).running ≡ Some running → n < length sites
+pub up-within : (sites : List Site) (n : ℕ) (running : Running) → (get_or sites n no_site).running ≡ Some running → n < length sites
 up-within [] n running is = absurd (no-some is)
 up-within (first ∷ sites) zero running is = omega arith
 up-within (first ∷ sites) (suc n) running is = let rest : n < length sites = up-within sites n running is in omega arith

@@ -2,11 +2,11 @@
 use Rattle.std.proofs.Common.{arith, ◌≡◌, ℕ, ◌<◌, Bool, true, false, Some, None, Option, List, [], ◌∷◌, ◌++◌, length, refl, sym, ap, ◌∙◌, subst}
 use Rattle.std.specs.Prelude.{get_or, set, slice_get, option_to_list, nat_lt, ◌+◌, ◌&&◌, if◌then◌else◌, All}
 use Rattle.std.proofs.lemmas.List.{append-nil, length-set, length-map, get_or-replicate, length-replicate}
-use Rattle.std.proofs.lemmas.List.Elements.{All-cons, All-nil}
+use Rattle.std.proofs.lemmas.List.Elements.{All-cons, All-nil, All-get_or, All-from_get_or}
 use Rattle.pv_format.specs.Message.{Envelope}
 use Rattle.pv_format.specs.Record.{Record, epoch_begun}
 use Rattle.pv_law_world.proofs.DisarmLemmas.{site-disarmed}
-use Rattle.pv_law_world.proofs.RangeLemmas.{put-in-range}
+use Rattle.pv_law_world.proofs.RangeLemmas.{put-in-range, up-within}
 use Rattle.pv_law_world.proofs.TransitionLemmas.{run-transitions}
 use Rattle.pv_law_world.specs.Transitions.{AreTransitions, one_more}
 use Rattle.pv_model.specs.Events.{Event}
@@ -162,3 +162,24 @@ module _ (setup : Setup) (P : ℕ → List Record → Option Running → Type 0)
 
   pub any-run-holds : (transitions : List Transition) → IsRunWithFaults setup (opening setup) transitions → All Holds (worlds_of (opening setup) transitions)
   any-run-holds transitions run = any-hold (opening setup) transitions opening-holds run
+
+-- What is asked of the memory of a site that is up.
+abbrev pub WhereUp : (ℕ → List Record → Running → Type 0) → ℕ → List Record → Option Running → Type 0
+WhereUp Q n records running = (up : Running) → running ≡ Some up → Q n records up
+
+module _ (setup : Setup) (Q : ℕ → List Record → Running → Type 0) (kept : IsKept setup (WhereUp Q)) where
+  -- Each site of the world that is up has what is asked.
+  abbrev UpHas : World → Type 0
+  UpHas world = (n : ℕ) (running : Running) → (site_at world n).running ≡ Some running → Q n (site_at world n).records running
+
+  all-up : (worlds : List World) → All (Holds setup (WhereUp Q) kept) worlds → All UpHas worlds
+  all-up worlds all =
+      All-from_get_or UpHas worlds (opening setup)
+      (λ i below n running is.
+      All-get_or (Holds setup (WhereUp Q) kept) worlds i (opening setup) below all n (up-within (get_or worlds i (opening setup)).sites n running is) running is)
+
+  pub up-run : (events : List Event) → All UpHas (worlds_of (opening setup) (run setup (opening setup) events))
+  up-run events = all-up (worlds_of (opening setup) (run setup (opening setup) events)) (run-holds setup (WhereUp Q) kept events)
+
+  pub up-any-run : (transitions : List Transition) → IsRunWithFaults setup (opening setup) transitions → All UpHas (worlds_of (opening setup) transitions)
+  up-any-run transitions run = all-up (worlds_of (opening setup) transitions) (any-run-holds setup (WhereUp Q) kept transitions run)

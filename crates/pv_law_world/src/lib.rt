@@ -5,6 +5,7 @@ mod examples;
 mod pumps;
 mod ranges;
 mod runs;
+mod sites;
 mod steps;
 mod texts;
 
@@ -22,6 +23,7 @@ pub use runs::{
     delivered_was_sent, faults_come_anywhere, records_grow, run_is_its_transitions,
     schedules_are_well_formed,
 };
+pub use sites::{epochs_are_recorded, memories_are_in_order};
 pub use steps::{
     down_sites_are_silent, numbers_rise, other_sites_stay, reports_change_nothing,
     transition_adds_records,
