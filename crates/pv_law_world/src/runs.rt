@@ -23,7 +23,7 @@ pub fn records_grow()
         (more : List Record) × ((site_at (world_after world (run setup world events)) n).records ≡ (site_at world n).records ++ more) }
 {}
 
-/// A message that is there to be delivered was sent in an earlier transition, by a site that was up then.
+/// A message that is there to be delivered was sent in an earlier transition, by the site that its event was of, which was up.
 pub fn delivered_was_sent()
     ensures { (setup : Setup) (events : List Event) (place : Place (run setup (opening setup) events)) (number : ℕ) (envelope : Envelope) →
         slice_get (world_before (opening setup) place).sent number ≡ Some envelope → WasSent (opening setup) place.earlier number envelope }
