@@ -29,7 +29,7 @@ use Rattle.pv_protocol.specs.Here.{Here, participants, outcome_sends}
 use Rattle.pv_protocol.specs.Lock.{is_home, values_of}
 use Rattle.pv_protocol.specs.Records.{choice}
 use Rattle.pv_protocol.specs.Shown.{shown}
-use Rattle.pv_protocol.specs.Sound.{IsTakenInRange, IsSound, IsSentInRange}
+use Rattle.pv_protocol.specs.Sound.{IsTakenInRange, IsHereInRange, IsSentInRange}
 use Rattle.pv_protocol.specs.WellFormed.{CanRun}
 use Rattle.pv_protocol.specs.State.{Taken, Entry}
 
@@ -82,7 +82,7 @@ writes-in-range entry records items are values = record {
 
 -- What a site sends.
 
-module _ (here : Here) (sound : IsSound here) where
+module _ (here : Here) (sound : IsHereInRange here) where
   pub me-in-range : here.me < MAX_SITES
   me-in-range = omega (arith, sound.me, sound.setup.sites)
 

@@ -42,11 +42,11 @@ use Rattle.pv_protocol.specs.Here.{Here, nothing, remembering, sending, grant_of
 use Rattle.pv_protocol.specs.Lock.{is_home, next_txn, lock_sends, is_in_the_way, Conflict, conflict_or, first_conflict, next_grant, granting, values_of}
 use Rattle.pv_protocol.specs.Outcome.{items_here, names_shown, named_here}
 use Rattle.pv_protocol.specs.Shown.{shown}
-use Rattle.pv_protocol.specs.Sound.{IsHeldInRange, IsTakenInRange, IsEntryInRange, IsRunningInRange, IsSound, IsInputInRange, IsSentInRange}
+use Rattle.pv_protocol.specs.Sound.{IsHeldInRange, IsTakenInRange, IsEntryInRange, IsRunningInRange, IsHereInRange, IsInputInRange, IsSentInRange}
 use Rattle.pv_protocol.specs.WellFormed.{CanRun}
 use Rattle.pv_protocol.specs.State.{Grant, Taken, locking, voting, Entry, Running, Cause, Input, submit, receive, tick, Step}
 use Rattle.pv_protocol.specs.Step.{on_message, step_on}
-use Rattle.pv_protocol.specs.Tick.{older_grants, older_entries, expired_entries, expiry_sends, ask_sends, older, without_grants, on_tick}
+use Rattle.pv_protocol.specs.Tick.{older_grants, older_entries, expired_entries, expiry_sends, ask_sends, older, ungranted, on_tick}
 use Rattle.pv_protocol.specs.Vote.{others_than, committing}
 
 -- What a step sends and leaves is in range.
@@ -94,7 +94,7 @@ module _ (catalog : Declared) (site : ℕ) (running : Running) (is : IsRunningIn
     entries = without-all (IsEntryInRange catalog) (λ (e : Entry). e.txn) txn running.entries is.entries;
   }
 
-module _ (here : Here) (sound : IsSound here) where
+module _ (here : Here) (sound : IsHereInRange here) where
   abbrev IsHeld : Grant → Type 0
   IsHeld grant = IsHeldInRange here.setup.catalog here.me grant
 
@@ -375,13 +375,13 @@ module _ (here : Here) (sound : IsSound here) where
             (both.only t h);
       }
 
-  asks-safe : (running : Running) → All (IsSentInRange here) (ask_sends (without_grants running (named_here here)))
+  asks-safe : (running : Running) → All (IsSentInRange here) (ask_sends (ungranted running (named_here here)))
   unfolding named_here
   asks-safe running =
       let named = names_shown here.setup.catalog here.records (items_here here) in
       let all = names-safe (items_here here) (all-from (λ n. IsTrue (is_home here.setup.catalog here.me n)) (items_here here) (λ n h. items-home here n h)) in
-      All-map (IsSentInRange here) (λ (txn : TxnId). record { to = txn.site.0; message = ask txn }) (without_grants running named)
-      (all-from (λ (txn : TxnId). IsSentInRange here (record { to = txn.site.0; message = ask txn })) (without_grants running named)
+      All-map (IsSentInRange here) (λ (txn : TxnId). record { to = txn.site.0; message = ask txn }) (ungranted running named)
+      (all-from (λ (txn : TxnId). IsSentInRange here (record { to = txn.site.0; message = ask txn })) (ungranted running named)
       (λ txn h.
       let is = all.each txn (kept-listed (λ txn. is_none (grant_of running txn)) named txn h) in
       record { from = me-in-range here sound; to = is.site; txn = is; body = tt }))
@@ -415,7 +415,7 @@ module _ (here : Here) (sound : IsSound here) where
   unfolding on_tick
   tick-safe = record {
     sends = All-append (IsSentInRange here) (expiry_sends here (expired_entries (older_entries here.running.entries)))
-        (ask_sends (without_grants (older here.running) (named_here here))) expiry-safe (asks-safe (older here.running));
+        (ask_sends (ungranted (older here.running) (named_here here))) expiry-safe (asks-safe (older here.running));
     appended = tt;
     running = record {
       epoch = sound.running.epoch;

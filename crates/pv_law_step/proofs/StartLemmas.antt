@@ -12,7 +12,7 @@ use Rattle.pv_law_step.proofs.StepCases.{if_case}
 use Rattle.pv_law_step.proofs.WidthLemmas.{other-narrow}
 use Rattle.pv_law_step.specs.StartCases.{StartCase, no_epoch_left, no_room, begins}
 use Rattle.pv_protocol.specs.Records.{last_epoch, record_bytes, journal_bytes}
-use Rattle.pv_protocol.specs.Sound.{IsSetupInRange, IsHeldInRange, IsEntryInRange, IsSound}
+use Rattle.pv_protocol.specs.Sound.{IsSetupInRange, IsHeldInRange, IsEntryInRange, IsHereInRange}
 use Rattle.pv_protocol.specs.Start.{Started, starts, just_started, site_start}
 use Rattle.pv_protocol.specs.State.{Setup, Running}
 use Rattle.pv_protocol.specs.Width.{IsNarrow}
@@ -28,7 +28,7 @@ module _ (setup : Setup) (me : ℕ) (records : List Record) (fine : IsSetupInRan
     (narrow : IsNarrow setup.held_names setup.catalog me records) where
   -- The site with its new record and this memory is sound.
   abbrev Sound : Running → Record → Type 0
-  Sound running new = IsSound (record { me = me; setup = setup; records = records ++ new ∷ []; running = running })
+  Sound running new = IsHereInRange (record { me = me; setup = setup; records = records ++ new ∷ []; running = running })
 
   started-sound : nat_le NEVER_GIVEN (last_epoch records + 1) ≡ false
       → nat_lt setup.catalog.journal (journal_bytes records + record_bytes (epoch_begun (last_epoch records + 1))) ≡ false

@@ -14,7 +14,7 @@ use Rattle.pv_protocol.specs.Arms.{Reached, waits, fires, reached, calls_of, is_
 use Rattle.pv_protocol.specs.Attempt.{Attempt, Begun, at_once, attempts, begun, given, delivered, lost, halted, opened, of_start}
 use Rattle.pv_protocol.specs.Here.{Here}
 use Rattle.pv_protocol.specs.Lines.{Line}
-use Rattle.pv_protocol.specs.Sound.{IsRunningInRange, IsSetupInRange, IsSound, IsInputInRange, IsSentInRange}
+use Rattle.pv_protocol.specs.Sound.{IsRunningInRange, IsSetupInRange, IsHereInRange, IsInputInRange, IsSentInRange}
 use Rattle.pv_protocol.specs.Start.{Started, starts, too_long, no_epoch, site_start}
 use Rattle.pv_protocol.specs.State.{Setup, Running, Site, Input, submit, receive, tick}
 use Rattle.pv_protocol.specs.Step.{step_on, after_step}
@@ -25,10 +25,10 @@ use Rattle.pv_protocol.specs.WorldStep.{ended, transition_of}
 
 -- what holds of one step
 abbrev pub SendsInRange : Type 0
-SendsInRange = (here : Here) (input : Input) → IsSound here → IsInputInRange here input → All (IsSentInRange here) (step_on here input).sends
+SendsInRange = (here : Here) (input : Input) → IsHereInRange here → IsInputInRange here input → All (IsSentInRange here) (step_on here input).sends
 
 abbrev pub StaysSound : Type 0
-StaysSound = (here : Here) (input : Input) → IsSound here → IsInputInRange here input → IsSound (after_step here (step_on here input))
+StaysSound = (here : Here) (input : Input) → IsHereInRange here → IsInputInRange here input → IsHereInRange (after_step here (step_on here input))
 
 no-some : {A : Type 0} {x : A} → None ≡ Some x → ⊥
 no-some is = cc
@@ -113,7 +113,7 @@ here_at setup world n running = record { me = n; setup = setup; records = (site_
 
 module _ (sends_stay : SendsInRange) (sound_stays : StaysSound) (setup : Setup) (setup_fine : IsSetupInRange setup) (world : World) (fine : IsWorldInRange setup world) where
   -- a running site of a world in range
-  here-sound : (n : ℕ) (running : Running) → (site_at world n).running ≡ Some running → IsSound (here_at setup world n running)
+  here-sound : (n : ℕ) (running : Running) → (site_at world n).running ≡ Some running → IsHereInRange (here_at setup world n running)
   here-sound n running is =
       let within : n < setup.catalog.sites = subst (λ (count : ℕ). n < count) fine.count (up-within world.sites n running is) in
       let site : IsSiteInRange setup n (site_at world n) = fine.sites n within in
@@ -136,7 +136,7 @@ module _ (sends_stay : SendsInRange) (sound_stays : StaysSound) (setup : Setup) 
       → whole.running ≡ Some (step_on (here_at setup world n running) input).running → IsSiteInRange setup n whole
   step-whole n running input is good whole records memory =
       let here = here_at setup world n running in
-      let sound : IsSound (after_step here (step_on here input)) = sound_stays here input (here-sound n running is) good in
+      let sound : IsHereInRange (after_step here (step_on here input)) = sound_stays here input (here-sound n running is) good in
       record {
         records = rw records sound.records;
         narrow = subst (IsNarrow setup.held_names setup.catalog n) (sym records) sound.narrow;
@@ -157,7 +157,7 @@ abbrev pub StartsSound : Type 0
 StartsSound =
     (setup : Setup) (me : ℕ) (records : List Record) → IsSetupInRange setup → me < setup.catalog.sites → All IsRecordInRange records
     → IsNarrow setup.held_names setup.catalog me records → (running : Running) (new : Record) → site_start setup records ≡ starts running new
-    → IsSound (record { me = me; setup = setup; records = records ++ new ∷ []; running = running })
+    → IsHereInRange (record { me = me; setup = setup; records = records ++ new ∷ []; running = running })
 
 module _ (sends_stay : SendsInRange) (sound_stays : StaysSound) (starts_sound : StartsSound) (setup : Setup) (setup_fine : IsSetupInRange setup)
     (world : World) (fine : IsWorldInRange setup world) where
@@ -192,7 +192,7 @@ module _ (sends_stay : SendsInRange) (sound_stays : StaysSound) (starts_sound : 
       → IsSiteInRange setup n (site_at world n) → IsAttemptInRange setup (site_at world n) n (of_start n started)
   started-range n (starts running new) is within site = record {
     whole = λ whole records memory.
-        let sound : IsSound (record { me = n; setup = setup; records = (site_at world n).records ++ new ∷ []; running = running })
+        let sound : IsHereInRange (record { me = n; setup = setup; records = (site_at world n).records ++ new ∷ []; running = running })
         = starts_sound setup n (site_at world n).records setup_fine (subst (λ (count : ℕ). n < count) fine.count within) site.records site.narrow running new is in
         record {
           records = rw records sound.records;

@@ -3,7 +3,7 @@ use Rattle.std.specs.Prelude.{Bool, true, false}
 use Rattle.std.specs.Ordering.{int_eq}
 use Rattle.pv_model.specs.Meaning.{Decline, unmet, overflow, zero_divisor, Reply, value, nothing, declined}
 
--- The program declines for the same reason.
+-- Both declines are for the same reason.
 abbrev pub is_same_decline : Decline → Decline → Bool
 is_same_decline unmet unmet = true
 is_same_decline overflow overflow = true

@@ -51,7 +51,7 @@ pub record IsRunningInRange (catalog : Declared) (site : ℕ) (running : Running
   pub entries : All (IsEntryInRange catalog) running.entries
 
 -- All that a site holds is in range, its shown values are narrow, and its journal has room for its records.
-pub record IsSound (here : Here) : Type 0 where
+pub record IsHereInRange (here : Here) : Type 0 where
   pub me : here.me < here.setup.catalog.sites
   pub setup : IsSetupInRange here.setup
   pub records : All IsRecordInRange here.records

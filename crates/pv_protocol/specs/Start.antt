@@ -7,7 +7,7 @@ use Rattle.pv_protocol.specs.State.{Setup, Running}
 
 -- what a site makes of a start
 pub data Started : Type 0 where
-  -- it runs, and has recorded its epoch
+  -- it is to record this epoch, and then runs with this memory
   starts : Running → Record → Started
   -- the journal with the record would have this length, above its limit
   too_long : (length : ℕ) → Started

@@ -37,19 +37,19 @@ pub record CanRun (catalog : Declared) (program : Program) : Type 0 where
   pub runnable : IsRunnable catalog program
   pub numbers : IsTrue (has_small_numbers program)
 
--- The site is one of the catalog's.
-abbrev pub IsSite : Declared → ℕ → Type 0
-IsSite catalog site = site < catalog.sites
+-- The catalog has this site.
+abbrev pub HasSite : Declared → ℕ → Type 0
+HasSite catalog site = site < catalog.sites
 
 -- The event is of a site of the catalog, arms a write or sync that is counted from 1, and asks for a program that can run.
 abbrev pub IsWellFormed : Declared → Event → Type 0
-IsWellFormed catalog (submit site query text program) = IsSite catalog site × CanRun catalog program
-IsWellFormed catalog (drop site) = IsSite catalog site
-IsWellFormed catalog (tick site) = IsSite catalog site
-IsWellFormed catalog (stop site) = IsSite catalog site
-IsWellFormed catalog (start site) = IsSite catalog site
-IsWellFormed catalog (arm site call mode stops) = IsSite catalog site × (1 ≤ call)
-IsWellFormed catalog (mend site) = IsSite catalog site
+IsWellFormed catalog (submit site query text program) = HasSite catalog site × CanRun catalog program
+IsWellFormed catalog (drop site) = HasSite catalog site
+IsWellFormed catalog (tick site) = HasSite catalog site
+IsWellFormed catalog (stop site) = HasSite catalog site
+IsWellFormed catalog (start site) = HasSite catalog site
+IsWellFormed catalog (arm site call mode stops) = HasSite catalog site × (1 ≤ call)
+IsWellFormed catalog (mend site) = HasSite catalog site
 IsWellFormed catalog (deliver n) = ⊤
 IsWellFormed catalog (pump most) = ⊤
 IsWellFormed catalog (lose n) = ⊤
