@@ -1,6 +1,6 @@
 -- Which items are a site's own.
-use Rattle.std.proofs.Common.{arith, ◌≡◌, ⊎_elim, ℕ, zero, suc, ◌+◌, Bool, true, false, Some, None, List, [], ◌∷◌, refl, sym, ap, subst}
-use Rattle.std.specs.Prelude.{All, IsTrue, ◌==◌, not, ◌||◌, slice_get, if◌then◌else◌}
+use Rattle.std.proofs.Common.{arith, ◌≡◌, ⊎_elim, ℕ, suc, ◌+◌, Bool, true, false, Some, List, [], ◌∷◌, refl, sym, ap, subst}
+use Rattle.std.specs.Prelude.{All, IsTrue, ◌==◌, not, slice_get}
 use Rattle.std.specs.List.{Contains, list_all}
 use Rattle.std.proofs.lemmas.Bool.{and_parts, false≢true}
 use Rattle.std.proofs.lemmas.List.Elements.{All-cons, All-nil}

@@ -97,7 +97,7 @@ module _ (here : Here) (sound : IsHereInRange here) where
     enough = omega (arith, are.enough, length-map {B = Read} wants (λ (want : Want). record { item = want.item; cases = shown here.setup.catalog here.records want.item }));
     items = subst AreItemsInRange (sym (map-map (λ (read : Read). read.item) (λ (want : Want). record { item = want.item; cases = shown here.setup.catalog here.records want.item }) wants)) are.items;
     values = All-map (λ (read : Read). IsPolyvalueInRange read.cases) (λ (want : Want). record { item = want.item; cases = shown here.setup.catalog here.records want.item }) wants
-        (all-from (λ (want : Want). IsPolyvalueInRange (shown here.setup.catalog here.records want.item)) wants 
+        (all-from (λ (want : Want). IsPolyvalueInRange (shown here.setup.catalog here.records want.item)) wants
         (λ want h. shown-here want.item (All-contains (λ (w : Want). IsTrue (is_home here.setup.catalog here.me w.item)) wants want homes h)));
   }
 

@@ -1,8 +1,8 @@
 -- Every world of a run is in range, wherever its sites stop.
-use Rattle.std.proofs.Common.{ℕ, ◌<◌, ◌≤◌, None, Option, List, [], ◌∷◌, ◌++◌, length, refl, sym, ap, ◌∙◌, subst}
+use Rattle.std.proofs.Common.{ℕ, ◌<◌, None, Option, List, [], ◌∷◌, ◌++◌, length, refl, sym, ap, ◌∙◌, subst}
 use Rattle.std.specs.Prelude.{option_to_list, All}
 use Rattle.std.proofs.lemmas.List.{append-nil, length-map}
-use Rattle.std.proofs.lemmas.List.Elements.{All-cons, All-nil, All-head, All-tail}
+use Rattle.std.proofs.lemmas.List.Elements.{All-cons, All-nil}
 use Rattle.pv_format.specs.Range.{IsEnvelopeInRange}
 use Rattle.pv_format.specs.Record.{Record, epoch_begun}
 use Rattle.pv_law_world.proofs.DisarmLemmas.{site-disarmed}

@@ -1,5 +1,5 @@
 -- A site that is up is in the epoch that it recorded last, and its memory stands in order.
-use Rattle.std.proofs.Common.{arith, ◌≡◌, ℕ, ◌+◌, ◌≤◌, false, Some, None, Option, List, [], ◌∷◌, ◌++◌, refl, sym, ap, ◌∙◌, subst}
+use Rattle.std.proofs.Common.{arith, ◌≡◌, ℕ, ◌+◌, ◌≤◌, Some, None, Option, List, [], ◌∷◌, ◌++◌, refl, sym, ap, ◌∙◌, subst}
 use Rattle.std.specs.Prelude.{option_to_list, max}
 use Rattle.std.proofs.lemmas.List.{append-nil}
 use Rattle.pv_base.proofs.Basics.{Some_inj}
@@ -15,9 +15,8 @@ use Rattle.pv_protocol.specs.Attempt.{of_start}
 use Rattle.pv_protocol.specs.Here.{Here}
 use Rattle.pv_protocol.specs.Records.{last_epoch}
 use Rattle.pv_protocol.specs.Sound.{IsInOrder}
-use Rattle.pv_protocol.specs.Start.{Started, starts, too_long, no_epoch, just_started, site_start}
-use Rattle.pv_protocol.specs.State.{Setup, Running, Input}
-use Rattle.pv_protocol.specs.Step.{step_on}
+use Rattle.pv_protocol.specs.Start.{Started, just_started, site_start}
+use Rattle.pv_protocol.specs.State.{Setup, Running}
 
 none-some : {A : Type 0} {x : A} → None ≡ Some x → ⊥
 none-some is = cc

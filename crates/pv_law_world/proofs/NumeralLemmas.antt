@@ -1,6 +1,6 @@
 -- The numbers that stand in a program text have 64 bits.
-use Rattle.std.proofs.Common.{◌≡◌, refl, ℕ, ◌<◌, ◌^◌, pos, Bool, true, false, Option, List}
-use Rattle.std.specs.Prelude.{◌&&◌, nat_lt, IsTrue}
+use Rattle.std.proofs.Common.{refl, ℕ, ◌^◌, Option, List}
+use Rattle.std.specs.Prelude.{IsTrue}
 use Rattle.std.specs.Cmp.Derive.{both_true}
 use Rattle.std.proofs.lemmas.Bool.{lt-ltb}
 use Rattle.pv_base.specs.Catalog.{Declared}

@@ -1,5 +1,5 @@
 -- Every world of a run is in range.
-use Rattle.std.proofs.Common.{arith, ℕ, zero, suc, ◌≤◌, Some, None, Option, List, [], ◌∷◌, sym, subst}
+use Rattle.std.proofs.Common.{arith, ℕ, zero, suc, Some, None, Option, List, [], ◌∷◌, sym, subst}
 use Rattle.std.specs.Prelude.{All}
 use Rattle.std.proofs.lemmas.List.{get_or-replicate, length-replicate}
 use Rattle.std.proofs.lemmas.List.Elements.{All-append, All-cons, All-nil, All-head, All-tail}

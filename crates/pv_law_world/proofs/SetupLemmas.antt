@@ -1,5 +1,5 @@
 -- What a schedule's text declares is in range.
-use Rattle.std.proofs.Common.{arith, ◌≡◌, inl, inr, ℕ, ◌<◌, ◌≤◌, pos, Option, Some, None, List, [], ◌∷◌, ◌++◌, length, length-append, sym, subst}
+use Rattle.std.proofs.Common.{arith, ◌≡◌, inl, inr, ℕ, ◌<◌, ◌≤◌, pos, Option, None, List, [], ◌∷◌, length, length-append, sym, subst}
 use Rattle.std.specs.Prelude.{get_or, All}
 use Rattle.std.specs.Int.{w64}
 use Rattle.std.specs.Int.RustNames.{FitsSigned}
@@ -8,7 +8,7 @@ use Rattle.pv_base.specs.Catalog.{Item, Declared}
 use Rattle.pv_base.specs.declared.limits.TheConstants.{MAX_SITES, MAX_ITEMS, MIN_JOURNAL, MAX_JOURNAL, HELD_NAMES}
 use Rattle.pv_law_step.proofs.FitLemmas.{fits-from}
 use Rattle.pv_law_world.specs.Ranges.{with_limits}
-use Rattle.pv_model.specs.Causes.{Before, or_default, declared_by, at_first}
+use Rattle.pv_model.specs.Causes.{Before, or_default, at_first}
 use Rattle.pv_model.specs.Events.{Event, Schedule}
 use Rattle.pv_model.specs.Schedule.{Declares, AreLines, none, declaration, event, with_event, IsSchedule}
 use Rattle.pv_model.specs.Text.{TextLine}

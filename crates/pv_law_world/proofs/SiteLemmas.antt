@@ -1,6 +1,6 @@
 -- What each step and each start of a site keeps holds in every world of a run, wherever sites stop.
-use Rattle.std.proofs.Common.{arith, ◌≡◌, ℕ, ◌<◌, Bool, true, false, Some, None, Option, List, [], ◌∷◌, ◌++◌, length, refl, sym, ap, ◌∙◌, subst}
-use Rattle.std.specs.Prelude.{get_or, set, slice_get, option_to_list, nat_lt, ◌+◌, ◌&&◌, if◌then◌else◌, All}
+use Rattle.std.proofs.Common.{◌≡◌, ℕ, ◌<◌, Bool, true, false, Some, None, Option, List, [], ◌∷◌, ◌++◌, length, refl, sym, ap, subst}
+use Rattle.std.specs.Prelude.{get_or, slice_get, option_to_list, nat_lt, ◌+◌, ◌&&◌, if◌then◌else◌, All}
 use Rattle.std.proofs.lemmas.List.{append-nil, length-set, length-map, get_or-replicate, length-replicate}
 use Rattle.std.proofs.lemmas.List.Elements.{All-cons, All-nil, All-get_or, All-from_get_or}
 use Rattle.pv_format.specs.Message.{Envelope}
