@@ -82,7 +82,7 @@ first-found p (first ∷ rest) up x y is h passes =
 
 -- Conflicts.
 
-module _ (grants : List Grant) (order : AreInOrder (λ (g : Grant). g.txn) grants) where
+module _ (grants : List Grant) where
   -- A conflict over a want is one that the test tells.
   told : (wants : List Want) (want : Want) (item : ℕ) (holder : TxnId) (conflict : IsConflict grants wants item holder) → want ≡ conflict.want
       → IsTrue (is_in_the_way want conflict.grant)
@@ -118,6 +118,21 @@ module _ (grants : List Grant) (order : AreInOrder (λ (g : Grant). g.txn) grant
     exclusive = is.exclusive;
   }
 
+  none-found : (want : Want) (found : Option Grant) (rest : Option Conflict) → conflict_or want found rest ≡ None → (found ≡ None) × (rest ≡ None)
+  none-found want None rest is = (refl, is)
+  none-found want (Some grant) rest is = absurd (let wrong : ⊥ = cc in wrong)
+
+  -- Where none is found there is none.
+  pub no-conflict : (wants : List Want) → first_conflict grants wants ≡ None → (item : ℕ) (holder : TxnId) → IsConflict grants wants item holder → ⊥
+  no-conflict [] is item holder conflict = Contains-nil conflict.want conflict.wanted
+  no-conflict (want ∷ wants) is item holder conflict =
+      let none = none-found want (find (is_in_the_way want) grants) (first_conflict grants wants) is in
+      ⊎_elim
+      (λ one. none-passes (is_in_the_way want) grants none.0 conflict.grant conflict.stands (told (want ∷ wants) want item holder conflict one))
+      (λ later. no-conflict wants none.1 item holder (within want wants item holder conflict later))
+      (Contains-cases want wants conflict.want conflict.wanted)
+
+module _ (grants : List Grant) (order : AreInOrder (λ (g : Grant). g.txn) grants) where
   here-least : (want : Want) (wants : List Want) → Ascend (map (λ (w : Want). w.item) (want ∷ wants)) → (grant : Grant) → find (is_in_the_way want) grants ≡ Some grant
       → IsLeastConflict grants (want ∷ wants) want.item grant.txn
   here-least want wants up grant found =
@@ -139,7 +154,7 @@ module _ (grants : List Grant) (order : AreInOrder (λ (g : Grant). g.txn) grant
             (λ one. inr (
               ap (λ (w : Want). w.item) one ∙ conflict.same.0,
               subst (AtOrBefore grant.txn) conflict.of
-                  (first-found (is_in_the_way want) grants order grant conflict.grant found conflict.stands (told (want ∷ wants) want other another conflict one)),
+                  (first-found (is_in_the_way want) grants order grant conflict.grant found conflict.stands (told grants (want ∷ wants) want other another conflict one)),
             ))
             (λ later. inl (subst (λ n. want.item < n) conflict.same.0
             (ascend-first want.item (map (λ (w : Want). w.item) wants) up conflict.want.item (Contains-map (λ (w : Want). w.item) wants conflict.want later))))
@@ -149,10 +164,10 @@ module _ (grants : List Grant) (order : AreInOrder (λ (g : Grant). g.txn) grant
   later-least : (want : Want) (wants : List Want) → find (is_in_the_way want) grants ≡ None → (item : ℕ) (holder : TxnId) → IsLeastConflict grants wants item holder
       → IsLeastConflict grants (want ∷ wants) item holder
   later-least want wants none item holder rest = record {
-    is = behind want wants item holder rest.is;
+    is = behind grants want wants item holder rest.is;
     least = λ other another conflict. ⊎_elim
-        (λ one. absurd (none-passes (is_in_the_way want) grants none conflict.grant conflict.stands (told (want ∷ wants) want other another conflict one)))
-        (λ later. rest.least other another (within want wants other another conflict later))
+        (λ one. absurd (none-passes (is_in_the_way want) grants none conflict.grant conflict.stands (told grants (want ∷ wants) want other another conflict one)))
+        (λ later. rest.least other another (within grants want wants other another conflict later))
         (Contains-cases want wants conflict.want conflict.wanted);
   }
 

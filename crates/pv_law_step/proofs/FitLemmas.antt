@@ -14,7 +14,7 @@ use Rattle.pv_base.proofs.ContainsLemmas.{Contains-first, Contains-behind, Conta
 use Rattle.pv_base.specs.declared.reply.Decline.{Decline}
 use Rattle.pv_model.specs.Meaning.{Row, Course, ended, returned, refused, fits_i64, within, truth, holds, computed, with_value, with_left, value_in, with_row, value_of, then_with, then_run, course_of, effect_of, exec}
 use Rattle.pv_model.specs.Syntax.{Op, or, and, equal, unequal, less, at_most, greater, at_least, plus, sub, times, over, rest, lesser, larger, Expr, number, item, minus, negation, two, Program, end, assign, require, return, when, when_else}
-use Rattle.pv_protocol.specs.Sound.{is_of_small_numbers, has_small_numbers}
+use Rattle.pv_protocol.specs.WellFormed.{is_of_small_numbers, has_small_numbers}
 
 abbrev pub Fits : ℤ → Type 0
 Fits z = FitsSigned w64 z

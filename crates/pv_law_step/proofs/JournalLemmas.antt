@@ -17,7 +17,7 @@ use Rattle.pv_law_step.proofs.Lists.{all-from, all-head, all-tail}
 use Rattle.pv_model.specs.Alternatives.{Read}
 use Rattle.pv_protocol.specs.Here.{Here, length_with}
 use Rattle.pv_protocol.specs.Records.{record_bytes, journal_bytes}
-use Rattle.pv_protocol.specs.Sound.{IsSound}
+use Rattle.pv_protocol.specs.Sound.{IsHereInRange}
 
 pub journal-more : (records : List Record) (more : Record) → journal_bytes (records ++ more ∷ []) ≡ journal_bytes records + record_bytes more
 unfolding journal_bytes
@@ -42,7 +42,7 @@ polyvalue-short cases is =
     all-from (λ case. case_length case ≤ 89) cases (λ case h. case-short 0 case (All-contains (λ case. length case.when ≤ HELD_NAMES) cases case few.literals h)) in
     omega (arith, count, sum-small case_length 89 cases each)
 
-module _ (here : Here) (sound : IsSound here) where
+module _ (here : Here) (sound : IsHereInRange here) where
   pub length-short : (txn : TxnId) (writes : List Read) → AreReadsInRange 0 writes → length_with here (prepared txn writes) < 2 ^ 64
   length-short txn writes are =
       let each : All (λ (read : Read). 4 + polyvalue_length read.cases ≤ 40000) writes =

@@ -2,6 +2,7 @@ pub mod Appended
 pub mod ComputedLemmas
 pub mod ConflictLemmas
 pub mod FitLemmas
+pub mod HomeLemmas
 pub mod JournalLemmas
 pub mod Kept
 pub mod KeyedLemmas

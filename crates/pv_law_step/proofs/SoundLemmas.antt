@@ -1,6 +1,6 @@
 -- What a sound site sends is in range, and it stays sound.
 use Rattle.std.proofs.Common.{◌≡◌, ℕ, ◌<◌, ◌≤◌, Bool, List, [], ◌∷◌, length, map, refl, sym, ap, subst, ◌∙◌, arith}
-use Rattle.std.specs.Prelude.{All}
+use Rattle.std.specs.Prelude.{All, IsTrue}
 use Rattle.std.specs.List.{Contains}
 use Rattle.std.proofs.lemmas.List.Elements.{All-contains, All-cons, All-map, All-nil}
 use Rattle.std.proofs.lemmas.List.{length-map}
@@ -26,10 +26,11 @@ use Rattle.pv_model.specs.Meaning.{exec}
 use Rattle.pv_protocol.specs.Coordinate.{reads_of, names_taken, row_after, new_value, writes_to}
 use Rattle.pv_protocol.specs.Granted.{asked_of}
 use Rattle.pv_protocol.specs.Here.{Here, participants, outcome_sends}
-use Rattle.pv_protocol.specs.Lock.{values_of}
+use Rattle.pv_protocol.specs.Lock.{is_home, values_of}
 use Rattle.pv_protocol.specs.Records.{choice}
 use Rattle.pv_protocol.specs.Shown.{shown}
-use Rattle.pv_protocol.specs.Sound.{CanRun, IsTakenInRange, IsSound, IsSentInRange}
+use Rattle.pv_protocol.specs.Sound.{IsTakenInRange, IsHereInRange, IsSentInRange}
+use Rattle.pv_protocol.specs.WellFormed.{CanRun}
 use Rattle.pv_protocol.specs.State.{Taken, Entry}
 
 -- The values of an entry.
@@ -81,21 +82,23 @@ writes-in-range entry records items are values = record {
 
 -- What a site sends.
 
-module _ (here : Here) (sound : IsSound here) where
+module _ (here : Here) (sound : IsHereInRange here) where
   pub me-in-range : here.me < MAX_SITES
   me-in-range = omega (arith, sound.me, sound.setup.sites)
 
-  pub shown-here : (item : ℕ) → IsPolyvalueInRange (shown here.setup.catalog here.records item)
-  shown-here item =
+  pub shown-here : (item : ℕ) → IsTrue (is_home here.setup.catalog here.me item) → IsPolyvalueInRange (shown here.setup.catalog here.records item)
+  shown-here item home =
       shown-in-range here.setup.catalog sound.setup.values here.records here.records sound.records item
-      (omega (arith, narrow-now here.setup.held_names here.setup.catalog here.records sound.narrow item, sound.setup.held))
+      (omega (arith, narrow-now here.setup.held_names here.setup.catalog here.me here.records sound.narrow item home, sound.setup.held))
 
-  pub values-in-range : (wants : List Want) → AreWantsInRange wants → AreReadsInRange 1 (values_of here wants)
-  values-in-range wants are = record {
+  pub values-in-range : (wants : List Want) → AreWantsInRange wants → All (λ (want : Want). IsTrue (is_home here.setup.catalog here.me want.item)) wants
+      → AreReadsInRange 1 (values_of here wants)
+  values-in-range wants are homes = record {
     enough = omega (arith, are.enough, length-map {B = Read} wants (λ (want : Want). record { item = want.item; cases = shown here.setup.catalog here.records want.item }));
     items = subst AreItemsInRange (sym (map-map (λ (read : Read). read.item) (λ (want : Want). record { item = want.item; cases = shown here.setup.catalog here.records want.item }) wants)) are.items;
     values = All-map (λ (read : Read). IsPolyvalueInRange read.cases) (λ (want : Want). record { item = want.item; cases = shown here.setup.catalog here.records want.item }) wants
-        (all-from (λ (want : Want). IsPolyvalueInRange (shown here.setup.catalog here.records want.item)) wants (λ want h. shown-here want.item));
+        (all-from (λ (want : Want). IsPolyvalueInRange (shown here.setup.catalog here.records want.item)) wants
+        (λ want h. shown-here want.item (All-contains (λ (w : Want). IsTrue (is_home here.setup.catalog here.me w.item)) wants want homes h)));
   }
 
   pub participant-in-range : (entry : Entry) → CanRun here.setup.catalog entry.program → (site : ℕ) → Contains (participants here entry) site

@@ -1,7 +1,7 @@
 -- Each step of a sound site sends what is in range, and keeps all that it holds in range.
 use Rattle.std.proofs.Common.{◌≡◌, ⊎_elim, ℕ, ◌+◌, ◌<◌, ◌≤◌, ◌^◌, Bool, true, false, Some, None, Option, List, [], ◌∷◌, ◌++◌, length, map, refl, sym, subst, arith}
 use Rattle.std.specs.Option.{option_to_list}
-use Rattle.std.specs.Prelude.{All, nat_lt, ◌==◌, ◌≢◌, is_none, not}
+use Rattle.std.specs.Prelude.{All, nat_lt, ◌==◌, ◌≢◌, is_none, not, IsTrue}
 use Rattle.std.specs.List.{Contains, find}
 use Rattle.std.proofs.lemmas.Bool.{ltb-false, eqb-false, eqb-true}
 use Rattle.std.proofs.lemmas.List.Elements.{All-append, All-cons, All-contains, All-filter, All-map, All-nil}
@@ -17,6 +17,7 @@ use Rattle.pv_format.specs.Range.{IsTxnInRange, IsGrantInRange, AreItemsInRange,
 use Rattle.pv_format.specs.Record.{Record, prepared}
 use Rattle.pv_law_canonical.proofs.FilterLemmas.{kept-listed}
 use Rattle.pv_law_step.proofs.Appended.{found-passes}
+use Rattle.pv_law_step.proofs.HomeLemmas.{homes-of-heard, items-home}
 use Rattle.pv_law_step.proofs.JournalLemmas.{length-short}
 use Rattle.pv_law_step.proofs.Kept.{find-of, with-one-all, without-all, filter-map-all, with-taken-all}
 use Rattle.pv_law_step.proofs.Lists.{all-from, all-head, all-tail, OfSome, of-some, all-flat}
@@ -38,43 +39,44 @@ use Rattle.pv_model.specs.Syntax.{Program}
 use Rattle.pv_protocol.specs.Coordinate.{locking_entry, voting_entry, names_taken, exclusive_items}
 use Rattle.pv_protocol.specs.Granted.{asked_of, taking, taken_from, prepare_under, at_lock_point}
 use Rattle.pv_protocol.specs.Here.{Here, nothing, remembering, sending, grant_of, with_grant, without_grant, with_entry, without_entry, participants, outcome_sends, refusing, length_with}
-use Rattle.pv_protocol.specs.Lock.{next_txn, lock_sends, is_in_the_way, Conflict, conflict_or, first_conflict, next_grant, granting, values_of}
+use Rattle.pv_protocol.specs.Lock.{is_home, next_txn, lock_sends, is_in_the_way, Conflict, conflict_or, first_conflict, next_grant, granting, values_of}
 use Rattle.pv_protocol.specs.Outcome.{items_here, names_shown, named_here}
 use Rattle.pv_protocol.specs.Shown.{shown}
-use Rattle.pv_protocol.specs.Sound.{CanRun, IsHeldInRange, IsTakenInRange, IsEntryInRange, IsRunningInRange, IsSound, IsInputInRange, IsSentInRange}
+use Rattle.pv_protocol.specs.Sound.{IsHeldInRange, IsTakenInRange, IsEntryInRange, IsRunningInRange, IsHereInRange, IsInputInRange, IsSentInRange}
+use Rattle.pv_protocol.specs.WellFormed.{CanRun}
 use Rattle.pv_protocol.specs.State.{Grant, Taken, locking, voting, Entry, Running, Cause, Input, submit, receive, tick, Step}
 use Rattle.pv_protocol.specs.Step.{on_message, step_on}
-use Rattle.pv_protocol.specs.Tick.{older_grants, older_entries, expired_entries, expiry_sends, ask_sends, older, without_grants, on_tick}
+use Rattle.pv_protocol.specs.Tick.{older_grants, older_entries, expired_entries, expiry_sends, ask_sends, older, ungranted, on_tick}
 use Rattle.pv_protocol.specs.Vote.{others_than, committing}
 
 -- What a step sends and leaves is in range.
 pub record IsSafe (here : Here) (step : Step) : Type 0 where
   pub sends : All (IsSentInRange here) step.sends
   pub appended : OfSome IsRecordInRange step.appended
-  pub running : IsRunningInRange here.setup.catalog step.running
+  pub running : IsRunningInRange here.setup.catalog here.me step.running
 
 -- Memory that changes.
 
-module _ (catalog : Declared) (running : Running) (is : IsRunningInRange catalog running) where
-  with-grant-safe : (grant : Grant) → IsHeldInRange grant → IsRunningInRange catalog (with_grant running grant)
+module _ (catalog : Declared) (site : ℕ) (running : Running) (is : IsRunningInRange catalog site running) where
+  with-grant-safe : (grant : Grant) → IsHeldInRange catalog site grant → IsRunningInRange catalog site (with_grant running grant)
   with-grant-safe grant held = record {
     epoch = is.epoch;
     next_txn = is.next_txn;
     next_grant = is.next_grant;
     entries = is.entries;
-    grants = with-one-all IsHeldInRange (λ (g : Grant). g.txn) grant running.grants held is.grants;
+    grants = with-one-all (IsHeldInRange catalog site) (λ (g : Grant). g.txn) grant running.grants held is.grants;
   }
 
-  without-grant-safe : (txn : TxnId) → IsRunningInRange catalog (without_grant running txn)
+  without-grant-safe : (txn : TxnId) → IsRunningInRange catalog site (without_grant running txn)
   without-grant-safe txn = record {
     epoch = is.epoch;
     next_txn = is.next_txn;
     next_grant = is.next_grant;
     entries = is.entries;
-    grants = without-all IsHeldInRange (λ (g : Grant). g.txn) txn running.grants is.grants;
+    grants = without-all (IsHeldInRange catalog site) (λ (g : Grant). g.txn) txn running.grants is.grants;
   }
 
-  with-entry-safe : (entry : Entry) → IsEntryInRange catalog entry → IsRunningInRange catalog (with_entry running entry)
+  with-entry-safe : (entry : Entry) → IsEntryInRange catalog entry → IsRunningInRange catalog site (with_entry running entry)
   with-entry-safe entry fine = record {
     epoch = is.epoch;
     next_txn = is.next_txn;
@@ -83,7 +85,7 @@ module _ (catalog : Declared) (running : Running) (is : IsRunningInRange catalog
     entries = with-one-all (IsEntryInRange catalog) (λ (e : Entry). e.txn) entry running.entries fine is.entries;
   }
 
-  without-entry-safe : (txn : TxnId) → IsRunningInRange catalog (without_entry running txn)
+  without-entry-safe : (txn : TxnId) → IsRunningInRange catalog site (without_entry running txn)
   without-entry-safe txn = record {
     epoch = is.epoch;
     next_txn = is.next_txn;
@@ -92,9 +94,12 @@ module _ (catalog : Declared) (running : Running) (is : IsRunningInRange catalog
     entries = without-all (IsEntryInRange catalog) (λ (e : Entry). e.txn) txn running.entries is.entries;
   }
 
-module _ (here : Here) (sound : IsSound here) where
-  held : (txn : TxnId) (grant : Grant) → grant_of here.running txn ≡ Some grant → IsHeldInRange grant
-  held txn grant is = of-some IsHeldInRange (grant_of here.running txn) grant (find-of IsHeldInRange _ here.running.grants sound.running.grants) is
+module _ (here : Here) (sound : IsHereInRange here) where
+  abbrev IsHeld : Grant → Type 0
+  IsHeld grant = IsHeldInRange here.setup.catalog here.me grant
+
+  held : (txn : TxnId) (grant : Grant) → grant_of here.running txn ≡ Some grant → IsHeld grant
+  held txn grant is = of-some IsHeld (grant_of here.running txn) grant (find-of IsHeld _ here.running.grants sound.running.grants) is
 
   locking-safe : (txn : TxnId) (entry : Entry) → locking_entry here.running txn ≡ Some entry → IsEntryInRange here.setup.catalog entry
   locking-safe txn entry is =
@@ -104,13 +109,13 @@ module _ (here : Here) (sound : IsSound here) where
   voting-safe txn entry is =
       of-some (IsEntryInRange here.setup.catalog) (voting_entry here.running txn) entry (find-of (IsEntryInRange here.setup.catalog) _ here.running.entries sound.running.entries) is
 
-  quiet : (running : Running) → IsRunningInRange here.setup.catalog running → IsSafe here (remembering running)
+  quiet : (running : Running) → IsRunningInRange here.setup.catalog here.me running → IsSafe here (remembering running)
   quiet running is = record { sends = All-nil (IsSentInRange here); appended = tt; running = is }
 
   same-running : IsSafe here (nothing here)
   same-running = quiet here.running sound.running
 
-  telling : (running : Running) (to : ℕ) (message : Message) → IsRunningInRange here.setup.catalog running → IsSentInRange here (record { to = to; message = message })
+  telling : (running : Running) (to : ℕ) (message : Message) → IsRunningInRange here.setup.catalog here.me running → IsSentInRange here (record { to = to; message = message })
       → IsSafe here (sending running (record { to = to; message = message } ∷ []))
   telling running to message is sent = record { sends = one-in-range here sound to message sent; appended = tt; running = is }
 
@@ -121,7 +126,7 @@ module _ (here : Here) (sound : IsSound here) where
   refusing-safe entry cause is = record {
     sends = outcome-in-range here sound entry.txn is.txn false (participants here entry) (participant-small entry is);
     appended = tt;
-    running = without-entry-safe here.setup.catalog here.running sound.running entry.txn;
+    running = without-entry-safe here.setup.catalog here.me here.running sound.running entry.txn;
   }
 
   -- Requests and locks.
@@ -151,7 +156,7 @@ module _ (here : Here) (sound : IsSound here) where
   submit-safe program can step (of_locks.begins left) =
       let small = next-txn-small left in
       let apart : here.running.next_txn ≢ NEVER_GIVEN = eqb-false here.running.next_txn NEVER_GIVEN left in
-      let counted : IsRunningInRange here.setup.catalog (record here.running { next_txn = here.running.next_txn + 1 }) =
+      let counted : IsRunningInRange here.setup.catalog here.me (record here.running { next_txn = here.running.next_txn + 1 }) =
       record {
         epoch = sound.running.epoch;
         next_txn = omega (arith, sound.running.next_txn, apart);
@@ -162,12 +167,12 @@ module _ (here : Here) (sound : IsSound here) where
       record {
         sends = parts-safe program can (next_txn here) small;
         appended = tt;
-        running = with-entry-safe here.setup.catalog (record here.running { next_txn = here.running.next_txn + 1 }) counted
+        running = with-entry-safe here.setup.catalog here.me (record here.running { next_txn = here.running.next_txn + 1 }) counted
             (record { txn = next_txn here; program = program; stage = locking; age = 0; taken = []; votes = [] })
             (record { txn = small; program = can; taken = All-nil IsTakenInRange });
       }
 
-  conflict-or-safe : (want : Want) (grant : Option Grant) (rest : Option Conflict) → want.item < MAX_ITEMS → OfSome IsHeldInRange grant
+  conflict-or-safe : (want : Want) (grant : Option Grant) (rest : Option Conflict) → want.item < MAX_ITEMS → OfSome IsHeld grant
       → OfSome (λ (c : Conflict). (c.item < MAX_ITEMS) × IsTxnInRange c.holder) rest
       → OfSome (λ (c : Conflict). (c.item < MAX_ITEMS) × IsTxnInRange c.holder) (conflict_or want grant rest)
   conflict-or-safe want None rest small grants later = later
@@ -179,13 +184,13 @@ module _ (here : Here) (sound : IsSound here) where
   conflict-safe (want ∷ wants) small =
       conflict-or-safe want (find (is_in_the_way want) here.running.grants) (first_conflict here.running.grants wants)
       (all-head (λ item. item < MAX_ITEMS) want.item (map (λ (w : Want). w.item) wants) small)
-      (find-of IsHeldInRange (is_in_the_way want) here.running.grants sound.running.grants)
+      (find-of IsHeld (is_in_the_way want) here.running.grants sound.running.grants)
       (conflict-safe wants (all-tail (λ item. item < MAX_ITEMS) want.item (map (λ (w : Want). w.item) wants) small))
 
-  granting-safe : (running : Running) (grant : Grant) → IsRunningInRange here.setup.catalog running → IsHeldInRange grant → IsSafe here (granting here running grant)
+  granting-safe : (running : Running) (grant : Grant) → IsRunningInRange here.setup.catalog here.me running → IsHeld grant → IsSafe here (granting here running grant)
   granting-safe running grant is held =
       telling running grant.txn.site.0 (granted grant.txn grant.id (values_of here grant.wants)) is
-      (record { from = me-in-range here sound; to = held.txn.site; txn = held.txn; body = (held.id, values-in-range here sound grant.wants held.wants) })
+      (record { from = me-in-range here sound; to = held.txn.site; txn = held.txn; body = (held.id, values-in-range here sound grant.wants held.wants held.homes) })
 
   lock-safe : (from : ℕ) (txn : TxnId) (wants : List Want) → IsTxnInRange txn → AreWantsInRange wants
       → (step : Step) → of_locks.LockCase here from txn wants step → IsSafe here step
@@ -199,9 +204,9 @@ module _ (here : Here) (sound : IsSound here) where
   lock-safe from txn wants is are step (of_locks.no_grant_left h i) = record { sends = All-nil (IsSentInRange here); appended = tt; running = sound.running }
   lock-safe from txn wants is are step (of_locks.grants h left) =
       let apart : here.running.next_grant ≢ NEVER_GIVEN = eqb-false here.running.next_grant NEVER_GIVEN left in
-      let new : IsHeldInRange (next_grant here txn wants) =
-      record { txn = is; id = record { epoch = omega (arith, sound.running.epoch); number = omega (arith, sound.running.next_grant, apart) }; wants = are } in
-      let counted : IsRunningInRange here.setup.catalog (record here.running { next_grant = here.running.next_grant + 1 }) =
+      let new : IsHeld (next_grant here txn wants) =
+      record { txn = is; id = record { epoch = omega (arith, sound.running.epoch); number = omega (arith, sound.running.next_grant, apart) }; wants = are; homes = homes-of-heard here from txn wants h.heard } in
+      let counted : IsRunningInRange here.setup.catalog here.me (record here.running { next_grant = here.running.next_grant + 1 }) =
       record {
         epoch = sound.running.epoch;
         next_txn = sound.running.next_txn;
@@ -210,7 +215,7 @@ module _ (here : Here) (sound : IsSound here) where
         entries = sound.running.entries;
       } in
       granting-safe (with_grant (record here.running { next_grant = here.running.next_grant + 1 }) (next_grant here txn wants)) (next_grant here txn wants)
-      (with-grant-safe here.setup.catalog (record here.running { next_grant = here.running.next_grant + 1 }) counted (next_grant here txn wants) new) new
+      (with-grant-safe here.setup.catalog here.me (record here.running { next_grant = here.running.next_grant + 1 }) counted (next_grant here txn wants) new) new
 
   -- Answers to locks.
 
@@ -249,7 +254,7 @@ module _ (here : Here) (sound : IsSound here) where
       sends = filter-map-all (IsSentInRange here) (λ site. prepare_under here entry (taken_from entry site)) (participants here entry)
           (λ site h. under-safe site h (taken_from entry site) refl);
       appended = tt;
-      running = with-entry-safe here.setup.catalog here.running sound.running (record entry { stage = voting; age = 0 })
+      running = with-entry-safe here.setup.catalog here.me here.running sound.running (record entry { stage = voting; age = 0 })
           (record { txn = is.txn; program = is.program; taken = is.taken });
     }
 
@@ -259,12 +264,12 @@ module _ (here : Here) (sound : IsSound here) where
   granted-safe from txn grant values is are step (of_grants.ignored entry h i) = same-running
   granted-safe from txn grant values is are step (of_grants.waits entry taken i) =
       quiet (with_entry here.running (taking entry from grant values))
-      (with-entry-safe here.setup.catalog here.running sound.running (taking entry from grant values) (taking-safe entry from grant values (locking-safe txn entry taken.found) is are))
+      (with-entry-safe here.setup.catalog here.me here.running sound.running (taking entry from grant values) (taking-safe entry from grant values (locking-safe txn entry taken.found) is are))
   granted-safe from txn grant values is are step (of_grants.too_wide entry last i) =
       refusing-safe (taking entry from grant values) _ (taking-safe entry from grant values (locking-safe txn entry last.taken.found) is are)
   granted-safe from txn grant values is are step (of_grants.reaches_lock_point entry last few) =
       lock-point-safe (taking entry from grant values) (taking-safe entry from grant values (locking-safe txn entry last.taken.found) is are)
-      (omega (arith, ltb-false here.setup.read_names (length (names_taken (taking entry from grant values))) few, sound.setup.read))
+      (omega (arith, ltb-false here.setup.read_names (length (names_taken (taking entry from grant values))) few, sound.setup.apart, sound.setup.held))
 
   denied-safe : (from : ℕ) (txn : TxnId) (item : ℕ) (holder : TxnId) (step : Step) → of_grants.DeniedCase here from txn item holder step → IsSafe here step
   denied-safe from txn item holder step (of_grants.no_entry h) = same-running
@@ -297,7 +302,7 @@ module _ (here : Here) (sound : IsSound here) where
       record {
         sends = one-in-range here sound standing.txn.site.0 (vote_yes standing.txn) (record { from = me-in-range here sound; to = its.txn.site; txn = its.txn; body = tt });
         appended = (its.txn, are);
-        running = with-grant-safe here.setup.catalog here.running sound.running (record standing { age = 0 }) (record { txn = its.txn; id = its.id; wants = its.wants });
+        running = with-grant-safe here.setup.catalog here.me here.running sound.running (record standing { age = 0 }) (record { txn = its.txn; id = its.id; wants = its.wants; homes = its.homes });
       }
 
   voted-safe : (entry : Entry) (from : ℕ) → IsEntryInRange here.setup.catalog entry → IsEntryInRange here.setup.catalog (of_votes.voted entry from)
@@ -308,7 +313,7 @@ module _ (here : Here) (sound : IsSound here) where
     sends = outcome-in-range here sound entry.txn is.txn true (others_than here.me (participants here entry))
         (λ site h. participant-small entry is site (kept-listed (λ site. not (site == here.me)) (participants here entry) site h));
     appended = is.txn;
-    running = without-grant-safe here.setup.catalog (without_entry here.running entry.txn) (without-entry-safe here.setup.catalog here.running sound.running entry.txn) entry.txn;
+    running = without-grant-safe here.setup.catalog here.me (without_entry here.running entry.txn) (without-entry-safe here.setup.catalog here.me here.running sound.running entry.txn) entry.txn;
   }
 
   yes-safe : (from : ℕ) (txn : TxnId) (step : Step) → of_votes.YesCase here from txn step → IsSafe here step
@@ -316,7 +321,7 @@ module _ (here : Here) (sound : IsSound here) where
   yes-safe from txn step (of_votes.ignored entry h i) = same-running
   yes-safe from txn step (of_votes.waits entry vote i) =
       quiet (with_entry here.running (of_votes.voted entry from))
-      (with-entry-safe here.setup.catalog here.running sound.running (of_votes.voted entry from) (voted-safe entry from (voting-safe txn entry vote.found)))
+      (with-entry-safe here.setup.catalog here.me here.running sound.running (of_votes.voted entry from) (voted-safe entry from (voting-safe txn entry vote.found)))
   yes-safe from txn step (of_votes.no_room entry vote i j) = refusing-safe (of_votes.voted entry from) _ (voted-safe entry from (voting-safe txn entry vote.found))
   yes-safe from txn step (of_votes.commits entry vote i j) = committing-safe (of_votes.voted entry from) (voted-safe entry from (voting-safe txn entry vote.found))
 
@@ -334,11 +339,11 @@ module _ (here : Here) (sound : IsSound here) where
   outcome-safe from txn commits is step (of_outcomes.learns h i j) = record {
     sends = All-nil (IsSentInRange here);
     appended = is;
-    running = without-grant-safe here.setup.catalog here.running sound.running txn;
+    running = without-grant-safe here.setup.catalog here.me here.running sound.running txn;
   }
   outcome-safe from txn commits is step (of_outcomes.nothing_to_do h i j) = same-running
   outcome-safe from txn commits is step (of_outcomes.releases h i j) =
-      quiet (without_grant here.running txn) (without-grant-safe here.setup.catalog here.running sound.running txn)
+      quiet (without_grant here.running txn) (without-grant-safe here.setup.catalog here.me here.running sound.running txn)
 
   ask-safe : (from : ℕ) (txn : TxnId) → from < MAX_SITES → IsTxnInRange txn → (step : Step) → of_outcomes.AskCase here from txn step → IsSafe here step
   ask-safe from txn small is step (of_outcomes.not_issued h) = same-running
@@ -355,27 +360,28 @@ module _ (here : Here) (sound : IsSound here) where
     pub ascending : AreAscending txns
     pub each : (t : TxnId) → Contains txns t → IsTxnInRange t
 
-  names-safe : (items : List ℕ) → AreNamedSafe (names_shown here.setup.catalog here.records items)
-  names-safe [] = record { ascending = none-ascend; each = λ t h. absurd (Contains-nil t h) }
-  names-safe (item ∷ items) =
-      let rest = names-safe items in
+  names-safe : (items : List ℕ) → All (λ item. IsTrue (is_home here.setup.catalog here.me item)) items
+      → AreNamedSafe (names_shown here.setup.catalog here.records items)
+  names-safe [] homes = record { ascending = none-ascend; each = λ t h. absurd (Contains-nil t h) }
+  names-safe (item ∷ items) homes =
+      let rest = names-safe items (all-tail (λ n. IsTrue (is_home here.setup.catalog here.me n)) item items homes) in
       let value = shown here.setup.catalog here.records item in
       let both = united (names_of value) (names_shown here.setup.catalog here.records items) rest.ascending in
       record {
         ascending = both.ascending;
         each = λ t h. ⊎_elim
-            (λ first. names-in-range value (shown-here here sound item).each t (listed-names value t first))
+            (λ first. names-in-range value (shown-here here sound item (all-head (λ n. IsTrue (is_home here.setup.catalog here.me n)) item items homes)).each t (listed-names value t first))
             (λ behind. rest.each t behind)
             (both.only t h);
       }
 
-  asks-safe : (running : Running) → All (IsSentInRange here) (ask_sends (without_grants running (named_here here)))
+  asks-safe : (running : Running) → All (IsSentInRange here) (ask_sends (ungranted running (named_here here)))
   unfolding named_here
   asks-safe running =
       let named = names_shown here.setup.catalog here.records (items_here here) in
-      let all = names-safe (items_here here) in
-      All-map (IsSentInRange here) (λ (txn : TxnId). record { to = txn.site.0; message = ask txn }) (without_grants running named)
-      (all-from (λ (txn : TxnId). IsSentInRange here (record { to = txn.site.0; message = ask txn })) (without_grants running named)
+      let all = names-safe (items_here here) (all-from (λ n. IsTrue (is_home here.setup.catalog here.me n)) (items_here here) (λ n h. items-home here n h)) in
+      All-map (IsSentInRange here) (λ (txn : TxnId). record { to = txn.site.0; message = ask txn }) (ungranted running named)
+      (all-from (λ (txn : TxnId). IsSentInRange here (record { to = txn.site.0; message = ask txn })) (ungranted running named)
       (λ txn h.
       let is = all.each txn (kept-listed (λ txn. is_none (grant_of running txn)) named txn h) in
       record { from = me-in-range here sound; to = is.site; txn = is; body = tt }))
@@ -388,13 +394,13 @@ module _ (here : Here) (sound : IsSound here) where
       let is = All-contains (IsEntryInRange here.setup.catalog) here.running.entries entry sound.running.entries h in
       record { txn = is.txn; program = is.program; taken = is.taken }))
 
-  older-grants-safe : All IsHeldInRange (older_grants here.running.grants)
+  older-grants-safe : All IsHeld (older_grants here.running.grants)
   older-grants-safe =
-      All-map IsHeldInRange (λ (grant : Grant). record grant { age = grant.age + 1 }) here.running.grants
-      (all-from (λ (grant : Grant). IsHeldInRange (record grant { age = grant.age + 1 })) here.running.grants
+      All-map IsHeld (λ (grant : Grant). record grant { age = grant.age + 1 }) here.running.grants
+      (all-from (λ (grant : Grant). IsHeld (record grant { age = grant.age + 1 })) here.running.grants
       (λ grant h.
-      let is = All-contains IsHeldInRange here.running.grants grant sound.running.grants h in
-      record { txn = is.txn; id = is.id; wants = is.wants }))
+      let is = All-contains IsHeld here.running.grants grant sound.running.grants h in
+      record { txn = is.txn; id = is.id; wants = is.wants; homes = is.homes }))
 
   expiry-safe : All (IsSentInRange here) (expiry_sends here (expired_entries (older_entries here.running.entries)))
   expiry-safe =
@@ -409,13 +415,13 @@ module _ (here : Here) (sound : IsSound here) where
   unfolding on_tick
   tick-safe = record {
     sends = All-append (IsSentInRange here) (expiry_sends here (expired_entries (older_entries here.running.entries)))
-        (ask_sends (without_grants (older here.running) (named_here here))) expiry-safe (asks-safe (older here.running));
+        (ask_sends (ungranted (older here.running) (named_here here))) expiry-safe (asks-safe (older here.running));
     appended = tt;
     running = record {
       epoch = sound.running.epoch;
       next_txn = sound.running.next_txn;
       next_grant = sound.running.next_grant;
-      grants = All-filter (λ (grant : Grant). nat_lt grant.age TICKS) IsHeldInRange (older_grants here.running.grants) older-grants-safe;
+      grants = All-filter (λ (grant : Grant). nat_lt grant.age TICKS) IsHeld (older_grants here.running.grants) older-grants-safe;
       entries = All-filter (λ (entry : Entry). nat_lt entry.age TICKS) (IsEntryInRange here.setup.catalog) (older_entries here.running.entries) older-entries-safe;
     };
   }

@@ -16,7 +16,7 @@ use Rattle.pv_model.specs.Check.{names}
 use Rattle.pv_model.specs.Plan.{want_of, wants_from, wants_of, with_site, sites_from, participants_of}
 use Rattle.pv_model.specs.Syntax.{Program}
 use Rattle.pv_protocol.specs.Coordinate.{exclusive_items}
-use Rattle.pv_protocol.specs.Sound.{CanRun}
+use Rattle.pv_protocol.specs.WellFormed.{CanRun}
 
 -- Ascending lists of numbers.
 

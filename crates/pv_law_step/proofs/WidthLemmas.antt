@@ -1,6 +1,6 @@
 -- The width of shown values is kept by every record that a step or a start appends.
 use Rattle.std.proofs.Common.{◌≡◌, ◌⊎◌, ⊎_elim, ℕ, ℤ, ◌≤◌, Bool, true, false, Some, None, Option, List, [], ◌∷◌, ◌++◌, inl, inr, length, refl, sym, ap, subst, ◌∙◌, arith}
-use Rattle.std.specs.Prelude.{◌==◌, ◌||◌, if◌then◌else◌}
+use Rattle.std.specs.Prelude.{◌==◌, ◌||◌, if◌then◌else◌, IsTrue}
 use Rattle.std.specs.List.{list_any}
 use Rattle.std.proofs.lemmas.Bool.{false≢true, eqb-true}
 use Rattle.pv_base.specs.declared.txn.TxnId.{TxnId}
@@ -15,6 +15,7 @@ use Rattle.pv_law_step.proofs.ShownLemmas.{if-same, shown-canonical, shown-value
 use Rattle.pv_law_polyvalues.proofs.AscendingLemmas.{fewer-ascending}
 use Rattle.pv_law_polyvalues.proofs.PolyvalueLemmas.{value_at-agree, depends-named}
 use Rattle.pv_model.specs.Alternatives.{Read}
+use Rattle.pv_protocol.specs.Lock.{is_home}
 use Rattle.pv_protocol.specs.Records.{choice}
 use Rattle.pv_protocol.specs.Shown.{written, written_or, value_after, newest, declared_value, item_within, shown_within, shown}
 use Rattle.pv_protocol.specs.Width.{IsNarrow}
@@ -99,7 +100,7 @@ module _ (catalog : Declared) where
       narrower records front (records ++ more ∷ []) front item (told_by more) (told-alike more)
       (λ a. ap (λ b. newest item b (declared_value catalog item) front) (choice-more records more a))
 
-  module _ (limit : ℕ) (records : List Record) (narrow : IsNarrow limit catalog records) (txn : TxnId) (writes : List Read) where
+  module _ (limit site : ℕ) (records : List Record) (narrow : IsNarrow limit catalog site records) (txn : TxnId) (writes : List Read) where
     abbrev all : List Record
     all = records ++ prepared txn writes ∷ []
 
@@ -114,46 +115,46 @@ module _ (catalog : Declared) where
         ∙ ap (λ cases. if commits (choice records a) txn then written_or old-value cases (choice records a) else old-value) none
         ∙ if-same (commits (choice records a) txn) old-value
 
-    unwritten-fits : (item : ℕ) → written item writes ≡ None → Ending records → length (names_of (shown catalog all item)) ≤ limit
-    unwritten-fits item none (unwritten same) =
+    unwritten-fits : (item : ℕ) → IsTrue (is_home catalog site item) → written item writes ≡ None → Ending records → length (names_of (shown catalog all item)) ≤ limit
+    unwritten-fits item home none (unwritten same) =
         omega (arith, nameless all all item (declared_value catalog item) (λ a. same-value item none a ∙ same item (choice records a) (declared_value catalog item)))
-    unwritten-fits item none (written_last before after last others split same) =
+    unwritten-fits item home none (written_last before after last others split same) =
         omega (
           arith,
           narrower records (before ++ prepared last others ∷ []) all all item (λ a. a) (λ a b t alike. alike)
               (λ a. same-value item none a ∙ same item (choice records a) (declared_value catalog item)),
-          narrow.few before after last others item split,
+          narrow.few before after last others item home split,
         )
 
     written-fits : ((item : ℕ) (cases : List (Case ℤ)) → written item writes ≡ Some cases → length (names_of (shown catalog all item)) ≤ limit)
-        → (item : ℕ) (cases : Option (List (Case ℤ))) → written item writes ≡ cases → length (names_of (shown catalog all item)) ≤ limit
-    written-fits fits item (Some cases) is = fits item cases is
-    written-fits fits item None is = unwritten-fits item is (ending records)
+        → (item : ℕ) → IsTrue (is_home catalog site item) → (cases : Option (List (Case ℤ))) → written item writes ≡ cases → length (names_of (shown catalog all item)) ≤ limit
+    written-fits fits item home (Some cases) is = fits item cases is
+    written-fits fits item home None is = unwritten-fits item home is (ending records)
 
-    -- A promise by which no written item becomes too wide keeps all narrow.
+    -- A promise by which no written item becomes too wide keeps the site narrow.
     pub promise-narrow : ((item : ℕ) (cases : List (Case ℤ)) → written item writes ≡ Some cases → length (names_of (shown catalog all item)) ≤ limit)
-        → IsNarrow limit catalog all
+        → IsNarrow limit catalog site all
     promise-narrow fits = record {
-      few = λ before after of these item split. ⊎_elim
-          (λ last. promised-last fits before of these item last.0 last.1)
-          (λ earlier. omega (arith, with-more records (before ++ prepared of these ∷ []) (prepared txn writes) item, narrow.few before earlier.0 of these item earlier.1))
+      few = λ before after of these item home split. ⊎_elim
+          (λ last. promised-last fits before of these item home last.0 last.1)
+          (λ earlier. omega (arith, with-more records (before ++ prepared of these ∷ []) (prepared txn writes) item, narrow.few before earlier.0 of these item home earlier.1))
           (ends records (prepared txn writes) before (prepared of these) after split);
     } where
       promised-last : ((item : ℕ) (cases : List (Case ℤ)) → written item writes ≡ Some cases → length (names_of (shown catalog all item)) ≤ limit)
-          → (before : List Record) (of : TxnId) (these : List Read) (item : ℕ) → before ≡ records → prepared txn writes ≡ prepared of these
+          → (before : List Record) (of : TxnId) (these : List Read) (item : ℕ) → IsTrue (is_home catalog site item) → before ≡ records → prepared txn writes ≡ prepared of these
           → length (names_of (shown_within catalog all (before ++ prepared of these ∷ []) item)) ≤ limit
-      promised-last fits before of these item same-front same-last =
+      promised-last fits before of these item home same-front same-last =
           subst (λ front. length (names_of (shown_within catalog all front item)) ≤ limit)
           (ap (λ last. records ++ last ∷ []) same-last ∙ ap (λ front. front ++ prepared of these ∷ []) (sym same-front))
-          (written-fits fits item (written item writes) refl)
+          (written-fits fits item home (written item writes) refl)
 
-  -- A record that is no promise keeps all narrow.
-  pub other-narrow : (limit : ℕ) (records : List Record) → IsNarrow limit catalog records → (more : Record)
-      → ((txn : TxnId) (writes : List Read) → more ≡ prepared txn writes → ⊥) → IsNarrow limit catalog (records ++ more ∷ [])
-  other-narrow limit records narrow more other = record {
-    few = λ before after of these item split. ⊎_elim
+  -- A record that is no promise keeps the site narrow.
+  pub other-narrow : (limit site : ℕ) (records : List Record) → IsNarrow limit catalog site records → (more : Record)
+      → ((txn : TxnId) (writes : List Read) → more ≡ prepared txn writes → ⊥) → IsNarrow limit catalog site (records ++ more ∷ [])
+  other-narrow limit site records narrow more other = record {
+    few = λ before after of these item home split. ⊎_elim
         (λ last. absurd (other of these last.1))
-        (λ earlier. omega (arith, with-more records (before ++ prepared of these ∷ []) more item, narrow.few before earlier.0 of these item earlier.1))
+        (λ earlier. omega (arith, with-more records (before ++ prepared of these ∷ []) more item, narrow.few before earlier.0 of these item home earlier.1))
         (ends records more before (prepared of these) after split);
   }
 
@@ -176,9 +177,9 @@ none-written p (write ∷ writes) none item cases is =
     written-by p (write.item == item) item write (written item writes) cases refl parts.0 (λ later. none-written p writes parts.1 item cases later) is
 
 -- What is shown now is what was shown after the last promise.
-pub narrow-now : (limit : ℕ) (catalog : Declared) (records : List Record) → IsNarrow limit catalog records → (item : ℕ)
-    → length (names_of (shown catalog records item)) ≤ limit
-narrow-now limit catalog records narrow item = now-by (ending records) where
+pub narrow-now : (limit : ℕ) (catalog : Declared) (site : ℕ) (records : List Record) → IsNarrow limit catalog site records → (item : ℕ)
+    → IsTrue (is_home catalog site item) → length (names_of (shown catalog records item)) ≤ limit
+narrow-now limit catalog site records narrow item home = now-by (ending records) where
   now-by : Ending records → length (names_of (shown catalog records item)) ≤ limit
   now-by (unwritten same) =
       omega (arith, nameless catalog records records item (declared_value catalog item) (λ a. same item (choice records a) (declared_value catalog item)))
@@ -187,10 +188,10 @@ narrow-now limit catalog records narrow item = now-by (ending records) where
         arith,
         narrower catalog records (before ++ prepared txn writes ∷ []) records records item (λ a. a) (λ a b t alike. alike)
             (λ a. same item (choice records a) (declared_value catalog item)),
-        narrow.few before after txn writes item split,
+        narrow.few before after txn writes item home split,
       )
 
--- An item that a promise doesn't write stays narrow.
-pub unwritten-narrow : (limit : ℕ) (catalog : Declared) (records : List Record) → IsNarrow limit catalog records → (txn : TxnId) (writes : List Read) (item : ℕ)
-    → written item writes ≡ None → length (names_of (shown catalog (records ++ prepared txn writes ∷ []) item)) ≤ limit
-unwritten-narrow limit catalog records narrow txn writes item none = unwritten-fits catalog limit records narrow txn writes item none (ending records)
+-- An item of the site that a promise doesn't write stays narrow.
+pub unwritten-narrow : (limit : ℕ) (catalog : Declared) (site : ℕ) (records : List Record) → IsNarrow limit catalog site records → (txn : TxnId) (writes : List Read) (item : ℕ)
+    → IsTrue (is_home catalog site item) → written item writes ≡ None → length (names_of (shown catalog (records ++ prepared txn writes ∷ []) item)) ≤ limit
+unwritten-narrow limit catalog site records narrow txn writes item home none = unwritten-fits catalog limit site records narrow txn writes item home none (ending records)

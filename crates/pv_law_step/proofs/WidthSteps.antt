@@ -15,21 +15,21 @@ use Rattle.pv_protocol.specs.Step.{records_after, step_on}
 use Rattle.pv_protocol.specs.Vote.{would_be_wide}
 use Rattle.pv_protocol.specs.Width.{IsNarrow}
 
-module _ (here : Here) (narrow : IsNarrow here.setup.held_names here.setup.catalog here.records) where
-  promised : (txn : TxnId) (writes : List Read) → IsPromise here txn writes → IsNarrow here.setup.held_names here.setup.catalog (here.records ++ prepared txn writes ∷ [])
+module _ (here : Here) (narrow : IsNarrow here.setup.held_names here.setup.catalog here.me here.records) where
+  promised : (txn : TxnId) (writes : List Read) → IsPromise here txn writes → IsNarrow here.setup.held_names here.setup.catalog here.me (here.records ++ prepared txn writes ∷ [])
   promised txn writes is =
       let none = or-none _ _ is.right in
       let same : is.grant.txn ≡ txn = sym (grant-txn here.running txn is.grant is.stands) in
-      promise-narrow here.setup.catalog here.setup.held_names here.records narrow txn writes
+      promise-narrow here.setup.catalog here.setup.held_names here.me here.records narrow txn writes
       (λ item cases written. ltb-false _ _
       (subst (λ t. would_be_wide here (prepared t writes) item ≡ false) same
       (none-written (would_be_wide here (prepared is.grant.txn writes)) writes none.1 item cases written)))
 
-  kept : (more : Option Record) → Appends here more → IsNarrow here.setup.held_names here.setup.catalog (here.records ++ option_to_list more)
-  kept more nothing_at_all = subst (IsNarrow here.setup.held_names here.setup.catalog) (sym (append-nil here.records)) narrow
-  kept more (an_outcome txn commits room) = other-narrow here.setup.catalog here.setup.held_names here.records narrow (outcome_known txn commits) (λ of writes same. cc)
+  kept : (more : Option Record) → Appends here more → IsNarrow here.setup.held_names here.setup.catalog here.me (here.records ++ option_to_list more)
+  kept more nothing_at_all = subst (IsNarrow here.setup.held_names here.setup.catalog here.me) (sym (append-nil here.records)) narrow
+  kept more (an_outcome txn commits room) = other-narrow here.setup.catalog here.setup.held_names here.me here.records narrow (outcome_known txn commits) (λ of writes same. cc)
   kept more (a_promise txn writes is room) = promised txn writes is
 
-pub step-narrow : (here : Here) (input : Input) → IsNarrow here.setup.held_names here.setup.catalog here.records
-    → IsNarrow here.setup.held_names here.setup.catalog (records_after here.records (step_on here input))
+pub step-narrow : (here : Here) (input : Input) → IsNarrow here.setup.held_names here.setup.catalog here.me here.records
+    → IsNarrow here.setup.held_names here.setup.catalog here.me (records_after here.records (step_on here input))
 step-narrow here input narrow = kept here narrow _ (steady here input).appends

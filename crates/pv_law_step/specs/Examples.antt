@@ -8,7 +8,7 @@ use Rattle.pv_format.specs.Message.{lock, prepare}
 use Rattle.pv_format.specs.Record.{Record, epoch_begun}
 use Rattle.pv_model.specs.Alternatives.{Read}
 use Rattle.pv_model.specs.Syntax as syntax
-use Rattle.pv_protocol.specs.Start.{fresh}
+use Rattle.pv_protocol.specs.Start.{just_started}
 use Rattle.pv_protocol.specs.State.{Setup, Running, Input, submit, receive, tick, Note, Outgoing, Step}
 use Rattle.pv_protocol.specs.Step.{site_step}
 
@@ -81,7 +81,7 @@ pump (suc count) setup me play = let next : Play = take_first setup me play play
 
 -- a site that has just started
 abbrev pub started : Play
-started = record { records = epoch_begun 1 ∷ []; running = fresh 1; waiting = []; notes = [] }
+started = record { records = epoch_begun 1 ∷ []; running = just_started 1; waiting = []; notes = [] }
 
 -- the site takes inputs
 abbrev pub take_all : Setup → ℕ → Play → List Input → Play
@@ -92,10 +92,14 @@ take_all setup me play (input ∷ inputs) = let next : Play = take setup me play
 unfoldable pub alone : Play
 alone = pump 6 bank 0 (take bank 0 started (submit raise))
 
--- Site 1 grants `b` to a transaction of site 0, prepares 60, and hears no more of it for three ticks.
-unfoldable pub in_doubt : Play
-in_doubt =
+-- Site 1 grants `b` to a transaction of site 0, prepares 60, and hears no more of it for two ticks.
+unfoldable pub almost_in_doubt : Play
+almost_in_doubt =
     take_all bank 1 started
     (receive 0 (lock (txn_at 0 0) (record { item = 1; exclusive = true } ∷ []))
     ∷ receive 0 (prepare (txn_at 0 0) (record { epoch = 1; number = 0 }) (write 1 (sure (pos 60)) ∷ []))
-    ∷ tick ∷ tick ∷ tick ∷ [])
+    ∷ tick ∷ tick ∷ [])
+
+-- Then it ticks a third time.
+unfoldable pub in_doubt : Play
+in_doubt = take bank 1 almost_in_doubt tick

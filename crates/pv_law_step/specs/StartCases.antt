@@ -3,7 +3,7 @@ use Rattle.std.specs.Prelude.{◌≡◌, ◌+◌, nat_lt, nat_le, true, false, L
 use Rattle.pv_base.specs.declared.limits.TheConstants.{NEVER_GIVEN}
 use Rattle.pv_format.specs.Record.{Record, epoch_begun}
 use Rattle.pv_protocol.specs.Records.{last_epoch, record_bytes, journal_bytes}
-use Rattle.pv_protocol.specs.Start.{Started, starts, too_long, no_epoch, fresh}
+use Rattle.pv_protocol.specs.Start.{Started, starts, too_long, no_epoch, just_started}
 use Rattle.pv_protocol.specs.State.{Setup}
 
 -- The cases of a start.
@@ -14,4 +14,4 @@ pub data StartCase (setup : Setup) (records : List Record) : Started → Type 0 
       → StartCase setup records (too_long (journal_bytes records + record_bytes (epoch_begun (last_epoch records + 1))))
   begins : nat_le NEVER_GIVEN (last_epoch records + 1) ≡ false
       → nat_lt setup.catalog.journal (journal_bytes records + record_bytes (epoch_begun (last_epoch records + 1))) ≡ false
-      → StartCase setup records (starts (fresh (last_epoch records + 1)) (epoch_begun (last_epoch records + 1)))
+      → StartCase setup records (starts (just_started (last_epoch records + 1)) (epoch_begun (last_epoch records + 1)))

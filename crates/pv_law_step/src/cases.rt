@@ -25,7 +25,7 @@ pub fn request_cases()
     ensures { (here : Here) (program : Program) → SubmitCase here program (on_submit here program) }
 {}
 
-/// Locks are ignored, granted again, denied or granted.
+/// Locks are ignored, also where the transaction's grant is of others; told again, denied, or granted, unless no number is left.
 pub fn lock_cases()
     ensures { (here : Here) (from : ℕ) (txn : TxnId) (wants : List Want) → LockCase here from txn wants (on_lock here from txn wants) }
 {}
@@ -58,7 +58,7 @@ pub fn no_cases()
     ensures { (here : Here) (from : ℕ) (txn : TxnId) (cause : NoCause) → NoCase here from txn cause (on_no here from txn cause) }
 {}
 
-/// An outcome is ignored, recorded, or ends a grant.
+/// An outcome is ignored, recorded if there is room, or ends a grant.
 pub fn outcome_cases()
     ensures { (here : Here) (from : ℕ) (txn : TxnId) (commits : Bool) → OutcomeCase here from txn commits (on_outcome here from txn commits) }
 {}

@@ -15,10 +15,11 @@ ghost use Rattle.pv_model.specs.Plan.{participants_of, wants_of};
 ghost use Rattle.pv_model.specs.Syntax.{Program};
 ghost use Rattle.pv_protocol.specs.Here.{Here};
 ghost use Rattle.pv_protocol.specs.Shown.{shown};
-ghost use Rattle.pv_protocol.specs.Sound.{CanRun, IsInputInRange, IsSentInRange, IsSetupInRange, IsSound, has_small_numbers};
+ghost use Rattle.pv_protocol.specs.Sound.{IsInputInRange, IsSentInRange, IsSetupInRange, IsHereInRange};
 ghost use Rattle.pv_protocol.specs.Start.{site_start, starts};
 ghost use Rattle.pv_protocol.specs.State.{Input, Running, Setup};
 ghost use Rattle.pv_protocol.specs.Step.{after_step, records_after, step_on};
+ghost use Rattle.pv_protocol.specs.WellFormed.{CanRun, has_small_numbers};
 ghost use Rattle.pv_protocol.specs.Width.{IsNarrow};
 
 /// A program of numbers of 64 bits leaves values of 64 bits where it finds such values.
@@ -42,29 +43,29 @@ pub fn plans_are_in_range()
 
 /// What a site sends is in range where what it holds and what it is given is.
 pub fn sends_are_in_range()
-    ensures { (here : Here) (input : Input) → IsSound here → IsInputInRange here input → All (IsSentInRange here) (step_on here input).sends }
+    ensures { (here : Here) (input : Input) → IsHereInRange here → IsInputInRange here input → All (IsSentInRange here) (step_on here input).sends }
 {}
 
 /// What a site holds stays in range where what it is given is.
 pub fn steps_stay_sound()
-    ensures { (here : Here) (input : Input) → IsSound here → IsInputInRange here input → IsSound (after_step here (step_on here input)) }
+    ensures { (here : Here) (input : Input) → IsHereInRange here → IsInputInRange here input → IsHereInRange (after_step here (step_on here input)) }
 {}
 
 /// A site that starts is sound where its records are in range and narrow.
 pub fn starts_are_sound()
     ensures { (setup : Setup) (me : ℕ) (records : List Record) → IsSetupInRange setup → me < setup.catalog.sites → All IsRecordInRange records →
-        IsNarrow setup.held_names setup.catalog records → (running : Running) (new : Record) → site_start setup records ≡ starts running new →
-        IsSound (record { me = me; setup = setup; records = records ++ new ∷ []; running = running }) }
+        IsNarrow setup.held_names setup.catalog me records → (running : Running) (new : Record) → site_start setup records ≡ starts running new →
+        IsHereInRange (record { me = me; setup = setup; records = records ++ new ∷ []; running = running }) }
 {}
 
 /// Each message that a site sends has a spelling, where what it holds and what it is given is in range.
 pub fn sends_are_spelled()
-    ensures { (here : Here) (input : Input) → IsSound here → IsInputInRange here input →
+    ensures { (here : Here) (input : Input) → IsHereInRange here → IsInputInRange here input →
         All (λ sent. (bytes : List ℕ) × SpellsEnvelope (record { from = here.me; to = sent.to; message = sent.message }) bytes) (step_on here input).sends }
 {}
 
 /// The records of a site have spellings, also the one that a step appends.
 pub fn records_are_spelled()
-    ensures { (here : Here) (input : Input) → IsSound here → IsInputInRange here input →
+    ensures { (here : Here) (input : Input) → IsHereInRange here → IsInputInRange here input →
         All (λ kept. (bytes : List ℕ) × SpellsRecord kept bytes) (records_after here.records (step_on here input)) }
 {}

@@ -6,15 +6,16 @@ ghost use Rattle.pv_base.specs.declared.txn.TxnId.{TxnId};
 ghost use Rattle.pv_format.specs.Message.{NoCause};
 ghost use Rattle.pv_format.specs.Range.{AreItemsInRange};
 ghost use Rattle.pv_law_step.specs.Appends.{Appends, Rises};
+ghost use Rattle.pv_law_step.specs.GrantCases.{IsLastGrant};
 ghost use Rattle.pv_model.specs.Alternatives.{Read};
 ghost use Rattle.pv_model.specs.Syntax.{Program};
-ghost use Rattle.pv_protocol.specs.Conflicts.{IsLeastConflict};
-ghost use Rattle.pv_protocol.specs.Granted.{on_denied, on_granted};
+ghost use Rattle.pv_protocol.specs.Conflicts.{IsConflict, IsLeastConflict};
+ghost use Rattle.pv_protocol.specs.Granted.{grants_taken, on_denied, on_granted, taking};
 ghost use Rattle.pv_protocol.specs.Here.{Here};
 ghost use Rattle.pv_protocol.specs.Keyed.{AreInOrder};
 ghost use Rattle.pv_protocol.specs.Lock.{Conflict, first_conflict, on_lock, on_submit};
 ghost use Rattle.pv_protocol.specs.Outcome.{on_ask, on_outcome};
-ghost use Rattle.pv_protocol.specs.State.{Grant, Input};
+ghost use Rattle.pv_protocol.specs.State.{Entry, Grant, Input, Placed};
 ghost use Rattle.pv_protocol.specs.Step.{step_on};
 ghost use Rattle.pv_protocol.specs.Tick.{on_tick};
 ghost use Rattle.pv_protocol.specs.Vote.{on_no, on_prepare, on_yes};
@@ -29,7 +30,7 @@ pub fn numbers_rise()
     ensures { (here : Here) (input : Input) → Rises here.running (step_on here input).running }
 {}
 
-/// Requests, locks, answers to locks, no votes, questions and ticks append nothing.
+/// Requests, locks, answers to locks, votes for no, questions and ticks append nothing.
 pub fn few_inputs_append()
     ensures requests { (here : Here) (program : Program) → (on_submit here program).appended ≡ None }
     ensures locks { (here : Here) (from : ℕ) (txn : TxnId) (wants : List Want) → (on_lock here from txn wants).appended ≡ None }
@@ -40,10 +41,13 @@ pub fn few_inputs_append()
     ensures ticks { (here : Here) → (on_tick here).appended ≡ None }
 {}
 
-/// A transaction reaches its lock point only with the last grant.
+/// A transaction reaches its lock point only when its coordinator takes the last of its grants, and with those grants.
 pub fn only_grants_place()
     ensures requests { (here : Here) (program : Program) → (on_submit here program).placed ≡ None }
     ensures locks { (here : Here) (from : ℕ) (txn : TxnId) (wants : List Want) → (on_lock here from txn wants).placed ≡ None }
+    ensures grants { (here : Here) (from : ℕ) (txn : TxnId) (grant : GrantId) (values : List Read) (placed : Placed) →
+        (on_granted here from txn grant values).placed ≡ Some placed →
+        (entry : Entry) × IsLastGrant here from txn grant values entry × (placed.grants ≡ grants_taken (taking entry from grant values)) }
     ensures denials { (here : Here) (from : ℕ) (txn : TxnId) (item : ℕ) (holder : TxnId) → (on_denied here from txn item holder).placed ≡ None }
     ensures prepares { (here : Here) (from : ℕ) (txn : TxnId) (grant : GrantId) (writes : List Read) → (on_prepare here from txn grant writes).placed ≡ None }
     ensures votes { (here : Here) (from : ℕ) (txn : TxnId) → (on_yes here from txn).placed ≡ None }
@@ -53,8 +57,10 @@ pub fn only_grants_place()
     ensures ticks { (here : Here) → (on_tick here).placed ≡ None }
 {}
 
-/// A denial names the least item over which there is a conflict, and its least holder.
+/// A denial names the least item over which there is a conflict, and its least holder. Where it names none, there is no conflict.
 pub fn denials_name_the_least()
-    ensures { (grants : List Grant) (wants : List Want) → AreInOrder (λ (grant : Grant). grant.txn) grants → AreItemsInRange (map (λ (want : Want). want.item) wants) →
+    ensures none { (grants : List Grant) (wants : List Want) → first_conflict grants wants ≡ None →
+        (item : ℕ) (holder : TxnId) → IsConflict grants wants item holder → ⊥ }
+    ensures least { (grants : List Grant) (wants : List Want) → AreInOrder (λ (grant : Grant). grant.txn) grants → AreItemsInRange (map (λ (want : Want). want.item) wants) →
         (conflict : Conflict) → first_conflict grants wants ≡ Some conflict → IsLeastConflict grants wants conflict.item conflict.holder }
 {}

@@ -1,19 +1,21 @@
 -- A world without armed faults does what the same world does with them, but for where they fire.
 use Rattle.std.proofs.Common.{arith, ◌≡◌, ℕ, zero, suc, ◌<◌, Bool, true, false, Some, None, Option, List, [], ◌∷◌, ◌++◌, map, refl, sym, ap, ◌∙◌, subst}
-use Rattle.std.specs.Prelude.{set, slice_get, option_to_list, replicate, nat_lt, ◌+◌, ◌&&◌, filter, if◌then◌else◌}
+use Rattle.std.specs.Prelude.{set, slice_get, option_to_list, replicate, nat_lt, ◌+◌, ◌&&◌, filter, if◌then◌else◌, All}
 use Rattle.std.specs.List.{list_all}
 use Rattle.std.proofs.lemmas.List.{map-set}
+use Rattle.std.proofs.lemmas.List.Elements.{All-head, All-tail}
 use Rattle.std.proofs.Math.ListN as lists
 use Rattle.pv_base.specs.Catalog.{Item}
 use Rattle.pv_base.specs.declared.txn.TxnId.{TxnId}
 use Rattle.pv_format.specs.Message.{Envelope}
 use Rattle.pv_format.specs.Record.{Record}
+use Rattle.pv_law_world.proofs.RunRangeLemmas.{HasGoodEvent, run-good}
 use Rattle.pv_law_world.proofs.TransitionLemmas.{run-transitions}
 use Rattle.pv_law_world.specs.Transitions.{AreTransitions, one_more}
 use Rattle.pv_model.specs.Events.{Event}
-use Rattle.pv_protocol.specs.Anywhere.{MayEnd, whole, without, with_record, MayCome, at_once, by_attempt, disarmed_site, disarmed, MayFollow, IsAnyRun, ends, goes_on, without_arms}
+use Rattle.pv_protocol.specs.Anywhere.{MayEnd, whole, without, with_record, MayCome, without_attempt, by_attempt, disarmed_site, disarmed, MayFollow, IsRunWithFaults, ends, goes_on, without_arms}
 use Rattle.pv_protocol.specs.Arms.{Reached, waits, fires, reached, calls_of, is_kept, completed, broken, broken_line, attempted}
-use Rattle.pv_protocol.specs.Attempt.{Attempt, Begun, settled, attempts, begun, given, delivered, lost, halted, opened, without_site, of_step, of_start}
+use Rattle.pv_protocol.specs.Attempt.{Attempt, Begun, at_once, attempts, begun, given, delivered, lost, halted, opened, without_site, of_step, of_start}
 use Rattle.pv_protocol.specs.Committed.{is_committed, entry_of, is_bound, is_open}
 use Rattle.pv_protocol.specs.Lines.{Line}
 use Rattle.pv_protocol.specs.Report.{readings_from, report_of, total_of, sent_lines}
@@ -21,6 +23,7 @@ use Rattle.pv_protocol.specs.Run.{run}
 use Rattle.pv_protocol.specs.Start.{site_start}
 use Rattle.pv_protocol.specs.State.{Setup, Running, Site, Arm, Input, submit, receive, tick, TakenGrant, Placed}
 use Rattle.pv_protocol.specs.Step.{site_step}
+use Rattle.pv_protocol.specs.WellFormed.{IsWellFormed}
 use Rattle.pv_protocol.specs.World.{World, no_site, first_site, site_at, with_site, with_done, opening}
 use Rattle.pv_protocol.specs.WorldStep.{Transition, ended, transition_of}
 
@@ -80,7 +83,7 @@ module _ (setup : Setup) (world : World) where
 
 -- Both print the same and leave worlds that differ in armed faults alone, or both attempt the same in such worlds.
 data AreSame : Begun → Begun → Type 0 where
-  both_settle : (lines : List Line) (after other : World) → disarmed after ≡ disarmed other → AreSame (settled lines after) (settled lines other)
+  both_settle : (lines : List Line) (after other : World) → disarmed after ≡ disarmed other → AreSame (at_once lines after) (at_once lines other)
   both_attempt : (before : World) (n : ℕ) (attempt : Attempt) → AreSame (attempts before n attempt) (attempts (disarmed before) n attempt)
 
 disarmed-twice : (world : World) → disarmed world ≡ disarmed (disarmed world)
@@ -134,9 +137,9 @@ module _ (setup : Setup) where
       (records-same world n) (both_attempt world n _)
 
   -- the same lines, with nothing changed
-  printed-same : (world : World) (lines others : List Line) → others ≡ lines → AreSame (settled lines world) (settled others (disarmed world))
+  printed-same : (world : World) (lines others : List Line) → others ≡ lines → AreSame (at_once lines world) (at_once others (disarmed world))
   printed-same world lines others is =
-      subst (λ (all : List Line). AreSame (settled lines world) (settled all (disarmed world))) (sym is)
+      subst (λ (all : List Line). AreSame (at_once lines world) (at_once all (disarmed world))) (sym is)
       (both_settle lines world (disarmed world) (disarmed-twice world))
 
   begun-same : (world : World) (event : Event) → AreSame (begun setup world event) (begun setup (disarmed world) event)
@@ -214,23 +217,25 @@ module _ (before : World) (n : ℕ) (attempt : Attempt) where
       left-possible arm.stops (fires-among (calls_of attempt) (site_at before n).arm arm is) (nat_lt (attempt.syncs + 2) arm.call && is_kept arm.mode) attempt.appended refl
 
 ended-possible : (b other : Begun) → AreSame b other → IsPossible other (ended b).0 (ended b).1
-ended-possible b other (both_settle lines after left same) = record { left = left; comes = at_once lines left; after = same }
+ended-possible b other (both_settle lines after left same) = record { left = left; comes = without_attempt lines left; after = same }
 ended-possible b other (both_attempt before n attempt) =
     reached-possible before n attempt (reached (calls_of attempt) (site_at before n).arm) refl
 
-transition-may : (setup : Setup) (world : World) (event : Event) → MayFollow setup (disarmed world) (without_arms (transition_of setup world event))
+transition-may : (setup : Setup) (world : World) (event : Event) → IsWellFormed setup.catalog event → MayFollow setup (disarmed world) (without_arms (transition_of setup world event))
 unfolding transition_of
-transition-may setup world event =
+transition-may setup world event well =
     let possible : IsPossible (begun setup (disarmed world) event) (ended (begun setup world event)).0 (ended (begun setup world event)).1 =
     ended-possible (begun setup world event) (begun setup (disarmed world) event) (begun-same setup world event) in
-    record { left = possible.left; comes = possible.comes; after = possible.after }
+    record { well = well; left = possible.left; comes = possible.comes; after = possible.after }
 
-transitions-may : (setup : Setup) (world : World) (transitions : List Transition) → AreTransitions setup world transitions → IsAnyRun setup (disarmed world) (map without_arms transitions)
-transitions-may setup world [] are = ends (disarmed world)
-transitions-may setup world (transition ∷ transitions) (one_more world' transition' transitions' is rest) =
+transitions-may : (setup : Setup) (world : World) (transitions : List Transition) → AreTransitions setup world transitions → All (HasGoodEvent setup) transitions
+    → IsRunWithFaults setup (disarmed world) (map without_arms transitions)
+transitions-may setup world [] are good = ends (disarmed world)
+transitions-may setup world (transition ∷ transitions) (one_more world' transition' transitions' is rest) good =
     goes_on (disarmed world) (without_arms transition) (map without_arms transitions)
-    (subst (λ (t : Transition). MayFollow setup (disarmed world) (without_arms t)) (sym is) (transition-may setup world transition.event))
-    (transitions-may setup transition.world transitions rest)
+    (subst (λ (t : Transition). MayFollow setup (disarmed world) (without_arms t)) (sym is)
+    (transition-may setup world transition.event (All-head (HasGoodEvent setup) transition transitions good)))
+    (transitions-may setup transition.world transitions rest (All-tail (HasGoodEvent setup) transition transitions good))
 
 opening-disarmed : (setup : Setup) → disarmed (opening setup) ≡ opening setup
 opening-disarmed setup = ap (λ (sites : List Site). record { sites = sites; sent = []; fresh = []; order = [] }) (all-disarmed setup.catalog.sites)
@@ -239,7 +244,8 @@ opening-disarmed setup = ap (λ (sites : List Site). record { sites = sites; sen
     all-disarmed zero = refl
     all-disarmed (suc count) = ap (λ (sites : List Site). first_site ∷ sites) (all-disarmed count)
 
-pub run-may : (setup : Setup) (events : List Event) → IsAnyRun setup (opening setup) (map without_arms (run setup (opening setup) events))
-run-may setup events =
-    subst (λ (first : World). IsAnyRun setup first (map without_arms (run setup (opening setup) events))) (opening-disarmed setup)
-    (transitions-may setup (opening setup) (run setup (opening setup) events) (run-transitions setup (opening setup) events))
+pub run-may : (setup : Setup) (events : List Event) → All (IsWellFormed setup.catalog) events → IsRunWithFaults setup (opening setup) (map without_arms (run setup (opening setup) events))
+run-may setup events good =
+    subst (λ (first : World). IsRunWithFaults setup first (map without_arms (run setup (opening setup) events))) (opening-disarmed setup)
+    (transitions-may setup (opening setup) (run setup (opening setup) events) (run-transitions setup (opening setup) events)
+    (run-good setup (opening setup) events good))

@@ -6,9 +6,10 @@ use Rattle.std.proofs.lemmas.List.Elements.{All-nil, All-map}
 use Rattle.pv_format.specs.Message.{Envelope}
 use Rattle.pv_format.specs.Record.{Record}
 use Rattle.pv_law_world.specs.Pumps.{AreMarked}
+use Rattle.pv_law_world.specs.Transitions.{receiver_of, site_of}
 use Rattle.pv_model.specs.Events.{Event}
 use Rattle.pv_protocol.specs.Arms.{Reached, waits, fires, reached, calls_of, record_left, attempted}
-use Rattle.pv_protocol.specs.Attempt.{Attempt, Begun, settled, attempts, begun, given, delivered, lost, without_site, halted, opened, of_start}
+use Rattle.pv_protocol.specs.Attempt.{Attempt, Begun, at_once, attempts, begun, given, delivered, lost, without_site, halted, opened, of_start}
 use Rattle.pv_protocol.specs.Lines.{Line}
 use Rattle.pv_protocol.specs.Start.{Started, starts, too_long, no_epoch, site_start}
 use Rattle.pv_protocol.specs.State.{Setup, Running, Site, Input, submit, receive, tick, Placed}
@@ -50,11 +51,11 @@ pub record Keeps (world after : World) : Type 0 where
 abbrev pub IsAudible : World → ℕ → Attempt → Type 0
 IsAudible world n attempt = IsSome (site_at world n).running ⊎ (attempt.sends ≡ [])
 
--- What an event comes to before any write leaves all of that as it was.
-pub data Leaves (world : World) : Begun → Type 0 where
-  settles : (lines : List Line) (after : World) → Keeps world after → Leaves world (settled lines after)
+-- What an event of this site, if it is of one, comes to before any write leaves all of that as it was.
+pub data Leaves (world : World) (source : Option ℕ) : Begun → Type 0 where
+  settles : (lines : List Line) (after : World) → Keeps world after → Leaves world source (at_once lines after)
   goes_on : (before : World) (n : ℕ) (attempt : Attempt) → before.sites ≡ world.sites → before.sent ≡ world.sent → before.order ≡ world.order
-      → length before.fresh ≡ length world.fresh → IsAudible world n attempt → Leaves world (attempts before n attempt)
+      → length before.fresh ≡ length world.fresh → source ≡ Some n → IsAudible world n attempt → Leaves world source (attempts before n attempt)
 
 -- the marks are as many without a site
 without-marks : (n : ℕ) (sent : List Envelope) (marks : List Bool) → length (without_site n sent marks) ≡ length marks
@@ -67,16 +68,17 @@ module _ (setup : Setup) (world : World) where
   keeps-all = record { records = λ n. refl; sent = refl; order = refl; marks = refl }
 
   given-leaves : (before : World) → before.sites ≡ world.sites → before.sent ≡ world.sent → before.order ≡ world.order
-      → length before.fresh ≡ length world.fresh → (n : ℕ) (input : Input) (running : Option Running) → (site_at world n).running ≡ running → Leaves world (given setup before n input running)
+      → length before.fresh ≡ length world.fresh → (n : ℕ) (input : Input) (running : Option Running) → (site_at world n).running ≡ running
+      → Leaves world (Some n) (given setup before n input running)
   given-leaves before sites messages order marks n input None is =
       settles _ before (record { records = λ m. ap (λ (all : List Site). (get_or all m no_site).records) sites; sent = messages; order = order; marks = marks })
-  given-leaves before sites messages order marks n input (Some running) is = goes_on before n _ sites messages order marks (inl (ap is_some is))
+  given-leaves before sites messages order marks n input (Some running) is = goes_on before n _ sites messages order marks refl (inl (ap is_some is))
 
-  delivered-leaves : (number : ℕ) (envelope : Option Envelope) → Leaves world (delivered setup world number envelope)
+  delivered-leaves : (number : ℕ) (envelope : Option Envelope) → Leaves world (receiver_of envelope) (delivered setup world number envelope)
   delivered-leaves number None = settles _ world keeps-all
   delivered-leaves number (Some envelope) = given-leaves (with_done world number) refl refl refl (length-set world.fresh number false) envelope.to (receive envelope.from envelope.message) _ refl
 
-  lost-leaves : (number : ℕ) (envelope : Option Envelope) → Leaves world (lost world number envelope)
+  lost-leaves : (number : ℕ) (envelope : Option Envelope) → Leaves world None (lost world number envelope)
   lost-leaves number None = settles _ world keeps-all
   lost-leaves number (Some envelope) = settles _ _ (record { records = λ n. refl; sent = refl; order = refl; marks = length-set world.fresh number false })
 
@@ -84,7 +86,7 @@ module _ (setup : Setup) (world : World) where
   put-keeps : (n : ℕ) (site : Site) → site.records ≡ (site_at world n).records → Keeps world (with_site world n site)
   put-keeps n site is = record { records = set-keeps world.sites n site is; sent = refl; order = refl; marks = refl }
 
-  halted-leaves : (n : ℕ) (running : Option Running) → Leaves world (halted world n running)
+  halted-leaves : (n : ℕ) (running : Option Running) → Leaves world (Some n) (halted world n running)
   halted-leaves n None = settles _ world keeps-all
   halted-leaves n (Some running) = settles _ _ (put-keeps n _ refl)
 
@@ -93,11 +95,11 @@ module _ (setup : Setup) (world : World) where
   start-silent n (too_long length) = refl
   start-silent n no_epoch = refl
 
-  opened-leaves : (n : ℕ) (running : Option Running) → Leaves world (opened setup world n running)
+  opened-leaves : (n : ℕ) (running : Option Running) → Leaves world (Some n) (opened setup world n running)
   opened-leaves n (Some running) = settles _ world keeps-all
-  opened-leaves n None = goes_on world n _ refl refl refl refl (inr (start-silent n (site_start setup (site_at world n).records)))
+  opened-leaves n None = goes_on world n _ refl refl refl refl refl (inr (start-silent n (site_start setup (site_at world n).records)))
 
-  pub begun-leaves : (event : Event) → Leaves world (begun setup world event)
+  pub begun-leaves : (event : Event) → Leaves world (site_of world event) (begun setup world event)
   unfolding begun
   begun-leaves (Event.submit n query text program) = given-leaves world refl refl refl refl n (submit program) _ refl
   begun-leaves (Event.deliver number) = delivered-leaves number (slice_get world.sent number)
@@ -113,28 +115,29 @@ module _ (setup : Setup) (world : World) where
   begun-leaves Event.report = settles _ world keeps-all
   begun-leaves Event.total = settles _ world keeps-all
 
--- All of that grows, what is sent comes from a site that was up, and each message is marked.
-pub record Grown (world after : World) : Type 0 where
+-- All of that grows, what is sent comes from this site, which was up, and each message is marked.
+pub record Grown (world : World) (source : Option ℕ) (after : World) : Type 0 where
   pub records : (n : ℕ) → Extends (site_at world n).records (site_at after n).records
   pub order : Extends world.order after.order
-  pub sent : (more : List Envelope) × (after.sent ≡ world.sent ++ more) × All (λ envelope. IsSome (site_at world envelope.from).running) more
+  pub sent : (more : List Envelope) × (after.sent ≡ world.sent ++ more) × All (λ envelope. (source ≡ Some envelope.from) × IsSome (site_at world envelope.from).running) more
   pub marked : AreMarked world → AreMarked after
 
--- The messages of an audible attempt come from a site that was up.
-from-up : (world : World) (n : ℕ) (attempt : Attempt) → IsAudible world n attempt
-    → All (λ envelope. IsSome (site_at world envelope.from).running) (from_site n attempt.sends)
-from-up world n attempt (inl up) = All-map (λ envelope. IsSome (site_at world envelope.from).running) _ attempt.sends (λ k d below. up)
-from-up world n attempt (inr silent) = rw silent (All-nil _)
+-- The messages of an audible attempt come from its site, which was up.
+from-up : (world : World) (source : Option ℕ) (n : ℕ) (attempt : Attempt) → source ≡ Some n → IsAudible world n attempt
+    → All (λ envelope. (source ≡ Some envelope.from) × IsSome (site_at world envelope.from).running) (from_site n attempt.sends)
+from-up world source n attempt is (inl up) =
+    All-map (λ envelope. (source ≡ Some envelope.from) × IsSome (site_at world envelope.from).running) _ attempt.sends (λ k d below. (is, up))
+from-up world source n attempt is (inr silent) = rw silent (All-nil _)
 
-keeps-grown : {world after : World} → Keeps world after → Grown world after
-keeps-grown {world} {after} keeps = record {
+keeps-grown : {world after : World} → (source : Option ℕ) → Keeps world after → Grown world source after
+keeps-grown {world} {after} source keeps = record {
   records = λ n. ([], keeps.records n ∙ sym (append-nil _));
   order = ([], keeps.order ∙ sym (append-nil _));
   sent = ([], keeps.sent ∙ sym (append-nil _), All-nil _);
   marked = λ marked. ap length keeps.sent ∙ (marked ∙ sym keeps.marks);
 }
 
-module _ (world before : World) (n : ℕ) (attempt : Attempt) (sites : before.sites ≡ world.sites) (messages : before.sent ≡ world.sent)
+module _ (world : World) (source : Option ℕ) (before : World) (n : ℕ) (attempt : Attempt) (sites : before.sites ≡ world.sites) (messages : before.sent ≡ world.sent)
     (order : before.order ≡ world.order) (marks : length before.fresh ≡ length world.fresh) where
   -- the site with more records, in the place of what it was
   put-extends : (site : Site) (more : List Record) → site.records ≡ (site_at before n).records ++ more
@@ -146,11 +149,11 @@ module _ (world before : World) (n : ℕ) (attempt : Attempt) (sites : before.si
   before-marked : AreMarked world → AreMarked before
   before-marked marked = ap length messages ∙ (marked ∙ sym marks)
 
-  attempted-grown : IsAudible world n attempt → (left : Reached) → Grown world (attempted before n attempt left).1
-  attempted-grown audible (waits arm) = record {
+  attempted-grown : source ≡ Some n → IsAudible world n attempt → (left : Reached) → Grown world source (attempted before n attempt left).1
+  attempted-grown its audible (waits arm) = record {
     records = put-extends _ (option_to_list attempt.appended) refl;
     order = (option_to_list attempt.placed, ap (λ (all : List Placed). all ++ option_to_list attempt.placed) order);
-    sent = (from_site n attempt.sends, ap (λ (all : List Envelope). all ++ from_site n attempt.sends) messages, from-up world n attempt audible);
+    sent = (from_site n attempt.sends, ap (λ (all : List Envelope). all ++ from_site n attempt.sends) messages, from-up world source n attempt its audible);
     marked = λ marked. rw (
       length-append before.sent (from_site n attempt.sends),
       length-append before.fresh (replicate (length (from_site n attempt.sends)) true),
@@ -158,19 +161,19 @@ module _ (world before : World) (n : ℕ) (attempt : Attempt) (sites : before.si
     )
         (ap (λ (count : ℕ). count + length (from_site n attempt.sends)) (before-marked marked));
   }
-  attempted-grown audible (fires arm) = record {
+  attempted-grown its audible (fires arm) = record {
     records = put-extends _ (option_to_list (record_left attempt.syncs attempt.appended arm)) refl;
     order = ([], order ∙ sym (append-nil _));
     sent = ([], messages ∙ sym (append-nil _), All-nil _);
     marked = before-marked;
   }
 
-ended-grown : (world : World) (b : Begun) → Leaves world b → Grown world (ended b).1
-ended-grown world b (settles lines after keeps) = keeps-grown keeps
-ended-grown world b (goes_on before n attempt sites messages order marks audible) =
-    attempted-grown world before n attempt sites messages order marks audible (reached (calls_of attempt) (site_at before n).arm)
+ended-grown : (world : World) (source : Option ℕ) (b : Begun) → Leaves world source b → Grown world source (ended b).1
+ended-grown world source b (settles lines after keeps) = keeps-grown source keeps
+ended-grown world source b (goes_on before n attempt sites messages order marks its audible) =
+    attempted-grown world source before n attempt sites messages order marks its audible (reached (calls_of attempt) (site_at before n).arm)
 
 -- A transition's world grows out of the one before it.
-pub transition-grown : (setup : Setup) (world : World) (event : Event) → Grown world (transition_of setup world event).world
+pub transition-grown : (setup : Setup) (world : World) (event : Event) → Grown world (site_of world event) (transition_of setup world event).world
 unfolding transition_of
-transition-grown setup world event = ended-grown world (begun setup world event) (begun-leaves setup world event)
+transition-grown setup world event = ended-grown world (site_of world event) (begun setup world event) (begun-leaves setup world event)

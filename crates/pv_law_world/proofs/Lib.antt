@@ -1,11 +1,15 @@
 pub mod AnyRunRangeLemmas
 pub mod DisarmLemmas
+pub mod EpochLemmas
 pub mod GrowthLemmas
 pub mod NumberLemmas
+pub mod NumeralLemmas
 pub mod ParticipantLemmas
 pub mod PumpLemmas
 pub mod RangeLemmas
 pub mod RunRangeLemmas
 pub mod ScheduleLemmas
+pub mod SetupLemmas
+pub mod SiteLemmas
 pub mod TransitionLemmas
 pub mod WeightLemmas

@@ -10,7 +10,7 @@ use Rattle.pv_law_step.proofs.StepCases.{if_case}
 use Rattle.pv_law_step.specs.Appends.{Rises}
 use Rattle.pv_model.specs.Events.{Event}
 use Rattle.pv_protocol.specs.Arms.{Reached, waits, fires, reached, calls_of, attempted}
-use Rattle.pv_protocol.specs.Attempt.{Attempt, Begun, settled, attempts, begun, given, delivered, lost, halted, opened, of_step, of_start}
+use Rattle.pv_protocol.specs.Attempt.{Attempt, Begun, at_once, attempts, begun, given, delivered, lost, halted, opened, of_step, of_start}
 use Rattle.pv_protocol.specs.Lines.{Line}
 use Rattle.pv_protocol.specs.Records.{last_epoch, record_bytes, journal_bytes}
 use Rattle.pv_protocol.specs.Start.{Started, site_start}
@@ -52,12 +52,12 @@ put-later (first ∷ sites) (suc k) site later (suc n) = put-later sites k site 
 
 -- What an event comes to before any write: no site's numbers fall, and what a site attempts is later than it is.
 data Rising (world : World) : Begun → Type 0 where
-  settles : (lines : List Line) (after : World) → ((n : ℕ) → IsLater (site_at world n) (site_at after n).running) → Rising world (settled lines after)
+  settles : (lines : List Line) (after : World) → ((n : ℕ) → IsLater (site_at world n) (site_at after n).running) → Rising world (at_once lines after)
   goes_on : (before : World) (n : ℕ) (attempt : Attempt) → before.sites ≡ world.sites → IsLater (site_at world n) attempt.running
       → Rising world (attempts before n attempt)
 
 module _ (setup : Setup) (world : World) where
-  rising-same : (lines : List Line) → Rising world (settled lines world)
+  rising-same : (lines : List Line) → Rising world (at_once lines world)
   rising-same lines = settles lines world (λ n. same-later (site_at world n))
 
   stepped-later : (n : ℕ) (records : List Record) (running : Running) (input : Input) → (site_at world n).running ≡ Some running

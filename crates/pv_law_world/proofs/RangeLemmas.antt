@@ -8,76 +8,77 @@ use Rattle.pv_base.proofs.Basics.{Some_inj}
 use Rattle.pv_format.specs.Message.{Envelope}
 use Rattle.pv_format.specs.Range.{IsEnvelopeInRange, IsRecordInRange}
 use Rattle.pv_format.specs.Record.{Record}
-use Rattle.pv_law_world.specs.Ranges.{IsSiteInRange, IsWorldInRange, IsEventInRange}
+use Rattle.pv_law_world.specs.Ranges.{IsSiteInRange, IsWorldInRange}
 use Rattle.pv_model.specs.Events.{Event}
 use Rattle.pv_protocol.specs.Arms.{Reached, waits, fires, reached, calls_of, is_kept, attempted}
-use Rattle.pv_protocol.specs.Attempt.{Attempt, Begun, settled, attempts, begun, given, delivered, lost, halted, opened, of_start}
+use Rattle.pv_protocol.specs.Attempt.{Attempt, Begun, at_once, attempts, begun, given, delivered, lost, halted, opened, of_start}
 use Rattle.pv_protocol.specs.Here.{Here}
 use Rattle.pv_protocol.specs.Lines.{Line}
-use Rattle.pv_protocol.specs.Sound.{IsRunningInRange, IsSetupInRange, IsSound, IsInputInRange, IsSentInRange}
+use Rattle.pv_protocol.specs.Sound.{IsRunningInRange, IsSetupInRange, IsHereInRange, IsInputInRange, IsSentInRange}
 use Rattle.pv_protocol.specs.Start.{Started, starts, too_long, no_epoch, site_start}
 use Rattle.pv_protocol.specs.State.{Setup, Running, Site, Input, submit, receive, tick}
 use Rattle.pv_protocol.specs.Step.{step_on, after_step}
+use Rattle.pv_protocol.specs.WellFormed.{IsWellFormed}
 use Rattle.pv_protocol.specs.Width.{IsNarrow}
 use Rattle.pv_protocol.specs.World.{World, no_site, site_at, with_site, with_done, from_site}
 use Rattle.pv_protocol.specs.WorldStep.{ended, transition_of}
 
 -- what holds of one step
 abbrev pub SendsInRange : Type 0
-SendsInRange = (here : Here) (input : Input) → IsSound here → IsInputInRange here input → All (IsSentInRange here) (step_on here input).sends
+SendsInRange = (here : Here) (input : Input) → IsHereInRange here → IsInputInRange here input → All (IsSentInRange here) (step_on here input).sends
 
 abbrev pub StaysSound : Type 0
-StaysSound = (here : Here) (input : Input) → IsSound here → IsInputInRange here input → IsSound (after_step here (step_on here input))
+StaysSound = (here : Here) (input : Input) → IsHereInRange here → IsInputInRange here input → IsHereInRange (after_step here (step_on here input))
 
 no-some : {A : Type 0} {x : A} → None ≡ Some x → ⊥
 no-some is = cc
 
 -- A site that is down, with the records of one in range.
-pub down-in-range : {setup : Setup} {site : Site} → IsSiteInRange setup site → (down : Site) → down.records ≡ site.records → down.running ≡ None → IsSiteInRange setup down
-down-in-range {setup} {site} fine down records none = record {
+pub down-in-range : {setup : Setup} {n : ℕ} {site : Site} → IsSiteInRange setup n site → (down : Site) → down.records ≡ site.records → down.running ≡ None
+    → IsSiteInRange setup n down
+down-in-range {setup} {n} {site} fine down records none = record {
   records = rw records fine.records;
-  narrow = subst (IsNarrow setup.held_names setup.catalog) (sym records) fine.narrow;
+  narrow = subst (IsNarrow setup.held_names setup.catalog n) (sym records) fine.narrow;
   room = rw records fine.room;
   running = λ running is. absurd (no-some (sym none ∙ is));
 }
 
--- A site's place in the list, put in range.
-put-in-range : (setup : Setup) (sites : List Site) (k : ℕ) (site : Site) → (k < length sites → IsSiteInRange setup site)
-    → ((n : ℕ) → n < length sites → IsSiteInRange setup (get_or sites n no_site))
-    → (n : ℕ) → n < length sites → IsSiteInRange setup (get_or (set sites k site) n no_site)
-put-in-range setup [] k site fine all n below = absurd (omega arith)
-put-in-range setup (first ∷ sites) zero site fine all zero below = fine (omega arith)
-put-in-range setup (first ∷ sites) zero site fine all (suc n) below = all (suc n) below
-put-in-range setup (first ∷ sites) (suc k) site fine all zero below = all zero below
-put-in-range setup (first ∷ sites) (suc k) site fine all (suc n) below =
-    put-in-range setup sites k site (λ within. fine (omega arith)) (λ m under. all (suc m) (omega arith)) n (omega arith)
+-- A site's place in the list, put where each has what is asked at its number.
+pub put-in-range : (P : ℕ → Site → Type 0) (sites : List Site) (k : ℕ) (site : Site) → (k < length sites → P k site)
+    → ((n : ℕ) → n < length sites → P n (get_or sites n no_site)) → (n : ℕ) → n < length sites → P n (get_or (set sites k site) n no_site)
+put-in-range P [] k site fine all n below = absurd (omega arith)
+put-in-range P (first ∷ sites) zero site fine all zero below = fine (omega arith)
+put-in-range P (first ∷ sites) zero site fine all (suc n) below = all (suc n) below
+put-in-range P (first ∷ sites) (suc k) site fine all zero below = all zero below
+put-in-range P (first ∷ sites) (suc k) site fine all (suc n) below =
+    put-in-range (λ m s. P (suc m) s) sites k site (λ within. fine (omega arith)) (λ m under. all (suc m) (omega arith)) n (omega arith)
 
 -- A site that is up is one of the list.
-up-within : (sites : List Site) (n : ℕ) (running : Running) → (get_or sites n no_site).running ≡ Some running → n < length sites
+pub up-within : (sites : List Site) (n : ℕ) (running : Running) → (get_or sites n no_site).running ≡ Some running → n < length sites
 up-within [] n running is = absurd (no-some is)
 up-within (first ∷ sites) zero running is = omega arith
 up-within (first ∷ sites) (suc n) running is = let rest : n < length sites = up-within sites n running is in omega arith
 
 -- What a site attempts leaves it in range, and sends what is in range.
 pub record IsAttemptInRange (setup : Setup) (site : Site) (n : ℕ) (attempt : Attempt) : Type 0 where
-  pub whole : (whole : Site) → whole.records ≡ site.records ++ option_to_list attempt.appended → whole.running ≡ attempt.running → IsSiteInRange setup whole
+  pub whole : (whole : Site) → whole.records ≡ site.records ++ option_to_list attempt.appended → whole.running ≡ attempt.running → IsSiteInRange setup n whole
   pub sends : All IsEnvelopeInRange (from_site n attempt.sends)
 
 -- What an event comes to before any write is in range.
 pub data IsBegunInRange (setup : Setup) : Begun → Type 0 where
-  settles : (lines : List Line) (after : World) → IsWorldInRange setup after → IsBegunInRange setup (settled lines after)
+  settles : (lines : List Line) (after : World) → IsWorldInRange setup after → IsBegunInRange setup (at_once lines after)
   goes_on : (before : World) (n : ℕ) (attempt : Attempt) → IsWorldInRange setup before
-      → (n < length before.sites → IsSiteInRange setup (site_at before n) → IsAttemptInRange setup (site_at before n) n attempt)
+      → (n < length before.sites → IsSiteInRange setup n (site_at before n) → IsAttemptInRange setup (site_at before n) n attempt)
       → All IsEnvelopeInRange (from_site n attempt.sends) → IsBegunInRange setup (attempts before n attempt)
 
 module _ (setup : Setup) where
   -- a site in range, put into a world in range
   pub put-world : (world : World) (n : ℕ) (site : Site) → IsWorldInRange setup world
-      → (n < length world.sites → IsSiteInRange setup (site_at world n) → IsSiteInRange setup site) → IsWorldInRange setup (with_site world n site)
+      → (n < length world.sites → IsSiteInRange setup n (site_at world n) → IsSiteInRange setup n site) → IsWorldInRange setup (with_site world n site)
   put-world world n site fine put = record {
     count = length-set world.sites n site ∙ fine.count;
     sites = λ m below.
-        put-in-range setup world.sites n site
+        put-in-range (IsSiteInRange setup) world.sites n site
         (λ within. put within (fine.sites n (subst (λ (count : ℕ). n < count) fine.count within)))
         (λ k under. fine.sites k (subst (λ (count : ℕ). k < count) fine.count under))
         m (subst (λ (count : ℕ). m < count) (sym fine.count) below);
@@ -85,7 +86,7 @@ module _ (setup : Setup) where
   }
 
   pub attempted-range : (before : World) (n : ℕ) (attempt : Attempt) → IsWorldInRange setup before
-      → (n < length before.sites → IsSiteInRange setup (site_at before n) → IsAttemptInRange setup (site_at before n) n attempt)
+      → (n < length before.sites → IsSiteInRange setup n (site_at before n) → IsAttemptInRange setup (site_at before n) n attempt)
       → All IsEnvelopeInRange (from_site n attempt.sends) → (left : Reached) → IsWorldInRange setup (attempted before n attempt left).1
   attempted-range before n attempt fine may sends (waits arm) =
       let put : IsWorldInRange setup (with_site before n (record { records = (site_at before n).records ++ option_to_list attempt.appended; arm = arm; running = attempt.running }))
@@ -112,10 +113,10 @@ here_at setup world n running = record { me = n; setup = setup; records = (site_
 
 module _ (sends_stay : SendsInRange) (sound_stays : StaysSound) (setup : Setup) (setup_fine : IsSetupInRange setup) (world : World) (fine : IsWorldInRange setup world) where
   -- a running site of a world in range
-  here-sound : (n : ℕ) (running : Running) → (site_at world n).running ≡ Some running → IsSound (here_at setup world n running)
+  here-sound : (n : ℕ) (running : Running) → (site_at world n).running ≡ Some running → IsHereInRange (here_at setup world n running)
   here-sound n running is =
       let within : n < setup.catalog.sites = subst (λ (count : ℕ). n < count) fine.count (up-within world.sites n running is) in
-      let site : IsSiteInRange setup (site_at world n) = fine.sites n within in
+      let site : IsSiteInRange setup n (site_at world n) = fine.sites n within in
       record {
         me = within;
         setup = setup_fine;
@@ -132,15 +133,15 @@ module _ (sends_stay : SendsInRange) (sound_stays : StaysSound) (setup : Setup) 
 
   step-whole : (n : ℕ) (running : Running) (input : Input) → (site_at world n).running ≡ Some running → IsInputInRange (here_at setup world n running) input
       → (whole : Site) → whole.records ≡ (site_at world n).records ++ option_to_list (step_on (here_at setup world n running) input).appended
-      → whole.running ≡ Some (step_on (here_at setup world n running) input).running → IsSiteInRange setup whole
+      → whole.running ≡ Some (step_on (here_at setup world n running) input).running → IsSiteInRange setup n whole
   step-whole n running input is good whole records memory =
       let here = here_at setup world n running in
-      let sound : IsSound (after_step here (step_on here input)) = sound_stays here input (here-sound n running is) good in
+      let sound : IsHereInRange (after_step here (step_on here input)) = sound_stays here input (here-sound n running is) good in
       record {
         records = rw records sound.records;
-        narrow = subst (IsNarrow setup.held_names setup.catalog) (sym records) sound.narrow;
+        narrow = subst (IsNarrow setup.held_names setup.catalog n) (sym records) sound.narrow;
         room = rw records sound.room;
-        running = λ now was. subst (IsRunningInRange setup.catalog) (Some_inj (sym memory ∙ was)) sound.running;
+        running = λ now was. subst (IsRunningInRange setup.catalog n) (Some_inj (sym memory ∙ was)) sound.running;
       }
 
   given-range : (n : ℕ) (input : Input) → ((running : Running) → IsInputInRange (here_at setup world n running) input)
@@ -155,8 +156,8 @@ module _ (sends_stay : SendsInRange) (sound_stays : StaysSound) (setup : Setup) 
 abbrev pub StartsSound : Type 0
 StartsSound =
     (setup : Setup) (me : ℕ) (records : List Record) → IsSetupInRange setup → me < setup.catalog.sites → All IsRecordInRange records
-    → IsNarrow setup.held_names setup.catalog records → (running : Running) (new : Record) → site_start setup records ≡ starts running new
-    → IsSound (record { me = me; setup = setup; records = records ++ new ∷ []; running = running })
+    → IsNarrow setup.held_names setup.catalog me records → (running : Running) (new : Record) → site_start setup records ≡ starts running new
+    → IsHereInRange (record { me = me; setup = setup; records = records ++ new ∷ []; running = running })
 
 module _ (sends_stay : SendsInRange) (sound_stays : StaysSound) (starts_sound : StartsSound) (setup : Setup) (setup_fine : IsSetupInRange setup)
     (world : World) (fine : IsWorldInRange setup world) where
@@ -180,7 +181,7 @@ module _ (sends_stay : SendsInRange) (sound_stays : StaysSound) (starts_sound : 
   lost-range number (Some envelope) = settles _ _ (done-fine number)
 
   -- a site with other memory or another armed fault
-  changed-range : (n : ℕ) (site : Site) → (IsSiteInRange setup (site_at world n) → IsSiteInRange setup site) → IsWorldInRange setup (with_site world n site)
+  changed-range : (n : ℕ) (site : Site) → (IsSiteInRange setup n (site_at world n) → IsSiteInRange setup n site) → IsWorldInRange setup (with_site world n site)
   changed-range n site change = put-world setup world n site fine (λ within site_fine. change site_fine)
 
   halted-range : (n : ℕ) (running : Option Running) → IsBegunInRange setup (halted world n running)
@@ -188,16 +189,16 @@ module _ (sends_stay : SendsInRange) (sound_stays : StaysSound) (starts_sound : 
   halted-range n (Some running) = settles _ _ (changed-range n _ (λ site. down-in-range site _ refl refl))
 
   started-range : (n : ℕ) (started : Started) → site_start setup (site_at world n).records ≡ started → n < length world.sites
-      → IsSiteInRange setup (site_at world n) → IsAttemptInRange setup (site_at world n) n (of_start n started)
+      → IsSiteInRange setup n (site_at world n) → IsAttemptInRange setup (site_at world n) n (of_start n started)
   started-range n (starts running new) is within site = record {
     whole = λ whole records memory.
-        let sound : IsSound (record { me = n; setup = setup; records = (site_at world n).records ++ new ∷ []; running = running })
+        let sound : IsHereInRange (record { me = n; setup = setup; records = (site_at world n).records ++ new ∷ []; running = running })
         = starts_sound setup n (site_at world n).records setup_fine (subst (λ (count : ℕ). n < count) fine.count within) site.records site.narrow running new is in
         record {
           records = rw records sound.records;
-          narrow = subst (IsNarrow setup.held_names setup.catalog) (sym records) sound.narrow;
+          narrow = subst (IsNarrow setup.held_names setup.catalog n) (sym records) sound.narrow;
           room = rw records sound.room;
-          running = λ now was. subst (IsRunningInRange setup.catalog) (Some_inj (sym memory ∙ was)) sound.running;
+          running = λ now was. subst (IsRunningInRange setup.catalog n) (Some_inj (sym memory ∙ was)) sound.running;
         };
     sends = All-nil IsEnvelopeInRange;
   }
@@ -220,7 +221,7 @@ module _ (sends_stay : SendsInRange) (sound_stays : StaysSound) (starts_sound : 
   opened-range n None =
       goes_on world n _ fine (started-range n (site_start setup (site_at world n).records) refl) (start-silent n (site_start setup (site_at world n).records))
 
-  pub begun-range : (event : Event) → IsEventInRange setup.catalog event → IsBegunInRange setup (begun setup world event)
+  pub begun-range : (event : Event) → IsWellFormed setup.catalog event → IsBegunInRange setup (begun setup world event)
   unfolding begun
   begun-range (Event.submit n query text program) good = given-here world fine n (submit program) (λ running. good.1)
   begun-range (Event.deliver number) good = delivered-range number (slice_get world.sent number) refl
@@ -238,6 +239,6 @@ module _ (sends_stay : SendsInRange) (sound_stays : StaysSound) (starts_sound : 
   begun-range Event.report good = settles _ world fine
   begun-range Event.total good = settles _ world fine
 
-  pub transition-range : (event : Event) → IsEventInRange setup.catalog event → IsWorldInRange setup (transition_of setup world event).world
+  pub transition-range : (event : Event) → IsWellFormed setup.catalog event → IsWorldInRange setup (transition_of setup world event).world
   unfolding transition_of
   transition-range event good = ended-range setup (begun setup world event) (begun-range event good)

@@ -4,6 +4,7 @@ use Rattle.std.specs.Prelude.{get_or, All, IsTrue}
 use Rattle.pv_base.specs.Catalog.{Declared}
 use Rattle.std.proofs.lemmas.List.Elements.{All-nil, All-cons, All-get_or}
 use Rattle.pv_law_programs.proofs.DeclaredItems.{declared-items}
+use Rattle.pv_law_world.proofs.NumeralLemmas.{small-numbers}
 use Rattle.pv_model.specs.Causes.{Before, or_default, declared_by, at_first}
 use Rattle.pv_model.specs.Check.{names}
 use Rattle.pv_model.specs.Events.{Event, submit, deliver, pump, lose, drop, tick, stop, start, arm, mend, sent, report, total, Schedule}
@@ -47,11 +48,14 @@ module _ (before last : Before) (count : ℕ) (said : before.sites ≡ Some coun
   says-well line (submit n query text p) says = (
     site-well says.at n says.place,
     record {
-      items = says.may.items;
-      are = says.may.are;
-      some = says.may.some;
-      few = says.may.few;
-      known = λ k d below. lt_of_lt_of_le (declared-items (declared_by before) text p says.is (get_or says.may.items k d) (All-get_or (λ m. IsTrue (names p m)) says.may.items k d below says.may.are.each)) lasts.items;
+      runnable = record {
+        items = says.may.items;
+        are = says.may.are;
+        some = says.may.some;
+        few = says.may.few;
+        known = λ k d below. lt_of_lt_of_le (declared-items (declared_by before) text p says.is (get_or says.may.items k d) (All-get_or (λ m. IsTrue (names p m)) says.may.items k d below says.may.are.each)) lasts.items;
+      };
+      numbers = small-numbers (declared_by before) text p says.is;
     },
   )
   says-well line (deliver n) says = tt

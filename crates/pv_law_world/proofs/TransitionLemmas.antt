@@ -8,7 +8,7 @@ use Rattle.pv_format.specs.Message.{Envelope}
 use Rattle.pv_format.specs.Record.{Record}
 use Rattle.pv_law_world.proofs.GrowthLemmas.{Extends, same, Grown, transition-grown}
 use Rattle.pv_law_world.specs.Pumps.{AreMarked}
-use Rattle.pv_law_world.specs.Transitions.{AreTransitions, none, one_more, WasSent}
+use Rattle.pv_law_world.specs.Transitions.{site_of, AreTransitions, none, one_more, WasSent}
 use Rattle.pv_base.proofs.Basics.{Some_inj}
 use Rattle.pv_model.specs.Events.{Event, deliver}
 use Rattle.pv_protocol.specs.Places.{Place, world_before}
@@ -75,7 +75,7 @@ module _ (setup : Setup) where
   sent-stays world [] are number envelope is = is
   sent-stays world (transition ∷ transitions) (one_more world' transition' transitions' same rest) number envelope is =
       sent-stays transition.world transitions rest number envelope
-      (let now : Grown world transition.world = subst (λ (t : Transition). Grown world t.world) (sym same) (transition-grown setup world transition.event) in
+      (let now : Grown world (site_of world transition.event) transition.world = subst (λ (t : Transition). Grown world (site_of world transition.event) t.world) (sym same) (transition-grown setup world transition.event) in
       subst (λ (all : List Envelope). slice_get all number ≡ Some envelope) (sym now.sent.1) (stays world.sent now.sent.0 number envelope is))
 
   shifted : (world : World) (transition : Transition) (transitions : List Transition) (number : ℕ) (envelope : Envelope) → WasSent transition.world transitions number envelope
@@ -84,6 +84,7 @@ module _ (setup : Setup) where
     sender = record { earlier = transition ∷ was.sender.earlier; transition = was.sender.transition; later = was.sender.later; split = ap (λ (all : List Transition). transition ∷ all) was.sender.split };
     new = was.new;
     there = was.there;
+    stepped = was.stepped;
     up = was.up;
   }
 
@@ -94,15 +95,18 @@ module _ (setup : Setup) where
       → (now : Option Envelope) → slice_get transition.world.sent number ≡ now → WasSent world (transition ∷ transitions) number envelope
   sent-here world transition transitions is_transition rest number envelope new is in_rest None absent = shifted world transition transitions number envelope (in_rest absent)
   sent-here world transition transitions is_transition rest number envelope new is in_rest (Some other) found =
-      let grown : Grown world transition.world = subst (λ (t : Transition). Grown world t.world) (sym is_transition) (transition-grown setup world transition.event) in
+      let grown : Grown world (site_of world transition.event) transition.world = subst (λ (t : Transition). Grown world (site_of world transition.event) t.world) (sym is_transition) (transition-grown setup world transition.event) in
       let one : other ≡ envelope = Some_inj (sym (sent-stays transition.world transitions rest number other found) ∙ is) in
       let is_there : slice_get transition.world.sent number ≡ Some envelope = found ∙ ap Some one in
+      let from : (site_of world transition.event ≡ Some envelope.from) × IsSome (site_at world envelope.from).running =
+      All-contains (λ (e : Envelope). (site_of world transition.event ≡ Some e.from) × IsSome (site_at world e.from).running) grown.sent.0 envelope grown.sent.2
+      (added world.sent grown.sent.0 number envelope new (subst (λ (all : List Envelope). slice_get all number ≡ Some envelope) grown.sent.1 is_there)) in
       record {
         sender = record { earlier = []; transition = transition; later = transitions; split = refl };
         new = new;
         there = is_there;
-        up = All-contains (λ (e : Envelope). IsSome (site_at world e.from).running) grown.sent.0 envelope grown.sent.2
-            (added world.sent grown.sent.0 number envelope new (subst (λ (all : List Envelope). slice_get all number ≡ Some envelope) grown.sent.1 is_there));
+        stepped = from.0;
+        up = from.1;
       }
 
   pub was-sent : (world : World) (transitions : List Transition) → AreTransitions setup world transitions → (number : ℕ) (envelope : Envelope)
@@ -124,7 +128,7 @@ module _ (setup : Setup) where
       → Extends (site_at world n).records (site_at (world_after world transitions) n).records
   transitions-records world [] are n = same _
   transitions-records world (transition ∷ transitions) (one_more world' transition' transitions' is rest) n =
-      let grown : Grown world transition.world = subst (λ (t : Transition). Grown world t.world) (sym is) (transition-grown setup world transition.event) in
+      let grown : Grown world (site_of world transition.event) transition.world = subst (λ (t : Transition). Grown world (site_of world transition.event) t.world) (sym is) (transition-grown setup world transition.event) in
       let first = grown.records n in
       let then_more = transitions-records transition.world transitions rest n in
       (first.0 ++ then_more.0, then_more.1 ∙ ap (λ (all : List Record). all ++ then_more.0) first.1 ∙ append_assoc _ first.0 then_more.0)
@@ -136,7 +140,7 @@ module _ (setup : Setup) where
   transitions-marked : (world : World) (transitions : List Transition) → AreTransitions setup world transitions → AreMarked world → AreMarked (world_after world transitions)
   transitions-marked world [] are marked = marked
   transitions-marked world (transition ∷ transitions) (one_more world' transition' transitions' is rest) marked =
-      let grown : Grown world transition.world = subst (λ (t : Transition). Grown world t.world) (sym is) (transition-grown setup world transition.event) in
+      let grown : Grown world (site_of world transition.event) transition.world = subst (λ (t : Transition). Grown world (site_of world transition.event) t.world) (sym is) (transition-grown setup world transition.event) in
       transitions-marked transition.world transitions rest (grown.marked marked)
 
   pub places-marked : (events : List Event) (place : Place (run setup (opening setup) events)) → AreMarked (world_before (opening setup) place)

@@ -2,5 +2,6 @@ pub mod Lines
 pub mod Pumps
 pub mod Ranges
 pub mod Schedules
+pub mod Sites
 pub mod Spellings
 pub mod Transitions

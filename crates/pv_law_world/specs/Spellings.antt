@@ -1,11 +1,10 @@
 -- Lines, each with its text.
 use Rattle.std.specs.Prelude.{ℕ, ℤ, pos, negsuc, true, false, List, [], ◌∷◌, codes}
 use Rattle.pv_base.specs.Polyvalue.{Case}
-use Rattle.pv_format.specs.Message.{ask}
 use Rattle.pv_law_world.specs.Lines.{either, sure, t, u}
-use Rattle.pv_base.specs.declared.reply.Decline.TheVariants.{Overflow, ZeroDivisor}
+use Rattle.pv_base.specs.declared.reply.Decline.TheVariants.{Require, Overflow, ZeroDivisor}
 use Rattle.pv_base.specs.declared.reply.Reply.TheVariants.{Value, Nothing, Declined}
-use Rattle.pv_protocol.specs.Lines.{Line}
+use Rattle.pv_protocol.specs.Lines.{Line, MessageKind}
 use Rattle.pv_protocol.specs.State as state
 
 -- a line of a run with items `a` and `b`, and its text without the line feed
@@ -39,8 +38,17 @@ examples =
     ∷ record { line = Line.fault 1; text = codes "fault 1" }
     ∷ record { line = Line.started 1 2; text = codes "started 1 2" }
     ∷ record { line = Line.no_message 99; text = codes "no message 99" }
-    ∷ record { line = Line.sent 9 1 0 (ask t); text = codes "sent 9 1>0 ask 0.1.0" }
+    ∷ record { line = Line.commit u (Declined Require ∷ []); text = codes "commit 0.1.1 certain declined-require" }
+    ∷ record { line = Line.sent 0 0 1 MessageKind.lock t; text = codes "sent 0 0>1 lock 0.1.0" }
+    ∷ record { line = Line.sent 1 1 0 MessageKind.granted t; text = codes "sent 1 1>0 granted 0.1.0" }
+    ∷ record { line = Line.sent 2 1 0 MessageKind.denied u; text = codes "sent 2 1>0 denied 0.1.1" }
+    ∷ record { line = Line.sent 5 0 1 MessageKind.prepare t; text = codes "sent 5 0>1 prepare 0.1.0" }
+    ∷ record { line = Line.sent 6 1 0 MessageKind.yes t; text = codes "sent 6 1>0 yes 0.1.0" }
+    ∷ record { line = Line.sent 7 1 0 MessageKind.no t; text = codes "sent 7 1>0 no 0.1.0" }
+    ∷ record { line = Line.sent 8 0 1 MessageKind.outcome t; text = codes "sent 8 0>1 outcome 0.1.0" }
+    ∷ record { line = Line.sent 9 1 0 MessageKind.ask t; text = codes "sent 9 1>0 ask 0.1.0" }
     ∷ record { line = Line.order (t ∷ u ∷ []); text = codes "order 0.1.0 0.1.1" }
+    ∷ record { line = Line.committed (t ∷ []); text = codes "committed 0.1.0" }
     ∷ record { line = Line.open_ones []; text = codes "open" }
     ∷ record { line = Line.item 0 (sure 90); text = codes "item a 90" }
     ∷ record { line = Line.item 1 (either 50 60); text = codes "item b 50 if -0.1.0 ; 60 if +0.1.0" }

@@ -29,9 +29,10 @@ pub data AreTransitions (setup : Setup) : World → List Transition → Type 0 w
   one_more : (world : World) (transition : Transition) (transitions : List Transition) → transition ≡ transition_of setup world transition.event → AreTransitions setup transition.world transitions
       → AreTransitions setup world (transition ∷ transitions)
 
--- The message of this number was sent in one of these transitions, by a site that was up.
+-- The message of this number was sent in one of these transitions, by the site that its event is of, which was up.
 pub record WasSent (first : World) (transitions : List Transition) (number : ℕ) (envelope : Envelope) : Type 0 where
   pub sender : Place transitions
   pub new : slice_get (world_before first sender).sent number ≡ None
   pub there : slice_get sender.transition.world.sent number ≡ Some envelope
+  pub stepped : site_of (world_before first sender) sender.transition.event ≡ Some envelope.from
   pub up : IsSome (site_at (world_before first sender) envelope.from).running

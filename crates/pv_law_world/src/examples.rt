@@ -56,7 +56,9 @@ pub fn stop_in_commit_record()
     ensures third_lost { printed bank (stop_in_commit 3 Lost ++ outcome_asked) ≡ stopped_in_commit false }
     ensures fourth_lost { printed bank (stop_in_commit 4 Lost ++ outcome_asked) ≡ stopped_in_commit false }
     ensures first_torn { printed bank (stop_in_commit 1 Torn ++ outcome_asked) ≡ stopped_in_commit false }
+    ensures second_torn { printed bank (stop_in_commit 2 Torn ++ outcome_asked) ≡ stopped_in_commit false }
     ensures third_torn { printed bank (stop_in_commit 3 Torn ++ outcome_asked) ≡ stopped_in_commit false }
+    ensures fourth_torn { printed bank (stop_in_commit 4 Torn ++ outcome_asked) ≡ stopped_in_commit false }
 {}
 
 /// A fault in the append of a promise: the site starts again with it where the gate was written and kept, and without it else.

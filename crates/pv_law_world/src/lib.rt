@@ -5,6 +5,7 @@ mod examples;
 mod pumps;
 mod ranges;
 mod runs;
+mod sites;
 mod steps;
 mod texts;
 
@@ -14,11 +15,15 @@ pub use examples::{
     stop_in_commit_record, transfer_commits, unheard_outcome_leaves_doubt,
 };
 pub use pumps::{messages_are_marked, pump_ends};
-pub use ranges::{any_runs_stay_in_range, runs_stay_in_range, worlds_stay_in_range};
+pub use ranges::{
+    any_runs_stay_in_range, runs_of_texts_stay_in_range, runs_stay_in_range,
+    schedules_are_in_range, worlds_stay_in_range,
+};
 pub use runs::{
     delivered_was_sent, faults_come_anywhere, records_grow, run_is_its_transitions,
     schedules_are_well_formed,
 };
+pub use sites::{epochs_are_recorded, memories_are_in_order};
 pub use steps::{
     down_sites_are_silent, numbers_rise, other_sites_stay, reports_change_nothing,
     transition_adds_records,

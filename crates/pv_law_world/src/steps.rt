@@ -31,11 +31,11 @@ pub fn transition_adds_records()
         (more : List Record) × ((site_at (transition_of setup world event).world n).records ≡ (site_at world n).records ++ more) }
 {}
 
-/// What is sent in a transition comes from a site that was up.
+/// What is sent in a transition comes from the site that its event is of, which was up.
 pub fn down_sites_are_silent()
     ensures { (setup : Setup) (world : World) (event : Event) →
         (more : List Envelope) × ((transition_of setup world event).world.sent ≡ world.sent ++ more)
-        × All (λ envelope. IsSome (site_at world envelope.from).running) more }
+        × All (λ envelope. (site_of world event ≡ Some envelope.from) × IsSome (site_at world envelope.from).running) more }
 {}
 
 /// The numbers that a site gives only rise while it is up, and a start begins the epoch after the last one.

@@ -2,14 +2,15 @@
 use Rattle.std.specs.Prelude.{◌≡◌, ℕ, ◌<◌, Bool, Some, None, List, [], ◌∷◌, map}
 use Rattle.pv_format.specs.Record.{Record}
 use Rattle.pv_protocol.specs.Arms.{calls_of, completed, broken, broken_line}
-use Rattle.pv_protocol.specs.Attempt.{Attempt, Begun, settled, attempts, begun}
+use Rattle.pv_protocol.specs.Attempt.{Attempt, Begun, at_once, attempts, begun}
 use Rattle.pv_protocol.specs.Lines.{Line}
 use Rattle.pv_protocol.specs.State.{Setup, Site}
+use Rattle.pv_protocol.specs.WellFormed.{IsWellFormed}
 use Rattle.pv_protocol.specs.World.{World}
 use Rattle.pv_protocol.specs.WorldStep.{Transition}
 
--- An attempt may end so: all of it is written; or, where it makes calls, the site stops in one of them or one of them fails,
--- and its record, if it appends one, is there or isn't.
+-- An attempt may end so: all of it is written; or, where it makes writes or syncs, the site stops in one of them or one of them
+-- fails, and its record, if it appends one, is there or isn't.
 pub data MayEnd (world : World) (n : ℕ) (attempt : Attempt) : List Line → World → Type 0 where
   whole : MayEnd world n attempt attempt.lines (completed world n attempt None)
   without : (stops : Bool) → 0 < calls_of attempt → MayEnd world n attempt (broken_line n stops ∷ []) (broken world n None)
@@ -18,7 +19,7 @@ pub data MayEnd (world : World) (n : ℕ) (attempt : Attempt) : List Line → Wo
 
 -- What an event has begun may come to these lines and this world.
 pub data MayCome : Begun → List Line → World → Type 0 where
-  at_once : (lines : List Line) (world : World) → MayCome (settled lines world) lines world
+  without_attempt : (lines : List Line) (world : World) → MayCome (at_once lines world) lines world
   by_attempt : (world after : World) (n : ℕ) (attempt : Attempt) (lines : List Line) → MayEnd world n attempt lines after
       → MayCome (attempts world n attempt) lines after
 
@@ -30,18 +31,20 @@ disarmed_site site = record site { arm = None }
 abbrev pub disarmed : World → World
 disarmed world = record world { sites = map disarmed_site world.sites }
 
--- In this world the event may have this transition. What it arms is forgotten.
+-- The transition is one that its event may have in this world: the event is well formed, and what it has begun may come to the
+-- transition's lines and world. What it arms is forgotten.
 pub record MayFollow (setup : Setup) (world : World) (transition : Transition) : Type 0 where
+  pub well : IsWellFormed setup.catalog transition.event
   pub left : World
   pub comes : MayCome (begun setup world transition.event) transition.lines left
   pub after : transition.world ≡ disarmed left
 
--- Transitions that may follow one another from this world on, with a stop or a fault in any write or sync. A pump counts as its
--- deliveries.
-pub data IsAnyRun (setup : Setup) : World → List Transition → Type 0 where
-  ends : (world : World) → IsAnyRun setup world []
-  goes_on : (world : World) (transition : Transition) (transitions : List Transition) → MayFollow setup world transition → IsAnyRun setup transition.world transitions
-      → IsAnyRun setup world (transition ∷ transitions)
+-- Transitions that may follow one another from this world on, with a stop or a fault in any write or sync. The deliveries of a
+-- pump are transitions of their own; a `pump` by itself is a transition that does nothing.
+pub data IsRunWithFaults (setup : Setup) : World → List Transition → Type 0 where
+  ends : (world : World) → IsRunWithFaults setup world []
+  goes_on : (world : World) (transition : Transition) (transitions : List Transition) → MayFollow setup world transition → IsRunWithFaults setup transition.world transitions
+      → IsRunWithFaults setup world (transition ∷ transitions)
 
 -- the transition without armed faults
 abbrev pub without_arms : Transition → Transition

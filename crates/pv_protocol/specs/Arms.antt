@@ -17,12 +17,12 @@ calls_of_append (Some appended) = 4
 abbrev pub calls_of : Attempt → ℕ
 calls_of attempt = attempt.syncs + calls_of_append attempt.appended
 
--- What becomes of an armed fault: it is armed still, for so many calls less, or it fires.
+-- What becomes of an armed fault: it is armed still, for so many writes and syncs less, or it fires.
 pub data Reached : Type 0 where
   waits : Option Arm → Reached
   fires : Arm → Reached
 
--- what becomes of it in so many calls
+-- what becomes of it in so many writes and syncs
 abbrev pub reached : ℕ → Option Arm → Reached
 reached zero arm = waits arm
 reached (suc more) None = waits None
@@ -35,18 +35,20 @@ is_kept Kept = true
 is_kept Lost = false
 is_kept Torn = false
 
--- The record is there exactly where the call that fires is the third or the fourth of the append and what was written is kept.
+-- The record is there exactly where the fault fires in the third or the fourth write or sync of the append and what was written
+-- is kept.
 abbrev pub record_left : ℕ → Option Record → Arm → Option Record
 record_left syncs appended arm = if nat_lt (syncs + 2) arm.call && is_kept arm.mode then appended else None
 
--- the world where all of an attempt's calls are made; the site's disk is then armed with this
+-- the world where all of an attempt's writes and syncs are made; the site's disk is then armed with this
 abbrev pub completed : World → ℕ → Attempt → Option Arm → World
 completed world n attempt arm =
     let site : Site = record { records = (site_at world n).records ++ option_to_list attempt.appended; arm = arm; running = attempt.running } in
     let placed : World = record world { order = world.order ++ option_to_list attempt.placed } in
     with_sent (with_site placed n site) (from_site n attempt.sends)
 
--- the world where one of the calls stops the site or fails: it is down, with this record more if there is one, and sends nothing
+-- The world where one of the writes and syncs stops the site or fails: it is down, with this record more if there is one, and sends
+-- nothing. A fault fires once; the disk is then disarmed.
 abbrev pub broken : World → ℕ → Option Record → World
 broken world n left =
     with_site world n (record { records = (site_at world n).records ++ option_to_list left; arm = None; running = None })

@@ -43,26 +43,26 @@ of_start n (starts running epoch) =
 of_start n (too_long length) = refused_start (Line.full n length)
 of_start n no_epoch = refused_start (Line.spent n)
 
--- An event prints lines and changes the world without a write, or a site attempts something in this world.
+-- An event prints lines and changes the world at once, without a write or a sync, or a site attempts something in this world.
 pub data Begun : Type 0 where
-  settled : List Line → World → Begun
+  at_once : List Line → World → Begun
   attempts : World → (site : ℕ) → Attempt → Begun
 
 -- a site is given something to do: only one that is up takes it
 abbrev pub given : Setup → World → ℕ → Input → Option Running → Begun
-given setup world n input None = settled (Line.down n ∷ []) world
+given setup world n input None = at_once (Line.down n ∷ []) world
 given setup world n input (Some running) = attempts world n (of_step n (site_step setup n (site_at world n).records running input))
 
 -- a message is done, and its receiver takes it
 abbrev pub delivered : Setup → World → ℕ → Option Envelope → Begun
-delivered setup world n None = settled (Line.no_message n ∷ []) world
+delivered setup world n None = at_once (Line.no_message n ∷ []) world
 delivered setup world n (Some envelope) =
     given setup (with_done world n) envelope.to (receive envelope.from envelope.message) (site_at world envelope.to).running
 
 -- a message is done without being taken
 abbrev pub lost : World → ℕ → Option Envelope → Begun
-lost world n None = settled (Line.no_message n ∷ []) world
-lost world n (Some envelope) = settled [] (with_done world n)
+lost world n None = at_once (Line.no_message n ∷ []) world
+lost world n (Some envelope) = at_once [] (with_done world n)
 
 -- the marks of the messages, where those to the site are done
 abbrev pub without_site : ℕ → List Envelope → List Bool → List Bool
@@ -72,12 +72,12 @@ without_site n (envelope ∷ sent) (mark ∷ marks) = (mark && not (envelope.to 
 
 -- a site stops between steps, and loses what it has in memory
 abbrev pub halted : World → ℕ → Option Running → Begun
-halted world n None = settled (Line.down n ∷ []) world
-halted world n (Some running) = settled (Line.stopped n ∷ []) (with_site world n (record (site_at world n) { running = None }))
+halted world n None = at_once (Line.down n ∷ []) world
+halted world n (Some running) = at_once (Line.stopped n ∷ []) (with_site world n (record (site_at world n) { running = None }))
 
 -- a site that is down is started
 abbrev pub opened : Setup → World → ℕ → Option Running → Begun
-opened setup world n (Some running) = settled (Line.up n ∷ []) world
+opened setup world n (Some running) = at_once (Line.up n ∷ []) world
 opened setup world n None = attempts world n (of_start n (site_start setup (site_at world n).records))
 
 -- the world with this fault armed at a site's disk, in place of an earlier one
@@ -88,14 +88,14 @@ with_arm world n arm = with_site world n (record (site_at world n) { arm = arm }
 unfoldable pub begun : Setup → World → Event → Begun
 begun setup world (Event.submit n query text program) = given setup world n (submit program) (site_at world n).running
 begun setup world (Event.deliver n) = delivered setup world n (slice_get world.sent n)
-begun setup world (Event.pump most) = settled [] world
+begun setup world (Event.pump most) = at_once [] world
 begun setup world (Event.lose n) = lost world n (slice_get world.sent n)
-begun setup world (Event.drop n) = settled [] (record world { fresh = without_site n world.sent world.fresh })
+begun setup world (Event.drop n) = at_once [] (record world { fresh = without_site n world.sent world.fresh })
 begun setup world (Event.tick n) = given setup world n tick (site_at world n).running
 begun setup world (Event.stop n) = halted world n (site_at world n).running
 begun setup world (Event.start n) = opened setup world n (site_at world n).running
-begun setup world (Event.arm n call mode stops) = settled [] (with_arm world n (Some (record { call = call; mode = mode; stops = stops })))
-begun setup world (Event.mend n) = settled [] (with_arm world n None)
-begun setup world Event.sent = settled (sent_lines world) world
-begun setup world Event.report = settled (report_of setup world) world
-begun setup world Event.total = settled (total_of setup world) world
+begun setup world (Event.arm n call mode stops) = at_once [] (with_arm world n (Some (record { call = call; mode = mode; stops = stops })))
+begun setup world (Event.mend n) = at_once [] (with_arm world n None)
+begun setup world Event.sent = at_once (sent_lines world) world
+begun setup world Event.report = at_once (report_of setup world) world
+begun setup world Event.total = at_once (total_of setup world) world

@@ -4,7 +4,7 @@ use Rattle.std.specs.List.{list_any}
 use Rattle.pv_base.specs.Polyvalue.{AreNames}
 use Rattle.pv_base.specs.declared.grant.GrantId.{GrantId}
 use Rattle.pv_base.specs.declared.txn.TxnId.{TxnId}
-use Rattle.pv_format.specs.Message.{granted, prepare}
+use Rattle.pv_format.specs.Message.{granted, prepare, vote_yes}
 use Rattle.pv_format.specs.Record.{Record, prepared, outcome_known}
 use Rattle.pv_model.specs.Alternatives.{Read, all_cases}
 use Rattle.pv_protocol.specs.Committed.{home_of, entry_of, is_grant}
@@ -15,12 +15,13 @@ use Rattle.pv_protocol.specs.Outcomes.{IsOut}
 use Rattle.pv_protocol.specs.Places.{Place, world_before, Takes}
 use Rattle.pv_protocol.specs.Records.{is_prepared, record_bytes, journal_bytes}
 use Rattle.pv_protocol.specs.Run.{world_after, worlds_of}
-use Rattle.pv_protocol.specs.State.{Setup, Entry, Cause, conflict, outcome_limit, expired, grant_lost, journal_full}
-use Rattle.pv_protocol.specs.Waiting.{IsLastTick}
+use Rattle.pv_protocol.specs.State.{Setup, locking, Entry, Cause, conflict, outcome_limit, expired, grant_lost, journal_full}
+use Rattle.pv_protocol.specs.Waiting.{IsParticipant, HasAnswered, IsLastTick}
 use Rattle.pv_protocol.specs.World.{World, site_at}
 use Rattle.pv_protocol.specs.WorldStep.{Transition}
 
--- In this transition the last values are taken, and together they name so many outcomes, which is more than the limit.
+-- In this transition the last values are taken: those of every other participant were. Together they name so many outcomes, which
+-- is more than the limit.
 pub record IsTooWide (setup : Setup) (world : World) (transition : Transition) (txn : TxnId) (count : ℕ) : Type 0 where
   pub from : ℕ
   pub grant : GrantId
@@ -28,6 +29,8 @@ pub record IsTooWide (setup : Setup) (world : World) (transition : Transition) (
   pub takes : Takes world transition (home_of txn) from (granted txn grant values)
   pub entry : Entry
   pub works : entry_of world txn ≡ Some entry
+  pub stage : entry.stage ≡ locking
+  pub others : (n : ℕ) → IsParticipant setup.catalog entry.program n → (n ≡ from) ⊎ HasAnswered locking entry n
   pub txns : List TxnId
   pub are : AreNames (all_cases (reads_of entry ++ values)) txns
   pub number : count ≡ length txns
@@ -57,9 +60,11 @@ pub record HadNoRoom (setup : Setup) (first : World) (transitions : List Transit
   pub takes : Takes (world_before first place) place.transition n from (prepare txn grant writes)
   pub long : IsTooLong setup (world_before first place) n (prepared txn writes) bytes
 
--- The transaction's own site has no room for the commit now.
-pub record HasNoRoom (setup : Setup) (world : World) (txn : TxnId) (n bytes : ℕ) : Type 0 where
+-- The transaction's own site takes a yes in this transition, and its journal has no room for the commit.
+pub record HasNoRoom (setup : Setup) (world : World) (transition : Transition) (txn : TxnId) (n bytes : ℕ) : Type 0 where
   pub here : n ≡ home_of txn
+  pub from : ℕ
+  pub takes : Takes world transition n from (vote_yes txn)
   pub long : IsTooLong setup world n (outcome_known txn true) bytes
 
 -- The transaction is refused in this transition, after these others, for this cause.
@@ -69,7 +74,7 @@ HasCause setup first earlier transition txn (outcome_limit count) = IsTooWide se
 HasCause setup first earlier transition txn (expired n) = IsLastTick setup first earlier transition txn n
 HasCause setup first earlier transition txn (grant_lost n) = HadLost first earlier txn n
 HasCause setup first earlier transition txn (journal_full n bytes) =
-    HadNoRoom setup first earlier txn n bytes ⊎ HasNoRoom setup (world_after first earlier) txn n bytes
+    HadNoRoom setup first earlier txn n bytes ⊎ HasNoRoom setup (world_after first earlier) transition txn n bytes
 
 -- A transaction that a run prints as refused is neither committed nor open, in that world and in every later one, and the
 -- refusal has its cause.

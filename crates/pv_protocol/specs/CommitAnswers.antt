@@ -14,8 +14,9 @@ use Rattle.pv_protocol.specs.State.{Setup, Entry}
 use Rattle.pv_protocol.specs.World.{World, site_at}
 use Rattle.pv_protocol.specs.WorldStep.{Transition}
 
--- The replies are the possible ones: the values of the cases of the polyvalue that is at each assignment what the program
--- replies on the values that were taken, settled by what its site knows after this transition.
+-- The replies are the possible ones. There is a canonical polyvalue that is at each assignment what the program replies on the
+-- values that were taken, where the outcomes count that its site knows after this transition. The replies are the values of its
+-- cases.
 pub record ArePossible (world : World) (transition : Transition) (txn : TxnId) (replies : List Reply) : Type 0 where
   pub entry : Entry
   pub works : entry_of world txn ≡ Some entry

@@ -46,7 +46,7 @@ entry_of world txn = entry_in (site_at world (home_of txn)).running txn
 abbrev pub is_grant : TxnId → GrantId → Grant → Bool
 is_grant txn id grant = is_same_txn grant.txn txn && is_same_grant grant.id id
 
--- The participant has the transaction prepared, or has standing the very grant that was taken from it.
+-- The participant has a prepared record of the transaction, or the very grant that was taken from it stands there.
 abbrev pub is_bound : World → TxnId → TakenGrant → Bool
 is_bound world txn taken =
     is_prepared (site_at world taken.site).records txn

@@ -57,7 +57,7 @@ reads_of entry = flat_map (λ taken. taken.values) entry.taken
 abbrev pub names_taken : Entry → List TxnId
 names_taken entry = names_of (all_cases (reads_of entry))
 
--- the same, without what is known by the records
+-- what the values that were taken name together, without the transactions whose outcomes the records tell
 abbrev pub open_names : List Record → Entry → List TxnId
 open_names records entry = undecided records (names_taken entry)
 

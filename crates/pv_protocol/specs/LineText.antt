@@ -6,11 +6,10 @@ use Rattle.pv_base.specs.Catalog.{Declared}
 use Rattle.pv_base.specs.Polyvalue.{Case}
 use Rattle.pv_base.specs.Txn.{txn_text}
 use Rattle.pv_base.specs.declared.literal.Literal.{Literal}
-use Rattle.pv_format.specs.Message.{Message, lock, granted, denied, prepare, vote_yes, vote_no, outcome_told, ask, txn_of}
 use Rattle.pv_base.specs.declared.reply.Decline.TheVariants.{Require, Overflow, ZeroDivisor}
 use Rattle.pv_base.specs.declared.reply.Reply.{Reply}
 use Rattle.pv_base.specs.declared.reply.Reply.TheVariants.{Value, Nothing, Declined}
-use Rattle.pv_protocol.specs.Lines.{Line}
+use Rattle.pv_protocol.specs.Lines.{Line, MessageKind}
 use Rattle.pv_protocol.specs.State.{Cause, conflict, outcome_limit, expired, grant_lost, journal_full}
 
 -- what ends a line
@@ -51,16 +50,16 @@ cause_text catalog (expired site) = codes "expired " ++ decimal site
 cause_text catalog (grant_lost site) = codes "grant-lost " ++ decimal site
 cause_text catalog (journal_full site length) = codes "journal-full " ++ (decimal site ++ (codes " " ++ decimal length))
 
--- what a message is called
-abbrev pub kind_text : Message → List ℕ
-kind_text (lock txn wants) = codes "lock"
-kind_text (granted txn grant values) = codes "granted"
-kind_text (denied txn item holder) = codes "denied"
-kind_text (prepare txn grant writes) = codes "prepare"
-kind_text (vote_yes txn) = codes "yes"
-kind_text (vote_no txn cause) = codes "no"
-kind_text (outcome_told txn commits) = codes "outcome"
-kind_text (ask txn) = codes "ask"
+-- what a kind of messages is called
+abbrev pub kind_text : MessageKind → List ℕ
+kind_text MessageKind.lock = codes "lock"
+kind_text MessageKind.granted = codes "granted"
+kind_text MessageKind.denied = codes "denied"
+kind_text MessageKind.prepare = codes "prepare"
+kind_text MessageKind.yes = codes "yes"
+kind_text MessageKind.no = codes "no"
+kind_text MessageKind.outcome = codes "outcome"
+kind_text MessageKind.ask = codes "ask"
 
 -- `+` before a transaction that commits, `-` before one that doesn't
 abbrev pub literal_text : Literal → List ℕ
@@ -98,9 +97,9 @@ words_of catalog (Line.stopped site) = numbered_text (codes "stopped") site
 words_of catalog (Line.fault site) = numbered_text (codes "fault") site
 words_of catalog (Line.started site epoch) = codes "started " ++ (decimal site ++ (codes " " ++ decimal epoch))
 words_of catalog (Line.no_message n) = numbered_text (codes "no message") n
-words_of catalog (Line.sent n from to message) =
+words_of catalog (Line.sent n from to kind txn) =
     codes "sent "
-    ++ (decimal n ++ (codes " " ++ (decimal from ++ (codes ">" ++ (decimal to ++ (codes " " ++ (kind_text message ++ (codes " " ++ txn_text (txn_of message)))))))))
+    ++ (decimal n ++ (codes " " ++ (decimal from ++ (codes ">" ++ (decimal to ++ (codes " " ++ (kind_text kind ++ (codes " " ++ txn_text txn))))))))
 words_of catalog (Line.order txns) = codes "order" ++ spaced txn_text txns
 words_of catalog (Line.committed txns) = codes "committed" ++ spaced txn_text txns
 words_of catalog (Line.open_ones txns) = codes "open" ++ spaced txn_text txns

@@ -6,6 +6,28 @@ use Rattle.pv_format.specs.Message.{Message}
 use Rattle.pv_base.specs.declared.reply.Reply.{Reply}
 use Rattle.pv_protocol.specs.State.{Cause, Note}
 
+-- what a message is, without what it has beside its transaction
+pub data MessageKind : Type 0 where
+  lock : MessageKind
+  granted : MessageKind
+  denied : MessageKind
+  prepare : MessageKind
+  yes : MessageKind
+  no : MessageKind
+  outcome : MessageKind
+  ask : MessageKind
+
+-- the kind of a message
+abbrev pub kind_of : Message → MessageKind
+kind_of (Message.lock txn wants) = MessageKind.lock
+kind_of (Message.granted txn grant values) = MessageKind.granted
+kind_of (Message.denied txn item holder) = MessageKind.denied
+kind_of (Message.prepare txn grant writes) = MessageKind.prepare
+kind_of (Message.vote_yes txn) = MessageKind.yes
+kind_of (Message.vote_no txn cause) = MessageKind.no
+kind_of (Message.outcome_told txn commits) = MessageKind.outcome
+kind_of (Message.ask txn) = MessageKind.ask
+
 -- one line
 pub data Line : Type 0 where
   -- a request has begun a transaction
@@ -24,13 +46,13 @@ pub data Line : Type 0 where
   up : (site : ℕ) → Line
   -- the site has stopped
   stopped : (site : ℕ) → Line
-  -- a call of the site's disk has failed
+  -- a write or a sync of the site's disk has failed
   fault : (site : ℕ) → Line
   started : (site epoch : ℕ) → Line
   -- no message of this number was sent
   no_message : ℕ → Line
-  -- a message that was sent, with its number
-  sent : (number from to : ℕ) → Message → Line
+  -- a message that was sent: its number, its sender and its receiver, its kind, and the transaction that it is of
+  sent : (number from to : ℕ) → MessageKind → TxnId → Line
   -- the transactions in the order of their lock points, and those of them that are committed, and open
   order : List TxnId → Line
   committed : List TxnId → Line

@@ -58,7 +58,7 @@ on_outcome here from txn commits =
     then (if is_full here (outcome_known txn commits) then noting here (full (length_with here (outcome_known txn commits))) else learning here txn commits)
     else (if commits then nothing here else remembering (without_grant here.running txn)))
 
--- The transaction is one that this site has numbered: its epoch has passed, or it is of now and its number was given.
+-- The site may have numbered the transaction: its epoch has passed, whatever its number, or it is of now and its number was given.
 abbrev pub is_issued : Here → TxnId → Bool
 is_issued here txn =
     here.me == txn.site.0

@@ -32,7 +32,7 @@ kinds_left (vote_no txn cause) = 1
 kinds_left (ask txn) = 1
 kinds_left (outcome_told txn commits) = 0
 
--- Deliveries that may follow from one message, where each causes at most 16 others.
+-- A bound on the deliveries that one message leads to, its own among them, where each causes at most 16 others.
 abbrev pub weight : Message → ℕ
 weight message = 17 ^ kinds_left message
 
@@ -43,6 +43,6 @@ weight_left (envelope ∷ sent) [] = 0
 weight_left (envelope ∷ sent) (true ∷ marks) = weight envelope.message + weight_left sent marks
 weight_left (envelope ∷ sent) (false ∷ marks) = weight_left sent marks
 
--- So many deliveries at most leave no message fresh.
+-- After at most this many deliveries no message is fresh.
 abbrev pub enough : World → ℕ
 enough world = weight_left world.sent world.fresh

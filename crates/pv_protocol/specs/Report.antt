@@ -4,10 +4,10 @@ use Rattle.pv_base.specs.Catalog.{Item}
 use Rattle.pv_base.specs.Named.{names_of}
 use Rattle.pv_base.specs.Polyvalue.{Case}
 use Rattle.pv_base.specs.declared.txn.TxnId.{TxnId}
-use Rattle.pv_format.specs.Message.{Envelope}
+use Rattle.pv_format.specs.Message.{Envelope, txn_of}
 use Rattle.pv_model.specs.PossibleAnswers.{sums}
 use Rattle.pv_protocol.specs.Committed.{is_committed, is_open, holder_of}
-use Rattle.pv_protocol.specs.Lines.{Line}
+use Rattle.pv_protocol.specs.Lines.{Line, kind_of}
 use Rattle.pv_protocol.specs.Shown.{shown}
 use Rattle.pv_protocol.specs.State.{Setup, Running, Placed}
 use Rattle.pv_protocol.specs.World.{World, site_at}
@@ -83,7 +83,7 @@ total_of setup world = total_from setup.held_names [] 0 (readings setup world) �
 -- a line for each of the messages, which are numbered from here on
 abbrev pub sent_from : ℕ → List Envelope → List Line
 sent_from n [] = []
-sent_from n (envelope ∷ sent) = Line.sent n envelope.from envelope.to envelope.message ∷ sent_from (n + 1) sent
+sent_from n (envelope ∷ sent) = Line.sent n envelope.from envelope.to (kind_of envelope.message) (txn_of envelope.message) ∷ sent_from (n + 1) sent
 
 -- every message that was ever sent
 unfoldable pub sent_lines : World → List Line

@@ -7,7 +7,7 @@ use Rattle.pv_protocol.specs.State.{Setup, Running}
 
 -- what a site makes of a start
 pub data Started : Type 0 where
-  -- it runs, and has recorded its epoch
+  -- it is to record this epoch, and then runs with this memory
   starts : Running → Record → Started
   -- the journal with the record would have this length, above its limit
   too_long : (length : ℕ) → Started
@@ -15,15 +15,15 @@ pub data Started : Type 0 where
   no_epoch : Started
 
 -- the memory of a site that has just started: no grants and no entries, and numbers from 0
-abbrev pub fresh : ℕ → Running
-fresh epoch = record { epoch = epoch; next_txn = 0; next_grant = 0; grants = []; entries = [] }
+abbrev pub just_started : ℕ → Running
+just_started epoch = record { epoch = epoch; next_txn = 0; next_grant = 0; grants = []; entries = [] }
 
 -- the site starts in this epoch, if the journal has room for its record
 abbrev pub starting : Setup → List Record → ℕ → Started
 starting setup records epoch =
     if nat_lt setup.catalog.journal (journal_bytes records + record_bytes (epoch_begun epoch))
     then too_long (journal_bytes records + record_bytes (epoch_begun epoch))
-    else starts (fresh epoch) (epoch_begun epoch)
+    else starts (just_started epoch) (epoch_begun epoch)
 
 -- A site with these records starts.
 unfoldable pub site_start : Setup → List Record → Started

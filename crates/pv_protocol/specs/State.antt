@@ -18,6 +18,9 @@ pub record Setup : Type 0 where
   pub read_names : ℕ
   pub held_names : ℕ
 
+-- A transaction is begun and decided by the site that its number names, its coordinator. The sites that own an item of its
+-- program are its participants: each grants its locks there, and votes.
+
 -- The items that a transaction holds at a site, each shared or exclusive, and for how many ticks.
 pub record Grant : Type 0 where
   pub txn : TxnId
@@ -25,7 +28,8 @@ pub record Grant : Type 0 where
   pub wants : List Want
   pub age : ℕ
 
--- A coordinator first asks for locks, and after the lock point for votes.
+-- A coordinator first asks for locks, and after the lock point for votes. A transaction reaches its lock point when its
+-- coordinator has taken the last of the grants that it asked for: from then on it holds all locks that it will ever hold.
 pub data Stage : Type 0 where
   locking : Stage
   voting : Stage
@@ -36,7 +40,8 @@ pub record Taken : Type 0 where
   pub grant : GrantId
   pub values : List Read
 
--- what a coordinator knows of a transaction that it works on
+-- What a coordinator knows of a transaction that it works on: its program and stage, for how many ticks it is in that stage, what
+-- was taken, in the order of sites, and which sites voted yes.
 pub record Entry : Type 0 where
   pub txn : TxnId
   pub program : Program
@@ -73,18 +78,28 @@ pub data Input : Type 0 where
 
 -- why a transaction is refused
 pub data Cause : Type 0 where
+  -- at this site another transaction holds this item
   conflict : (site item : ℕ) (holder : TxnId) → Cause
+  -- the values that were taken name so many outcomes together, which is more than may be
   outcome_limit : (names : ℕ) → Cause
+  -- the coordinator had no answer of this site in time
   expired : (site : ℕ) → Cause
+  -- at this site the grant doesn't stand any more under which the vote was asked for
   grant_lost : (site : ℕ) → Cause
+  -- the journal of this site would have this length with the promise or the commit, above its limit
   journal_full : (site length : ℕ) → Cause
 
 -- what a step has to report
 pub data Note : Type 0 where
+  -- a request has begun this transaction
   began : TxnId → Note
+  -- the transaction has committed, and these are the replies that it may have given
   committed : TxnId → List Reply → Note
+  -- the transaction is refused
   refused : TxnId → Cause → Note
+  -- the journal would have this length with an outcome that the site was told, above its limit
   full : (length : ℕ) → Note
+  -- no number is left to give
   spent : Note
 
 -- a message and where it goes

@@ -18,15 +18,15 @@ older_grants grants = map (λ (grant : Grant). record grant { age = grant.age + 
 abbrev pub older_entries : List Entry → List Entry
 older_entries entries = map (λ (entry : Entry). record entry { age = entry.age + 1 }) entries
 
--- those that haven't come to their last tick
+-- the grants that haven't come to their last tick
 abbrev pub lasting_grants : List Grant → List Grant
 lasting_grants grants = filter (λ grant. nat_lt grant.age TICKS) grants
 
--- those that haven't come to their last tick
+-- the entries that haven't come to their last tick
 abbrev pub lasting_entries : List Entry → List Entry
 lasting_entries entries = filter (λ entry. nat_lt entry.age TICKS) entries
 
--- those that have come to their last tick
+-- the entries that have come to their last tick
 abbrev pub expired_entries : List Entry → List Entry
 expired_entries entries = filter (λ entry. not (nat_lt entry.age TICKS)) entries
 
@@ -55,9 +55,9 @@ ask_sends txns = map (λ txn. record { to = txn.site.0; message = ask txn }) txn
 abbrev pub older : Running → Running
 older running = record running { grants = lasting_grants (older_grants running.grants); entries = lasting_entries (older_entries running.entries) }
 
--- those of the transactions that have no grant
-abbrev pub without_grants : Running → List TxnId → List TxnId
-without_grants running txns = filter (λ txn. is_none (grant_of running txn)) txns
+-- those of the transactions that have no grant here
+abbrev pub ungranted : Running → List TxnId → List TxnId
+ungranted running txns = filter (λ txn. is_none (grant_of running txn)) txns
 
 -- Grants end and entries are refused at their last tick. Then the outcomes are asked for that shown values name, of
 -- transactions that have no grant here.
@@ -68,7 +68,7 @@ on_tick here =
     record {
       running = running;
       appended = None;
-      sends = expiry_sends here refusals ++ ask_sends (without_grants running (named_here here));
+      sends = expiry_sends here refusals ++ ask_sends (ungranted running (named_here here));
       notes = expiry_notes here refusals;
       placed = None;
     }

@@ -35,7 +35,7 @@ abbrev pub are_writes_ignored : Here → Grant → List Read → Bool
 are_writes_ignored here grant writes =
     not (are_writes_of grant writes) || list_any (λ write. would_be_wide here (prepared grant.txn writes) write.item) writes
 
--- The writes are promised: they are recorded, and the grant is as new.
+-- The writes are promised: they are recorded, and the age of the grant is 0 again.
 abbrev pub promising : Here → Grant → List Read → Step
 promising here grant writes = record {
   running = with_grant here.running (record grant { age = 0 });
@@ -57,7 +57,7 @@ with_writes here grant writes =
 abbrev pub losing : Here → TxnId → Step
 losing here txn = sending here.running (only_to txn.site.0 (vote_no txn grant_lost))
 
--- The vote needs the very grant that it was asked for under, among what the transaction has here.
+-- The vote needs the very grant that it was asked for under: it has to be the one that the transaction has here.
 abbrev pub at_prepare : Here → TxnId → GrantId → List Read → Option Grant → Step
 at_prepare here txn grant writes None = losing here txn
 at_prepare here txn grant writes (Some standing) =

@@ -28,7 +28,7 @@ is_tick_of n other = false
 abbrev pub ticks_of : ℕ → List Transition → ℕ
 ticks_of n transitions = count_by (λ transition. is_tick_of n transition.event) transitions
 
--- The transaction began this stage in a transition after which its site has ticked so often.
+-- The transaction came into this stage in a transition and has been in it ever since, while its site ticked so many times.
 pub record HasWaited (first : World) (transitions : List Transition) (txn : TxnId) (stage : Stage) (ticks : ℕ) : Type 0 where
   pub begin : Place transitions
   pub not_before : IsInStage txn stage (world_before first begin) → ⊥

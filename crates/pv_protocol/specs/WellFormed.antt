@@ -1,9 +1,10 @@
 -- What a step asks of an event.
-use Rattle.std.specs.Prelude.{ℕ, ◌<◌, ◌≤◌, List, length, All, ⊤}
+use Rattle.std.specs.Prelude.{ℕ, ◌<◌, ◌≤◌, Bool, true, ◌&&◌, List, length, All, IsTrue, ⊤}
 use Rattle.pv_base.specs.Catalog.{Declared}
 use Rattle.pv_model.specs.Check.{AreItems}
 use Rattle.pv_model.specs.Events.{Event, submit, deliver, pump, lose, drop, tick, stop, start, arm, mend, sent, report, total}
-use Rattle.pv_model.specs.Syntax.{Program}
+use Rattle.pv_model.specs.Meaning.{fits_i64}
+use Rattle.pv_model.specs.Syntax.{Expr, number, item, minus, negation, two, Program, end, assign, require, return, when, when_else}
 
 -- The program names 1 to 16 items, all of the catalog.
 pub record IsRunnable (catalog : Declared) (program : Program) : Type 0 where
@@ -13,19 +14,42 @@ pub record IsRunnable (catalog : Declared) (program : Program) : Type 0 where
   pub few : length items ≤ 16
   pub known : All (λ n. n < length catalog.items) items
 
--- The site is one of the catalog's.
-abbrev pub IsSite : Declared → ℕ → Type 0
-IsSite catalog site = site < catalog.sites
+-- Each number that stands in the expression has 64 bits.
+abbrev pub is_of_small_numbers : Expr → Bool
+is_of_small_numbers (number z) = fits_i64 z
+is_of_small_numbers (item n) = true
+is_of_small_numbers (minus e) = is_of_small_numbers e
+is_of_small_numbers (negation e) = is_of_small_numbers e
+is_of_small_numbers (two op left right) = is_of_small_numbers left && is_of_small_numbers right
 
--- The event is of a site of the catalog, arms a call that is counted from 1, and asks for a program that can run.
+-- Each number that stands in the program has 64 bits.
+abbrev pub has_small_numbers : Program → Bool
+has_small_numbers end = true
+has_small_numbers (assign n e next) = is_of_small_numbers e && has_small_numbers next
+has_small_numbers (require e next) = is_of_small_numbers e && has_small_numbers next
+has_small_numbers (return e next) = is_of_small_numbers e && has_small_numbers next
+has_small_numbers (when e body next) = is_of_small_numbers e && (has_small_numbers body && has_small_numbers next)
+has_small_numbers (when_else e body other next) =
+    is_of_small_numbers e && (has_small_numbers body && (has_small_numbers other && has_small_numbers next))
+
+-- The program can run: it names some items, all of the catalog and not too many, and its numbers have 64 bits.
+pub record CanRun (catalog : Declared) (program : Program) : Type 0 where
+  pub runnable : IsRunnable catalog program
+  pub numbers : IsTrue (has_small_numbers program)
+
+-- The catalog has this site.
+abbrev pub HasSite : Declared → ℕ → Type 0
+HasSite catalog site = site < catalog.sites
+
+-- The event is of a site of the catalog, arms a write or sync that is counted from 1, and asks for a program that can run.
 abbrev pub IsWellFormed : Declared → Event → Type 0
-IsWellFormed catalog (submit site query text program) = IsSite catalog site × IsRunnable catalog program
-IsWellFormed catalog (drop site) = IsSite catalog site
-IsWellFormed catalog (tick site) = IsSite catalog site
-IsWellFormed catalog (stop site) = IsSite catalog site
-IsWellFormed catalog (start site) = IsSite catalog site
-IsWellFormed catalog (arm site call mode stops) = IsSite catalog site × (1 ≤ call)
-IsWellFormed catalog (mend site) = IsSite catalog site
+IsWellFormed catalog (submit site query text program) = HasSite catalog site × CanRun catalog program
+IsWellFormed catalog (drop site) = HasSite catalog site
+IsWellFormed catalog (tick site) = HasSite catalog site
+IsWellFormed catalog (stop site) = HasSite catalog site
+IsWellFormed catalog (start site) = HasSite catalog site
+IsWellFormed catalog (arm site call mode stops) = HasSite catalog site × (1 ≤ call)
+IsWellFormed catalog (mend site) = HasSite catalog site
 IsWellFormed catalog (deliver n) = ⊤
 IsWellFormed catalog (pump most) = ⊤
 IsWellFormed catalog (lose n) = ⊤

@@ -6,7 +6,8 @@ use Rattle.pv_protocol.specs.Start as start
 use Rattle.pv_protocol.specs.State.{Setup, Site, Outgoing, Placed}
 
 -- All sites, by their numbers; every message that was ever sent, by its number, and beside it whether it is fresh; and the
--- transactions that reached their lock points, in that order.
+-- transactions that reached their lock points, in that order. A message is fresh while it is not yet delivered, lost or dropped,
+-- and done from then on. A message that is done may still be delivered again.
 pub record World : Type 0 where
   pub sites : List Site
   pub sent : List Envelope
@@ -39,7 +40,7 @@ with_done world n = record world { fresh = set world.fresh n false }
 
 -- A site that was started once: its first epoch is 1, and nothing has happened in it.
 abbrev pub first_site : Site
-first_site = record { records = epoch_begun 1 ∷ []; arm = None; running = Some (start.fresh 1) }
+first_site = record { records = epoch_begun 1 ∷ []; arm = None; running = Some (start.just_started 1) }
 
 -- Where a run begins: each site was started once, nothing was sent and no transaction has reached its lock point.
 abbrev pub opening : Setup → World

@@ -2,7 +2,7 @@
 use Rattle.std.specs.Prelude.{List}
 use Rattle.pv_model.specs.Events.{Event}
 use Rattle.pv_protocol.specs.Arms.{calls_of, reached, attempted}
-use Rattle.pv_protocol.specs.Attempt.{Begun, settled, attempts, begun}
+use Rattle.pv_protocol.specs.Attempt.{Begun, at_once, attempts, begun}
 use Rattle.pv_protocol.specs.Lines.{Line}
 use Rattle.pv_protocol.specs.State.{Setup}
 use Rattle.pv_protocol.specs.World.{World, site_at}
@@ -15,7 +15,7 @@ pub record Transition : Type 0 where
 
 -- what an event prints, and the world after it
 abbrev pub ended : Begun → List Line × World
-ended (settled lines world) = (lines, world)
+ended (at_once lines world) = (lines, world)
 ended (attempts world n attempt) = attempted world n attempt (reached (calls_of attempt) (site_at world n).arm)
 
 -- One event that isn't a pump.

@@ -16,4 +16,4 @@ use Rattle.pv_protocol.specs.Vote.{on_prepare, on_yes, on_no}
 
 pub returns : goal.returns
 unfolding alone canonical_cases exec plan_of new_value reply_value on_granted on_denied on_submit on_lock named_here is_named_here on_outcome on_ask journal_bytes shown_within on_tick on_prepare on_yes on_no
-returns c = record { records = refl; notes = refl; waiting = refl }
+returns c = record { records = refl; notes = refl; waiting = refl; grants = refl; entries = refl }

@@ -12,9 +12,9 @@ use Rattle.pv_law_step.proofs.ranges.steps_stay_sound.Goals as goal
 use Rattle.pv_law_step.specs.Appends.{Appends, nothing_at_all, an_outcome, a_promise}
 use Rattle.pv_protocol.specs.Here.{Here, is_full, length_with}
 use Rattle.pv_protocol.specs.Records.{journal_bytes}
-use Rattle.pv_protocol.specs.Sound.{IsSound}
+use Rattle.pv_protocol.specs.Sound.{IsHereInRange}
 
-module _ (here : Here) (sound : IsSound here) where
+module _ (here : Here) (sound : IsHereInRange here) where
   with-room : (more : Record) → is_full here more ≡ false → journal_bytes (here.records ++ more ∷ []) ≤ here.setup.catalog.journal
   with-room more room = omega (arith, journal-more here.records more, ltb-false here.setup.catalog.journal (length_with here more) room)
 

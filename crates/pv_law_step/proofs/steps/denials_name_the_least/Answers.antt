@@ -1,6 +1,9 @@
--- The lemma, as the law of an empty function.
-use Rattle.pv_law_step.proofs.ConflictLemmas.{least-conflict}
+-- The lemmas, as the law of an empty function.
+use Rattle.pv_law_step.proofs.ConflictLemmas.{least-conflict, no-conflict}
 use Rattle.pv_law_step.proofs.steps.denials_name_the_least.Goals as goal
 
 pub returns : goal.returns
-returns c = λ grants wants order are. least-conflict grants order wants are.ascending
+returns c = record {
+  none = λ grants wants is item holder conflict. no-conflict grants wants is item holder conflict;
+  least = λ grants wants order are. least-conflict grants order wants are.ascending;
+}

@@ -1,10 +1,11 @@
 -- Each case of these steps says so.
-use Rattle.std.proofs.Common.{◌≡◌, ℕ, Bool, None, List, refl}
+use Rattle.std.proofs.Common.{◌≡◌, ℕ, Bool, Some, None, List, refl, sym, ap}
+use Rattle.pv_base.proofs.Basics.{Some_inj}
 use Rattle.pv_base.specs.declared.grant.GrantId.{GrantId}
 use Rattle.pv_base.specs.declared.txn.TxnId.{TxnId}
 use Rattle.pv_base.specs.Want.{Want}
 use Rattle.pv_format.specs.Message.{NoCause}
-use Rattle.pv_law_step.proofs.StepCases.{submit-case, lock-case, denied-case, prepare-case, yes-case, no-case, outcome-case, ask-case}
+use Rattle.pv_law_step.proofs.StepCases.{submit-case, lock-case, granted-case, denied-case, prepare-case, yes-case, no-case, outcome-case, ask-case}
 use Rattle.pv_law_step.proofs.steps.only_grants_place.Goals as goal
 use Rattle.pv_law_step.specs.GrantCases as of_grants
 use Rattle.pv_law_step.specs.LockCases as of_locks
@@ -12,9 +13,13 @@ use Rattle.pv_law_step.specs.OutcomeCases as of_outcomes
 use Rattle.pv_law_step.specs.VoteCases as of_votes
 use Rattle.pv_model.specs.Alternatives.{Read}
 use Rattle.pv_model.specs.Syntax.{Program}
+use Rattle.pv_protocol.specs.Granted.{grants_taken, taking}
 use Rattle.pv_protocol.specs.Here.{Here}
-use Rattle.pv_protocol.specs.State.{Step}
+use Rattle.pv_protocol.specs.State.{Entry, Placed, Step}
 use Rattle.pv_protocol.specs.Tick.{on_tick}
+
+none-some : {A : Type 0} {x : A} → None ≡ Some x → ⊥
+none-some is = cc
 
 module _ (here : Here) where
   submit-none : (program : Program) (step : Step) → of_locks.SubmitCase here program step → step.placed ≡ None
@@ -28,6 +33,16 @@ module _ (here : Here) where
   lock-none from txn wants step (of_locks.denies conflict h i j) = refl
   lock-none from txn wants step (of_locks.no_grant_left h i) = refl
   lock-none from txn wants step (of_locks.grants h i) = refl
+
+  granted-last : (from : ℕ) (txn : TxnId) (grant : GrantId) (values : List Read) (step : Step) → of_grants.GrantedCase here from txn grant values step
+      → (placed : Placed) → step.placed ≡ Some placed
+      → (entry : Entry) × of_grants.IsLastGrant here from txn grant values entry × (placed.grants ≡ grants_taken (taking entry from grant values))
+  granted-last from txn grant values step (of_grants.no_entry h) placed is = absurd (none-some is)
+  granted-last from txn grant values step (of_grants.ignored entry h i) placed is = absurd (none-some is)
+  granted-last from txn grant values step (of_grants.waits entry h i) placed is = absurd (none-some is)
+  granted-last from txn grant values step (of_grants.too_wide entry h i) placed is = absurd (none-some is)
+  granted-last from txn grant values step (of_grants.reaches_lock_point entry last few) placed is =
+      (entry, last, ap (λ (p : Placed). p.grants) (sym (Some_inj is)))
 
   denied-none : (from : ℕ) (txn : TxnId) (item : ℕ) (holder : TxnId) (step : Step) → of_grants.DeniedCase here from txn item holder step → step.placed ≡ None
   denied-none from txn item holder step (of_grants.no_entry h) = refl
@@ -77,6 +92,7 @@ pub returns : goal.returns
 returns c = record {
   requests = λ here program. submit-none here program _ (submit-case here program);
   locks = λ here from txn wants. lock-none here from txn wants _ (lock-case here from txn wants);
+  grants = λ here from txn grant values. granted-last here from txn grant values _ (granted-case here from txn grant values);
   denials = λ here from txn item holder. denied-none here from txn item holder _ (denied-case here from txn item holder);
   prepares = λ here from txn grant writes. prepare-none here from txn grant writes _ (prepare-case here from txn grant writes);
   votes = λ here from txn. yes-none here from txn _ (yes-case here from txn);

@@ -3,4 +3,4 @@ use Rattle.pv_law_step.proofs.WidthLemmas.{unwritten-narrow}
 use Rattle.pv_law_step.proofs.width.only_written_values_widen.Goals as goal
 
 pub returns : goal.returns
-returns c = λ limit catalog records narrow txn writes item none. unwritten-narrow limit catalog records narrow txn writes item none
+returns c = λ limit catalog site records narrow txn writes item home none. unwritten-narrow limit catalog site records narrow txn writes item home none
