@@ -1,6 +1,5 @@
 -- What is in range with some sites is in range.
-use Rattle.std.proofs.Common.{arith, ℕ, ℤ, ◌<◌, ◌≤◌, List}
-use Rattle.std.specs.Prelude.{All}
+use Rattle.std.proofs.Common.{arith, ℕ, ℤ, ◌≤◌, List}
 use Rattle.std.proofs.lemmas.List.Elements.{All-weaker}
 use Rattle.pv_base.specs.declared.limits.TheConstants.{MAX_SITES}
 use Rattle.pv_base.specs.declared.literal.Literal.{Literal}

@@ -13,7 +13,8 @@ use Rattle.pv_protocol.specs.State.{Setup, Grant, Taken, Entry, Running, Input, 
 use Rattle.pv_protocol.specs.WellFormed.{CanRun}
 use Rattle.pv_protocol.specs.Width.{IsNarrow}
 
--- The catalog and the limits are in range, and a value that is read names fewer outcomes than one may that is held.
+-- The catalog and the limits are in range, and the values that one transaction reads may name fewer outcomes together than one value
+-- that is held.
 pub record IsSetupInRange (setup : Setup) : Type 0 where
   pub sites : setup.catalog.sites ≤ MAX_SITES
   pub items : length setup.catalog.items ≤ MAX_ITEMS
