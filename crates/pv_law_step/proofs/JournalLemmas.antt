@@ -10,7 +10,7 @@ use Rattle.pv_base.specs.declared.limits.TheConstants.{HELD_NAMES}
 use Rattle.pv_base.specs.declared.txn.TxnId.{TxnId}
 use Rattle.pv_base.specs.Polyvalue.{Case}
 use Rattle.pv_format.specs.Length.{case_length, polyvalue_length}
-use Rattle.pv_format.specs.Range.{IsPolyvalueInRange, AreReadsInRange}
+use Rattle.pv_format.specs.Range.{IsPolyvalueWithin, AreReadsWithin}
 use Rattle.pv_format.specs.Record.{Record, prepared}
 use Rattle.pv_law_format.proofs.CaseCount.{polyvalue-few}
 use Rattle.pv_law_step.proofs.Lists.{all-from, all-head, all-tail}
@@ -34,20 +34,20 @@ sum-small f most (x ∷ xs) small =
 case-short : (most : ℕ) (case : Case ℤ) → length case.when ≤ 8 → case_length case ≤ 89
 case-short most case few = omega (arith, few)
 
-polyvalue-short : (cases : List (Case ℤ)) → IsPolyvalueInRange cases → polyvalue_length cases ≤ 30000
-polyvalue-short cases is =
+polyvalue-short : (sites : ℕ) (cases : List (Case ℤ)) → IsPolyvalueWithin sites cases → polyvalue_length cases ≤ 30000
+polyvalue-short sites cases is =
     let few = polyvalue-few HELD_NAMES cases is.polyvalue in
     let count : length cases ≤ 256 = few.count in
     let each : All (λ case. case_length case ≤ 89) cases =
     all-from (λ case. case_length case ≤ 89) cases (λ case h. case-short 0 case (All-contains (λ case. length case.when ≤ HELD_NAMES) cases case few.literals h)) in
     omega (arith, count, sum-small case_length 89 cases each)
 
-module _ (here : Here) (sound : IsHereInRange here) where
-  pub length-short : (txn : TxnId) (writes : List Read) → AreReadsInRange 0 writes → length_with here (prepared txn writes) < 2 ^ 64
+module _ (sites : ℕ) (here : Here) (sound : IsHereInRange sites here) where
+  pub length-short : (txn : TxnId) (writes : List Read) → AreReadsWithin sites 0 writes → length_with here (prepared txn writes) < 2 ^ 64
   length-short txn writes are =
       let each : All (λ (read : Read). 4 + polyvalue_length read.cases ≤ 40000) writes =
       all-from (λ (read : Read). 4 + polyvalue_length read.cases ≤ 40000) writes
-      (λ read h. omega (arith, polyvalue-short read.cases (All-contains (λ (r : Read). IsPolyvalueInRange r.cases) writes read are.values h))) in
+      (λ read h. omega (arith, polyvalue-short sites read.cases (All-contains (λ (r : Read). IsPolyvalueWithin sites r.cases) writes read are.values h))) in
       let few : length (map (λ (read : Read). read.item) writes) ≤ 16 = are.items.few in
       let short = sum-small (λ (read : Read). 4 + polyvalue_length read.cases) 40000 writes each in
       omega (arith, short, few, length-map {B = ℕ} writes (λ (read : Read). read.item), sound.room, sound.setup.journal)

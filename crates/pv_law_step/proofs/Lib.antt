@@ -19,3 +19,4 @@ pub mod ValueRanges
 pub mod WantRanges
 pub mod WidthLemmas
 pub mod WidthSteps
+pub mod WiderLemmas

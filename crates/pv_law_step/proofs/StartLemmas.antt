@@ -1,11 +1,11 @@
 -- A start is one of its cases, and a site that starts is sound.
-use Rattle.std.proofs.Common.{◌≡◌, ℕ, ◌+◌, ◌<◌, false, List, [], ◌∷◌, ◌++◌, subst, arith}
+use Rattle.std.proofs.Common.{◌≡◌, ℕ, ◌+◌, ◌<◌, ◌≤◌, false, List, [], ◌∷◌, ◌++◌, subst, arith}
 use Rattle.std.specs.Prelude.{All, nat_le, nat_lt}
 use Rattle.std.proofs.lemmas.Bool.{ltb-false}
 use Rattle.std.proofs.lemmas.Bool.{leb-false}
 use Rattle.std.proofs.lemmas.List.Elements.{All-append, All-cons, All-nil}
-use Rattle.pv_base.specs.declared.limits.TheConstants.{NEVER_GIVEN}
-use Rattle.pv_format.specs.Range.{IsRecordInRange}
+use Rattle.pv_base.specs.declared.limits.TheConstants.{MAX_SITES, NEVER_GIVEN}
+use Rattle.pv_format.specs.Range.{IsRecordWithin}
 use Rattle.pv_format.specs.Record.{Record, epoch_begun}
 use Rattle.pv_law_step.proofs.JournalLemmas.{journal-more}
 use Rattle.pv_law_step.proofs.StepCases.{if_case}
@@ -24,11 +24,11 @@ start-case setup records =
     (λ left. if_case (StartCase setup records) (nat_lt setup.catalog.journal (journal_bytes records + record_bytes (epoch_begun (last_epoch records + 1))))
     (no_room left) (begins left))
 
-module _ (setup : Setup) (me : ℕ) (records : List Record) (fine : IsSetupInRange setup) (here : me < setup.catalog.sites) (all : All IsRecordInRange records)
+module _ (sites : ℕ) (setup : Setup) (bound : setup.catalog.sites ≤ sites) (most : sites ≤ MAX_SITES) (me : ℕ) (records : List Record) (fine : IsSetupInRange setup) (here : me < setup.catalog.sites) (all : All (IsRecordWithin sites) records)
     (narrow : IsNarrow setup.held_names setup.catalog me records) where
   -- The site with its new record and this memory is sound.
   abbrev Sound : Running → Record → Type 0
-  Sound running new = IsHereInRange (record { me = me; setup = setup; records = records ++ new ∷ []; running = running })
+  Sound running new = IsHereInRange sites (record { me = me; setup = setup; records = records ++ new ∷ []; running = running })
 
   started-sound : nat_le NEVER_GIVEN (last_epoch records + 1) ≡ false
       → nat_lt setup.catalog.journal (journal_bytes records + record_bytes (epoch_begun (last_epoch records + 1))) ≡ false
@@ -38,12 +38,14 @@ module _ (setup : Setup) (me : ℕ) (records : List Record) (fine : IsSetupInRan
       let below : last_epoch records + 1 < NEVER_GIVEN = leb-false NEVER_GIVEN (last_epoch records + 1) left in
       record {
         me = here;
+        bound = bound;
+        most = most;
         setup = fine;
-        records = All-append IsRecordInRange records (epoch_begun (last_epoch records + 1) ∷ []) all
-            (All-cons IsRecordInRange (epoch_begun (last_epoch records + 1)) [] (omega arith, omega (arith, below)) (All-nil IsRecordInRange));
+        records = All-append (IsRecordWithin sites) records (epoch_begun (last_epoch records + 1) ∷ []) all
+            (All-cons (IsRecordWithin sites) (epoch_begun (last_epoch records + 1)) [] (omega arith, omega (arith, below)) (All-nil (IsRecordWithin sites)));
         narrow = other-narrow setup.catalog setup.held_names me records narrow (epoch_begun (last_epoch records + 1)) (λ txn writes same. cc);
         room = omega (arith, journal-more records (epoch_begun (last_epoch records + 1)), ltb-false _ _ room);
-        running = record { epoch = below; next_txn = omega arith; next_grant = omega arith; grants = All-nil (IsHeldInRange setup.catalog me); entries = All-nil (IsEntryInRange setup.catalog) };
+        running = record { epoch = below; next_txn = omega arith; next_grant = omega arith; grants = All-nil (IsHeldInRange sites setup.catalog me); entries = All-nil (IsEntryInRange sites setup.catalog) };
       }
 
   pub start-sound : (started : Started) → StartCase setup records started → (running : Running) (new : Record) → started ≡ starts running new → Sound running new

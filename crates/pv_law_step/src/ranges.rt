@@ -5,8 +5,8 @@ ghost use Rattle.std.specs.List.{Contains};
 ghost use Rattle.std.specs.Prelude.{◌++◌, ◌∷◌, ◌≡◌, [], ◌<◌, ◌≤◌, ℕ, All, IsTrue, length, List};
 ghost use Rattle.pv_base.specs.Catalog.{Declared};
 ghost use Rattle.pv_base.specs.Named.{names_of};
-ghost use Rattle.pv_base.specs.declared.limits.TheConstants.{HELD_NAMES, MAX_ITEMS};
-ghost use Rattle.pv_format.specs.Range.{AreWantsInRange, IsPolyvalueInRange, IsRecordInRange};
+ghost use Rattle.pv_base.specs.declared.limits.TheConstants.{HELD_NAMES, MAX_ITEMS, MAX_SITES};
+ghost use Rattle.pv_format.specs.Range.{AreWantsInRange, IsPolyvalueWithin, IsRecordWithin};
 ghost use Rattle.pv_format.specs.MessageSpelling.{SpellsEnvelope};
 ghost use Rattle.pv_format.specs.Record.{Record};
 ghost use Rattle.pv_format.specs.RecordSpelling.{SpellsRecord};
@@ -30,8 +30,9 @@ pub fn programs_stay_in_range()
 
 /// Shown values are in range where the records are, and name no more outcomes than a polyvalue may.
 pub fn shown_values_are_in_range()
-    ensures { (catalog : Declared) (records : List Record) (item : ℕ) → All (λ item. FitsSigned w64 item.value) catalog.items →
-        All IsRecordInRange records → length (names_of (shown catalog records item)) ≤ HELD_NAMES → IsPolyvalueInRange (shown catalog records item) }
+    ensures { (sites : ℕ) (catalog : Declared) (records : List Record) (item : ℕ) → All (λ item. FitsSigned w64 item.value) catalog.items →
+        All (IsRecordWithin sites) records → length (names_of (shown catalog records item)) ≤ HELD_NAMES →
+        IsPolyvalueWithin sites (shown catalog records item) }
 {}
 
 /// What a program wants of each participant is in range, and the participants are sites of the catalog.
@@ -41,31 +42,31 @@ pub fn plans_are_in_range()
         (site < catalog.sites) × AreWantsInRange (wants_of program catalog.items site) }
 {}
 
-/// What a site sends is in range where what it holds and what it is given is.
+/// What a site sends is in range where what it holds and what it is given is: its receiver is one of the sites.
 pub fn sends_are_in_range()
-    ensures { (here : Here) (input : Input) → IsHereInRange here → IsInputInRange here input → All (IsSentInRange here) (step_on here input).sends }
+    ensures { (sites : ℕ) (here : Here) (input : Input) → IsHereInRange sites here → IsInputInRange sites here input → All (IsSentInRange sites here) (step_on here input).sends }
 {}
 
 /// What a site holds stays in range where what it is given is.
 pub fn steps_stay_sound()
-    ensures { (here : Here) (input : Input) → IsHereInRange here → IsInputInRange here input → IsHereInRange (after_step here (step_on here input)) }
+    ensures { (sites : ℕ) (here : Here) (input : Input) → IsHereInRange sites here → IsInputInRange sites here input → IsHereInRange sites (after_step here (step_on here input)) }
 {}
 
 /// A site that starts is sound where its records are in range and narrow.
 pub fn starts_are_sound()
-    ensures { (setup : Setup) (me : ℕ) (records : List Record) → IsSetupInRange setup → me < setup.catalog.sites → All IsRecordInRange records →
+    ensures { (sites : ℕ) (setup : Setup) → setup.catalog.sites ≤ sites → sites ≤ MAX_SITES → (me : ℕ) (records : List Record) → IsSetupInRange setup → me < setup.catalog.sites → All (IsRecordWithin sites) records →
         IsNarrow setup.held_names setup.catalog me records → (running : Running) (new : Record) → site_start setup records ≡ starts running new →
-        IsHereInRange (record { me = me; setup = setup; records = records ++ new ∷ []; running = running }) }
+        IsHereInRange sites (record { me = me; setup = setup; records = records ++ new ∷ []; running = running }) }
 {}
 
 /// Each message that a site sends has a spelling, where what it holds and what it is given is in range.
 pub fn sends_are_spelled()
-    ensures { (here : Here) (input : Input) → IsHereInRange here → IsInputInRange here input →
+    ensures { (sites : ℕ) (here : Here) (input : Input) → IsHereInRange sites here → IsInputInRange sites here input →
         All (λ sent. (bytes : List ℕ) × SpellsEnvelope (record { from = here.me; to = sent.to; message = sent.message }) bytes) (step_on here input).sends }
 {}
 
 /// The records of a site have spellings, also the one that a step appends.
 pub fn records_are_spelled()
-    ensures { (here : Here) (input : Input) → IsHereInRange here → IsInputInRange here input →
+    ensures { (sites : ℕ) (here : Here) (input : Input) → IsHereInRange sites here → IsInputInRange sites here input →
         All (λ kept. (bytes : List ℕ) × SpellsRecord kept bytes) (records_after here.records (step_on here input)) }
 {}

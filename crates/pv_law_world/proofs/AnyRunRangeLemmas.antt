@@ -3,7 +3,7 @@ use Rattle.std.proofs.Common.{ℕ, ◌<◌, None, Option, List, [], ◌∷◌, �
 use Rattle.std.specs.Prelude.{option_to_list, All}
 use Rattle.std.proofs.lemmas.List.{append-nil, length-map}
 use Rattle.std.proofs.lemmas.List.Elements.{All-cons, All-nil}
-use Rattle.pv_format.specs.Range.{IsEnvelopeInRange}
+use Rattle.pv_format.specs.Range.{IsEnvelopeWithin}
 use Rattle.pv_format.specs.Record.{Record, epoch_begun}
 use Rattle.pv_law_world.proofs.DisarmLemmas.{site-disarmed}
 use Rattle.pv_law_world.proofs.RangeLemmas.{SendsInRange, StaysSound, StartsSound, IsAttemptInRange, IsBegunInRange, settles, goes_on, down-in-range, put-world, attempted-range, begun-range}
@@ -34,7 +34,7 @@ module _ (setup : Setup) where
 
   module _ (before : World) (n : ℕ) (attempt : Attempt) (fine : IsWorldInRange setup before)
       (may : n < length before.sites → IsSiteInRange setup n (site_at before n) → IsAttemptInRange setup (site_at before n) n attempt)
-      (sends : All IsEnvelopeInRange (from_site n attempt.sends)) where
+      (sends : All (IsEnvelopeWithin setup.catalog.sites) (from_site n attempt.sends)) where
     end-fine : (lines : List Line) (after : World) → MayEnd before n attempt lines after → IsWorldInRange setup after
     end-fine lines after anywhere.whole = attempted-range setup before n attempt fine may sends (waits None)
     end-fine lines after (anywhere.without stops some) = put-world setup before n _ fine (λ within site. down-in-range site _ (append-nil _) refl)

@@ -1,12 +1,13 @@
 -- Worlds stay in range.
-use Rattle.std.proofs.Common.{arith, ◌≡◌, ℕ, zero, suc, ◌+◌, ◌<◌, Bool, true, false, Some, None, Option, List, [], ◌∷◌, ◌++◌, length, refl, sym, ◌∙◌, subst}
+use Rattle.std.proofs.Common.{arith, ◌≡◌, ℕ, zero, suc, ◌+◌, ◌<◌, ◌≤◌, Bool, true, false, Some, None, Option, List, [], ◌∷◌, ◌++◌, length, refl, sym, ◌∙◌, subst}
 use Rattle.std.specs.Prelude.{get_or, set, slice_get, option_to_list, nat_lt, ◌&&◌, if◌then◌else◌, All}
 use Rattle.std.proofs.lemmas.List.{append-nil, length-set}
 use Rattle.std.proofs.lemmas.List.Elements.{All-append, All-map, All-nil, All-contains}
 use Rattle.std.proofs.lemmas.Option.{slice_get_within, get_or_from_slice_get}
 use Rattle.pv_base.proofs.Basics.{Some_inj}
+use Rattle.pv_base.specs.declared.limits.TheConstants.{MAX_SITES}
 use Rattle.pv_format.specs.Message.{Envelope}
-use Rattle.pv_format.specs.Range.{IsEnvelopeInRange, IsRecordInRange}
+use Rattle.pv_format.specs.Range.{IsEnvelopeWithin, IsRecordWithin}
 use Rattle.pv_format.specs.Record.{Record}
 use Rattle.pv_law_world.specs.Ranges.{IsSiteInRange, IsWorldInRange}
 use Rattle.pv_model.specs.Events.{Event}
@@ -25,10 +26,10 @@ use Rattle.pv_protocol.specs.WorldStep.{ended, transition_of}
 
 -- what holds of one step
 abbrev pub SendsInRange : Type 0
-SendsInRange = (here : Here) (input : Input) → IsHereInRange here → IsInputInRange here input → All (IsSentInRange here) (step_on here input).sends
+SendsInRange = (sites : ℕ) (here : Here) (input : Input) → IsHereInRange sites here → IsInputInRange sites here input → All (IsSentInRange sites here) (step_on here input).sends
 
 abbrev pub StaysSound : Type 0
-StaysSound = (here : Here) (input : Input) → IsHereInRange here → IsInputInRange here input → IsHereInRange (after_step here (step_on here input))
+StaysSound = (sites : ℕ) (here : Here) (input : Input) → IsHereInRange sites here → IsInputInRange sites here input → IsHereInRange sites (after_step here (step_on here input))
 
 no-some : {A : Type 0} {x : A} → None ≡ Some x → ⊥
 no-some is = cc
@@ -62,14 +63,14 @@ up-within (first ∷ sites) (suc n) running is = let rest : n < length sites = u
 -- What a site attempts leaves it in range, and sends what is in range.
 pub record IsAttemptInRange (setup : Setup) (site : Site) (n : ℕ) (attempt : Attempt) : Type 0 where
   pub whole : (whole : Site) → whole.records ≡ site.records ++ option_to_list attempt.appended → whole.running ≡ attempt.running → IsSiteInRange setup n whole
-  pub sends : All IsEnvelopeInRange (from_site n attempt.sends)
+  pub sends : All (IsEnvelopeWithin setup.catalog.sites) (from_site n attempt.sends)
 
 -- What an event comes to before any write is in range.
 pub data IsBegunInRange (setup : Setup) : Begun → Type 0 where
   settles : (lines : List Line) (after : World) → IsWorldInRange setup after → IsBegunInRange setup (at_once lines after)
   goes_on : (before : World) (n : ℕ) (attempt : Attempt) → IsWorldInRange setup before
       → (n < length before.sites → IsSiteInRange setup n (site_at before n) → IsAttemptInRange setup (site_at before n) n attempt)
-      → All IsEnvelopeInRange (from_site n attempt.sends) → IsBegunInRange setup (attempts before n attempt)
+      → All (IsEnvelopeWithin setup.catalog.sites) (from_site n attempt.sends) → IsBegunInRange setup (attempts before n attempt)
 
 module _ (setup : Setup) where
   -- a site in range, put into a world in range
@@ -87,11 +88,11 @@ module _ (setup : Setup) where
 
   pub attempted-range : (before : World) (n : ℕ) (attempt : Attempt) → IsWorldInRange setup before
       → (n < length before.sites → IsSiteInRange setup n (site_at before n) → IsAttemptInRange setup (site_at before n) n attempt)
-      → All IsEnvelopeInRange (from_site n attempt.sends) → (left : Reached) → IsWorldInRange setup (attempted before n attempt left).1
+      → All (IsEnvelopeWithin setup.catalog.sites) (from_site n attempt.sends) → (left : Reached) → IsWorldInRange setup (attempted before n attempt left).1
   attempted-range before n attempt fine may sends (waits arm) =
       let put : IsWorldInRange setup (with_site before n (record { records = (site_at before n).records ++ option_to_list attempt.appended; arm = arm; running = attempt.running }))
       = put-world before n _ fine (λ within site_fine. (may within site_fine).whole _ refl refl) in
-      record { count = put.count; sites = put.sites; sent = All-append IsEnvelopeInRange before.sent (from_site n attempt.sends) fine.sent sends }
+      record { count = put.count; sites = put.sites; sent = All-append (IsEnvelopeWithin setup.catalog.sites) before.sent (from_site n attempt.sends) fine.sent sends }
   attempted-range before n attempt fine may sends (fires arm) = left-over (nat_lt (attempt.syncs + 2) arm.call && is_kept arm.mode)
     where
       left-over : (kept : Bool) → IsWorldInRange setup
@@ -113,12 +114,14 @@ here_at setup world n running = record { me = n; setup = setup; records = (site_
 
 module _ (sends_stay : SendsInRange) (sound_stays : StaysSound) (setup : Setup) (setup_fine : IsSetupInRange setup) (world : World) (fine : IsWorldInRange setup world) where
   -- a running site of a world in range
-  here-sound : (n : ℕ) (running : Running) → (site_at world n).running ≡ Some running → IsHereInRange (here_at setup world n running)
+  here-sound : (n : ℕ) (running : Running) → (site_at world n).running ≡ Some running → IsHereInRange setup.catalog.sites (here_at setup world n running)
   here-sound n running is =
       let within : n < setup.catalog.sites = subst (λ (count : ℕ). n < count) fine.count (up-within world.sites n running is) in
       let site : IsSiteInRange setup n (site_at world n) = fine.sites n within in
       record {
         me = within;
+        bound = omega arith;
+        most = setup_fine.sites;
         setup = setup_fine;
         records = site.records;
         narrow = site.narrow;
@@ -126,25 +129,25 @@ module _ (sends_stay : SendsInRange) (sound_stays : StaysSound) (setup : Setup) 
         running = site.running running is;
       }
 
-  step-sends : (n : ℕ) (running : Running) (input : Input) → (site_at world n).running ≡ Some running → IsInputInRange (here_at setup world n running) input
-      → All IsEnvelopeInRange (from_site n (step_on (here_at setup world n running) input).sends)
+  step-sends : (n : ℕ) (running : Running) (input : Input) → (site_at world n).running ≡ Some running → IsInputInRange setup.catalog.sites (here_at setup world n running) input
+      → All (IsEnvelopeWithin setup.catalog.sites) (from_site n (step_on (here_at setup world n running) input).sends)
   step-sends n running input is good =
-      All-map IsEnvelopeInRange _ (step_on (here_at setup world n running) input).sends (sends_stay (here_at setup world n running) input (here-sound n running is) good)
+      All-map (IsEnvelopeWithin setup.catalog.sites) _ (step_on (here_at setup world n running) input).sends (sends_stay setup.catalog.sites (here_at setup world n running) input (here-sound n running is) good)
 
-  step-whole : (n : ℕ) (running : Running) (input : Input) → (site_at world n).running ≡ Some running → IsInputInRange (here_at setup world n running) input
+  step-whole : (n : ℕ) (running : Running) (input : Input) → (site_at world n).running ≡ Some running → IsInputInRange setup.catalog.sites (here_at setup world n running) input
       → (whole : Site) → whole.records ≡ (site_at world n).records ++ option_to_list (step_on (here_at setup world n running) input).appended
       → whole.running ≡ Some (step_on (here_at setup world n running) input).running → IsSiteInRange setup n whole
   step-whole n running input is good whole records memory =
       let here = here_at setup world n running in
-      let sound : IsHereInRange (after_step here (step_on here input)) = sound_stays here input (here-sound n running is) good in
+      let sound : IsHereInRange setup.catalog.sites (after_step here (step_on here input)) = sound_stays setup.catalog.sites here input (here-sound n running is) good in
       record {
         records = rw records sound.records;
         narrow = subst (IsNarrow setup.held_names setup.catalog n) (sym records) sound.narrow;
         room = rw records sound.room;
-        running = λ now was. subst (IsRunningInRange setup.catalog n) (Some_inj (sym memory ∙ was)) sound.running;
+        running = λ now was. subst (IsRunningInRange setup.catalog.sites setup.catalog n) (Some_inj (sym memory ∙ was)) sound.running;
       }
 
-  given-range : (n : ℕ) (input : Input) → ((running : Running) → IsInputInRange (here_at setup world n running) input)
+  given-range : (n : ℕ) (input : Input) → ((running : Running) → IsInputInRange setup.catalog.sites (here_at setup world n running) input)
       → (running : Option Running) → (site_at world n).running ≡ running → IsBegunInRange setup (given setup world n input running)
   given-range n input good None is = settles _ world fine
   given-range n input good (Some running) is =
@@ -155,14 +158,15 @@ module _ (sends_stay : SendsInRange) (sound_stays : StaysSound) (setup : Setup) 
 -- what holds of a start
 abbrev pub StartsSound : Type 0
 StartsSound =
-    (setup : Setup) (me : ℕ) (records : List Record) → IsSetupInRange setup → me < setup.catalog.sites → All IsRecordInRange records
+    (sites : ℕ) (setup : Setup) → setup.catalog.sites ≤ sites → sites ≤ MAX_SITES → (me : ℕ) (records : List Record) → IsSetupInRange setup
+    → me < setup.catalog.sites → All (IsRecordWithin sites) records
     → IsNarrow setup.held_names setup.catalog me records → (running : Running) (new : Record) → site_start setup records ≡ starts running new
-    → IsHereInRange (record { me = me; setup = setup; records = records ++ new ∷ []; running = running })
+    → IsHereInRange sites (record { me = me; setup = setup; records = records ++ new ∷ []; running = running })
 
 module _ (sends_stay : SendsInRange) (sound_stays : StaysSound) (starts_sound : StartsSound) (setup : Setup) (setup_fine : IsSetupInRange setup)
     (world : World) (fine : IsWorldInRange setup world) where
   given-here : (before : World) → IsWorldInRange setup before → (n : ℕ) (input : Input)
-      → ((running : Running) → IsInputInRange (here_at setup before n running) input) → IsBegunInRange setup (given setup before n input (site_at before n).running)
+      → ((running : Running) → IsInputInRange setup.catalog.sites (here_at setup before n running) input) → IsBegunInRange setup (given setup before n input (site_at before n).running)
   given-here before before_fine n input good =
       given-range sends_stay sound_stays setup setup_fine before before_fine n input good (site_at before n).running refl
 
@@ -173,7 +177,7 @@ module _ (sends_stay : SendsInRange) (sound_stays : StaysSound) (starts_sound : 
   delivered-range number None is = settles _ world fine
   delivered-range number (Some envelope) is =
       given-here (with_done world number) (done-fine number) envelope.to (receive envelope.from envelope.message)
-      (λ running. All-contains IsEnvelopeInRange world.sent envelope fine.sent
+      (λ running. All-contains (IsEnvelopeWithin setup.catalog.sites) world.sent envelope fine.sent
       (number, slice_get_within world.sent number envelope is, get_or_from_slice_get world.sent number envelope envelope is))
 
   lost-range : (number : ℕ) (envelope : Option Envelope) → IsBegunInRange setup (lost world number envelope)
@@ -192,29 +196,29 @@ module _ (sends_stay : SendsInRange) (sound_stays : StaysSound) (starts_sound : 
       → IsSiteInRange setup n (site_at world n) → IsAttemptInRange setup (site_at world n) n (of_start n started)
   started-range n (starts running new) is within site = record {
     whole = λ whole records memory.
-        let sound : IsHereInRange (record { me = n; setup = setup; records = (site_at world n).records ++ new ∷ []; running = running })
-        = starts_sound setup n (site_at world n).records setup_fine (subst (λ (count : ℕ). n < count) fine.count within) site.records site.narrow running new is in
+        let sound : IsHereInRange setup.catalog.sites (record { me = n; setup = setup; records = (site_at world n).records ++ new ∷ []; running = running })
+        = starts_sound setup.catalog.sites setup (omega arith) setup_fine.sites n (site_at world n).records setup_fine (subst (λ (count : ℕ). n < count) fine.count within) site.records site.narrow running new is in
         record {
           records = rw records sound.records;
           narrow = subst (IsNarrow setup.held_names setup.catalog n) (sym records) sound.narrow;
           room = rw records sound.room;
-          running = λ now was. subst (IsRunningInRange setup.catalog n) (Some_inj (sym memory ∙ was)) sound.running;
+          running = λ now was. subst (IsRunningInRange setup.catalog.sites setup.catalog n) (Some_inj (sym memory ∙ was)) sound.running;
         };
-    sends = All-nil IsEnvelopeInRange;
+    sends = All-nil (IsEnvelopeWithin setup.catalog.sites);
   }
   started-range n (too_long bytes) is within site = record {
     whole = λ whole records memory. down-in-range site whole (records ∙ append-nil _) memory;
-    sends = All-nil IsEnvelopeInRange;
+    sends = All-nil (IsEnvelopeWithin setup.catalog.sites);
   }
   started-range n no_epoch is within site = record {
     whole = λ whole records memory. down-in-range site whole (records ∙ append-nil _) memory;
-    sends = All-nil IsEnvelopeInRange;
+    sends = All-nil (IsEnvelopeWithin setup.catalog.sites);
   }
 
-  start-silent : (n : ℕ) (started : Started) → All IsEnvelopeInRange (from_site n (of_start n started).sends)
-  start-silent n (starts running new) = All-nil IsEnvelopeInRange
-  start-silent n (too_long bytes) = All-nil IsEnvelopeInRange
-  start-silent n no_epoch = All-nil IsEnvelopeInRange
+  start-silent : (n : ℕ) (started : Started) → All (IsEnvelopeWithin setup.catalog.sites) (from_site n (of_start n started).sends)
+  start-silent n (starts running new) = All-nil (IsEnvelopeWithin setup.catalog.sites)
+  start-silent n (too_long bytes) = All-nil (IsEnvelopeWithin setup.catalog.sites)
+  start-silent n no_epoch = All-nil (IsEnvelopeWithin setup.catalog.sites)
 
   opened-range : (n : ℕ) (running : Option Running) → IsBegunInRange setup (opened setup world n running)
   opened-range n (Some running) = settles _ world fine

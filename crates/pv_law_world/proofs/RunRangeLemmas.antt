@@ -4,7 +4,7 @@ use Rattle.std.specs.Prelude.{All}
 use Rattle.std.proofs.lemmas.List.{get_or-replicate, length-replicate}
 use Rattle.std.proofs.lemmas.List.Elements.{All-append, All-cons, All-nil, All-head, All-tail}
 use Rattle.pv_base.proofs.Basics.{Some_inj}
-use Rattle.pv_format.specs.Range.{IsRecordInRange}
+use Rattle.pv_format.specs.Range.{IsRecordWithin}
 use Rattle.pv_format.specs.Record.{epoch_begun}
 use Rattle.pv_law_world.proofs.RangeLemmas.{SendsInRange, StaysSound, StartsSound, transition-range}
 use Rattle.pv_law_world.proofs.TransitionLemmas.{run-transitions}
@@ -68,10 +68,10 @@ module _ (sends_stay : SendsInRange) (sound_stays : StaysSound) (starts_sound : 
     first-fine : (n : ℕ) → IsSiteInRange setup n first_site
     unfolding journal_bytes
     first-fine n = record {
-      records = All-cons IsRecordInRange (epoch_begun 1) [] (omega arith, omega arith) (All-nil IsRecordInRange);
+      records = All-cons (IsRecordWithin setup.catalog.sites) (epoch_begun 1) [] (omega arith, omega arith) (All-nil (IsRecordWithin setup.catalog.sites));
       narrow = narrow n;
       room = omega (arith, setup_fine.least);
-      running = λ running is. subst (IsRunningInRange setup.catalog n) (Some_inj is) (record {
+      running = λ running is. subst (IsRunningInRange setup.catalog.sites setup.catalog n) (Some_inj is) (record {
         epoch = omega arith;
         next_txn = omega arith;
         next_grant = omega arith;

@@ -16,7 +16,7 @@ pub use examples::{
 };
 pub use pumps::{messages_are_marked, pump_ends};
 pub use ranges::{
-    any_runs_stay_in_range, runs_of_texts_stay_in_range, runs_stay_in_range,
+    any_runs_stay_in_range, receivers_are_sites, runs_of_texts_stay_in_range, runs_stay_in_range,
     schedules_are_in_range, worlds_stay_in_range,
 };
 pub use runs::{

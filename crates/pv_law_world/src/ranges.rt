@@ -54,6 +54,12 @@ pub fn runs_stay_in_range()
     starts_keep_width();
 }
 
+/// In a world in range each message that was sent goes from one of the catalog's sites to one of them.
+pub fn receivers_are_sites()
+    ensures { (setup : Setup) (world : World) → IsWorldInRange setup world →
+        All (λ envelope. (envelope.from < setup.catalog.sites) × (envelope.to < setup.catalog.sites)) world.sent }
+{}
+
 /// What a schedule's text declares is in range, with limits on names that may be.
 pub fn schedules_are_in_range()
     ensures { (text : List ℕ) (schedule : Schedule) (read_names held_names : ℕ) → IsSchedule text schedule →

@@ -3,4 +3,4 @@ use Rattle.pv_law_step.proofs.SoundSteps.{safe}
 use Rattle.pv_law_step.proofs.ranges.sends_are_in_range.Goals as goal
 
 pub returns : goal.returns
-returns c = λ here input sound is. (safe here sound input is).sends
+returns c = λ sites here input sound is. (safe sites here sound input is).sends

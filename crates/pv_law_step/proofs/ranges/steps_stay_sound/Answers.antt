@@ -1,5 +1,5 @@
 -- By what a step may append.
-use Rattle.std.proofs.Common.{◌≡◌, ◌≤◌, false, Option, [], ◌∷◌, ◌++◌, sym, subst, arith}
+use Rattle.std.proofs.Common.{◌≡◌, ℕ, ◌≤◌, false, Option, [], ◌∷◌, ◌++◌, sym, subst, arith}
 use Rattle.std.specs.Option.{option_to_list}
 use Rattle.std.proofs.lemmas.Bool.{ltb-false}
 use Rattle.std.proofs.lemmas.List.{append-nil}
@@ -14,7 +14,7 @@ use Rattle.pv_protocol.specs.Here.{Here, is_full, length_with}
 use Rattle.pv_protocol.specs.Records.{journal_bytes}
 use Rattle.pv_protocol.specs.Sound.{IsHereInRange}
 
-module _ (here : Here) (sound : IsHereInRange here) where
+module _ (sites : ℕ) (here : Here) (sound : IsHereInRange sites here) where
   with-room : (more : Record) → is_full here more ≡ false → journal_bytes (here.records ++ more ∷ []) ≤ here.setup.catalog.journal
   with-room more room = omega (arith, journal-more here.records more, ltb-false here.setup.catalog.journal (length_with here more) room)
 
@@ -24,13 +24,15 @@ module _ (here : Here) (sound : IsHereInRange here) where
   room-left more (a_promise txn writes is room) = with-room _ room
 
 pub returns : goal.returns
-returns c = λ here input sound is.
-    let after = safe here sound input is in
+returns c = λ sites here input sound is.
+    let after = safe sites here sound input is in
     record {
       me = sound.me;
+      bound = sound.bound;
+      most = sound.most;
       setup = sound.setup;
-      records = all-records here sound _ after.appended;
+      records = all-records sites here sound _ after.appended;
       narrow = step-narrow here input sound.narrow;
-      room = room-left here sound _ (steady here input).appends;
+      room = room-left sites here sound _ (steady here input).appends;
       running = after.running;
     }
