@@ -1,10 +1,7 @@
 -- Lists are equal, or differ first at some place.
-use Rattle.std.proofs.Common.{◌≡◌, ◌⊎◌, ℕ, zero, suc, ◌<◌, ◌≤◌, List, [], ◌∷◌, length, take, Some, inl, inr, refl, sym, ap₂, arith}
+use Rattle.std.proofs.Common.{◌≡◌, ℕ, zero, suc, ◌<◌, ◌≤◌, List, [], ◌∷◌, length, take, Some, refl, sym, ap₂, arith}
 use Rattle.std.specs.Prelude.{slice_get}
 use Rattle.std.proofs.lemmas.Option.{none-some}
-use Rattle.pv_base.specs.declared.faults.CaseError.{CaseError}
-use Rattle.pv_base.specs.declared.faults.CaseError.TheVariants.{TooManyOutcomes, NotDisjoint, NotComplete, NotReduced, NoMemory}
-use Rattle.pv_base.specs.CaseFaults.{CaseFault, too_many, overlap, gap, unreduced, fault_of}
 use Rattle.pv_base.proofs.Basics.{Some_inj}
 
 -- Lists that are the same at each place are equal.
@@ -27,11 +24,3 @@ same-before (suc n) (x ∷ xs) [] same = absurd (none-some _ (sym (same 0 (omega
 same-before (suc n) (x ∷ xs) (y ∷ ys) same =
     ap₂ (λ (z : _) (zs : List _). z ∷ zs) (Some_inj (same 0 (omega arith)))
     (same-before n xs ys (λ k below. same (suc k) (omega (arith, below))))
-
--- Each error but want of memory tells a fault.
-pub tells-or-memory : (e : CaseError) → (e ≡ NoMemory) ⊎ ((fault : CaseFault) × (fault_of e ≡ Some fault))
-tells-or-memory (TooManyOutcomes count) = inr (too_many count, refl)
-tells-or-memory (NotDisjoint first second) = inr (overlap first second, refl)
-tells-or-memory (NotComplete commits) = inr (gap commits.items, refl)
-tells-or-memory (NotReduced place) = inr (unreduced place, refl)
-tells-or-memory NoMemory = inl refl

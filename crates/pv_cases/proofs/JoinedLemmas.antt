@@ -1,4 +1,4 @@
--- What the meetings of the names tell of the cases: their fault, if they have one, and else their values.
+-- What the meetings of the names say of the cases: their fault, if they have one, and else their values.
 use Rattle.std.proofs.Common.{◌≡◌, ℕ, ◌<◌, ◌≤◌, ◌^◌, List, length, Some, None, IsTrue, sym, ap, subst, ◌∙◌}
 use Rattle.std.specs.Prelude.{slice_get}
 use Rattle.std.specs.List.{Contains, filter_map, position}
@@ -7,28 +7,16 @@ use Rattle.std.proofs.lemmas.List.Quantifiers.{position-Some}
 use Rattle.pv_base.specs.declared.txn.TxnId.{TxnId}
 use Rattle.pv_base.specs.Assignment.{assignments}
 use Rattle.pv_base.specs.Polyvalue.{Case, AreNames, AreValues, AreSameEverywhere, names}
-use Rattle.pv_base.specs.CaseFaults.{CaseFault, too_many, overlap, gap, AreDisjoint, AreComplete, IsJoinFault, names_too_many, are_not_disjoint, are_not_complete}
-use Rattle.pv_base.proofs.Basics.{Some_inj}
+use Rattle.pv_base.specs.CaseFaults.{too_many, overlap, gap, AreDisjoint, AreComplete, IsJoinFault, names_too_many, are_not_disjoint, are_not_complete}
 use Rattle.pv_law_polyvalues.proofs.TableLemmas.{length-assignments}
 use Rattle.pv_cases.specs.declared.meetings.Meeting.{Meeting}
 use Rattle.pv_cases.specs.Meetings.{places_met, meeting_of, meetings_of}
 use Rattle.pv_cases.specs.Joining.{IsLeastPair, HasNoPair, is_gap, value_met}
 use Rattle.pv_cases.proofs.OverlapLemmas.{least-is-first-overlap, no-pair-disjoint}
 use Rattle.pv_cases.proofs.GapLemmas.{first-gap-there, no-gap-complete}
-use Rattle.pv_cases.proofs.CaseFaultLemmas.{one-case-fault}
 use Rattle.pv_cases.proofs.ValuesMetLemmas.{met-values, joined-same}
 
 module _ {V : Type 0} where
-  -- A fault that is told is the fault.
-  pub refused-by : (limit : ℕ) (cases : List (Case V)) (found : CaseFault) → IsJoinFault limit cases found
-      → (fault : CaseFault) → Some found ≡ Some fault → IsJoinFault limit cases fault
-  refused-by limit cases found is fault told = subst (IsJoinFault limit cases) (Some_inj told) is
-
-  -- The fault is the one that is told.
-  pub told-by : (limit : ℕ) (cases : List (Case V)) (found : CaseFault) → IsJoinFault limit cases found
-      → (fault : CaseFault) → IsJoinFault limit cases fault → Some found ≡ Some fault
-  told-by limit cases found is fault other = ap (λ (f : CaseFault). Some f) (one-case-fault limit cases found fault is other)
-
   pub count-fault : (limit : ℕ) (cases : List (Case V)) (txns : List TxnId) (count : ℕ) → AreNames cases txns → count ≡ length txns → limit < count
       → IsJoinFault limit cases (too_many count)
   count-fault limit cases txns count are is more =

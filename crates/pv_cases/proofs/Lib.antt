@@ -7,12 +7,14 @@ pub mod GapLemmas
 pub mod JoinedLemmas
 pub mod LeastPairLemmas
 pub mod MeetingLemmas
+pub mod OneAnswerLemmas
 pub mod OrderedNames
 pub mod OverlapLemmas
 pub mod PartingLemmas
 pub mod PlaceLemmas
 pub mod PolyvalueFacts
 pub mod SameCaseLemmas
+pub mod RefusedLemmas
 pub mod SettledLemmas
 pub mod SomeFaultLemmas
 pub mod TxnTests

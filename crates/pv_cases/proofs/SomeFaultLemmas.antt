@@ -6,7 +6,7 @@ use Rattle.std.proofs.lemmas.Option.{none-some}
 use Rattle.std.proofs.lemmas.Bool.{cases_lt, true≢false}
 use Rattle.pv_base.specs.declared.txn.TxnId.{TxnId}
 use Rattle.pv_base.specs.Assignment.{assignments}
-use Rattle.pv_base.specs.Polyvalue.{Case, value_at, AreNames, NamesAtMost, IsCanonical, IsSound, IsPolyvalue}
+use Rattle.pv_base.specs.Polyvalue.{Case, value_at, AreNames, AreSameEverywhere, NamesAtMost, IsCanonical, IsSound, IsPolyvalue}
 use Rattle.pv_base.specs.CaseFaults.{CaseFault, too_many, overlap, gap, unreduced, AreComplete, DifferFrom, IsJoinFault, names_too_many, are_not_disjoint, are_not_complete, IsCanonicalFault, are_no_polyvalue, is_not_reduced}
 use Rattle.pv_base.proofs.Basics.{Some_inj, heads}
 use Rattle.pv_base.proofs.ContainsLemmas.{Contains-first, Contains-behind, Contains-nil, Contains-cases}
@@ -187,21 +187,28 @@ module _ {V : Type 0} {same : V → V → Bool} (laws : IsExact same) where
       (λ apart. inr (zero, record { equal = refl; differ = λ e. apart (Some_inj e) }))
       (case-equal case other)
 
+  -- Sound cases have canonical ones with the same values.
+  pub some-canonical : (cases : List (Case V)) → IsSound cases → (canonical : List (Case V)) × (IsCanonical canonical × AreSameEverywhere canonical cases)
+  some-canonical cases sound =
+      let listed = some-names cases in
+      let whole = sound-complete cases sound in
+      let value : (a : List TxnId) → (v : V) × (value_at cases a ≡ Some v) = λ a. known (value_at cases a) (whole a) in
+      let found = some-polyvalue laws (λ a. (value a).0) listed.0 (λ a b alike.
+      Some_inj (sym (value a).1 ∙ value_at-agree cases a b (λ u named. alike u (listed.1.whole u named)) ∙ (value b).1)) in
+      (found.0, (found.1.0, λ a. found.1.1 a ∙ sym (value a).1))
+
   module _ (limit : ℕ) (cases : List (Case V)) where
     -- Sound cases with few names are canonical, or differ from the canonical ones at some first place.
     sound-canonical : IsSound cases → NamesAtMost limit cases → IsPolyvalue limit cases ⊎ ((fault : CaseFault) × IsCanonicalFault limit cases fault)
     sound-canonical sound few =
         let listed = some-names cases in
-        let whole = sound-complete cases sound in
-        let value : (a : List TxnId) → (v : V) × (value_at cases a ≡ Some v) = λ a. known (value_at cases a) (whole a) in
-        let found = some-polyvalue laws (λ a. (value a).0) listed.0 (λ a b alike.
-        Some_inj (sym (value a).1 ∙ value_at-agree cases a b (λ u named. alike u (listed.1.whole u named)) ∙ (value b).1)) in
+        let found = some-canonical cases sound in
         ⊎_elim
         (λ same. inl (record { canonical = subst (λ (cs : List (Case V)). IsCanonical cs) (sym same) found.1.0; few = few }))
         (λ d. inr (
           unreduced d.0,
-          is_not_reduced listed.0 listed.1 (few listed.0 listed.1) (sound-disjoint cases sound) whole
-              found.0 found.1.0 (λ a. found.1.1 a ∙ sym (value a).1) d.0 d.1,
+          is_not_reduced listed.0 listed.1 (few listed.0 listed.1) (sound-disjoint cases sound) (sound-complete cases sound)
+              found.0 found.1.0 found.1.1 d.0 d.1,
         ))
         (some-difference cases found.0)
 

@@ -1,3 +1,4 @@
+pub mod JoinedCases
 pub mod Joining
 pub mod Meetings
 pub mod Names

@@ -15,7 +15,7 @@ pub fn no_join_fault<V>()
     ensures { (limit : ℕ) (cases : List (Case V)) (fault : CaseFault) → IsSound cases → NamesAtMost limit cases → IsJoinFault limit cases fault → ⊥ }
 {}
 
-/// One thing at most is told of cases in any order.
+/// Cases in any order have at most one first fault.
 pub fn one_join_fault<V>()
     ensures { (limit : ℕ) (cases : List (Case V)) (fault other : CaseFault) → IsJoinFault limit cases fault → IsJoinFault limit cases other → fault ≡ other }
 {}
@@ -30,7 +30,7 @@ pub fn no_canonical_fault<V>()
     ensures { (limit : ℕ) (cases : List (Case V)) (fault : CaseFault) → IsPolyvalue limit cases → IsCanonicalFault limit cases fault → ⊥ }
 {}
 
-/// One thing at most is told of cases that have to be in canonical form.
+/// Cases that have to be canonical have at most one first fault.
 pub fn one_canonical_fault<V>()
     ensures { (limit : ℕ) (cases : List (Case V)) (fault other : CaseFault) → IsCanonicalFault limit cases fault →
         IsCanonicalFault limit cases other → fault ≡ other }

@@ -1,9 +1,10 @@
 // The table of values of cases, or the first thing that is wrong with them.
-ghost use Rattle.std.specs.Prelude.{◌≡◌, ◌<◌, ◌≤◌, ◌^◌, ◌⊎◌, Some, length, map, IfOk, IfErr, OnOk, MatchOption, MatchBool};
+ghost use Rattle.std.specs.Prelude.{◌≡◌, ◌<◌, ◌^◌, length, map, IfOk, MatchOption, MatchBool};
 ghost use Rattle.std.specs.List.{sum, filter_map, position};
-ghost use Rattle.pv_base.specs.CaseFaults.{CaseFault, fault_of, IsJoinFault};
-ghost use Rattle.pv_base.specs.Polyvalue.{AreNames, AreValues, IsSound};
+ghost use Rattle.pv_base.specs.Answer.{Answers};
+ghost use Rattle.pv_base.specs.CaseFaults.{fault_of, IsJoinFault};
 ghost use Rattle.pv_base.specs.declared.limits.TheConstants.{HELD_NAMES};
+ghost use Rattle.pv_cases.specs.JoinedCases.{IsTableOf};
 ghost use Rattle.pv_cases.specs.Joining.{value_met, IsPairBefore, IsLeastPair, HasNoPair, is_gap};
 
 use crate::meetings::{Meeting, assignment_at, meetings};
@@ -28,15 +29,7 @@ pub struct Table<V> {
 pub fn table_of<V: Copy>(alloc: Global, cases: &[Case<V>]) -> Result<Table<V>, CaseError>
     requires few_cases { length cases.now < 2 ^ 32 }
     requires few_literals { sum (map (λ case. length case.when) cases.now) < 2 ^ 32 }
-    ensures names { IfOk result (λ table. AreNames cases.now table.txns.items) }
-    ensures few { IfOk result (λ table. length table.txns.items ≤ HELD_NAMES) }
-    ensures values { IfOk result (λ table. AreValues cases.now table.txns.items table.values.items) }
-    ensures sound { OnOk result (IsSound cases.now) }
-
-    // It is refused exactly where something is wrong with the cases, and with the first such thing. Besides, only memory can fail.
-    ensures refused { IfErr result (λ e. (fault : CaseFault) → fault_of e ≡ Some fault → IsJoinFault HELD_NAMES cases.now fault) }
-    ensures refuses { (fault : CaseFault) → IsJoinFault HELD_NAMES cases.now fault →
-        IfErr result (λ e. (e ≡ CaseError.NoMemory) ⊎ (fault_of e ≡ Some fault)) × (IfOk result (λ _. ⊥)) }
+    ensures answer { Answers (IsTableOf HELD_NAMES cases.now) (IsJoinFault HELD_NAMES cases.now) (λ table. (table.txns.items, table.values.items)) fault_of result }
 {
     let txns = names_of(alloc, cases)?;
     if txns.len() > HELD_NAMES as usize {

@@ -5,7 +5,7 @@ use Rattle.pv_base.specs.Polyvalue.{Case, under, IsCanonical, NamesOnlyAfter}
 use Rattle.pv_poly.specs.declared.tree.Node.{Node}
 use Rattle.pv_poly.specs.declared.tree.Node.TheVariants.{Sure, Test}
 
--- The cases of both sides of a test on the transaction are canonical, and the test is needed.
+-- Both sides of a test on the transaction are canonical, name only later transactions, and differ.
 pub record AreSides {V : Type 0} (txn : TxnId) (aborted committed : List (Case V)) : Type 0 where
   pub aborted_canonical : IsCanonical aborted
   pub committed_canonical : IsCanonical committed

@@ -1,12 +1,14 @@
 // Polyvalues, and what is done with them.
-ghost use Rattle.std.specs.Prelude.{◌≡◌, ◌≢◌, ◌<◌, ◌≤◌, ◌*◌, ◌^◌, ◌⊎◌, [], ◌∷◌, ◌++◌, ℕ, Some, Err, List, IsTrue, length, map, IfOk, IfErr, OnOk};
+ghost use Rattle.std.specs.Prelude.{◌≡◌, ◌≢◌, ◌<◌, ◌≤◌, ◌*◌, ◌^◌, ◌⊎◌, [], ◌∷◌, ◌++◌, ℕ, Some, Err, List, IsTrue, length, map, IfOk, IfErr};
 ghost use Rattle.std.specs.List.{Contains, sum};
+ghost use Rattle.pv_base.specs.Answer.{Answers};
 ghost use Rattle.pv_base.specs.Assignment.{AreAscending, assignments};
-ghost use Rattle.pv_base.specs.CaseFaults.{CaseFault, fault_of, IsJoinFault, IsCanonicalFault};
+ghost use Rattle.pv_base.specs.CaseFaults.{fault_of, IsJoinFault, IsCanonicalFault};
 ghost use Rattle.pv_base.specs.Polyvalue as model;
-ghost use Rattle.pv_base.specs.Polyvalue.{value_at, names, AreNames, AreOutcomes, NamesAtMost, IsCanonical, IsSound, IsPolyvalue, AreSameEverywhere, IsChoice, ChoiceNames, IsSettled, AreValues};
+ghost use Rattle.pv_base.specs.Polyvalue.{value_at, names, AreNames, AreOutcomes, NamesAtMost, IsCanonical, IsPolyvalue, IsChoice, ChoiceNames, IsSettled, AreValues};
 ghost use Rattle.pv_base.specs.declared.txn.TxnId.{TxnId};
 ghost use Rattle.pv_base.specs.declared.limits.TheConstants.{HELD_NAMES};
+ghost use Rattle.pv_cases.specs.JoinedCases.{IsJoined, IsKept};
 
 use crate::tree::Tree;
 use pv_base::{Case, CaseError, Exact, HELD_NAMES, Literal, NameError, NoMemory, TxnId};
@@ -66,9 +68,9 @@ impl<V: Exact> Poly<V> {
 
     /// The polyvalue that has the new value where the transaction commits, and else the old one.
     ///
-    /// `TooManyOutcomes` tells how many outcomes it would name, where these are more than [`HELD_NAMES`]. Takes time in proportion to
-    /// the cases of both and of the result, times the names and, to count these, the logarithm of the literals. Where it is refused, nothing
-    /// else has been made.
+    /// `TooManyOutcomes` has the number of outcomes that it would name, where these are more than [`HELD_NAMES`]. Takes time in proportion to
+    /// the cases of both and of the result, times the names and, to count these, the logarithm of the literals. Where it is refused, the tree
+    /// of the choice hasn't been made.
     pub fn choose(
         alloc: Global,
         txn: TxnId,
@@ -181,18 +183,12 @@ impl<V: Exact> Poly<V> {
 
     /// The polyvalue of exactly these cases, which have to be its canonical ones.
     ///
-    /// The first thing that is wrong with them is told, in the order of the errors of [`CaseError`], unless there is no memory. Takes the
-    /// time that [`join`](Poly::join) takes.
+    /// The first thing that is wrong with them is reported, in the order of the errors of [`CaseError`], unless the memory runs out. Takes
+    /// the time that [`join`](Poly::join) takes.
     pub fn from_cases(alloc: Global, cases: Vec<Case<V>>) -> Result<Poly<V>, CaseError>
         requires few_cases { length cases.items < 2 ^ 32 }
         requires few_literals { sum (map (λ case. length case.when) cases.items) < 2 ^ 32 }
-        ensures cases { IfOk result (λ poly. poly ≡ cases.items) }
-        ensures polyvalue { IfOk result (IsPolyvalue HELD_NAMES) }
-
-        // It is refused exactly where something is wrong with the cases, and with the first such thing. Besides, only memory can fail.
-        ensures refused { IfErr result (λ e. (fault : CaseFault) → fault_of e ≡ Some fault → IsCanonicalFault HELD_NAMES cases.items fault) }
-        ensures refuses { (fault : CaseFault) → IsCanonicalFault HELD_NAMES cases.items fault →
-            IfErr result (λ e. (e ≡ CaseError.NoMemory) ⊎ (fault_of e ≡ Some fault)) × (IfOk result (λ _. ⊥)) }
+        ensures answer { Answers (IsKept HELD_NAMES cases.items) (IsCanonicalFault HELD_NAMES cases.items) (λ poly. poly) fault_of result }
     {
         let poly = Poly::joined(alloc, &cases)?;
         match first_difference(&cases, &poly.cases) {
@@ -203,20 +199,14 @@ impl<V: Exact> Poly<V> {
 
     /// The polyvalue that these cases make up, in any order and not reduced.
     ///
-    /// The first thing that is wrong with them is told, in the order of the errors of [`CaseError`], unless there is no memory. It is never
-    /// `NotReduced`. Takes time in proportion to the literals, times the logarithm of their number, to find the n names; then to 2^n; and to the
-    /// assignments that each case meets, times n and the literals of the case. Where no cases overlap, they meet 2^n assignments together at most.
+    /// The first thing that is wrong with them is reported, in the order of the errors of [`CaseError`], unless the memory runs out. It is
+    /// never `NotReduced`. Takes time in proportion to the literals, times the logarithm of their number, to find the n names; then to 2^n; and
+    /// to the assignments that each case meets, times n and the literals of the case. Where no cases overlap, they meet 2^n assignments together
+    /// at most.
     pub fn join(alloc: Global, cases: Vec<Case<V>>) -> Result<Poly<V>, CaseError>
         requires few_cases { length cases.items < 2 ^ 32 }
         requires few_literals { sum (map (λ case. length case.when) cases.items) < 2 ^ 32 }
-        ensures values { IfOk result (λ poly. AreSameEverywhere poly cases.items) }
-        ensures polyvalue { IfOk result (IsPolyvalue HELD_NAMES) }
-        ensures sound { OnOk result (IsSound cases.items) }
-
-        // It is refused exactly where something is wrong with the cases, and with the first such thing. Besides, only memory can fail.
-        ensures refused { IfErr result (λ e. (fault : CaseFault) → fault_of e ≡ Some fault → IsJoinFault HELD_NAMES cases.items fault) }
-        ensures refuses { (fault : CaseFault) → IsJoinFault HELD_NAMES cases.items fault →
-            IfErr result (λ e. (e ≡ CaseError.NoMemory) ⊎ (fault_of e ≡ Some fault)) × (IfOk result (λ _. ⊥)) }
+        ensures answer { Answers (IsJoined HELD_NAMES cases.items) (IsJoinFault HELD_NAMES cases.items) (λ poly. poly) fault_of result }
     {
         Poly::joined(alloc, &cases)
     }
@@ -225,12 +215,7 @@ impl<V: Exact> Poly<V> {
     fn joined(alloc: Global, cases: &[Case<V>]) -> Result<Poly<V>, CaseError>
         requires few_cases { length cases.now < 2 ^ 32 }
         requires few_literals { sum (map (λ case. length case.when) cases.now) < 2 ^ 32 }
-        ensures values { IfOk result (λ poly. AreSameEverywhere poly cases.now) }
-        ensures polyvalue { IfOk result (IsPolyvalue HELD_NAMES) }
-        ensures sound { OnOk result (IsSound cases.now) }
-        ensures refused { IfErr result (λ e. (fault : CaseFault) → fault_of e ≡ Some fault → IsJoinFault HELD_NAMES cases.now fault) }
-        ensures refuses { (fault : CaseFault) → IsJoinFault HELD_NAMES cases.now fault →
-            IfErr result (λ e. (e ≡ CaseError.NoMemory) ⊎ (fault_of e ≡ Some fault)) × (IfOk result (λ _. ⊥)) }
+        ensures answer { Answers (IsJoined HELD_NAMES cases.now) (IsJoinFault HELD_NAMES cases.now) (λ poly. poly) fault_of result }
     {
         let table = table_of(alloc, cases)?;
         Ok(Poly::from_table(alloc, &table.txns, &table.values)?)

@@ -236,7 +236,7 @@ fn cases_that_are_no_polyvalue_are_refused(rt: HostRuntime) -> Result<(), Fail> 
     let refused = from_cases(&rt, alloc, &[(&[aborts(0)], 1), (&[aborts(0)], 2)]);
     assert!(rt; matches!(refused, Err(CaseError::NotDisjoint(0, 1))));
 
-    // Cases 1 and 2 overlap, and 0 with 3 and with 4: the least first place is told, and then the least second one.
+    // Cases 1 and 2 overlap, and 0 with 3 and with 4: the least first place is reported, and then the least second one.
     let refused = from_cases(
         &rt,
         alloc,
@@ -250,7 +250,7 @@ fn cases_that_are_no_polyvalue_are_refused(rt: HostRuntime) -> Result<(), Fail> 
     );
     assert!(rt; matches!(refused, Err(CaseError::NotDisjoint(0, 3))));
 
-    // Overlaps are told before gaps, and too many names before both.
+    // Overlaps are reported before gaps, and too many names before both.
     let refused = from_cases(
         &rt,
         alloc,

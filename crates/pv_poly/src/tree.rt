@@ -67,7 +67,7 @@ impl<V: Exact> Tree<V> {
             (txn ≡ named) ⊎ (IsTrue (names aborted named) ⊎ IsTrue (names committed named))) }
         ensures canonical { IfOk result IsCanonical }
     {
-        // Reading the nodes tells the proof that both trees are reduced.
+        // Reading the nodes shows the proof that both trees are reduced.
         let _ = &aborted.node;
         let _ = &committed.node;
         if aborted.same(&committed) {

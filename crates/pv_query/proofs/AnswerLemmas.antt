@@ -66,9 +66,9 @@ module _ {V : Type 0} where
   every-certain same exact cases canonical (Some v) is a = certain-everywhere same exact cases canonical v (sym is) a
 
   -- An answer that is given at every assignment is certain.
-  pub certain-told : (same : V → V → Bool) → (cases : List (Case V)) → IsCanonical cases → (v : V)
+  pub certain-given : (same : V → V → Bool) → (cases : List (Case V)) → IsCanonical cases → (v : V)
       → ((a : List TxnId) → value_at cases a ≡ Some v) → certain same cases ≡ Some v
-  certain-told same cases canonical v everywhere = ap (certain same) (one-sure cases canonical v everywhere)
+  certain-given same cases canonical v everywhere = ap (certain same) (one-sure cases canonical v everywhere)
 
   -- Canonical cases with a certain answer are one case.
   one-case : (same : V → V → Bool) → ((x y : V) → same x y ≡ true → x ≡ y) → (cases : List (Case V)) → IsCanonical cases

@@ -51,8 +51,8 @@ impl From<NoMemory> for SumError {
 /// The sums of the values at every assignment of the outcomes that they name together, each once: "doesn't commit" before "commits", and
 /// the least transaction the most significant.
 ///
-/// There are at most as many values as a catalog has items, [`MAX_ITEMS`]. `OutcomeLimit` tells how many outcomes the values name
-/// together, where these are more than [`HELD_NAMES`]. Takes time in proportion to the literals, times the
+/// There are at most as many values as a catalog has items, [`MAX_ITEMS`]. `OutcomeLimit` has the number of outcomes that the values
+/// name together, where these are more than [`HELD_NAMES`]. Takes time in proportion to the literals, times the
 /// logarithm of their number; for a value without outcomes, one addition; for another one, to the assignments, times its names; and to
 /// the assignments, times the different sums.
 pub fn sums(alloc: Global, values: &[Poly<i64>]) -> Result<Vec<i128>, SumError>

@@ -34,9 +34,9 @@ pub fn possible(alloc: Global, reply: &Poly<Reply>) -> Result<Vec<Reply>, NoMemo
 pub fn certain(reply: &Poly<Reply>) -> Option<Reply>
     ensures certain { result ≡ certain ⟦<Reply as PartialEq>⟧.eq reply.now }
 
-    // It is the reply at every assignment, and where there is such a reply it is told.
+    // It is the reply at every assignment, and where there is such a reply it is given.
     ensures every { (assignment : List TxnId) → IfSome result (λ answer. value_at reply.now assignment ≡ Some answer) }
-    ensures told { (given : Reply) → ((assignment : List TxnId) → value_at reply.now assignment ≡ Some given) → result ≡ Some given }
+    ensures given { (same : Reply) → ((assignment : List TxnId) → value_at reply.now assignment ≡ Some same) → result ≡ Some same }
 {
     match reply.cases() {
         [case] => Some(case.value),

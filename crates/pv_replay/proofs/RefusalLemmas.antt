@@ -1,5 +1,5 @@
 -- What is told of cases that are refused.
-use Rattle.std.proofs.Common.{◌≡◌, ℕ, ℤ, List, Option, Some, None, MatchOption, sym, ap, subst, refl}
+use Rattle.std.proofs.Common.{◌≡◌, ℕ, ℤ, List, Option, Some, None, IfSome, MatchOption, sym, subst}
 use Rattle.pv_base.specs.CaseFaults.{CaseFault, IsCanonicalFault}
 use Rattle.pv_base.specs.declared.limits.TheConstants.{HELD_NAMES}
 use Rattle.pv_base.specs.Polyvalue.{Case, IsPolyvalue}
@@ -16,8 +16,8 @@ use Rattle.pv_replay.specs.declared.error.PolyError.TheVariants.{BadPoly, NoMemo
 module _ (cases : List (Case ℤ)) (old new : Rest) (taken : IsTaken (SpellsCases cases) old new)
     (law : (fault : CaseFault) → IsPolyvalue HELD_NAMES cases → IsCanonicalFault HELD_NAMES cases fault → ⊥) where
   -- Where the cases are at fault, they are no polyvalue, and this is told; else there was no memory.
-  pub refused_poly : (told : Option CaseFault) (e : PolyError) → ((fault : CaseFault) → told ≡ Some fault → IsCanonicalFault HELD_NAMES cases fault)
+  pub refused_poly : (told : Option CaseFault) (e : PolyError) → IfSome told (IsCanonicalFault HELD_NAMES cases)
       → MatchOption told (e ≡ NoMemory) (λ _. e ≡ BadPoly old.place) → Stops polyvalue_then old (fault_of e)
   refused_poly (Some fault) e faulty is =
-      subst (λ other. Stops polyvalue_then old (fault_of other)) (sym is) (stops_poly cases old new taken (λ poly. law fault poly (faulty fault refl)))
+      subst (λ other. Stops polyvalue_then old (fault_of other)) (sym is) (stops_poly cases old new taken (λ poly. law fault poly faulty))
   refused_poly None e faulty is = subst (λ other. Stops polyvalue_then old (fault_of other)) (sym is) tt

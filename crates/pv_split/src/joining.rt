@@ -59,7 +59,7 @@ impl From<NoMemory> for SplitError {
 /// Computes the program once for each alternative of what it reads, which is each assignment of the outcomes that the reads name
 /// together, and joins what comes out (Montgomery, 1979). The reads ascend by item, and have each item of the program.
 ///
-/// `OutcomeLimit` tells how many outcomes the reads name together, where these are more than [`READ_NAMES`]. Takes time in proportion to the
+/// `OutcomeLimit` has the number of outcomes that the reads name together, where these are more than [`READ_NAMES`]. Takes time in proportion to the
 /// alternatives, times the cost of the program and the number of reads; for each item that is written, to the alternatives, times the
 /// outcomes; and to the literals of the reads, times the logarithm of their number.
 pub fn split(alloc: Global, program: &Program, reads: &[Read]) -> Result<Joined, SplitError>

@@ -36,7 +36,7 @@ fn named_in(alloc: Global, reads: &[Read]) -> Result<Vec<TxnId>, NoMemory>
     Ok(ordered(txns))
 }
 
-// These, unless they are too many. Of 2^32 and more, which take 48 GiB, not even the number can be told.
+// These, unless they are too many. Of 2^32 and more, which take 48 GiB, not even the number can be reported.
 fn limited(txns: Vec<TxnId>) -> Result<Vec<TxnId>, SplitError>
     ensures same { IfOk result (λ kept. kept.items ≡ txns.items) }
     ensures few { OnOk result (length txns.items ≤ READ_NAMES) }

@@ -36,13 +36,13 @@ from_cases-requires-clause-few_literals c =
 
 pub returns-in-Ok-clause-passes : goal.returns-in-Ok-clause-passes
 returns-in-Ok-clause-passes c =
-    rw c.in-Ok.ensures.cases
+    rw c.in-Ok.ensures.answer.given.kept
     (passes_poly c.in_ok-cases.cases.items c.args.take.now c.take_cases.new.take c.in_ok-cases.ensures.passes.taken
-    (subst (IsPolyvalue HELD_NAMES) c.in-Ok.ensures.cases c.in-Ok.ensures.polyvalue))
+    (subst (IsPolyvalue HELD_NAMES) c.in-Ok.ensures.answer.given.kept c.in-Ok.ensures.answer.given.polyvalue))
 
 pub returns-in-Err-clause-stops : goal.returns-in-Err-clause-stops
 returns-in-Err-clause-stops c =
     refused_poly c.in_ok-cases.cases.items c.args.take.now c.take_cases.new.take c.in_ok-cases.ensures.passes.taken
     (λ fault. c.no_canonical_fault.ensures HELD_NAMES c.in_ok-cases.cases.items fault)
-    (case_fault_of c.in-Err.e) c.refusal.result c.in-Err.ensures.refused
+    (case_fault_of c.in-Err.e) c.refusal.result c.in-Err.ensures.answer.refused
     (subst (λ place. MatchOption (case_fault_of c.in-Err.e) (c.refusal.result ≡ NoMemory) (λ _. c.refusal.result ≡ BadPoly place)) c.place-place.ensures c.refusal.ensures)
