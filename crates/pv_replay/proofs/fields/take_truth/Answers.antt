@@ -19,5 +19,5 @@ returns-in-1-clause-passes c = passes_truth c.in_ok-u8.field-0 true c.args.take.
 
 pub returns-in_default-clause-stops : goal.returns-in_default-clause-stops
 returns-in_default-clause-stops c = λ next.
-    rw c.place-place.ensures
+    rw c.place-place.ensures.place
     (stops_number 1 c.in_ok-u8.field-0 c.args.take.now c.u8.new.self c.in_ok-u8.ensures.taken (omega arith) is_truth (grind (arith, nat_tests)) (λ _. next))

@@ -28,7 +28,7 @@ returns-in_err-kind-clause-stops c =
 
 pub returns-then-kind-lt1-clause-stops : goal.returns-then-kind-lt1-clause-stops
 returns-then-kind-lt1-clause-stops c = λ next.
-    rw c.place-place.ensures
+    rw c.place-place.ensures.place
     (stops_number 1 c.in_ok-kind.kind c.args.take.now c.u8.new.self c.in_ok-kind.ensures.taken (omega arith) is_record_kind
       (elim c.then-kind-lt1.branch [ then-kind-lt1-via-then-kind-lt1 w ↦ grind (arith, nat_tests) | then-kind-lt1-via-else-kind-lt1+then-kind-gt3 w ↦ grind (arith, nat_tests) ])
       (λ kind. after_kind kind next))

@@ -45,7 +45,7 @@ pub returns-then-not-is_empty : goal.returns-then-not-is_empty
 returns-then-not-is_empty c =
     let some = some_left c.left.result.now c.is_empty.result c.is_empty.ensures c.if-not-is_empty.true in
     refused c.args.bytes.now (bytes_are c.args.bytes.now c.type_inv.bytes) (Extra c.place.result)
-      (subst (λ place. EnvelopeFault c.args.bytes.now (extra place)) (sym c.place.ensures)
+      (subst (λ place. EnvelopeFault c.args.bytes.now (extra place)) (sym c.place.ensures.place)
         (more_bytes c.args.bytes.now (bytes_are c.args.bytes.now c.type_inv.bytes) c.new-take.result c.new-take.ensures c.in-Ok.kind c.u8.new.self c.in-Ok.ensures.taken (omega arith)
           (grind (arith, nat_tests)) (envelope_of c.in_ok-envelope.envelope) c.take_envelope.new.take c.in_ok-envelope.ensures.passes (subst (λ left. left ≢ []) c.left.ensures some)))
 

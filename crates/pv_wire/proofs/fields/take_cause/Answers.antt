@@ -30,7 +30,7 @@ returns-then-cause-eq1-clause-passes c =
 
 pub returns-then-cause-ne2-clause-stops : goal.returns-then-cause-ne2-clause-stops
 returns-then-cause-ne2-clause-stops c = λ next.
-    rw c.place-place.ensures
+    rw c.place-place.ensures.place
     (stops_number 1 c.in_ok-cause.cause c.args.take.now c.u8.new.self c.in_ok-cause.ensures.taken (omega arith) is_cause (grind (arith, nat_tests)) (λ cause. after_cause cause next))
 
 pub returns-in_err-length-clause-stops : goal.returns-in_err-length-clause-stops
