@@ -18,3 +18,6 @@ pub use pv_poly::Read;
 pub use reads::{put_reads, take_reads};
 pub use record::{Record, encode_record};
 pub use past::{Past, replay};
+
+#[cfg(test)]
+mod tests;
