@@ -1,21 +1,21 @@
 -- Lists of parts: what was done so far, and what is left, come to the whole.
-use Rattle.std.proofs.Common.{◌≡◌, ℕ, zero, suc, ◌+◌, ◌-◌, ◌^◌, ◌<◌, ◌≤◌, List, [], ◌∷◌, ◌++◌, length, drop, get_or, Option, Some, None, refl, sym, ap, subst, ◌∙◌, append_assoc, length-append, add-one, arith}
+use Rattle.std.proofs.Common.{◌≡◌, ℕ, suc, ◌+◌, ◌-◌, ◌<◌, ◌≤◌, List, [], ◌∷◌, ◌++◌, length, drop, get_or, Option, refl, sym, ap, subst, ◌∙◌, append_assoc, length-append, add-one, arith}
 use Rattle.std.proofs.lemmas.List.{append-nil}
 use Rattle.std.proofs.Math.Seq.{drop-cons}
 use Rattle.std.proofs.lemmas.List.{drop_all}
-use Rattle.pv_bytes.specs.Reading.{Rest, HasTaken}
-use Rattle.pv_format.specs.FirstFault.{Fault, HasFault}
-use Rattle.pv_format.specs.Layout.{Layout, number_then, any, repeated, entries_layout}
+use Rattle.pv_bytes.specs.Reading.{Rest}
+use Rattle.pv_format.specs.FirstFault.{Fault}
+use Rattle.pv_format.specs.Layout.{Layout, repeated, entries_layout}
 use Rattle.pv_format.specs.Spelling.{◌followed_by◌, IsEmpty, IsAllowed, SpellsEach, SpellsEntriesFrom, is_item_from}
-use Rattle.pv_law_fields.specs.Decoding.{IsTaken, Passes, PassesNumber, Stops, StopsNumber}
+use Rattle.pv_law_fields.specs.Decoding.{Passes, PassesNumber, Stops, StopsNumber}
 use Rattle.pv_law_fields.proofs.PartLemmas.{passes_both, passes_after_number, stops_first, stops_second, stops_at_number, stops_after_number}
 
 -- Nothing was read.
 pub passes_none : (now : Rest) → Passes IsEmpty (λ next. next) now now
 passes_none now = record {
-    taken = record { front = []; is = refl; taken = record { bytes = refl; place = omega arith } };
-    later = λ next fault has. has;
-  }
+  taken = record { front = []; is = refl; taken = record { bytes = refl; place = omega arith } };
+  later = λ next fault has. has;
+}
 
 -- Of so many, one is left that is not left once it is done.
 left_suc : {X : Type 0} (done : List X) (x : X) (count : ℕ) → length done < count → count - length done ≡ suc (count - length (done ++ x ∷ []))
@@ -49,12 +49,12 @@ module _ {X : Type 0} (Spells : X → List ℕ → Type 0) (each : Layout → La
       let fewer : ℕ = count - length (done ++ x ∷ []) in
       record {
         passes = λ more last passes.
-          subst (λ xs. Passes (SpellsEach Spells xs) (repeated count each) start last) (sym (append_assoc done (x ∷ []) more))
+            subst (λ xs. Passes (SpellsEach Spells xs) (repeated count each) start last) (sym (append_assoc done (x ∷ []) more))
             (reading.passes (x ∷ more) last
-              (subst (λ n. Passes (SpellsEach Spells (x ∷ more)) (repeated n each) now last) (sym left)
-                (passes_both (Spells x) (SpellsEach Spells more) each (repeated fewer each) now new last one passes)));
+            (subst (λ n. Passes (SpellsEach Spells (x ∷ more)) (repeated n each) now last) (sym left)
+            (passes_both (Spells x) (SpellsEach Spells more) each (repeated fewer each) now new last one passes)));
         stops = λ told stops. reading.stops told
-          (subst (λ n. Stops (repeated n each) now told) (sym left) (stops_second (Spells x) each (repeated fewer each) now new told one stops));
+            (subst (λ n. Stops (repeated n each) now told) (sym left) (stops_second (Spells x) each (repeated fewer each) now new told one stops));
       }
 
   -- The next one isn't read.
@@ -62,14 +62,14 @@ module _ {X : Type 0} (Spells : X → List ℕ → Type 0) (each : Layout → La
       → Stops (repeated count each) start told
   reading_stops done count start now told some reading stops =
       reading.stops told (subst (λ n. Stops (repeated n each) now told) (sym (left_one done count some))
-        (stops_first each (repeated (count - (length done + 1)) each) now told stops))
+      (stops_first each (repeated (count - (length done + 1)) each) now told stops))
 
   -- All were read.
   pub reading_ends : (done : List X) (count : ℕ) (start now : Rest) → count ≤ length done → IsReading done count start now → Passes (SpellsEach Spells done) (repeated count each) start now
   reading_ends done count start now enough reading =
       let none : count - length done ≡ 0 = omega arith in
       subst (λ xs. Passes (SpellsEach Spells xs) (repeated count each) start now) (append-nil done)
-        (reading.passes [] now (subst (λ n. Passes IsEmpty (repeated n each) now now) (sym none) (passes_none now)))
+      (reading.passes [] now (subst (λ n. Passes IsEmpty (repeated n each) now now) (sym none) (passes_none now)))
 
 module _ {X : Type 0} (Spells : X → List ℕ → Type 0) (item_of : X → ℕ) (each : Layout → Layout) where
   -- The same for entries, of which the next has at least this item.
@@ -94,8 +94,8 @@ module _ {X : Type 0} (Spells : X → List ℕ → Type 0) (item_of : X → ℕ)
       → Passes (SpellsEntriesFrom Spells item_of least (x ∷ more)) (entries_layout (suc left) each least) now last
   passes_entry x more left least now mid new last item one rest =
       passes_after_number (IsAllowed 4 (is_item_from least) (item_of x)) 4 (is_item_from least) (item_of x) (λ number next. each (entries_layout left each (number + 1) next)) now mid item
-        (Spells x followed_by SpellsEntriesFrom Spells item_of (item_of x + 1) more) last
-        (passes_both (Spells x) (SpellsEntriesFrom Spells item_of (item_of x + 1) more) each (entries_layout left each (item_of x + 1)) mid new last one rest)
+      (Spells x followed_by SpellsEntriesFrom Spells item_of (item_of x + 1) more) last
+      (passes_both (Spells x) (SpellsEntriesFrom Spells item_of (item_of x + 1) more) each (entries_layout left each (item_of x + 1)) mid new last one rest)
 
   -- One more was read.
   pub entries_go_on : (done : List X) (x : X) (count least : ℕ) (start now mid new : Rest) → length done < count → IsReadingEntries done count least start now
@@ -106,14 +106,14 @@ module _ {X : Type 0} (Spells : X → List ℕ → Type 0) (item_of : X → ℕ)
       let fewer : ℕ = count - length (done ++ x ∷ []) in
       record {
         passes = λ more last passes.
-          subst (λ xs. Passes (SpellsEntriesFrom Spells item_of 0 xs) (entries_layout count each 0) start last) (sym (append_assoc done (x ∷ []) more))
+            subst (λ xs. Passes (SpellsEntriesFrom Spells item_of 0 xs) (entries_layout count each 0) start last) (sym (append_assoc done (x ∷ []) more))
             (reading.passes (x ∷ more) last
-              (subst (λ n. Passes (SpellsEntriesFrom Spells item_of least (x ∷ more)) (entries_layout n each least) now last) (sym left)
-                (passes_entry x more fewer least now mid new last item one passes)));
+            (subst (λ n. Passes (SpellsEntriesFrom Spells item_of least (x ∷ more)) (entries_layout n each least) now last) (sym left)
+            (passes_entry x more fewer least now mid new last item one passes)));
         stops = λ told stops. reading.stops told
-          (subst (λ n. Stops (entries_layout n each least) now told) (sym left)
+            (subst (λ n. Stops (entries_layout n each least) now told) (sym left)
             (stops_after_number (IsAllowed 4 (is_item_from least) (item_of x)) 4 (is_item_from least) (item_of x) (λ number next. each (entries_layout fewer each (number + 1) next)) now mid item
-              told (stops_second (Spells x) each (entries_layout fewer each (item_of x + 1)) mid new told one stops)));
+            told (stops_second (Spells x) each (entries_layout fewer each (item_of x + 1)) mid new told one stops)));
       }
 
   -- The next item isn't read.
@@ -121,7 +121,7 @@ module _ {X : Type 0} (Spells : X → List ℕ → Type 0) (item_of : X → ℕ)
       → StopsNumber 4 (is_item_from least) now told → Stops (entries_layout count each 0) start told
   entries_stop_at_item done count least start now told some reading stops =
       reading.stops told (subst (λ n. Stops (entries_layout n each least) now told) (sym (left_one done count some))
-        (stops_at_number 4 (is_item_from least) (λ number next. each (entries_layout (count - (length done + 1)) each (number + 1) next)) now told stops))
+      (stops_at_number 4 (is_item_from least) (λ number next. each (entries_layout (count - (length done + 1)) each (number + 1) next)) now told stops))
 
   -- What stands after the next item isn't read.
   pub entries_stop : (done : List X) (item count least : ℕ) (start now mid : Rest) (told : Option Fault) → length done < count → IsReadingEntries done count least start now
@@ -129,8 +129,8 @@ module _ {X : Type 0} (Spells : X → List ℕ → Type 0) (item_of : X → ℕ)
   entries_stop done item count least start now mid told some reading number stops =
       let fewer : ℕ = count - (length done + 1) in
       reading.stops told (subst (λ n. Stops (entries_layout n each least) now told) (sym (left_one done count some))
-        (stops_after_number (IsAllowed 4 (is_item_from least) item) 4 (is_item_from least) item (λ n next. each (entries_layout fewer each (n + 1) next)) now mid number
-          told (stops_first each (entries_layout fewer each (item + 1)) mid told stops)))
+      (stops_after_number (IsAllowed 4 (is_item_from least) item) 4 (is_item_from least) item (λ n next. each (entries_layout fewer each (n + 1) next)) now mid number
+      told (stops_first each (entries_layout fewer each (item + 1)) mid told stops)))
 
   -- All were read.
   pub entries_end : (done : List X) (count least : ℕ) (start now : Rest) → count ≤ length done → IsReadingEntries done count least start now
@@ -138,7 +138,7 @@ module _ {X : Type 0} (Spells : X → List ℕ → Type 0) (item_of : X → ℕ)
   entries_end done count least start now enough reading =
       let none : count - length done ≡ 0 = omega arith in
       subst (λ xs. Passes (SpellsEntriesFrom Spells item_of 0 xs) (entries_layout count each 0) start now) (append-nil done)
-        (reading.passes [] now (subst (λ n. Passes IsEmpty (entries_layout n each least) now now) (sym none) (passes_none now)))
+      (reading.passes [] now (subst (λ n. Passes IsEmpty (entries_layout n each least) now now) (sym none) (passes_none now)))
 
 -- The item at a place stands in front of what follows it.
 drop_item : {X : Type 0} (xs : List X) (i : ℕ) (x : X) → i < length xs → x ≡ get_or xs i x → drop i xs ≡ x ∷ drop (i + 1) xs
@@ -161,7 +161,7 @@ module _ {X : Type 0} (Spells : X → List ℕ → Type 0) where
         rest = spelled.back;
         spelled = spelled.second;
         same = writing.same ∙ ap (λ rest. now ++ rest) spelled.whole ∙ sym (append_assoc now spelled.front spelled.back)
-          ∙ ap (λ done. done ++ spelled.back) (sym (one spelled.front spelled.first));
+            ∙ ap (λ done. done ++ spelled.back) (sym (one spelled.front spelled.first));
       }
 
   -- All were written.

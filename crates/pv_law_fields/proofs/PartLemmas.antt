@@ -1,5 +1,5 @@
 -- One number after another: what was read is spelled, and a fault stays one for what is read before it.
-use Rattle.std.proofs.Common.{◌≡◌, ℕ, ◌+◌, ◌^◌, ◌<◌, Bool, true, false, List, ◌++◌, length, Option, Some, None, IfSome, Result, Ok, Err, IfOk, IsTrue, IsFalse, if◌then◌else◌, refl, sym, ap, subst, ◌∙◌, append_assoc, length-append, arith}
+use Rattle.std.proofs.Common.{◌≡◌, ℕ, ◌+◌, ◌^◌, ◌<◌, Bool, true, false, List, ◌++◌, Option, Some, None, Result, Ok, Err, IfOk, IsTrue, IsFalse, if◌then◌else◌, refl, sym, ap, subst, ◌∙◌, append_assoc, length-append, arith}
 use Rattle.pv_base.specs.BigEndian.{big_endian, IsNumber}
 use Rattle.pv_base.proofs.BigEndianLemmas.{length-big_endian}
 use Rattle.pv_bytes.specs.Reading.{Rest, HasTaken, IsShort}
@@ -7,22 +7,22 @@ use Rattle.pv_bytes.specs.declared.short.Short.{Short}
 use Rattle.pv_format.specs.FirstFault.{Fault, short, bad_field, HasFault, is_short, is_refused, is_later}
 use Rattle.pv_format.specs.Layout.{Layout, number_then, any, truth_layout}
 use Rattle.pv_format.specs.Spelling.{◌followed_by◌, IsAllowed, IsTruth, is_truth}
-use Rattle.pv_law_fields.specs.Decoding.{IsTaken, Passes, PassesNumber, KeepsFaults, Stops, StopsNumber}
+use Rattle.pv_law_fields.specs.Decoding.{IsTaken, Passes, PassesNumber, Stops, StopsNumber}
 
 -- Two takings, one after the other.
 pub HasTaken-both : (front back : List ℕ) (old mid new : Rest) → HasTaken front old mid → HasTaken back mid new → HasTaken (front ++ back) old new
 HasTaken-both front back old mid new first second = record {
-    bytes = first.bytes ∙ ap (λ left. front ++ left) second.bytes ∙ sym (append_assoc front back new.left);
-    place = let count = length-append front back in omega (arith, first.place, second.place, count);
-  }
+  bytes = first.bytes ∙ ap (λ left. front ++ left) second.bytes ∙ sym (append_assoc front back new.left);
+  place = let count = length-append front back in omega (arith, first.place, second.place, count);
+}
 
 -- One part after the other.
 pub IsTaken-both : (First Second : List ℕ → Type 0) (old mid new : Rest) → IsTaken First old mid → IsTaken Second mid new → IsTaken (First followed_by Second) old new
 IsTaken-both First Second old mid new first second = record {
-    front = first.front ++ second.front;
-    is = record { front = first.front; back = second.front; whole = refl; first = first.is; second = second.is };
-    taken = HasTaken-both first.front second.front old mid new first.taken second.taken;
-  }
+  front = first.front ++ second.front;
+  is = record { front = first.front; back = second.front; whole = refl; first = first.is; second = second.is };
+  taken = HasTaken-both first.front second.front old mid new first.taken second.taken;
+}
 
 module _ (size value : ℕ) (old new : Rest) (taken : HasTaken (big_endian size value) old new) (fits : value < 256 ^ size) where
   -- The bytes taken are the number.
@@ -40,10 +40,10 @@ module _ (size value : ℕ) (old new : Rest) (taken : HasTaken (big_endian size 
     -- A number that is allowed was read.
     pub passes_number : IsTrue (allows value) → PassesNumber (IsAllowed size allows value) size allows value old new
     passes_number allowed = record {
-        taken = record { front = big_endian size value; is = record { spelled = taken_number; allowed = allowed }; taken = taken };
-        later = λ next fault has. is_later value (big_endian size value) new.left fault taken.bytes
-                  (record { spelled = taken_number; allowed = allowed }) (subst (λ place. HasFault (next value) place new.left fault) place-number has);
-      }
+      taken = record { front = big_endian size value; is = record { spelled = taken_number; allowed = allowed }; taken = taken };
+      later = λ next fault has. is_later value (big_endian size value) new.left fault taken.bytes
+          (record { spelled = taken_number; allowed = allowed }) (subst (λ place. HasFault (next value) place new.left fault) place-number has);
+    }
 
     -- A number that isn't allowed was read.
     pub stops_number : IsFalse (allows value) → StopsNumber size allows old (Some (bad_field old.place))
@@ -63,32 +63,32 @@ passes_part Is size allows value old new passes = record { taken = passes.taken;
 pub number_any : (size value : ℕ) (old new : Rest) → HasTaken (big_endian size value) old new → value < 256 ^ size
     → PassesNumber (IsNumber size value) size any value old new
 number_any size value old new taken fits = record {
-    taken = taken_any size value old new taken fits;
-    later = (passes_number size value old new taken fits any refl).later;
-  }
+  taken = taken_any size value old new taken fits;
+  later = (passes_number size value old new taken fits any refl).later;
+}
 
 -- A number was read that is allowed, and only what it is matters.
 pub number_allowed : (size value : ℕ) (allows : ℕ → Bool) (old new : Rest) → HasTaken (big_endian size value) old new → value < 256 ^ size → IsTrue (allows value)
     → PassesNumber (IsNumber size value) size allows value old new
 number_allowed size value allows old new taken fits allowed = record {
-    taken = taken_any size value old new taken fits;
-    later = (passes_number size value old new taken fits allows allowed).later;
-  }
+  taken = taken_any size value old new taken fits;
+  later = (passes_number size value old new taken fits allows allowed).later;
+}
 
 -- A part that is one thing is another, where all that is the one is the other.
 pub passes_as : (Is Js : List ℕ → Type 0) (layout : Layout → Layout) (old new : Rest) → ((bytes : List ℕ) → Is bytes → Js bytes) → Passes Is layout old new → Passes Js layout old new
 passes_as Is Js layout old new as_ passes = record {
-    taken = record { front = passes.taken.front; is = as_ passes.taken.front passes.taken.is; taken = passes.taken.taken };
-    later = passes.later;
-  }
+  taken = record { front = passes.taken.front; is = as_ passes.taken.front passes.taken.is; taken = passes.taken.taken };
+  later = passes.later;
+}
 
 -- Any number was read, where the layout goes on the same after every one.
 pub passes_any : (size value : ℕ) (old new : Rest) → HasTaken (big_endian size value) old new → value < 256 ^ size
     → Passes (IsNumber size value) (λ next. number_then size any (λ _. next)) old new
 passes_any size value old new taken fits = record {
-    taken = taken_any size value old new taken fits;
-    later = λ next fault has. (passes_number size value old new taken fits any refl).later (λ _. next) fault has;
-  }
+  taken = taken_any size value old new taken fits;
+  later = λ next fault has. (passes_number size value old new taken fits any refl).later (λ _. next) fault has;
+}
 
 fits_truth : (truth : Bool) → (if truth then 1 else 0) < 256 ^ 1
 fits_truth true = omega arith
@@ -117,9 +117,9 @@ stops_any size old new e is = λ next. stops_short size any old new e is (λ _. 
 pub passes_both : (First Second : List ℕ → Type 0) (front back : Layout → Layout) (old mid new : Rest) → Passes First front old mid → Passes Second back mid new
     → Passes (First followed_by Second) (λ next. front (back next)) old new
 passes_both First Second front back old mid new first second = record {
-    taken = IsTaken-both First Second old mid new first.taken second.taken;
-    later = λ next fault has. first.later (back next) fault (second.later next fault has);
-  }
+  taken = IsTaken-both First Second old mid new first.taken second.taken;
+  later = λ next fault has. first.later (back next) fault (second.later next fault has);
+}
 
 -- A part isn't read after one that is.
 pub stops_second : (First : List ℕ → Type 0) (front back : Layout → Layout) (old mid : Rest) (told : Option Fault) → Passes First front old mid → Stops back mid told
@@ -144,9 +144,9 @@ module _ (First : List ℕ → Type 0) (size : ℕ) (allows : ℕ → Bool) (val
   pub passes_after_number : (Second : List ℕ → Type 0) (new : Rest) → Passes Second (layouts value) mid new
       → Passes (First followed_by Second) (λ next. number_then size allows (λ n. layouts n next)) old new
   passes_after_number Second new second = record {
-      taken = IsTaken-both First Second old mid new number.taken second.taken;
-      later = λ next fault has. number.later (λ n. layouts n next) fault (second.later next fault has);
-    }
+    taken = IsTaken-both First Second old mid new number.taken second.taken;
+    later = λ next fault has. number.later (λ n. layouts n next) fault (second.later next fault has);
+  }
 
   -- What the number decides isn't read.
   pub stops_after_number : (told : Option Fault) → Stops (layouts value) mid told → Stops (λ next. number_then size allows (λ n. layouts n next)) old told
@@ -162,10 +162,10 @@ appended_both old mid new front back bytes whole first second =
 pub passes_alone : (Is : List ℕ → Type 0) (size : ℕ) (allows : ℕ → Bool) (value : ℕ) (layouts : ℕ → Layout → Layout) (old new : Rest) → PassesNumber Is size allows value old new
     → ((next : Layout) → layouts value next ≡ next) → Passes Is (λ next. number_then size allows (λ number. layouts number next)) old new
 passes_alone Is size allows value layouts old new number same = record {
-    taken = number.taken;
-    later = λ next fault has.
+  taken = number.taken;
+  later = λ next fault has.
       number.later (λ n. layouts n next) fault (subst (λ layout. HasFault layout new.place new.left fault) (sym (same next)) has);
-  }
+}
 
 -- What follows from two clauses on an `Ok`.
 pub ok_from_both : {X E : Type 0} (r : Result X E) (P Q R : X → Type 0) → ((x : X) → P x → Q x → R x) → IfOk r P → IfOk r Q → IfOk r R

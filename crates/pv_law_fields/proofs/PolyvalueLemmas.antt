@@ -1,30 +1,29 @@
 -- A polyvalue among the parts.
-use Rattle.std.proofs.Common.{◌≡◌, ℕ, zero, suc, ◌+◌, ◌*◌, ◌^◌, ◌<◌, ◌≤◌, ℤ, Bool, List, [], ◌∷◌, ◌++◌, length, map, All, Option, Some, None, IfSome, refl, sym, ap, subst, ◌∙◌, arith}
+use Rattle.std.proofs.Common.{ℕ, zero, suc, ◌+◌, ◌*◌, ◌<◌, ◌≤◌, ℤ, Bool, List, [], ◌∷◌, length, map, All, Option, Some, None, refl, sym, subst, arith}
 use Rattle.std.specs.List.{sum}
 use Rattle.std.specs.Int.{w64}
 use Rattle.std.specs.Int.RustNames.{FitsSigned}
 use Rattle.std.proofs.lemmas.List.Elements.{All-nil, All-cons, All-weaker}
 use Rattle.std.proofs.lemmas.List.Sums.{sum-map, sum_by-le}
-use Rattle.pv_base.specs.BigEndian.{big_endian, twos_complement, IsNumber, IsSigned}
+use Rattle.pv_base.specs.BigEndian.{big_endian, twos_complement, IsSigned}
 use Rattle.pv_base.proofs.BigEndianLemmas.{twos_complement-lt}
 use Rattle.pv_base.specs.declared.limits.TheConstants.{HELD_NAMES}
-use Rattle.pv_base.specs.declared.literal.Literal.{Literal}
 use Rattle.pv_base.specs.Polyvalue.{Case, IsPolyvalue}
 use Rattle.pv_bytes.specs.Reading.{Rest, HasTaken}
-use Rattle.pv_format.specs.FirstFault.{Fault, bad_poly, NumberFault, is_short, is_refused, is_later, EndFault, PartFault, is_within, is_after, PolyvalueFault, is_in_fields, is_no_polyvalue, HasFault, HasFieldFault}
-use Rattle.pv_format.specs.Layout.{Layout, anything, nothing_more, number_then, polyvalue_then, any, repeated, txn_layout, literal_layout, case_layout, cases_layout}
-use Rattle.pv_format.specs.PolyvalueSpelling.{SpellsCase, SpellsCases, SpellsLiteral, SpellsPolyvalue}
-use Rattle.pv_format.specs.Spelling.{◌followed_by◌, SpellsEach}
-use Rattle.pv_law_fields.specs.Decoding.{IsTaken, Passes, Stops, KeepsFaults}
+use Rattle.pv_format.specs.FirstFault.{Fault, bad_poly, NumberFault, is_short, is_refused, is_later, is_within, is_after, is_in_fields, is_no_polyvalue, HasFault, HasFieldFault}
+use Rattle.pv_format.specs.Layout.{Layout, anything, nothing_more, number_then, polyvalue_then, any, repeated, literal_layout, case_layout, cases_layout}
+use Rattle.pv_format.specs.PolyvalueSpelling.{SpellsCase, SpellsCases, SpellsPolyvalue}
+use Rattle.pv_format.specs.Spelling.{SpellsEach}
+use Rattle.pv_law_fields.specs.Decoding.{IsTaken, Passes, Stops}
 use Rattle.pv_law_fields.proofs.PartLemmas.{passes_any}
 
 -- A signed number was read.
 pub passes_signed : (value : ℤ) (old new : Rest) → HasTaken (big_endian 8 (twos_complement value)) old new → FitsSigned w64 value
     → Passes (IsSigned value) (λ next. number_then 8 any (λ _. next)) old new
 passes_signed value old new taken fits = record {
-    taken = record { front = big_endian 8 (twos_complement value); is = record { fits = fits; spelled = refl }; taken = taken };
-    later = (passes_any 8 (twos_complement value) old new taken (twos_complement-lt value fits)).later;
-  }
+  taken = record { front = big_endian 8 (twos_complement value); is = record { fits = fits; spelled = refl }; taken = taken };
+  later = (passes_any 8 (twos_complement value) old new taken (twos_complement-lt value fits)).later;
+}
 
 -- No polyvalue is expected in the layout.
 abbrev pub OnlyNumbers : Layout → Type 0
@@ -74,10 +73,10 @@ stops_poly cases old new taken isnt = λ next. is_within (bad_poly old.place) (i
 -- A polyvalue was read.
 pub passes_poly : (cases : List (Case ℤ)) (old new : Rest) → IsTaken (SpellsCases cases) old new → IsPolyvalue HELD_NAMES cases → Passes (SpellsPolyvalue cases) polyvalue_then old new
 passes_poly cases old new taken is = record {
-    taken = record { front = taken.front; is = record { polyvalue = is; spelled = taken.is }; taken = taken.taken };
-    later = λ next fault has. is_after cases taken.front new.left fault taken.taken.bytes (record { polyvalue = is; spelled = taken.is })
-              (subst (λ place. HasFault next place new.left fault) taken.taken.place has);
-  }
+  taken = record { front = taken.front; is = record { polyvalue = is; spelled = taken.is }; taken = taken.taken };
+  later = λ next fault has. is_after cases taken.front new.left fault taken.taken.bytes (record { polyvalue = is; spelled = taken.is })
+      (subst (λ place. HasFault next place new.left fault) taken.taken.place has);
+}
 
 -- A case that is spelled has fewer than 256 literals.
 pub few_literals : (cases : List (Case ℤ)) (bytes : List ℕ) → SpellsEach SpellsCase cases bytes → All (λ (case : Case ℤ). length case.when < 256) cases

@@ -1,5 +1,5 @@
 -- Canonical cases stand in the order of the leaves of a decision tree.
-use Rattle.std.proofs.Common.{◌≡◌, ℕ, zero, suc, ◌<◌, ◌-◌, ◌==◌, ℤ, Bool, true, false, not, ◌&&◌, ◌||◌, eqb, List, [], ◌∷◌, ◌++◌, length, map, get_or, eq-eqb, refl, sym, ap, subst, ◌∙◌, arith}
+use Rattle.std.proofs.Common.{◌≡◌, ℕ, zero, suc, ◌<◌, ◌-◌, ◌==◌, ℤ, Bool, true, false, ◌&&◌, ◌||◌, List, [], ◌∷◌, ◌++◌, length, get_or, eq-eqb, refl, sym, ap, ◌∙◌, arith}
 use Rattle.std.specs.Bool.{beq}
 use Rattle.std.specs.List.{list_all, list_any}
 use Rattle.std.proofs.lemmas.List.{get_or_default}
@@ -37,8 +37,8 @@ true_or false b second = second
 same_self : (txn : TxnId) → is_same_txn txn txn ≡ true
 same_self txn =
     both_true (txn.site.0 == txn.site.0 && txn.epoch == txn.epoch) (txn.number == txn.number)
-      (both_true (txn.site.0 == txn.site.0) (txn.epoch == txn.epoch) (eq-eqb txn.site.0 txn.site.0 refl) (eq-eqb txn.epoch txn.epoch refl))
-      (eq-eqb txn.number txn.number refl)
+    (both_true (txn.site.0 == txn.site.0) (txn.epoch == txn.epoch) (eq-eqb txn.site.0 txn.site.0 refl) (eq-eqb txn.epoch txn.epoch refl))
+    (eq-eqb txn.number txn.number refl)
 
 -- The same literal in front of both changes nothing.
 before_under : (literal : Literal) (when other : List Literal) → stands_before (literal ∷ when) (literal ∷ other) ≡ stands_before when other
@@ -60,9 +60,9 @@ order_both txn (case ∷ []) [] first second = refl
 order_both txn (case ∷ []) (next ∷ back) first second = rw (same_self txn) second
 order_both txn (case ∷ next ∷ front) back first second =
     let here = left_true (stands_before (record { txn = txn; commits = false } ∷ case.when) (record { txn = txn; commits = false } ∷ next.when))
-                 (are_in_order (under txn false (next ∷ front))) first in
+    (are_in_order (under txn false (next ∷ front))) first in
     let rest = right_true (stands_before (record { txn = txn; commits = false } ∷ case.when) (record { txn = txn; commits = false } ∷ next.when))
-                 (are_in_order (under txn false (next ∷ front))) first in
+    (are_in_order (under txn false (next ∷ front))) first in
     both_true _ _ here (order_both txn (next ∷ front) back rest second)
 
 -- Canonical cases are in order.
@@ -89,8 +89,8 @@ order_broken cases place left right first second some inside left_is right_is fi
     let stands = order_at cases (place - 1) left order (omega arith) in
     let left_when : first ≡ (get_or cases (place - 1) left).when = first_is ∙ ap (λ (case : Case ℤ). case.when) left_is in
     let right_when : second ≡ (get_or cases (suc (place - 1)) left).when =
-          second_is ∙ ap (λ (case : Case ℤ). case.when) (right_is ∙ get_or_default cases place right left inside)
-          ∙ ap (λ n. (get_or cases n left).when) (sym next) in
+    second_is ∙ ap (λ (case : Case ℤ). case.when) (right_is ∙ get_or_default cases place right left inside)
+    ∙ ap (λ n. (get_or cases n left).when) (sym next) in
     let both : stands_before first second ≡ true = (λ i. stands_before (left_when i) (right_when i)) ∙ stands in
     cc
 
@@ -101,7 +101,7 @@ module _ (txn : TxnId) (outcome : Bool) where
   ascends_after [] later ascending = refl
   ascends_after (literal ∷ literals) later ascending =
       both_true (precedes txn literal.txn) (ascends (literal ∷ literals))
-        (later literal.txn (or_true (is_same_txn literal.txn literal.txn) (list_any (λ other. is_same_txn literal.txn other.txn) literals) (same_self literal.txn))) ascending
+      (later literal.txn (or_true (is_same_txn literal.txn literal.txn) (list_any (λ other. is_same_txn literal.txn other.txn) literals) (same_self literal.txn))) ascending
 
   -- The same of all cases.
   all_ascend_under : (cases : List (Case ℤ)) → ((named : TxnId) → names cases named ≡ true → precedes txn named ≡ true)
@@ -109,23 +109,23 @@ module _ (txn : TxnId) (outcome : Bool) where
   all_ascend_under [] later ascending = refl
   all_ascend_under (case ∷ cases) later ascending =
       both_true (ascends (record { txn = txn; commits = outcome } ∷ case.when)) (list_all (λ (other : Case ℤ). ascends other.when) (under txn outcome cases))
-        (ascends_after case.when
-          (λ named here. later named (or_true (list_any (λ literal. is_same_txn named literal.txn) case.when) (names cases named) here))
-          (left_true (ascends case.when) (list_all (λ (other : Case ℤ). ascends other.when) cases) ascending))
-        (all_ascend_under cases
-          (λ named there. later named (true_or (list_any (λ literal. is_same_txn named literal.txn) case.when) (names cases named) there))
-          (right_true (ascends case.when) (list_all (λ (other : Case ℤ). ascends other.when) cases) ascending))
+      (ascends_after case.when
+      (λ named here. later named (or_true (list_any (λ literal. is_same_txn named literal.txn) case.when) (names cases named) here))
+      (left_true (ascends case.when) (list_all (λ (other : Case ℤ). ascends other.when) cases) ascending))
+      (all_ascend_under cases
+      (λ named there. later named (true_or (list_any (λ literal. is_same_txn named literal.txn) case.when) (names cases named) there))
+      (right_true (ascends case.when) (list_all (λ (other : Case ℤ). ascends other.when) cases) ascending))
 
 all_append : (xs ys : List (Case ℤ)) → list_all (λ (case : Case ℤ). ascends case.when) xs ≡ true → list_all (λ (case : Case ℤ). ascends case.when) ys ≡ true
     → list_all (λ (case : Case ℤ). ascends case.when) (xs ++ ys) ≡ true
 all_append [] ys first second = second
 all_append (x ∷ xs) ys first second =
     both_true (ascends x.when) (list_all (λ (case : Case ℤ). ascends case.when) (xs ++ ys)) (left_true (ascends x.when) (list_all (λ (case : Case ℤ). ascends case.when) xs) first)
-      (all_append xs ys (right_true (ascends x.when) (list_all (λ (case : Case ℤ). ascends case.when) xs) first) second)
+    (all_append xs ys (right_true (ascends x.when) (list_all (λ (case : Case ℤ). ascends case.when) xs) first) second)
 
 -- The conditions of canonical cases ascend.
 pub canonical_ascend : (cases : List (Case ℤ)) → IsCanonical cases → list_all (λ (case : Case ℤ). ascends case.when) cases ≡ true
 canonical_ascend cases (sure value) = refl
 canonical_ascend cases (tested txn front back front_is back_is front_later back_later differ) =
     all_append (under txn false front) (under txn true back)
-      (all_ascend_under txn false front front_later (canonical_ascend front front_is)) (all_ascend_under txn true back back_later (canonical_ascend back back_is))
+    (all_ascend_under txn false front front_later (canonical_ascend front front_is)) (all_ascend_under txn true back back_later (canonical_ascend back back_is))

@@ -1,10 +1,8 @@
 -- Contents and their records, one after another.
-use Rattle.std.proofs.Common.{◌≡◌, ◌≢◌, ℕ, zero, suc, ◌+◌, ◌<◌, ◌≤◌, max, List, [], ◌∷◌, ◌++◌, map, length, take, get_or, All, Option, Some, None, IfSome, IsSome, MatchOption, refl, sym, ap, subst, ◌∙◌, arith}
+use Rattle.std.proofs.Common.{◌≡◌, ◌≢◌, ℕ, ◌+◌, ◌<◌, max, List, [], ◌∷◌, ◌++◌, length, take, get_or, Option, Some, None, IsSome, MatchOption, sym, ap, subst, ◌∙◌, arith}
 use Rattle.std.specs.Global.{Vec}
 use Rattle.std.proofs.lemmas.List.{append-nil, map-append, take_more, get_or-map, length-map}
-use Rattle.std.specs.Prelude.{slice_get}
 use Rattle.std.proofs.lemmas.Option.{slice_get-get_or}
-use Rattle.pv_base.specs.BigEndian.{AreBytes}
 use Rattle.pv_bytes.specs.Reading.{Rest}
 use Rattle.pv_format.specs.Contents.{IsNoRecord, IsFirstBadContent, SpellRecords, last_epoch}
 use Rattle.pv_format.specs.FirstFault.{Fault, extra, HasFault, RecordFault, is_extra}
@@ -41,13 +39,13 @@ module _ (content : List ℕ) (start : Rest) (begins : start ≡ record { place 
       → MatchOption found (IsNoRecord content) (λ value. SpellsRecord (record_of value) content)
   record_read read new left is passes (Some value) found =
       let whole : content ≡ passes.taken.front =
-            sym (ap (λ (rest : Rest). rest.left) begins) ∙ passes.taken.taken.bytes
-            ∙ ap (λ rest. passes.taken.front ++ rest) (sym is ∙ found.1) ∙ append-nil passes.taken.front in
+      sym (ap (λ (rest : Rest). rest.left) begins) ∙ passes.taken.taken.bytes
+      ∙ ap (λ rest. passes.taken.front ++ rest) (sym is ∙ found.1) ∙ append-nil passes.taken.front in
       subst (λ (v : Record). SpellsRecord (record_of v) content) (sym found.0) (subst (SpellsRecord (record_of read)) (sym whole) passes.taken.is)
   record_read read new left is passes None found =
       no_record content (extra new.place)
-        (subst (λ (rest : Rest). HasFault (record_layout polyvalue_then nothing_more) rest.place rest.left (extra new.place)) begins
-          (passes.later nothing_more (extra new.place) (is_extra (subst (λ rest. rest ≢ []) is found))))
+      (subst (λ (rest : Rest). HasFault (record_layout polyvalue_then nothing_more) rest.place rest.left (extra new.place)) begins
+      (passes.later nothing_more (extra new.place) (is_extra (subst (λ rest. rest ≢ []) is found))))
 
 -- One more content, and its record.
 pub spell_more : (records : List model.Record) (contents : List (List ℕ)) (value : model.Record) (content : List ℕ) → SpellRecords records contents → SpellsRecord value content
@@ -84,17 +82,17 @@ module _ (contents : List (Vec ℕ)) (i : ℕ) (content : Vec ℕ) (inside : i <
   -- The first content that is no record.
   pub first_bad : (records : List Record) → SpellRecords (records_of records) (take i (contents_of contents)) → IsNoRecord content.items → IsFirstBadContent (contents_of contents) i
   first_bad records before none = record {
-      content = content.items;
-      there = slice_get-get_or (contents_of contents) i content.items inside_bytes ∙ ap Some is_bytes;
-      none = none;
-      records = records_of records;
-      before = before;
-    }
+    content = content.items;
+    there = slice_get-get_or (contents_of contents) i content.items inside_bytes ∙ ap Some is_bytes;
+    none = none;
+    records = records_of records;
+    before = before;
+  }
 
   -- One more record was read.
   pub records_more : (records : List Record) (read : Record) → SpellRecords (records_of records) (take i (contents_of contents)) → SpellsRecord (record_of read) content.items
       → SpellRecords (records_of (records ++ read ∷ [])) (take (i + 1) (contents_of contents))
   records_more records read before one =
       subst (λ rs. SpellRecords rs (take (i + 1) (contents_of contents))) (sym (map-append record_of records (read ∷ [])))
-        (subst (SpellRecords (records_of records ++ record_of read ∷ [])) (sym contents_more)
-          (spell_more (records_of records) (take i (contents_of contents)) (record_of read) content.items before one))
+      (subst (SpellRecords (records_of records ++ record_of read ∷ [])) (sym contents_more)
+      (spell_more (records_of records) (take i (contents_of contents)) (record_of read) content.items before one))

@@ -1,5 +1,5 @@
 -- The order in which a decision tree has its leaves.
-use Rattle.std.specs.Prelude.{ℕ, ℤ, Bool, true, false, not, ◌&&◌, List, [], ◌∷◌, if◌then◌else◌}
+use Rattle.std.specs.Prelude.{ℤ, Bool, true, false, not, ◌&&◌, List, [], ◌∷◌, if◌then◌else◌}
 use Rattle.std.specs.Bool.{beq}
 use Rattle.pv_base.specs.Assignment.{is_same_txn, precedes}
 use Rattle.pv_base.specs.Polyvalue.{Case}

@@ -119,7 +119,11 @@ fn take_cases(alloc: Global, take: &mut Take<'_>) -> Result<Vec<Case<i64>>, Poly
 }
 
 // Reads so many cases.
-fn take_counted_cases(alloc: Global, take: &mut Take<'_>, count: u16) -> Result<Vec<Case<i64>>, PolyError>
+fn take_counted_cases(
+    alloc: Global,
+    take: &mut Take<'_>,
+    count: u16,
+) -> Result<Vec<Case<i64>>, PolyError>
     ensures counted { IfOk result (λ cases. length cases.items ≡ count) }
     ensures passes { IfOk result (λ cases. Passes (SpellsEach SpellsCase cases.items) (repeated count case_layout) take.old take.new) }
     ensures stops { IfErr result (λ e. Stops (repeated count case_layout) take.old (fault_of e)) }

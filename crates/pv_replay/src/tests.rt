@@ -67,8 +67,12 @@ fn each_kind_of_record_is_read_and_written(rt: HostRuntime) -> Result<(), Fail> 
     for (hex, text) in RECORDS {
         let bytes = bytes_of(alloc, hex)?;
         let record = decode_record(alloc, &bytes)?;
-        assert!(rt; format!(in alloc; "{record:?}")?.as_str() == format!(in alloc; "Some({text})")?.as_str());
-        assert!(rt; again(alloc, &bytes)?.is_some_and(|written| written.as_slice() == bytes.as_slice()));
+        assert!(rt;
+            format!(in alloc; "{record:?}")?.as_str() == format!(in alloc; "Some({text})")?.as_str()
+        );
+        assert!(rt;
+            again(alloc, &bytes)?.is_some_and(|written| written.as_slice() == bytes.as_slice())
+        );
     }
     Ok(())
 }
@@ -108,7 +112,10 @@ fn a_journal_is_replayed(rt: HostRuntime) -> Result<(), Fail> {
     let alloc = rt.alloc();
     let mut contents = Vec::new(alloc);
     contents.push(bytes_of(alloc, "01 00000001")?)?;
-    contents.push(bytes_of(alloc, "02 00 00000001 00000000 01 00000000 0001 00 0000000000000065")?)?;
+    contents.push(bytes_of(
+        alloc,
+        "02 00 00000001 00000000 01 00000000 0001 00 0000000000000065",
+    )?)?;
     let past = replay(alloc, &contents)?;
     assert_eq!(rt; past.epoch, 1);
     assert_eq!(rt; past.records.len(), 2);
@@ -117,7 +124,10 @@ fn a_journal_is_replayed(rt: HostRuntime) -> Result<(), Fail> {
     assert_eq!(rt; replay(alloc, &none)?.epoch, 0);
 
     contents.push(bytes_of(alloc, "04")?)?;
-    assert_eq!(rt; replay(alloc, &contents).err(), Some(ReplayError::BadRecord(2)));
+    assert_eq!(rt;
+        replay(alloc, &contents).err(),
+        Some(ReplayError::BadRecord(2))
+    );
     Ok(())
 }
 
@@ -130,7 +140,9 @@ fn a_sure_value_is_read_and_written(rt: HostRuntime) -> Result<(), Fail> {
     let nobody: [TxnId; 0] = [];
     assert_eq!(rt; value.at(&nobody), 101);
     assert_eq!(rt; value.cases().len(), 1);
-    assert!(rt; poly_again(alloc, &bytes)?.is_some_and(|written| written.as_slice() == bytes.as_slice()));
+    assert!(rt;
+        poly_again(alloc, &bytes)?.is_some_and(|written| written.as_slice() == bytes.as_slice())
+    );
     Ok(())
 }
 
@@ -169,9 +181,15 @@ fn the_first_fault_is_told(rt: HostRuntime) -> Result<(), Fail> {
         ("0001 01 01 10", PolyError::BadField(4)),
         ("0001 01 01 00 0000", PolyError::Short(5)),
         // A count of 65,535 over fewer bytes takes no more than they do.
-        ("ffff 01 01 00 00000001 00000000 00000000000000", PolyError::Short(13)),
+        (
+            "ffff 01 01 00 00000001 00000000 00000000000000",
+            PolyError::Short(13),
+        ),
         // One of two outcomes; both in the other order; both with one value.
-        ("0001 01 00 00 00000001 00000000 0000000000000032", PolyError::BadPoly(0)),
+        (
+            "0001 01 00 00 00000001 00000000 0000000000000032",
+            PolyError::BadPoly(0),
+        ),
         (
             "0002 01 01 00 00000001 00000000 000000000000003c 01 00 00 00000001 00000000 0000000000000032",
             PolyError::BadPoly(0),
@@ -210,6 +228,9 @@ fn many_cases_that_overlap_are_refused(rt: HostRuntime) -> Result<(), Fail> {
     let alloc = rt.alloc();
     let bytes = many_cases(alloc)?;
     let mut take = Take::new(&bytes);
-    assert_eq!(rt; take_poly(alloc, &mut take).err(), Some(PolyError::BadPoly(0)));
+    assert_eq!(rt;
+        take_poly(alloc, &mut take).err(),
+        Some(PolyError::BadPoly(0))
+    );
     Ok(())
 }

@@ -89,7 +89,7 @@ module _ (bytes : List ℕ) (all : AreBytes bytes) where
               front = big_endian 1 kind;
               back = taken_rest.front;
               whole = sym all_left ∙ taken.bytes
-                ∙ ap (λ rest. big_endian 1 kind ++ rest) (taken_rest.taken.bytes ∙ ap (λ left. taken_rest.front ++ left) none ∙ append-nil taken_rest.front);
+                  ∙ ap (λ rest. big_endian 1 kind ++ rest) (taken_rest.taken.bytes ∙ ap (λ left. taken_rest.front ++ left) none ∙ append-nil taken_rest.front);
               first = record { fits = subst (λ n. n < 256) (sym envelope_is.kind_is) fits; spelled = ap (big_endian 1) (sym envelope_is.kind_is) };
               second = taken_rest.is;
             }

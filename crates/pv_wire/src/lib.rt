@@ -6,6 +6,7 @@ mod decoding;
 mod encoding;
 mod error;
 mod fields;
+mod length;
 mod message;
 mod wants;
 

@@ -94,7 +94,9 @@ fn each_kind_of_message_is_read_and_written(rt: HostRuntime) -> Result<(), Fail>
         let bytes = bytes_of(alloc, hex)?;
         let envelope = decode(alloc, &bytes)?;
         assert!(rt; format!(in alloc; "{envelope:?}")?.as_str() == text);
-        assert!(rt; again(alloc, &bytes)?.is_some_and(|written| written.as_slice() == bytes.as_slice()));
+        assert!(rt;
+            again(alloc, &bytes)?.is_some_and(|written| written.as_slice() == bytes.as_slice())
+        );
     }
     Ok(())
 }
@@ -152,17 +154,29 @@ fn the_first_fault_is_told(rt: HostRuntime) -> Result<(), Fail> {
         // No want; seventeen; items that don't ascend; an item too great.
         ("01 00 01 00 00000001 00000000 00", WireError::BadField(12)),
         ("01 00 01 00 00000001 00000000 11", WireError::BadField(12)),
-        ("01 00 01 00 00000001 00000000 02 00000003 01 00000003 01", WireError::BadField(18)),
-        ("03 01 00 00 00000001 00000000 00000400 00", WireError::BadField(12)),
+        (
+            "01 00 01 00 00000001 00000000 02 00000003 01 00000003 01",
+            WireError::BadField(18),
+        ),
+        (
+            "03 01 00 00 00000001 00000000 00000400 00",
+            WireError::BadField(12),
+        ),
         // A third cause; a length that isn't whole.
         ("06 01 00 00 00000001 00000000 03", WireError::BadField(12)),
-        ("06 01 00 00 00000001 00000000 02 00000000000000", WireError::Short(13)),
+        (
+            "06 01 00 00 00000001 00000000 02 00000000000000",
+            WireError::Short(13),
+        ),
         // Cases in the other order; then a byte too many, which comes later.
         (
             "04 00 01 00 00000001 00000000 00000001 00000000 01 00000000 0002 01 01 01 00000001 00000000 000000000000003c 01 00 01 00000001 00000000 0000000000000032 00",
             WireError::BadPoly(25),
         ),
-        ("04 00 01 00 00000001 00000000 00000001 00000000 00 00", WireError::Extra(21)),
+        (
+            "04 00 01 00 00000001 00000000 00000001 00000000 00 00",
+            WireError::Extra(21),
+        ),
     ] {
         assert_eq!(rt; refusal(alloc, hex)?, Some(error));
     }

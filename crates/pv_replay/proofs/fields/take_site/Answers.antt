@@ -19,4 +19,4 @@ returns-then-site-ge-MAX_SITES-clause-stops c = λ next.
 pub returns-clause-passes : goal.returns-clause-passes
 returns-clause-passes c =
     passes_part (IsSite c.in_ok-site.site) 1 is_site c.in_ok-site.site c.args.take.now c.u8.new.self
-      (passes_number 1 c.in_ok-site.site c.args.take.now c.u8.new.self c.in_ok-site.ensures.taken (omega arith) is_site (grind (arith, nat_tests)))
+    (passes_number 1 c.in_ok-site.site c.args.take.now c.u8.new.self c.in_ok-site.ensures.taken (omega arith) is_site (grind (arith, nat_tests)))

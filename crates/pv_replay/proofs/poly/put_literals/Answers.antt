@@ -1,5 +1,5 @@
 -- One literal after another.
-use Rattle.std.proofs.Common.{get_or, refl, arith}
+use Rattle.std.proofs.Common.{refl}
 use Rattle.std.proofs.lemmas.List.{get_or_default}
 use Rattle.pv_format.specs.PolyvalueSpelling.{SpellsLiteral}
 use Rattle.pv_law_fields.proofs.ListLemmas.{writing_goes_on, writing_ends}
@@ -11,8 +11,8 @@ loop-literal-init c = λ bytes spelled. record { rest = bytes; spelled = spelled
 pub loop-literal-preserved : goal.loop-literal-preserved
 loop-literal-preserved c = λ bytes spelled.
     writing_goes_on SpellsLiteral c.args.when.now c.loop-literal.literal-index _ c.args.put.now bytes c.loop-literal.put c.put_literal.new.put
-      c.loop-literal-test.true (get_or_default c.args.when.now c.loop-literal.literal-index _ _ c.loop-literal-test.true)
-      (c.loop-literal.invariant bytes spelled) c.in_ok-put_literal.ensures
+    c.loop-literal-test.true (get_or_default c.args.when.now c.loop-literal.literal-index _ _ c.loop-literal-test.true)
+    (c.loop-literal.invariant bytes spelled) c.in_ok-put_literal.ensures
 
 pub returns : goal.returns
 returns c = λ bytes spelled.

@@ -1,7 +1,7 @@
 -- The cases, and then whether they are a polyvalue.
-use Rattle.std.proofs.Common.{◌≡◌, ℕ, ℤ, true, false, IsTrue, MatchOption, ◌∙◌, sym, subst, ap, refl, arith}
+use Rattle.std.proofs.Common.{◌≡◌, true, false, MatchOption, ◌∙◌, sym, subst, arith}
 use Rattle.std.proofs.lemmas.Result.{err_from_is_err_and}
-use Rattle.pv_base.specs.Polyvalue.{Case, IsCanonical, IsPolyvalue}
+use Rattle.pv_base.specs.Polyvalue.{IsCanonical, IsPolyvalue}
 use Rattle.pv_base.specs.declared.limits.TheConstants.{HELD_NAMES}
 use Rattle.pv_replay.specs.declared.error.PolyError.TheVariants.{BadPoly, NoMemory}
 use Rattle.pv_base.specs.CaseFaults.{fault_of as case_fault_of}
@@ -19,11 +19,11 @@ pub returns-then-not-look_canonical-clause-stops : goal.returns-then-not-look_ca
 returns-then-not-look_canonical-clause-stops c =
     rw c.place-place.ensures.place
     (stops_poly c.in_ok-cases.cases.items c.args.take.now c.take_cases.new.take c.in_ok-cases.ensures.passes.taken
-      (λ poly.
-        let order = c.look_canonical.ensures (subst IsCanonical (sym c.deref.ensures.value) poly.canonical) in
-        let is : c.look_canonical.result ≡ false = c.if-not-look_canonical.true in
-        let both : false ≡ true = sym is ∙ order in
-        cc))
+    (λ poly.
+    let order = c.look_canonical.ensures (subst IsCanonical (sym c.deref.ensures.value) poly.canonical) in
+    let is : c.look_canonical.result ≡ false = c.if-not-look_canonical.true in
+    let both : false ≡ true = sym is ∙ order in
+    cc))
 
 pub from_cases-requires-clause-few_literals : goal.from_cases-requires-clause-few_literals
 from_cases-requires-clause-few_literals c =
@@ -36,11 +36,11 @@ pub returns-in-Ok-clause-passes : goal.returns-in-Ok-clause-passes
 returns-in-Ok-clause-passes c =
     rw c.in-Ok.ensures.cases
     (passes_poly c.in_ok-cases.cases.items c.args.take.now c.take_cases.new.take c.in_ok-cases.ensures.passes.taken
-      (subst (IsPolyvalue HELD_NAMES) c.in-Ok.ensures.cases c.in-Ok.ensures.polyvalue))
+    (subst (IsPolyvalue HELD_NAMES) c.in-Ok.ensures.cases c.in-Ok.ensures.polyvalue))
 
 pub returns-in-Err-clause-stops : goal.returns-in-Err-clause-stops
 returns-in-Err-clause-stops c =
     refused_poly c.in_ok-cases.cases.items c.args.take.now c.take_cases.new.take c.in_ok-cases.ensures.passes.taken
-      (λ fault. c.no_canonical_fault.ensures HELD_NAMES c.in_ok-cases.cases.items fault)
-      (case_fault_of c.in-Err.e) c.refusal.result c.in-Err.ensures.refused
-      (subst (λ place. MatchOption (case_fault_of c.in-Err.e) (c.refusal.result ≡ NoMemory) (λ _. c.refusal.result ≡ BadPoly place)) c.place-place.ensures.place c.refusal.ensures)
+    (λ fault. c.no_canonical_fault.ensures HELD_NAMES c.in_ok-cases.cases.items fault)
+    (case_fault_of c.in-Err.e) c.refusal.result c.in-Err.ensures.refused
+    (subst (λ place. MatchOption (case_fault_of c.in-Err.e) (c.refusal.result ≡ NoMemory) (λ _. c.refusal.result ≡ BadPoly place)) c.place-place.ensures.place c.refusal.ensures)

@@ -1,5 +1,5 @@
 -- The count, and then so many cases.
-use Rattle.std.proofs.Common.{◌≡◌, Some, ℕ, List, length, sym, subst, arith}
+use Rattle.std.proofs.Common.{◌≡◌, Some, ℕ, length, sym, subst, arith}
 use Rattle.std.proofs.lemmas.Result.{err_from_is_err_and, IfErr-weaker}
 use Rattle.pv_format.specs.FirstFault.{short}
 use Rattle.pv_format.specs.Layout.{Layout, any, repeated, case_layout, cases_layout}
@@ -19,23 +19,23 @@ returns-in_err-count-clause-stops c =
     let p = err_from_is_err_and c.from_residual.result c.from_residual.ensures.1 in
     rw (p.1, p.2)
     (stops_at_number 2 any after_count c.args.take.now (Some (short c.in_err-count.field-0.0.0))
-      (stops_short 2 any c.args.take.now c.u16.new.self c.in_err-count.field-0.0 c.in_err-count.ensures.short))
+    (stops_short 2 any c.args.take.now c.u16.new.self c.in_err-count.field-0.0 c.in_err-count.ensures.short))
 
 pub returns-clause-passes : goal.returns-clause-passes
 returns-clause-passes c =
     ok_from_both c.take_counted_cases.result (λ cases. length cases.items ≡ c.in_ok-count.count)
-      (λ cases. Passes (SpellsEach SpellsCase cases.items) (repeated c.in_ok-count.count case_layout) c.u16.new.self c.take_counted_cases.new.take) _
-      (λ cases counted passes.
-        subst (λ (n : ℕ). Passes (IsNumber 2 n followed_by SpellsEach SpellsCase cases.items) cases_layout c.args.take.now c.take_counted_cases.new.take) (sym counted)
-          (passes_after_number (IsNumber 2 c.in_ok-count.count) 2 any c.in_ok-count.count after_count c.args.take.now c.u16.new.self
-            (number_any 2 c.in_ok-count.count c.args.take.now c.u16.new.self c.in_ok-count.ensures.taken (omega arith))
-            (SpellsEach SpellsCase cases.items) c.take_counted_cases.new.take passes))
-      c.take_counted_cases.ensures.counted c.take_counted_cases.ensures.passes
+    (λ cases. Passes (SpellsEach SpellsCase cases.items) (repeated c.in_ok-count.count case_layout) c.u16.new.self c.take_counted_cases.new.take) _
+    (λ cases counted passes.
+    subst (λ (n : ℕ). Passes (IsNumber 2 n followed_by SpellsEach SpellsCase cases.items) cases_layout c.args.take.now c.take_counted_cases.new.take) (sym counted)
+    (passes_after_number (IsNumber 2 c.in_ok-count.count) 2 any c.in_ok-count.count after_count c.args.take.now c.u16.new.self
+    (number_any 2 c.in_ok-count.count c.args.take.now c.u16.new.self c.in_ok-count.ensures.taken (omega arith))
+    (SpellsEach SpellsCase cases.items) c.take_counted_cases.new.take passes))
+    c.take_counted_cases.ensures.counted c.take_counted_cases.ensures.passes
 
 pub returns-clause-stops : goal.returns-clause-stops
 returns-clause-stops c =
     IfErr-weaker c.take_counted_cases.result (λ e. Stops (repeated c.in_ok-count.count case_layout) c.u16.new.self (fault_of e)) _
-      (λ e stops.
-        stops_after_number (IsNumber 2 c.in_ok-count.count) 2 any c.in_ok-count.count after_count c.args.take.now c.u16.new.self
-          (number_any 2 c.in_ok-count.count c.args.take.now c.u16.new.self c.in_ok-count.ensures.taken (omega arith)) (fault_of e) stops)
-      c.take_counted_cases.ensures.stops
+    (λ e stops.
+    stops_after_number (IsNumber 2 c.in_ok-count.count) 2 any c.in_ok-count.count after_count c.args.take.now c.u16.new.self
+    (number_any 2 c.in_ok-count.count c.args.take.now c.u16.new.self c.in_ok-count.ensures.taken (omega arith)) (fault_of e) stops)
+    c.take_counted_cases.ensures.stops

@@ -16,9 +16,9 @@ returns-in_err-txn-clause-stops c =
     let p = err_from_is_err_and c.from_residual-in_err-txn.result c.from_residual-in_err-txn.ensures.1 in
     rw (p.1, p.2)
     (stops_second (IsTruth c.in_ok-commits.commits) truth_layout txn_layout c.args.take.now c.take_truth.new.take (fault_of c.in_err-txn.field-0.0)
-      c.in_ok-commits.ensures.passes c.in_err-txn.ensures.stops)
+    c.in_ok-commits.ensures.passes c.in_err-txn.ensures.stops)
 
 pub returns-clause-passes : goal.returns-clause-passes
 returns-clause-passes c =
     passes_both (IsTruth c.in_ok-commits.commits) (SpellsTxn c.in_ok-txn.txn) truth_layout txn_layout c.args.take.now c.take_truth.new.take c.take_txn.new.take
-      c.in_ok-commits.ensures.passes c.in_ok-txn.ensures.passes
+    c.in_ok-commits.ensures.passes c.in_ok-txn.ensures.passes

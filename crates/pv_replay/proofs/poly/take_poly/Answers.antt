@@ -1,5 +1,5 @@
 -- A polyvalue and what comes after it, or its first fault.
-use Rattle.std.proofs.Common.{◌≡◌, ℕ, ℤ, List, Option, Some, None, IfSome, Result, Ok, Err, IfOk, IfErr, refl}
+use Rattle.std.proofs.Common.{ℕ, ℤ, List, Option, Some, None, IfSome, Result, Ok, Err, IfOk, IfErr, refl}
 use Rattle.pv_base.specs.Answer.{Answers}
 use Rattle.pv_base.specs.BigEndian.{AreBytes}
 use Rattle.pv_base.specs.Polyvalue.{Case}
@@ -29,11 +29,11 @@ module _ (old new : Rest) (all : AreBytes old.left) where
       → Answers (λ (read : List (Case ℤ) × List ℕ). BeginsWith read.0 read.1 old.left) (PolyvalueFault old.place old.left) (λ (poly : Poly ℤ). (poly, new.left)) fault_of result
   answers (Ok poly) passes stops =
       answered (λ (read : List (Case ℤ) × List ℕ). BeginsWith read.0 read.1 old.left) (PolyvalueFault old.place old.left) (one-polyvalue-answer old.left old.place all)
-        (λ (poly : Poly ℤ). (poly, new.left)) fault_of (Ok poly)
-        (record { front = passes.taken.front; back = new.left; whole = passes.taken.taken.bytes; first = passes.taken.is; second = refl }) tt
+      (λ (poly : Poly ℤ). (poly, new.left)) fault_of (Ok poly)
+      (record { front = passes.taken.front; back = new.left; whole = passes.taken.taken.bytes; first = passes.taken.is; second = refl }) tt
   answers (Err e) passes stops =
       answered (λ (read : List (Case ℤ) × List ℕ). BeginsWith read.0 read.1 old.left) (PolyvalueFault old.place old.left) (one-polyvalue-answer old.left old.place all)
-        (λ (poly : Poly ℤ). (poly, new.left)) fault_of (Err e) tt (told (fault_of e) stops)
+      (λ (poly : Poly ℤ). (poly, new.left)) fault_of (Err e) tt (told (fault_of e) stops)
 
 pub returns-clause-answers : goal.returns-clause-answers
 returns-clause-answers c = answers c.args.take.now c.read_poly.new.take c.place.ensures.bytes c.read_poly.result c.read_poly.ensures.passes c.read_poly.ensures.stops

@@ -1,8 +1,7 @@
 -- One item after another.
-use Rattle.std.proofs.Common.{◌<◌, ◌≤◌, ◌∷◌, [], length, sym, subst, length-append, arith}
+use Rattle.std.proofs.Common.{◌<◌, ◌∷◌, [], length, length-append, arith}
 use Rattle.std.proofs.lemmas.Bool.Decides.{nat_tests}
 use Rattle.std.proofs.lemmas.Result.{err_from_is_err_and}
-use Rattle.pv_base.specs.declared.catalog.ItemId.{ItemId}
 use Rattle.pv_format.specs.Layout.{polyvalue_then}
 use Rattle.pv_format.specs.PolyvalueSpelling.{SpellsPolyvalue}
 use Rattle.pv_model.specs.Alternatives.{Read}
@@ -25,7 +24,7 @@ reading-preserved c =
       few = let more = length-append c.reading.reads.items (read ∷ []) in omega arith;
       small = grind (arith, nat_tests);
       reading = entries_go_on (λ (entry : Read). SpellsPolyvalue entry.cases) (λ entry. entry.item) polyvalue_then c.reading.reads.items read c.args.count c.reading.least c.args.take.now c.reading.take
-                  c.take_item.new.take c.take_poly.new.take some c.reading.invariant.reading c.in_ok-item.ensures.passes c.in_ok-value.ensures.passes;
+          c.take_item.new.take c.take_poly.new.take some c.reading.invariant.reading c.in_ok-item.ensures.passes c.in_ok-value.ensures.passes;
     }
 
 pub returns-in_err-item-clause-stops : goal.returns-in_err-item-clause-stops
@@ -34,7 +33,7 @@ returns-in_err-item-clause-stops c =
     let some : length c.reading.reads.items < c.args.count = omega arith in
     rw (p.1, p.2)
     (entries_stop_at_item (λ (entry : Read). SpellsPolyvalue entry.cases) (λ entry. entry.item) polyvalue_then c.reading.reads.items c.args.count c.reading.least c.args.take.now c.reading.take
-      (fault_of c.in_err-item.field-0.0) some c.reading.invariant.reading c.in_err-item.ensures.stops)
+    (fault_of c.in_err-item.field-0.0) some c.reading.invariant.reading c.in_err-item.ensures.stops)
 
 pub returns-in_err-value-clause-stops : goal.returns-in_err-value-clause-stops
 returns-in_err-value-clause-stops c =
@@ -42,7 +41,7 @@ returns-in_err-value-clause-stops c =
     let some : length c.reading.reads.items < c.args.count = omega arith in
     rw (p.1, p.2)
     (entries_stop (λ (entry : Read). SpellsPolyvalue entry.cases) (λ entry. entry.item) polyvalue_then c.reading.reads.items c.in_ok-item.item.0 c.args.count c.reading.least c.args.take.now c.reading.take
-      c.take_item.new.take (fault_of c.in_err-value.field-0.0) some c.reading.invariant.reading c.in_ok-item.ensures.passes c.in_err-value.ensures.stops)
+    c.take_item.new.take (fault_of c.in_err-value.field-0.0) some c.reading.invariant.reading c.in_ok-item.ensures.passes c.in_err-value.ensures.stops)
 
 pub returns-clause-passes : goal.returns-clause-passes
 returns-clause-passes c =

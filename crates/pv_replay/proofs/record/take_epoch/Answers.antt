@@ -19,4 +19,4 @@ returns-then-epoch-lt1-clause-stops c = λ next.
 pub returns-clause-passes : goal.returns-clause-passes
 returns-clause-passes c =
     passes_part (IsAllowed 4 (nat_le 1) c.in_ok-epoch.epoch) 4 (nat_le 1) c.in_ok-epoch.epoch c.args.take.now c.u32.new.self
-      (passes_number 4 c.in_ok-epoch.epoch c.args.take.now c.u32.new.self c.in_ok-epoch.ensures.taken (omega arith) (nat_le 1) (grind (arith, nat_tests)))
+    (passes_number 4 c.in_ok-epoch.epoch c.args.take.now c.u32.new.self c.in_ok-epoch.ensures.taken (omega arith) (nat_le 1) (grind (arith, nat_tests)))

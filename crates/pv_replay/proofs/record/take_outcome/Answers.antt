@@ -16,9 +16,9 @@ returns-in_err-commits-clause-stops c =
     let p = err_from_is_err_and c.from_residual-in_err-commits.result c.from_residual-in_err-commits.ensures.1 in
     rw (p.1, p.2)
     (stops_second (SpellsTxn c.in_ok-txn.txn) txn_layout truth_layout c.args.take.now c.take_txn.new.take (fault_of c.in_err-commits.field-0.0)
-      c.in_ok-txn.ensures.passes c.in_err-commits.ensures.stops)
+    c.in_ok-txn.ensures.passes c.in_err-commits.ensures.stops)
 
 pub returns-clause-passes : goal.returns-clause-passes
 returns-clause-passes c =
     passes_both (SpellsTxn c.in_ok-txn.txn) (IsTruth c.in_ok-commits.commits) txn_layout truth_layout c.args.take.now c.take_txn.new.take c.take_truth.new.take
-      c.in_ok-txn.ensures.passes c.in_ok-commits.ensures.passes
+    c.in_ok-txn.ensures.passes c.in_ok-commits.ensures.passes

@@ -17,9 +17,9 @@ returns-in_err-writes-clause-stops c =
     let p = err_from_is_err_and c.from_residual-in_err-writes.result c.from_residual-in_err-writes.ensures.1 in
     rw (p.1, p.2)
     (stops_second (SpellsTxn c.in_ok-txn.txn) txn_layout (counted_layout 0 polyvalue_then) c.args.take.now c.take_txn.new.take (fault_of c.in_err-writes.field-0.0)
-      c.in_ok-txn.ensures.passes c.in_err-writes.ensures.stops)
+    c.in_ok-txn.ensures.passes c.in_err-writes.ensures.stops)
 
 pub returns-clause-passes : goal.returns-clause-passes
 returns-clause-passes c =
     passes_both (SpellsTxn c.in_ok-txn.txn) (SpellsReads 0 c.in_ok-writes.writes.items) txn_layout (counted_layout 0 polyvalue_then) c.args.take.now c.take_txn.new.take c.take_reads.new.take
-      c.in_ok-txn.ensures.passes c.in_ok-writes.ensures.passes
+    c.in_ok-txn.ensures.passes c.in_ok-writes.ensures.passes

@@ -19,14 +19,14 @@ pub returns-in_err-holder-clause-stops : goal.returns-in_err-holder-clause-stops
 returns-in_err-holder-clause-stops c =
     let p = err_from_is_err_and c.from_residual-in_err-holder.result c.from_residual-in_err-holder.ensures.1 in
     rw (p.1, p.2) (stops_second (IsAllowed 4 (is_item_from 0) c.in_ok-item.item.0) item_layout txn_layout c.args.take.now c.take_item.new.take (fault_of c.in_err-holder.field-0.0)
-      (passes_part (IsAllowed 4 (is_item_from 0) c.in_ok-item.item.0) 4 (is_item_from 0) c.in_ok-item.item.0 c.args.take.now c.take_item.new.take c.in_ok-item.ensures.passes)
-      c.in_err-holder.ensures.stops)
+    (passes_part (IsAllowed 4 (is_item_from 0) c.in_ok-item.item.0) 4 (is_item_from 0) c.in_ok-item.item.0 c.args.take.now c.take_item.new.take c.in_ok-item.ensures.passes)
+    c.in_err-holder.ensures.stops)
 
 pub returns-clause-passes : goal.returns-clause-passes
 returns-clause-passes c = record {
-    kind_is = refl;
-    txn_is = refl;
-    passes = passes_both (IsAllowed 4 (is_item_from 0) c.in_ok-item.item.0) (SpellsTxn c.in_ok-holder.holder) item_layout txn_layout c.args.take.now c.take_item.new.take c.take_txn.new.take
+  kind_is = refl;
+  txn_is = refl;
+  passes = passes_both (IsAllowed 4 (is_item_from 0) c.in_ok-item.item.0) (SpellsTxn c.in_ok-holder.holder) item_layout txn_layout c.args.take.now c.take_item.new.take c.take_txn.new.take
       (passes_part (IsAllowed 4 (is_item_from 0) c.in_ok-item.item.0) 4 (is_item_from 0) c.in_ok-item.item.0 c.args.take.now c.take_item.new.take c.in_ok-item.ensures.passes)
       c.in_ok-holder.ensures.passes;
-  }
+}

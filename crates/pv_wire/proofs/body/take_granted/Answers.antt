@@ -18,12 +18,12 @@ returns-in_err-values-clause-stops c =
     let p = err_from_is_err_and c.from_residual-in_err-values.result c.from_residual-in_err-values.ensures.1 in
     rw (p.1, p.2)
     (stops_second (SpellsGrant c.in_ok-grant.grant) grant_layout (counted_layout 1 polyvalue_then) c.args.take.now c.take_grant.new.take (fault_of c.in_err-values.field-0.0)
-      c.in_ok-grant.ensures.passes c.in_err-values.ensures.stops)
+    c.in_ok-grant.ensures.passes c.in_err-values.ensures.stops)
 
 pub returns-clause-passes : goal.returns-clause-passes
 returns-clause-passes c = record {
-    kind_is = refl;
-    txn_is = refl;
-    passes = passes_both (SpellsGrant c.in_ok-grant.grant) (SpellsReads 1 c.in_ok-values.values.items) grant_layout (counted_layout 1 polyvalue_then) c.args.take.now c.take_grant.new.take c.take_reads.new.take
+  kind_is = refl;
+  txn_is = refl;
+  passes = passes_both (SpellsGrant c.in_ok-grant.grant) (SpellsReads 1 c.in_ok-values.values.items) grant_layout (counted_layout 1 polyvalue_then) c.args.take.now c.take_grant.new.take c.take_reads.new.take
       c.in_ok-grant.ensures.passes c.in_ok-values.ensures.passes;
-  }
+}

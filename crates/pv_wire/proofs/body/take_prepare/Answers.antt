@@ -18,12 +18,12 @@ returns-in_err-writes-clause-stops c =
     let p = err_from_is_err_and c.from_residual-in_err-writes.result c.from_residual-in_err-writes.ensures.1 in
     rw (p.1, p.2)
     (stops_second (SpellsGrant c.in_ok-grant.grant) grant_layout (counted_layout 0 polyvalue_then) c.args.take.now c.take_grant.new.take (fault_of c.in_err-writes.field-0.0)
-      c.in_ok-grant.ensures.passes c.in_err-writes.ensures.stops)
+    c.in_ok-grant.ensures.passes c.in_err-writes.ensures.stops)
 
 pub returns-clause-passes : goal.returns-clause-passes
 returns-clause-passes c = record {
-    kind_is = refl;
-    txn_is = refl;
-    passes = passes_both (SpellsGrant c.in_ok-grant.grant) (SpellsReads 0 c.in_ok-writes.writes.items) grant_layout (counted_layout 0 polyvalue_then) c.args.take.now c.take_grant.new.take c.take_reads.new.take
+  kind_is = refl;
+  txn_is = refl;
+  passes = passes_both (SpellsGrant c.in_ok-grant.grant) (SpellsReads 0 c.in_ok-writes.writes.items) grant_layout (counted_layout 0 polyvalue_then) c.args.take.now c.take_grant.new.take c.take_reads.new.take
       c.in_ok-grant.ensures.passes c.in_ok-writes.ensures.passes;
-  }
+}

@@ -1,6 +1,5 @@
 -- The items so far were written.
 use Rattle.std.proofs.Common.{ℕ, List, drop}
-
 use Rattle.pv_law_fields.proofs.ListLemmas.{IsWriting}
 use Rattle.pv_law_fields.specs.Encoding.{SpellsEntry}
 use Rattle.pv_base.specs.Want.{Want}

@@ -25,7 +25,7 @@ reading-preserved c =
       few = let more = length-append c.reading.wants.items (want ∷ []) in omega arith;
       small = grind (arith, nat_tests);
       reading = entries_go_on (λ (entry : Want). IsTruth entry.exclusive) (λ entry. entry.item) truth_layout c.reading.wants.items want c.args.count c.reading.least c.args.take.now c.reading.take
-                  c.take_item.new.take c.take_truth.new.take some c.reading.invariant.reading c.in_ok-item.ensures.passes c.in_ok-exclusive.ensures.passes;
+          c.take_item.new.take c.take_truth.new.take some c.reading.invariant.reading c.in_ok-item.ensures.passes c.in_ok-exclusive.ensures.passes;
     }
 
 pub returns-in_err-item-clause-stops : goal.returns-in_err-item-clause-stops
@@ -34,7 +34,7 @@ returns-in_err-item-clause-stops c =
     let some : length c.reading.wants.items < c.args.count = omega arith in
     rw (p.1, p.2)
     (entries_stop_at_item (λ (entry : Want). IsTruth entry.exclusive) (λ entry. entry.item) truth_layout c.reading.wants.items c.args.count c.reading.least c.args.take.now c.reading.take
-      (fault_of c.in_err-item.field-0.0) some c.reading.invariant.reading c.in_err-item.ensures.stops)
+    (fault_of c.in_err-item.field-0.0) some c.reading.invariant.reading c.in_err-item.ensures.stops)
 
 pub returns-in_err-exclusive-clause-stops : goal.returns-in_err-exclusive-clause-stops
 returns-in_err-exclusive-clause-stops c =
@@ -42,7 +42,7 @@ returns-in_err-exclusive-clause-stops c =
     let some : length c.reading.wants.items < c.args.count = omega arith in
     rw (p.1, p.2)
     (entries_stop (λ (entry : Want). IsTruth entry.exclusive) (λ entry. entry.item) truth_layout c.reading.wants.items c.in_ok-item.item.0 c.args.count c.reading.least c.args.take.now c.reading.take
-      c.take_item.new.take (fault_of c.in_err-exclusive.field-0.0) some c.reading.invariant.reading c.in_ok-item.ensures.passes c.in_err-exclusive.ensures.stops)
+    c.take_item.new.take (fault_of c.in_err-exclusive.field-0.0) some c.reading.invariant.reading c.in_ok-item.ensures.passes c.in_err-exclusive.ensures.stops)
 
 pub returns-clause-passes : goal.returns-clause-passes
 returns-clause-passes c =

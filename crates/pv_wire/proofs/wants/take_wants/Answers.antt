@@ -23,18 +23,18 @@ returns-in_err-count-clause-stops c =
 pub returns-clause-passes : goal.returns-clause-passes
 returns-clause-passes c =
     ok_from_both c.take_counted_wants.result (λ wants. length wants.items ≡ c.in_ok-count.count)
-      (λ wants. Passes (SpellsEntriesFrom (λ (entry : Want). IsTruth entry.exclusive) (λ entry. entry.item) 0 wants.items) (entries_layout c.in_ok-count.count truth_layout 0) c.take_count.new.take c.take_counted_wants.new.take) _
-      (λ wants counted passes.
-        subst (λ (n : ℕ). Passes (IsAllowed 1 (is_count_from 1) n followed_by SpellsEntriesFrom (λ (entry : Want). IsTruth entry.exclusive) (λ entry. entry.item) 0 wants.items) (counted_layout 1 truth_layout)
-                 c.args.take.now c.take_counted_wants.new.take) (sym counted)
-          (passes_after_number (IsAllowed 1 (is_count_from 1) c.in_ok-count.count) 1 (is_count_from 1) c.in_ok-count.count after_count c.args.take.now c.take_count.new.take
-            c.in_ok-count.ensures.passes (SpellsEntriesFrom (λ (entry : Want). IsTruth entry.exclusive) (λ entry. entry.item) 0 wants.items) c.take_counted_wants.new.take passes))
-      c.take_counted_wants.ensures.counted c.take_counted_wants.ensures.passes
+    (λ wants. Passes (SpellsEntriesFrom (λ (entry : Want). IsTruth entry.exclusive) (λ entry. entry.item) 0 wants.items) (entries_layout c.in_ok-count.count truth_layout 0) c.take_count.new.take c.take_counted_wants.new.take) _
+    (λ wants counted passes.
+    subst (λ (n : ℕ). Passes (IsAllowed 1 (is_count_from 1) n followed_by SpellsEntriesFrom (λ (entry : Want). IsTruth entry.exclusive) (λ entry. entry.item) 0 wants.items) (counted_layout 1 truth_layout)
+    c.args.take.now c.take_counted_wants.new.take) (sym counted)
+    (passes_after_number (IsAllowed 1 (is_count_from 1) c.in_ok-count.count) 1 (is_count_from 1) c.in_ok-count.count after_count c.args.take.now c.take_count.new.take
+    c.in_ok-count.ensures.passes (SpellsEntriesFrom (λ (entry : Want). IsTruth entry.exclusive) (λ entry. entry.item) 0 wants.items) c.take_counted_wants.new.take passes))
+    c.take_counted_wants.ensures.counted c.take_counted_wants.ensures.passes
 
 pub returns-clause-stops : goal.returns-clause-stops
 returns-clause-stops c =
     IfErr-weaker c.take_counted_wants.result (λ e. Stops (entries_layout c.in_ok-count.count truth_layout 0) c.take_count.new.take (fault_of e)) _
-      (λ e stops.
-        stops_after_number (IsAllowed 1 (is_count_from 1) c.in_ok-count.count) 1 (is_count_from 1) c.in_ok-count.count after_count c.args.take.now c.take_count.new.take
-          c.in_ok-count.ensures.passes (fault_of e) stops)
-      c.take_counted_wants.ensures.stops
+    (λ e stops.
+    stops_after_number (IsAllowed 1 (is_count_from 1) c.in_ok-count.count) 1 (is_count_from 1) c.in_ok-count.count after_count c.args.take.now c.take_count.new.take
+    c.in_ok-count.ensures.passes (fault_of e) stops)
+    c.take_counted_wants.ensures.stops
