@@ -1,7 +1,7 @@
 -- The cases, and then whether they are a polyvalue.
 use Rattle.std.proofs.Common.{◌≡◌, true, false, MatchOption, ◌∙◌, sym, subst, arith}
 use Rattle.std.proofs.lemmas.Result.{err_from_is_err_and}
-use Rattle.pv_base.specs.Polyvalue.{IsCanonical, IsPolyvalue}
+use Rattle.pv_base.specs.Polyvalue.{IsPolyvalue}
 use Rattle.pv_base.specs.declared.limits.TheConstants.{HELD_NAMES}
 use Rattle.pv_replay.specs.declared.error.PolyError.TheVariants.{BadPoly, NoMemory}
 use Rattle.pv_base.specs.CaseFaults.{fault_of as case_fault_of}
@@ -20,7 +20,7 @@ returns-then-not-look_canonical-clause-stops c =
     rw c.place-place.ensures.place
     (stops_poly c.in_ok-cases.cases.items c.args.take.now c.take_cases.new.take c.in_ok-cases.ensures.passes.taken
     (λ poly.
-    let order = c.look_canonical.ensures (subst IsCanonical (sym c.deref.ensures.value) poly.canonical) in
+    let order = c.look_canonical.ensures (subst (IsPolyvalue HELD_NAMES) (sym c.deref.ensures.value) poly) in
     let is : c.look_canonical.result ≡ false = c.if-not-look_canonical.true in
     let both : false ≡ true = sym is ∙ order in
     cc))

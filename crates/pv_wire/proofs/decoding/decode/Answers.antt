@@ -1,11 +1,11 @@
 -- The kind, what it has, and then the end.
-use Rattle.std.proofs.Common.{◌≡◌, ◌≢◌, ◌==◌, ◌<◌, ℕ, Bool, true, false, List, [], ◌∷◌, length, get_or, IsTrue, refl, sym, ap, subst, ◌∙◌, arith}
+use Rattle.std.proofs.Common.{◌≡◌, ◌≢◌, ◌==◌, ◌<◌, ℕ, Bool, true, false, List, [], ◌∷◌, length, get_or, refl, sym, subst, ◌∙◌, arith}
 use Rattle.std.proofs.Common.{Fits, w8}
 use Rattle.std.proofs.lemmas.Bool.Decides.{nat_tests}
 use Rattle.std.proofs.lemmas.List.Elements.{All-from_get_or}
 use Rattle.std.proofs.lemmas.Result.{err_from_is_err_and}
 use Rattle.pv_base.specs.BigEndian.{AreBytes}
-use Rattle.pv_format.specs.FirstFault.{EnvelopeFault, is_kind, short, extra}
+use Rattle.pv_format.specs.FirstFault.{EnvelopeFault, extra}
 use Rattle.pv_wire.specs.Values.{envelope_of}
 use Rattle.pv_wire.specs.declared.error.WireError.TheVariants.{BadKind, Short, Extra}
 use Rattle.pv_wire.proofs.EnvelopeLemmas.{refused, accepted, no_kind, no_such_kind, no_envelope, more_bytes, whole_envelope}
