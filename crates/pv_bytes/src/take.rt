@@ -116,7 +116,8 @@ impl<'a> Take<'a> {
 
     /// The place of the next byte: how many were read.
     pub fn place(&self) -> usize
-        ensures { result ≡ self.now.place }
+        ensures place { result ≡ self.now.place }
+        ensures bytes { AreBytes self.now.left }
     {
         self.place
     }

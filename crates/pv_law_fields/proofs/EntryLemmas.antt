@@ -1,8 +1,7 @@
 -- Entries, each with its item in front: how they are written one by one.
-use Rattle.std.proofs.Common.{◌≡◌, ℕ, ◌+◌, List, [], ◌∷◌, ◌++◌, All, refl, sym, ap, ◌∙◌, append_assoc}
+use Rattle.std.proofs.Common.{ℕ, ◌+◌, List, [], ◌∷◌, ◌++◌, All, refl, sym, ap, ◌∙◌, append_assoc}
 use Rattle.std.proofs.lemmas.List.Elements.{All-nil, All-cons}
-use Rattle.pv_base.specs.BigEndian.{IsNumber}
-use Rattle.pv_format.specs.Spelling.{◌followed_by◌, SpellsEach, SpellsEntriesFrom}
+use Rattle.pv_format.specs.Spelling.{SpellsEach, SpellsEntriesFrom}
 use Rattle.pv_law_fields.specs.Encoding.{SpellsEntry}
 
 module _ {X : Type 0} (Spells : X → List ℕ → Type 0) where

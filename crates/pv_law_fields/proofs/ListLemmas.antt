@@ -1,13 +1,13 @@
 -- Lists of parts: what was done so far, and what is left, come to the whole.
-use Rattle.std.proofs.Common.{◌≡◌, ℕ, zero, suc, ◌+◌, ◌-◌, ◌^◌, ◌<◌, ◌≤◌, List, [], ◌∷◌, ◌++◌, length, drop, get_or, Option, Some, None, refl, sym, ap, subst, ◌∙◌, append_assoc, length-append, add-one, arith}
+use Rattle.std.proofs.Common.{◌≡◌, ℕ, suc, ◌+◌, ◌-◌, ◌<◌, ◌≤◌, List, [], ◌∷◌, ◌++◌, length, drop, get_or, Option, refl, sym, ap, subst, ◌∙◌, append_assoc, length-append, add-one, arith}
 use Rattle.std.proofs.lemmas.List.{append-nil}
 use Rattle.std.proofs.Math.Seq.{drop-cons}
 use Rattle.std.proofs.lemmas.List.{drop_all}
-use Rattle.pv_bytes.specs.Reading.{Rest, HasTaken}
-use Rattle.pv_format.specs.FirstFault.{Fault, HasFault}
-use Rattle.pv_format.specs.Layout.{Layout, number_then, any, repeated, entries_layout}
+use Rattle.pv_bytes.specs.Reading.{Rest}
+use Rattle.pv_format.specs.FirstFault.{Fault}
+use Rattle.pv_format.specs.Layout.{Layout, repeated, entries_layout}
 use Rattle.pv_format.specs.Spelling.{◌followed_by◌, IsEmpty, IsAllowed, SpellsEach, SpellsEntriesFrom, is_item_from}
-use Rattle.pv_law_fields.specs.Decoding.{IsTaken, Passes, PassesNumber, Stops, StopsNumber}
+use Rattle.pv_law_fields.specs.Decoding.{Passes, PassesNumber, Stops, StopsNumber}
 use Rattle.pv_law_fields.proofs.PartLemmas.{passes_both, passes_after_number, stops_first, stops_second, stops_at_number, stops_after_number}
 
 -- Nothing was read.

@@ -1,5 +1,5 @@
 -- One number after another: what was read is spelled, and a fault stays one for what is read before it.
-use Rattle.std.proofs.Common.{◌≡◌, ℕ, ◌+◌, ◌^◌, ◌<◌, Bool, true, false, List, ◌++◌, length, Option, Some, None, IfSome, Result, Ok, Err, IfOk, IsTrue, IsFalse, if◌then◌else◌, refl, sym, ap, subst, ◌∙◌, append_assoc, length-append, arith}
+use Rattle.std.proofs.Common.{◌≡◌, ℕ, ◌+◌, ◌^◌, ◌<◌, Bool, true, false, List, ◌++◌, Option, Some, None, Result, Ok, Err, IfOk, IsTrue, IsFalse, if◌then◌else◌, refl, sym, ap, subst, ◌∙◌, append_assoc, length-append, arith}
 use Rattle.pv_base.specs.BigEndian.{big_endian, IsNumber}
 use Rattle.pv_base.proofs.BigEndianLemmas.{length-big_endian}
 use Rattle.pv_bytes.specs.Reading.{Rest, HasTaken, IsShort}
@@ -7,7 +7,7 @@ use Rattle.pv_bytes.specs.declared.short.Short.{Short}
 use Rattle.pv_format.specs.FirstFault.{Fault, short, bad_field, HasFault, is_short, is_refused, is_later}
 use Rattle.pv_format.specs.Layout.{Layout, number_then, any, truth_layout}
 use Rattle.pv_format.specs.Spelling.{◌followed_by◌, IsAllowed, IsTruth, is_truth}
-use Rattle.pv_law_fields.specs.Decoding.{IsTaken, Passes, PassesNumber, KeepsFaults, Stops, StopsNumber}
+use Rattle.pv_law_fields.specs.Decoding.{IsTaken, Passes, PassesNumber, Stops, StopsNumber}
 
 -- Two takings, one after the other.
 pub HasTaken-both : (front back : List ℕ) (old mid new : Rest) → HasTaken front old mid → HasTaken back mid new → HasTaken (front ++ back) old new

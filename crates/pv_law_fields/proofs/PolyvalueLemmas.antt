@@ -1,21 +1,20 @@
 -- A polyvalue among the parts.
-use Rattle.std.proofs.Common.{◌≡◌, ℕ, zero, suc, ◌+◌, ◌*◌, ◌^◌, ◌<◌, ◌≤◌, ℤ, Bool, List, [], ◌∷◌, ◌++◌, length, map, All, Option, Some, None, IfSome, refl, sym, ap, subst, ◌∙◌, arith}
+use Rattle.std.proofs.Common.{ℕ, zero, suc, ◌+◌, ◌*◌, ◌<◌, ◌≤◌, ℤ, Bool, List, [], ◌∷◌, length, map, All, Option, Some, None, refl, sym, subst, arith}
 use Rattle.std.specs.List.{sum}
 use Rattle.std.specs.Int.{w64}
 use Rattle.std.specs.Int.RustNames.{FitsSigned}
 use Rattle.std.proofs.lemmas.List.Elements.{All-nil, All-cons, All-weaker}
 use Rattle.std.proofs.lemmas.List.Sums.{sum-map, sum_by-le}
-use Rattle.pv_base.specs.BigEndian.{big_endian, twos_complement, IsNumber, IsSigned}
+use Rattle.pv_base.specs.BigEndian.{big_endian, twos_complement, IsSigned}
 use Rattle.pv_base.proofs.BigEndianLemmas.{twos_complement-lt}
 use Rattle.pv_base.specs.declared.limits.TheConstants.{HELD_NAMES}
-use Rattle.pv_base.specs.declared.literal.Literal.{Literal}
 use Rattle.pv_base.specs.Polyvalue.{Case, IsPolyvalue}
 use Rattle.pv_bytes.specs.Reading.{Rest, HasTaken}
-use Rattle.pv_format.specs.FirstFault.{Fault, bad_poly, NumberFault, is_short, is_refused, is_later, EndFault, PartFault, is_within, is_after, PolyvalueFault, is_in_fields, is_no_polyvalue, HasFault, HasFieldFault}
-use Rattle.pv_format.specs.Layout.{Layout, anything, nothing_more, number_then, polyvalue_then, any, repeated, txn_layout, literal_layout, case_layout, cases_layout}
-use Rattle.pv_format.specs.PolyvalueSpelling.{SpellsCase, SpellsCases, SpellsLiteral, SpellsPolyvalue}
-use Rattle.pv_format.specs.Spelling.{◌followed_by◌, SpellsEach}
-use Rattle.pv_law_fields.specs.Decoding.{IsTaken, Passes, Stops, KeepsFaults}
+use Rattle.pv_format.specs.FirstFault.{Fault, bad_poly, NumberFault, is_short, is_refused, is_later, is_within, is_after, is_in_fields, is_no_polyvalue, HasFault, HasFieldFault}
+use Rattle.pv_format.specs.Layout.{Layout, anything, nothing_more, number_then, polyvalue_then, any, repeated, literal_layout, case_layout, cases_layout}
+use Rattle.pv_format.specs.PolyvalueSpelling.{SpellsCase, SpellsCases, SpellsPolyvalue}
+use Rattle.pv_format.specs.Spelling.{SpellsEach}
+use Rattle.pv_law_fields.specs.Decoding.{IsTaken, Passes, Stops}
 use Rattle.pv_law_fields.proofs.PartLemmas.{passes_any}
 
 -- A signed number was read.

@@ -1,5 +1,5 @@
 -- What reading one part of the bytes comes to, where a layout says which part is to come.
-use Rattle.std.specs.Prelude.{◌≡◌, ℕ, Bool, List, Option, IfSome}
+use Rattle.std.specs.Prelude.{ℕ, Bool, List, Option, IfSome}
 use Rattle.pv_bytes.specs.Reading.{Rest, HasTaken}
 use Rattle.pv_format.specs.FirstFault.{Fault, HasFault}
 use Rattle.pv_format.specs.Layout.{Layout, number_then}

@@ -1,12 +1,13 @@
 -- Canonical cases stand in the order of the leaves of a decision tree.
-use Rattle.std.proofs.Common.{◌≡◌, ℕ, zero, suc, ◌<◌, ◌-◌, ◌==◌, ℤ, Bool, true, false, not, ◌&&◌, eqb, List, [], ◌∷◌, ◌++◌, length, map, get_or, eq-eqb, refl, sym, ap, subst, ◌∙◌, arith}
+use Rattle.std.proofs.Common.{◌≡◌, ℕ, zero, suc, ◌<◌, ◌-◌, ◌==◌, ℤ, Bool, true, false, ◌&&◌, ◌||◌, List, [], ◌∷◌, ◌++◌, length, get_or, eq-eqb, refl, sym, ap, ◌∙◌, arith}
 use Rattle.std.specs.Bool.{beq}
+use Rattle.std.specs.List.{list_all, list_any}
 use Rattle.std.proofs.lemmas.List.{get_or_default}
-use Rattle.pv_base.specs.Assignment.{is_same_txn}
-use Rattle.pv_base.specs.Polyvalue.{Case, under, IsCanonical, sure, tested}
+use Rattle.pv_base.specs.Assignment.{is_same_txn, precedes}
+use Rattle.pv_base.specs.Polyvalue.{Case, names, under, IsCanonical, sure, tested}
 use Rattle.pv_base.specs.declared.literal.Literal.{Literal}
 use Rattle.pv_base.specs.declared.txn.TxnId.{TxnId}
-use Rattle.pv_replay.specs.Order.{are_in_order, stands_before}
+use Rattle.pv_replay.specs.Order.{are_in_order, ascends, stands_before}
 
 beq_self : (b : Bool) → beq b b ≡ true
 beq_self true = refl
@@ -24,6 +25,14 @@ right_true false b both = cc
 both_true : (a b : Bool) → a ≡ true → b ≡ true → (a && b) ≡ true
 both_true true b first second = second
 both_true false b first second = first
+
+or_true : (a b : Bool) → a ≡ true → (a || b) ≡ true
+or_true true b first = refl
+or_true false b first = cc
+
+true_or : (a b : Bool) → b ≡ true → (a || b) ≡ true
+true_or true b second = refl
+true_or false b second = second
 
 same_self : (txn : TxnId) → is_same_txn txn txn ≡ true
 same_self txn =
@@ -84,3 +93,39 @@ order_broken cases place left right first second some inside left_is right_is fi
     ∙ ap (λ n. (get_or cases n left).when) (sym next) in
     let both : stands_before first second ≡ true = (λ i. stands_before (left_when i) (right_when i)) ∙ stands in
     cc
+
+module _ (txn : TxnId) (outcome : Bool) where
+  -- A condition with an earlier transaction in front still ascends.
+  ascends_after : (when : List Literal) → ((named : TxnId) → list_any (λ literal. is_same_txn named literal.txn) when ≡ true → precedes txn named ≡ true)
+      → ascends when ≡ true → ascends (record { txn = txn; commits = outcome } ∷ when) ≡ true
+  ascends_after [] later ascending = refl
+  ascends_after (literal ∷ literals) later ascending =
+      both_true (precedes txn literal.txn) (ascends (literal ∷ literals))
+      (later literal.txn (or_true (is_same_txn literal.txn literal.txn) (list_any (λ other. is_same_txn literal.txn other.txn) literals) (same_self literal.txn))) ascending
+
+  -- The same of all cases.
+  all_ascend_under : (cases : List (Case ℤ)) → ((named : TxnId) → names cases named ≡ true → precedes txn named ≡ true)
+      → list_all (λ (case : Case ℤ). ascends case.when) cases ≡ true → list_all (λ (case : Case ℤ). ascends case.when) (under txn outcome cases) ≡ true
+  all_ascend_under [] later ascending = refl
+  all_ascend_under (case ∷ cases) later ascending =
+      both_true (ascends (record { txn = txn; commits = outcome } ∷ case.when)) (list_all (λ (other : Case ℤ). ascends other.when) (under txn outcome cases))
+      (ascends_after case.when
+      (λ named here. later named (or_true (list_any (λ literal. is_same_txn named literal.txn) case.when) (names cases named) here))
+      (left_true (ascends case.when) (list_all (λ (other : Case ℤ). ascends other.when) cases) ascending))
+      (all_ascend_under cases
+      (λ named there. later named (true_or (list_any (λ literal. is_same_txn named literal.txn) case.when) (names cases named) there))
+      (right_true (ascends case.when) (list_all (λ (other : Case ℤ). ascends other.when) cases) ascending))
+
+all_append : (xs ys : List (Case ℤ)) → list_all (λ (case : Case ℤ). ascends case.when) xs ≡ true → list_all (λ (case : Case ℤ). ascends case.when) ys ≡ true
+    → list_all (λ (case : Case ℤ). ascends case.when) (xs ++ ys) ≡ true
+all_append [] ys first second = second
+all_append (x ∷ xs) ys first second =
+    both_true (ascends x.when) (list_all (λ (case : Case ℤ). ascends case.when) (xs ++ ys)) (left_true (ascends x.when) (list_all (λ (case : Case ℤ). ascends case.when) xs) first)
+    (all_append xs ys (right_true (ascends x.when) (list_all (λ (case : Case ℤ). ascends case.when) xs) first) second)
+
+-- The conditions of canonical cases ascend.
+pub canonical_ascend : (cases : List (Case ℤ)) → IsCanonical cases → list_all (λ (case : Case ℤ). ascends case.when) cases ≡ true
+canonical_ascend cases (sure value) = refl
+canonical_ascend cases (tested txn front back front_is back_is front_later back_later differ) =
+    all_append (under txn false front) (under txn true back)
+    (all_ascend_under txn false front front_later (canonical_ascend front front_is)) (all_ascend_under txn true back back_later (canonical_ascend back back_is))

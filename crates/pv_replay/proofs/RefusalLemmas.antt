@@ -1,10 +1,9 @@
 -- What is told of cases that are refused.
-use Rattle.std.proofs.Common.{◌≡◌, ℕ, ℤ, List, Option, Some, None, IfSome, MatchOption, sym, subst}
+use Rattle.std.proofs.Common.{◌≡◌, ℕ, ℤ, List, Option, Some, None, IfSome, MatchOption, sym, subst, refl}
 use Rattle.pv_base.specs.CaseFaults.{CaseFault, IsCanonicalFault}
 use Rattle.pv_base.specs.declared.limits.TheConstants.{HELD_NAMES}
 use Rattle.pv_base.specs.Polyvalue.{Case, IsPolyvalue}
 use Rattle.pv_bytes.specs.Reading.{Rest}
-use Rattle.pv_format.specs.FirstFault.{Fault, bad_poly}
 use Rattle.pv_format.specs.Layout.{polyvalue_then}
 use Rattle.pv_format.specs.PolyvalueSpelling.{SpellsCases}
 use Rattle.pv_law_fields.specs.Decoding.{IsTaken, Stops}

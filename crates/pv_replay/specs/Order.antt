@@ -1,7 +1,7 @@
 -- The order in which a decision tree has its leaves.
-use Rattle.std.specs.Prelude.{ℕ, ℤ, Bool, true, false, not, ◌&&◌, List, [], ◌∷◌, if◌then◌else◌}
+use Rattle.std.specs.Prelude.{ℤ, Bool, true, false, not, ◌&&◌, List, [], ◌∷◌, if◌then◌else◌}
 use Rattle.std.specs.Bool.{beq}
-use Rattle.pv_base.specs.Assignment.{is_same_txn}
+use Rattle.pv_base.specs.Assignment.{is_same_txn, precedes}
 use Rattle.pv_base.specs.Polyvalue.{Case}
 use Rattle.pv_base.specs.declared.literal.Literal.{Literal}
 
@@ -18,3 +18,9 @@ abbrev pub are_in_order : List (Case ℤ) → Bool
 are_in_order [] = true
 are_in_order (case ∷ []) = true
 are_in_order (case ∷ next ∷ cases) = stands_before case.when next.when && are_in_order (next ∷ cases)
+
+-- The transactions of the literals ascend.
+abbrev pub ascends : List Literal → Bool
+ascends [] = true
+ascends (literal ∷ []) = true
+ascends (literal ∷ next ∷ literals) = precedes literal.txn next.txn && ascends (next ∷ literals)

@@ -3,6 +3,7 @@
 
 mod error;
 mod fields;
+mod length;
 mod order;
 mod past;
 mod poly;
@@ -11,8 +12,12 @@ mod record;
 
 pub use error::{PolyError, ReplayError};
 pub use fields::{put_truth, put_txn, take_count, take_item, take_site, take_truth, take_txn};
+pub use length::reads_length;
 pub use past::{Past, replay};
 pub use poly::{put_poly, take_poly};
 pub use pv_poly::Read;
 pub use reads::{put_reads, take_reads};
 pub use record::{Record, encode_record};
+
+#[cfg(test)]
+mod tests;

@@ -1,12 +1,67 @@
-// The order in which a decision tree has its leaves: what can be told of cases before they are put together.
-ghost use Rattle.std.specs.Prelude.{◌≡◌, ℤ, true, IsTrue};
-ghost use Rattle.pv_replay.specs.Order.{are_in_order, stands_before};
+// What can be told of cases before they are put together: canonical ones are the leaves of a decision tree, from left to right.
+ghost use Rattle.std.specs.Prelude.{◌≡◌, ◌≤◌, true, length, All, IsTrue};
+ghost use Rattle.std.specs.List.{list_all};
+ghost use Rattle.pv_base.specs.Polyvalue.{IsPolyvalue};
+ghost use Rattle.pv_base.specs.declared.limits.TheConstants.{HELD_NAMES};
+ghost use Rattle.pv_replay.specs.Order.{are_in_order, ascends, stands_before};
 
-use pv_base::{Case, Literal};
+use pv_base::{Case, HELD_NAMES, Literal};
 
-/// Whether each case stands before the next one as leaves of a decision tree do. Canonical cases do. Takes time in proportion to the
-/// literals, so that many cases that overlap needn't be compared with one another.
-pub fn are_in_order(cases: &[Case<i64>]) -> bool
+// How many cases a polyvalue has at most.
+const MAX_CASES: usize = 256;
+
+/// Whether the cases look like those of a polyvalue, the leaves of a decision tree from left to right: they are few, each condition's
+/// transactions are few and ascend, and each case stands before the next one. Takes time in proportion to the cases, where these are many no more
+/// than it takes to count them. So many cases are never put together, or their transactions sorted, only to be refused.
+pub fn look_canonical(cases: &[Case<i64>]) -> bool
+    ensures { IsPolyvalue HELD_NAMES cases.now → result ≡ true }
+{
+    if cases.len() > MAX_CASES {
+        return false;
+    }
+    if !have_few_literals(cases) {
+        return false;
+    }
+    if !all_ascend(cases) {
+        return false;
+    }
+    are_in_order(cases)
+}
+
+// Whether each case has no more literals than a polyvalue may name transactions.
+fn have_few_literals(cases: &[Case<i64>]) -> bool
+    ensures { All (λ case. length case.when ≤ HELD_NAMES) cases.now → result ≡ true }
+{
+    for case in cases {
+        if case.when.len() > HELD_NAMES as usize {
+            return false;
+        }
+    }
+    true
+}
+
+// Whether each condition's transactions ascend.
+fn all_ascend(cases: &[Case<i64>]) -> bool
+    ensures { result ≡ list_all (λ case. ascends case.when) cases.now }
+{
+    cases.iter().all(|case| ascends(&case.when))
+}
+
+// Whether the transactions of the literals ascend.
+fn ascends(when: &[Literal]) -> bool
+    ensures { result ≡ ascends when.now }
+{
+    match when {
+        [] => true,
+        [first, rest @ ..] => match rest {
+            [] => true,
+            [second, ..] => first.txn < second.txn && ascends(rest),
+        },
+    }
+}
+
+// Whether each case stands before the next one.
+fn are_in_order(cases: &[Case<i64>]) -> bool
     ensures { IsTrue (are_in_order cases.now) → result ≡ true }
 {
     for place in 1..cases.len() {

@@ -68,8 +68,8 @@ fn later_epoch(epoch: u32, record: &Record) -> u32
     }
 }
 
-// The record that the content is, or that it is none.
-fn decode_record(alloc: Global, content: &[u8]) -> Result<Option<Record>, NoMemory>
+/// The record that the content is, or that it is none.
+pub fn decode_record(alloc: Global, content: &[u8]) -> Result<Option<Record>, NoMemory>
     ensures { IfOk result (λ found. MatchOption found (IsNoRecord content.now) (λ value. SpellsRecord (record_of value) content.now)) }
 {
     let mut take = Take::new(content);

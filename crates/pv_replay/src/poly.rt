@@ -1,17 +1,19 @@
 // Polyvalues as bytes: the count of the cases, and for each case the count of its literals, the literals and the value.
 ghost use Rattle.std.specs.Prelude.{◌≡◌, ◌++◌, ◌<◌, ◌≤◌, ℕ, ℤ, List, length, All, MatchOption, IfOk, IfErr, OnOk};
+ghost use Rattle.pv_base.specs.Answer.{Answers};
 ghost use Rattle.pv_base.specs.CaseFaults.{fault_of as case_fault_of};
 ghost use Rattle.pv_base.specs.declared.literal.Literal.{Literal};
 ghost use Rattle.pv_base.specs.Polyvalue as model;
+ghost use Rattle.pv_format.specs.FirstFault.{PolyvalueFault};
 ghost use Rattle.pv_format.specs.Layout.{case_layout, cases_layout, literal_layout, polyvalue_then, repeated};
-ghost use Rattle.pv_format.specs.PolyvalueSpelling.{SpellsCase, SpellsCases, SpellsLiteral, SpellsPolyvalue};
+ghost use Rattle.pv_format.specs.PolyvalueSpelling.{BeginsWith, SpellsCase, SpellsCases, SpellsLiteral, SpellsPolyvalue};
 ghost use Rattle.pv_format.specs.Spelling.{SpellsEach};
 ghost use Rattle.pv_law_fields.specs.Decoding.{Passes, Stops};
 ghost use Rattle.pv_replay.specs.Faults.{fault_of};
 
 use crate::PolyError;
 use crate::fields::{put_truth, put_txn, take_truth, take_txn};
-use crate::order::are_in_order;
+use crate::order::look_canonical;
 use pv_base::{Case, CaseError, Literal, NoMemory};
 use pv_bytes::{Put, Take};
 use pv_poly::{Poly, no_canonical_fault};
@@ -71,12 +73,23 @@ fn put_literal(put: &mut Put, literal: Literal) -> Result<(), NoMemory>
 /// fields are read, that they are no polyvalue in canonical form. Takes time in proportion to the bytes that it reads. After a refusal the `Take`
 /// stands somewhere within them, and is to be dropped.
 pub fn take_poly(alloc: Global, take: &mut Take<'_>) -> Result<Poly<i64>, PolyError>
+    ensures answers { Answers (λ (read : List (model.Case ℤ) × List ℕ). BeginsWith read.0 read.1 take.old.left) (PolyvalueFault take.old.place take.old.left)
+        (λ poly. (poly, take.new.left)) fault_of result }
+    ensures passes { IfOk result (λ poly. Passes (SpellsPolyvalue poly) polyvalue_then take.old take.new) }
+    ensures stops { IfErr result (λ e. Stops polyvalue_then take.old (fault_of e)) }
+{
+    let _ = take.place();
+    read_poly(alloc, take)
+}
+
+// Reads a polyvalue, as a part of what is to be read.
+fn read_poly(alloc: Global, take: &mut Take<'_>) -> Result<Poly<i64>, PolyError>
     ensures passes { IfOk result (λ poly. Passes (SpellsPolyvalue poly) polyvalue_then take.old take.new) }
     ensures stops { IfErr result (λ e. Stops polyvalue_then take.old (fault_of e)) }
 {
     let place = take.place();
     let cases = take_cases(alloc, take)?;
-    if !are_in_order(&cases) {
+    if !look_canonical(&cases) {
         return Err(PolyError::BadPoly(place));
     }
     no_canonical_fault::<i64>();

@@ -9,6 +9,7 @@ ghost use Rattle.pv_replay.specs.Values.{record_of};
 
 use crate::PolyError;
 use crate::fields::{put_truth, put_txn, take_truth, take_txn};
+use crate::length::record_length;
 use crate::reads::{put_reads, take_reads};
 use pv_base::{NoMemory, TxnId};
 use pv_bytes::{Put, Take};
@@ -42,7 +43,7 @@ pub fn encode_record(alloc: Global, value: &Record) -> Result<Vec<u8>, NoMemory>
     requires { (bytes : List ℕ) × SpellsRecord (record_of value.now) bytes }
     ensures { IfOk result (λ bytes. SpellsRecord (record_of value.now) bytes.items) }
 {
-    let mut put = Put::new(alloc);
+    let mut put = Put::with_room(alloc, record_length(value))?;
     put_record(&mut put, value)?;
     Ok(put.done())
 }

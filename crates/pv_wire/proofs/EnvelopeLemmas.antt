@@ -1,5 +1,5 @@
 -- Bytes that spell a message, and their faults.
-use Rattle.std.proofs.Common.{◌≡◌, ◌≢◌, ℕ, ◌+◌, ◌<◌, List, [], ◌∷◌, ◌++◌, length, Option, Some, None, IfSome, IsTrue, IsFalse, Result, Ok, Err, refl, sym, ap, subst, ◌∙◌, arith}
+use Rattle.std.proofs.Common.{◌≡◌, ◌≢◌, ℕ, ◌+◌, ◌<◌, List, [], ◌∷◌, ◌++◌, length, Option, Some, None, IfSome, IsTrue, IsFalse, Ok, Err, refl, sym, ap, subst, ◌∙◌, arith}
 use Rattle.std.proofs.lemmas.List.{append-nil}
 use Rattle.pv_base.specs.Answer.{Answers}
 use Rattle.pv_base.specs.BigEndian.{big_endian, AreBytes}
@@ -10,14 +10,14 @@ use Rattle.pv_bytes.specs.declared.short.Short.{Short}
 use Rattle.pv_format.specs.FirstFault.{Fault, bad_kind, short, extra, EnvelopeFault, has_no_kind, has_bad_kind, is_in_fields, is_kind, HasFault, is_extra}
 use Rattle.pv_format.specs.Layout.{nothing_more, message_layout}
 use Rattle.pv_format.specs.Message as model
-use Rattle.pv_format.specs.MessageSpelling.{SpellsEnvelope, kind_of}
-use Rattle.pv_law_fields.specs.Decoding.{Passes, Stops}
+use Rattle.pv_format.specs.MessageSpelling.{SpellsEnvelope}
+use Rattle.pv_law_fields.specs.Decoding.{Stops}
 use Rattle.pv_law_format.proofs.AnswerLemmas.{one-envelope-answer}
 use Rattle.pv_replay.specs.Faults.{fault_of as part_fault_of}
 use Rattle.pv_replay.specs.declared.error.PolyError.{PolyError}
 use Rattle.pv_replay.specs.declared.error.PolyError.TheVariants as part
 use Rattle.pv_wire.specs.Faults.{fault_of, wire_error}
-use Rattle.pv_wire.specs.Reading.{PassesEnvelope, SpellsAfterKind, after_kind}
+use Rattle.pv_wire.specs.Reading.{PassesEnvelope, after_kind}
 use Rattle.pv_wire.specs.Values.{envelope_of}
 use Rattle.pv_wire.specs.declared.error.WireError.{WireError}
 use Rattle.pv_wire.specs.declared.message.Envelope.{Envelope}

@@ -4,6 +4,7 @@ ghost use Rattle.pv_format.specs.MessageSpelling.{SpellsBody, SpellsEnvelope};
 ghost use Rattle.pv_wire.specs.Values.{envelope_of, message_of};
 
 use crate::fields::{put_cause, put_grant};
+use crate::length::body_length;
 use crate::message::{kind_of, txn_of};
 use crate::wants::put_wants;
 use crate::{Envelope, Message};
@@ -12,13 +13,16 @@ use pv_bytes::Put;
 use pv_replay::{put_reads, put_truth, put_txn};
 use std::alloc::Global;
 
+// How many bytes the kind, the sites and the transaction take.
+const HEAD: usize = 12;
+
 /// The bytes of a message, which has to have a spelling: its sites, items, numbers and counts are in range, and its items ascend. Takes
 /// time in proportion to the bytes.
 pub fn encode(alloc: Global, envelope: &Envelope) -> Result<Vec<u8>, NoMemory>
     requires { (bytes : List ℕ) × SpellsEnvelope (envelope_of envelope.now) bytes }
     ensures { IfOk result (λ bytes. SpellsEnvelope (envelope_of envelope.now) bytes.items) }
 {
-    let mut put = Put::new(alloc);
+    let mut put = Put::with_room(alloc, HEAD + body_length(&envelope.message))?;
     put_envelope(&mut put, envelope)?;
     Ok(put.done())
 }

@@ -6,6 +6,7 @@ mod decoding;
 mod encoding;
 mod error;
 mod fields;
+mod length;
 mod message;
 mod wants;
 
@@ -14,3 +15,6 @@ pub use encoding::encode;
 pub use error::WireError;
 pub use message::{Envelope, Message, NoCause};
 pub use pv_poly::Read;
+
+#[cfg(test)]
+mod tests;

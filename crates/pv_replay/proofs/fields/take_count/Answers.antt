@@ -14,7 +14,7 @@ returns-in_err-count-clause-stops c =
 
 pub returns-then-count-fewest-clause-stops : goal.returns-then-count-fewest-clause-stops
 returns-then-count-fewest-clause-stops c = λ next.
-    rw c.place-place.ensures
+    rw c.place-place.ensures.place
     (stops_number 1 c.in_ok-count.count c.args.take.now c.u8.new.self c.in_ok-count.ensures.taken (omega arith) (is_count_from c.args.fewest) (elim c.then-count-fewest.branch [ then-count-fewest-via-then-count-fewest w ↦ grind (arith, nat_tests) | then-count-fewest-via-else-count-fewest+then-from-gt-MAX_PROGRAM_ITEMS w ↦ grind (arith, nat_tests) ]) next)
 
 pub returns-clause-passes : goal.returns-clause-passes

@@ -14,7 +14,7 @@ returns-in_err-item-clause-stops c =
 
 pub returns-then-item-least-clause-stops : goal.returns-then-item-least-clause-stops
 returns-then-item-least-clause-stops c = λ next.
-    rw c.place-place.ensures
+    rw c.place-place.ensures.place
     (stops_number 4 c.in_ok-item.item c.args.take.now c.u32.new.self c.in_ok-item.ensures.taken (omega arith) (is_item_from c.args.least) (elim c.then-item-least.branch [ then-item-least-via-then-item-least w ↦ grind (arith, nat_tests) | then-item-least-via-else-item-least+then-item-ge-MAX_ITEMS w ↦ grind (arith, nat_tests) ]) next)
 
 pub returns-clause-passes : goal.returns-clause-passes

@@ -13,7 +13,7 @@ returns-in_err-site-clause-stops c =
 
 pub returns-then-site-ge-MAX_SITES-clause-stops : goal.returns-then-site-ge-MAX_SITES-clause-stops
 returns-then-site-ge-MAX_SITES-clause-stops c = λ next.
-    rw c.place-place.ensures
+    rw c.place-place.ensures.place
     (stops_number 1 c.in_ok-site.site c.args.take.now c.u8.new.self c.in_ok-site.ensures.taken (omega arith) is_site (grind (arith, nat_tests)) (λ _. next))
 
 pub returns-clause-passes : goal.returns-clause-passes

@@ -1,7 +1,7 @@
 -- The number is whole, and then 0 or 1.
-use Rattle.std.proofs.Common.{true, false, arith, refl}
+use Rattle.std.proofs.Common.{true, false, arith}
 use Rattle.std.proofs.lemmas.Result.{err_from_is_err_and}
-use Rattle.pv_format.specs.Spelling.{IsTruth, is_truth}
+use Rattle.pv_format.specs.Spelling.{is_truth}
 use Rattle.std.proofs.lemmas.Bool.Decides.{nat_tests}
 use Rattle.pv_law_fields.proofs.PartLemmas.{passes_truth, stops_number, stops_short}
 use Rattle.pv_replay.proofs.fields.take_truth.Goals as goal
@@ -19,5 +19,5 @@ returns-in-1-clause-passes c = passes_truth c.in_ok-u8.field-0 true c.args.take.
 
 pub returns-in_default-clause-stops : goal.returns-in_default-clause-stops
 returns-in_default-clause-stops c = λ next.
-    rw c.place-place.ensures
+    rw c.place-place.ensures.place
     (stops_number 1 c.in_ok-u8.field-0 c.args.take.now c.u8.new.self c.in_ok-u8.ensures.taken (omega arith) is_truth (grind (arith, nat_tests)) (λ _. next))

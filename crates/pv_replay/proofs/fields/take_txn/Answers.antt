@@ -3,7 +3,7 @@ use Rattle.std.proofs.Common.{arith, Some}
 use Rattle.std.proofs.lemmas.Result.{err_from_is_err_and}
 use Rattle.pv_base.specs.BigEndian.{IsNumber}
 use Rattle.pv_format.specs.FirstFault.{short}
-use Rattle.pv_format.specs.Layout.{Layout, any, number_then, site_layout}
+use Rattle.pv_format.specs.Layout.{any, number_then, site_layout}
 use Rattle.pv_format.specs.Spelling.{◌followed_by◌, IsSite}
 use Rattle.pv_replay.specs.Faults.{fault_of}
 use Rattle.pv_law_fields.proofs.PartLemmas.{passes_any, passes_both, stops_any, stops_first, stops_second}

@@ -1,5 +1,5 @@
 -- A record and nothing after it, or a fault.
-use Rattle.std.proofs.Common.{◌≡◌, List, ℕ, Option, Some, None, MatchOption, IsSome, Result, Ok, Err, IfOk, sym, subst}
+use Rattle.std.proofs.Common.{◌≡◌, Option, None, MatchOption, IsSome, sym, subst}
 use Rattle.std.proofs.lemmas.Result.{IfOk-weaker}
 use Rattle.pv_format.specs.Contents.{IsNoRecord}
 use Rattle.pv_format.specs.RecordSpelling.{SpellsRecord}

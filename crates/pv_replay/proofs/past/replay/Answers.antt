@@ -1,5 +1,5 @@
 -- The records so far, and then no record or the end.
-use Rattle.std.proofs.Common.{◌≡◌, ◌<◌, ◌≤◌, ℕ, List, Some, None, Ok, Err, max, length, take, sym, subst, ap, ◌∙◌, ◌∷◌, [], ◌++◌, Option, MatchOption, length-append, arith}
+use Rattle.std.proofs.Common.{◌≡◌, ◌≤◌, ℕ, List, Some, None, Ok, Err, max, length, sym, subst, ap, ◌∙◌, ◌∷◌, [], Option, MatchOption, length-append, arith}
 use Rattle.std.specs.Global.{Vec}
 use Rattle.std.proofs.lemmas.List.{length-map, map-append, take_all}
 use Rattle.std.proofs.lemmas.Result.{err_from_is_err_and}

@@ -1,5 +1,5 @@
 -- The count of the literals, the literals, and the value.
-use Rattle.std.proofs.Common.{◌≡◌, ℤ, ℕ, List, ◌++◌, length, ◌∙◌, ap, sym, subst, arith}
+use Rattle.std.proofs.Common.{◌≡◌, ℤ, ◌++◌, length, ◌∙◌, ap, sym, subst, arith}
 use Rattle.std.proofs.lemmas.Int.{to_z-of_z}
 use Rattle.std.proofs.lemmas.Result.{on_ok_weaker}
 use Rattle.std.specs.Int.{w64}

@@ -1,5 +1,5 @@
 -- One literal after another.
-use Rattle.std.proofs.Common.{get_or, refl, arith}
+use Rattle.std.proofs.Common.{refl}
 use Rattle.std.proofs.lemmas.List.{get_or_default}
 use Rattle.pv_format.specs.PolyvalueSpelling.{SpellsLiteral}
 use Rattle.pv_law_fields.proofs.ListLemmas.{writing_goes_on, writing_ends}

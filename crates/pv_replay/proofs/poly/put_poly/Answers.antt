@@ -1,5 +1,5 @@
 -- The count of the cases, and the cases.
-use Rattle.std.proofs.Common.{◌≡◌, ◌<◌, ℤ, ℕ, List, ◌++◌, All, length, ◌∙◌, ap, sym, subst}
+use Rattle.std.proofs.Common.{◌<◌, ℤ, List, ◌++◌, All, length, ◌∙◌, ap, sym, subst}
 use Rattle.std.proofs.lemmas.Result.{on_ok_weaker}
 use Rattle.pv_base.specs.BigEndian.{big_endian}
 use Rattle.pv_base.specs.Polyvalue.{Case}

@@ -1,11 +1,10 @@
 -- The count, so many literals, and the value.
-use Rattle.std.proofs.Common.{Some, List, ℕ, ℤ, sym, subst, refl, rules, arith}
+use Rattle.std.proofs.Common.{Some, ℕ, ℤ, sym, subst, rules, arith}
 use Rattle.std.proofs.lemmas.Int.{to_z-of_z}
 use Rattle.std.proofs.lemmas.Result.{err_from_is_err_and}
 use Rattle.std.specs.Int.{w64}
 use Rattle.std.specs.Int.RustNames.{FitsSigned}
 use Rattle.pv_base.specs.BigEndian.{IsNumber, IsSigned}
-use Rattle.pv_base.specs.Polyvalue.{Case}
 use Rattle.pv_bytes.specs.Reading.{Rest}
 use Rattle.pv_format.specs.FirstFault.{short}
 use Rattle.pv_format.specs.Layout.{Layout, any, number_then, repeated, literal_layout, case_layout}

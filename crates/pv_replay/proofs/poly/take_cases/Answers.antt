@@ -1,5 +1,5 @@
 -- The count, and then so many cases.
-use Rattle.std.proofs.Common.{◌≡◌, Some, ℕ, List, length, sym, subst, arith}
+use Rattle.std.proofs.Common.{◌≡◌, Some, ℕ, length, sym, subst, arith}
 use Rattle.std.proofs.lemmas.Result.{err_from_is_err_and, IfErr-weaker}
 use Rattle.pv_format.specs.FirstFault.{short}
 use Rattle.pv_format.specs.Layout.{Layout, any, repeated, case_layout, cases_layout}

@@ -1,10 +1,10 @@
 -- One literal after another.
-use Rattle.std.proofs.Common.{◌<◌, ◌≤◌, ◌∷◌, [], length, sym, subst, length-append, arith}
+use Rattle.std.proofs.Common.{◌<◌, ◌∷◌, [], length, length-append, arith}
 use Rattle.std.proofs.lemmas.Result.{err_from_is_err_and}
 use Rattle.pv_format.specs.Layout.{literal_layout}
 use Rattle.pv_format.specs.PolyvalueSpelling.{SpellsLiteral}
 use Rattle.pv_replay.specs.Faults.{fault_of}
-use Rattle.pv_law_fields.proofs.ListLemmas.{IsReading, reading_starts, reading_goes_on, reading_stops, reading_ends}
+use Rattle.pv_law_fields.proofs.ListLemmas.{reading_starts, reading_goes_on, reading_stops, reading_ends}
 use Rattle.pv_replay.proofs.poly.take_literals.Goals as goal
 
 pub reading-init : goal.reading-init

@@ -1,48 +1,39 @@
--- The cases, and then whether they are a polyvalue.
-use Rattle.std.proofs.Common.{◌≡◌, ℕ, ℤ, true, false, IsTrue, MatchOption, ◌∙◌, sym, subst, ap, refl, arith}
-use Rattle.std.proofs.lemmas.Result.{err_from_is_err_and}
-use Rattle.pv_base.specs.Polyvalue.{Case, IsPolyvalue}
-use Rattle.pv_base.specs.declared.limits.TheConstants.{HELD_NAMES}
-use Rattle.pv_replay.specs.Order.{are_in_order}
-use Rattle.pv_replay.specs.declared.error.PolyError.TheVariants.{BadPoly, NoMemory}
-use Rattle.pv_base.specs.CaseFaults.{fault_of as case_fault_of}
+-- A polyvalue and what comes after it, or its first fault.
+use Rattle.std.proofs.Common.{ℕ, ℤ, List, Option, Some, None, IfSome, Result, Ok, Err, IfOk, IfErr, refl}
+use Rattle.pv_base.specs.Answer.{Answers}
+use Rattle.pv_base.specs.BigEndian.{AreBytes}
+use Rattle.pv_base.specs.Polyvalue.{Case}
+use Rattle.pv_base.proofs.AnswerLemmas.{answered}
+use Rattle.pv_bytes.specs.Reading.{Rest}
+use Rattle.pv_format.specs.FirstFault.{Fault, PolyvalueFault, PartFault, is_within, is_after, HasFault}
+use Rattle.pv_format.specs.Layout.{anything, polyvalue_then}
+use Rattle.pv_format.specs.PolyvalueSpelling.{BeginsWith, SpellsPolyvalue}
+use Rattle.pv_law_fields.specs.Decoding.{Passes, Stops}
+use Rattle.pv_law_format.proofs.AnswerLemmas.{one-polyvalue-answer}
+use Rattle.pv_poly.specs.declared.poly.Poly.{Poly}
 use Rattle.pv_replay.specs.Faults.{fault_of}
-use Rattle.pv_law_fields.proofs.PolyvalueLemmas.{passes_poly, stops_poly, stops_cases, counted_literals}
-use Rattle.pv_replay.proofs.OrderLemmas.{canonical_order}
-use Rattle.pv_replay.proofs.RefusalLemmas.{refused_poly}
+use Rattle.pv_replay.specs.declared.error.PolyError.{PolyError}
 use Rattle.pv_replay.proofs.poly.take_poly.Goals as goal
 
-pub returns-in_err-cases-clause-stops : goal.returns-in_err-cases-clause-stops
-returns-in_err-cases-clause-stops c =
-    let p = err_from_is_err_and c.from_residual.result c.from_residual.ensures.1 in
-    rw (p.1, p.2) (stops_cases c.args.take.now (fault_of c.in_err-cases.field-0.0) c.in_err-cases.ensures.stops)
+-- What is wrong before anything is wrong within the polyvalue.
+within : (place : ℕ) (bytes : List ℕ) (fault : Fault) → PartFault SpellsPolyvalue PolyvalueFault (HasFault anything) place bytes fault → PolyvalueFault place bytes fault
+within place bytes fault (is_within told has) = has
+within place bytes fault (is_after cases front rest told whole spelled later) = absurd later
 
-pub returns-then-not-are_in_order-clause-stops : goal.returns-then-not-are_in_order-clause-stops
-returns-then-not-are_in_order-clause-stops c =
-    rw c.place-place.ensures
-    (stops_poly c.in_ok-cases.cases.items c.args.take.now c.take_cases.new.take c.in_ok-cases.ensures.passes.taken
-    (λ poly.
-    let order = c.are_in_order.ensures (subst (λ cases. IsTrue (are_in_order cases)) (sym c.deref.ensures.value) (canonical_order c.in_ok-cases.cases.items poly.canonical)) in
-    let is : c.are_in_order.result ≡ false = c.if-not-are_in_order.true in
-    let both : false ≡ true = sym is ∙ order in
-    cc))
+module _ (old new : Rest) (all : AreBytes old.left) where
+  told : (told : Option Fault) → Stops polyvalue_then old told → IfSome told (PolyvalueFault old.place old.left)
+  told (Some fault) stops = within old.place old.left fault (stops anything)
+  told None stops = tt
 
-pub from_cases-requires-clause-few_literals : goal.from_cases-requires-clause-few_literals
-from_cases-requires-clause-few_literals c =
-    let cases = c.in_ok-cases.ensures.passes.taken.is in
-    let fits = cases.first.fits in
-    let all = counted_literals c.in_ok-cases.cases.items cases.back cases.second in
-    omega arith
+  answers : (result : Result (Poly ℤ) PolyError) → IfOk result (λ poly. Passes (SpellsPolyvalue poly) polyvalue_then old new) → IfErr result (λ e. Stops polyvalue_then old (fault_of e))
+      → Answers (λ (read : List (Case ℤ) × List ℕ). BeginsWith read.0 read.1 old.left) (PolyvalueFault old.place old.left) (λ (poly : Poly ℤ). (poly, new.left)) fault_of result
+  answers (Ok poly) passes stops =
+      answered (λ (read : List (Case ℤ) × List ℕ). BeginsWith read.0 read.1 old.left) (PolyvalueFault old.place old.left) (one-polyvalue-answer old.left old.place all)
+      (λ (poly : Poly ℤ). (poly, new.left)) fault_of (Ok poly)
+      (record { front = passes.taken.front; back = new.left; whole = passes.taken.taken.bytes; first = passes.taken.is; second = refl }) tt
+  answers (Err e) passes stops =
+      answered (λ (read : List (Case ℤ) × List ℕ). BeginsWith read.0 read.1 old.left) (PolyvalueFault old.place old.left) (one-polyvalue-answer old.left old.place all)
+      (λ (poly : Poly ℤ). (poly, new.left)) fault_of (Err e) tt (told (fault_of e) stops)
 
-pub returns-in-Ok-clause-passes : goal.returns-in-Ok-clause-passes
-returns-in-Ok-clause-passes c =
-    rw c.in-Ok.ensures.answer.given.kept
-    (passes_poly c.in_ok-cases.cases.items c.args.take.now c.take_cases.new.take c.in_ok-cases.ensures.passes.taken
-    (subst (IsPolyvalue HELD_NAMES) c.in-Ok.ensures.answer.given.kept c.in-Ok.ensures.answer.given.polyvalue))
-
-pub returns-in-Err-clause-stops : goal.returns-in-Err-clause-stops
-returns-in-Err-clause-stops c =
-    refused_poly c.in_ok-cases.cases.items c.args.take.now c.take_cases.new.take c.in_ok-cases.ensures.passes.taken
-    (λ fault. c.no_canonical_fault.ensures HELD_NAMES c.in_ok-cases.cases.items fault)
-    (case_fault_of c.in-Err.e) c.refusal.result c.in-Err.ensures.answer.refused
-    (subst (λ place. MatchOption (case_fault_of c.in-Err.e) (c.refusal.result ≡ NoMemory) (λ _. c.refusal.result ≡ BadPoly place)) c.place-place.ensures c.refusal.ensures)
+pub returns-clause-answers : goal.returns-clause-answers
+returns-clause-answers c = answers c.args.take.now c.read_poly.new.take c.place.ensures.bytes c.read_poly.result c.read_poly.ensures.passes c.read_poly.ensures.stops

@@ -1,6 +1,5 @@
 -- The count, and then one item after another.
-use Rattle.std.proofs.Common.{◌≡◌, ◌++◌, List, ℕ, All, get_or, length, refl, sym, ap, subst, ◌∙◌}
-use Rattle.pv_base.specs.BigEndian.{big_endian}
+use Rattle.std.proofs.Common.{◌++◌, List, ℕ, refl, sym, ap, subst, ◌∙◌}
 use Rattle.pv_format.specs.PolyvalueSpelling.{SpellsPolyvalue}
 use Rattle.pv_law_fields.proofs.EntryLemmas.{entries_each, entries_spelled}
 use Rattle.pv_law_fields.proofs.ListLemmas.{writing_goes_on, writing_ends}

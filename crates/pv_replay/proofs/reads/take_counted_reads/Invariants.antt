@@ -1,5 +1,5 @@
 -- The items so far were read, the next one has to be after them, and each turn reads one.
-use Rattle.std.proofs.Common.{◌-◌, ◌≤◌, ◌<◌, ◌^◌, ℕ, length, vec_len}
+use Rattle.std.proofs.Common.{◌-◌, ◌≤◌, length, vec_len}
 use Rattle.pv_format.specs.Layout.{polyvalue_then}
 use Rattle.pv_format.specs.PolyvalueSpelling.{SpellsPolyvalue}
 use Rattle.pv_law_fields.proofs.ListLemmas.{IsReadingEntries}

@@ -1,7 +1,6 @@
 -- The kind, and then what the kind has.
-use Rattle.std.proofs.Common.{◌≡◌, ◌++◌, ℕ, List, sym, ap, subst, ◌∙◌}
+use Rattle.std.proofs.Common.{◌++◌, List, sym, ap, subst, ◌∙◌}
 use Rattle.std.proofs.lemmas.Result.{on_ok_weaker}
-use Rattle.pv_base.specs.BigEndian.{big_endian}
 use Rattle.pv_format.specs.Record.{epoch_begun, prepared, outcome_known}
 use Rattle.pv_format.specs.RecordSpelling.{SpellsReads, SpellsRecord}
 use Rattle.pv_law_fields.proofs.PartLemmas.{appended_both}

@@ -13,7 +13,7 @@ returns-in_err-epoch-clause-stops c =
 
 pub returns-then-epoch-lt1-clause-stops : goal.returns-then-epoch-lt1-clause-stops
 returns-then-epoch-lt1-clause-stops c = λ next.
-    rw c.place-place.ensures
+    rw c.place-place.ensures.place
     (stops_number 4 c.in_ok-epoch.epoch c.args.take.now c.u32.new.self c.in_ok-epoch.ensures.taken (omega arith) (nat_le 1) (grind (arith, nat_tests)) (λ _. next))
 
 pub returns-clause-passes : goal.returns-clause-passes

@@ -6,8 +6,8 @@ use Rattle.pv_base.specs.BigEndian.{IsNumber}
 use Rattle.pv_format.specs.FirstFault.{short}
 use Rattle.pv_format.specs.Layout.{Layout, content_layout, is_record_kind, polyvalue_then, record_layout}
 use Rattle.pv_format.specs.RecordSpelling.{SpellsRecord}
-use Rattle.pv_format.specs.Spelling.{◌followed_by◌, IsAllowed}
-use Rattle.pv_law_fields.specs.Decoding.{Passes, PassesNumber, Stops}
+use Rattle.pv_format.specs.Spelling.{◌followed_by◌}
+use Rattle.pv_law_fields.specs.Decoding.{Passes, Stops}
 use Rattle.pv_law_fields.proofs.PartLemmas.{ok_from_both, number_allowed, passes_after_number, passes_as, stops_after_number, stops_at_number, stops_number, stops_short}
 use Rattle.pv_replay.specs.Content.{SpellsContent, kind_of}
 use Rattle.pv_replay.specs.Faults.{fault_of}
@@ -28,7 +28,7 @@ returns-in_err-kind-clause-stops c =
 
 pub returns-then-kind-lt1-clause-stops : goal.returns-then-kind-lt1-clause-stops
 returns-then-kind-lt1-clause-stops c = λ next.
-    rw c.place-place.ensures
+    rw c.place-place.ensures.place
     (stops_number 1 c.in_ok-kind.kind c.args.take.now c.u8.new.self c.in_ok-kind.ensures.taken (omega arith) is_record_kind
     (elim c.then-kind-lt1.branch [ then-kind-lt1-via-then-kind-lt1 w ↦ grind (arith, nat_tests) | then-kind-lt1-via-else-kind-lt1+then-kind-gt3 w ↦ grind (arith, nat_tests) ])
     (λ kind. after_kind kind next))

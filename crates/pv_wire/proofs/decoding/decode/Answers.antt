@@ -1,11 +1,11 @@
 -- The kind, what it has, and then the end.
-use Rattle.std.proofs.Common.{◌≡◌, ◌≢◌, ◌==◌, ◌<◌, ℕ, Bool, true, false, List, [], ◌∷◌, length, get_or, IsTrue, refl, sym, ap, subst, ◌∙◌, arith}
+use Rattle.std.proofs.Common.{◌≡◌, ◌≢◌, ◌==◌, ◌<◌, ℕ, Bool, true, false, List, [], ◌∷◌, length, get_or, refl, sym, subst, ◌∙◌, arith}
 use Rattle.std.proofs.Common.{Fits, w8}
 use Rattle.std.proofs.lemmas.Bool.Decides.{nat_tests}
 use Rattle.std.proofs.lemmas.List.Elements.{All-from_get_or}
 use Rattle.std.proofs.lemmas.Result.{err_from_is_err_and}
 use Rattle.pv_base.specs.BigEndian.{AreBytes}
-use Rattle.pv_format.specs.FirstFault.{EnvelopeFault, is_kind, short, extra}
+use Rattle.pv_format.specs.FirstFault.{EnvelopeFault, extra}
 use Rattle.pv_wire.specs.Values.{envelope_of}
 use Rattle.pv_wire.specs.declared.error.WireError.TheVariants.{BadKind, Short, Extra}
 use Rattle.pv_wire.proofs.EnvelopeLemmas.{refused, accepted, no_kind, no_such_kind, no_envelope, more_bytes, whole_envelope}
@@ -45,7 +45,7 @@ pub returns-then-not-is_empty : goal.returns-then-not-is_empty
 returns-then-not-is_empty c =
     let some = some_left c.left.result.now c.is_empty.result c.is_empty.ensures c.if-not-is_empty.true in
     refused c.args.bytes.now (bytes_are c.args.bytes.now c.type_inv.bytes) (Extra c.place.result)
-    (subst (λ place. EnvelopeFault c.args.bytes.now (extra place)) (sym c.place.ensures)
+    (subst (λ place. EnvelopeFault c.args.bytes.now (extra place)) (sym c.place.ensures.place)
     (more_bytes c.args.bytes.now (bytes_are c.args.bytes.now c.type_inv.bytes) c.new-take.result c.new-take.ensures c.in-Ok.kind c.u8.new.self c.in-Ok.ensures.taken (omega arith)
     (grind (arith, nat_tests)) (envelope_of c.in_ok-envelope.envelope) c.take_envelope.new.take c.in_ok-envelope.ensures.passes (subst (λ left. left ≢ []) c.left.ensures some)))
 

@@ -2,7 +2,7 @@
 use Rattle.std.proofs.Common.{sym, subst}
 use Rattle.std.proofs.lemmas.Result.{err_from_is_err_and}
 use Rattle.pv_base.specs.declared.txn.TxnId.{TxnId}
-use Rattle.pv_format.specs.Layout.{Layout, body_layout, site_layout, txn_layout}
+use Rattle.pv_format.specs.Layout.{body_layout, site_layout, txn_layout}
 use Rattle.pv_format.specs.MessageSpelling.{SpellsBody}
 use Rattle.pv_format.specs.Spelling.{◌followed_by◌, IsSite, SpellsTxn}
 use Rattle.pv_law_fields.specs.Decoding.{Passes}

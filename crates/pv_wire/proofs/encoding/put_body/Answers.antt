@@ -1,9 +1,9 @@
 -- What each kind has.
-use Rattle.std.proofs.Common.{◌≡◌, ◌≤◌, ◌++◌, ℕ, List, length, sym, ap, subst, ◌∙◌, arith}
+use Rattle.std.proofs.Common.{◌≤◌, ◌++◌, List, length, sym, ap, subst, ◌∙◌, arith}
 use Rattle.std.proofs.lemmas.Bool.Decides.{nat_tests}
 use Rattle.std.proofs.lemmas.Result.{on_ok_weaker}
 use Rattle.pv_base.specs.Want.{Want}
-use Rattle.pv_format.specs.Message.{lock, granted, denied, prepare, outcome_told}
+use Rattle.pv_format.specs.Message.{lock, granted, denied, prepare}
 use Rattle.pv_format.specs.MessageSpelling.{SpellsBody, SpellsWants}
 use Rattle.pv_format.specs.RecordSpelling.{SpellsReads}
 use Rattle.pv_law_fields.proofs.PartLemmas.{appended_both}

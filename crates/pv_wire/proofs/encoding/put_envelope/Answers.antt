@@ -1,5 +1,5 @@
 -- The kind, the sites, the transaction, and what the kind has.
-use Rattle.std.proofs.Common.{◌≡◌, ◌++◌, ℕ, List, sym, ap, subst, ◌∙◌}
+use Rattle.std.proofs.Common.{◌++◌, sym, ap, subst, ◌∙◌}
 use Rattle.std.proofs.lemmas.Result.{on_ok_weaker}
 use Rattle.pv_base.specs.BigEndian.{big_endian}
 use Rattle.pv_base.specs.declared.txn.TxnId.{TxnId}

@@ -1,5 +1,5 @@
 -- The number of the cause, and the length if there is one.
-use Rattle.std.proofs.Common.{◌≡◌, ◌++◌, List, ℕ, sym, ap, subst, ◌∙◌}
+use Rattle.std.proofs.Common.{◌++◌, sym, ap, subst, ◌∙◌}
 use Rattle.std.proofs.lemmas.Result.{on_ok_weaker}
 use Rattle.pv_format.specs.Message.{grant_lost, journal_full}
 use Rattle.pv_format.specs.MessageSpelling.{SpellsNoCause}

@@ -1,13 +1,11 @@
 -- The number of the cause, and the length if there is one.
-use Rattle.std.proofs.Common.{◌≡◌, ◌==◌, ℕ, Some, IsTrue, if◌then◌else◌, refl, sym, subst, arith}
+use Rattle.std.proofs.Common.{◌≡◌, ◌==◌, ℕ, Some, if◌then◌else◌, refl, subst, arith}
 use Rattle.std.proofs.lemmas.Bool.Decides.{nat_tests}
 use Rattle.std.proofs.lemmas.Result.{err_from_is_err_and}
 use Rattle.pv_base.specs.BigEndian.{big_endian, IsNumber}
 use Rattle.pv_bytes.specs.Reading.{HasTaken}
 use Rattle.pv_format.specs.FirstFault.{short}
-use Rattle.pv_format.specs.Layout.{Layout, any, cause_layout, is_cause, number_then}
-use Rattle.pv_format.specs.Spelling.{◌followed_by◌}
-use Rattle.pv_law_fields.specs.Decoding.{Passes}
+use Rattle.pv_format.specs.Layout.{Layout, any, is_cause, number_then}
 use Rattle.pv_law_fields.proofs.PartLemmas.{number_allowed, passes_after_number, passes_any, stops_after_number, stops_any, stops_at_number, stops_number, stops_short}
 use Rattle.pv_law_fields.proofs.PartLemmas.{passes_alone}
 use Rattle.pv_wire.proofs.fields.take_cause.Goals as goal
@@ -30,7 +28,7 @@ returns-then-cause-eq1-clause-passes c =
 
 pub returns-then-cause-ne2-clause-stops : goal.returns-then-cause-ne2-clause-stops
 returns-then-cause-ne2-clause-stops c = λ next.
-    rw c.place-place.ensures
+    rw c.place-place.ensures.place
     (stops_number 1 c.in_ok-cause.cause c.args.take.now c.u8.new.self c.in_ok-cause.ensures.taken (omega arith) is_cause (grind (arith, nat_tests)) (λ cause. after_cause cause next))
 
 pub returns-in_err-length-clause-stops : goal.returns-in_err-length-clause-stops

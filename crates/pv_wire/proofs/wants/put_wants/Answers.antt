@@ -1,5 +1,5 @@
 -- The count, and then one item after another.
-use Rattle.std.proofs.Common.{◌≡◌, ◌++◌, List, ℕ, All, get_or, length, refl, sym, ap, subst, ◌∙◌}
+use Rattle.std.proofs.Common.{◌++◌, List, ℕ, refl, sym, ap, ◌∙◌}
 use Rattle.pv_law_fields.proofs.EntryLemmas.{entries_each}
 use Rattle.pv_law_fields.proofs.ListLemmas.{writing_goes_on, writing_ends}
 use Rattle.pv_law_fields.proofs.PartLemmas.{appended_both}

@@ -1,8 +1,7 @@
 -- One item after another.
-use Rattle.std.proofs.Common.{◌<◌, ◌≤◌, ◌∷◌, [], length, sym, subst, length-append, arith}
+use Rattle.std.proofs.Common.{◌<◌, ◌∷◌, [], length, length-append, arith}
 use Rattle.std.proofs.lemmas.Bool.Decides.{nat_tests}
 use Rattle.std.proofs.lemmas.Result.{err_from_is_err_and}
-use Rattle.pv_base.specs.declared.catalog.ItemId.{ItemId}
 use Rattle.pv_format.specs.Layout.{truth_layout}
 use Rattle.pv_base.specs.Want.{Want}
 use Rattle.pv_format.specs.Spelling.{IsTruth}

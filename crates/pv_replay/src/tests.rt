@@ -1,0 +1,236 @@
+// Worked records and polyvalues, byte for byte; each with every beginning and many changed bytes; and many cases that overlap.
+use crate::past::decode_record;
+use crate::*;
+use pv_base::{NoMemory, TxnId};
+use pv_bytes::{Put, Take};
+use std::alloc::{AllocFailed, Global};
+use std::test::Fail;
+
+// Records of each kind, worked by hand from the format: the bytes in hexadecimal, and the record.
+const RECORDS: [(&str, &str); 5] = [
+    ("01 00000001", "Epoch(1)"),
+    (
+        "02 00 00000001 00000000 01 00000000 0001 00 0000000000000065",
+        "Prepared { txn: TxnId { site: SiteId(0), epoch: 1, number: 0 }, writes: [Read { item: ItemId(0), value: Poly { cases: [Case { when: [], value: 101 }] } }] }",
+    ),
+    (
+        "02 01 00000002 00000003 00",
+        "Prepared { txn: TxnId { site: SiteId(1), epoch: 2, number: 3 }, writes: [] }",
+    ),
+    (
+        "02 00 00000001 00000000 02 00000001 0001 00 ffffffffffffffff 000003ff 0002 01 00 01 00000001 00000000 0000000000000032 01 01 01 00000001 00000000 000000000000003c",
+        "Prepared { txn: TxnId { site: SiteId(0), epoch: 1, number: 0 }, writes: [Read { item: ItemId(1), value: Poly { cases: [Case { when: [], value: -1 }] } }, Read { item: ItemId(1023), value: Poly { cases: [Case { when: [Literal { txn: TxnId { site: SiteId(1), epoch: 1, number: 0 }, commits: false }], value: 50 }, Case { when: [Literal { txn: TxnId { site: SiteId(1), epoch: 1, number: 0 }, commits: true }], value: 60 }] } }] }",
+    ),
+    (
+        "03 00 00000001 00000000 01",
+        "Outcome { txn: TxnId { site: SiteId(0), epoch: 1, number: 0 }, commits: true }",
+    ),
+];
+
+// The value of a hexadecimal digit.
+fn digit(text: u8) -> Option<u8> {
+    match text {
+        b'0'..=b'9' => Some(text - b'0'),
+        b'a'..=b'f' => Some(text - b'a' + 10),
+        _ => None,
+    }
+}
+
+// The bytes of a text of hexadecimal digits, two for each. Blanks don't count.
+fn bytes_of(alloc: Global, text: &str) -> Result<Vec<u8>, AllocFailed<u8>> {
+    let mut bytes = Vec::new(alloc);
+    let mut high = None;
+    for byte in text.as_bytes() {
+        let Some(low) = digit(*byte) else { continue };
+        match high {
+            None => high = Some(low),
+            Some(first) => {
+                bytes.push(u8::wrapping_mul(first, 16).wrapping_add(low))?;
+                high = None;
+            }
+        }
+    }
+    Ok(bytes)
+}
+
+// The content read and written again, if it is a record.
+fn again(alloc: Global, content: &[u8]) -> Result<Option<Vec<u8>>, NoMemory> {
+    match decode_record(alloc, content)? {
+        Some(record) => Ok(Some(encode_record(alloc, &record)?)),
+        None => Ok(None),
+    }
+}
+
+#[test]
+fn each_kind_of_record_is_read_and_written(rt: HostRuntime) -> Result<(), Fail> {
+    let alloc = rt.alloc();
+    for (hex, text) in RECORDS {
+        let bytes = bytes_of(alloc, hex)?;
+        let record = decode_record(alloc, &bytes)?;
+        assert!(rt;
+            format!(in alloc; "{record:?}")?.as_str() == format!(in alloc; "Some({text})")?.as_str()
+        );
+        assert!(rt;
+            again(alloc, &bytes)?.is_some_and(|written| written.as_slice() == bytes.as_slice())
+        );
+    }
+    Ok(())
+}
+
+#[test]
+fn no_beginning_of_a_record_is_one(rt: HostRuntime) -> Result<(), Fail> {
+    let alloc = rt.alloc();
+    for (hex, _) in RECORDS {
+        let bytes = bytes_of(alloc, hex)?;
+        for length in 0..bytes.len() {
+            assert!(rt; again(alloc, &bytes[..length])?.is_none());
+        }
+    }
+    Ok(())
+}
+
+#[test]
+fn a_changed_byte_makes_another_record_or_none(rt: HostRuntime) -> Result<(), Fail> {
+    let alloc = rt.alloc();
+    for (hex, _) in RECORDS {
+        let bytes = bytes_of(alloc, hex)?;
+        for place in 0..bytes.len() {
+            for byte in [0, 1, 255] {
+                let mut changed = bytes.to_vec(alloc)?;
+                changed[place] = byte;
+                if let Some(written) = again(alloc, &changed)? {
+                    assert!(rt; written.as_slice() == changed.as_slice());
+                }
+            }
+        }
+    }
+    Ok(())
+}
+
+#[test]
+fn a_journal_is_replayed(rt: HostRuntime) -> Result<(), Fail> {
+    let alloc = rt.alloc();
+    let mut contents = Vec::new(alloc);
+    contents.push(bytes_of(alloc, "01 00000001")?)?;
+    contents.push(bytes_of(
+        alloc,
+        "02 00 00000001 00000000 01 00000000 0001 00 0000000000000065",
+    )?)?;
+    let past = replay(alloc, &contents)?;
+    assert_eq!(rt; past.epoch, 1);
+    assert_eq!(rt; past.records.len(), 2);
+
+    let none = Vec::new(alloc);
+    assert_eq!(rt; replay(alloc, &none)?.epoch, 0);
+
+    contents.push(bytes_of(alloc, "04")?)?;
+    assert_eq!(rt;
+        replay(alloc, &contents).err(),
+        Some(ReplayError::BadRecord(2))
+    );
+    Ok(())
+}
+
+#[test]
+fn a_sure_value_is_read_and_written(rt: HostRuntime) -> Result<(), Fail> {
+    let alloc = rt.alloc();
+    let bytes = bytes_of(alloc, "0001 00 0000000000000065")?;
+    let mut take = Take::new(&bytes);
+    let value = take_poly(alloc, &mut take)?;
+    let nobody: [TxnId; 0] = [];
+    assert_eq!(rt; value.at(&nobody), 101);
+    assert_eq!(rt; value.cases().len(), 1);
+    assert!(rt;
+        poly_again(alloc, &bytes)?.is_some_and(|written| written.as_slice() == bytes.as_slice())
+    );
+    Ok(())
+}
+
+// The polyvalue at the front read and written again, if there is one.
+fn poly_again(alloc: Global, bytes: &[u8]) -> Result<Option<Vec<u8>>, NoMemory> {
+    let mut take = Take::new(bytes);
+    match take_poly(alloc, &mut take) {
+        Ok(value) => {
+            let mut put = Put::new(alloc);
+            put_poly(&mut put, &value)?;
+            Ok(Some(put.done()))
+        }
+        Err(PolyError::NoMemory) => Err(NoMemory),
+        Err(_) => Ok(None),
+    }
+}
+
+// What is said of bytes that begin with no polyvalue.
+fn refusal(alloc: Global, hex: &str) -> Result<Option<PolyError>, AllocFailed<u8>> {
+    let bytes = bytes_of(alloc, hex)?;
+    let mut take = Take::new(&bytes);
+    Ok(take_poly(alloc, &mut take).err())
+}
+
+#[test]
+fn the_first_fault_is_told(rt: HostRuntime) -> Result<(), Fail> {
+    let alloc = rt.alloc();
+    for (hex, error) in [
+        ("", PolyError::Short(0)),
+        ("00", PolyError::Short(0)),
+        // No case.
+        ("0000", PolyError::BadPoly(0)),
+        ("0001 00 00000000000000", PolyError::Short(3)),
+        // A truth value of 2, and then a site of 16.
+        ("0001 01 02 10", PolyError::BadField(3)),
+        ("0001 01 01 10", PolyError::BadField(4)),
+        ("0001 01 01 00 0000", PolyError::Short(5)),
+        // A count of 65,535 over fewer bytes takes no more than they do.
+        (
+            "ffff 01 01 00 00000001 00000000 00000000000000",
+            PolyError::Short(13),
+        ),
+        // One of two outcomes; both in the other order; both with one value.
+        (
+            "0001 01 00 00 00000001 00000000 0000000000000032",
+            PolyError::BadPoly(0),
+        ),
+        (
+            "0002 01 01 00 00000001 00000000 000000000000003c 01 00 00 00000001 00000000 0000000000000032",
+            PolyError::BadPoly(0),
+        ),
+        (
+            "0002 01 00 00 00000001 00000000 0000000000000032 01 01 00 00000001 00000000 0000000000000032",
+            PolyError::BadPoly(0),
+        ),
+    ] {
+        assert_eq!(rt; refusal(alloc, hex)?, Some(error));
+    }
+    Ok(())
+}
+
+// As many cases as a count can tell: eight that ask for the outcome of one transaction each, and then cases that are always met.
+fn many_cases(alloc: Global) -> Result<Vec<u8>, NoMemory> {
+    let mut put = Put::new(alloc);
+    put.u16(65_535)?;
+    for number in 0..65_535u32 {
+        if number < 8 {
+            put.u8(1)?;
+            put.u8(1)?;
+            put.u8(0)?;
+            put.u32(1)?;
+            put.u32(number)?;
+        } else {
+            put.u8(0)?;
+        }
+        put.i64(i64::from(number))?;
+    }
+    Ok(put.done())
+}
+
+#[test]
+fn many_cases_that_overlap_are_refused(rt: HostRuntime) -> Result<(), Fail> {
+    let alloc = rt.alloc();
+    let bytes = many_cases(alloc)?;
+    let mut take = Take::new(&bytes);
+    assert_eq!(rt;
+        take_poly(alloc, &mut take).err(),
+        Some(PolyError::BadPoly(0))
+    );
+    Ok(())
+}
