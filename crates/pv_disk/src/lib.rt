@@ -1,0 +1,13 @@
+//! Disks that may crash between any two moments, and logs that outlive it.
+#![tactic(auto)]
+
+mod list_log;
+mod log;
+mod log_error;
+
+pub use list_log::{AppendFail, ListLog};
+pub use log::Log;
+pub use log_error::LogError;
+
+#[cfg(test)]
+mod tests;
