@@ -13,6 +13,7 @@ module _ {W : Type 0} (M : LogModel W) where
     limit = refl;
     later = omega arith;
     crash = λ t left le is. is;
+    keeps = λ t left le is. is;
   }
 
   pub Keeps-trans : (old mid new : W) → Keeps M old mid → Keeps M mid new → Keeps M old new
@@ -22,6 +23,7 @@ module _ {W : Type 0} (M : LogModel W) where
     limit = second.limit ∙ first.limit;
     later = omega arith;
     crash = λ t left le is. first.crash t left le (second.crash t left (omega (arith, first.later)) is);
+    keeps = λ t left le is. second.keeps t left (omega (arith, first.later)) (first.keeps t left le is);
   }
 
   -- What a crash leaves of an intact log that isn't down is what it holds.
@@ -35,6 +37,7 @@ module _ {W : Type 0} (M : LogModel W) where
     later = omega (arith, keeps.later, leaves.later);
     each = λ left is. ⊎_elim (λ was. here left (keeps.crash (M.moment old) left (omega arith) was)) (λ has. has) (leaves.before (M.moment old) left keeps.later is);
     before = λ t left le is. ⊎_elim (λ was. inl (keeps.crash t left le was)) (λ has. inr has) (leaves.before t left (omega (arith, keeps.later)) is);
+    keeps = λ t left le is. leaves.keeps t left (omega (arith, keeps.later)) (keeps.keeps t left le is);
   }
 
   -- An append that comes after calls that keep the log is one from before them.

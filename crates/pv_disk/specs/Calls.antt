@@ -1,5 +1,13 @@
--- The calls of a log, for those who follow each of them.
+-- The calls of a disk and of a log, for those who follow each of them.
 use Rattle.std.specs.Prelude.{◌≡◌, ◌⊎◌, ℕ, Bool, true, false, List, [], ◌∷◌}
+
+-- A call of a disk.
+pub data DiskCall : Type 0 where
+  len : DiskCall
+  read : (place count : ℕ) → DiskCall
+  make_room : (bytes writes : ℕ) → DiskCall
+  write : (place : ℕ) (bytes : List ℕ) → DiskCall
+  sync : DiskCall
 
 -- A call of a log that may be answered by an error.
 pub data LogCall : Type 0 where

@@ -1,4 +1,6 @@
 pub mod Calls
+pub mod Disk
+pub mod DiskModel
 pub mod ListLaws
 pub mod ListLog
 pub mod Log

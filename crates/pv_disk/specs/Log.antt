@@ -15,16 +15,18 @@ module _ {W : Type 0} (M : LogModel W) where
   pub record LeavesOnly (old new : W) (P : Option Contents → Type 0) : Type 0 where
     pub later : M.moment old ≤ M.moment new
     pub each : (left : Option Contents) → M.left_since new (M.moment old) left → P left
-    -- for what began earlier
+    -- for what began earlier: what might have been left then is no less and no more
     pub before : (t : ℕ) (left : Option Contents) → t ≤ M.moment old → M.left_since new t left → M.left_since old t left ⊎ P left
+    pub keeps : (t : ℕ) (left : Option Contents) → t ≤ M.moment old → M.left_since old t left → M.left_since new t left
 
-  -- The log holds what it held, and at each moment a crash leaves only what it might have left before.
+  -- The log holds what it held, and at each moment a crash leaves what it might have left before.
   pub record Keeps (old new : W) : Type 0 where
     pub contents : M.contents new ≡ M.contents old
     pub size : M.size new ≡ M.size old
     pub limit : M.limit new ≡ M.limit old
     pub later : M.moment old ≤ M.moment new
     pub crash : (t : ℕ) (left : Option Contents) → t ≤ M.moment old → M.left_since new t left → M.left_since old t left
+    pub keeps : (t : ℕ) (left : Option Contents) → t ≤ M.moment old → M.left_since old t left → M.left_since new t left
 
   -- The log holds one content more, and from now on each crash leaves it.
   pub record Adds (old new : W) (content : List ℕ) : Type 0 where

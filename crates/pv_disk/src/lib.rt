@@ -1,10 +1,14 @@
 //! Disks that may crash between any two moments, and logs that outlive it.
 #![tactic(auto)]
 
+mod disk;
+mod disk_error;
 mod list_log;
 mod log;
 mod log_error;
 
+pub use disk::Disk;
+pub use disk_error::{DiskError, LookError};
 pub use list_log::{AppendFail, ListLog};
 pub use log::Log;
 pub use log_error::LogError;

@@ -127,6 +127,7 @@ impl Log for ListLog {
         Ok(())
     }
 
+    #[tactic(auto, using(crate::proofs::ListLemmas::list_appends))]
     fn append(&mut self, content: &[u8]) -> Result<(), LogError> {
         if self.down {
             return Err(LogError::Down);
