@@ -1,2 +1,6 @@
+mod FillLemmas
+mod HistoryLemmas
+mod ImageLemmas
 mod ListLemmas
 pub mod LogLemmas
+pub mod OverlayLemmas

@@ -5,4 +5,6 @@ pub mod ListLaws
 pub mod ListLog
 pub mod Log
 pub mod LogModel
+pub mod MemHistory
+pub mod MemImage
 pub mod Size

@@ -3,6 +3,7 @@
 
 mod disk;
 mod disk_error;
+mod image;
 mod list_log;
 mod log;
 mod log_error;
