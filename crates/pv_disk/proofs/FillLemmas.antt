@@ -48,8 +48,7 @@ Reaches-fill : (range : Range) (ranges : List Range) (from to : List ℕ) → ra
     → Reaches (overlaid from range.place (replicate range.count 165)) ranges (overlaid to range.place (replicate range.count 165))
 Reaches-fill range [] from to inside reaches = ap (λ (l : List ℕ). overlaid l range.place (replicate range.count 165)) reaches
 Reaches-fill range (next ∷ later) from to inside reaches =
-    let torn = reaches.1 in
-    (
+    let torn = reaches.1 in (
       overlaid reaches.0 range.place (replicate range.count 165),
       fill_both next.place next.count range from reaches.0 torn inside,
       Reaches-fill range later reaches.0 to (omega (arith, torn.no_shorter)) reaches.2,
@@ -73,8 +72,7 @@ Reaches-filled [] from to made = made
 Reaches-filled (range ∷ later) from to made =
     let mid = made.0 in
     let torn = made.1 in
-    let inside = made.2 in
-    (
+    let inside = made.2 in (
       overlaid mid range.place (replicate range.count 165),
       Torn-trans range.place range.count from mid _ torn (fill_torn range mid (omega arith)),
       Reaches-fill range later mid (filled later to) inside (Reaches-filled later mid to made.3),

@@ -30,8 +30,8 @@ module _ (write : Write) (more : List Write → List Moment) (alone : (since : L
   moments_of-behind since (first ∷ later) =
       ap (λ (l : List Moment). moment_of since first.before.value.items ∷ l)
       (added_behind first.synced (moments_of [] later) (moments_of [] (later ++ write ∷ [])) (moments_of (since ++ first ∷ []) later)
-        (moments_of (since ++ first ∷ []) (later ++ write ∷ [])) (moment_of (since ++ first ∷ []) []) [] (since ++ first ∷ []) (λ open_ones. more (unsynced open_ones later))
-        (moments_of-behind [] later) (moments_of-behind (since ++ first ∷ []) later))
+      (moments_of (since ++ first ∷ []) (later ++ write ∷ [])) (moment_of (since ++ first ∷ []) []) [] (since ++ first ∷ []) (λ open_ones. more (unsynced open_ones later))
+      (moments_of-behind [] later) (moments_of-behind (since ++ first ∷ []) later))
 
 if_true : {X : Type 0} (b : Bool) (x y : X) → b ≡ true → (if b then x else y) ≡ x
 if_true b x y is = rw is refl
@@ -63,8 +63,7 @@ pub CanUndo-push : (writes : List Write) (write : Write) (kept content after : L
 CanUndo-push [] write kept content after none was made =
     let over = take write.count (drop write.place content) in
     let size : length over ≡ overwritten write = omega (arith, length-take write.count (drop write.place content), length-drop write.place content, made.long, ap length was) in
-    let all : kept ++ over ≡ over = ap (λ (l : List ℕ). l ++ over) none in
-    (
+    let all : kept ++ over ≡ over = ap (λ (l : List ℕ). l ++ over) none in (
       made,
       omega (arith, ap length all, size),
       ap (λ (l : List ℕ). take (overwritten write) l) all ∙ take_all (overwritten write) over (omega (arith, size)) ∙ ap (λ (l : List ℕ). take write.count (drop write.place l)) (sym was),
@@ -72,8 +71,7 @@ CanUndo-push [] write kept content after none was made =
     )
 CanUndo-push (first ∷ later) write kept content after can was made =
     let over = take write.count (drop write.place content) in
-    let same : content_before later content ≡ content_before (later ++ write ∷ []) after = ap (content_before later) (sym was) ∙ sym (content_before-push later write after) in
-    (
+    let same : content_before later content ≡ content_before (later ++ write ∷ []) after = ap (content_before later) (sym was) ∙ sym (content_before-push later write after) in (
       subst (Made first) same can.0,
       omega (arith, can.1, length-append kept over),
       take-append-le (overwritten first) kept over can.1 ∙ can.2,
@@ -137,8 +135,7 @@ made_all (write ∷ later) kept content can =
     let made = can.0 in
     let within : write.place ≤ length write.before.value.items = omega (arith, made.long, made.within) in
     let torn = Torn-overlaid write.before.value.items write.place made.bytes within in
-    let size = length-overlaid write.before.value.items write.place made.bytes within in
-    (
+    let size = length-overlaid write.before.value.items write.place made.bytes within in (
       content_before later content,
       rw (made.is, ← made.all) torn,
       omega (arith, ap length made.is, size, made.all),
@@ -154,9 +151,10 @@ pub all_inside : (writes : List Write) (kept content : List ℕ) → CanUndo wri
 all_inside [] kept content can = tt
 all_inside (write ∷ later) kept content can =
     let made = can.0 in
-    let within : write.place ≤ length write.before.value.items = omega (arith, made.long, made.within) in
-    (omega (arith, ap length made.is, length-overlaid write.before.value.items write.place made.bytes within, made.all, longer later (drop (overwritten write) kept) content can.3),
-      all_inside later (drop (overwritten write) kept) content can.3)
+    let within : write.place ≤ length write.before.value.items = omega (arith, made.long, made.within) in (
+      omega (arith, ap length made.is, length-overlaid write.before.value.items write.place made.bytes within, made.all, longer later (drop (overwritten write) kept) content can.3),
+      all_inside later (drop (overwritten write) kept) content can.3,
+    )
 
 moment_of-push : (since : List Write) (write marked : Write) (a b : List ℕ) → marked ≡ record write { synced = true }
     → moment_of (since ++ marked ∷ []) a ≡ moment_of (since ++ write ∷ []) b
@@ -178,14 +176,14 @@ MarksLast-push front write marked is =
             let same : marked ≡ write = is ∙ ap (λ b. record write { synced = b }) (sym was) in
             inr (ap (λ (w : Write). moments_of [] (front ++ w ∷ [])) same, unsynced-mark [] front write was)
         | inr not_yet ↦ inl (λ content.
-          let one = moments_of-mark [] front marked mark in
-          let two = moments_of-push [] front write not_yet in
-          let same : moment_of (unsynced [] front ++ marked ∷ []) [] ≡ moment_of (unsynced [] (front ++ write ∷ [])) content =
-          moment_of-push (unsynced [] front) write marked [] content is ∙ ap (λ (l : List Write). moment_of l content) (sym (unsynced-push [] front write not_yet)) in
-          let begins = ap (λ (w : Write). moment_of (unsynced [] front) w.before.value.items) is in
-          one ∙ ap (λ (m : Moment). moments_of [] front ++ m ∷ moment_of (unsynced [] front ++ marked ∷ []) [] ∷ []) begins
-          ∙ ap (λ (m : Moment). moments_of [] front ++ moment_of (unsynced [] front) write.before.value.items ∷ m ∷ []) same
-          ∙ sym (append_assoc (moments_of [] front) (moment_of (unsynced [] front) write.before.value.items ∷ []) (moment_of (unsynced [] (front ++ write ∷ [])) content ∷ []))
-          ∙ ap (λ (l : List Moment). l ++ moment_of (unsynced [] (front ++ write ∷ [])) content ∷ []) (sym two))
+            let one = moments_of-mark [] front marked mark in
+            let two = moments_of-push [] front write not_yet in
+            let same : moment_of (unsynced [] front ++ marked ∷ []) [] ≡ moment_of (unsynced [] (front ++ write ∷ [])) content =
+            moment_of-push (unsynced [] front) write marked [] content is ∙ ap (λ (l : List Write). moment_of l content) (sym (unsynced-push [] front write not_yet)) in
+            let begins = ap (λ (w : Write). moment_of (unsynced [] front) w.before.value.items) is in
+            one ∙ ap (λ (m : Moment). moments_of [] front ++ m ∷ moment_of (unsynced [] front ++ marked ∷ []) [] ∷ []) begins
+            ∙ ap (λ (m : Moment). moments_of [] front ++ moment_of (unsynced [] front) write.before.value.items ∷ m ∷ []) same
+            ∙ sym (append_assoc (moments_of [] front) (moment_of (unsynced [] front) write.before.value.items ∷ []) (moment_of (unsynced [] (front ++ write ∷ [])) content ∷ []))
+            ∙ ap (λ (l : List Moment). l ++ moment_of (unsynced [] (front ++ write ∷ [])) content ∷ []) (sym two))
       ];
     }

@@ -10,8 +10,13 @@ module _ (content : List ℕ) (place : ℕ) (bytes : List ℕ) (within : place �
 
   pub length-overlaid : length (overlaid content place bytes) ≡ max (length content) (place + length bytes)
   length-overlaid =
-      omega (arith, front_size, length-append (take place content) (bytes ++ drop (place + length bytes) content), length-append bytes (drop (place + length bytes) content),
-      length-drop (place + length bytes) content)
+      omega (
+        arith,
+        front_size,
+        length-append (take place content) (bytes ++ drop (place + length bytes) content),
+        length-append bytes (drop (place + length bytes) content),
+        length-drop (place + length bytes) content,
+      )
 
   pub get_or-overlaid_below : (i : ℕ) → i < place → get_or (overlaid content place bytes) i 0 ≡ get_or content i 0
   get_or-overlaid_below i below =
@@ -52,7 +57,7 @@ Torn-places place count old new no_shorter no_longer fronts below above = record
       (λ i low. let here : i < place = omega (arith, low, length-take place new) in get_or-take place new i 0 here ∙ below i (omega (arith, low, length-take place new, fronts)) here ∙ sym (get_or-take place old i 0 here));
   after = ext_get_or 0 (drop (place + count) new) (drop (place + count) old) (omega (arith, length-drop (place + count) new, length-drop (place + count) old))
       (λ i low. let here : i < length new - (place + count) = omega (arith, low, length-drop (place + count) new) in
-        get_or-drop (place + count) new i 0 ∙ above (place + count + i) (omega arith) (omega arith) ∙ sym (get_or-drop (place + count) old i 0));
+      get_or-drop (place + count) new i 0 ∙ above (place + count + i) (omega arith) (omega arith) ∙ sym (get_or-drop (place + count) old i 0));
   no_shorter = no_shorter;
   no_longer = no_longer;
 }
@@ -79,18 +84,18 @@ overlaid_back content place bytes within =
     let back = length-overlaid after place was within_after in
     ext_get_or 0 (take (length content) (overlaid after place was)) content (omega (arith, length-take (length content) (overlaid after place was), back, grown, size))
     (λ i low.
-      let here : i < length content = omega (arith, low, length-take (length content) (overlaid after place was)) in
-      get_or-take (length content) (overlaid after place was) i 0 here ∙ elim (cases_lt i place) [
-        | inl below ↦ get_or-overlaid_below after place was within_after i below ∙ get_or-overlaid_below content place bytes within i below
-        | inr from ↦ elim (cases_lt i (place + length was)) [
-          | inl inside ↦
-              let there : place + (i - place) ≡ i = omega arith in
-              get_or-overlaid_in after place was within_after i from inside ∙ get_or-take (length bytes) (drop place content) (i - place) 0 (omega (arith, size))
-              ∙ get_or-drop place content (i - place) 0 ∙ ap (λ k. get_or content k 0) there
-          | inr past ↦
-              get_or-overlaid_above after place was within_after i past ∙ get_or-overlaid_above content place bytes within i (omega (arith, size))
-        ]
-      ])
+    let here : i < length content = omega (arith, low, length-take (length content) (overlaid after place was)) in
+    get_or-take (length content) (overlaid after place was) i 0 here ∙ elim (cases_lt i place) [
+      | inl below ↦ get_or-overlaid_below after place was within_after i below ∙ get_or-overlaid_below content place bytes within i below
+      | inr from ↦ elim (cases_lt i (place + length was)) [
+        | inl inside ↦
+            let there : place + (i - place) ≡ i = omega arith in
+            get_or-overlaid_in after place was within_after i from inside ∙ get_or-take (length bytes) (drop place content) (i - place) 0 (omega (arith, size))
+            ∙ get_or-drop place content (i - place) 0 ∙ ap (λ k. get_or content k 0) there
+        | inr past ↦
+            get_or-overlaid_above after place was within_after i past ∙ get_or-overlaid_above content place bytes within i (omega (arith, size))
+      ]
+    ])
 
 pub Torn-trans : (place count : ℕ) (old mid new : List ℕ) → Torn place count old mid → Torn place count mid new → Torn place count old new
 Torn-trans place count old mid new first second = record {

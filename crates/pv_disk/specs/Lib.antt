@@ -5,6 +5,8 @@ pub mod ListLaws
 pub mod ListLog
 pub mod Log
 pub mod LogModel
+pub mod MemDisk
 pub mod MemHistory
+pub mod MemLaws
 pub mod MemImage
 pub mod Size

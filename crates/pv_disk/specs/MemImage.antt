@@ -1,5 +1,7 @@
 -- What a disk in memory holds, and what a crash leaves of it.
 use Rattle.std.specs.Prelude.{◌≡◌, ◌⊎◌, ℕ, ◌+◌, ◌≤◌, List, [], ◌∷◌, ◌++◌, length, drop, replicate}
+use Rattle.pv_base.specs.declared.mode.Mode.{Mode}
+use Rattle.pv_base.specs.declared.mode.Mode.TheVariants.{Lost, Kept, Torn as TornAll}
 use Rattle.pv_disk.specs.Disk.{overlaid, Torn}
 
 -- A range of bytes.
@@ -65,3 +67,9 @@ written_at moment place count = record moment { ranges = moment.ranges ++ record
 -- The moment that ends is noted, unless nothing was written since the last sync.
 abbrev pub NotesMoment : ImageState → ImageState → Type 0
 NotesMoment old new = (new.past ≡ old.past ++ old.now ∷ []) ⊎ ((new.past ≡ old.past) × (old.now.ranges ≡ []))
+
+-- What a write or a sync that fires leaves: the bytes written since the last sync are gone, all there, or all 165.
+abbrev pub left_by : Mode → Moment → List ℕ → List ℕ
+left_by Lost moment content = moment.synced
+left_by Kept moment content = content
+left_by TornAll moment content = filled moment.ranges content

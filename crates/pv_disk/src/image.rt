@@ -1,9 +1,10 @@
 // What a memory disk holds, with a record of its writes, by which each sync and each crash can be told.
 ghost use Rattle.std.specs.Prelude.{◌≡◌, ◌≤◌, ◌+◌, ◌-◌, ◌^◌, ◌++◌, ◌∷◌, [], ℕ, min, length, map, take, drop, replicate, vec_len, vec_capacity, IfOk, OnOk, OnErr};
 ghost use Rattle.pv_disk.specs.Disk.{overlaid};
-ghost use Rattle.pv_disk.specs.MemImage.{ImageState, IsMade, AllInside, filled, settled_at, written_at, NotesMoment};
+ghost use Rattle.pv_disk.specs.MemImage.{ImageState, IsMade, AllInside, filled, settled_at, written_at, left_by, NotesMoment};
 ghost use Rattle.pv_disk.specs.MemHistory.{range_of, content_before, unsynced, overwritten, Made, CanUndo, MarksLast};
 
+use pv_base::Mode;
 use std::alloc::{AllocError, Global};
 use std::marker::Model;
 use std::snapshot::Snapshot;
@@ -125,8 +126,24 @@ impl Image {
         self.kept.clear();
     }
 
+    /// Leaves what a write or a sync that fires in this mode leaves, synced.
+    pub(crate) fn crash(&mut self, mode: Mode)
+        ensures content { self.new.content ≡ left_by mode self.old.now self.old.content }
+        ensures now { self.new.now ≡ settled_at self.new.content }
+        ensures past { NotesMoment self.old self.new }
+        ensures room { self.old.room ≤ self.new.room }
+        ensures writes { self.old.writes ≤ self.new.writes }
+        ensures made { IsMade self.old }
+    {
+        match mode {
+            Mode::Lost => self.lose(),
+            Mode::Kept => self.sync(),
+            Mode::Torn => self.tear(),
+        }
+    }
+
     /// Takes back all writes since the last sync. What is left is synced.
-    pub(crate) fn lose(&mut self)
+    fn lose(&mut self)
         ensures content { self.new.content ≡ self.old.now.synced }
         ensures now { self.new.now ≡ settled_at self.old.now.synced }
         ensures past { NotesMoment self.old self.new }
@@ -139,7 +156,7 @@ impl Image {
     }
 
     /// Makes each byte written since the last sync 165. What is left is synced.
-    pub(crate) fn tear(&mut self)
+    fn tear(&mut self)
         ensures content { self.new.content ≡ filled self.old.now.ranges self.old.content }
         ensures now { self.new.now ≡ settled_at self.new.content }
         ensures past { NotesMoment self.old self.new }
@@ -165,7 +182,8 @@ fn overlay(content: &mut Vec<u8>, kept: &mut Vec<u8>, place: usize, bytes: &[u8]
 {
     let over = bytes.len().min(content.len() - place);
     let (front, rest) = bytes.split_at(over);
-    kept.extend_from_slice(&content[place..place + over]).unwrap();
+    kept.extend_from_slice(&content[place..place + over])
+        .unwrap();
     content[place..place + over].copy_from_slice(front);
     content.extend_from_slice(rest).unwrap();
 }

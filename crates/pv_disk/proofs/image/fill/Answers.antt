@@ -23,8 +23,7 @@ loop-write-preserved c =
     let still_open : c.in-Some.write.now.synced ≡ false = search rules in
     let inside = newest_inside c.loop-write.rest.now c.in-Some.earlier.now c.in-Some.write.now split (length c.loop-write.content) still_open c.loop-write.invariant.0 in
     let others = others_inside c.loop-write.rest.now c.in-Some.earlier.now c.in-Some.write.now split (length c.loop-write.content) still_open c.loop-write.invariant.0 in
-    let size : length c.fill_range.new.content ≡ length c.loop-write.content = ap length c.fill_range.ensures ∙ length-fill (range_of c.in-Some.write.now) c.loop-write.content inside in
-    (
+    let size : length c.fill_range.new.content ≡ length c.loop-write.content = ap length c.fill_range.ensures ∙ length-fill (range_of c.in-Some.write.now) c.loop-write.content inside in (
       subst (λ n. AllInside (map range_of (unsynced [] c.in-Some.earlier.now)) n) (sym size) others,
       rw c.fill_range.ensures (filled_newest c.loop-write.rest.now c.in-Some.earlier.now c.in-Some.write.now split c.loop-write.content still_open) ∙ c.loop-write.invariant.1,
     )

@@ -40,8 +40,7 @@ loop-write-preserved c =
     let still_open : c.in-Some.write.now.synced ≡ false = search rules in
     let back = can_take_back c.loop-write.rest.now c.in-Some.earlier.now c.in-Some.write.now split c.loop-write.kept.items c.loop-write.content.items still_open c.loop-write.invariant.0 in
     let before = before_newest c.loop-write.rest.now c.in-Some.earlier.now c.in-Some.write.now split c.loop-write.content.items still_open in
-    let longer = made_longer c.in-Some.write.now c.loop-write.content.items back.made in
-    (
+    let longer = made_longer c.in-Some.write.now c.loop-write.content.items back.made in (
       rw (c.undo.ensures.content, c.undo.ensures.kept) back.others,
       ap (content_before (unsynced [] c.in-Some.earlier.now)) c.undo.ensures.content ∙ sym before ∙ c.loop-write.invariant.1,
       omega (arith, longer, ap length c.undo.ensures.content, c.loop-write.invariant.2),

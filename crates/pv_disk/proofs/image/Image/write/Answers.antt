@@ -10,10 +10,9 @@ invariant_of-self c =
     let write : Write = record { place = c.args.place; count = length c.args.bytes.now; length = c.len.result; synced = false; before = c.of.result } in
     let begins : Begins write c.self.inside.bytes.items c.args.bytes.now = search rules in
     let pushed : c.push_reserved.new.self.items ≡ c.self.inside.writes.items ++ write ∷ [] = search rules in
-    let within : c.args.place ≤ length c.self.inside.bytes.items = search rules in
-    (
+    let within : c.args.place ≤ length c.self.inside.bytes.items = search rules in (
       can_undo_more c.self.inside.writes.items c.push_reserved.new.self.items write c.self.inside.bytes.items c.args.bytes.now begins pushed
-        c.self.inside.kept.items c.overlay.new.kept.items c.overlay.new.content.items c.self.invariant.0 c.overlay.ensures.kept c.overlay.ensures.content,
+          c.self.inside.kept.items c.overlay.new.kept.items c.overlay.new.content.items c.self.invariant.0 c.overlay.ensures.kept c.overlay.ensures.content,
       omega (arith, ap length c.overlay.ensures.content, length-overlaid c.self.inside.bytes.items c.args.place c.args.bytes.now within),
     )
 
