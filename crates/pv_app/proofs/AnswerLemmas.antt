@@ -4,15 +4,15 @@ use Rattle.std.specs.Bool.{⊤}
 use Rattle.std.specs.Io.KnownBytes.{Appends}
 use Rattle.std.proofs.lemmas.List.{append-nil}
 use Rattle.pv_io.specs.Stream.{AppendsPrefix}
-use Rattle.pv_model.specs.Causes.{Cause}
+use Rattle.pv_model.specs.Causes.{LineCause}
 use Rattle.pv_model.specs.Events.{Schedule}
-use Rattle.pv_model.specs.Form.{not_built}
+use Rattle.pv_script.specs.Form.{not_built}
 use Rattle.pv_model.specs.Schedule.{IsSchedule}
 use Rattle.pv_model.specs.Run.{output_of}
-use Rattle.pv_model.proofs.OneScheduleLemmas.{one_schedule, one_fault, no_fault}
+use Rattle.pv_law_schedules.proofs.OneScheduleLemmas.{one_schedule, one_fault, no_fault}
 use Rattle.pv_app.specs.declared.status.Status.{Status}
 use Rattle.pv_app.specs.declared.status.Status.TheVariants.{Done, Usage, Malformed, WriteFault, TooLong, NoMemory}
-use Rattle.pv_app.specs.Answers.{IsAnswer, IsRefusedAt, GivesUp, GrowsBySome, fault_text, max_input}
+use Rattle.pv_app.specs.InputAnswers.{IsAnswer, IsRefusedAt, GivesUp, GrowsBySome, fault_text, max_input}
 use Rattle.pv_app.proofs.OutputLemmas.{AppendsPrefix-whole}
 
 -- a list of one element
@@ -27,13 +27,13 @@ built_differs : (input : List ℕ) (number : ℕ) → not_built input ≡ None �
 built_differs input number none some = let differ = sym none ∙ some in cc
 
 -- What can be run isn't refused.
-no_refused_schedule : (input : List ℕ) (schedule : Schedule) (number : ℕ) (cause : Option Cause)
+no_refused_schedule : (input : List ℕ) (schedule : Schedule) (number : ℕ) (cause : Option LineCause)
     → IsSchedule input schedule → not_built input ≡ None → IsRefusedAt input number cause → ⊥
 no_refused_schedule input schedule number (Some cause) is built refused = no_fault input schedule number cause is refused
 no_refused_schedule input schedule number None is built refused = built_differs input number built refused.2
 
 -- An input is refused in one way.
-one_refusal : (input : List ℕ) (number other : ℕ) (cause told : Option Cause) → IsRefusedAt input number cause → IsRefusedAt input other told
+one_refusal : (input : List ℕ) (number other : ℕ) (cause told : Option LineCause) → IsRefusedAt input number cause → IsRefusedAt input other told
     → fault_text number cause ≡ fault_text other told
 one_refusal input number other (Some cause) (Some told) a b =
     let same = one_fault input number other cause told a b in λ i. fault_text (same.0 i) (Some (same.1 i))
@@ -114,7 +114,7 @@ usage_or_fault (Ok done) status is = inl is
 usage_or_fault (Err e) status is = inr is
 
 -- Where a refusal was to be written, that is the input's answer, or it gave up.
-pub answered_refusal : (input : List ℕ) (result : Status) (old new : Option (List ℕ)) (number : ℕ) (cause : Option Cause)
+pub answered_refusal : (input : List ℕ) (result : Status) (old new : Option (List ℕ)) (number : ℕ) (cause : Option LineCause)
     → length input ≤ max_input → IsRefusedAt input number cause → (result ≡ Malformed) ⊎ ((result ≡ WriteFault) ⊎ (result ≡ NoMemory))
     → (result ≡ Malformed → Appends old new (fault_text number cause)) → GivesUp result ⊎ GrowsBySome old new (IsAnswer input result)
 answered_refusal input result old new number cause short refused (inl is) written =

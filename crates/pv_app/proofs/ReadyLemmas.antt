@@ -2,20 +2,20 @@
 use Rattle.std.proofs.Common.{◌≡◌, ⊎_elim, ℕ, ◌≤◌, Option, Some, None, All, List, [], ◌∷◌, length, refl, sym, ap, ◌∙◌, subst, arith, length-append}
 use Rattle.std.proofs.lemmas.List.Elements.{All-cons, All-nil}
 use Rattle.pv_base.specs.Catalog.{Declared}
-use Rattle.pv_model.proofs.DeclaredItems.{declared-items}
-use Rattle.pv_model.proofs.ProgramLemmas.{items_stay}
+use Rattle.pv_law_programs.proofs.DeclaredItems.{declared-items}
+use Rattle.pv_law_programs.proofs.ProgramLemmas.{items_stay}
 use Rattle.pv_model.specs.Causes.{Before, declared_by}
 use Rattle.pv_model.specs.Events.{Event, submit, pump, Schedule}
-use Rattle.pv_model.specs.Run.{World, opening, after_commit, after}
+use Rattle.pv_model.specs.Run.{OneSite, opening, after_commit, after}
 use Rattle.pv_model.specs.Schedule.{DeclaresSites, DeclaresJournal, DeclaresItem, Declares, Says, AreLines, none, declaration, event, IsSchedule}
 use Rattle.pv_model.specs.Syntax.{Program}
-use Rattle.pv_model.specs.Text.{Line}
-use Rattle.pv_app.specs.Ready.{NamesOnly, IsReady, IsSound}
+use Rattle.pv_model.specs.Text.{TextLine}
+use Rattle.pv_app.specs.Ready.{NamesOnly, IsReady, FitsCatalog}
 
 -- ---- requests of a schedule
 
 -- Items only come.
-more-items : (before : Before) (line : Line) (now : Before) → Declares before line now → length before.items ≤ length now.items
+more-items : (before : Before) (line : TextLine) (now : Before) → Declares before line now → length before.items ≤ length now.items
 more-items before line now declares =
     ⊎_elim
     (λ (d : DeclaresSites before line now). let same = ap (λ (b : Before). length b.items) d.same in omega (arith, same))
@@ -25,18 +25,18 @@ more-items before line now declares =
     let same = ap (λ (b : Before). length b.items) d.same ∙ length-append before.items (d.item ∷ []) in omega (arith, same)))
     declares
 
-ready-event : (before last : Before) (line : Line) (e : Event) → length before.items ≤ length last.items → Says before line e → IsReady (declared_by last) e
+ready-event : (before last : Before) (line : TextLine) (e : Event) → length before.items ≤ length last.items → Says before line e → IsReady (declared_by last) e
 ready-event before last line (submit site query text p) more says = λ n is.
     let below = declared-items (declared_by before) text p says.is n is in omega (arith, below, more)
 ready-event before last line _ more says = tt
 
-more-items-behind : {before last : Before} {lines : List Line} {events : List Event} → AreLines before lines events last → length before.items ≤ length last.items
+more-items-behind : {before last : Before} {lines : List TextLine} {events : List Event} → AreLines before lines events last → length before.items ≤ length last.items
 more-items-behind (none before) = omega arith
 more-items-behind (declaration before now last line lines events declares are) =
     let here = more-items before line now declares in let behind = more-items-behind are in omega (arith, here, behind)
 more-items-behind (event before last line lines e events is are) = more-items-behind are
 
-ready-lines : {before last : Before} {lines : List Line} {events : List Event} → AreLines before lines events last → All (IsReady (declared_by last)) events
+ready-lines : {before last : Before} {lines : List TextLine} {events : List Event} → AreLines before lines events last → All (IsReady (declared_by last)) events
 ready-lines (none before) = All-nil (IsReady (declared_by before))
 ready-lines (declaration before now last line lines events declares are) = ready-lines are
 ready-lines (event before last line lines e events is are) =
@@ -47,17 +47,17 @@ ready-schedule text schedule is = subst (λ (catalog : Declared). All (IsReady c
 
 -- ---- the world of a run
 
-pub sound-opening : (catalog : Declared) → IsSound catalog (opening catalog)
+pub sound-opening : (catalog : Declared) → FitsCatalog catalog (opening catalog)
 sound-opening catalog = record { rows = refl; waiting = λ program is. cc }
 
-sound-commit : (catalog : Declared) (world : World) (waiting : Option Program) → IsSound catalog world → IsSound catalog (after_commit world waiting)
+sound-commit : (catalog : Declared) (world : OneSite) (waiting : Option Program) → FitsCatalog catalog world → FitsCatalog catalog (after_commit world waiting)
 sound-commit catalog world None sound = sound
 sound-commit catalog world (Some program) sound = record {
   rows = items_stay program world.rows ∙ sound.rows;
   waiting = λ program is. cc;
 }
 
-pub sound-after : (catalog : Declared) (world : World) (e : Event) → IsReady catalog e → IsSound catalog world → IsSound catalog (after world e)
+pub sound-after : (catalog : Declared) (world : OneSite) (e : Event) → IsReady catalog e → FitsCatalog catalog world → FitsCatalog catalog (after world e)
 sound-after catalog world (submit site query text program) ready sound = record {
   rows = sound.rows;
   waiting = λ other is. let same : program ≡ other = cc in subst (NamesOnly catalog) same ready;

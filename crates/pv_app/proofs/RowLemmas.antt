@@ -3,6 +3,7 @@ use Rattle.std.proofs.Common.{◌≡◌, ℕ, zero, suc, ◌+◌, ◌<◌, ◌�
 use Rattle.std.specs.Prelude.{◌&&◌, ◌||◌, ◌==◌, IsTrue}
 use Rattle.std.proofs.lemmas.Bool.{cases_lt, eq-eqb, ne_eqb, false≢true}
 use Rattle.pv_base.specs.Catalog.{Item, Declared}
+use Rattle.pv_law_programs.proofs.RowLemmas.{has_once-same}
 use Rattle.pv_model.specs.Check.{reads, names}
 use Rattle.pv_model.specs.Items.{lacks, has_once, has_items, has_all_items}
 use Rattle.pv_model.specs.Meaning.{Row, items_of_rows}
@@ -37,27 +38,6 @@ has_once-rows_from (x ∷ items) n k least below =
       | inr not_later ↦
           ap (λ (b : Bool). cond b here behind) (eq-eqb n k (omega arith)) ∙ lacks-rows_from items (n + 1) k (omega arith)
     ]
-
--- ---- only the items of rows matter
-
-abbrev lacks_item : List ℕ → ℕ → Bool
-lacks_item [] n = true
-lacks_item (m ∷ items) n = cond (m == n) false (lacks_item items n)
-
-abbrev has_item_once : List ℕ → ℕ → Bool
-has_item_once [] n = false
-has_item_once (m ∷ items) n = cond (m == n) (lacks_item items n) (has_item_once items n)
-
-lacks-items : (rows : List Row) (n : ℕ) → lacks rows n ≡ lacks_item (items_of_rows rows) n
-lacks-items [] n = refl
-lacks-items (row ∷ rows) n = ap (λ (b : Bool). cond (row.item == n) false b) (lacks-items rows n)
-
-has_once-items : (rows : List Row) (n : ℕ) → has_once rows n ≡ has_item_once (items_of_rows rows) n
-has_once-items [] n = refl
-has_once-items (row ∷ rows) n = λ i. cond (row.item == n) (lacks-items rows n i) (has_once-items rows n i)
-
-has_once-same : (rows others : List Row) (n : ℕ) → items_of_rows rows ≡ items_of_rows others → has_once rows n ≡ has_once others n
-has_once-same rows others n same = has_once-items rows n ∙ ap (λ (items : List ℕ). has_item_once items n) same ∙ sym (has_once-items others n)
 
 -- ---- each item that a program names has a row
 

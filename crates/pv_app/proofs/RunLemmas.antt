@@ -7,20 +7,20 @@ use Rattle.std.proofs.lemmas.Grind.{flat_map-append}
 use Rattle.pv_io.specs.Stream.{AppendsPrefix}
 use Rattle.pv_model.specs.Events.{Schedule, Event, pump}
 use Rattle.pv_model.specs.Print.{line_text, text_of}
-use Rattle.pv_model.specs.Run.{World, opening, after_commit, after, lines_of, txn_of, run, output_of}
+use Rattle.pv_model.specs.Run.{OneSite, opening, after_commit, after, lines_of, txn_of, run, output_of}
 use Rattle.pv_model.specs.Syntax.{Program}
 use Rattle.pv_script.specs.declared.schedule.Event as code
 use Rattle.pv_script.specs.View.{event_of}
-use Rattle.pv_app.specs.Ready.{IsReady, IsSound}
+use Rattle.pv_app.specs.Ready.{IsReady, FitsCatalog}
 use Rattle.pv_app.proofs.OutputLemmas.{AppendsPrefix-front, AppendsPrefix-behind}
 use Rattle.pv_app.proofs.ReadyLemmas.{sound-opening, sound-after}
 
 -- Behind `done` events, what is left to be printed ends where all that is to be printed ends, and the world is sound.
-pub record IsUnderWay (first now : Option (List ℕ)) (faults_first faults_now : ℕ) (schedule : Schedule) (world : World) (done : ℕ) : Type 0 where
+pub record IsUnderWay (first now : Option (List ℕ)) (faults_first faults_now : ℕ) (schedule : Schedule) (world : OneSite) (done : ℕ) : Type 0 where
   pub whole : (end : Option (List ℕ)) → Appends now end (text_of (run schedule.catalog world (drop done schedule.events))) → Appends first end (output_of schedule)
   pub prefix : (end : Option (List ℕ)) → AppendsPrefix now end (text_of (run schedule.catalog world (drop done schedule.events))) → AppendsPrefix first end (output_of schedule)
   pub numbers : length world.order ≤ done
-  pub sound : IsSound schedule.catalog world
+  pub sound : FitsCatalog schedule.catalog world
   pub counted : faults_first ≤ faults_now
 
 -- the events, as the definitions see them
@@ -46,11 +46,11 @@ All-next P (y ∷ ys) zero x rest all split = let same : y ≡ x = cc in subst P
 All-next P (y ∷ ys) (suc i) x rest all split = All-next P ys i x rest (λ k d below. all (suc k) d (omega (arith, below))) split
 
 -- no event has more than one transaction
-order-commit : (world : World) (waiting : Option Program) → length (after_commit world waiting).order ≤ length world.order + 1
+order-commit : (world : OneSite) (waiting : Option Program) → length (after_commit world waiting).order ≤ length world.order + 1
 order-commit world None = omega arith
 order-commit world (Some program) = omega (arith, length-append world.order (txn_of (length world.order) ∷ []))
 
-order-after : (world : World) (event : Event) → length (after world event).order ≤ length world.order + 1
+order-after : (world : OneSite) (event : Event) → length (after world event).order ≤ length world.order + 1
 order-after world (pump None) = order-commit world world.waiting
 order-after world _ = omega arith
 
@@ -64,7 +64,7 @@ start held faults schedule = record {
   counted = omega arith;
 }
 
-module _ (first now next : Option (List ℕ)) (faults_first faults_now faults_next : ℕ) (schedule : Schedule) (world : World) (done : ℕ) (event : Event)
+module _ (first now next : Option (List ℕ)) (faults_first faults_now faults_next : ℕ) (schedule : Schedule) (world : OneSite) (done : ℕ) (event : Event)
     (way : IsUnderWay first now faults_first faults_now schedule world done) (split : drop done schedule.events ≡ event ∷ drop (suc done) schedule.events) where
   abbrev lines : List ℕ
   lines = text_of (lines_of schedule.catalog world event)

@@ -1,4 +1,4 @@
-pub mod Answers
+pub mod InputAnswers
 pub mod Ready
 pub mod View
-pub mod WorldCode
+pub mod OneSiteCode

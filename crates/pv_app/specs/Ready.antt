@@ -1,10 +1,10 @@
--- What a run rests on: programs name only items that there are, and the world has a row for each.
+-- What a run rests on: programs name only items that there are, and the site has a row for each.
 use Rattle.std.specs.Prelude.{◌≡◌, ℕ, ◌<◌, Some, length, IsTrue}
 use Rattle.pv_base.specs.Catalog.{Declared}
 use Rattle.pv_model.specs.Check.{names}
 use Rattle.pv_model.specs.Events.{Event, submit}
 use Rattle.pv_model.specs.Meaning.{items_of_rows}
-use Rattle.pv_model.specs.Run.{World, declared_rows}
+use Rattle.pv_model.specs.Run.{OneSite, declared_rows}
 use Rattle.pv_model.specs.Syntax.{Program}
 
 -- The program names only items of the catalog.
@@ -16,7 +16,7 @@ abbrev pub IsReady : Declared → Event → Type 0
 IsReady catalog (submit site query text program) = NamesOnly catalog program
 IsReady catalog _ = Unit {0}
 
--- The world has a row for each item of the catalog, in order, and the program that waits names only these.
-pub record IsSound (catalog : Declared) (world : World) : Type 0 where
+-- The site has a row for each item of the catalog, in order, and the program that waits names only these.
+pub record FitsCatalog (catalog : Declared) (world : OneSite) : Type 0 where
   pub rows : items_of_rows world.rows ≡ items_of_rows (declared_rows catalog)
   pub waiting : (program : Program) → world.waiting ≡ Some program → NamesOnly catalog program

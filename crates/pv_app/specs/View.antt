@@ -6,7 +6,7 @@ use Rattle.pv_io.specs.Stream.{AppendsPrefix}
 use Rattle.pv_app.specs.declared.run.RunEnd.{RunEnd}
 use Rattle.pv_app.specs.declared.run.RunEnd.TheVariants.{WriteFault}
 
--- It writes this text, or it ends with a beginning of it written, for want of memory or for a fault that was counted.
+-- It writes this text, or it ends with a beginning of it written, out of memory or for a fault that was counted.
 pub record Writes (old new : Option (List ℕ)) (faults_before faults_now : ℕ) (result : Result ⊤ RunEnd) (text : List ℕ) : Type 0 where
   pub written : OnOk result (Appends old new text)
   pub prefix : OnErr result (AppendsPrefix old new text)

@@ -5,12 +5,12 @@ ghost use Rattle.std.specs.Io.KnownBytes.{Appends, Keeps};
 ghost use Rattle.pv_base.specs.Fault.{Rose};
 ghost use Rattle.pv_io.specs.Stream.{AppendsPrefix};
 ghost use Rattle.pv_model.specs.Events as model;
-ghost use Rattle.pv_model.specs.Form.{not_built};
+ghost use Rattle.pv_script.specs.Form.{not_built};
 ghost use Rattle.pv_model.specs.Run.{Agrees, RepliesAgree, output_of};
 ghost use Rattle.pv_model.specs.Schedule.{IsSchedule};
-ghost use Rattle.pv_script.specs.Answers.{cause_of};
+ghost use Rattle.pv_script.specs.ScriptErrors.{cause_of};
 ghost use Rattle.pv_script.specs.View.{schedule_of};
-ghost use Rattle.pv_app.specs.Answers.{IsRun, IsAnswer, GivesUp, GrowsBySome, status_of, max_input, usage_text, fault_text};
+ghost use Rattle.pv_app.specs.InputAnswers.{IsRun, IsAnswer, GivesUp, GrowsBySome, status_of, max_input, usage_text, fault_text};
 
 use crate::print::push_fault_line;
 use crate::run::{RunEnd, run};
@@ -25,7 +25,7 @@ pub const MAX_INPUT: u64 = 16_777_216;
 
 const USAGE: &[u8] = b"usage: polydb run\n";
 
-/// The program, over any input and output. `words` are those behind the program's name.
+/// The program, over any input and output. `words` are those after the program's name.
 ///
 /// `run` reads a schedule from the source to its end, runs it, and writes each event's lines when the event is done.
 pub fn polydb<R: Source, W: Sink>(

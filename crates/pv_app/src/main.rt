@@ -2,10 +2,10 @@
 #![tactic(auto)]
 
 mod app;
+mod one_site;
 mod print;
 mod run;
 mod status;
-mod world;
 
 use crate::app::polydb;
 use crate::status::Status;
@@ -31,7 +31,7 @@ fn start(rt: &HostRuntime, words: &[String]) -> Status {
     polydb(rt.alloc(), words, &mut source, &mut sink)
 }
 
-// The words behind the program's name.
+// The words after the program's name.
 fn words_of<R: Env + AllocGlobal>(rt: &R) -> io::Result<Vec<String>> {
     let mut words = Vec::new(rt.alloc());
     for word in env::args(rt)?.skip(1) {

@@ -1,13 +1,13 @@
 // The lines that a run prints, each put after what a buffer holds. After an error the buffer's content is of no use.
 ghost use Rattle.std.specs.Prelude.{◌≡◌, ◌++◌, length, OnOk};
 ghost use Rattle.std.specs.Fmt.{decimal};
-ghost use Rattle.pv_app.specs.Answers.{reason_text, fault_text};
+ghost use Rattle.pv_app.specs.InputAnswers.{reason_text, fault_text};
 ghost use Rattle.pv_ast.specs.ReplyView.{decline_of, reply_of};
 ghost use Rattle.pv_model.specs.Meaning.{declined};
 ghost use Rattle.pv_model.specs.Print as model;
 ghost use Rattle.pv_model.specs.Print.{line_text, list_text, text_of};
 ghost use Rattle.pv_model.specs.Run.{item_lines, report_lines};
-ghost use Rattle.pv_script.specs.Answers.{cause_of};
+ghost use Rattle.pv_script.specs.ScriptErrors.{cause_of};
 
 use itoa::Buffer;
 use pv_ast::{Decline, Reply, Row};
@@ -125,7 +125,7 @@ pub fn push_report(
 }
 
 /// `line N: CAUSE`
-#[tactic(auto, unfolding(crate::specs::Answers::fault_text))]
+#[tactic(auto, unfolding(crate::specs::InputAnswers::fault_text))]
 pub fn push_fault_line(text: &mut Vec<u8>, line: u32, cause: LineCause) -> Result<(), NoMemory>
     ensures { OnOk result (text.new.items ≡ text.old.items ++ fault_text line (cause_of cause)) }
 {
@@ -136,7 +136,7 @@ pub fn push_fault_line(text: &mut Vec<u8>, line: u32, cause: LineCause) -> Resul
 }
 
 // What is wrong with a line.
-#[tactic(auto, unfolding(crate::specs::Answers::cause_text))]
+#[tactic(auto, unfolding(crate::specs::InputAnswers::cause_text))]
 fn push_cause(text: &mut Vec<u8>, cause: LineCause) -> Result<(), NoMemory>
     ensures { OnOk result (text.new.items ≡ text.old.items ++ reason_text (cause_of cause)) }
 {
@@ -171,7 +171,7 @@ fn push_words(text: &mut Vec<u8>, words: &[u8]) -> Result<(), NoMemory>
     Ok(text.extend_from_slice(words)?)
 }
 
-// Words, and a number behind them.
+// Words, and a number after them.
 fn push_numbered(text: &mut Vec<u8>, words: &[u8], number: u32) -> Result<(), NoMemory>
     ensures { OnOk result (text.new.items ≡ text.old.items ++ (words.now ++ decimal number)) }
 {

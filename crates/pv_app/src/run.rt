@@ -1,6 +1,6 @@
 // A run: each event's lines are written when the event is done.
 ghost use Rattle.std.specs.Prelude.{◌≡◌, ◌-◌, ◌^◌, ◌<◌, Some, All, IsTrue, length, vec_len, OnOk};
-ghost use Rattle.pv_app.specs.Ready.{IsReady, IsSound};
+ghost use Rattle.pv_app.specs.Ready.{IsReady, FitsCatalog};
 ghost use Rattle.pv_app.specs.View.{Writes};
 ghost use Rattle.pv_ast.specs.ReplyView.{reply_of};
 ghost use Rattle.pv_model.specs.Items.{has_all_items};
@@ -10,8 +10,8 @@ ghost use Rattle.pv_model.specs.Print.{line_text, text_of};
 ghost use Rattle.pv_model.specs.Run.{txn_of, after, after_commit, lines_of, commit_lines, report_lines, output_of};
 ghost use Rattle.pv_script.specs.View.{event_of, schedule_of};
 
+use crate::one_site::OneSite;
 use crate::print::{push_commit_line, push_report, push_txn_line};
-use crate::world::World;
 use pv_ast::{Program, Reply};
 use pv_base::{Catalog, Failed, NoMemory, TxnId};
 use pv_io::{Sink, write_all};
@@ -55,7 +55,7 @@ pub fn run<W: Sink>(alloc: Global, schedule: &Schedule, sink: &mut W) -> Result<
     ensures { Writes (W.held sink.old) (W.held sink.new) (W.faults sink.old) (W.faults sink.new) result
         (output_of (schedule_of schedule.now)) }
 {
-    let mut world = World::new(alloc, &schedule.catalog)?;
+    let mut world = OneSite::new(alloc, &schedule.catalog)?;
     let mut text = Vec::new(alloc);
     for event in &schedule.events {
         step(alloc, &schedule.catalog, &mut world, event, &mut text, sink)?;
@@ -67,13 +67,13 @@ pub fn run<W: Sink>(alloc: Global, schedule: &Schedule, sink: &mut W) -> Result<
 fn step<'a, W: Sink>(
     alloc: Global,
     catalog: &Catalog,
-    world: &mut World<'a>,
+    world: &mut OneSite<'a>,
     event: &'a Event,
     text: &mut Vec<u8>,
     sink: &mut W,
 ) -> Result<(), RunEnd>
     requires number { length world.old.order < 2 ^ 32 - 1 }
-    requires sound { IsSound catalog.now world.old }
+    requires sound { FitsCatalog catalog.now world.old }
     ensures after { OnOk result (world.new ≡ after world.old (event_of event.now)) }
     ensures writes { Writes (W.held sink.old) (W.held sink.new) (W.faults sink.old) (W.faults sink.new) result
         (text_of (lines_of catalog.now world.old (event_of event.now))) }
@@ -89,7 +89,7 @@ fn step<'a, W: Sink>(
 
 // A request: its messages wait for the pump.
 fn submit<'a, W: Sink>(
-    world: &mut World<'a>,
+    world: &mut OneSite<'a>,
     program: &'a Program,
     text: &mut Vec<u8>,
     sink: &mut W,
@@ -107,12 +107,12 @@ fn submit<'a, W: Sink>(
 fn pump<W: Sink>(
     alloc: Global,
     catalog: &Catalog,
-    world: &mut World,
+    world: &mut OneSite,
     text: &mut Vec<u8>,
     sink: &mut W,
 ) -> Result<(), RunEnd>
     requires number { length world.old.order < 2 ^ 32 - 1 }
-    requires sound { IsSound catalog.now world.old }
+    requires sound { FitsCatalog catalog.now world.old }
     ensures after { OnOk result (world.new ≡ after_commit world.old world.old.waiting) }
     ensures writes { Writes (W.held sink.old) (W.held sink.new) (W.faults sink.old) (W.faults sink.new) result
         (text_of (commit_lines world.old world.old.waiting)) }
@@ -126,7 +126,7 @@ fn pump<W: Sink>(
 // Runs a program and commits it.
 fn commit<W: Sink>(
     alloc: Global,
-    world: &mut World,
+    world: &mut OneSite,
     program: &Program,
     text: &mut Vec<u8>,
     sink: &mut W,
@@ -170,11 +170,11 @@ fn write_commit<W: Sink>(
 // The lines of a report, in one write.
 fn report<W: Sink>(
     catalog: &Catalog,
-    world: &World,
+    world: &OneSite,
     text: &mut Vec<u8>,
     sink: &mut W,
 ) -> Result<(), RunEnd>
-    requires sound { IsSound catalog.now world.now }
+    requires sound { FitsCatalog catalog.now world.now }
     ensures { Writes (W.held sink.old) (W.held sink.new) (W.faults sink.old) (W.faults sink.new) result
         (text_of (report_lines catalog.now world.now.order world.now.rows)) }
 {

@@ -21,7 +21,7 @@ pub enum Status {
 }
 
 impl Status {
-    ghost use Rattle.pv_app.specs.Answers.{exit_code};
+    ghost use Rattle.pv_app.specs.InputAnswers.{exit_code};
 
     /// The exit code of a program that ends so.
     pub fn code(self) -> u8

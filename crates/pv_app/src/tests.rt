@@ -1,4 +1,4 @@
-// The worked examples end to end, and each way to end but for want of memory.
+// The worked examples end to end, and each way to end but for lack of memory.
 use super::*;
 use pv_io::{MemSink, MemSource};
 use std::alloc::{AllocError, Global};
@@ -51,7 +51,7 @@ item b 6
 end
 ";
 
-// two reports, the first before any request, and a request behind the last
+// two reports, the first before any request, and a request after the last
 const REPORTS: &str =
     "sites 1\nitem a 0 -1\nreport\nsubmit 0 a := -a\npump\nreport\nsubmit 0 a := a + 1\npump\n";
 

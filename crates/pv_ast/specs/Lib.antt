@@ -5,4 +5,4 @@ pub mod ProgramView
 pub mod ProgramFalls
 pub mod ReplyExact
 pub mod ReplyView
-pub mod Settled
+pub mod ShortCircuit

@@ -5,7 +5,7 @@ use Rattle.pv_ast.specs.declared.program.Stmt.TheVariants.{Assign, Require, Retu
 use Rattle.pv_ast.specs.ExprView.{expr_of}
 use Rattle.pv_model.specs.Syntax.{Program, end, assign, require, return, when, when_else}
 
--- a statement with the program behind it
+-- a statement with the program after it
 abbrev pub followed_by : Stmt → Program → Program
 followed_by (Assign n e) next = assign n.0 (expr_of e) next
 followed_by (Require e) next = require (expr_of e) next

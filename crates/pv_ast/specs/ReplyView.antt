@@ -23,7 +23,7 @@ computed_of (Ok v) = Ok v
 computed_of (Err d) = Err (decline_of d)
 
 -- how a program came out, with the rows then
-abbrev pub outcome_of : Result (Option ℤ) Decline → List model.Row → model.Outcome
-outcome_of (Ok None) rows = ended rows
-outcome_of (Ok (Some v)) rows = returned v rows
-outcome_of (Err d) rows = refused (decline_of d)
+abbrev pub course_from : Result (Option ℤ) Decline → List model.Row → model.Course
+course_from (Ok None) rows = ended rows
+course_from (Ok (Some v)) rows = returned v rows
+course_from (Err d) rows = refused (decline_of d)

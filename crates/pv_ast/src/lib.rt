@@ -7,13 +7,13 @@ mod expr;
 mod items;
 mod program;
 mod rows;
-mod run;
+mod execution;
 
 pub use effect::{Decline, Effect, Reply};
 pub use expr::{Expr, Op, Operand};
 pub use program::{Program, Stmt};
 pub use rows::Row;
-pub use run::exec;
+pub use execution::exec;
 
 #[cfg(test)]
 mod tests;

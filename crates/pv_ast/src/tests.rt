@@ -116,7 +116,7 @@ fn a_withdrawal_is_done_where_there_is_enough(rt: HostRuntime) -> Result<(), Fai
 }
 
 #[test]
-fn nothing_runs_behind_a_return(rt: HostRuntime) -> Result<(), Fail> {
+fn nothing_runs_after_a_return(rt: HostRuntime) -> Result<(), Fail> {
     let alloc = rt.alloc();
     let program = first_and_then(
         alloc,
@@ -280,7 +280,7 @@ fn and_and_or_look_right_only_where_they_must(rt: HostRuntime) -> Result<(), Fai
         assert_eq!(rt;
             reply(&rt, alloc, value)?,
             wanted,
-            "at {op:?} behind {left}"
+            "at {op:?} after {left}"
         );
     }
     // The left side is always looked at, and first.

@@ -1,6 +1,6 @@
 -- Assignments: which transactions commit.
 use Rattle.std.specs.Prelude.{◌≡◌, Bool, not, ◌&&◌, ◌==◌, List, [], ◌∷◌, ◌++◌, map, if◌then◌else◌, IsTrue}
-use Rattle.std.specs.List.{list_any, filter}
+use Rattle.std.specs.List.{AllPairs, list_any, filter}
 use Rattle.std.specs.declared.cmp.Ordering.{Ordering}
 use Rattle.std.specs.Ordering.{nat_cmp, ordering_then, is_lt}
 use Rattle.pv_base.specs.declared.txn.TxnId.{TxnId}
@@ -14,6 +14,10 @@ txn_cmp t u = ordering_then (nat_cmp t.site.0 u.site.0) (ordering_then (nat_cmp 
 
 abbrev pub precedes : TxnId → TxnId → Bool
 precedes t u = is_lt (txn_cmp t u)
+
+-- Each transaction precedes those after it, so none stands twice.
+abbrev pub AreAscending : List TxnId → Type 0
+AreAscending txns = AllPairs (λ txn later. IsTrue (precedes txn later)) txns
 
 -- An assignment is the list of the transactions that commit. Every other transaction doesn't. Their order and repeats don't matter.
 abbrev pub commits : List TxnId → TxnId → Bool

@@ -4,6 +4,7 @@ use Rattle.std.specs.Option.{option_map_or}
 use Rattle.std.specs.Str.{bytes_eq}
 use Rattle.pv_base.specs.declared.catalog.CatalogError.{CatalogError}
 use Rattle.pv_base.specs.declared.catalog.CatalogError.TheVariants.{BadName, NameTaken, NoSite, TooMany}
+use Rattle.pv_base.specs.declared.limits.TheConstants.{MAX_ITEMS}
 use Rattle.pv_base.specs.Name.{is_name}
 
 -- An item as it was declared.
@@ -34,7 +35,7 @@ refusal_of_taken place = Some (NameTaken (record { 0 = place }))
 abbrev pub refusal_of_new : Declared → ℕ → Option CatalogError
 refusal_of_new declared site =
     if nat_le declared.sites site then Some NoSite else
-    (if nat_le 1024 (length declared.items) then Some TooMany else None)
+    (if nat_le MAX_ITEMS (length declared.items) then Some TooMany else None)
 
 -- Why an addition is refused, the first cause that there is. Want of memory comes after all of these.
 abbrev pub refusal : Declared → List ℕ → ℕ → Option CatalogError

@@ -1,8 +1,9 @@
 -- What a catalog's fields say.
-use Rattle.std.specs.Prelude.{ℕ, ◌<◌, ◌≤◌, ◌^◌, List, map, length, All}
+use Rattle.std.specs.Prelude.{ℕ, ◌<◌, ◌≤◌, List, map, length, All}
 use Rattle.std.specs.Global.{Vec}
 use Rattle.pv_base.specs.declared.catalog.Catalog.TheInside.{Inside}
 use Rattle.pv_base.specs.declared.entries.Declaration.{Declaration}
+use Rattle.pv_base.specs.declared.limits.TheConstants.{MAX_SITES, MIN_JOURNAL, MAX_JOURNAL, MAX_ITEMS}
 use Rattle.pv_base.specs.Catalog.{Item, Declared}
 
 -- An entry of the map, as the item that it stands for.
@@ -19,8 +20,8 @@ declared_of inside = record { sites = inside.sites; journal = inside.journal; it
 -- The limits of a catalog, and that each item is at one of its sites.
 pub record IsWithinLimits (inside : Inside) : Type 0 where
   pub some_site : 1 ≤ inside.sites
-  pub few_sites : inside.sites ≤ 16
-  pub least_journal : 32 ≤ inside.journal
-  pub most_journal : inside.journal ≤ 2 ^ 32
-  pub few_items : length inside.items.entries ≤ 1024
+  pub few_sites : inside.sites ≤ MAX_SITES
+  pub least_journal : MIN_JOURNAL ≤ inside.journal
+  pub most_journal : inside.journal ≤ MAX_JOURNAL
+  pub few_items : length inside.items.entries ≤ MAX_ITEMS
   pub homes : All (λ item. item.site < inside.sites) (items_of inside.items.entries)

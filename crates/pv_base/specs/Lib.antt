@@ -1,4 +1,6 @@
+pub mod Answer
 pub mod Assignment
+pub mod Canonical
 pub mod CaseFaults
 pub mod Catalog
 pub mod CatalogView
@@ -6,3 +8,4 @@ pub mod Fault
 pub mod Name
 pub mod Polyvalue
 pub mod Txn
+pub mod Want

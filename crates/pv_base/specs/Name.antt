@@ -2,6 +2,7 @@
 use Rattle.std.specs.Prelude.{ℕ, Bool, false, not, ◌&&◌, ◌||◌, ◌==◌, nat_le, List, [], ◌∷◌, length, codes}
 use Rattle.std.specs.List.{list_any, list_all}
 use Rattle.std.specs.Str.{bytes_eq}
+use Rattle.pv_base.specs.declared.limits.TheConstants.{MAX_NAME}
 
 -- The words of the program language, none of which names an item.
 abbrev pub keywords : List (List ℕ)
@@ -32,4 +33,4 @@ is_spelled_as_name (b ∷ bs) = is_lower b && list_all continues_name bs
 
 -- A name is 1 to 16 bytes, a lower-case letter and then lower-case letters, digits and `_`, and no keyword.
 unfoldable pub is_name : List ℕ → Bool
-is_name text = nat_le (length text) 16 && is_spelled_as_name text && not (is_keyword text)
+is_name text = nat_le (length text) MAX_NAME && is_spelled_as_name text && not (is_keyword text)

@@ -5,24 +5,12 @@ ghost use Rattle.std.specs.Option.{option_map};
 use crate::entries::{
     Declaration, Entries, copy_items, count_of, declaration_at, find_item, name_at, push_item,
 };
-use crate::{NoMemory, SiteId, is_name};
+use crate::{MAX_ITEMS, MAX_JOURNAL, MAX_SITES, MIN_JOURNAL, NoMemory, SiteId, is_name};
 use indexmap::IndexMap;
 use std::alloc::{AllocError, AllocFailed, Global};
 use std::error::Error;
 use std::fmt;
 use std::marker::Model;
-
-/// The greatest count of sites that a catalog may have.
-pub const MAX_SITES: u8 = 16;
-
-/// The least limit that a journal may have, in bytes.
-pub const MIN_JOURNAL: u64 = 32;
-
-/// The greatest limit that a journal may have, in bytes. It is the limit where none is declared.
-pub const MAX_JOURNAL: u64 = 4_294_967_296;
-
-/// The greatest count of items that a catalog may hold.
-pub const MAX_ITEMS: usize = 1024;
 
 /// An item, numbered from 0 in order of declaration.
 #[derive(Clone, Copy, Debug, PartialEq, Eq, PartialOrd, Ord, Hash)]
@@ -108,6 +96,7 @@ impl Model for Catalog {
 }
 
 impl Catalog {
+    ghost use Rattle.pv_base.specs.Answer.{RefusesFirst};
     ghost use Rattle.pv_base.specs.Catalog.{Item, place_of, refusal, with_item};
 
     /// A catalog without items, of 1 to [`MAX_SITES`] sites, whose journals may each have up to `journal` bytes, from
@@ -143,11 +132,7 @@ impl Catalog {
         ensures added { let item : Item = record { name = name.now; site = site.0; value = value } in
             OnOk result (self.new ≡ with_item self.old item) }
 
-        // It is refused exactly where it has to be, and with the first cause. Besides, only memory can fail.
-        ensures refused { IfSome (refusal self.old name.now site.0) (λ e. result ≡ Err e) }
-        ensures cause { IfErr result (λ e. e ≢ CatalogError.NoMemory → refusal self.old name.now site.0 ≡ Some e) }
-        ensures accepted { OnOk result (refusal self.old name.now site.0 ≡ None) }
-        ensures memory { result ≡ Err CatalogError.NoMemory → refusal self.old name.now site.0 ≡ None }
+        ensures refused { RefusesFirst (refusal self.old name.now site.0) CatalogError.NoMemory result }
         ensures unchanged { OnErr result (self.new ≡ self.old) }
     {
         if !is_name(name) {

@@ -3,13 +3,6 @@ use crate::{NoMemory, TxnId};
 use std::error::Error;
 use std::fmt;
 
-/// How many outcomes the values that one transaction reads may name together. Its program is then computed for at most 128
-/// alternatives.
-pub const READ_NAMES: u32 = 7;
-
-/// How many outcomes one polyvalue may name. It has then at most 256 cases.
-pub const HELD_NAMES: u32 = 8;
-
 /// Why a list of cases isn't a polyvalue. The first cause that holds is told, in the order in which they stand here; want of
 /// memory may come in place of any.
 #[derive(Debug, Drop)]

@@ -7,6 +7,8 @@ mod entries;
 mod exact;
 mod failure;
 mod faults;
+mod grant;
+mod limits;
 mod literal;
 mod mode;
 mod naming;
@@ -14,10 +16,15 @@ mod txn;
 mod want;
 
 pub use case::{Case, meets};
-pub use catalog::{Catalog, CatalogError, ItemId, MAX_ITEMS, MAX_JOURNAL, MAX_SITES, MIN_JOURNAL};
+pub use catalog::{Catalog, CatalogError, ItemId};
 pub use exact::Exact;
 pub use failure::{Failed, NoMemory};
-pub use faults::{CaseError, HELD_NAMES, NameError, READ_NAMES};
+pub use faults::{CaseError, NameError};
+pub use grant::GrantId;
+pub use limits::{
+    HELD_NAMES, MAX_CALL, MAX_DEPTH, MAX_INPUT, MAX_ITEMS, MAX_JOURNAL, MAX_LINE, MAX_NAME,
+    MAX_PROGRAM_ITEMS, MAX_PUMP, MAX_SENT, MAX_SITES, MIN_JOURNAL, NEVER_GIVEN, READ_NAMES, TICKS,
+};
 pub use literal::Literal;
 pub use mode::Mode;
 pub use naming::is_name;

@@ -4,8 +4,7 @@ ghost use Rattle.std.specs.List.{list_all, list_any};
 ghost use Rattle.std.specs.Str.{bytes_eq};
 ghost use Rattle.pv_base.specs.Name.{continues_name, is_keyword, is_name, is_spelled_as_name};
 
-// The most that a name has, in bytes.
-const MAX_NAME: usize = 16;
+use crate::MAX_NAME;
 
 // The words of the program language, none of which names an item.
 const KEYWORDS: [&[u8]; 10] = [

@@ -8,12 +8,12 @@ use Rattle.std.proofs.lemmas.List.Elements.{All-contains, All-nil, All-push, All
 use Rattle.std.proofs.lemmas.List.Kept.{AllPairs-filter}
 use Rattle.std.proofs.lemmas.List.Quantifiers.{all_pairs_push, Any-push}
 use Rattle.std.proofs.lemmas.Option.{slice_get-get_or}
-use Rattle.pv_base.specs.declared.want.Want.{Want}
+use Rattle.pv_base.specs.Want.{Want}
 use Rattle.pv_base.specs.Catalog.{Item}
 use Rattle.pv_model.specs.Syntax.{Program}
 use Rattle.pv_model.specs.ProgramLaws.{assigns}
 use Rattle.pv_model.specs.Check.{Part, names, IsWant, IsPart, IsPlan}
-use Rattle.pv_model.proofs.ItemLemmas.{Contains-filter}
+use Rattle.pv_base.proofs.ContainsLemmas.{Contains-filter}
 use Rattle.pv_check.specs.Wants.{AreWants, is_home, is_at, wants_at, with_part, parts_among}
 
 is_home-true : (home : Option ℕ) (site : ℕ) → is_home home site ≡ true → home ≡ Some site
@@ -35,9 +35,9 @@ Any-kept P xs y (k, x, l, at, p) =
 wants-each : (program : Program) (items : List Item) (wants : List Want) (site : ℕ) → AreWants program wants
     → All (IsWant program items site) (wants_at items site wants)
 wants-each program items wants site are = λ k d within. record {
-  named = All-filter (is_at items site) (λ (want : Want). IsTrue (names program want.item.0)) wants are.named k d within;
+  named = All-filter (is_at items site) (λ (want : Want). IsTrue (names program want.item)) wants are.named k d within;
   home = is_home-true _ site (filter_passes (is_at items site) wants k d within);
-  exclusive = All-filter (is_at items site) (λ (want : Want). want.exclusive ≡ assigns program want.item.0) wants are.exclusive k d within;
+  exclusive = All-filter (is_at items site) (λ (want : Want). want.exclusive ≡ assigns program want.item) wants are.exclusive k d within;
 }
 
 -- The parts.
@@ -88,7 +88,7 @@ parts-each program items wants (suc n) are =
     (parts-each program items wants n are)
     (λ h. record {
       some = h;
-      ascending = AllPairs-filter (λ (want later : Want). want.item.0 < later.item.0) (is_at items n) wants are.ascending;
+      ascending = AllPairs-filter (λ (want later : Want). want.item < later.item) (is_at items n) wants are.ascending;
       each = wants-each program items wants n are;
     })
 
@@ -111,16 +111,16 @@ parts-whole items wants want site (suc n) here h at =
 
 -- The parts of all sites are a plan, where each want is of one of the items, and each item is at one of the sites.
 pub parts_among-plan : (program : Program) (items : List Item) (wants : List Want) (sites : ℕ)
-    → All (λ (want : Want). want.item.0 < length items) wants
+    → All (λ (want : Want). want.item < length items) wants
     → All (λ (item : Item). item.site < sites) items
     → AreWants program wants → IsPlan program items (parts_among items wants sites)
 parts_among-plan program items wants sites known homes are = record {
   ascending = parts-ascending items wants sites;
   each = parts-each program items wants sites are;
   whole = λ n named.
-      let want : Want = record { item = record { 0 = n }; exclusive = assigns program n } in
+      let want : Want = record { item = n; exclusive = assigns program n } in
       let found : Contains wants want = are.whole n named in
-      let within : n < length items = All-contains (λ (want : Want). want.item.0 < length items) wants want known found in
+      let within : n < length items = All-contains (λ (want : Want). want.item < length items) wants want known found in
       let site_of = map (λ (declared : Item). declared.site) items in
       let place : n < length site_of = omega (arith, within, length-map items (λ (declared : Item). declared.site)) in
       let bound : get_or site_of n 0 < sites = All-map (λ (site : ℕ). site < sites) (λ (declared : Item). declared.site) items homes n 0 place in

@@ -6,11 +6,12 @@ use Rattle.std.proofs.lemmas.Bool.{false≢true, false_from_ne_true, cases_lt}
 use Rattle.std.proofs.lemmas.List.{length-map, get_or-map, get_or_past}
 use Rattle.std.proofs.lemmas.List.Elements.{All-nil, All-push, All-map, Contains-append_left, Contains-push}
 use Rattle.std.proofs.lemmas.List.Quantifiers.{all_pairs_push}
-use Rattle.pv_base.specs.declared.want.Want.{Want}
+use Rattle.pv_base.specs.Want.{Want}
 use Rattle.pv_model.specs.Syntax.{Program}
 use Rattle.pv_model.specs.ProgramLaws.{assigns}
 use Rattle.pv_model.specs.Check.{names, AreItems}
-use Rattle.pv_model.proofs.ItemLemmas.{one_items}
+use Rattle.pv_base.proofs.MapLemmas.{Contains-map}
+use Rattle.pv_law_programs.proofs.ItemLemmas.{one_items}
 use Rattle.pv_check.specs.declared.marks.Mark.{Mark}
 use Rattle.pv_check.specs.declared.marks.Mark.TheVariants.{Unnamed}
 use Rattle.pv_check.specs.Marks.{is_named, mark_at, AreMarks}
@@ -38,37 +39,37 @@ Contains-last false xs x h = absurd (false≢true h)
 
 -- The wants of the first items.
 
-wants-below : (marks : List Mark) (n : ℕ) → All (λ (want : Want). want.item.0 < n) (wants_among marks n)
+wants-below : (marks : List Mark) (n : ℕ) → All (λ (want : Want). want.item < n) (wants_among marks n)
 unfolding wants_among
 wants-below marks zero = All-nil _
 wants-below marks (suc n) =
-    All-tested (λ (want : Want). want.item.0 < suc n) (is_named (mark_at marks n)) (wants_among marks n) (want_of marks n)
+    All-tested (λ (want : Want). want.item < suc n) (is_named (mark_at marks n)) (wants_among marks n) (want_of marks n)
     (λ k d l. omega (arith, wants-below marks n k d l))
     (λ h. omega arith)
 
-wants-ascending : (marks : List Mark) (n : ℕ) → AllPairs (λ (want later : Want). want.item.0 < later.item.0) (wants_among marks n)
+wants-ascending : (marks : List Mark) (n : ℕ) → AllPairs (λ (want later : Want). want.item < later.item) (wants_among marks n)
 unfolding wants_among
 wants-ascending marks zero = λ i j d l within. absurd (omega (arith, within))
 wants-ascending marks (suc n) =
-    pairs-tested (λ (want later : Want). want.item.0 < later.item.0) (is_named (mark_at marks n)) (wants_among marks n) (want_of marks n)
+    pairs-tested (λ (want later : Want). want.item < later.item) (is_named (mark_at marks n)) (wants_among marks n) (want_of marks n)
     (wants-ascending marks n)
     (wants-below marks n)
 
 wants-named : (program : Program) (marks : List Mark) (n : ℕ) → AreMarks program marks
-    → All (λ (want : Want). IsTrue (names program want.item.0)) (wants_among marks n)
+    → All (λ (want : Want). IsTrue (names program want.item)) (wants_among marks n)
 unfolding wants_among
 wants-named program marks zero are = All-nil _
 wants-named program marks (suc n) are =
-    All-tested (λ (want : Want). IsTrue (names program want.item.0)) (is_named (mark_at marks n)) (wants_among marks n) (want_of marks n)
+    All-tested (λ (want : Want). IsTrue (names program want.item)) (is_named (mark_at marks n)) (wants_among marks n) (want_of marks n)
     (wants-named program marks n are)
     (λ h. sym (are.named n) ∙ h)
 
 wants-exclusive : (program : Program) (marks : List Mark) (n : ℕ) → AreMarks program marks
-    → All (λ (want : Want). want.exclusive ≡ assigns program want.item.0) (wants_among marks n)
+    → All (λ (want : Want). want.exclusive ≡ assigns program want.item) (wants_among marks n)
 unfolding wants_among
 wants-exclusive program marks zero are = All-nil _
 wants-exclusive program marks (suc n) are =
-    All-tested (λ (want : Want). want.exclusive ≡ assigns program want.item.0) (is_named (mark_at marks n)) (wants_among marks n) (want_of marks n)
+    All-tested (λ (want : Want). want.exclusive ≡ assigns program want.item) (is_named (mark_at marks n)) (wants_among marks n) (want_of marks n)
     (wants-exclusive program marks n are)
     (λ h. are.exclusive n (sym (are.named n) ∙ h))
 
@@ -104,7 +105,7 @@ AreWants-among program marks count all are = record {
   named = wants-named program marks count are;
   exclusive = wants-exclusive program marks count are;
   whole = λ n named.
-      subst (λ (b : Bool). Contains (wants_among marks count) (record { item = record { 0 = n }; exclusive = b }))
+      subst (λ (b : Bool). Contains (wants_among marks count) (record { item = n; exclusive = b }))
       (are.exclusive n named)
       (wants-whole marks n count (omega (arith, all, named-within program marks n are named)) (are.named n ∙ named));
 }
@@ -119,15 +120,12 @@ pairs-map R f (x ∷ xs) h = λ i j d before within.
     subst (λ z. R (get_or (map f (x ∷ xs)) i d) z) (sym (get_or-map f (x ∷ xs) j x d inside))
     (subst (λ y. R y (f (get_or (x ∷ xs) j x))) (sym (get_or-map f (x ∷ xs) i x d first)) (h i j x before inside))
 
-Contains-map : {X Y : Type 0} (f : X → Y) (xs : List X) (x : X) → Contains xs x → Contains (map f xs) (f x)
-Contains-map f xs x (k, l, at) = (k, omega (arith, l, length-map xs f), get_or-map f xs k x (f x) l ∙ ap f at)
-
-AreItems-wants : (program : Program) (wants : List Want) → AreWants program wants → AreItems program (map (λ (want : Want). want.item.0) wants)
+AreItems-wants : (program : Program) (wants : List Want) → AreWants program wants → AreItems program (map (λ (want : Want). want.item) wants)
 AreItems-wants program wants are = record {
-  ascending = pairs-map (λ (n later : ℕ). n < later) (λ (want : Want). want.item.0) wants are.ascending;
-  each = All-map (λ (n : ℕ). IsTrue (names program n)) (λ (want : Want). want.item.0) wants are.named;
+  ascending = pairs-map (λ (n later : ℕ). n < later) (λ (want : Want). want.item) wants are.ascending;
+  each = All-map (λ (n : ℕ). IsTrue (names program n)) (λ (want : Want). want.item) wants are.named;
   whole = λ n named.
-      Contains-map (λ (want : Want). want.item.0) wants (record { item = record { 0 = n }; exclusive = assigns program n })
+      Contains-map (λ (want : Want). want.item) wants (record { item = n; exclusive = assigns program n })
       (are.whole n named);
 }
 
@@ -136,9 +134,9 @@ pub length-wants : (program : Program) (marks : List Mark) (count : ℕ) (items 
     → AreItems program items → length (wants_among marks count) ≡ length items
 length-wants program marks count items all are them =
     let wants = wants_among marks count in
-    sym (length-map wants (λ (want : Want). want.item.0))
+    sym (length-map wants (λ (want : Want). want.item))
     ∙ ap (λ (numbers : List ℕ). length numbers)
-    (one_items program (map (λ (want : Want). want.item.0) wants) items
+    (one_items program (map (λ (want : Want). want.item) wants) items
     (AreItems-wants program wants (AreWants-among program marks count all are)) them)
 
 some-none : (wants : List Want) (want : Want) → Contains wants want → length wants ≡ 0 → ⊥
@@ -147,7 +145,7 @@ some-none wants want (k, l, at) none = absurd (omega (arith, l, none))
 wants-none : (program : Program) (wants : List Want) → AreWants program wants → ((n : ℕ) → names program n ≡ false) → length wants ≡ 0
 wants-none program [] are none = refl
 wants-none program (want ∷ wants) are none =
-    absurd (false≢true (sym (none want.item.0) ∙ are.named 0 want (omega arith)))
+    absurd (false≢true (sym (none want.item) ∙ are.named 0 want (omega arith)))
 
 -- The wants are none exactly where the program names no item.
 pub no-wants : (program : Program) (marks : List Mark) (count : ℕ) → length marks ≤ count → AreMarks program marks

@@ -21,7 +21,7 @@ abbrev pub first_cause : Option CheckError → Option CheckError → Option Chec
 first_cause (Some cause) other = Some cause
 first_cause None other = other
 
--- Why a program is refused that names this many items, the first cause that there is. Want of memory comes after these.
+-- Why a program is refused that names this many items, the first cause that there is. Out of memory comes after these.
 abbrev pub refusal : ℕ → ℕ → Program → Bool → Option CheckError
 refusal limit count program query =
     first_cause (refusal_of_count limit count) (if query then refusal_of_query program else None)

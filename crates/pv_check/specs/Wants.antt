@@ -1,7 +1,7 @@
 -- What a program wants of the items that it names, and how these wants lie at the sites.
 use Rattle.std.specs.Prelude.{◌≡◌, ℕ, zero, suc, ◌<◌, Bool, false, ◌==◌, List, [], ◌∷◌, ◌++◌, map, slice_get, Option, Some, None, All, IsTrue, if◌then◌else◌}
 use Rattle.std.specs.List.{AllPairs, Contains, filter}
-use Rattle.pv_base.specs.declared.want.Want.{Want}
+use Rattle.pv_base.specs.Want.{Want}
 use Rattle.pv_base.specs.Catalog.{Item}
 use Rattle.pv_model.specs.Syntax.{Program}
 use Rattle.pv_model.specs.ProgramLaws.{assigns}
@@ -11,14 +11,14 @@ use Rattle.pv_check.specs.Marks.{is_named, is_exclusive, mark_at}
 
 -- The wants are those of the program, in the order of the items, each item once.
 pub record AreWants (program : Program) (wants : List Want) : Type 0 where
-  pub ascending : AllPairs (λ want later. want.item.0 < later.item.0) wants
-  pub named : All (λ want. IsTrue (names program want.item.0)) wants
-  pub exclusive : All (λ want. want.exclusive ≡ assigns program want.item.0) wants
-  pub whole : (n : ℕ) → IsTrue (names program n) → Contains wants (record { item = record { 0 = n }; exclusive = assigns program n })
+  pub ascending : AllPairs (λ want later. want.item < later.item) wants
+  pub named : All (λ want. IsTrue (names program want.item)) wants
+  pub exclusive : All (λ want. want.exclusive ≡ assigns program want.item) wants
+  pub whole : (n : ℕ) → IsTrue (names program n) → Contains wants (record { item = n; exclusive = assigns program n })
 
 -- the want that the item's mark stands for
 abbrev pub want_of : List Mark → ℕ → Want
-want_of marks n = record { item = record { 0 = n }; exclusive = is_exclusive (mark_at marks n) }
+want_of marks n = record { item = n; exclusive = is_exclusive (mark_at marks n) }
 
 -- the wants of the first items, so many
 unfoldable pub wants_among : List Mark → ℕ → List Want
@@ -33,7 +33,7 @@ is_home (Some home) site = home == site
 
 -- The want is of an item of the site.
 abbrev pub is_at : List Item → ℕ → Want → Bool
-is_at items site want = is_home (slice_get (map (λ declared. declared.site) items) want.item.0) site
+is_at items site want = is_home (slice_get (map (λ declared. declared.site) items) want.item) site
 
 -- the wants of items of the site
 abbrev pub wants_at : List Item → ℕ → List Want → List Want

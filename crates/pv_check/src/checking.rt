@@ -1,5 +1,6 @@
 // Whether a program may run, and what it then wants of each site.
 ghost use Rattle.std.specs.Prelude.{◌≡◌, ◌≢◌, ◌<◌, ◌↔◌, ℕ, List, false, Err, Some, None, length, All, IsTrue, OnOk, IfOk, IfErr, IfSome};
+ghost use Rattle.pv_base.specs.Answer.{RefusesFirst};
 ghost use Rattle.pv_model.specs.Syntax as model;
 ghost use Rattle.pv_model.specs.Check.{names, AreItems, IsPlan};
 ghost use Rattle.pv_check.specs.Refusal.{refusal};
@@ -9,11 +10,8 @@ use crate::marks::{ROOM, count_named, marks_of, wants_of};
 use crate::scan::{has_assignment, has_return};
 use crate::{CheckError, Part, Plan};
 use pv_ast::Program;
-use pv_base::{Catalog, NoMemory, SiteId, Want};
+use pv_base::{Catalog, MAX_PROGRAM_ITEMS, NoMemory, SiteId, Want};
 use std::alloc::Global;
-
-/// The greatest count of items that a program may name.
-pub const MAX_ITEMS: u32 = 16;
 
 /// What the program, each item of which is in the catalog, wants of each site: each item that it names, once, at the
 /// item's site, exclusive where it assigns it.
@@ -21,7 +19,7 @@ pub const MAX_ITEMS: u32 = 16;
 /// It is refused with the first of these that holds:
 ///
 /// 1. `NoItem`: the program names no item.
-/// 2. `TooManyItems`: the program names more than [`MAX_ITEMS`] items. The error says how many.
+/// 2. `TooManyItems`: the program names more than [`MAX_PROGRAM_ITEMS`] items. The error says how many.
 /// 3. `Assigns`: it is a query, and an assignment stands in the program.
 /// 4. `NoReturn`: it is a query, and no `return` stands in the program.
 /// 5. `NoMemory`: there was no memory for the plan.
@@ -29,7 +27,7 @@ pub const MAX_ITEMS: u32 = 16;
 /// The program is read once, and for a query up to twice more, until an assignment or a `return` is found. That recurses as
 /// deep as the program's tree: a chain of n operators has n levels. Besides, the
 /// cost is bounded by a constant, whatever the catalog holds: a table of a mark for each item that any catalog may hold is
-/// cleared and read twice, and the wants, at most [`MAX_ITEMS`], are read once for each site.
+/// cleared and read twice, and the wants, at most [`MAX_PROGRAM_ITEMS`], are read once for each site.
 pub fn check(
     alloc: Global,
     program: &Program,
@@ -39,15 +37,9 @@ pub fn check(
     requires { (n : ℕ) → IsTrue (names program.now n) → n < length catalog.now.items }
     ensures plan { IfOk result (λ plan. IsPlan program.now catalog.now.items plan.parts.items) }
 
-    // It is refused exactly where it has to be, and with the first cause. Besides, only memory can fail.
+    // Any list of the items that the program names is the same; that there is one is a law.
     ensures refused { (items : List ℕ) → AreItems program.now items →
-        IfSome (refusal MAX_ITEMS (length items) program.now query) (λ e. result ≡ Err e) }
-    ensures cause { (items : List ℕ) → AreItems program.now items →
-        IfErr result (λ e. e ≢ CheckError.NoMemory → refusal MAX_ITEMS (length items) program.now query ≡ Some e) }
-    ensures accepted { (items : List ℕ) → AreItems program.now items →
-        OnOk result (refusal MAX_ITEMS (length items) program.now query ≡ None) }
-    ensures memory { (items : List ℕ) → AreItems program.now items →
-        result ≡ Err CheckError.NoMemory → refusal MAX_ITEMS (length items) program.now query ≡ None }
+        RefusesFirst (refusal MAX_PROGRAM_ITEMS (length items) program.now query) CheckError.NoMemory result }
     ensures no_item { result ≡ Err CheckError.NoItem ↔ ((n : ℕ) → names program.now n ≡ false) }
 {
     // The table of marks has room for each item of the catalog.
@@ -63,13 +55,13 @@ pub fn check(
 
 // Why a program is refused that names this many items.
 fn refusal(program: &Program, count: u32, query: bool) -> Option<CheckError>
-    ensures cause { result ≡ refusal MAX_ITEMS count program.now query }
+    ensures cause { result ≡ refusal MAX_PROGRAM_ITEMS count program.now query }
     ensures no_item { result ≡ Some CheckError.NoItem ↔ (count ≡ 0) }
 {
     if count == 0 {
         return Some(CheckError::NoItem);
     }
-    if count > MAX_ITEMS {
+    if count > MAX_PROGRAM_ITEMS {
         return Some(CheckError::TooManyItems(count));
     }
     if !query {
@@ -86,7 +78,7 @@ fn refusal(program: &Program, count: u32, query: bool) -> Option<CheckError>
 
 // The wants, part by part.
 fn parts_of(alloc: Global, catalog: &Catalog, wants: &[Want]) -> Result<Vec<Part>, NoMemory>
-    requires { All (λ want. want.item.0 < length catalog.now.items) wants.now }
+    requires { All (λ want. want.item < length catalog.now.items) wants.now }
     ensures { IfOk result (λ parts. (program : model.Program) → AreWants program wants.now → IsPlan program catalog.now.items parts.items) }
 {
     let mut parts = Vec::new(alloc);
@@ -107,7 +99,7 @@ fn wants_at(
     site: SiteId,
     wants: &[Want],
 ) -> Result<Vec<Want>, NoMemory>
-    requires { All (λ want. want.item.0 < length catalog.now.items) wants.now }
+    requires { All (λ want. want.item < length catalog.now.items) wants.now }
     ensures { IfOk result (λ found. found.items ≡ wants_at catalog.now.items site.0 wants.now) }
 {
     let mut found = Vec::new(alloc);

@@ -6,7 +6,7 @@ mod marks;
 mod plan;
 mod scan;
 
-pub use checking::{MAX_ITEMS, check};
+pub use checking::check;
 pub use plan::{CheckError, Part, Plan};
 
 #[cfg(test)]

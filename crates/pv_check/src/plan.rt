@@ -36,12 +36,12 @@ pub struct Plan {
     pub parts: Vec<Part>,
 }
 
-/// Why a program may not run, or has no plan. The first cause that holds is told, in the order in which they stand here.
+/// Why a program may not run, or has no plan. The first cause that holds is reported, in the order in which they stand here.
 #[derive(Clone, Copy, Debug, PartialEq, Eq, Hash)]
 pub enum CheckError {
     /// The program names no item: its plan would be empty.
     NoItem,
-    /// The program names this many items, more than [`MAX_ITEMS`](crate::MAX_ITEMS).
+    /// The program names this many items, more than [`MAX_PROGRAM_ITEMS`].
     TooManyItems(u32),
     /// The program is a query, and an assignment stands in it, whether or not it would run.
     Assigns,

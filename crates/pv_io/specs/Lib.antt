@@ -1,3 +1,5 @@
 pub mod Memory
 pub mod ReadEnd
+pub mod SinkEffects
+pub mod SourceEffects
 pub mod Stream

@@ -4,15 +4,19 @@
 mod fail_plan;
 mod memory;
 mod read_end;
+mod reading;
 mod sink;
 mod source;
 mod stream;
+mod writing;
 
 pub use memory::{MemSink, MemSource};
 pub use read_end::ReadEnd;
-pub use sink::{Sink, write_all};
-pub use source::{Source, read_all};
+pub use reading::read_all;
+pub use sink::Sink;
+pub use source::Source;
 pub use stream::{StdSink, StdSource};
+pub use writing::write_all;
 
 #[cfg(test)]
 mod tests;

@@ -1,8 +1,8 @@
-// Where output goes, and how all of it is written.
+// Where output goes.
 ghost use Rattle.std.specs.Prelude.{◌≡◌, ℕ, ◌<◌, ◌≤◌, List, Option, Result, length, IfOk, OnOk, OnErr};
 ghost use Rattle.std.specs.Io.KnownBytes.{Appends, WriteAppends};
 ghost use Rattle.pv_base.specs.Fault.{HasCause};
-ghost use Rattle.pv_io.specs.Stream.{TellsAlike, AppendsPrefix};
+ghost use Rattle.pv_io.specs.Stream.{TellsAlike};
 
 use pv_base::Failed;
 
@@ -22,19 +22,4 @@ pub trait Sink {
         ensures bytes { WriteAppends (held self.old) (held self.new) result bytes.now }
         ensures told { TellsAlike (held self.old) (held self.new) }
         ensures cause { HasCause (faults self.old) (faults self.new) result };
-}
-
-/// Writes all the bytes. After a failure the sink holds what it held and a beginning of `bytes`.
-pub fn write_all<W: Sink>(sink: &mut W, bytes: &[u8]) -> Result<(), Failed>
-    ensures written { OnOk result (Appends (W.held sink.old) (W.held sink.new) bytes.now) }
-    ensures prefix { OnErr result (AppendsPrefix (W.held sink.old) (W.held sink.new) bytes.now) }
-    ensures told { TellsAlike (W.held sink.old) (W.held sink.new) }
-    ensures cause { HasCause (W.faults sink.old) (W.faults sink.new) result }
-{
-    let mut written = 0;
-    while written < bytes.len() {
-        let (_, rest) = bytes.split_at(written);
-        written += sink.write(rest)?;
-    }
-    Ok(())
 }

@@ -1,7 +1,7 @@
 -- What a program is checked for before it runs, and the plan of what it wants of each site.
 use Rattle.std.specs.Prelude.{◌≡◌, ℕ, ◌<◌, Bool, true, false, ◌||◌, ◌==◌, List, map, length, slice_get, Some, All, IsTrue}
 use Rattle.std.specs.List.{AllPairs, Any, Contains}
-use Rattle.pv_base.specs.declared.want.Want.{Want}
+use Rattle.pv_base.specs.Want.{Want}
 use Rattle.pv_base.specs.Catalog.{Item}
 use Rattle.pv_model.specs.Syntax.{Expr, number, item, minus, negation, two, Program, end, assign, require, return, when, when_else}
 use Rattle.pv_model.specs.ProgramLaws.{assigns}
@@ -58,18 +58,18 @@ IsAt items n site = slice_get (map (λ declared. declared.site) items) n ≡ Som
 
 -- The want is of an item of the site that the program names, and exclusive exactly where some assignment names it.
 pub record IsWant (program : Program) (items : List Item) (site : ℕ) (want : Want) : Type 0 where
-  pub named : IsTrue (names program want.item.0)
-  pub home : IsAt items want.item.0 site
-  pub exclusive : want.exclusive ≡ assigns program want.item.0
+  pub named : IsTrue (names program want.item)
+  pub home : IsAt items want.item site
+  pub exclusive : want.exclusive ≡ assigns program want.item
 
 -- The part has wants of its site, in the order of the items, each item once.
 pub record IsPart (program : Program) (items : List Item) (part : Part) : Type 0 where
   pub some : 0 < length part.wants
-  pub ascending : AllPairs (λ want later. want.item.0 < later.item.0) part.wants
+  pub ascending : AllPairs (λ want later. want.item < later.item) part.wants
   pub each : All (IsWant program items part.site) part.wants
 
 -- The parts are in the order of the sites, each site once, and they have a want of each item that the program names.
 pub record IsPlan (program : Program) (items : List Item) (parts : List Part) : Type 0 where
   pub ascending : AllPairs (λ part later. part.site < later.site) parts
   pub each : All (IsPart program items) parts
-  pub whole : (n : ℕ) → IsTrue (names program n) → Any (λ part. Contains part.wants (record { item = record { 0 = n }; exclusive = assigns program n })) parts
+  pub whole : (n : ℕ) → IsTrue (names program n) → Any (λ part. Contains part.wants (record { item = n; exclusive = assigns program n })) parts

@@ -1,15 +1,13 @@
 pub mod Alternatives
-pub mod Answers
+pub mod PossibleAnswers
 pub mod Causes
 pub mod Check
 pub mod Events
 pub mod FirstFault
-pub mod Form
 pub mod Grammar
 pub mod Items
 pub mod LineForms
 pub mod Meaning
-pub mod Prediction
 pub mod Print
 pub mod ProgramLaws
 pub mod ProgramText

@@ -1,12 +1,13 @@
--- The lines of schedules: which words they have, and what stands behind the first.
+-- The lines of schedules: which words they have, and what stands after the first.
 use Rattle.std.specs.Prelude.{ℕ, ◌^◌, ◌-◌, Bool, true, false, ◌&&◌, ◌||◌, ◌==◌, nat_le, nat_lt, Option, Some, None, List, [], ◌∷◌, length, map, filter, find, if◌then◌else◌, codes}
+use Rattle.pv_base.specs.declared.limits.TheConstants.{MAX_SITES, MIN_JOURNAL, MAX_JOURNAL, MAX_PUMP, MAX_CALL}
 use Rattle.std.specs.List.{list_all}
 use Rattle.std.specs.Str.{bytes_eq}
 use Rattle.pv_base.specs.Name.{is_digit}
-use Rattle.pv_model.specs.Text.{Line, is_blank, value_of, digits_of, signed_value_of, words}
+use Rattle.pv_model.specs.Text.{TextLine, is_blank, number_of_digits, digits_of, number_of_signed, words}
 use Rattle.pv_model.specs.Meaning.{fits_i64}
 
--- what may stand behind the first word of a line
+-- what may stand after the first word of a line
 pub data Field : Type 0 where
   number : (least most : ℕ) → Field
   site : Field
@@ -15,17 +16,17 @@ pub data Field : Type 0 where
   name : Field
   program : Field
 
--- The first words, each with what stands behind it. `pump` has two forms.
+-- The first words, each with what stands after it. `pump` has two forms.
 unfoldable pub line_forms : List (List ℕ × List Field)
 line_forms =
-    (codes "sites", number 1 16 ∷ []) ∷ (codes "journal", number 32 (2 ^ 32) ∷ [])
+    (codes "sites", number 1 MAX_SITES ∷ []) ∷ (codes "journal", number MIN_JOURNAL MAX_JOURNAL ∷ [])
     ∷ (codes "item", name ∷ site ∷ value ∷ [])
     ∷ (codes "submit", site ∷ program ∷ []) ∷ (codes "query", site ∷ program ∷ [])
     ∷ (codes "deliver", number 0 (2 ^ 64 - 1) ∷ []) ∷ (codes "lose", number 0 (2 ^ 64 - 1) ∷ [])
-    ∷ (codes "pump", []) ∷ (codes "pump", number 1 1000000 ∷ [])
+    ∷ (codes "pump", []) ∷ (codes "pump", number 1 MAX_PUMP ∷ [])
     ∷ (codes "drop", site ∷ []) ∷ (codes "tick", site ∷ []) ∷ (codes "stop", site ∷ []) ∷ (codes "start", site ∷ [])
     ∷ (codes "mend", site ∷ [])
-    ∷ (codes "cut", site ∷ number 1 1000 ∷ mode ∷ []) ∷ (codes "fail", site ∷ number 1 1000 ∷ mode ∷ [])
+    ∷ (codes "cut", site ∷ number 1 MAX_CALL ∷ mode ∷ []) ∷ (codes "fail", site ∷ number 1 MAX_CALL ∷ mode ∷ [])
     ∷ (codes "sent", []) ∷ (codes "report", []) ∷ (codes "total", []) ∷ []
 
 -- the first word of a line that counts
@@ -33,37 +34,37 @@ abbrev pub first_of : List (List ℕ) → List ℕ
 first_of [] = []
 first_of (word ∷ more) = word
 
-abbrev pub first_word : Line → List ℕ
+abbrev pub first_word : TextLine → List ℕ
 first_word line = first_of (words line)
 
 -- the forms of lines with this first word
 abbrev pub forms_of : List ℕ → List (List Field)
 forms_of word = map (λ form. form.1) (filter (λ form. bytes_eq word form.0) line_forms)
 
--- Whether a program stands behind the site of lines with this first word.
+-- Whether a program stands after the site of lines with this first word.
 unfoldable pub takes_program : List ℕ → Bool
 takes_program word = bytes_eq word (codes "submit") || bytes_eq word (codes "query")
 
--- what is behind the blanks at the front
-abbrev pub behind_blanks : List ℕ → List ℕ
-behind_blanks [] = []
-behind_blanks (b ∷ bs) = if is_blank b then behind_blanks bs else b ∷ bs
+-- what is after the blanks at the front
+abbrev pub after_blanks : List ℕ → List ℕ
+after_blanks [] = []
+after_blanks (b ∷ bs) = if is_blank b then after_blanks bs else b ∷ bs
 
--- what is behind the first word, from the blank on
-abbrev pub behind_word : List ℕ → List ℕ
-behind_word [] = []
-behind_word (b ∷ bs) = if is_blank b then b ∷ bs else behind_word bs
+-- what is after the first word, from the blank on
+abbrev pub after_word : List ℕ → List ℕ
+after_word [] = []
+after_word (b ∷ bs) = if is_blank b then b ∷ bs else after_word bs
 
 -- what is before the blanks at the end
 abbrev pub before_blanks : List ℕ → List ℕ
 before_blanks [] = []
 before_blanks (b ∷ bs) = if list_all is_blank (b ∷ bs) then [] else b ∷ before_blanks bs
 
--- The text of a program begins at its first byte behind the first two words and the blanks, and ends before the blanks at the line's end.
-unfoldable pub program_text : Line → List ℕ
-program_text line = before_blanks (behind_blanks (behind_word (behind_blanks (behind_word (behind_blanks line)))))
+-- The text of a program begins at its first byte after the first two words and the blanks, and ends before the blanks at the line's end.
+unfoldable pub program_text : TextLine → List ℕ
+program_text line = before_blanks (after_blanks (after_word (after_blanks (after_word (after_blanks line)))))
 
--- words behind the first, where all behind the second of them is one text
+-- words after the first, where all after the second of them is one text
 abbrev pub site_and_text : List ℕ → List (List ℕ) → List (List ℕ)
 site_and_text text (at ∷ word ∷ more) = at ∷ text ∷ []
 site_and_text text words = words
@@ -72,12 +73,12 @@ abbrev pub rest_of : List (List ℕ) → List (List ℕ)
 rest_of [] = []
 rest_of (word ∷ more) = more
 
--- What stands behind the first word. A program counts as one word.
-unfoldable pub arguments : Line → List (List ℕ)
+-- What stands after the first word. A program counts as one word.
+unfoldable pub arguments : TextLine → List (List ℕ)
 arguments line = if takes_program (first_word line) then site_and_text (program_text line) (rest_of (words line)) else rest_of (words line)
 
 -- the form that the line has, by the number of its words
-unfoldable pub form_of : Line → Option (List Field)
+unfoldable pub form_of : TextLine → Option (List Field)
 form_of line = find (λ form. length form == length (arguments line)) (forms_of (first_word line))
 
 -- fields beside the words in their places
@@ -91,7 +92,7 @@ fields_in None words = []
 fields_in (Some fields) words = beside fields words
 
 -- each field of the line's form, with what stands there
-abbrev pub fields_of : Line → List (Field × List ℕ)
+abbrev pub fields_of : TextLine → List (Field × List ℕ)
 fields_of line = fields_in (form_of line) (arguments line)
 
 -- one or more digits
@@ -101,7 +102,7 @@ are_digits (b ∷ bs) = list_all is_digit (b ∷ bs)
 
 -- Whether what stands in a field of a number is one in its range, where there are so many sites. Other fields have no number.
 abbrev pub has_good_number : ℕ → Field × List ℕ → Bool
-has_good_number sites (number least most, word) = are_digits word && (nat_le least (value_of word) && nat_le (value_of word) most)
-has_good_number sites (site, word) = are_digits word && nat_lt (value_of word) sites
-has_good_number sites (value, word) = are_digits (digits_of word) && fits_i64 (signed_value_of word)
+has_good_number sites (number least most, word) = are_digits word && (nat_le least (number_of_digits word) && nat_le (number_of_digits word) most)
+has_good_number sites (site, word) = are_digits word && nat_lt (number_of_digits word) sites
+has_good_number sites (value, word) = are_digits (digits_of word) && fits_i64 (number_of_signed word)
 has_good_number sites (_, word) = true

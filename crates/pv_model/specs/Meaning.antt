@@ -89,7 +89,7 @@ abbrev pub with_value : Result ℤ Decline → (ℤ → Result ℤ Decline) → 
 with_value (Ok v) go = go v
 with_value (Err d) go = Err d
 
--- an operator behind the value of its left side: `or` doesn't look right where it is true, `and` where it is 0
+-- an operator after the value of its left side: `or` doesn't look right where it is true, `and` where it is 0
 abbrev pub with_left : Op → ℤ → Result ℤ Decline → Result ℤ Decline
 with_left or x right = if holds x then Ok (pos 1) else with_value right (computed or x)
 with_left and x right = if holds x then with_value right (computed and x) else Ok (pos 0)
@@ -104,39 +104,39 @@ value_of (negation e) rows = with_value (value_of e rows) (λ v. Ok (truth (not 
 value_of (two op left right) rows = with_value (value_of left rows) (λ v. with_left op v (value_of right rows))
 
 -- how far a program came, and the rows then
-pub data Outcome : Type 0 where
-  ended : List Row → Outcome
-  returned : ℤ → List Row → Outcome
-  refused : Decline → Outcome
+pub data Course : Type 0 where
+  ended : List Row → Course
+  returned : ℤ → List Row → Course
+  refused : Decline → Course
 
 -- goes on with the value of an expression, unless it declines
-abbrev pub then_with : Result ℤ Decline → (ℤ → Outcome) → Outcome
+abbrev pub then_with : Result ℤ Decline → (ℤ → Course) → Course
 then_with (Ok v) go = go v
 then_with (Err d) go = refused d
 
--- goes on behind what has ended
-abbrev pub then_run : Outcome → (List Row → Outcome) → Outcome
+-- goes on after what has ended
+abbrev pub then_run : Course → (List Row → Course) → Course
 then_run (ended rows) go = go rows
 then_run (returned v rows) go = returned v rows
 then_run (refused d) go = refused d
 
 -- Statements run in order, and each sees what was assigned before it.
-abbrev pub run : Program → List Row → Outcome
-run end rows = ended rows
-run (assign n e next) rows = then_with (value_of e rows) (λ v. run next (with_row rows n v))
-run (require e next) rows = then_with (value_of e rows) (λ v. if holds v then run next rows else refused unmet)
-run (return e next) rows = then_with (value_of e rows) (λ v. returned v rows)
-run (when e body next) rows =
-    then_with (value_of e rows) (λ v. then_run (if holds v then run body rows else ended rows) (run next))
-run (when_else e body other next) rows =
-    then_with (value_of e rows) (λ v. then_run (if holds v then run body rows else run other rows) (run next))
+abbrev pub course_of : Program → List Row → Course
+course_of end rows = ended rows
+course_of (assign n e next) rows = then_with (value_of e rows) (λ v. course_of next (with_row rows n v))
+course_of (require e next) rows = then_with (value_of e rows) (λ v. if holds v then course_of next rows else refused unmet)
+course_of (return e next) rows = then_with (value_of e rows) (λ v. returned v rows)
+course_of (when e body next) rows =
+    then_with (value_of e rows) (λ v. then_run (if holds v then course_of body rows else ended rows) (course_of next))
+course_of (when_else e body other next) rows =
+    then_with (value_of e rows) (λ v. then_run (if holds v then course_of body rows else course_of other rows) (course_of next))
 
--- what is left of an outcome; the first decline leaves the rows as they were
-abbrev pub effect_of : List Row → Outcome → Effect
+-- what is left of a course; the first decline leaves the rows as they were
+abbrev pub effect_of : List Row → Course → Effect
 effect_of before (ended rows) = record { rows = rows; reply = nothing }
 effect_of before (returned v rows) = record { rows = rows; reply = value v }
 effect_of before (refused d) = record { rows = before; reply = declined d }
 
 -- The program on rows that have each of its items once.
 unfoldable pub exec : Program → List Row → Effect
-exec program rows = effect_of rows (run program rows)
+exec program rows = effect_of rows (course_of program rows)

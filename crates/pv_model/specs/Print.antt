@@ -24,7 +24,7 @@ reply_text (declined unmet) = codes "declined-require"
 reply_text (declined overflow) = codes "declined-overflow"
 reply_text (declined zero_divisor) = codes "declined-zero-divisor"
 
--- each transaction behind a space
+-- each transaction after a space
 abbrev pub list_text : List TxnId → List ℕ
 list_text txns = flat_map (λ t. codes " " ++ txn_text t) txns
 

@@ -1,5 +1,6 @@
 -- The texts that are programs over the items of a catalog, and why another text is refused.
 use Rattle.std.specs.Prelude.{◌≡◌, ℕ, ◌+◌, ◌<◌, ◌≤◌, nat_le, Option, Some, None, List, [], ◌∷◌, ◌++◌, length, map, ◌⊎◌, IsTrue}
+use Rattle.pv_base.specs.declared.limits.TheConstants.{MAX_DEPTH, MAX_LINE}
 use Rattle.std.specs.List.{list_all}
 use Rattle.pv_base.specs.Catalog.{Declared, place_of}
 use Rattle.pv_model.specs.Syntax.{Program}
@@ -33,39 +34,40 @@ pub record AreProgram (item_of : List ℕ → Option ℕ) (tokens : List Token) 
 abbrev pub AreSomeProgram : List Token → Type 0
 AreSomeProgram tokens = (program : Program) × AreProgram any_item tokens program
 
--- A text has at most 1,000 bytes. Its tokens are the program, its names are items of the catalog, and no token is nested deeper than 32.
+-- A text has at most 1,000 bytes. Its tokens are the program, its names are items of the catalog, and no token is nested deeper than
+-- `MAX_DEPTH`.
 pub record IsProgramText (catalog : Declared) (text : List ℕ) (program : Program) : Type 0 where
-  pub short : length text ≤ 1000
+  pub short : length text ≤ MAX_LINE
   pub tokens : List (ℕ × Token)
   pub has : HasTokens text tokens
   pub are : AreProgram (item_in catalog) (without_numbers tokens) program
-  pub shallow : IsTrue (list_all (λ t. nat_le t.0 32) are.placed)
+  pub shallow : IsTrue (list_all (λ t. nat_le t.0 MAX_DEPTH) are.placed)
 
 -- The first token that can't continue a program begins at this column, or the text ends before it is one.
-abbrev pub IsMalformed : List ℕ → ℕ → Type 0
-IsMalformed text column = (tokens : List (ℕ × Token)) × HasTokens text tokens × IsFirstFault AreSomeProgram tokens (length text + 1) column
+abbrev pub IsMalformedProgram : List ℕ → ℕ → Type 0
+IsMalformedProgram text column = (tokens : List (ℕ × Token)) × HasTokens text tokens × IsFirstFault AreSomeProgram tokens (length text + 1) column
 
 -- At this column stands a name that no item has.
 pub record NamesNoItem (catalog : Declared) (text : List ℕ) (column : ℕ) : Type 0 where
   pub front : List (ℕ × Token)
   pub name : List ℕ
-  pub behind : List (ℕ × Token)
-  pub has : HasTokens text (front ++ (column, Token.name name) ∷ behind)
+  pub later : List (ℕ × Token)
+  pub has : HasTokens text (front ++ (column, Token.name name) ∷ later)
   pub none : place_of name catalog.items ≡ None
 
--- At this column stands a token that is nested deeper than 32 in a program that the tokens up to it begin.
+-- At this column stands a token that is nested deeper than `MAX_DEPTH` in a program that the tokens up to it begin.
 pub record IsTooDeep (text : List ℕ) (column : ℕ) : Type 0 where
   pub front : List (ℕ × Token)
   pub token : Token
-  pub behind : List (ℕ × Token)
-  pub has : HasTokens text (front ++ (column, token) ∷ behind)
+  pub later : List (ℕ × Token)
+  pub has : HasTokens text (front ++ (column, token) ∷ later)
   pub program : Program
   pub before : List Placed
   pub nesting : ℕ
   pub after : List Placed
   pub same : without_numbers front ≡ without_nestings before
   pub reads : ArePlaced any_item (before ++ (nesting, token) ∷ after) program
-  pub deep : 32 < nesting
+  pub deep : MAX_DEPTH < nesting
 
 -- the kinds of faults, as they are ranked at one column
 pub data Kind : Type 0 where
@@ -73,20 +75,20 @@ pub data Kind : Type 0 where
   unknown_name : Kind
   too_deep : Kind
 
-abbrev pub rank : Kind → ℕ
-rank malformed = 0
-rank unknown_name = 1
-rank too_deep = 2
+abbrev pub kind_rank : Kind → ℕ
+kind_rank malformed = 0
+kind_rank unknown_name = 1
+kind_rank too_deep = 2
 
 -- A text has a fault of this kind at this column.
 abbrev pub HasFault : Declared → List ℕ → Kind → ℕ → Type 0
-HasFault catalog text malformed column = IsMalformed text column
+HasFault catalog text malformed column = IsMalformedProgram text column
 HasFault catalog text unknown_name column = NamesNoItem catalog text column
 HasFault catalog text too_deep column = IsTooDeep text column
 
 -- A fault comes before another one, or both are one: it is further left, or at the same column and of no higher rank.
 abbrev pub ComesFirst : Kind → ℕ → Kind → ℕ → Type 0
-ComesFirst kind column other place = (column < place) ⊎ ((column ≡ place) × (rank kind ≤ rank other))
+ComesFirst kind column other place = (column < place) ⊎ ((column ≡ place) × (kind_rank kind ≤ kind_rank other))
 
 -- the fault that is answered: the leftmost, and at one column the first by rank
 pub record IsLeftmost (catalog : Declared) (text : List ℕ) (kind : Kind) (column : ℕ) : Type 0 where
@@ -100,5 +102,5 @@ pub data Refusal : Type 0 where
 
 -- A text of more than 1,000 bytes is refused with its length, and another for its leftmost fault.
 abbrev pub IsRefused : Declared → List ℕ → Refusal → Type 0
-IsRefused catalog text (too_large n) = (n ≡ length text) × (1000 < n)
-IsRefused catalog text (at_fault kind column) = (length text ≤ 1000) × IsLeftmost catalog text kind column
+IsRefused catalog text (too_large n) = (n ≡ length text) × (MAX_LINE < n)
+IsRefused catalog text (at_fault kind column) = (length text ≤ MAX_LINE) × IsLeftmost catalog text kind column

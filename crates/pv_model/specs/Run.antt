@@ -5,12 +5,12 @@ use Rattle.pv_base.specs.declared.txn.TxnId.{TxnId}
 use Rattle.pv_model.specs.Events.{Event, submit, pump, report, Schedule}
 use Rattle.pv_model.specs.Meaning.{Row, Reply, exec}
 use Rattle.pv_model.specs.Print.{Printed, txn, commit, order, committed, open_ones, item, end, text_of}
-use Rattle.pv_model.specs.Serial.{Entry, serial, serial_reply, txns}
+use Rattle.pv_model.specs.Serial.{Ordered, serial, serial_reply, txns}
 use Rattle.pv_model.specs.Syntax.{Program}
 
--- The world of one site: its transactions in the order in which they committed, each item's value, and the program of the request whose
+-- The state of one site: its transactions in the order in which they committed, each item's value, and the program of the request whose
 -- messages haven't been delivered.
-pub record World : Type 0 where
+pub record OneSite : Type 0 where
   pub order : List TxnId
   pub rows : List Row
   pub waiting : Option Program
@@ -24,21 +24,21 @@ abbrev pub declared_rows : Declared → List Row
 declared_rows catalog = rows_from 0 catalog.items
 
 -- no transaction yet, and the declared values
-abbrev pub opening : Declared → World
+abbrev pub opening : Declared → OneSite
 opening catalog = record { order = []; rows = declared_rows catalog; waiting = None }
 
 -- Site 0 numbers its transactions from 0 in its first epoch.
 abbrev pub txn_of : ℕ → TxnId
 txn_of number = record { site = record { 0 = 0 }; epoch = 1; number = number }
 
--- the world after the messages of a request are delivered: it has committed
-abbrev pub after_commit : World → Option Program → World
+-- the site after the messages of a request are delivered: it has committed
+abbrev pub after_commit : OneSite → Option Program → OneSite
 after_commit world None = world
 after_commit world (Some program) =
     record { order = world.order ++ txn_of (length world.order) ∷ []; rows = (exec program world.rows).rows; waiting = None }
 
--- the world after an event
-abbrev pub after : World → Event → World
+-- the site after an event
+abbrev pub after : OneSite → Event → OneSite
 after world (submit site query text program) = record world { waiting = Some program }
 after world (pump None) = after_commit world world.waiting
 after world _ = world
@@ -53,19 +53,19 @@ abbrev pub report_lines : Declared → List TxnId → List Row → List Printed
 report_lines catalog done rows = order done ∷ (committed done ∷ (open_ones [] ∷ (item_lines catalog.items rows ++ end ∷ [])))
 
 -- the line of a commit
-abbrev pub commit_lines : World → Option Program → List Printed
+abbrev pub commit_lines : OneSite → Option Program → List Printed
 commit_lines world None = []
 commit_lines world (Some program) = commit (txn_of (length world.order)) (exec program world.rows).reply ∷ []
 
 -- what an event prints
-abbrev pub lines_of : Declared → World → Event → List Printed
+abbrev pub lines_of : Declared → OneSite → Event → List Printed
 lines_of catalog world (submit site query text program) = txn (txn_of (length world.order)) ∷ []
 lines_of catalog world (pump None) = commit_lines world world.waiting
 lines_of catalog world report = report_lines catalog world.order world.rows
 lines_of catalog world _ = []
 
 -- what events print, one after another
-abbrev pub run : Declared → World → List Event → List Printed
+abbrev pub run : Declared → OneSite → List Event → List Printed
 run catalog world [] = []
 run catalog world (event ∷ events) = lines_of catalog world event ++ run catalog (after world event) events
 
@@ -74,21 +74,21 @@ unfoldable pub output_of : Schedule → List ℕ
 output_of schedule = text_of (run schedule.catalog (opening schedule.catalog) schedule.events)
 
 -- the transactions that events commit, numbered from here on, where this program's messages wait
-abbrev pub order_from : ℕ → Option Program → List Event → List Entry
+abbrev pub order_from : ℕ → Option Program → List Event → List Ordered
 order_from number waiting [] = []
 order_from number waiting (submit site query text program ∷ events) = order_from number (Some program) events
 order_from number (Some program) (pump None ∷ events) = record { txn = txn_of number; program = program } ∷ order_from (number + 1) None events
 order_from number waiting (event ∷ events) = order_from number waiting events
 
 -- the transactions that events commit
-abbrev pub order_of : List Event → List Entry
+abbrev pub order_of : List Event → List Ordered
 order_of events = order_from 0 None events
 
 -- the text of a report of exactly these transactions and the values that the serial run of all of them leaves
-abbrev pub serial_report : Declared → List Entry → List ℕ
+abbrev pub serial_report : Declared → List Ordered → List ℕ
 serial_report catalog done = text_of (report_lines catalog (txns done) (serial (declared_rows catalog) done (txns done)))
 
--- what is printed before the events behind these
+-- what is printed before the events after these
 abbrev pub output_before : Schedule → List Event → List ℕ
 output_before schedule before = text_of (run schedule.catalog (opening schedule.catalog) before)
 

@@ -1,10 +1,11 @@
 -- The texts that are schedules, line by line, and the first line at fault of another text.
 use Rattle.std.specs.Prelude.{◌≡◌, ℕ, ◌+◌, ◌-◌, ◌^◌, ◌<◌, ◌≤◌, Bool, true, false, Some, None, List, [], ◌∷◌, ◌++◌, length, ◌⊎◌, IsTrue, codes}
+use Rattle.pv_base.specs.declared.limits.TheConstants.{MAX_CALL, MAX_ITEMS, MAX_JOURNAL, MAX_PROGRAM_ITEMS, MAX_PUMP, MAX_SITES, MIN_JOURNAL}
 use Rattle.pv_base.specs.Catalog.{Item, place_of}
 use Rattle.pv_base.specs.Name.{is_name}
 use Rattle.pv_base.specs.declared.mode.Mode.{Mode}
 use Rattle.pv_base.specs.declared.mode.Mode.TheVariants.{Lost, Kept, Torn}
-use Rattle.pv_model.specs.Causes.{Before, at_first, or_default, declared_by, Cause, sites_expected, IsFirstCause}
+use Rattle.pv_model.specs.Causes.{Before, at_first, or_default, declared_by, LineCause, sites_expected, IsFirstCause}
 use Rattle.pv_model.specs.Check.{AreItems, has_assignment, has_return}
 use Rattle.pv_model.specs.Events.{Event, submit, deliver, pump, lose, drop, tick, stop, start, arm, mend, sent, report, total, Schedule}
 use Rattle.pv_model.specs.FirstFault.{without_numbers}
@@ -12,7 +13,7 @@ use Rattle.pv_model.specs.LineForms.{arguments}
 use Rattle.pv_model.specs.Meaning.{fits_i64}
 use Rattle.pv_model.specs.ProgramText.{IsProgramText}
 use Rattle.pv_model.specs.Syntax.{Program}
-use Rattle.pv_model.specs.Text.{Line, IsText, IsNumber, IsSigned, lines, numbered, words}
+use Rattle.pv_model.specs.Text.{TextLine, IsText, IsNumber, IsSigned, lines, numbered, words}
 
 -- The word spells a number in this range.
 abbrev pub IsIn : ℕ → ℕ → List ℕ → ℕ → Type 0
@@ -28,17 +29,17 @@ IsMode word Kept = word ≡ codes "kept"
 IsMode word Torn = word ≡ codes "torn"
 
 -- The line is a first word with one more, of which this holds.
-abbrev pub IsOne : List ℕ → (List ℕ → Type 0) → Line → Type 0
+abbrev pub IsOne : List ℕ → (List ℕ → Type 0) → TextLine → Type 0
 IsOne word Holds line = (given : List ℕ) × (words line ≡ word ∷ given ∷ []) × Holds given
 
 -- The line is a first word alone.
-abbrev pub IsAlone : List ℕ → Line → Type 0
+abbrev pub IsAlone : List ℕ → TextLine → Type 0
 IsAlone word line = words line ≡ word ∷ []
 
 -- The line is a first word with a site, a number of a call and a mode.
-abbrev pub IsArm : Before → List ℕ → ℕ → ℕ → Mode → Line → Type 0
+abbrev pub IsArm : Before → List ℕ → ℕ → ℕ → Mode → TextLine → Type 0
 IsArm before word site call mode line =
-    (at number left : List ℕ) × (words line ≡ word ∷ at ∷ number ∷ left ∷ []) × IsSite before at site × IsIn 1 1000 number call × IsMode left mode
+    (at number left : List ℕ) × (words line ≡ word ∷ at ∷ number ∷ left ∷ []) × IsSite before at site × IsIn 1 MAX_CALL number call × IsMode left mode
 
 -- what a request is called
 abbrev pub request_word : Bool → List ℕ
@@ -50,11 +51,11 @@ pub record MayRun (p : Program) (query : Bool) : Type 0 where
   pub items : List ℕ
   pub are : AreItems p items
   pub some : 0 < length items
-  pub few : length items ≤ 16
+  pub few : length items ≤ MAX_PROGRAM_ITEMS
   pub answers : query ≡ true → (has_assignment p ≡ false) × (has_return p ≡ true)
 
 -- The line is a request at the site with the text of a program that may run.
-pub record IsRequest (before : Before) (site : ℕ) (query : Bool) (text : List ℕ) (p : Program) (line : Line) : Type 0 where
+pub record IsRequest (before : Before) (site : ℕ) (query : Bool) (text : List ℕ) (p : Program) (line : TextLine) : Type 0 where
   pub more : List (List ℕ)
   pub first : words line ≡ request_word query ∷ more
   pub at : List ℕ
@@ -64,12 +65,12 @@ pub record IsRequest (before : Before) (site : ℕ) (query : Bool) (text : List 
   pub may : MayRun p query
 
 -- What the line says is this event.
-abbrev pub Says : Before → Line → Event → Type 0
+abbrev pub Says : Before → TextLine → Event → Type 0
 Says before line (submit site query text p) = IsRequest before site query text p line
 Says before line (deliver n) = IsOne (codes "deliver") (λ word. IsIn 0 (2 ^ 64 - 1) word n) line
 Says before line (lose n) = IsOne (codes "lose") (λ word. IsIn 0 (2 ^ 64 - 1) word n) line
 Says before line (pump None) = IsAlone (codes "pump") line
-Says before line (pump (Some n)) = IsOne (codes "pump") (λ word. IsIn 1 1000000 word n) line
+Says before line (pump (Some n)) = IsOne (codes "pump") (λ word. IsIn 1 MAX_PUMP word n) line
 Says before line (drop site) = IsOne (codes "drop") (λ word. IsSite before word site) line
 Says before line (tick site) = IsOne (codes "tick") (λ word. IsSite before word site) line
 Says before line (stop site) = IsOne (codes "stop") (λ word. IsSite before word site) line
@@ -81,8 +82,8 @@ Says before line sent = IsAlone (codes "sent") line
 Says before line report = IsAlone (codes "report") line
 Says before line total = IsAlone (codes "total") line
 
--- An event is a well-formed line behind the count of sites.
-pub record IsEvent (before : Before) (line : Line) (event : Event) : Type 0 where
+-- An event is a well-formed line after the count of sites.
+pub record IsEvent (before : Before) (line : TextLine) (event : Event) : Type 0 where
   pub text : IsText line
   pub sites : ℕ
   pub said : before.sites ≡ Some sites
@@ -93,26 +94,26 @@ abbrev pub with_event : Before → Before
 with_event before = record before { begun = true }
 
 -- `sites N`, which comes first
-pub record DeclaresSites (before : Before) (line : Line) (after : Before) : Type 0 where
+pub record DeclaresSites (before : Before) (line : TextLine) (after : Before) : Type 0 where
   pub text : IsText line
   pub first : before.sites ≡ None
   pub count : ℕ
-  pub is : IsOne (codes "sites") (λ word. IsIn 1 16 word count) line
+  pub is : IsOne (codes "sites") (λ word. IsIn 1 MAX_SITES word count) line
   pub same : after ≡ record before { sites = Some count }
 
 -- `journal N`, once and before all events
-pub record DeclaresJournal (before : Before) (line : Line) (after : Before) : Type 0 where
+pub record DeclaresJournal (before : Before) (line : TextLine) (after : Before) : Type 0 where
   pub text : IsText line
   pub sites : ℕ
   pub said : before.sites ≡ Some sites
   pub once : before.journal ≡ None
   pub early : before.begun ≡ false
   pub limit : ℕ
-  pub is : IsOne (codes "journal") (λ word. IsIn 32 (2 ^ 32) word limit) line
+  pub is : IsOne (codes "journal") (λ word. IsIn MIN_JOURNAL MAX_JOURNAL word limit) line
   pub same : after ≡ record before { journal = Some limit }
 
 -- `item NAME SITE VALUE`, with a name that no item has, before all events
-pub record DeclaresItem (before : Before) (line : Line) (after : Before) : Type 0 where
+pub record DeclaresItem (before : Before) (line : TextLine) (after : Before) : Type 0 where
   pub text : IsText line
   pub sites : ℕ
   pub said : before.sites ≡ Some sites
@@ -126,50 +127,50 @@ pub record DeclaresItem (before : Before) (line : Line) (after : Before) : Type 
   pub fits : IsTrue (fits_i64 item.value)
   pub name : IsTrue (is_name item.name)
   pub free : place_of item.name before.items ≡ None
-  pub room : length before.items < 1024
+  pub room : length before.items < MAX_ITEMS
   pub same : after ≡ record before { items = before.items ++ item ∷ [] }
 
 -- The line declares something.
-abbrev pub Declares : Before → Line → Before → Type 0
+abbrev pub Declares : Before → TextLine → Before → Type 0
 Declares before line after = DeclaresSites before line after ⊎ (DeclaresJournal before line after ⊎ DeclaresItem before line after)
 
--- Lines behind what was said are declarations and events: each one by what those before it said. They end with these events, and with this said.
-pub data AreLines : Before → List Line → List Event → Before → Type 0 where
+-- Lines after what was said are declarations and events: each one by what those before it said. They end with these events, and with this said.
+pub data AreLines : Before → List TextLine → List Event → Before → Type 0 where
   none : (before : Before) → AreLines before [] [] before
-  declaration : (before after last : Before) (line : Line) (lines : List Line) (events : List Event) → Declares before line after
+  declaration : (before after last : Before) (line : TextLine) (lines : List TextLine) (events : List Event) → Declares before line after
       → AreLines after lines events last → AreLines before (line ∷ lines) events last
-  event : (before last : Before) (line : Line) (lines : List Line) (e : Event) (events : List Event) → IsEvent before line e
+  event : (before last : Before) (line : TextLine) (lines : List TextLine) (e : Event) (events : List Event) → IsEvent before line e
       → AreLines (with_event before) lines events last → AreLines before (line ∷ lines) (e ∷ events) last
 
--- the lines of a text that count, without their numbers
-abbrev pub counted : List ℕ → List Line
-counted text = without_numbers (numbered text)
+-- the significant lines of a text, without their numbers
+abbrev pub significant : List ℕ → List TextLine
+significant text = without_numbers (numbered text)
 
--- A text is a schedule: its lines that count are one, and the count of sites is among them.
+-- A text is a schedule: its significant lines are one, and the count of sites is among them.
 pub record IsSchedule (text : List ℕ) (schedule : Schedule) : Type 0 where
   pub last : Before
-  pub are : AreLines at_first (counted text) schedule.events last
+  pub are : AreLines at_first (significant text) schedule.events last
   pub sites : ℕ
   pub said : last.sites ≡ Some sites
   pub catalog : schedule.catalog ≡ declared_by last
 
 -- The first line that has a cause, with its first cause: those before it are lines of a schedule.
-pub record IsAtFault (text : List ℕ) (number : ℕ) (cause : Cause) : Type 0 where
-  pub front : List (ℕ × Line)
-  pub line : Line
-  pub rest : List (ℕ × Line)
+pub record IsAtFault (text : List ℕ) (number : ℕ) (cause : LineCause) : Type 0 where
+  pub front : List (ℕ × TextLine)
+  pub line : TextLine
+  pub rest : List (ℕ × TextLine)
   pub split : numbered text ≡ front ++ (number, line) ∷ rest
   pub events : List Event
   pub before : Before
   pub are : AreLines at_first (without_numbers front) events before
   pub first : IsFirstCause before line cause
 
--- A text without lines that count lacks the count of sites behind its last line.
-pub record LacksSites (text : List ℕ) (number : ℕ) (cause : Cause) : Type 0 where
+-- A text without significant lines lacks the count of sites after its last line.
+pub record LacksSites (text : List ℕ) (number : ℕ) (cause : LineCause) : Type 0 where
   pub empty : numbered text ≡ []
   pub place : number ≡ length (lines text) + 1
   pub is : cause ≡ sites_expected
 
 -- A text is malformed at the line of this number, for this cause.
-abbrev pub IsMalformed : List ℕ → ℕ → Cause → Type 0
-IsMalformed text number cause = IsAtFault text number cause ⊎ LacksSites text number cause
+abbrev pub IsMalformedSchedule : List ℕ → ℕ → LineCause → Type 0
+IsMalformedSchedule text number cause = IsAtFault text number cause ⊎ LacksSites text number cause

@@ -7,21 +7,21 @@ use Rattle.pv_model.specs.Meaning.{Row, Reply, exec}
 use Rattle.pv_model.specs.Syntax.{Program}
 
 -- a transaction of an order, with its program
-pub record Entry : Type 0 where
+pub record Ordered : Type 0 where
   pub txn : TxnId
   pub program : Program
 
 -- the rows after one transaction of the order
-abbrev pub rows_after : List TxnId → List Row → Entry → List Row
+abbrev pub rows_after : List TxnId → List Row → Ordered → List Row
 rows_after assignment rows entry = if commits assignment entry.txn then (exec entry.program rows).rows else rows
 
 -- Beginning with these rows, each transaction of the order that commits runs in turn on what those before it left.
-abbrev pub serial : List Row → List Entry → List TxnId → List Row
+abbrev pub serial : List Row → List Ordered → List TxnId → List Row
 serial rows [] assignment = rows
 serial rows (entry ∷ order) assignment = serial (rows_after assignment rows entry) order assignment
 
 -- what a transaction that commits replies in that run
-abbrev pub serial_reply : List Row → List Entry → List TxnId → TxnId → Option Reply
+abbrev pub serial_reply : List Row → List Ordered → List TxnId → TxnId → Option Reply
 serial_reply rows [] assignment txn = None
 serial_reply rows (entry ∷ order) assignment txn =
     if is_same_txn entry.txn txn
@@ -29,5 +29,5 @@ serial_reply rows (entry ∷ order) assignment txn =
     else serial_reply (rows_after assignment rows entry) order assignment txn
 
 -- the transactions of an order
-abbrev pub txns : List Entry → List TxnId
+abbrev pub txns : List Ordered → List TxnId
 txns order = map (λ entry. entry.txn) order

@@ -27,7 +27,7 @@ pub data Expr : Type 0 where
   negation : Expr → Expr
   two : (op : Op) (left right : Expr) → Expr
 
--- A program is its first statement and the program behind it.
+-- A program is its first statement and the program after it.
 pub data Program : Type 0 where
   end : Program
   assign : (item : ℕ) (value : Expr) (next : Program) → Program

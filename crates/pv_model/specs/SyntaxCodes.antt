@@ -1,4 +1,4 @@
--- Programs as lists, from which they can be had back. A type that is seen as a program needs such a code.
+-- A device that no claim names: programs as lists, from which they can be had back. A type that is seen as a program needs such a code.
 use Rattle.std.specs.Prelude.{◌≡◌, ℕ, zero, suc, ℤ, List, [], ◌∷◌, ◌⊎◌, get_or, refl}
 use Rattle.std.proofs.Common.{inl, inr, ap, ◌∙◌}
 use Rattle.std.specs.Coded.{Coded, code_by, coded_list, coded_ℕ, coded_ℤ, coded×, coded⊎}
@@ -46,40 +46,40 @@ op_at-place_of lesser = refl
 op_at-place_of larger = refl
 
 -- a number, an item, or what is done with the expressions before it: 0 for minus, 1 for not, and 2 more than the place of an operator
-abbrev Mark : Type 0
-Mark = ℤ ⊎ (ℕ ⊎ ℕ)
+abbrev Instruction : Type 0
+Instruction = ℤ ⊎ (ℕ ⊎ ℕ)
 
--- the marks of an expression, each behind those of its parts, and then these
-abbrev marks : Expr → List Mark → List Mark
-marks (number z) more = inl z ∷ more
-marks (item n) more = inr (inl n) ∷ more
-marks (minus e) more = marks e (inr (inr 0) ∷ more)
-marks (negation e) more = marks e (inr (inr 1) ∷ more)
-marks (two op left right) more = marks left (marks right (inr (inr (suc (suc (place_of op)))) ∷ more))
+-- the instructions of an expression, each after those of its parts, and then these
+abbrev instructions : Expr → List Instruction → List Instruction
+instructions (number z) more = inl z ∷ more
+instructions (item n) more = inr (inl n) ∷ more
+instructions (minus e) more = instructions e (inr (inr 0) ∷ more)
+instructions (negation e) more = instructions e (inr (inr 1) ∷ more)
+instructions (two op left right) more = instructions left (instructions right (inr (inr (suc (suc (place_of op)))) ∷ more))
 
--- what a mark makes of the expressions before it, the last one first
-abbrev marked : Mark → List Expr → List Expr
-marked (inl z) done = number z ∷ done
-marked (inr (inl n)) done = item n ∷ done
-marked (inr (inr zero)) (e ∷ done) = minus e ∷ done
-marked (inr (inr (suc zero))) (e ∷ done) = negation e ∷ done
-marked (inr (inr (suc (suc n)))) (right ∷ left ∷ done) = two (op_at n) left right ∷ done
-marked (inr (inr n)) done = done
+-- what an instruction makes of the expressions before it, the last one first
+abbrev done_by : Instruction → List Expr → List Expr
+done_by (inl z) done = number z ∷ done
+done_by (inr (inl n)) done = item n ∷ done
+done_by (inr (inr zero)) (e ∷ done) = minus e ∷ done
+done_by (inr (inr (suc zero))) (e ∷ done) = negation e ∷ done
+done_by (inr (inr (suc (suc n)))) (right ∷ left ∷ done) = two (op_at n) left right ∷ done
+done_by (inr (inr n)) done = done
 
-abbrev all_marked : List Mark → List Expr → List Expr
-all_marked [] done = done
-all_marked (mark ∷ more) done = all_marked more (marked mark done)
+abbrev all_done : List Instruction → List Expr → List Expr
+all_done [] done = done
+all_done (instruction ∷ more) done = all_done more (done_by instruction done)
 
-pub all_marked-marks : (e : Expr) (more : List Mark) (done : List Expr) → all_marked (marks e more) done ≡ all_marked more (e ∷ done)
-all_marked-marks (number z) more done = refl
-all_marked-marks (item n) more done = refl
-all_marked-marks (minus e) more done = all_marked-marks e (inr (inr 0) ∷ more) done
-all_marked-marks (negation e) more done = all_marked-marks e (inr (inr 1) ∷ more) done
-all_marked-marks (two op left right) more done =
-    let mark : Mark = inr (inr (suc (suc (place_of op)))) in
-    all_marked-marks left (marks right (mark ∷ more)) done
-    ∙ all_marked-marks right (mark ∷ more) (left ∷ done)
-    ∙ ap (λ (o : Op). all_marked more (two o left right ∷ done)) (op_at-place_of op)
+pub all_done-instructions : (e : Expr) (more : List Instruction) (done : List Expr) → all_done (instructions e more) done ≡ all_done more (e ∷ done)
+all_done-instructions (number z) more done = refl
+all_done-instructions (item n) more done = refl
+all_done-instructions (minus e) more done = all_done-instructions e (inr (inr 0) ∷ more) done
+all_done-instructions (negation e) more done = all_done-instructions e (inr (inr 1) ∷ more) done
+all_done-instructions (two op left right) more done =
+    let instruction : Instruction = inr (inr (suc (suc (place_of op)))) in
+    all_done-instructions left (instructions right (instruction ∷ more)) done
+    ∙ all_done-instructions right (instruction ∷ more) (left ∷ done)
+    ∙ ap (λ (o : Op). all_done more (two o left right ∷ done)) (op_at-place_of op)
 
 abbrev last_expr : List Expr → Expr
 last_expr [] = item 0
@@ -87,13 +87,13 @@ last_expr (e ∷ done) = e
 
 abbrev pub expr_code : Coded Expr
 expr_code =
-    code_by (List Mark) (coded_list (coded⊎ coded_ℤ (coded⊎ coded_ℕ coded_ℕ))) (λ e. marks e []) (λ all. last_expr (all_marked all [])) (λ e. ap last_expr (all_marked-marks e [] []))
+    code_by (List Instruction) (coded_list (coded⊎ coded_ℤ (coded⊎ coded_ℕ coded_ℕ))) (λ e. instructions e []) (λ all. last_expr (all_done all [])) (λ e. ap last_expr (all_done-instructions e [] []))
 
 -- the kind of a statement from 0 in the order of their declaration, its item and its expression
 abbrev Sign : Type 0
 Sign = ℕ × (ℕ × Expr)
 
--- the signs of a program, each behind those of its parts, and then these
+-- the signs of a program, each after those of its parts, and then these
 abbrev signs : Program → List Sign → List Sign
 signs end more = (0, (0, item 0)) ∷ more
 signs (assign n e next) more = signs next ((1, (n, e)) ∷ more)

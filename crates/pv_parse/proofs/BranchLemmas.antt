@@ -10,9 +10,9 @@ use Rattle.pv_model.specs.Tokens.{Token}
 use Rattle.pv_model.specs.Grammar as grammar
 use Rattle.pv_model.specs.Grammar.{Placed, disjunction, chain, Reads, ReadsProgram, ReadsNext}
 use Rattle.pv_model.specs.ProgramText.{Kind, item_in}
-use Rattle.pv_model.specs.Prediction.{mark, program, next, other, opens_body, closes_body, Expected, placed}
+use Rattle.pv_law_programs.specs.Prediction.{punctuation, program, next, other, opens_body, closes_body, Expected, placed}
 use Rattle.pv_parse.specs.declared.error.ParseError.{ParseError}
-use Rattle.pv_parse.specs.Reading.{Columned, Source, fault_in, IsFault, Skips, Stops, ReadsPart, PassesMark, PassesToken}
+use Rattle.pv_parse.specs.Reading.{Columned, Source, fault_in, IsErrorFor, Skips, Stops, ReadsPhrase, PassesPunctuation, PassesToken}
 use Rattle.pv_parse.specs.ReadingPrograms.{ReadsWhole, ReadsStmt, ReadsBody, StopsBraced, braced}
 use Rattle.pv_parse.proofs.StepLemmas.{fault-on, place-on}
 use Rattle.pv_parse.proofs.ExpressionLemmas.{Stops-through, one_more}
@@ -25,32 +25,32 @@ use Rattle.pv_parse.proofs.ProgramLemmas.{expression}
 pub braced-stops : (source : Source) (d : ℕ) (e : Expected) (behind : List Expected → List Expected) (before mid : Columned)
     → ((k : List Expected) → fault_in source (braced d k) before ≡ fault_in source (e ∷ behind k) mid)
     → (error : ParseError) → Stops source e mid error → StopsBraced source d before error
-braced-stops source d e behind before mid same error h = λ k. subst (λ (fault : Option (Kind × ℕ)). IsFault fault error) (sym (same k)) (h (behind k))
+braced-stops source d e behind before mid same error h = λ k. subst (λ (fault : Option (Kind × ℕ)). IsErrorFor fault error) (sym (same k)) (h (behind k))
 
-pub body-stops-program : (source : Source) (d : ℕ) (before mid : Columned) (error : ParseError) → PassesMark source opens_body Token.opens_body d before mid
+pub body-stops-program : (source : Source) (d : ℕ) (before mid : Columned) (error : ParseError) → PassesPunctuation source opens_body Token.opens_body d before mid
     → Stops source (d + 1, program) mid error → StopsBraced source d before error
 body-stops-program source d before mid error m s =
-    braced-stops source d (d + 1, program) (λ k. (d, mark closes_body) ∷ k) before mid (λ k. m.fault ((d + 1, program) ∷ (d, mark closes_body) ∷ k)) error s
+    braced-stops source d (d + 1, program) (λ k. (d, punctuation closes_body) ∷ k) before mid (λ k. m.fault ((d + 1, program) ∷ (d, punctuation closes_body) ∷ k)) error s
 
-pub body-stops-open : (source : Source) (d : ℕ) (before : Columned) (error : ParseError) → Stops source (d, mark opens_body) before error → StopsBraced source d before error
+pub body-stops-open : (source : Source) (d : ℕ) (before : Columned) (error : ParseError) → Stops source (d, punctuation opens_body) before error → StopsBraced source d before error
 body-stops-open source d before error s =
-    braced-stops source d (d, mark opens_body) (λ k. (d + 1, program) ∷ (d, mark closes_body) ∷ k) before before (λ k. refl) error s
+    braced-stops source d (d, punctuation opens_body) (λ k. (d + 1, program) ∷ (d, punctuation closes_body) ∷ k) before before (λ k. refl) error s
 
-pub body-stops-close : (source : Source) (d : ℕ) (before mid now : Columned) (p : model.Program) (error : ParseError) → PassesMark source opens_body Token.opens_body d before mid
-    → ReadsWhole source (d + 1) mid now p → Stops source (d, mark closes_body) now error → StopsBraced source d before error
+pub body-stops-close : (source : Source) (d : ℕ) (before mid now : Columned) (p : model.Program) (error : ParseError) → PassesPunctuation source opens_body Token.opens_body d before mid
+    → ReadsWhole source (d + 1) mid now p → Stops source (d, punctuation closes_body) now error → StopsBraced source d before error
 body-stops-close source d before mid now p error m r s =
-    braced-stops source d (d, mark closes_body) (λ k. k) before now (λ k. m.fault ((d + 1, program) ∷ (d, mark closes_body) ∷ k) ∙ r.fault ((d, mark closes_body) ∷ k)) error s
+    braced-stops source d (d, punctuation closes_body) (λ k. k) before now (λ k. m.fault ((d + 1, program) ∷ (d, punctuation closes_body) ∷ k) ∙ r.fault ((d, punctuation closes_body) ∷ k)) error s
 
-pub reads-body : (source : Source) (d : ℕ) (before mid now after : Columned) (p : model.Program) → PassesMark source opens_body Token.opens_body d before mid
-    → ReadsWhole source (d + 1) mid now p → PassesMark source closes_body Token.closes_body d now after → ReadsBody source d before after p
+pub reads-body : (source : Source) (d : ℕ) (before mid now after : Columned) (p : model.Program) → PassesPunctuation source opens_body Token.opens_body d before mid
+    → ReadsWhole source (d + 1) mid now p → PassesPunctuation source closes_body Token.closes_body d now after → ReadsBody source d before after p
 reads-body source d before mid now after p m r n =
     let f1 = m.fewer in
     let f2 = r.fewer in
     let f3 = n.fewer in
     record {
-      fault = λ k. m.fault ((d + 1, program) ∷ (d, mark closes_body) ∷ k) ∙ r.fault ((d, mark closes_body) ∷ k) ∙ n.fault k;
+      fault = λ k. m.fault ((d + 1, program) ∷ (d, punctuation closes_body) ∷ k) ∙ r.fault ((d, punctuation closes_body) ∷ k) ∙ n.fault k;
       inside = mid;
-      behind = now;
+      closing = now;
       opened = m.place;
       reads = r.reads;
       closed = n.place;
@@ -70,7 +70,7 @@ pub begins-if : (source : Source) (d column : ℕ) (before after : Columned) →
 begins-if source d column before after e = record {
   split = e;
   known = refl;
-  leads = λ k. ap (λ (n : ℕ). Some (expression d ∷ (d, mark opens_body) ∷ (n, program) ∷ (d, mark closes_body) ∷ behind_body d k)) (sym (one_more d));
+  leads = λ k. ap (λ (n : ℕ). Some (expression d ∷ (d, punctuation opens_body) ∷ (n, program) ∷ (d, punctuation closes_body) ∷ behind_body d k)) (sym (one_more d));
 }
 
 pub if-stops-test : (source : Source) (d column : ℕ) (before mid : Columned) (error : ParseError) → before ≡ (column, Token.asks) ∷ mid → d ≤ 32
@@ -80,7 +80,7 @@ if-stops-test source d column before mid error e shallow s =
     (begins-fault source (d, program) Token.asks column before mid (behind_if d) (begins-if source d column before mid e) shallow) error s
 
 if-test : (source : Source) (d column : ℕ) (before mid now : Columned) (test : model.Expr) → before ≡ (column, Token.asks) ∷ mid → d ≤ 32
-    → ReadsPart source (chain disjunction) d mid now test → (k : List Expected) → fault_in source ((d, program) ∷ k) before ≡ fault_in source (braced d (behind_body d k)) now
+    → ReadsPhrase source (chain disjunction) d mid now test → (k : List Expected) → fault_in source ((d, program) ∷ k) before ≡ fault_in source (braced d (behind_body d k)) now
 if-test source d column before mid now test e shallow p k =
     begins-fault source (d, program) Token.asks column before mid (behind_if d) (begins-if source d column before mid e) shallow k ∙ p.fault (braced d (behind_body d k))
 
@@ -88,15 +88,15 @@ if-test source d column before mid now test e shallow p k =
 pub braced-through : (source : Source) (d : ℕ) (before mid : Columned) (e : Expected) (behind : List Expected → List Expected)
     → ((k : List Expected) → fault_in source (e ∷ k) before ≡ fault_in source (braced d (behind k)) mid)
     → (error : ParseError) → StopsBraced source d mid error → Stops source e before error
-braced-through source d before mid e behind same error h = λ k. subst (λ (fault : Option (Kind × ℕ)). IsFault fault error) (sym (same k)) (h (behind k))
+braced-through source d before mid e behind same error h = λ k. subst (λ (fault : Option (Kind × ℕ)). IsErrorFor fault error) (sym (same k)) (h (behind k))
 
 pub if-stops-body : (source : Source) (d column : ℕ) (before mid now : Columned) (test : model.Expr) (error : ParseError) → before ≡ (column, Token.asks) ∷ mid → d ≤ 32
-    → ReadsPart source (chain disjunction) d mid now test → StopsBraced source d now error → Stops source (d, program) before error
+    → ReadsPhrase source (chain disjunction) d mid now test → StopsBraced source d now error → Stops source (d, program) before error
 if-stops-body source d column before mid now test error e shallow p s =
     braced-through source d before now (d, program) (behind_body d) (if-test source d column before mid now test e shallow p) error s
 
 pub if-stops-else : (source : Source) (d column : ℕ) (before mid now after : Columned) (test : model.Expr) (body : model.Program) (error : ParseError) → before ≡ (column, Token.asks) ∷ mid → d ≤ 32
-    → ReadsPart source (chain disjunction) d mid now test → ReadsBody source d now after body → Stops source (d, other) after error → Stops source (d, program) before error
+    → ReadsPhrase source (chain disjunction) d mid now test → ReadsBody source d now after body → Stops source (d, other) after error → Stops source (d, program) before error
 if-stops-else source d column before mid now after test body error e shallow p b s =
     Stops-through source (d, program) (d, other) (λ k. (d, next) ∷ k) before after
     (λ k. if-test source d column before mid now test e shallow p k ∙ b.fault (behind_body d k)) error s
@@ -105,16 +105,16 @@ else-fault : (source : Source) (d : ℕ) (before after : Columned) (k : List Exp
     → fault_in source ((d, other) ∷ k) before ≡ fault_in source (braced d k) after
 else-fault source d before after k q =
     ap (λ (ts : Columned). fault_in source ((d, other) ∷ k) ts) q.split
-    ∙ fault-on source other d q.column Token.otherwise after k (braced d k) (ap (λ (n : ℕ). Some ((d, mark opens_body) ∷ (n, program) ∷ (d, mark closes_body) ∷ k)) (sym (one_more d))) refl q.shallow
+    ∙ fault-on source other d q.column Token.otherwise after k (braced d k) (ap (λ (n : ℕ). Some ((d, punctuation opens_body) ∷ (n, program) ∷ (d, punctuation closes_body) ∷ k)) (sym (one_more d))) refl q.shallow
 
 else-place : (d : ℕ) (before after : Columned) (k : List Expected) → PassesToken Token.otherwise d before after
     → placed ((d, other) ∷ k) before ≡ (d, Token.otherwise) ∷ placed (braced d k) after
 else-place d before after k q =
     ap (λ (ts : Columned). placed ((d, other) ∷ k) ts) q.split
-    ∙ place-on other d q.column Token.otherwise after k (braced d k) (ap (λ (n : ℕ). Some ((d, mark opens_body) ∷ (n, program) ∷ (d, mark closes_body) ∷ k)) (sym (one_more d)))
+    ∙ place-on other d q.column Token.otherwise after k (braced d k) (ap (λ (n : ℕ). Some ((d, punctuation opens_body) ∷ (n, program) ∷ (d, punctuation closes_body) ∷ k)) (sym (one_more d)))
 
 pub if-stops-other : (source : Source) (d column : ℕ) (before mid now after last : Columned) (test : model.Expr) (body : model.Program) (error : ParseError) → before ≡ (column, Token.asks) ∷ mid → d ≤ 32
-    → ReadsPart source (chain disjunction) d mid now test → ReadsBody source d now after body → PassesToken Token.otherwise d after last → StopsBraced source d last error
+    → ReadsPhrase source (chain disjunction) d mid now test → ReadsBody source d now after body → PassesToken Token.otherwise d after last → StopsBraced source d last error
     → Stops source (d, program) before error
 if-stops-other source d column before mid now after last test body error e shallow p b q s =
     braced-through source d before last (d, program) (λ k. (d, next) ∷ k)
@@ -122,24 +122,24 @@ if-stops-other source d column before mid now after last test body error e shall
 
 module _ (source : Source) (d : ℕ) where
   -- the test, up to the brace
-  if-reads-test : (mid now after : Columned) (test : model.Expr) (body : model.Program) (k : List Expected) → ReadsPart source (chain disjunction) d mid now test
+  if-reads-test : (mid now after : Columned) (test : model.Expr) (body : model.Program) (k : List Expected) → ReadsPhrase source (chain disjunction) d mid now test
       → (b : ReadsBody source d now after body)
       → Reads (item_in source.catalog) (chain disjunction) d (placed (expression d ∷ braced d k) mid)
-      ((d, Token.opens_body) ∷ placed ((d + 1, program) ∷ (d, mark closes_body) ∷ k) b.inside) test
+      ((d, Token.opens_body) ∷ placed ((d + 1, program) ∷ (d, punctuation closes_body) ∷ k) b.inside) test
   if-reads-test mid now after test body k p b =
       subst (λ ts. Reads (item_in source.catalog) (chain disjunction) d (placed (expression d ∷ braced d k) mid) ts test)
-      (b.opened ((d + 1, program) ∷ (d, mark closes_body) ∷ k)) (p.reads (braced d k))
+      (b.opened ((d + 1, program) ∷ (d, punctuation closes_body) ∷ k)) (p.reads (braced d k))
 
   -- the program in braces, up to what stands behind it
   if-reads-body : (now after : Columned) (body : model.Program) (k : List Expected) (behind : List Placed) → (b : ReadsBody source d now after body) → placed k after ≡ behind
-      → ReadsProgram (item_in source.catalog) (suc d) (placed ((d + 1, program) ∷ (d, mark closes_body) ∷ k) b.inside) ((d, Token.closes_body) ∷ behind) body
+      → ReadsProgram (item_in source.catalog) (suc d) (placed ((d + 1, program) ∷ (d, punctuation closes_body) ∷ k) b.inside) ((d, Token.closes_body) ∷ behind) body
   if-reads-body now after body k behind b same =
-      subst (λ (n : ℕ). ReadsProgram (item_in source.catalog) n (placed ((d + 1, program) ∷ (d, mark closes_body) ∷ k) b.inside) ((d, Token.closes_body) ∷ behind) body) (one_more d)
-      (subst (λ ts. ReadsProgram (item_in source.catalog) (d + 1) (placed ((d + 1, program) ∷ (d, mark closes_body) ∷ k) b.inside) ts body)
-      (b.closed k ∙ ap (λ (ts : List Placed). (d, Token.closes_body) ∷ ts) same) (b.reads ((d, mark closes_body) ∷ k)))
+      subst (λ (n : ℕ). ReadsProgram (item_in source.catalog) n (placed ((d + 1, program) ∷ (d, punctuation closes_body) ∷ k) b.inside) ((d, Token.closes_body) ∷ behind) body) (one_more d)
+      (subst (λ ts. ReadsProgram (item_in source.catalog) (d + 1) (placed ((d + 1, program) ∷ (d, punctuation closes_body) ∷ k) b.inside) ts body)
+      (b.closed k ∙ ap (λ (ts : List Placed). (d, Token.closes_body) ∷ ts) same) (b.reads ((d, punctuation closes_body) ∷ k)))
 
 pub reads-if : (source : Source) (d column : ℕ) (before mid now after : Columned) (test : Expr) (body : model.Program) → before ≡ (column, Token.asks) ∷ mid → d ≤ 32
-    → ReadsPart source (chain disjunction) d mid now (expr_of test) → ReadsBody source d now after body → Skips source (d, other) after
+    → ReadsPhrase source (chain disjunction) d mid now (expr_of test) → ReadsBody source d now after body → Skips source (d, other) after
     → ReadsStmt source d before after (If test body None)
 reads-if source d column before mid now after test body e shallow p b n =
     let begun = begins-if source d column before mid e in
@@ -151,7 +151,7 @@ reads-if source d column before mid now after test body e shallow p b n =
       reads = λ k behind q r.
           subst (λ ts. ReadsProgram (item_in source.catalog) d ts behind (model.when (expr_of test) body q))
           (sym (begins-place source (d, program) Token.asks column before mid (behind_if d) begun k))
-          (grammar.asks d (placed (behind_if d k) mid) (placed ((d + 1, program) ∷ (d, mark closes_body) ∷ behind_body d k) b.inside) (placed ((d, next) ∷ k) after) behind (expr_of test) body q
+          (grammar.asks d (placed (behind_if d k) mid) (placed ((d + 1, program) ∷ (d, punctuation closes_body) ∷ behind_body d k) b.inside) (placed ((d, next) ∷ k) after) behind (expr_of test) body q
           (if-reads-test source d mid now after (expr_of test) body (behind_body d k) p b)
           (if-reads-body source d now after body (behind_body d k) (placed ((d, next) ∷ k) after) b (n.place ((d, next) ∷ k)))
           r);
@@ -159,7 +159,7 @@ reads-if source d column before mid now after test body e shallow p b n =
     }
 
 pub reads-if-else : (source : Source) (d column : ℕ) (before mid now after last end : Columned) (test : Expr) (body second : model.Program) → before ≡ (column, Token.asks) ∷ mid → d ≤ 32
-    → ReadsPart source (chain disjunction) d mid now (expr_of test) → ReadsBody source d now after body → PassesToken Token.otherwise d after last → ReadsBody source d last end second
+    → ReadsPhrase source (chain disjunction) d mid now (expr_of test) → ReadsBody source d now after body → PassesToken Token.otherwise d after last → ReadsBody source d last end second
     → ReadsStmt source d before end (If test body (Some second))
 reads-if-else source d column before mid now after last end test body second e shallow p b q s =
     let begun = begins-if source d column before mid e in
@@ -173,11 +173,11 @@ reads-if-else source d column before mid now after last end test body second e s
       reads = λ k behind r n.
           subst (λ ts. ReadsProgram (item_in source.catalog) d ts behind (model.when_else (expr_of test) body second r))
           (sym (begins-place source (d, program) Token.asks column before mid (behind_if d) begun k))
-          (grammar.asks_else d (placed (behind_if d k) mid) (placed ((d + 1, program) ∷ (d, mark closes_body) ∷ behind_body d k) b.inside)
-          (placed ((d + 1, program) ∷ (d, mark closes_body) ∷ (d, next) ∷ k) s.inside) (placed ((d, next) ∷ k) end) behind (expr_of test) body second r
+          (grammar.asks_else d (placed (behind_if d k) mid) (placed ((d + 1, program) ∷ (d, punctuation closes_body) ∷ behind_body d k) b.inside)
+          (placed ((d + 1, program) ∷ (d, punctuation closes_body) ∷ (d, next) ∷ k) s.inside) (placed ((d, next) ∷ k) end) behind (expr_of test) body second r
           (if-reads-test source d mid now after (expr_of test) body (behind_body d k) p b)
-          (if-reads-body source d now after body (behind_body d k) ((d, Token.otherwise) ∷ (d, Token.opens_body) ∷ placed ((d + 1, program) ∷ (d, mark closes_body) ∷ (d, next) ∷ k) s.inside) b
-          (else-place d after last ((d, next) ∷ k) q ∙ ap (λ (ts : List Placed). (d, Token.otherwise) ∷ ts) (s.opened ((d + 1, program) ∷ (d, mark closes_body) ∷ (d, next) ∷ k))))
+          (if-reads-body source d now after body (behind_body d k) ((d, Token.otherwise) ∷ (d, Token.opens_body) ∷ placed ((d + 1, program) ∷ (d, punctuation closes_body) ∷ (d, next) ∷ k) s.inside) b
+          (else-place d after last ((d, next) ∷ k) q ∙ ap (λ (ts : List Placed). (d, Token.otherwise) ∷ ts) (s.opened ((d + 1, program) ∷ (d, punctuation closes_body) ∷ (d, next) ∷ k))))
           (if-reads-body source d last end second ((d, next) ∷ k) (placed ((d, next) ∷ k) end) s refl)
           n);
       fewer = omega (arith, f1, f2, f3, f4, f5);

@@ -7,11 +7,11 @@ use Rattle.pv_model.specs.Syntax.Op.{sub, lesser, larger}
 use Rattle.pv_model.specs.Syntax.Expr.{minus, negation, two}
 use Rattle.pv_model.specs.Tokens.{Token}
 use Rattle.pv_model.specs.Grammar as grammar
-use Rattle.pv_model.specs.Grammar.{Placed, Chain, disjunction, conjunction, sum, product, Part, chain, negated, comparison, unary, joins, compares, is_min_or_max, side, Reads, GoesOn}
+use Rattle.pv_model.specs.Grammar.{Placed, Chain, disjunction, conjunction, sum, product, Phrase, chain, negated, comparison, unary, joins, compares, is_min_or_max, side, Reads, GoesOn}
 use Rattle.pv_model.specs.ProgramText.{Kind, malformed, item_in}
-use Rattle.pv_model.specs.Prediction.{part, more, comparing, Expected, may_end, step, placed, first_fault}
+use Rattle.pv_law_programs.specs.Prediction.{phrase, more, comparing, Expected, may_end, step, placed, first_fault}
 use Rattle.pv_parse.specs.declared.error.ParseError.{ParseError}
-use Rattle.pv_parse.specs.Reading.{Columned, Source, fault_in, IsFault, Stops, ReadsPart, PassesToken, Skips}
+use Rattle.pv_parse.specs.Reading.{Columned, Source, fault_in, IsErrorFor, Stops, ReadsPhrase, PassesToken, Skips}
 use Rattle.pv_parse.specs.declared.cursor.Word.TheVariants.{Not}
 use Rattle.pv_parse.specs.Words.{has_no_word, StopsTooDeep}
 use Rattle.pv_parse.proofs.StepLemmas.{fault_behind, fault-on, fault-deep, place-on}
@@ -29,7 +29,7 @@ IfErr-map (Err e) f h = f e h
 pub Stops-through : (source : Source) (e other : Expected) (behind : List Expected → List Expected) (before mid : Columned)
     → ((k : List Expected) → fault_in source (e ∷ k) before ≡ fault_in source (other ∷ behind k) mid)
     → (error : ParseError) → Stops source other mid error → Stops source e before error
-Stops-through source e other behind before mid same error h = λ k. subst (λ (fault : Option (Kind × ℕ)). IsFault fault error) (sym (same k)) (h (behind k))
+Stops-through source e other behind before mid same error h = λ k. subst (λ (fault : Option (Kind × ℕ)). IsErrorFor fault error) (sym (same k)) (h (behind k))
 
 -- What is expected in two ways, and takes each token alike.
 pub record Alike (source : Source) (expected other : List Expected) (ts : Columned) : Type 0 where
@@ -39,7 +39,7 @@ pub record Alike (source : Source) (expected other : List Expected) (ts : Column
 alike : (source : Source) (expected other : List Expected) (ts : Columned) → may_end expected ≡ may_end other
     → ((t : ℕ × Token) (rest : Columned) → ts ≡ t ∷ rest → step expected t.1 ≡ step other t.1) → Alike source expected other ts
 unfolding first_fault placed
-alike source expected other [] ends steps = record { fault = ap (λ (b : Bool). if b then None else Some (malformed, source.behind)) ends; place = refl }
+alike source expected other [] ends steps = record { fault = ap (λ (b : Bool). if b then None else Some (malformed, source.after_text)) ends; place = refl }
 alike source expected other (t ∷ ts) ends steps = record {
   fault =
       ap (fault_behind source t.0 t.1 ts) (steps t ts refl);
@@ -48,35 +48,35 @@ alike source expected other (t ∷ ts) ends steps = record {
 
 -- chains
 
-chain-step : (c : Chain) (d : ℕ) (k : List Expected) (t : Token) → step ((d, part (chain c)) ∷ k) t ≡ step ((d, part (side c)) ∷ (d, more c) ∷ k) t
+chain-step : (c : Chain) (d : ℕ) (k : List Expected) (t : Token) → step ((d, phrase (chain c)) ∷ k) t ≡ step ((d, phrase (side c)) ∷ (d, more c) ∷ k) t
 unfolding step
 chain-step disjunction d k t = refl
 chain-step conjunction d k t = refl
 chain-step sum d k t = refl
 chain-step product d k t = refl
 
-chain-alike : (source : Source) (c : Chain) (d : ℕ) (k : List Expected) (ts : Columned) → Alike source ((d, part (chain c)) ∷ k) ((d, part (side c)) ∷ (d, more c) ∷ k) ts
+chain-alike : (source : Source) (c : Chain) (d : ℕ) (k : List Expected) (ts : Columned) → Alike source ((d, phrase (chain c)) ∷ k) ((d, phrase (side c)) ∷ (d, more c) ∷ k) ts
 chain-alike source c d k ts = alike source _ _ ts refl (λ t rest e. chain-step c d k t.1)
 
 -- The sides so far are the left of a chain that may go on.
 pub record ChainSoFar (source : Source) (c : Chain) (d : ℕ) (before now : Columned) (left : model.Expr) : Type 0 where
-  pub fault : (k : List Expected) → fault_in source ((d, part (chain c)) ∷ k) before ≡ fault_in source ((d, more c) ∷ k) now
+  pub fault : (k : List Expected) → fault_in source ((d, phrase (chain c)) ∷ k) before ≡ fault_in source ((d, more c) ∷ k) now
   pub reads : (k : List Expected) (behind : List Placed) (e : model.Expr) → GoesOn (item_in source.catalog) c left d (placed ((d, more c) ∷ k) now) behind e
-      → Reads (item_in source.catalog) (chain c) d (placed ((d, part (chain c)) ∷ k) before) behind e
+      → Reads (item_in source.catalog) (chain c) d (placed ((d, phrase (chain c)) ∷ k) before) behind e
   pub fewer : length now ≤ length before
 
-pub chain-first : (source : Source) (c : Chain) (d : ℕ) (before now : Columned) (left : model.Expr) → ReadsPart source (side c) d before now left
+pub chain-first : (source : Source) (c : Chain) (d : ℕ) (before now : Columned) (left : model.Expr) → ReadsPhrase source (side c) d before now left
     → ChainSoFar source c d before now left
 chain-first source c d before now left p = record {
   fault = λ k. (chain-alike source c d k before).fault ∙ p.fault ((d, more c) ∷ k);
   reads = λ k behind e g.
       subst (λ (ts : List Placed). Reads (item_in source.catalog) (chain c) d ts behind e) (sym (chain-alike source c d k before).place)
-      (grammar.chained c d (placed ((d, part (side c)) ∷ (d, more c) ∷ k) before) (placed ((d, more c) ∷ k) now) behind left e (p.reads ((d, more c) ∷ k)) g);
+      (grammar.chained c d (placed ((d, phrase (side c)) ∷ (d, more c) ∷ k) before) (placed ((d, more c) ∷ k) now) behind left e (p.reads ((d, more c) ∷ k)) g);
   fewer = p.fewer;
 }
 
 pub chain-more : (source : Source) (c : Chain) (d : ℕ) (before now mid after : Columned) (left right : model.Expr) (op : model.Op) → ChainSoFar source c d before now left
-    → IsTrue (joins c op) → PassesToken (Token.operator op) d now mid → ReadsPart source (side c) d mid after right
+    → IsTrue (joins c op) → PassesToken (Token.operator op) d now mid → ReadsPhrase source (side c) d mid after right
     → ChainSoFar source c d before after (two op left right)
 chain-more source c d before now mid after left right op s j p r =
     let shorter : length now ≡ suc (length mid) = ap (λ (ts : Columned). length ts) p.split in
@@ -85,17 +85,17 @@ chain-more source c d before now mid after left right op s j p r =
     record {
       fault = λ k.
           s.fault k ∙ ap (λ (ts : Columned). fault_in source ((d, more c) ∷ k) ts) p.split
-          ∙ fault-on source (more c) d p.column (Token.operator op) mid k ((d, part (side c)) ∷ (d, more c) ∷ k) (more-joined c d op k j) refl p.shallow
+          ∙ fault-on source (more c) d p.column (Token.operator op) mid k ((d, phrase (side c)) ∷ (d, more c) ∷ k) (more-joined c d op k j) refl p.shallow
           ∙ r.fault ((d, more c) ∷ k);
       reads = λ k behind e g. s.reads k behind e
           (subst (λ (ts : List Placed). GoesOn (item_in source.catalog) c left d ts behind e)
-          (sym (ap (λ (ts : Columned). placed ((d, more c) ∷ k) ts) p.split ∙ place-on (more c) d p.column (Token.operator op) mid k ((d, part (side c)) ∷ (d, more c) ∷ k) (more-joined c d op k j)))
-          (grammar.one_more c op left right e d (placed ((d, part (side c)) ∷ (d, more c) ∷ k) mid) (placed ((d, more c) ∷ k) after) behind j (r.reads ((d, more c) ∷ k)) g));
+          (sym (ap (λ (ts : Columned). placed ((d, more c) ∷ k) ts) p.split ∙ place-on (more c) d p.column (Token.operator op) mid k ((d, phrase (side c)) ∷ (d, more c) ∷ k) (more-joined c d op k j)))
+          (grammar.one_more c op left right e d (placed ((d, phrase (side c)) ∷ (d, more c) ∷ k) mid) (placed ((d, more c) ∷ k) after) behind j (r.reads ((d, more c) ∷ k)) g));
       fewer = omega (arith, shorter, read, whole);
     }
 
 pub chain-end : (source : Source) (c : Chain) (d : ℕ) (before now : Columned) (left : model.Expr) → ChainSoFar source c d before now left → Skips source (d, more c) now
-    → ReadsPart source (chain c) d before now left
+    → ReadsPhrase source (chain c) d before now left
 chain-end source c d before now left s n = record {
   fault = λ k. s.fault k ∙ n.fault k;
   reads = λ k. s.reads k (placed k now) left
@@ -103,66 +103,66 @@ chain-end source c d before now left s n = record {
   fewer = s.fewer;
 }
 
-pub chain-stops-first : (source : Source) (c : Chain) (d : ℕ) (before : Columned) (error : ParseError) → Stops source (d, part (side c)) before error
-    → Stops source (d, part (chain c)) before error
+pub chain-stops-first : (source : Source) (c : Chain) (d : ℕ) (before : Columned) (error : ParseError) → Stops source (d, phrase (side c)) before error
+    → Stops source (d, phrase (chain c)) before error
 chain-stops-first source c d before error h =
-    Stops-through source (d, part (chain c)) (d, part (side c)) (λ k. (d, more c) ∷ k) before before (λ k. (chain-alike source c d k before).fault) error h
+    Stops-through source (d, phrase (chain c)) (d, phrase (side c)) (λ k. (d, more c) ∷ k) before before (λ k. (chain-alike source c d k before).fault) error h
 
 pub chain-stops-operator : (source : Source) (c : Chain) (d : ℕ) (before now : Columned) (left : model.Expr) (error : ParseError) → ChainSoFar source c d before now left
-    → Stops source (d, more c) now error → Stops source (d, part (chain c)) before error
-chain-stops-operator source c d before now left error s h = Stops-through source (d, part (chain c)) (d, more c) (λ k. k) before now s.fault error h
+    → Stops source (d, more c) now error → Stops source (d, phrase (chain c)) before error
+chain-stops-operator source c d before now left error s h = Stops-through source (d, phrase (chain c)) (d, more c) (λ k. k) before now s.fault error h
 
 pub chain-stops-side : (source : Source) (c : Chain) (d : ℕ) (before now mid : Columned) (left : model.Expr) (op : model.Op) (error : ParseError)
-    → ChainSoFar source c d before now left → IsTrue (joins c op) → PassesToken (Token.operator op) d now mid → Stops source (d, part (side c)) mid error
-    → Stops source (d, part (chain c)) before error
+    → ChainSoFar source c d before now left → IsTrue (joins c op) → PassesToken (Token.operator op) d now mid → Stops source (d, phrase (side c)) mid error
+    → Stops source (d, phrase (chain c)) before error
 chain-stops-side source c d before now mid left op error s j p h =
-    Stops-through source (d, part (chain c)) (d, part (side c)) (λ k. (d, more c) ∷ k) before mid
+    Stops-through source (d, phrase (chain c)) (d, phrase (side c)) (λ k. (d, more c) ∷ k) before mid
     (λ k.
     s.fault k ∙ ap (λ (ts : Columned). fault_in source ((d, more c) ∷ k) ts) p.split
-    ∙ fault-on source (more c) d p.column (Token.operator op) mid k ((d, part (side c)) ∷ (d, more c) ∷ k) (more-joined c d op k j) refl p.shallow) error h
+    ∙ fault-on source (more c) d p.column (Token.operator op) mid k ((d, phrase (side c)) ∷ (d, more c) ∷ k) (more-joined c d op k j) refl p.shallow) error h
 
 -- comparisons
 
-comparison-alike : (source : Source) (d : ℕ) (k : List Expected) (ts : Columned) → Alike source ((d, part comparison) ∷ k) ((d, part (chain sum)) ∷ (d, comparing) ∷ k) ts
+comparison-alike : (source : Source) (d : ℕ) (k : List Expected) (ts : Columned) → Alike source ((d, phrase comparison) ∷ k) ((d, phrase (chain sum)) ∷ (d, comparing) ∷ k) ts
 unfolding step
-comparison-alike source d k ts = alike source ((d, part comparison) ∷ k) ((d, part (chain sum)) ∷ (d, comparing) ∷ k) ts refl (λ t rest e. refl)
+comparison-alike source d k ts = alike source ((d, phrase comparison) ∷ k) ((d, phrase (chain sum)) ∷ (d, comparing) ∷ k) ts refl (λ t rest e. refl)
 
-pub comparison-stops-first : (source : Source) (d : ℕ) (before : Columned) (error : ParseError) → Stops source (d, part (chain sum)) before error
-    → Stops source (d, part comparison) before error
+pub comparison-stops-first : (source : Source) (d : ℕ) (before : Columned) (error : ParseError) → Stops source (d, phrase (chain sum)) before error
+    → Stops source (d, phrase comparison) before error
 comparison-stops-first source d before error h =
-    Stops-through source (d, part comparison) (d, part (chain sum)) (λ k. (d, comparing) ∷ k) before before (λ k. (comparison-alike source d k before).fault) error h
+    Stops-through source (d, phrase comparison) (d, phrase (chain sum)) (λ k. (d, comparing) ∷ k) before before (λ k. (comparison-alike source d k before).fault) error h
 
-pub comparison-stops-operator : (source : Source) (d : ℕ) (before mid : Columned) (left : model.Expr) (error : ParseError) → ReadsPart source (chain sum) d before mid left
-    → Stops source (d, comparing) mid error → Stops source (d, part comparison) before error
+pub comparison-stops-operator : (source : Source) (d : ℕ) (before mid : Columned) (left : model.Expr) (error : ParseError) → ReadsPhrase source (chain sum) d before mid left
+    → Stops source (d, comparing) mid error → Stops source (d, phrase comparison) before error
 comparison-stops-operator source d before mid left error p h =
-    Stops-through source (d, part comparison) (d, comparing) (λ k. k) before mid (λ k. (comparison-alike source d k before).fault ∙ p.fault ((d, comparing) ∷ k)) error h
+    Stops-through source (d, phrase comparison) (d, comparing) (λ k. k) before mid (λ k. (comparison-alike source d k before).fault ∙ p.fault ((d, comparing) ∷ k)) error h
 
-comparison-fault : (source : Source) (d : ℕ) (before mid now : Columned) (left : model.Expr) (op : model.Op) (k : List Expected) → ReadsPart source (chain sum) d before mid left
-    → IsTrue (compares op) → PassesToken (Token.operator op) d mid now → fault_in source ((d, part comparison) ∷ k) before ≡ fault_in source ((d, part (chain sum)) ∷ k) now
+comparison-fault : (source : Source) (d : ℕ) (before mid now : Columned) (left : model.Expr) (op : model.Op) (k : List Expected) → ReadsPhrase source (chain sum) d before mid left
+    → IsTrue (compares op) → PassesToken (Token.operator op) d mid now → fault_in source ((d, phrase comparison) ∷ k) before ≡ fault_in source ((d, phrase (chain sum)) ∷ k) now
 comparison-fault source d before mid now left op k p j q =
     (comparison-alike source d k before).fault ∙ p.fault ((d, comparing) ∷ k) ∙ ap (λ (ts : Columned). fault_in source ((d, comparing) ∷ k) ts) q.split
-    ∙ fault-on source comparing d q.column (Token.operator op) now k ((d, part (chain sum)) ∷ k) (comparing-compared d op k j) refl q.shallow
+    ∙ fault-on source comparing d q.column (Token.operator op) now k ((d, phrase (chain sum)) ∷ k) (comparing-compared d op k j) refl q.shallow
 
 pub comparison-stops-right : (source : Source) (d : ℕ) (before mid now : Columned) (left : model.Expr) (op : model.Op) (error : ParseError)
-    → ReadsPart source (chain sum) d before mid left → IsTrue (compares op) → PassesToken (Token.operator op) d mid now → Stops source (d, part (chain sum)) now error
-    → Stops source (d, part comparison) before error
+    → ReadsPhrase source (chain sum) d before mid left → IsTrue (compares op) → PassesToken (Token.operator op) d mid now → Stops source (d, phrase (chain sum)) now error
+    → Stops source (d, phrase comparison) before error
 comparison-stops-right source d before mid now left op error p j q h =
-    Stops-through source (d, part comparison) (d, part (chain sum)) (λ k. k) before now (λ k. comparison-fault source d before mid now left op k p j q) error h
+    Stops-through source (d, phrase comparison) (d, phrase (chain sum)) (λ k. k) before now (λ k. comparison-fault source d before mid now left op k p j q) error h
 
-pub comparison-alone : (source : Source) (d : ℕ) (before mid : Columned) (left : model.Expr) → ReadsPart source (chain sum) d before mid left
-    → Skips source (d, comparing) mid → ReadsPart source comparison d before mid left
+pub comparison-alone : (source : Source) (d : ℕ) (before mid : Columned) (left : model.Expr) → ReadsPhrase source (chain sum) d before mid left
+    → Skips source (d, comparing) mid → ReadsPhrase source comparison d before mid left
 comparison-alone source d before mid left p n = record {
   fault = λ k. (comparison-alike source d k before).fault ∙ p.fault ((d, comparing) ∷ k) ∙ n.fault k;
   reads = λ k.
       subst (λ (ts : List Placed). Reads (item_in source.catalog) comparison d ts (placed k mid) left) (sym (comparison-alike source d k before).place)
-      (grammar.not_compared d (placed ((d, part (chain sum)) ∷ (d, comparing) ∷ k) before) (placed k mid) left
-      (subst (λ (ts : List Placed). Reads (item_in source.catalog) (chain sum) d (placed ((d, part (chain sum)) ∷ (d, comparing) ∷ k) before) ts left) (n.place k) (p.reads ((d, comparing) ∷ k))));
+      (grammar.not_compared d (placed ((d, phrase (chain sum)) ∷ (d, comparing) ∷ k) before) (placed k mid) left
+      (subst (λ (ts : List Placed). Reads (item_in source.catalog) (chain sum) d (placed ((d, phrase (chain sum)) ∷ (d, comparing) ∷ k) before) ts left) (n.place k) (p.reads ((d, comparing) ∷ k))));
   fewer = p.fewer;
 }
 
-pub comparison-two : (source : Source) (d : ℕ) (before mid now after : Columned) (left right : model.Expr) (op : model.Op) → ReadsPart source (chain sum) d before mid left
-    → IsTrue (compares op) → PassesToken (Token.operator op) d mid now → ReadsPart source (chain sum) d now after right
-    → ReadsPart source comparison d before after (two op left right)
+pub comparison-two : (source : Source) (d : ℕ) (before mid now after : Columned) (left right : model.Expr) (op : model.Op) → ReadsPhrase source (chain sum) d before mid left
+    → IsTrue (compares op) → PassesToken (Token.operator op) d mid now → ReadsPhrase source (chain sum) d now after right
+    → ReadsPhrase source comparison d before after (two op left right)
 comparison-two source d before mid now after left right op p j q r =
     let shorter : length mid ≡ suc (length now) = ap (λ (ts : Columned). length ts) q.split in
     let first = p.fewer in
@@ -171,9 +171,9 @@ comparison-two source d before mid now after left right op p j q r =
       fault = λ k. comparison-fault source d before mid now left op k p j q ∙ r.fault k;
       reads = λ k.
           subst (λ (ts : List Placed). Reads (item_in source.catalog) comparison d ts (placed k after) (two op left right)) (sym (comparison-alike source d k before).place)
-          (grammar.compared op d (placed ((d, part (chain sum)) ∷ (d, comparing) ∷ k) before) (placed ((d, part (chain sum)) ∷ k) now) (placed k after) left right j
-          (subst (λ (ts : List Placed). Reads (item_in source.catalog) (chain sum) d (placed ((d, part (chain sum)) ∷ (d, comparing) ∷ k) before) ts left)
-          (ap (λ (ts : Columned). placed ((d, comparing) ∷ k) ts) q.split ∙ place-on comparing d q.column (Token.operator op) now k ((d, part (chain sum)) ∷ k) (comparing-compared d op k j))
+          (grammar.compared op d (placed ((d, phrase (chain sum)) ∷ (d, comparing) ∷ k) before) (placed ((d, phrase (chain sum)) ∷ k) now) (placed k after) left right j
+          (subst (λ (ts : List Placed). Reads (item_in source.catalog) (chain sum) d (placed ((d, phrase (chain sum)) ∷ (d, comparing) ∷ k) before) ts left)
+          (ap (λ (ts : Columned). placed ((d, comparing) ∷ k) ts) q.split ∙ place-on comparing d q.column (Token.operator op) now k ((d, phrase (chain sum)) ∷ k) (comparing-compared d op k j))
           (p.reads ((d, comparing) ∷ k)))
           (r.reads k));
       fewer = omega (arith, shorter, first, second);
@@ -181,7 +181,7 @@ comparison-two source d before mid now after left right op p j q r =
 
 -- `not`
 
-negated-step : (d : ℕ) (k : List Expected) (t : ℕ × Token) (rest : Columned) → IsTrue (has_no_word Not (t ∷ rest)) → step ((d, part negated) ∷ k) t.1 ≡ step ((d, part comparison) ∷ k) t.1
+negated-step : (d : ℕ) (k : List Expected) (t : ℕ × Token) (rest : Columned) → IsTrue (has_no_word Not (t ∷ rest)) → step ((d, phrase negated) ∷ k) t.1 ≡ step ((d, phrase comparison) ∷ k) t.1
 unfolding step
 negated-step d k (column, Token.negates) rest h = let e : false ≡ true = h in absurd cc
 negated-step d k (column, Token.name word) rest h = refl
@@ -189,57 +189,57 @@ negated-step d k (column, Token.number n) rest h = refl
 negated-step d k (column, Token.operator op) rest h = refl
 negated-step d k (column, _) rest h = refl
 
-negated-alike : (source : Source) (d : ℕ) (k : List Expected) (ts : Columned) → IsTrue (has_no_word Not ts) → Alike source ((d, part negated) ∷ k) ((d, part comparison) ∷ k) ts
+negated-alike : (source : Source) (d : ℕ) (k : List Expected) (ts : Columned) → IsTrue (has_no_word Not ts) → Alike source ((d, phrase negated) ∷ k) ((d, phrase comparison) ∷ k) ts
 negated-alike source d k ts h =
-    alike source ((d, part negated) ∷ k) ((d, part comparison) ∷ k) ts refl (λ t rest e. negated-step d k t rest (subst (λ (x : Columned). IsTrue (has_no_word Not x)) e h))
+    alike source ((d, phrase negated) ∷ k) ((d, phrase comparison) ∷ k) ts refl (λ t rest e. negated-step d k t rest (subst (λ (x : Columned). IsTrue (has_no_word Not x)) e h))
 
-pub negated-comparison : (source : Source) (d : ℕ) (before after : Columned) (e : model.Expr) → IsTrue (has_no_word Not before) → ReadsPart source comparison d before after e
-    → ReadsPart source negated d before after e
+pub negated-comparison : (source : Source) (d : ℕ) (before after : Columned) (e : model.Expr) → IsTrue (has_no_word Not before) → ReadsPhrase source comparison d before after e
+    → ReadsPhrase source negated d before after e
 negated-comparison source d before after e h p = record {
   fault = λ k. (negated-alike source d k before h).fault ∙ p.fault k;
   reads = λ k.
       subst (λ (ts : List Placed). Reads (item_in source.catalog) negated d ts (placed k after) e) (sym (negated-alike source d k before h).place)
-      (grammar.not_negated d (placed ((d, part comparison) ∷ k) before) (placed k after) e (p.reads k));
+      (grammar.not_negated d (placed ((d, phrase comparison) ∷ k) before) (placed k after) e (p.reads k));
   fewer = p.fewer;
 }
 
-pub negated-stops-comparison : (source : Source) (d : ℕ) (before : Columned) (error : ParseError) → IsTrue (has_no_word Not before) → Stops source (d, part comparison) before error
-    → Stops source (d, part negated) before error
+pub negated-stops-comparison : (source : Source) (d : ℕ) (before : Columned) (error : ParseError) → IsTrue (has_no_word Not before) → Stops source (d, phrase comparison) before error
+    → Stops source (d, phrase negated) before error
 negated-stops-comparison source d before error h s =
-    Stops-through source (d, part negated) (d, part comparison) (λ k. k) before before (λ k. (negated-alike source d k before h).fault) error s
+    Stops-through source (d, phrase negated) (d, phrase comparison) (λ k. k) before before (λ k. (negated-alike source d k before h).fault) error s
 
 pub one_more : (d : ℕ) → d + 1 ≡ suc d
 one_more d = omega arith
 
 negated-fault : (source : Source) (d : ℕ) (before mid : Columned) (k : List Expected) → PassesToken Token.negates d before mid
-    → fault_in source ((d, part negated) ∷ k) before ≡ fault_in source ((suc d, part negated) ∷ k) mid
+    → fault_in source ((d, phrase negated) ∷ k) before ≡ fault_in source ((suc d, phrase negated) ∷ k) mid
 negated-fault source d before mid k q =
-    ap (λ (ts : Columned). fault_in source ((d, part negated) ∷ k) ts) q.split
-    ∙ fault-on source (part negated) d q.column Token.negates mid k ((suc d, part negated) ∷ k) refl refl q.shallow
+    ap (λ (ts : Columned). fault_in source ((d, phrase negated) ∷ k) ts) q.split
+    ∙ fault-on source (phrase negated) d q.column Token.negates mid k ((suc d, phrase negated) ∷ k) refl refl q.shallow
 
-pub negated-not : (source : Source) (d : ℕ) (before mid after : Columned) (e : model.Expr) → PassesToken Token.negates d before mid → ReadsPart source negated (d + 1) mid after e
-    → ReadsPart source negated d before after (negation e)
+pub negated-not : (source : Source) (d : ℕ) (before mid after : Columned) (e : model.Expr) → PassesToken Token.negates d before mid → ReadsPhrase source negated (d + 1) mid after e
+    → ReadsPhrase source negated d before after (negation e)
 negated-not source d before mid after e q read =
     let shorter : length before ≡ suc (length mid) = ap (λ (ts : Columned). length ts) q.split in
-    let p : ReadsPart source negated (suc d) mid after e = subst (λ (n : ℕ). ReadsPart source negated n mid after e) (one_more d) read in
+    let p : ReadsPhrase source negated (suc d) mid after e = subst (λ (n : ℕ). ReadsPhrase source negated n mid after e) (one_more d) read in
     let inner = p.fewer in
     record {
       fault = λ k. negated-fault source d before mid k q ∙ p.fault k;
       reads = λ k.
           subst (λ (ts : List Placed). Reads (item_in source.catalog) negated d ts (placed k after) (negation e))
-          (sym (ap (λ (ts : Columned). placed ((d, part negated) ∷ k) ts) q.split ∙ place-on (part negated) d q.column Token.negates mid k ((suc d, part negated) ∷ k) refl))
-          (grammar.not d (placed ((suc d, part negated) ∷ k) mid) (placed k after) e (p.reads k));
+          (sym (ap (λ (ts : Columned). placed ((d, phrase negated) ∷ k) ts) q.split ∙ place-on (phrase negated) d q.column Token.negates mid k ((suc d, phrase negated) ∷ k) refl))
+          (grammar.not d (placed ((suc d, phrase negated) ∷ k) mid) (placed k after) e (p.reads k));
       fewer = omega (arith, shorter, inner);
     }
 
 pub negated-stops-not : (source : Source) (d : ℕ) (before mid : Columned) (error : ParseError) → PassesToken Token.negates d before mid
-    → Stops source (d + 1, part negated) mid error → Stops source (d, part negated) before error
+    → Stops source (d + 1, phrase negated) mid error → Stops source (d, phrase negated) before error
 negated-stops-not source d before mid error q s =
-    Stops-through source (d, part negated) (suc d, part negated) (λ k. k) before mid (λ k. negated-fault source d before mid k q) error
-    (subst (λ (n : ℕ). Stops source (n, part negated) mid error) (one_more d) s)
+    Stops-through source (d, phrase negated) (suc d, phrase negated) (λ k. k) before mid (λ k. negated-fault source d before mid k q) error
+    (subst (λ (n : ℕ). Stops source (n, phrase negated) mid error) (one_more d) s)
 
-pub negated-deep : (source : Source) (d : ℕ) (before : Columned) (error : ParseError) → StopsTooDeep Not d before error → Stops source (d, part negated) before error
+pub negated-deep : (source : Source) (d : ℕ) (before : Columned) (error : ParseError) → StopsTooDeep Not d before error → Stops source (d, phrase negated) before error
 negated-deep source d before error is =
-    subst (λ (x : ParseError). Stops source (d, part negated) before x) (sym is.is)
-    (λ k. ap (λ (ts : Columned). fault_in source ((d, part negated) ∷ k) ts) is.next
-    ∙ fault-deep source (part negated) d is.column Token.negates _ k ((suc d, part negated) ∷ k) refl refl is.deep)
+    subst (λ (x : ParseError). Stops source (d, phrase negated) before x) (sym is.is)
+    (λ k. ap (λ (ts : Columned). fault_in source ((d, phrase negated) ∷ k) ts) is.next
+    ∙ fault-deep source (phrase negated) d is.column Token.negates _ k ((suc d, phrase negated) ∷ k) refl refl is.deep)

@@ -2,14 +2,16 @@
 use Rattle.std.proofs.Common.{◌≡◌, ℕ, suc, zero, ◌+◌, ◌<◌, ◌≤◌, Bool, true, false, Option, Some, None, List, [], ◌∷◌, ◌++◌, length, get_or, take, drop, min, refl, sym, ap, ◌∙◌, subst, ⊎_elim, inl, inr, arith}
 use Rattle.std.specs.Prelude.{◌⊎◌}
 use Rattle.std.specs.List.{list_all}
+use Rattle.std.proofs.lemmas.Option.{none-some}
+use Rattle.pv_law_programs.proofs.FaultLemmas.{token_is_long}
 use Rattle.std.proofs.lemmas.Bool.{cases_lt, both_ways, not_from_false}
 use Rattle.std.proofs.lemmas.List.{take-append-drop, length-take-le, length-append, get_or_append_left, get_or-take}
 use Rattle.std.proofs.Math.Seq.{take-append_seam}
 use Rattle.pv_base.specs.Name.{is_lower, is_digit, continues_name}
-use Rattle.pv_model.specs.Text.{is_blank, value_of}
+use Rattle.pv_model.specs.Text.{is_blank, number_of_digits}
 use Rattle.pv_model.specs.Tokens.{Token, number, stray, is_name_word, is_digits, token_of, AreTokens, at_token, at_stray}
 use Rattle.pv_parse.specs.TokenView.{StartsWith, IsOther, listed}
-use Rattle.pv_parse.proofs.TokenKinds.{token_some, word_at_lower, digits_at_digit, short_at_other, token_of-listed, no_token_at_other, token_of-digits, all_from_each, each_from_all, word_continues, word_short, word_from_each, digits_from_each, digits_all, none_some}
+use Rattle.pv_parse.proofs.TokenKinds.{word_at_lower, digits_at_digit, short_at_other, token_of-listed, no_token_at_other, token_of-digits, all_from_each, each_from_all, word_continues, word_short, word_from_each, digits_from_each, digits_all}
 
 cases_le : (a b : ℕ) → (a ≤ b) ⊎ (b < a)
 cases_le a b = ⊎_elim (λ (h : b < a). inr h) (λ (h : a ≤ b). inl h) (cases_lt b a)
@@ -68,7 +70,7 @@ word_starts text size t lower some within short end is = starts text size t some
   where
     longest : (longer other : List ℕ) (u : Token) → text ≡ longer ++ other → token_of longer ≡ Some u → length longer ≤ size
     longest longer other u split token =
-        let some = token_some longer u token in
+        let some = token_is_long longer u token in
         let word = word_at_lower longer u (ap is_lower (front_first text longer other split some) ∙ lower) some token in
         let short = word_short longer word in
         let fits = front_fits text longer other split in
@@ -86,13 +88,13 @@ front_is_digits text size some within each =
 
 pub number_starts : (text : List ℕ) (size : ℕ) → is_digit (get_or text 0 0) ≡ true → 1 ≤ size → size ≤ length text →
     ((k : ℕ) → k < size → is_digit (get_or text k 0) ≡ true) →
-    (size < length text → is_digit (get_or text size 0) ≡ false) → StartsWith text (number (value_of (take size text))) size
+    (size < length text → is_digit (get_or text size 0) ≡ false) → StartsWith text (number (number_of_digits (take size text))) size
 number_starts text size digit some within each end =
-    starts text size (number (value_of (take size text))) some within (token_of-digits (take size text) (front_is_digits text size some within each)) longest
+    starts text size (number (number_of_digits (take size text))) some within (token_of-digits (take size text) (front_is_digits text size some within each)) longest
   where
     longest : (longer other : List ℕ) (u : Token) → text ≡ longer ++ other → token_of longer ≡ Some u → length longer ≤ size
     longest longer other u split token =
-        let some = token_some longer u token in
+        let some = token_is_long longer u token in
         let digits = digits_at_digit longer u (ap is_digit (front_first text longer other split some) ∙ digit) some token in
         let fits = front_fits text longer other split in
         ⊎_elim (λ (h : length longer ≤ size). h)
@@ -104,7 +106,7 @@ number_starts text size digit some within each end =
 -- A token that begins otherwise is the front of one or two bytes.
 other_front : (text longer other : List ℕ) (u : Token) → IsOther (get_or text 0 0) → text ≡ longer ++ other → token_of longer ≡ Some u → length longer ≤ min (length text) 2
 other_front text longer other u begins split token =
-    let some = token_some longer u token in
+    let some = token_is_long longer u token in
     let first : IsOther (get_or longer 0 0) = subst IsOther (sym (front_first text longer other split some)) begins in
     let short = short_at_other longer u first token in
     let fits = front_fits text longer other split in
@@ -123,12 +125,12 @@ single_front : (text longer other : List ℕ) (u : Token) (size : ℕ) → size 
     text ≡ longer ++ other → token_of longer ≡ Some u → length longer ≤ 1
 single_front text longer other u size two begins unlisted split token =
     let short = other_front text longer other u begins split token in
-    let some = token_some longer u token in
+    let some = token_is_long longer u token in
     ⊎_elim (λ (h : length longer ≤ 1). h)
     (λ (h : 1 < length longer).
     let whole : length longer ≡ size = omega arith in
     let same : longer ≡ take size text = front_is_take text longer other split ∙ ap (λ (n : ℕ). take n text) whole in
-    absurd (none_some u (sym (no_token_at_other (take size text) (other_taken text size begins (omega arith)) unlisted) ∙ sym (ap token_of same) ∙ token)))
+    absurd (none-some u (sym (no_token_at_other (take size text) (other_taken text size begins (omega arith)) unlisted) ∙ sym (ap token_of same) ∙ token)))
     (cases_le (length longer) 1)
 
 pub single_starts : (text : List ℕ) (size : ℕ) (t : Token) → size ≡ min (length text) 2 → IsOther (get_or text 0 0) → 1 ≤ length text →
@@ -140,11 +142,11 @@ single_starts text size t two begins some unlisted is =
 no_front : (text longer other : List ℕ) (u : Token) (size : ℕ) → size ≡ min (length text) 2 → IsOther (get_or text 0 0) → listed (take size text) ≡ None →
     listed (take 1 text) ≡ None → text ≡ longer ++ other → token_of longer ≡ Some u → ⊥
 no_front text longer other u size two begins unlisted single split token =
-    let some = token_some longer u token in
+    let some = token_is_long longer u token in
     let short = single_front text longer other u size two begins unlisted split token in
     let one : length longer ≡ 1 = omega arith in
     let same : longer ≡ take 1 text = front_is_take text longer other split ∙ ap (λ (n : ℕ). take n text) one in
-    none_some u (sym (no_token_at_other (take 1 text) (other_taken text 1 begins (omega arith)) single) ∙ sym (ap token_of same) ∙ token)
+    none-some u (sym (no_token_at_other (take 1 text) (other_taken text 1 begins (omega arith)) single) ∙ sym (ap token_of same) ∙ token)
 
 none_unless : (o : Option Token) → ((u : Token) → o ≡ Some u → ⊥) → o ≡ None
 none_unless None h = refl

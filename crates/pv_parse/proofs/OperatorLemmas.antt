@@ -5,21 +5,21 @@ use Rattle.pv_model.specs.Syntax as model
 use Rattle.pv_model.specs.Tokens.{Token}
 use Rattle.pv_model.specs.Grammar.{Chain, joins, compares, side, chain, sum}
 use Rattle.pv_model.specs.ProgramText.{too_deep, item_in}
-use Rattle.pv_model.specs.Prediction.{more, comparing, part, mark, Mark, is_mark, Expected, behind_symbol, is_unknown, placed}
-use Rattle.pv_model.proofs.Basics.{never, heads}
+use Rattle.pv_law_programs.specs.Prediction.{more, comparing, phrase, punctuation, Punctuation, is_punctuation, Expected, after_symbol, is_unknown, placed}
+use Rattle.pv_base.proofs.Basics.{never, heads}
 use Rattle.pv_parse.specs.declared.error.ParseError.TheVariants.{Malformed, TooDeep}
-use Rattle.pv_parse.specs.declared.parser.Mark.{Mark as Marked}
-use Rattle.pv_parse.specs.declared.parser.Mark.TheVariants.{Becomes, Open, Close, OpenBody, CloseBody, Comma}
-use Rattle.pv_parse.specs.ChainView.{mark_of, token_of_mark}
-use Rattle.pv_parse.specs.Reading.{Columned, Source, fault_in, has_no_operator, rest_of, Skips, Stops, PassesMark}
+use Rattle.pv_parse.specs.declared.parser.Punctuation.{Punctuation as Marked}
+use Rattle.pv_parse.specs.declared.parser.Punctuation.TheVariants.{Becomes, Open, Close, OpenBody, CloseBody, Comma}
+use Rattle.pv_parse.specs.ChainView.{punctuation_of, token_of_punctuation}
+use Rattle.pv_parse.specs.Reading.{Columned, Source, fault_in, has_no_operator, rest_of, Skips, Stops, PassesPunctuation}
 use Rattle.pv_parse.proofs.StepLemmas.{fault-on, fault-deep, fault-none, fault-end, place-on, skips}
 
 -- no operator, no more sides
-more-none : (c : Chain) (d column : ℕ) (t : Token) (rest : Columned) (k : List Expected) → IsTrue (has_no_operator ((column, t) ∷ rest)) → behind_symbol (more c) d t k ≡ None
+more-none : (c : Chain) (d column : ℕ) (t : Token) (rest : Columned) (k : List Expected) → IsTrue (has_no_operator ((column, t) ∷ rest)) → after_symbol (more c) d t k ≡ None
 more-none c d column (Token.operator op) rest k h = absurd (never h)
 more-none c d column _ rest k h = refl
 
-comparing-none : (d column : ℕ) (t : Token) (rest : Columned) (k : List Expected) → IsTrue (has_no_operator ((column, t) ∷ rest)) → behind_symbol comparing d t k ≡ None
+comparing-none : (d column : ℕ) (t : Token) (rest : Columned) (k : List Expected) → IsTrue (has_no_operator ((column, t) ∷ rest)) → after_symbol comparing d t k ≡ None
 comparing-none d column (Token.operator op) rest k h = absurd (never h)
 comparing-none d column _ rest k h = refl
 
@@ -29,47 +29,47 @@ skips-more source c d ts h = skips source (more c) d ts refl (λ t rest k e. mor
 pub skips-comparing : (source : Source) (d : ℕ) (ts : Columned) → IsTrue (has_no_operator ts) → Skips source (d, comparing) ts
 skips-comparing source d ts h = skips source comparing d ts refl (λ t rest k e. comparing-none d t.0 t.1 rest k (subst (λ (x : Columned). IsTrue (has_no_operator x)) e h))
 
-more-other : (c : Chain) (d : ℕ) (op : model.Op) (k : List Expected) → joins c op ≡ false → behind_symbol (more c) d (Token.operator op) k ≡ None
-more-other c d op k h = ap (λ (b : Bool). if b then Some ((d, part (side c)) ∷ (d, more c) ∷ k) else None) h
+more-other : (c : Chain) (d : ℕ) (op : model.Op) (k : List Expected) → joins c op ≡ false → after_symbol (more c) d (Token.operator op) k ≡ None
+more-other c d op k h = ap (λ (b : Bool). if b then Some ((d, phrase (side c)) ∷ (d, more c) ∷ k) else None) h
 
-comparing-other : (d : ℕ) (op : model.Op) (k : List Expected) → compares op ≡ false → behind_symbol comparing d (Token.operator op) k ≡ None
-comparing-other d op k h = ap (λ (b : Bool). if b then Some ((d, part (chain sum)) ∷ k) else None) h
+comparing-other : (d : ℕ) (op : model.Op) (k : List Expected) → compares op ≡ false → after_symbol comparing d (Token.operator op) k ≡ None
+comparing-other d op k h = ap (λ (b : Bool). if b then Some ((d, phrase (chain sum)) ∷ k) else None) h
 
-pub more-joined : (c : Chain) (d : ℕ) (op : model.Op) (k : List Expected) → joins c op ≡ true → behind_symbol (more c) d (Token.operator op) k ≡ Some ((d, part (side c)) ∷ (d, more c) ∷ k)
-more-joined c d op k h = ap (λ (b : Bool). if b then Some ((d, part (side c)) ∷ (d, more c) ∷ k) else None) h
+pub more-joined : (c : Chain) (d : ℕ) (op : model.Op) (k : List Expected) → joins c op ≡ true → after_symbol (more c) d (Token.operator op) k ≡ Some ((d, phrase (side c)) ∷ (d, more c) ∷ k)
+more-joined c d op k h = ap (λ (b : Bool). if b then Some ((d, phrase (side c)) ∷ (d, more c) ∷ k) else None) h
 
-pub comparing-compared : (d : ℕ) (op : model.Op) (k : List Expected) → compares op ≡ true → behind_symbol comparing d (Token.operator op) k ≡ Some ((d, part (chain sum)) ∷ k)
-comparing-compared d op k h = ap (λ (b : Bool). if b then Some ((d, part (chain sum)) ∷ k) else None) h
+pub comparing-compared : (d : ℕ) (op : model.Op) (k : List Expected) → compares op ≡ true → after_symbol comparing d (Token.operator op) k ≡ Some ((d, phrase (chain sum)) ∷ k)
+comparing-compared d op k h = ap (λ (b : Bool). if b then Some ((d, phrase (chain sum)) ∷ k) else None) h
 
 pub skips-more-other : (source : Source) (c : Chain) (d column : ℕ) (op : model.Op) (ts rest : Columned) → ts ≡ (column, Token.operator op) ∷ rest → joins c op ≡ false → Skips source (d, more c) ts
 skips-more-other source c d column op ts rest e h =
     skips source (more c) d ts refl
     (λ t after k same.
     let is : Token.operator op ≡ t.1 = ap (λ (x : ℕ × Token). x.1) (heads (sym e ∙ same)) in
-    subst (λ (x : Token). behind_symbol (more c) d x k ≡ None) is (more-other c d op k h))
+    subst (λ (x : Token). after_symbol (more c) d x k ≡ None) is (more-other c d op k h))
 
 pub skips-comparing-other : (source : Source) (d column : ℕ) (op : model.Op) (ts rest : Columned) → ts ≡ (column, Token.operator op) ∷ rest → compares op ≡ false → Skips source (d, comparing) ts
 skips-comparing-other source d column op ts rest e h =
     skips source comparing d ts refl
     (λ t after k same.
     let is : Token.operator op ≡ t.1 = ap (λ (x : ℕ × Token). x.1) (heads (sym e ∙ same)) in
-    subst (λ (x : Token). behind_symbol comparing d x k ≡ None) is (comparing-other d op k h))
+    subst (λ (x : Token). after_symbol comparing d x k ≡ None) is (comparing-other d op k h))
 
 pub stops-more : (source : Source) (c : Chain) (d column : ℕ) (op : model.Op) (ts rest : Columned) → ts ≡ (column, Token.operator op) ∷ rest → joins c op ≡ true → 32 < d
     → Stops source (d, more c) ts (TooDeep column)
 stops-more source c d column op ts rest e h deep =
     λ k. subst (λ (x : Columned). fault_in source ((d, more c) ∷ k) x ≡ Some (too_deep, column)) (sym e)
-    (fault-deep source (more c) d column (Token.operator op) rest k ((d, part (side c)) ∷ (d, more c) ∷ k) (more-joined c d op k h) refl deep)
+    (fault-deep source (more c) d column (Token.operator op) rest k ((d, phrase (side c)) ∷ (d, more c) ∷ k) (more-joined c d op k h) refl deep)
 
 pub stops-comparing : (source : Source) (d column : ℕ) (op : model.Op) (ts rest : Columned) → ts ≡ (column, Token.operator op) ∷ rest → compares op ≡ true → 32 < d
     → Stops source (d, comparing) ts (TooDeep column)
 stops-comparing source d column op ts rest e h deep =
     λ k. subst (λ (x : Columned). fault_in source ((d, comparing) ∷ k) x ≡ Some (too_deep, column)) (sym e)
-    (fault-deep source comparing d column (Token.operator op) rest k ((d, part (chain sum)) ∷ k) (comparing-compared d op k h) refl deep)
+    (fault-deep source comparing d column (Token.operator op) rest k ((d, phrase (chain sum)) ∷ k) (comparing-compared d op k h) refl deep)
 
 -- marks
 
-pub mark-is : (m : Marked) (t : Token) → is_mark (mark_of m) t ≡ true → t ≡ token_of_mark m
+pub mark-is : (m : Marked) (t : Token) → is_punctuation (punctuation_of m) t ≡ true → t ≡ token_of_punctuation m
 mark-is Becomes Token.becomes h = refl
 mark-is Becomes _ h = absurd (never h)
 mark-is Open Token.opens h = refl
@@ -83,10 +83,10 @@ mark-is CloseBody _ h = absurd (never h)
 mark-is Comma Token.parts h = refl
 mark-is Comma _ h = absurd (never h)
 
-mark-behind : (m : Mark) (d : ℕ) (t : Token) (k : List Expected) (b : Bool) → is_mark m t ≡ b → behind_symbol (mark m) d t k ≡ (if b then Some k else None)
+mark-behind : (m : Punctuation) (d : ℕ) (t : Token) (k : List Expected) (b : Bool) → is_punctuation m t ≡ b → after_symbol (punctuation m) d t k ≡ (if b then Some k else None)
 mark-behind m d t k b h = ap (λ (b : Bool). if b then Some k else None) h
 
-mark-known : (source : Source) (m : Marked) → is_unknown (item_in source.catalog) (token_of_mark m) ≡ false
+mark-known : (source : Source) (m : Marked) → is_unknown (item_in source.catalog) (token_of_punctuation m) ≡ false
 mark-known source Becomes = refl
 mark-known source Open = refl
 mark-known source Close = refl
@@ -94,31 +94,31 @@ mark-known source OpenBody = refl
 mark-known source CloseBody = refl
 mark-known source Comma = refl
 
-pub passes-mark : (source : Source) (m : Marked) (d column : ℕ) (t : Token) (ts : Columned) → ts ≡ (column, t) ∷ rest_of ts → is_mark (mark_of m) t ≡ true → d ≤ 32
-    → PassesMark source (mark_of m) (token_of_mark m) d ts (rest_of ts)
+pub passes-mark : (source : Source) (m : Marked) (d column : ℕ) (t : Token) (ts : Columned) → ts ≡ (column, t) ∷ rest_of ts → is_punctuation (punctuation_of m) t ≡ true → d ≤ 32
+    → PassesPunctuation source (punctuation_of m) (token_of_punctuation m) d ts (rest_of ts)
 passes-mark source m d column t [] e h shallow = absurd cc
 passes-mark source m d column t (x ∷ ts) e h shallow =
-    let same : t ≡ token_of_mark m = mark-is m t h in
-    let at : x ≡ (column, token_of_mark m) = heads e ∙ ap (λ (y : Token). (column, y)) same in
-    let is : is_mark (mark_of m) (token_of_mark m) ≡ true = subst (λ (y : Token). is_mark (mark_of m) y ≡ true) same h in
+    let same : t ≡ token_of_punctuation m = mark-is m t h in
+    let at : x ≡ (column, token_of_punctuation m) = heads e ∙ ap (λ (y : Token). (column, y)) same in
+    let is : is_punctuation (punctuation_of m) (token_of_punctuation m) ≡ true = subst (λ (y : Token). is_punctuation (punctuation_of m) y ≡ true) same h in
     record {
-      fault = λ k. subst (λ (y : ℕ × Token). fault_in source ((d, mark (mark_of m)) ∷ k) (y ∷ ts) ≡ fault_in source k ts) (sym at)
-          (fault-on source (mark (mark_of m)) d column (token_of_mark m) ts k k (mark-behind (mark_of m) d (token_of_mark m) k true is) (mark-known source m) shallow);
-      place = λ k. subst (λ (y : ℕ × Token). placed ((d, mark (mark_of m)) ∷ k) (y ∷ ts) ≡ (d, token_of_mark m) ∷ placed k ts) (sym at)
-          (place-on (mark (mark_of m)) d column (token_of_mark m) ts k k (mark-behind (mark_of m) d (token_of_mark m) k true is));
+      fault = λ k. subst (λ (y : ℕ × Token). fault_in source ((d, punctuation (punctuation_of m)) ∷ k) (y ∷ ts) ≡ fault_in source k ts) (sym at)
+          (fault-on source (punctuation (punctuation_of m)) d column (token_of_punctuation m) ts k k (mark-behind (punctuation_of m) d (token_of_punctuation m) k true is) (mark-known source m) shallow);
+      place = λ k. subst (λ (y : ℕ × Token). placed ((d, punctuation (punctuation_of m)) ∷ k) (y ∷ ts) ≡ (d, token_of_punctuation m) ∷ placed k ts) (sym at)
+          (place-on (punctuation (punctuation_of m)) d column (token_of_punctuation m) ts k k (mark-behind (punctuation_of m) d (token_of_punctuation m) k true is));
       fewer = omega arith;
     }
 
-pub stops-mark-deep : (source : Source) (m : Marked) (d column : ℕ) (t : Token) (ts : Columned) → ts ≡ (column, t) ∷ rest_of ts → is_mark (mark_of m) t ≡ true → 32 < d
-    → Stops source (d, mark (mark_of m)) ts (TooDeep column)
+pub stops-mark-deep : (source : Source) (m : Marked) (d column : ℕ) (t : Token) (ts : Columned) → ts ≡ (column, t) ∷ rest_of ts → is_punctuation (punctuation_of m) t ≡ true → 32 < d
+    → Stops source (d, punctuation (punctuation_of m)) ts (TooDeep column)
 stops-mark-deep source m d column t ts e h deep =
-    let same : t ≡ token_of_mark m = mark-is m t h in
-    let is : is_mark (mark_of m) (token_of_mark m) ≡ true = subst (λ (y : Token). is_mark (mark_of m) y ≡ true) same h in
-    λ k. subst (λ (x : Columned). fault_in source ((d, mark (mark_of m)) ∷ k) x ≡ Some (too_deep, column)) (sym (e ∙ ap (λ (y : Token). (column, y) ∷ rest_of ts) same))
-    (fault-deep source (mark (mark_of m)) d column (token_of_mark m) (rest_of ts) k k (mark-behind (mark_of m) d (token_of_mark m) k true is) (mark-known source m) deep)
+    let same : t ≡ token_of_punctuation m = mark-is m t h in
+    let is : is_punctuation (punctuation_of m) (token_of_punctuation m) ≡ true = subst (λ (y : Token). is_punctuation (punctuation_of m) y ≡ true) same h in
+    λ k. subst (λ (x : Columned). fault_in source ((d, punctuation (punctuation_of m)) ∷ k) x ≡ Some (too_deep, column)) (sym (e ∙ ap (λ (y : Token). (column, y) ∷ rest_of ts) same))
+    (fault-deep source (punctuation (punctuation_of m)) d column (token_of_punctuation m) (rest_of ts) k k (mark-behind (punctuation_of m) d (token_of_punctuation m) k true is) (mark-known source m) deep)
 
-pub stops-mark-other : (source : Source) (m : Mark) (d : ℕ) (t : ℕ × Token) (rest : Columned) → is_mark m t.1 ≡ false → Stops source (d, mark m) (t ∷ rest) (Malformed t.0)
-stops-mark-other source m d t rest h = λ k. fault-none source (mark m) d t.0 t.1 rest k (mark-behind m d t.1 k false h) refl
+pub stops-mark-other : (source : Source) (m : Punctuation) (d : ℕ) (t : ℕ × Token) (rest : Columned) → is_punctuation m t.1 ≡ false → Stops source (d, punctuation m) (t ∷ rest) (Malformed t.0)
+stops-mark-other source m d t rest h = λ k. fault-none source (punctuation m) d t.0 t.1 rest k (mark-behind m d t.1 k false h) refl
 
-pub stops-mark-end : (source : Source) (m : Mark) (d : ℕ) → Stops source (d, mark m) [] (Malformed source.behind)
-stops-mark-end source m d = λ k. fault-end source (mark m) d k refl
+pub stops-mark-end : (source : Source) (m : Punctuation) (d : ℕ) → Stops source (d, punctuation m) [] (Malformed source.after_text)
+stops-mark-end source m d = λ k. fault-end source (punctuation m) d k refl

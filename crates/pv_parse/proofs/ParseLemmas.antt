@@ -1,16 +1,19 @@
 -- From what is read of all tokens to what the text is, or is refused for.
 use Rattle.std.proofs.Common.{◌≡◌, ℕ, ◌+◌, ◌≤◌, Some, None, Result, Err, IfOk, IfErr, IfSome, List, [], ◌∷◌, length, refl, sym, ap, ◌∙◌, subst}
 use Rattle.std.specs.Prelude.{◌≢◌}
+use Rattle.pv_base.specs.Answer.{HasOneAnswer}
 use Rattle.pv_base.specs.Catalog.{Declared}
+use Rattle.pv_base.specs.declared.limits.TheConstants.{MAX_LINE}
 use Rattle.pv_model.specs.Syntax as model
 use Rattle.pv_model.specs.Tokens.{Token, HasTokens}
 use Rattle.pv_model.specs.ProgramText.{malformed, unknown_name, too_deep, item_in, IsProgramText, Refusal, too_large, at_fault, IsRefused}
 use Rattle.pv_model.specs.Grammar.{ReadsProgram}
-use Rattle.pv_model.specs.Prediction.{program, step, at_start, placed, first_fault}
-use Rattle.pv_model.proofs.AcceptedLemmas.{placed-of}
-use Rattle.pv_model.proofs.LeftmostLemmas.{refused}
-use Rattle.pv_model.proofs.NoRefusalLemmas.{no_refusal}
-use Rattle.pv_model.proofs.ProgramTextLemmas.{one_program_text, one_refusal}
+use Rattle.pv_law_programs.specs.Prediction.{program, step, at_start, placed, first_fault}
+use Rattle.pv_law_programs.proofs.AcceptedLemmas.{placed-of}
+use Rattle.pv_law_programs.proofs.LeftmostLemmas.{refused}
+use Rattle.pv_law_programs.proofs.NoRefusalLemmas.{no_refusal}
+use Rattle.pv_law_programs.proofs.ProgramTextLemmas.{one_program_text, one_refusal}
+use Rattle.pv_law_programs.proofs.SomeAnswer.{some_answer}
 use Rattle.pv_parse.specs.declared.error.ParseError.{ParseError}
 use Rattle.pv_parse.specs.declared.error.ParseError.TheVariants.{TooLarge, Malformed, UnknownName, TooDeep, NoMemory}
 use Rattle.pv_parse.specs.Reading.{Columned, Source, fault_in, Stops}
@@ -41,15 +44,15 @@ faults-of source before error h = h []
 
 -- the source of a text
 abbrev pub source_for : Declared → List ℕ → Source
-source_for catalog text = record { catalog = catalog; behind = length text + 1 }
+source_for catalog text = record { catalog = catalog; after_text = length text + 1 }
 
-pub program-text : (catalog : Declared) (text : List ℕ) (tokens : Columned) (p : model.Program) → length text ≤ 1000 → HasTokens text tokens → ReadsAll (source_for catalog text) tokens p
+pub program-text : (catalog : Declared) (text : List ℕ) (tokens : Columned) (p : model.Program) → length text ≤ MAX_LINE → HasTokens text tokens → ReadsAll (source_for catalog text) tokens p
     → IsProgramText catalog text p
 program-text catalog text tokens p short has r =
     let is = placed-of (item_in catalog) (length text + 1) tokens r.faultless in
     record { short = short; tokens = tokens; has = has; are = record { placed = placed at_start tokens; same = is.0; reads = r.reads }; shallow = is.1 }
 
-pub refused-text : (catalog : Declared) (text : List ℕ) (tokens : Columned) (error : ParseError) → length text ≤ 1000 → HasTokens text tokens → Faults (source_for catalog text) tokens error
+pub refused-text : (catalog : Declared) (text : List ℕ) (tokens : Columned) (error : ParseError) → length text ≤ MAX_LINE → HasTokens text tokens → Faults (source_for catalog text) tokens error
     → IfSome (refusal_of error) (IsRefused catalog text)
 refused-text catalog text tokens (TooLarge n) short has f = absurd f
 refused-text catalog text tokens (Malformed column) short has f = refused catalog text tokens malformed column short has f
@@ -57,33 +60,11 @@ refused-text catalog text tokens (UnknownName column) short has f = refused cata
 refused-text catalog text tokens (TooDeep column) short has f = refused catalog text tokens too_deep column short has f
 refused-text catalog text tokens NoMemory short has f = tt
 
--- What one of the answers is, it is of every program and every refusal of the text.
-
-pub read-ok : (catalog : Declared) (text : List ℕ) (p q : model.Program) → IsProgramText catalog text p → IsProgramText catalog text q → p ≡ q
-read-ok catalog text p q a b = one_program_text catalog text p q a b
-
-pub read-err : (catalog : Declared) (text : List ℕ) (error : ParseError) (p : model.Program) → IfSome (refusal_of error) (IsRefused catalog text) → IsProgramText catalog text p → error ≡ NoMemory
-read-err catalog text (TooLarge n) p f a = absurd (no_refusal catalog text p (too_large n) a f)
-read-err catalog text (Malformed column) p f a = absurd (no_refusal catalog text p (at_fault malformed column) a f)
-read-err catalog text (UnknownName column) p f a = absurd (no_refusal catalog text p (at_fault unknown_name column) a f)
-read-err catalog text (TooDeep column) p f a = absurd (no_refusal catalog text p (at_fault too_deep column) a f)
-read-err catalog text NoMemory p f a = refl
-
-pub refuses-err : (catalog : Declared) (text : List ℕ) (error : ParseError) (refusal : Refusal) → IfSome (refusal_of error) (IsRefused catalog text) → IsRefused catalog text refusal → error ≢ NoMemory
-    → refusal_of error ≡ Some refusal
-refuses-err catalog text (TooLarge n) refusal f a h = ap Some (one_refusal catalog text (too_large n) refusal f a)
-refuses-err catalog text (Malformed column) refusal f a h = ap Some (one_refusal catalog text (at_fault malformed column) refusal f a)
-refuses-err catalog text (UnknownName column) refusal f a h = ap Some (one_refusal catalog text (at_fault unknown_name column) refusal f a)
-refuses-err catalog text (TooDeep column) refusal f a h = ap Some (one_refusal catalog text (at_fault too_deep column) refusal f a)
-refuses-err catalog text NoMemory refusal f a h = absurd (h refl)
-
--- How a refusal that isn't want of memory answers a program and a refusal of the text.
-pub read-of : {X : Type 0} (catalog : Declared) (text : List ℕ) (r : Result X ParseError) (p : model.Program) (P : X → Type 0) (error : ParseError) → r ≡ Err error
-    → IfSome (refusal_of error) (IsRefused catalog text) → IsProgramText catalog text p → IfOk r P × IfErr r (λ e. e ≡ NoMemory)
-read-of catalog text r p P error same f a =
-    subst (λ x. IfOk x P × IfErr x (λ e. e ≡ NoMemory)) (sym same) (tt, read-err catalog text error p f a)
-
-pub refuses-of : {X : Type 0} (catalog : Declared) (text : List ℕ) (r : Result X ParseError) (refusal : Refusal) (error : ParseError) → r ≡ Err error
-    → IfSome (refusal_of error) (IsRefused catalog text) → IsRefused catalog text refusal → IfOk r (λ _. ⊥) × IfErr r (λ e. e ≢ NoMemory → refusal_of e ≡ Some refusal)
-refuses-of catalog text r refusal error same f a =
-    subst (λ x. IfOk x (λ _. ⊥) × IfErr x (λ e. e ≢ NoMemory → refusal_of e ≡ Some refusal)) (sym same) (tt, λ h. refuses-err catalog text error refusal f a h)
+-- Each text has exactly one answer.
+pub one : (catalog : Declared) (text : List ℕ) → HasOneAnswer (IsProgramText catalog text) (IsRefused catalog text)
+one catalog text = record {
+  some = some_answer catalog text;
+  one_value = one_program_text catalog text;
+  one_fault = one_refusal catalog text;
+  not_both = no_refusal catalog text;
+}

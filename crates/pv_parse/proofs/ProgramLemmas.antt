@@ -13,7 +13,7 @@ use Rattle.pv_model.specs.Tokens.{Token}
 use Rattle.pv_model.specs.Grammar as grammar
 use Rattle.pv_model.specs.Grammar.{Placed, disjunction, chain, Reads, ReadsProgram, ReadsNext}
 use Rattle.pv_model.specs.ProgramText.{item_in}
-use Rattle.pv_model.specs.Prediction.{part, mark, program, next, other, becomes, opens_body, closes_body, Expected, behind_symbol, placed}
+use Rattle.pv_law_programs.specs.Prediction.{phrase, punctuation, program, next, other, becomes, opens_body, closes_body, Expected, after_symbol, placed}
 use Rattle.pv_parse.specs.declared.error.ParseError.{ParseError}
 use Rattle.pv_parse.specs.declared.error.ParseError.TheVariants.{Malformed, UnknownName, TooDeep}
 use Rattle.pv_parse.specs.declared.token.Token.{Token as Read}
@@ -21,22 +21,22 @@ use Rattle.pv_parse.specs.declared.token.Token.TheVariants as read
 use Rattle.pv_parse.specs.declared.cursor.Word.TheVariants.{Next, Else}
 use Rattle.pv_parse.specs.TokenView.{token_of}
 use Rattle.pv_parse.specs.Words.{has_no_word, StopsTooDeep}
-use Rattle.pv_parse.specs.Reading.{Columned, Source, fault_in, Skips, Stops, ReadsPart, PassesMark}
+use Rattle.pv_parse.specs.Reading.{Columned, Source, fault_in, Skips, Stops, ReadsPhrase, PassesPunctuation}
 use Rattle.pv_parse.specs.ReadingPrograms.{ReadsStmt}
 use Rattle.pv_parse.proofs.StepLemmas.{fault-deep, fault-unknown, fault-none, fault-end, skips}
 use Rattle.pv_parse.proofs.ExpressionLemmas.{Stops-through}
 use Rattle.pv_parse.proofs.UnaryLemmas.{Begins, begins-fault, begins-place, begins-fewer, begins-deep, unknown-name, known-name}
 
 abbrev pub expression : ℕ → Expected
-expression d = (d, part (chain disjunction))
+expression d = (d, phrase (chain disjunction))
 
 -- words that may be left out
 
-next-none : (d : ℕ) (t : ℕ × Token) (rest : Columned) (k : List Expected) → IsTrue (has_no_word Next (t ∷ rest)) → behind_symbol next d t.1 k ≡ None
+next-none : (d : ℕ) (t : ℕ × Token) (rest : Columned) (k : List Expected) → IsTrue (has_no_word Next (t ∷ rest)) → after_symbol next d t.1 k ≡ None
 next-none d (column, Token.then_next) rest k h = let e : false ≡ true = h in absurd cc
 next-none d (column, _) rest k h = refl
 
-other-none : (d : ℕ) (t : ℕ × Token) (rest : Columned) (k : List Expected) → IsTrue (has_no_word Else (t ∷ rest)) → behind_symbol other d t.1 k ≡ None
+other-none : (d : ℕ) (t : ℕ × Token) (rest : Columned) (k : List Expected) → IsTrue (has_no_word Else (t ∷ rest)) → after_symbol other d t.1 k ≡ None
 other-none d (column, Token.otherwise) rest k h = let e : false ≡ true = h in absurd cc
 other-none d (column, _) rest k h = refl
 
@@ -55,7 +55,7 @@ pub other-deep : (source : Source) (d : ℕ) (before : Columned) (error : ParseE
 other-deep source d before error is =
     subst (λ (x : ParseError). Stops source (d, other) before x) (sym is.is)
     (λ k. ap (λ (ts : Columned). fault_in source ((d, other) ∷ k) ts) is.next
-    ∙ fault-deep source other d is.column Token.otherwise _ k ((d, mark opens_body) ∷ (suc d, program) ∷ (d, mark closes_body) ∷ k) refl refl is.deep)
+    ∙ fault-deep source other d is.column Token.otherwise _ k ((d, punctuation opens_body) ∷ (suc d, program) ∷ (d, punctuation closes_body) ∷ k) refl refl is.deep)
 
 -- `require` and `return`
 
@@ -80,7 +80,7 @@ pub reads-word : (source : Source) (t : Token) (d column : ℕ) (before mid afte
     → Begins source (d, program) t column before mid (λ k. expression d ∷ (d, next) ∷ k) → d ≤ 32
     → ((ts rest behind : List Placed) (q : model.Program) → Reads (item_in source.catalog) (chain disjunction) d ts rest (expr_of e) → ReadsNext (item_in source.catalog) d rest behind q
     → ReadsProgram (item_in source.catalog) d ((d, t) ∷ ts) behind (followed_by stmt q))
-    → ReadsPart source (chain disjunction) d mid after (expr_of e) → ReadsStmt source d before after stmt
+    → ReadsPhrase source (chain disjunction) d mid after (expr_of e) → ReadsStmt source d before after stmt
 reads-word source t d column before mid after e stmt b shallow made p =
     let shorter = begins-fewer source (d, program) t column before mid (λ k. expression d ∷ (d, next) ∷ k) b in
     let inner = p.fewer in
@@ -94,13 +94,13 @@ reads-word source t d column before mid after e stmt b shallow made p =
     }
 
 pub reads-require : (source : Source) (d column : ℕ) (before mid after : Columned) (e : Expr) → before ≡ (column, Token.requires) ∷ mid → d ≤ 32
-    → ReadsPart source (chain disjunction) d mid after (expr_of e) → ReadsStmt source d before after (Require e)
+    → ReadsPhrase source (chain disjunction) d mid after (expr_of e) → ReadsStmt source d before after (Require e)
 reads-require source d column before mid after e split shallow p =
     reads-word source Token.requires d column before mid after e (Require e) (begins-require source d column before mid split) shallow
     (λ ts rest behind q r n. grammar.requires d ts rest behind (expr_of e) q r n) p
 
 pub reads-return : (source : Source) (d column : ℕ) (before mid after : Columned) (e : Expr) → before ≡ (column, Token.returns) ∷ mid → d ≤ 32
-    → ReadsPart source (chain disjunction) d mid after (expr_of e) → ReadsStmt source d before after (Return e)
+    → ReadsPhrase source (chain disjunction) d mid after (expr_of e) → ReadsStmt source d before after (Return e)
 reads-return source d column before mid after e split shallow p =
     reads-word source Token.returns d column before mid after e (Return e) (begins-return source d column before mid split) shallow
     (λ ts rest behind q r n. grammar.returns d ts rest behind (expr_of e) q r n) p
@@ -108,7 +108,7 @@ reads-return source d column before mid after e split shallow p =
 -- assignments
 
 abbrev behind_name : ℕ → List Expected → List Expected
-behind_name d k = (d, mark becomes) ∷ expression d ∷ (d, next) ∷ k
+behind_name d k = (d, punctuation becomes) ∷ expression d ∷ (d, next) ∷ k
 
 pub begins-assign : (source : Source) (word : List ℕ) (n d column : ℕ) (before after : Columned) → before ≡ (column, Token.name word) ∷ after → item_in source.catalog word ≡ Some n
     → Begins source (d, program) (Token.name word) column before after (behind_name d)
@@ -127,19 +127,19 @@ stops-assign-name source word d column before after error e (Some n) h unknown d
     (begins-deep source (d, program) (Token.name word) column before after (behind_name d) (begins-assign source word n d column before after e h) is.1)
 
 pub stops-assign-mark : (source : Source) (word : List ℕ) (n d column : ℕ) (before mid : Columned) (error : ParseError) → before ≡ (column, Token.name word) ∷ mid → item_in source.catalog word ≡ Some n → d ≤ 32
-    → Stops source (d, mark becomes) mid error → Stops source (d, program) before error
+    → Stops source (d, punctuation becomes) mid error → Stops source (d, program) before error
 stops-assign-mark source word n d column before mid error e h shallow s =
-    Stops-through source (d, program) (d, mark becomes) (λ k. expression d ∷ (d, next) ∷ k) before mid
+    Stops-through source (d, program) (d, punctuation becomes) (λ k. expression d ∷ (d, next) ∷ k) before mid
     (begins-fault source (d, program) (Token.name word) column before mid (behind_name d) (begins-assign source word n d column before mid e h) shallow) error s
 
 pub stops-assign-value : (source : Source) (word : List ℕ) (n d column : ℕ) (before mid now : Columned) (error : ParseError) → before ≡ (column, Token.name word) ∷ mid → item_in source.catalog word ≡ Some n → d ≤ 32
-    → PassesMark source becomes Token.becomes d mid now → Stops source (expression d) now error → Stops source (d, program) before error
+    → PassesPunctuation source becomes Token.becomes d mid now → Stops source (expression d) now error → Stops source (d, program) before error
 stops-assign-value source word n d column before mid now error e h shallow m s =
     Stops-through source (d, program) (expression d) (λ k. (d, next) ∷ k) before now
     (λ k. begins-fault source (d, program) (Token.name word) column before mid (behind_name d) (begins-assign source word n d column before mid e h) shallow k ∙ m.fault (expression d ∷ (d, next) ∷ k)) error s
 
 pub reads-assign : (source : Source) (word : List ℕ) (d column : ℕ) (before mid now after : Columned) (item : ItemId) (e : Expr) → before ≡ (column, Token.name word) ∷ mid → item_in source.catalog word ≡ Some item.0 → d ≤ 32
-    → PassesMark source becomes Token.becomes d mid now → ReadsPart source (chain disjunction) d now after (expr_of e) → ReadsStmt source d before after (Assign item e)
+    → PassesPunctuation source becomes Token.becomes d mid now → ReadsPhrase source (chain disjunction) d now after (expr_of e) → ReadsStmt source d before after (Assign item e)
 reads-assign source word d column before mid now after item e split h shallow m p =
     let b = begins-assign source word item.0 d column before mid split h in
     let shorter = begins-fewer source (d, program) (Token.name word) column before mid (behind_name d) b in
@@ -171,7 +171,7 @@ other-statement read.Return a b c d = absurd (c refl)
 other-statement read.If a b c d = absurd (d refl)
 other-statement _ a b c d = refl
 
-stmt-none : (d : ℕ) (t : Token) (k : List Expected) → IsTrue (begins_no_stmt t) → behind_symbol program d t k ≡ None
+stmt-none : (d : ℕ) (t : Token) (k : List Expected) → IsTrue (begins_no_stmt t) → after_symbol program d t k ≡ None
 stmt-none d (Token.name word) k h = let e : false ≡ true = h in absurd cc
 stmt-none d Token.requires k h = let e : false ≡ true = h in absurd cc
 stmt-none d Token.returns k h = let e : false ≡ true = h in absurd cc
@@ -182,5 +182,5 @@ pub stmt-other : (source : Source) (d column : ℕ) (t : Token) (before after : 
 stmt-other source d column t before after e h = λ k.
     ap (λ (ts : Columned). fault_in source ((d, program) ∷ k) ts) e ∙ fault-none source program d column t after k (stmt-none d t k h) refl
 
-pub stmt-end : (source : Source) (d : ℕ) → Stops source (d, program) [] (Malformed source.behind)
+pub stmt-end : (source : Source) (d : ℕ) → Stops source (d, program) [] (Malformed source.after_text)
 stmt-end source d = λ k. fault-end source program d k refl

@@ -5,7 +5,7 @@ use Rattle.std.proofs.lemmas.Bool.{lt-ltb, le-ltb}
 use Rattle.std.specs.Option.{option_map_or}
 use Rattle.pv_model.specs.Tokens.{Token}
 use Rattle.pv_model.specs.ProgramText.{Kind, malformed, unknown_name, too_deep, item_in}
-use Rattle.pv_model.specs.Prediction.{Symbol, Expected, is_optional, may_end, behind_symbol, step, placed, is_unknown, first_fault}
+use Rattle.pv_law_programs.specs.Prediction.{Symbol, Expected, is_optional, may_end, after_symbol, step, placed, is_unknown, first_fault}
 use Rattle.pv_parse.specs.Reading.{Columned, Source, fault_in, Skips}
 
 -- the first fault from a token on, by what is expected behind it, or where it can't come
@@ -14,61 +14,61 @@ fault_behind source column t ts behind =
     option_map_or (λ (now : ℕ × List Expected). if is_unknown (item_in source.catalog) t then Some (unknown_name, column) else (if nat_lt 32 now.0 then Some (too_deep, column) else fault_in source now.1 ts))
     behind (Some (malformed, column))
 
-pub step-behind : (s : Symbol) (d : ℕ) (t : Token) (more k : List Expected) → behind_symbol s d t more ≡ Some k → step ((d, s) ∷ more) t ≡ Some (d, k)
+pub step-behind : (s : Symbol) (d : ℕ) (t : Token) (more k : List Expected) → after_symbol s d t more ≡ Some k → step ((d, s) ∷ more) t ≡ Some (d, k)
 unfolding step
 step-behind s d t more k e = ap (λ (x : Option (List Expected)). option_map_or (λ (m : List Expected). Some (d, m)) x (if is_optional s then step more t else None)) e
 
-pub step-skip : (s : Symbol) (d : ℕ) (t : Token) (more : List Expected) → behind_symbol s d t more ≡ None → is_optional s ≡ true → step ((d, s) ∷ more) t ≡ step more t
+pub step-skip : (s : Symbol) (d : ℕ) (t : Token) (more : List Expected) → after_symbol s d t more ≡ None → is_optional s ≡ true → step ((d, s) ∷ more) t ≡ step more t
 unfolding step
 step-skip s d t more e o =
     ap (λ (x : Option (List Expected)). option_map_or (λ (m : List Expected). Some (d, m)) x (if is_optional s then step more t else None)) e
     ∙ ap (λ (b : Bool). if b then step more t else None) o
 
-pub step-none : (s : Symbol) (d : ℕ) (t : Token) (more : List Expected) → behind_symbol s d t more ≡ None → is_optional s ≡ false → step ((d, s) ∷ more) t ≡ None
+pub step-none : (s : Symbol) (d : ℕ) (t : Token) (more : List Expected) → after_symbol s d t more ≡ None → is_optional s ≡ false → step ((d, s) ∷ more) t ≡ None
 unfolding step
 step-none s d t more e o =
     ap (λ (x : Option (List Expected)). option_map_or (λ (m : List Expected). Some (d, m)) x (if is_optional s then step more t else None)) e
     ∙ ap (λ (b : Bool). if b then step more t else None) o
 
 -- The token is passed.
-pub fault-on : (source : Source) (s : Symbol) (d column : ℕ) (t : Token) (ts : Columned) (more k : List Expected) → behind_symbol s d t more ≡ Some k
+pub fault-on : (source : Source) (s : Symbol) (d column : ℕ) (t : Token) (ts : Columned) (more k : List Expected) → after_symbol s d t more ≡ Some k
     → is_unknown (item_in source.catalog) t ≡ false → d ≤ 32 → fault_in source ((d, s) ∷ more) ((column, t) ∷ ts) ≡ fault_in source k ts
 unfolding first_fault
 fault-on source s d column t ts more k e known h =
     ap (fault_behind source column t ts) (step-behind s d t more k e)
-    ∙ ap (λ (b : Bool). if b then Some (unknown_name, column) else (if nat_lt 32 d then Some (too_deep, column) else first_fault (item_in source.catalog) source.behind k ts)) known
-    ∙ ap (λ (b : Bool). if b then Some (too_deep, column) else first_fault (item_in source.catalog) source.behind k ts) (le-ltb 32 d h)
+    ∙ ap (λ (b : Bool). if b then Some (unknown_name, column) else (if nat_lt 32 d then Some (too_deep, column) else first_fault (item_in source.catalog) source.after_text k ts)) known
+    ∙ ap (λ (b : Bool). if b then Some (too_deep, column) else first_fault (item_in source.catalog) source.after_text k ts) (le-ltb 32 d h)
 
 -- The token is nested too deeply.
-pub fault-deep : (source : Source) (s : Symbol) (d column : ℕ) (t : Token) (ts : Columned) (more k : List Expected) → behind_symbol s d t more ≡ Some k
+pub fault-deep : (source : Source) (s : Symbol) (d column : ℕ) (t : Token) (ts : Columned) (more k : List Expected) → after_symbol s d t more ≡ Some k
     → is_unknown (item_in source.catalog) t ≡ false → 32 < d → fault_in source ((d, s) ∷ more) ((column, t) ∷ ts) ≡ Some (too_deep, column)
 unfolding first_fault
 fault-deep source s d column t ts more k e known h =
     ap (fault_behind source column t ts) (step-behind s d t more k e)
-    ∙ ap (λ (b : Bool). if b then Some (unknown_name, column) else (if nat_lt 32 d then Some (too_deep, column) else first_fault (item_in source.catalog) source.behind k ts)) known
-    ∙ ap (λ (b : Bool). if b then Some (too_deep, column) else first_fault (item_in source.catalog) source.behind k ts) (lt-ltb 32 d h)
+    ∙ ap (λ (b : Bool). if b then Some (unknown_name, column) else (if nat_lt 32 d then Some (too_deep, column) else first_fault (item_in source.catalog) source.after_text k ts)) known
+    ∙ ap (λ (b : Bool). if b then Some (too_deep, column) else first_fault (item_in source.catalog) source.after_text k ts) (lt-ltb 32 d h)
 
 -- The token is a name that no item has.
-pub fault-unknown : (source : Source) (s : Symbol) (d column : ℕ) (t : Token) (ts : Columned) (more k : List Expected) → behind_symbol s d t more ≡ Some k
+pub fault-unknown : (source : Source) (s : Symbol) (d column : ℕ) (t : Token) (ts : Columned) (more k : List Expected) → after_symbol s d t more ≡ Some k
     → is_unknown (item_in source.catalog) t ≡ true → fault_in source ((d, s) ∷ more) ((column, t) ∷ ts) ≡ Some (unknown_name, column)
 unfolding first_fault
 fault-unknown source s d column t ts more k e unknown =
     ap (fault_behind source column t ts) (step-behind s d t more k e)
-    ∙ ap (λ (b : Bool). if b then Some (unknown_name, column) else (if nat_lt 32 d then Some (too_deep, column) else first_fault (item_in source.catalog) source.behind k ts)) unknown
+    ∙ ap (λ (b : Bool). if b then Some (unknown_name, column) else (if nat_lt 32 d then Some (too_deep, column) else first_fault (item_in source.catalog) source.after_text k ts)) unknown
 
 -- The token can't come.
-pub fault-none : (source : Source) (s : Symbol) (d column : ℕ) (t : Token) (ts : Columned) (more : List Expected) → behind_symbol s d t more ≡ None → is_optional s ≡ false
+pub fault-none : (source : Source) (s : Symbol) (d column : ℕ) (t : Token) (ts : Columned) (more : List Expected) → after_symbol s d t more ≡ None → is_optional s ≡ false
     → fault_in source ((d, s) ∷ more) ((column, t) ∷ ts) ≡ Some (malformed, column)
 unfolding first_fault
 fault-none source s d column t ts more e o =
     ap (fault_behind source column t ts) (step-none s d t more e o)
 
 -- The text ends too early.
-pub fault-end : (source : Source) (s : Symbol) (d : ℕ) (more : List Expected) → is_optional s ≡ false → fault_in source ((d, s) ∷ more) [] ≡ Some (malformed, source.behind)
+pub fault-end : (source : Source) (s : Symbol) (d : ℕ) (more : List Expected) → is_optional s ≡ false → fault_in source ((d, s) ∷ more) [] ≡ Some (malformed, source.after_text)
 unfolding first_fault
-fault-end source s d more o = ap (λ (b : Bool). if (b && may_end more) then None else Some (malformed, source.behind)) o
+fault-end source s d more o = ap (λ (b : Bool). if (b && may_end more) then None else Some (malformed, source.after_text)) o
 
-pub place-on : (s : Symbol) (d column : ℕ) (t : Token) (ts : Columned) (more k : List Expected) → behind_symbol s d t more ≡ Some k
+pub place-on : (s : Symbol) (d column : ℕ) (t : Token) (ts : Columned) (more k : List Expected) → after_symbol s d t more ≡ Some k
     → placed ((d, s) ∷ more) ((column, t) ∷ ts) ≡ (d, t) ∷ placed k ts
 unfolding placed
 place-on s d column t ts more k e =
@@ -76,9 +76,9 @@ place-on s d column t ts more k e =
 
 -- Nothing more comes of what may be left out.
 pub skips : (source : Source) (s : Symbol) (d : ℕ) (ts : Columned) → is_optional s ≡ true
-    → ((t : ℕ × Token) (rest : Columned) (more : List Expected) → ts ≡ t ∷ rest → behind_symbol s d t.1 more ≡ None) → Skips source (d, s) ts
+    → ((t : ℕ × Token) (rest : Columned) (more : List Expected) → ts ≡ t ∷ rest → after_symbol s d t.1 more ≡ None) → Skips source (d, s) ts
 unfolding first_fault placed
-skips source s d [] o h = record { fault = λ more. ap (λ (b : Bool). if (b && may_end more) then None else Some (malformed, source.behind)) o; place = λ more. refl }
+skips source s d [] o h = record { fault = λ more. ap (λ (b : Bool). if (b && may_end more) then None else Some (malformed, source.after_text)) o; place = λ more. refl }
 skips source s d (t ∷ ts) o h = record {
   fault = λ more.
       ap (fault_behind source t.0 t.1 ts) (step-skip s d t.1 more (h t ts more refl) o);

@@ -4,23 +4,21 @@ use Rattle.std.specs.Prelude.{nat_le, ◌==◌}
 use Rattle.std.specs.List.{list_all}
 use Rattle.std.specs.Option.{option_map, option_map_or}
 use Rattle.std.specs.Str.{bytes_eq}
+use Rattle.std.proofs.lemmas.Option.{none-some}
 use Rattle.std.proofs.lemmas.Bool.{and_parts, and_from, and_left, or_cases, or_left, or_right, leb-true, lt-leb, le-leb, cases_Bool, both_ways, not_from_true, not_from_false}
 use Rattle.std.proofs.lemmas.Slice.Eq.{bytes_eq-Decides}
 use Rattle.pv_base.specs.Name.{is_lower, is_digit, continues_name, is_spelled_as_name}
-use Rattle.pv_model.specs.Text.{value_of}
+use Rattle.pv_model.specs.Text.{number_of_digits}
 use Rattle.pv_model.specs.Tokens.{Token, name, number, words_and_symbols, is_name_word, is_digits, name_or_number, token_of}
 use denote.Ref.{Bor}
 use Rattle.pv_parse.specs.declared.token.Token as code
 use Rattle.pv_parse.specs.TokenView.{IsOther, beside, listed}
 use Rattle.pv_parse.specs.TokenView.{token_of as token_view}
 
-pub none_some : {A : Type 0} (x : A) → None ≡ Some x → ⊥
-none_some x e = cc
-
 -- What holds of each text in a table holds of bytes that are found there.
 found_all : (Q : List ℕ → Bool) (bytes : List ℕ) (table : List (List ℕ × Token)) (entry : List ℕ × Token) →
     list_all (λ e. Q e.0) table ≡ true → find (λ e. bytes_eq bytes e.0) table ≡ Some entry → Q bytes ≡ true
-found_all Q bytes [] entry all found = absurd (none_some entry found)
+found_all Q bytes [] entry all found = absurd (none-some entry found)
 found_all Q bytes (e ∷ table) entry all found = go (bytes_eq bytes e.0) refl (λ is. found_all Q bytes table entry ((and_parts (Q e.0) (list_all (λ f. Q f.0) table) all).1) is) found
   where
     go : (b : Bool) → bytes_eq bytes e.0 ≡ b → (find (λ f. bytes_eq bytes f.0) table ≡ Some entry → Q bytes ≡ true) → cond b (Some e) (find (λ f. bytes_eq bytes f.0) table) ≡ Some entry → Q bytes ≡ true
@@ -31,10 +29,10 @@ named : (bytes : List ℕ) (t : Token) (P : Type 0) → (is_name_word bytes ≡ 
 named bytes t P word digits is = go (is_name_word bytes) refl (is_digits bytes) refl is
   where
     go : (w : Bool) → is_name_word bytes ≡ w → (d : Bool) → is_digits bytes ≡ d →
-        cond w (Some (name bytes)) (cond d (Some (number (value_of bytes))) None) ≡ Some t → P
+        cond w (Some (name bytes)) (cond d (Some (number (number_of_digits bytes))) None) ≡ Some t → P
     go true is_word d e is = word is_word
     go false other true are_digits is = digits are_digits
-    go false other false neither is = absurd (none_some t is)
+    go false other false neither is = absurd (none-some t is)
 
 -- What holds of each listed text, of words and of digits holds of all bytes that are a token.
 all_tokens : (Q : List ℕ → Bool) (bytes : List ℕ) (t : Token) → list_all (λ e. Q e.0) words_and_symbols ≡ true →
@@ -56,23 +54,10 @@ digit_no_lower b digit =
 is_some : List ℕ → Bool
 is_some bytes = nat_le 1 (length bytes)
 
-some_digits : (bytes : List ℕ) → is_digits bytes ≡ true → is_some bytes ≡ true
-unfolding is_digits is_some
-some_digits [] h = h
-some_digits (b ∷ bs) h = le-leb 1 (length (b ∷ bs)) (omega arith)
-
 some_word : (bytes : List ℕ) → is_name_word bytes ≡ true → is_some bytes ≡ true
 unfolding is_spelled_as_name is_some
 some_word [] h = h
 some_word (b ∷ bs) h = le-leb 1 (length (b ∷ bs)) (omega arith)
-
-some_listed : list_all (λ e. is_some e.0) words_and_symbols ≡ true
-unfolding words_and_symbols is_some
-some_listed = refl
-
-pub token_some : (bytes : List ℕ) (t : Token) → token_of bytes ≡ Some t → 1 ≤ length bytes
-unfolding is_some
-token_some bytes t is = leb-true 1 (length bytes) (all_tokens is_some bytes t some_listed (some_word bytes) (some_digits bytes) is)
 
 -- A token that begins with a lower-case letter is a word.
 is_word_at_lower : List ℕ → Bool
@@ -171,7 +156,7 @@ token_of-listed bytes t is = go (find (λ e. bytes_eq bytes e.0) words_and_symbo
   where
     go : (found : Option (List ℕ × Token)) → option_map (λ e. e.1) found ≡ Some t → option_map_or (λ e. Some e.1) found (name_or_number bytes) ≡ Some t
     go (Some entry) is = is
-    go None is = absurd (none_some t is)
+    go None is = absurd (none-some t is)
 
 -- What isn't listed is a name, a number or no token.
 pub token_of-unlisted : (bytes : List ℕ) → listed bytes ≡ None → token_of bytes ≡ name_or_number bytes
@@ -179,12 +164,12 @@ unfolding token_of listed
 token_of-unlisted bytes is = go (find (λ e. bytes_eq bytes e.0) words_and_symbols) is
   where
     go : (found : Option (List ℕ × Token)) → option_map (λ e. e.1) found ≡ None → option_map_or (λ e. Some e.1) found (name_or_number bytes) ≡ name_or_number bytes
-    go (Some entry) is = absurd (none_some entry.1 (sym is))
+    go (Some entry) is = absurd (none-some entry.1 (sym is))
     go None is = refl
 
 pub token_of-name : (bytes : List ℕ) → is_name_word bytes ≡ true → listed bytes ≡ None → token_of bytes ≡ Some (name bytes)
 token_of-name bytes word is =
-    token_of-unlisted bytes is ∙ ap (λ (b : Bool). cond b (Some (name bytes)) (cond (is_digits bytes) (Some (number (value_of bytes))) None)) word
+    token_of-unlisted bytes is ∙ ap (λ (b : Bool). cond b (Some (name bytes)) (cond (is_digits bytes) (Some (number (number_of_digits bytes))) None)) word
 
 no_word_at_other : (bytes : List ℕ) → IsOther (get_or bytes 0 0) → is_name_word bytes ≡ true → ⊥
 unfolding is_some
@@ -227,11 +212,11 @@ digits_no_word (b ∷ bs) digits =
     ⊎_elim (λ word. absurd (both_ways (is_lower b) (digit_no_lower b ((and_parts (is_digit b) (list_all is_digit bs) digits).0)) (first_is_lower b bs word)))
     (λ no. no) (cases_Bool (is_name_word (b ∷ bs)))
 
-pub token_of-digits : (bytes : List ℕ) → is_digits bytes ≡ true → token_of bytes ≡ Some (number (value_of bytes))
+pub token_of-digits : (bytes : List ℕ) → is_digits bytes ≡ true → token_of bytes ≡ Some (number (number_of_digits bytes))
 token_of-digits bytes digits =
     token_of-unlisted bytes (digits_unlisted bytes digits)
-    ∙ ap (λ (w : Bool). cond w (Some (name bytes)) (cond (is_digits bytes) (Some (number (value_of bytes))) None)) (digits_no_word bytes digits)
-    ∙ ap (λ (d : Bool). cond d (Some (number (value_of bytes))) None) digits
+    ∙ ap (λ (w : Bool). cond w (Some (name bytes)) (cond (is_digits bytes) (Some (number (number_of_digits bytes))) None)) (digits_no_word bytes digits)
+    ∙ ap (λ (d : Bool). cond d (Some (number (number_of_digits bytes))) None) digits
 
 -- A test of all bytes, and of each.
 pub all_from_each : (p : ℕ → Bool) (bytes : List ℕ) → ((k : ℕ) → k < length bytes → p (get_or bytes k 0) ≡ true) → list_all p bytes ≡ true

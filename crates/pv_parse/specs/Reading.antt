@@ -1,11 +1,11 @@
--- What a step of reading promises, whatever is expected behind what it reads.
+-- What a step of reading promises, whatever is expected after what it reads.
 use Rattle.std.specs.Prelude.{◌≡◌, ℕ, ◌≤◌, Bool, true, false, Option, Some, None, List, [], ◌∷◌, length, IsTrue}
 use Rattle.pv_base.specs.Catalog.{Declared}
 use Rattle.pv_model.specs.Syntax as model
 use Rattle.pv_model.specs.Tokens.{Token}
-use Rattle.pv_model.specs.Grammar.{Part, Reads}
+use Rattle.pv_model.specs.Grammar.{Phrase, Reads}
 use Rattle.pv_model.specs.ProgramText.{Kind, malformed, unknown_name, too_deep, item_in}
-use Rattle.pv_model.specs.Prediction.{Symbol, part, mark, Mark, Expected, placed, first_fault}
+use Rattle.pv_law_programs.specs.Prediction.{Symbol, phrase, punctuation, Punctuation, Expected, placed, first_fault}
 use Rattle.pv_ast.specs.declared.expr.Op.{Op}
 use Rattle.pv_ast.specs.OpView.{op_of}
 use Rattle.pv_parse.specs.declared.error.ParseError.{ParseError}
@@ -15,23 +15,23 @@ use Rattle.pv_parse.specs.declared.error.ParseError.TheVariants.{TooLarge, Malfo
 abbrev pub Columned : Type 0
 Columned = List (ℕ × Token)
 
--- what a text is read with: the items, and the column behind the text
+-- what a text is read with: the items, and the column after the text
 pub record Source : Type 0 where
   pub catalog : Declared
-  pub behind : ℕ
+  pub after_text : ℕ
 
 -- the first fault of tokens where these things are expected
 abbrev pub fault_in : Source → List Expected → Columned → Option (Kind × ℕ)
-fault_in source expected tokens = first_fault (item_in source.catalog) source.behind expected tokens
+fault_in source expected tokens = first_fault (item_in source.catalog) source.after_text expected tokens
 
--- the tokens behind the first
+-- the tokens after the first
 abbrev pub rest_of : Columned → Columned
 rest_of [] = []
 rest_of (t ∷ ts) = ts
 
--- the column of the first token, or the one behind the text
+-- the column of the first token, or the one after the text
 abbrev pub column_of : Source → Columned → ℕ
-column_of source [] = source.behind
+column_of source [] = source.after_text
 column_of source (t ∷ ts) = t.0
 
 -- The token is next.
@@ -49,28 +49,28 @@ has_no_operator [] = true
 has_no_operator ((column, Token.operator op) ∷ ts) = false
 has_no_operator (t ∷ ts) = true
 
--- The error names the first fault of tokens. Want of memory may come at any place.
-abbrev pub IsFault : Option (Kind × ℕ) → ParseError → Type 0
-IsFault fault (TooLarge n) = ⊥
-IsFault fault (Malformed column) = fault ≡ Some (malformed, column)
-IsFault fault (UnknownName column) = fault ≡ Some (unknown_name, column)
-IsFault fault (TooDeep column) = fault ≡ Some (too_deep, column)
-IsFault fault NoMemory = Unit {0}
+-- The error names the first fault of tokens. `NoMemory` may come at any place.
+abbrev pub IsErrorFor : Option (Kind × ℕ) → ParseError → Type 0
+IsErrorFor fault (TooLarge n) = ⊥
+IsErrorFor fault (Malformed column) = fault ≡ Some (malformed, column)
+IsErrorFor fault (UnknownName column) = fault ≡ Some (unknown_name, column)
+IsErrorFor fault (TooDeep column) = fault ≡ Some (too_deep, column)
+IsErrorFor fault NoMemory = Unit {0}
 
--- The error names the first fault of tokens where this and anything behind it is expected.
+-- The error names the first fault of tokens where this and anything after it is expected.
 abbrev pub Stops : Source → Expected → Columned → ParseError → Type 0
-Stops source e tokens error = (more : List Expected) → IsFault (fault_in source (e ∷ more) tokens) error
+Stops source e tokens error = (more : List Expected) → IsErrorFor (fault_in source (e ∷ more) tokens) error
 
--- Tokens up to a rest are a part of an expression. The tokens before the rest are the longest part that stands first.
-pub record ReadsPart (source : Source) (p : Part) (d : ℕ) (before after : Columned) (e : model.Expr) : Type 0 where
-  pub fault : (more : List Expected) → fault_in source ((d, part p) ∷ more) before ≡ fault_in source more after
-  pub reads : (more : List Expected) → Reads (item_in source.catalog) p d (placed ((d, part p) ∷ more) before) (placed more after) e
+-- Tokens up to a rest are a phrase of an expression. The tokens before the rest are the longest phrase that stands first.
+pub record ReadsPhrase (source : Source) (p : Phrase) (d : ℕ) (before after : Columned) (e : model.Expr) : Type 0 where
+  pub fault : (more : List Expected) → fault_in source ((d, phrase p) ∷ more) before ≡ fault_in source more after
+  pub reads : (more : List Expected) → Reads (item_in source.catalog) p d (placed ((d, phrase p) ∷ more) before) (placed more after) e
   pub fewer : length after ≤ length before
 
--- The next token is the mark.
-pub record PassesMark (source : Source) (m : Mark) (token : Token) (d : ℕ) (before after : Columned) : Type 0 where
-  pub fault : (more : List Expected) → fault_in source ((d, mark m) ∷ more) before ≡ fault_in source more after
-  pub place : (more : List Expected) → placed ((d, mark m) ∷ more) before ≡ (d, token) ∷ placed more after
+-- The next token is this punctuation.
+pub record PassesPunctuation (source : Source) (m : Punctuation) (token : Token) (d : ℕ) (before after : Columned) : Type 0 where
+  pub fault : (more : List Expected) → fault_in source ((d, punctuation m) ∷ more) before ≡ fault_in source more after
+  pub place : (more : List Expected) → placed ((d, punctuation m) ∷ more) before ≡ (d, token) ∷ placed more after
   pub fewer : length after ≤ length before
 
 -- What may be left out is left out: the next token doesn't go on with it.

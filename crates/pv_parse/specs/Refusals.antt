@@ -3,12 +3,12 @@ use Rattle.std.specs.Prelude.{◌≡◌, Option, Some, None, []}
 use Rattle.pv_model.specs.Syntax as model
 use Rattle.pv_model.specs.Grammar.{ReadsProgram}
 use Rattle.pv_model.specs.ProgramText.{malformed, unknown_name, too_deep, item_in, Refusal, too_large, at_fault}
-use Rattle.pv_model.specs.Prediction.{at_start, placed}
+use Rattle.pv_law_programs.specs.Prediction.{at_start, placed}
 use Rattle.pv_parse.specs.declared.error.ParseError.{ParseError}
 use Rattle.pv_parse.specs.declared.error.ParseError.TheVariants.{TooLarge, Malformed, UnknownName, TooDeep, NoMemory}
-use Rattle.pv_parse.specs.Reading.{Columned, Source, fault_in, IsFault}
+use Rattle.pv_parse.specs.Reading.{Columned, Source, fault_in, IsErrorFor}
 
--- Want of memory refuses no text.
+-- `NoMemory` refuses no text.
 abbrev pub refusal_of : ParseError → Option Refusal
 refusal_of (TooLarge n) = Some (too_large n)
 refusal_of (Malformed column) = Some (at_fault malformed column)
@@ -23,4 +23,4 @@ pub record ReadsAll (source : Source) (tokens : Columned) (program : model.Progr
 
 -- The error names the first fault of all tokens.
 abbrev pub Faults : Source → Columned → ParseError → Type 0
-Faults source tokens error = IsFault (fault_in source at_start tokens) error
+Faults source tokens error = IsErrorFor (fault_in source at_start tokens) error

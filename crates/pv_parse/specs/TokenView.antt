@@ -5,7 +5,7 @@ use Rattle.std.specs.Str.{bytes_eq}
 use denote.Ref.{Bor}
 use Rattle.pv_base.specs.Name.{is_lower, is_digit}
 use Rattle.pv_ast.specs.OpView.{op_of}
-use Rattle.pv_model.specs.Text.{value_of}
+use Rattle.pv_model.specs.Text.{number_of_digits}
 use Rattle.pv_model.specs.Tokens as model
 use Rattle.pv_parse.specs.declared.token.Located.{Located}
 use Rattle.pv_parse.specs.declared.token.Token.{Token}
@@ -14,7 +14,7 @@ use Rattle.pv_parse.specs.declared.token.Token.TheVariants.{Name, Number, Operat
 -- a token
 abbrev pub token_of : Token → model.Token
 token_of (Name word) = model.name word.now
-token_of (Number digits) = model.number (value_of digits.now)
+token_of (Number digits) = model.number (number_of_digits digits.now)
 token_of (Operator op) = model.operator (op_of op)
 token_of Not = model.negates
 token_of If = model.asks
@@ -48,7 +48,7 @@ beside bytes table = option_map (λ entry. entry.1) (find (λ entry. bytes_eq by
 unfoldable pub listed : List ℕ → Option model.Token
 listed bytes = option_map (λ entry. entry.1) (find (λ entry. bytes_eq bytes entry.0) model.words_and_symbols)
 
--- Bytes begin with this token, which is this long, or with a stray byte: whatever tokens are behind it, it stands before them.
+-- Bytes begin with this token, which is this long, or with a stray byte: whatever tokens are after it, it stands before them.
 pub record StartsWith (bytes : List ℕ) (token : model.Token) (size : ℕ) : Type 0 where
   pub some : 1 ≤ size
   pub within : size ≤ length bytes

@@ -7,11 +7,8 @@ ghost use Rattle.pv_parse.specs.Reading.{rest_of};
 
 use crate::ParseError;
 use crate::token::{Located, Token};
+use pv_base::MAX_DEPTH;
 use std::marker::Model;
-
-/// How deep tokens may be nested: the greatest count of `(`, `{`, `not` and `-` before its one side that are open round
-/// a token.
-pub const MAX_DEPTH: u32 = 32;
 
 /// The tokens that may be left out with what they begin.
 #[derive(Clone, Copy, Debug)]

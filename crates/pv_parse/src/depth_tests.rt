@@ -108,7 +108,7 @@ fn tokens_stand_in_at_most_32_calls(rt: HostRuntime) -> Result<(), Fail> {
 }
 
 #[test]
-fn tokens_stand_behind_at_most_32_minus_signs(rt: HostRuntime) -> Result<(), Fail> {
+fn tokens_stand_after_at_most_32_minus_signs(rt: HostRuntime) -> Result<(), Fail> {
     assert_built(
         &rt,
         rt.alloc(),
@@ -140,7 +140,7 @@ fn tokens_stand_behind_at_most_32_minus_signs(rt: HostRuntime) -> Result<(), Fai
 }
 
 #[test]
-fn tokens_stand_behind_at_most_32_nots(rt: HostRuntime) -> Result<(), Fail> {
+fn tokens_stand_after_at_most_32_nots(rt: HostRuntime) -> Result<(), Fail> {
     assert_built(
         &rt,
         rt.alloc(),

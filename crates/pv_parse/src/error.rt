@@ -9,14 +9,14 @@ use std::fmt;
 /// Why a text isn't read as a program. Columns count the bytes of the text, from 1.
 #[derive(Clone, Copy, Debug, PartialEq, Eq, Hash)]
 pub enum ParseError {
-    /// The text has this many bytes, more than [`MAX_TEXT`](crate::MAX_TEXT).
+    /// The text has this many bytes, more than [`MAX_LINE`](pv_base::MAX_LINE).
     TooLarge(u64),
     /// The token at this column can't follow what stands before it, or is a number above 9223372036854775807. Where the
-    /// text ends too early, this is the column behind it.
+    /// text ends too early, this is the column after it.
     Malformed(u32),
     /// The name at this column is no item's.
     UnknownName(u32),
-    /// The token at this column is nested deeper than [`MAX_DEPTH`](crate::MAX_DEPTH).
+    /// The token at this column is nested deeper than [`MAX_DEPTH`](pv_base::MAX_DEPTH).
     TooDeep(u32),
     /// There was no memory for the program.
     NoMemory,

@@ -1,21 +1,21 @@
 // Reading expressions, by recursive descent: a function for each part, which reads as much as belongs to it.
 ghost use Rattle.std.specs.Prelude.{◌≡◌, ◌+◌, ◌≤◌, ◌<◌, ◌∷◌, IsTrue, IfErr, IfOk};
 ghost use Rattle.pv_model.specs.Grammar as grammar;
-ghost use Rattle.pv_model.specs.Prediction as expected;
+ghost use Rattle.pv_law_programs.specs.Prediction as expected;
 ghost use Rattle.pv_model.specs.Syntax as model;
-ghost use Rattle.pv_model.specs.Text.{value_of};
+ghost use Rattle.pv_model.specs.Text.{number_of_digits};
 ghost use Rattle.pv_model.specs.Tokens as text;
 ghost use Rattle.pv_ast.specs.ExprView.{expr_of};
 ghost use Rattle.pv_ast.specs.OpView.{op_of};
 ghost use Rattle.pv_parse.specs.ChainView.{chain_of};
-ghost use Rattle.pv_parse.specs.Reading.{is_minus, rest_of, IsNext, ReadsPart, Stops};
+ghost use Rattle.pv_parse.specs.Reading.{is_minus, rest_of, IsNext, ReadsPhrase, Stops};
 
 use crate::ParseError;
-use crate::cursor::{Cursor, MAX_DEPTH, Word};
-use crate::parser::{Chain, Mark, Parser};
+use crate::cursor::{Cursor, Word};
+use crate::parser::{Chain, Parser, Punctuation};
 use crate::token::{Token, number_of};
 use pv_ast::{Expr, Op, Operand};
-use pv_base::NoMemory;
+use pv_base::{MAX_DEPTH, NoMemory};
 use std::alloc::Global;
 
 impl<'a> Parser<'a> {
@@ -29,8 +29,8 @@ impl<'a> Parser<'a> {
         depth: u32,
     ) -> Result<Expr, ParseError>
         requires { depth ≤ MAX_DEPTH + 1 }
-        ensures read { IfOk result (λ e. ReadsPart self.now (grammar.chain (chain_of chain)) depth tokens.old tokens.new (expr_of e)) }
-        ensures stops { IfErr result (Stops self.now (depth, expected.part (grammar.chain (chain_of chain))) tokens.old) }
+        ensures read { IfOk result (λ e. ReadsPhrase self.now (grammar.chain (chain_of chain)) depth tokens.old tokens.new (expr_of e)) }
+        ensures stops { IfErr result (Stops self.now (depth, expected.phrase (grammar.chain (chain_of chain))) tokens.old) }
     {
         let mut left = self.side(tokens, chain, depth)?;
         while let Some(op) = self.joining(tokens, chain, depth)? {
@@ -44,8 +44,8 @@ impl<'a> Parser<'a> {
     #[cycle(expression)]
     fn side(&self, tokens: &mut Cursor, chain: Chain, depth: u32) -> Result<Expr, ParseError>
         requires { depth ≤ MAX_DEPTH + 1 }
-        ensures read { IfOk result (λ e. ReadsPart self.now (grammar.side (chain_of chain)) depth tokens.old tokens.new (expr_of e)) }
-        ensures stops { IfErr result (Stops self.now (depth, expected.part (grammar.side (chain_of chain))) tokens.old) }
+        ensures read { IfOk result (λ e. ReadsPhrase self.now (grammar.side (chain_of chain)) depth tokens.old tokens.new (expr_of e)) }
+        ensures stops { IfErr result (Stops self.now (depth, expected.phrase (grammar.side (chain_of chain))) tokens.old) }
     {
         match chain {
             Chain::Disjunction => self.chain(tokens, Chain::Conjunction, depth),
@@ -59,8 +59,8 @@ impl<'a> Parser<'a> {
     #[cycle(expression)]
     fn negated(&self, tokens: &mut Cursor, depth: u32) -> Result<Expr, ParseError>
         requires { depth ≤ MAX_DEPTH + 1 }
-        ensures read { IfOk result (λ e. ReadsPart self.now grammar.negated depth tokens.old tokens.new (expr_of e)) }
-        ensures stops { IfErr result (Stops self.now (depth, expected.part grammar.negated) tokens.old) }
+        ensures read { IfOk result (λ e. ReadsPhrase self.now grammar.negated depth tokens.old tokens.new (expr_of e)) }
+        ensures stops { IfErr result (Stops self.now (depth, expected.phrase grammar.negated) tokens.old) }
     {
         if !tokens.take(Word::Not, depth)? {
             return self.comparison(tokens, depth);
@@ -73,8 +73,8 @@ impl<'a> Parser<'a> {
     #[cycle(expression)]
     fn comparison(&self, tokens: &mut Cursor, depth: u32) -> Result<Expr, ParseError>
         requires { depth ≤ MAX_DEPTH + 1 }
-        ensures read { IfOk result (λ e. ReadsPart self.now grammar.comparison depth tokens.old tokens.new (expr_of e)) }
-        ensures stops { IfErr result (Stops self.now (depth, expected.part grammar.comparison) tokens.old) }
+        ensures read { IfOk result (λ e. ReadsPhrase self.now grammar.comparison depth tokens.old tokens.new (expr_of e)) }
+        ensures stops { IfErr result (Stops self.now (depth, expected.phrase grammar.comparison) tokens.old) }
     {
         let left = self.chain(tokens, Chain::Sum, depth)?;
         let Some(op) = self.comparing(tokens, depth)? else {
@@ -89,8 +89,8 @@ impl<'a> Parser<'a> {
     #[cycle(expression)]
     fn unary(&self, tokens: &mut Cursor, depth: u32) -> Result<Expr, ParseError>
         requires { depth ≤ MAX_DEPTH + 1 }
-        ensures read { IfOk result (λ e. ReadsPart self.now grammar.unary depth tokens.old tokens.new (expr_of e)) }
-        ensures stops { IfErr result (Stops self.now (depth, expected.part grammar.unary) tokens.old) }
+        ensures read { IfOk result (λ e. ReadsPhrase self.now grammar.unary depth tokens.old tokens.new (expr_of e)) }
+        ensures stops { IfErr result (Stops self.now (depth, expected.phrase grammar.unary) tokens.old) }
     {
         let Some(next) = tokens.first() else {
             return Err(self.malformed(tokens));
@@ -114,9 +114,9 @@ impl<'a> Parser<'a> {
         depth: u32,
     ) -> Result<Expr, ParseError>
         requires digits { IsTrue (text.is_digits digits.now) }
-        requires next { tokens.now ≡ (column, text.Token.number (value_of digits.now)) ∷ rest_of tokens.now }
-        ensures read { IfOk result (λ e. ReadsPart self.now grammar.unary depth tokens.old tokens.new (expr_of e)) }
-        ensures stops { IfErr result (Stops self.now (depth, expected.part grammar.unary) tokens.old) }
+        requires next { tokens.now ≡ (column, text.Token.number (number_of_digits digits.now)) ∷ rest_of tokens.now }
+        ensures read { IfOk result (λ e. ReadsPhrase self.now grammar.unary depth tokens.old tokens.new (expr_of e)) }
+        ensures stops { IfErr result (Stops self.now (depth, expected.phrase grammar.unary) tokens.old) }
     {
         let Some(number) = number_of(digits) else {
             return Err(ParseError::Malformed(column));
@@ -134,8 +134,8 @@ impl<'a> Parser<'a> {
         depth: u32,
     ) -> Result<Expr, ParseError>
         requires next { tokens.now ≡ (column, text.Token.name word.now) ∷ rest_of tokens.now }
-        ensures read { IfOk result (λ e. ReadsPart self.now grammar.unary depth tokens.old tokens.new (expr_of e)) }
-        ensures stops { IfErr result (Stops self.now (depth, expected.part grammar.unary) tokens.old) }
+        ensures read { IfOk result (λ e. ReadsPhrase self.now grammar.unary depth tokens.old tokens.new (expr_of e)) }
+        ensures stops { IfErr result (Stops self.now (depth, expected.phrase grammar.unary) tokens.old) }
     {
         let item = self.named(tokens, column, word, depth)?;
         Ok(Expr::Item(item))
@@ -146,8 +146,8 @@ impl<'a> Parser<'a> {
     fn prefixed(&self, tokens: &mut Cursor, op: Op, depth: u32) -> Result<Expr, ParseError>
         requires depth { depth ≤ MAX_DEPTH + 1 }
         requires next { IsNext self.now (text.Token.operator (op_of op)) tokens.now }
-        ensures read { IfOk result (λ e. ReadsPart self.now grammar.unary depth tokens.old tokens.new (expr_of e)) }
-        ensures stops { IfErr result (Stops self.now (depth, expected.part grammar.unary) tokens.old) }
+        ensures read { IfOk result (λ e. ReadsPhrase self.now grammar.unary depth tokens.old tokens.new (expr_of e)) }
+        ensures stops { IfErr result (Stops self.now (depth, expected.phrase grammar.unary) tokens.old) }
     {
         if is_min_or_max(op) {
             return self.of_two(tokens, op, depth);
@@ -163,8 +163,8 @@ impl<'a> Parser<'a> {
     fn negative(&self, tokens: &mut Cursor, depth: u32) -> Result<Expr, ParseError>
         requires depth { depth ≤ MAX_DEPTH + 1 }
         requires next { IsNext self.now (text.Token.operator model.sub) tokens.now }
-        ensures read { IfOk result (λ e. ReadsPart self.now grammar.unary depth tokens.old tokens.new (expr_of e)) }
-        ensures stops { IfErr result (Stops self.now (depth, expected.part grammar.unary) tokens.old) }
+        ensures read { IfOk result (λ e. ReadsPhrase self.now grammar.unary depth tokens.old tokens.new (expr_of e)) }
+        ensures stops { IfErr result (Stops self.now (depth, expected.phrase grammar.unary) tokens.old) }
     {
         tokens.pass(depth)?;
         let operand = self.unary(tokens, depth + 1)?;
@@ -176,12 +176,12 @@ impl<'a> Parser<'a> {
     fn in_brackets(&self, tokens: &mut Cursor, depth: u32) -> Result<Expr, ParseError>
         requires depth { depth ≤ MAX_DEPTH + 1 }
         requires next { IsNext self.now text.Token.opens tokens.now }
-        ensures read { IfOk result (λ e. ReadsPart self.now grammar.unary depth tokens.old tokens.new (expr_of e)) }
-        ensures stops { IfErr result (Stops self.now (depth, expected.part grammar.unary) tokens.old) }
+        ensures read { IfOk result (λ e. ReadsPhrase self.now grammar.unary depth tokens.old tokens.new (expr_of e)) }
+        ensures stops { IfErr result (Stops self.now (depth, expected.phrase grammar.unary) tokens.old) }
     {
         tokens.pass(depth)?;
         let inner = self.chain(tokens, Chain::Disjunction, depth + 1)?;
-        self.expect(tokens, Mark::Close, depth)?;
+        self.expect(tokens, Punctuation::Close, depth)?;
         Ok(inner)
     }
 
@@ -191,15 +191,15 @@ impl<'a> Parser<'a> {
         requires depth { depth ≤ MAX_DEPTH + 1 }
         requires prefix { IsTrue (grammar.is_min_or_max (op_of op)) }
         requires next { IsNext self.now (text.Token.operator (op_of op)) tokens.now }
-        ensures read { IfOk result (λ e. ReadsPart self.now grammar.unary depth tokens.old tokens.new (expr_of e)) }
-        ensures stops { IfErr result (Stops self.now (depth, expected.part grammar.unary) tokens.old) }
+        ensures read { IfOk result (λ e. ReadsPhrase self.now grammar.unary depth tokens.old tokens.new (expr_of e)) }
+        ensures stops { IfErr result (Stops self.now (depth, expected.phrase grammar.unary) tokens.old) }
     {
         tokens.pass(depth)?;
-        self.expect(tokens, Mark::Open, depth)?;
+        self.expect(tokens, Punctuation::Open, depth)?;
         let left = self.chain(tokens, Chain::Disjunction, depth + 1)?;
-        self.expect(tokens, Mark::Comma, depth + 1)?;
+        self.expect(tokens, Punctuation::Comma, depth + 1)?;
         let right = self.chain(tokens, Chain::Disjunction, depth + 1)?;
-        self.expect(tokens, Mark::Close, depth)?;
+        self.expect(tokens, Punctuation::Close, depth)?;
         Ok(two(self.alloc, op, left, right)?)
     }
 }

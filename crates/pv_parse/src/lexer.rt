@@ -8,9 +8,7 @@ ghost use Rattle.pv_parse.specs.TokenView.{token_of, HasDigits, IsOther, StartsW
 
 use crate::token::Token;
 use pv_ast::Op;
-
-// The most that a name has, in bytes.
-const MAX_NAME: usize = 16;
+use pv_base::MAX_NAME;
 
 // The words and symbols that stand for themselves.
 const WORDS_AND_SYMBOLS: [(&[u8], Token<'static>); 28] = [
@@ -80,9 +78,9 @@ fn first_word<'a>(text: &'a [u8]) -> (Token<'a>, usize)
 // How many bytes at the front of a text one name may have.
 fn word_size(text: &[u8]) -> usize
     ensures within { result ≤ length text.now }
-    ensures short { result ≤ 16 }
+    ensures short { result ≤ MAX_NAME }
     ensures each { (k : ℕ) → k < result → continues_name (slice_index text.now k) ≡ true }
-    ensures end { result < 16 → result < length text.now → continues_name (slice_index text.now result) ≡ false }
+    ensures end { result < MAX_NAME → result < length text.now → continues_name (slice_index text.now result) ≡ false }
 {
     for (i, byte) in text.iter().enumerate() {
         if i == MAX_NAME || !continues_name(*byte) {

@@ -10,9 +10,8 @@ mod parsing;
 mod statement;
 mod token;
 
-pub use cursor::MAX_DEPTH;
 pub use error::ParseError;
-pub use parsing::{MAX_TEXT, parse};
+pub use parsing::parse;
 
 #[cfg(test)]
 mod depth_tests;

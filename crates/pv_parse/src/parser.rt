@@ -1,19 +1,19 @@
 // What programs are read with, token by token.
 ghost use Rattle.std.specs.Prelude.{◌≡◌, ℕ, ◌<◌, ◌≤◌, Err, Some, None, IsTrue, IfErr, IfOk, IfNone, IfSome, OnOk, ◌∷◌};
 ghost use Rattle.pv_model.specs.Grammar.{joins, compares};
-ghost use Rattle.pv_model.specs.Prediction.{more, comparing, mark, is_mark};
+ghost use Rattle.pv_law_programs.specs.Prediction.{more, comparing, punctuation, is_punctuation};
 ghost use Rattle.pv_model.specs.ProgramText.{item_in};
 ghost use Rattle.pv_model.specs.Tokens as model;
 ghost use Rattle.pv_ast.specs.OpView.{op_of};
-ghost use Rattle.pv_parse.specs.ChainView.{chain_of, mark_of, token_of_mark};
+ghost use Rattle.pv_parse.specs.ChainView.{chain_of, punctuation_of, token_of_punctuation};
 ghost use Rattle.pv_parse.specs.TokenView.{token_of};
-ghost use Rattle.pv_parse.specs.Reading.{column_of, has_no_operator, rest_of, IsNext, Stops, TakesOperator, PassesMark};
+ghost use Rattle.pv_parse.specs.Reading.{column_of, has_no_operator, rest_of, IsNext, Stops, TakesOperator, PassesPunctuation};
 
 use crate::ParseError;
-use crate::cursor::{Cursor, MAX_DEPTH};
+use crate::cursor::Cursor;
 use crate::token::Token;
 use pv_ast::Op;
-use pv_base::{Catalog, ItemId};
+use pv_base::{Catalog, ItemId, MAX_DEPTH};
 use std::alloc::Global;
 use std::marker::Model;
 
@@ -30,9 +30,9 @@ pub(crate) enum Chain {
     Product,
 }
 
-/// The tokens that have to come behind others.
+/// The punctuation that has to come after other tokens.
 #[derive(Clone, Copy, Debug)]
-pub(crate) enum Mark {
+pub(crate) enum Punctuation {
     /// `:=`
     Becomes,
     /// `(`
@@ -54,8 +54,8 @@ pub(crate) struct Parser<'a> {
     pub(crate) alloc: Global,
     /// The items that the program may name.
     pub(crate) catalog: &'a Catalog,
-    /// The column behind the text.
-    pub(crate) behind: u32,
+    /// The column after the text.
+    pub(crate) after_text: u32,
 }
 
 impl<'a> Model for Parser<'a> {
@@ -74,24 +74,24 @@ impl<'a> Parser<'a> {
     {
         match tokens.first() {
             Some(next) => ParseError::Malformed(next.column),
-            None => ParseError::Malformed(self.behind),
+            None => ParseError::Malformed(self.after_text),
         }
     }
 
-    /// Passes a mark that has to come.
+    /// Passes punctuation that has to come.
     pub(crate) fn expect(
         &self,
         tokens: &mut Cursor,
-        expected: Mark,
+        expected: Punctuation,
         depth: u32,
     ) -> Result<(), ParseError>
-        ensures passed { OnOk result (PassesMark self.now (mark_of expected) (token_of_mark expected) depth tokens.old tokens.new) }
-        ensures stops { IfErr result (Stops self.now (depth, mark (mark_of expected)) tokens.old) }
+        ensures passed { OnOk result (PassesPunctuation self.now (punctuation_of expected) (token_of_punctuation expected) depth tokens.old tokens.new) }
+        ensures stops { IfErr result (Stops self.now (depth, punctuation (punctuation_of expected)) tokens.old) }
     {
         let Some(next) = tokens.first() else {
             return Err(self.malformed(tokens));
         };
-        if !is_mark(next.token, expected) {
+        if !is_punctuation(next.token, expected) {
             return Err(self.malformed(tokens));
         }
         tokens.pass(depth)?;
@@ -194,16 +194,16 @@ fn compares(op: Op) -> bool
     )
 }
 
-// Whether the token is the mark.
-fn is_mark(token: Token, mark: Mark) -> bool
-    ensures is_it { result ≡ is_mark (mark_of mark) (token_of token.entry) }
+// Whether the token is this punctuation.
+fn is_punctuation(token: Token, punctuation: Punctuation) -> bool
+    ensures is_it { result ≡ is_punctuation (punctuation_of punctuation) (token_of token.entry) }
 {
-    match mark {
-        Mark::Becomes => matches!(token, Token::Becomes),
-        Mark::Open => matches!(token, Token::Open),
-        Mark::Close => matches!(token, Token::Close),
-        Mark::OpenBody => matches!(token, Token::OpenBody),
-        Mark::CloseBody => matches!(token, Token::CloseBody),
-        Mark::Comma => matches!(token, Token::Comma),
+    match punctuation {
+        Punctuation::Becomes => matches!(token, Token::Becomes),
+        Punctuation::Open => matches!(token, Token::Open),
+        Punctuation::Close => matches!(token, Token::Close),
+        Punctuation::OpenBody => matches!(token, Token::OpenBody),
+        Punctuation::CloseBody => matches!(token, Token::CloseBody),
+        Punctuation::Comma => matches!(token, Token::Comma),
     }
 }

@@ -1,15 +1,16 @@
 // Reading statements and programs, by recursive descent over the programs within them.
 ghost use Rattle.std.specs.Prelude.{◌≡◌, ◌+◌, ◌≤◌, ◌∷◌, IfErr, IfOk};
-ghost use Rattle.pv_model.specs.Prediction as expected;
+ghost use Rattle.pv_law_programs.specs.Prediction as expected;
 ghost use Rattle.pv_model.specs.Tokens as text;
 ghost use Rattle.pv_parse.specs.Reading.{rest_of, IsNext, Stops};
 ghost use Rattle.pv_parse.specs.ReadingPrograms.{ReadsBody, ReadsStmt, ReadsWhole, StopsBraced};
 
 use crate::ParseError;
-use crate::cursor::{Cursor, MAX_DEPTH, Word};
-use crate::parser::{Chain, Mark, Parser};
+use crate::cursor::{Cursor, Word};
+use crate::parser::{Chain, Parser, Punctuation};
 use crate::token::Token;
 use pv_ast::{Program, Stmt};
+use pv_base::MAX_DEPTH;
 
 impl<'a> Parser<'a> {
     /// A program, which has a statement at least. Any number of them is read without recursion.
@@ -63,7 +64,7 @@ impl<'a> Parser<'a> {
         ensures stops { IfErr result (Stops self.now (depth, expected.program) tokens.old) }
     {
         let item = self.named(tokens, column, word, depth)?;
-        self.expect(tokens, Mark::Becomes, depth)?;
+        self.expect(tokens, Punctuation::Becomes, depth)?;
         let value = self.chain(tokens, Chain::Disjunction, depth)?;
         Ok(Stmt::Assign { item, value })
     }
@@ -125,9 +126,9 @@ impl<'a> Parser<'a> {
         ensures read { IfOk result (ReadsBody self.now depth tokens.old tokens.new) }
         ensures stops { IfErr result (StopsBraced self.now depth tokens.old) }
     {
-        self.expect(tokens, Mark::OpenBody, depth)?;
+        self.expect(tokens, Punctuation::OpenBody, depth)?;
         let body = self.program(tokens, depth + 1)?;
-        self.expect(tokens, Mark::CloseBody, depth)?;
+        self.expect(tokens, Punctuation::CloseBody, depth)?;
         Ok(body)
     }
 }

@@ -447,7 +447,7 @@ fn a_name_may_begin_with_a_keyword(rt: HostRuntime) -> Result<(), Fail> {
 }
 
 #[test]
-fn a_word_is_cut_behind_16_bytes(rt: HostRuntime) -> Result<(), Fail> {
+fn a_word_is_cut_after_16_bytes(rt: HostRuntime) -> Result<(), Fail> {
     assert_reads(
         &rt,
         rt.alloc(),

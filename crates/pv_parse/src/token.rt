@@ -1,12 +1,12 @@
 // The tokens of a program text, each with its column.
 ghost use Rattle.std.specs.Prelude.{◌≡◌, ◌^◌, ◌*◌, ◌<◌, ◌≤◌, ℤ, pos, length, map, All, IsTrue, IfOk, IfNone, IfSome};
-ghost use Rattle.pv_model.specs.Text.{value_of};
+ghost use Rattle.pv_model.specs.Text.{number_of_digits};
 ghost use Rattle.pv_model.specs.Tokens.{HasTokens, is_digits};
 ghost use Rattle.pv_parse.specs.TokenView.{located_of, HasDigits};
 
 use crate::lexer::{first_token, is_blank};
 use pv_ast::Op;
-use pv_base::NoMemory;
+use pv_base::{MAX_LINE, NoMemory};
 use std::alloc::Global;
 use std::str;
 
@@ -58,9 +58,9 @@ pub(crate) struct Located<'a> {
     pub(crate) token: Token<'a>,
 }
 
-/// The tokens of a text. Its one error is want of memory.
+/// The tokens of a text. Its one error is to be out of memory.
 pub(crate) fn tokens_of<'a>(alloc: Global, text: &'a [u8]) -> Result<Vec<Located<'a>>, NoMemory>
-    requires short { length text.now ≤ 1000 }
+    requires short { length text.now ≤ MAX_LINE }
     ensures tokens { IfOk result (λ found. HasTokens text.now (map located_of found.items)) }
     ensures digits { IfOk result (λ found. All (λ located. HasDigits located.token) found.items) }
 {
@@ -69,15 +69,15 @@ pub(crate) fn tokens_of<'a>(alloc: Global, text: &'a [u8]) -> Result<Vec<Located
     let mut rest = text;
     while let [first, ..] = rest {
         if is_blank(*first) {
-            let (_, behind) = rest.split_at(1);
-            rest = behind;
+            let (_, later) = rest.split_at(1);
+            rest = later;
             column += 1;
             continue;
         }
         let (token, size) = first_token(rest);
         found.push(Located { column, token })?;
-        let (_, behind) = rest.split_at(size);
-        rest = behind;
+        let (_, later) = rest.split_at(size);
+        rest = later;
         column += size as u32;
     }
     Ok(found)
@@ -86,8 +86,8 @@ pub(crate) fn tokens_of<'a>(alloc: Global, text: &'a [u8]) -> Result<Vec<Located
 /// The number below 2^63 that digits stand for.
 pub(crate) fn number_of(digits: &[u8]) -> Option<i64>
     requires digits { IsTrue (is_digits digits.now) }
-    ensures number { IfSome result (λ n. n ≡ pos (value_of digits.now) × value_of digits.now < 2 ^ 63) }
-    ensures none { IfNone result (2 ^ 63 ≤ value_of digits.now) }
+    ensures number { IfSome result (λ n. n ≡ pos (number_of_digits digits.now) × number_of_digits digits.now < 2 ^ 63) }
+    ensures none { IfNone result (2 ^ 63 ≤ number_of_digits digits.now) }
 {
     str::from_utf8(digits).ok()?.parse().ok()
 }

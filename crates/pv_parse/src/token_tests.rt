@@ -53,7 +53,7 @@ fn a_word_is_a_keyword_only_as_a_whole(rt: HostRuntime) {
 }
 
 #[test]
-fn a_long_word_is_cut_behind_16_bytes(rt: HostRuntime) {
+fn a_long_word_is_cut_after_16_bytes(rt: HostRuntime) {
     let words = [
         at(1, Token::Name(b"require_23456789")),
         at(17, Token::Name(b"x")),
@@ -72,8 +72,8 @@ fn a_number_ends_at_its_last_digit(rt: HostRuntime) {
 #[test]
 fn blanks_part_tokens_and_strays_are_told(rt: HostRuntime) {
     assert_tokens(&rt, b"", &[]);
-    let parted = [at(1, Token::Name(b"a")), at(3, Token::Name(b"b"))];
-    assert_tokens(&rt, b"a\tb", &parted);
+    let split = [at(1, Token::Name(b"a")), at(3, Token::Name(b"b"))];
+    assert_tokens(&rt, b"a\tb", &split);
     let strays = [at(1, Token::Stray(b':')), at(3, Token::Stray(b'_'))];
     assert_tokens(&rt, b": _", &strays);
 }

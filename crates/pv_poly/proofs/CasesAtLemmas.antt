@@ -6,7 +6,7 @@ use Rattle.std.proofs.lemmas.Bool.Decides.{nat_tests}
 use Rattle.pv_base.specs.declared.literal.Literal.{Literal}
 use Rattle.pv_base.specs.declared.txn.TxnId.{TxnId}
 use Rattle.pv_base.specs.Polyvalue.{Case, under, IsCanonical, sure, tested}
-use Rattle.pv_model.proofs.Basics.{heads, tails}
+use Rattle.pv_base.proofs.Basics.{heads, tails}
 use Rattle.pv_poly.specs.CasesAt.{asks_commit, behind, beyond}
 use Rattle.pv_poly.specs.TreeFalls.{length-under, length-tested, some_case}
 use Rattle.pv_poly.specs.TreeView.{AreSides}

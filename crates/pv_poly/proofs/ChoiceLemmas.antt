@@ -5,8 +5,8 @@ use Rattle.pv_base.specs.declared.txn.TxnId.{TxnId}
 use Rattle.pv_base.specs.Assignment.{precedes, commits}
 use Rattle.pv_base.specs.Polyvalue.{Case, value_at, names, NamesOnlyAfter, under, IsCanonical, IsChoice, IsSettled}
 use Rattle.pv_base.specs.Polyvalue.IsCanonical.{tested}
-use Rattle.pv_model.proofs.AssignmentLemmas.{precedes-irrefl, precedes-trans, order-of-two}
-use Rattle.pv_model.proofs.PolyvalueLemmas.{value_at-tested, names-tested}
+use Rattle.pv_base.proofs.AssignmentLemmas.{precedes-irrefl, precedes-trans, order-of-two}
+use Rattle.pv_law_polyvalues.proofs.PolyvalueLemmas.{value_at-tested, names-tested}
 use Rattle.pv_poly.specs.From.{NamesFrom, IsFirst, IsFirstOf, IsSide, before, first_of}
 use Rattle.pv_poly.specs.TreeView.{AreSides}
 use Rattle.pv_poly.proofs.TopOfTree.{IsTested}

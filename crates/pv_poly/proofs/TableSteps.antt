@@ -5,20 +5,14 @@ use Rattle.std.proofs.Math.Nat.{pow-suc}
 use Rattle.pv_base.specs.declared.txn.TxnId.{TxnId}
 use Rattle.pv_base.specs.Assignment.{precedes, assignments}
 use Rattle.pv_base.specs.Polyvalue.{Case, names, NamesOnlyAfter, IsChoice, AreValues}
-use Rattle.pv_model.proofs.AssignmentLemmas.{precedes-trans}
-use Rattle.pv_model.proofs.AscendingLemmas.{Ascending, All-from_members, ascending-first, ascending-tail}
-use Rattle.pv_model.proofs.ItemLemmas.{Contains-cases, Contains-first, Contains-behind}
-use Rattle.pv_model.proofs.MapLemmas.{map-same}
-use Rattle.pv_model.proofs.PolyvalueLemmas.{value_at-tested, behind-unnamed, names-tested}
-use Rattle.pv_model.proofs.TableLemmas.{values-before, values-skip, values-tested, one-values}
+use Rattle.pv_base.proofs.AssignmentLemmas.{precedes-trans}
+use Rattle.pv_law_polyvalues.proofs.AscendingLemmas.{Ascending, All-from_members, ascending-first}
+use Rattle.pv_base.proofs.ContainsLemmas.{Contains-cases, Contains-first, Contains-behind}
+use Rattle.pv_base.proofs.MapLemmas.{map-same}
+use Rattle.pv_law_polyvalues.proofs.PolyvalueLemmas.{value_at-tested, behind-unnamed, names-tested}
+use Rattle.pv_law_polyvalues.proofs.TableLemmas.{values-before, values-skip, values-tested, one-values}
+use Rattle.pv_cases.proofs.PartingLemmas.{first-before}
 use Rattle.pv_poly.proofs.TopOfTree.{IsTested}
-
-pub ascending-rest : {txn : TxnId} {txns rest : List TxnId} → txns ≡ txn ∷ rest → Ascending txns → Ascending rest
-ascending-rest {txn} {txns} {rest} is up = ascending-tail txn rest (subst Ascending is up)
-
--- the first comes before all of the rest
-pub first-before : {txn : TxnId} {txns rest : List TxnId} → txns ≡ txn ∷ rest → Ascending txns → All (λ later. IsTrue (precedes txn later)) rest
-first-before {txn} {txns} {rest} is up = All-from_members (λ later. IsTrue (precedes txn later)) rest (ascending-first txn rest (subst Ascending is up))
 
 -- what is before the first is before all
 first-and-rest : (txn first : TxnId) (rest : List TxnId) → IsTrue (precedes txn first) → Ascending (first ∷ rest) →

@@ -4,8 +4,8 @@ use Rattle.pv_base.specs.declared.txn.TxnId.{TxnId}
 use Rattle.pv_base.specs.Assignment.{precedes, commits, with_outcome}
 use Rattle.pv_base.specs.Polyvalue.{Case, value_at, names, NamesOnlyAfter, IsCanonical}
 use Rattle.pv_base.specs.Polyvalue.IsCanonical.{sure, tested}
-use Rattle.pv_model.proofs.AssignmentLemmas.{precedes-irrefl, precedes-trans, commits-with-same}
-use Rattle.pv_model.proofs.PolyvalueLemmas.{value_at-front, value_at-back, value_at-tested, names-tested, names-front, names-back, names-self, behind-unnamed, unnamed-free, one-canonical}
+use Rattle.pv_base.proofs.AssignmentLemmas.{precedes-irrefl, precedes-trans, commits-with-same}
+use Rattle.pv_law_polyvalues.proofs.PolyvalueLemmas.{value_at-front, value_at-back, value_at-tested, names-tested, names-front, names-back, names-self, behind-unnamed, unnamed-free, one-canonical}
 use Rattle.pv_poly.specs.declared.tree.Node.{Node}
 use Rattle.pv_poly.specs.declared.tree.Node.TheVariants.{Sure, Test}
 use Rattle.pv_poly.specs.From.{NamesFrom, IsSide}

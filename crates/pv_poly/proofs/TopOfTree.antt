@@ -3,7 +3,7 @@ use Rattle.std.proofs.Common.{◌≡◌, true, false, List, [], ◌∷◌, ◌++
 use Rattle.std.specs.declared.alloc.Global.{Global}
 use Rattle.pv_base.specs.declared.txn.TxnId.{TxnId}
 use Rattle.pv_base.specs.Polyvalue.{Case, under, value_at}
-use Rattle.pv_model.proofs.PolyvalueLemmas.{value_at-front}
+use Rattle.pv_law_polyvalues.proofs.PolyvalueLemmas.{value_at-front}
 use Rattle.pv_poly.specs.declared.tree.Node.{Node}
 use Rattle.pv_poly.specs.declared.tree.Node.TheVariants.{Sure, Test}
 use Rattle.pv_poly.specs.declared.tree.Tree.{Tree}

@@ -1,19 +1,17 @@
 // Polyvalues, and what is done with them.
-ghost use Rattle.std.specs.Prelude.{◌≡◌, ◌≢◌, ◌<◌, ◌≤◌, ◌^◌, ◌⊎◌, ℕ, Some, Err, List, IsTrue, length, map, IfOk, IfErr, OnOk};
+ghost use Rattle.std.specs.Prelude.{◌≡◌, ◌≢◌, ◌<◌, ◌≤◌, ◌*◌, ◌^◌, ◌⊎◌, ◌++◌, ℕ, Some, Err, List, IsTrue, length, map, IfOk, IfErr, OnOk};
 ghost use Rattle.std.specs.List.{AllPairs, Contains, sum};
 ghost use Rattle.pv_base.specs.Assignment.{precedes, assignments};
 ghost use Rattle.pv_base.specs.CaseFaults.{CaseFault, fault_of, IsJoinFault, IsCanonicalFault};
 ghost use Rattle.pv_base.specs.Polyvalue as model;
 ghost use Rattle.pv_base.specs.Polyvalue.{value_at, names, AreNames, NamesAtMost, IsCanonical, IsSound, IsPolyvalue, AreSameEverywhere, IsChoice, ChoiceNames, IsSettled, AreValues};
 ghost use Rattle.pv_base.specs.declared.txn.TxnId.{TxnId};
-ghost use Rattle.pv_base.specs.declared.faults.TheConstants.{HELD_NAMES};
+ghost use Rattle.pv_base.specs.declared.limits.TheConstants.{HELD_NAMES};
 
 use crate::copy::copy_cases;
-use crate::count::count_of_both;
-use crate::join::{first_difference, joined};
-use crate::names::names_of;
 use crate::tree::Tree;
 use pv_base::{Case, CaseError, Exact, HELD_NAMES, NameError, NoMemory, TxnId};
+use pv_cases::{count_of_both, first_difference, names_of, table_of};
 use std::alloc::Global;
 use std::marker::Model;
 
@@ -71,7 +69,7 @@ impl<V: Exact> Poly<V> {
                 cases: front.cases(alloc)?,
             });
         }
-        let count = count_of_both(alloc, &front, &back)? + 1;
+        let count = count_of_sides(alloc, &front, &back)? + 1;
         if count > HELD_NAMES {
             return Err(NameError::TooManyOutcomes(count));
         }
@@ -156,7 +154,7 @@ impl<V: Exact> Poly<V> {
         ensures refuses { (fault : CaseFault) → IsCanonicalFault HELD_NAMES cases.items fault →
             IfErr result (λ e. (e ≡ CaseError.NoMemory) ⊎ (fault_of e ≡ Some fault)) × (IfOk result (λ _. ⊥)) }
     {
-        let poly = joined(alloc, &cases)?;
+        let poly = Poly::joined(alloc, &cases)?;
         match first_difference(&cases, &poly.cases) {
             None => Ok(poly),
             Some(place) => Err(CaseError::NotReduced(place as u32)),
@@ -180,7 +178,22 @@ impl<V: Exact> Poly<V> {
         ensures refuses { (fault : CaseFault) → IsJoinFault HELD_NAMES cases.items fault →
             IfErr result (λ e. (e ≡ CaseError.NoMemory) ⊎ (fault_of e ≡ Some fault)) × (IfOk result (λ _. ⊥)) }
     {
-        joined(alloc, &cases)
+        Poly::joined(alloc, &cases)
+    }
+
+    // The same of cases that are kept.
+    fn joined(alloc: Global, cases: &[Case<V>]) -> Result<Poly<V>, CaseError>
+        requires few_cases { length cases.now < 2 ^ 32 }
+        requires few_literals { sum (map (λ case. length case.when) cases.now) < 2 ^ 32 }
+        ensures values { IfOk result (λ poly. AreSameEverywhere poly cases.now) }
+        ensures polyvalue { IfOk result (IsPolyvalue HELD_NAMES) }
+        ensures sound { OnOk result (IsSound cases.now) }
+        ensures refused { IfErr result (λ e. (fault : CaseFault) → fault_of e ≡ Some fault → IsJoinFault HELD_NAMES cases.now fault) }
+        ensures refuses { (fault : CaseFault) → IsJoinFault HELD_NAMES cases.now fault →
+            IfErr result (λ e. (e ≡ CaseError.NoMemory) ⊎ (fault_of e ≡ Some fault)) × (IfOk result (λ _. ⊥)) }
+    {
+        let table = table_of(alloc, cases)?;
+        Ok(Poly::from_table(alloc, &table.txns, &table.values)?)
     }
 
     /// The value at every assignment of these transactions, which are ascending: "doesn't commit" before "commits", and the first
@@ -211,4 +224,20 @@ impl<V: Exact> Poly<V> {
             cases: tree.cases(alloc)?,
         })
     }
+}
+
+// How many transactions both trees name together.
+fn count_of_sides<V: Exact>(
+    alloc: Global,
+    aborted: &Tree<V>,
+    committed: &Tree<V>,
+) -> Result<u32, NoMemory>
+    requires few_aborted { NamesAtMost HELD_NAMES aborted.now }
+    requires few_committed { NamesAtMost HELD_NAMES committed.now }
+    ensures count { IfOk result (λ count. (txns : List TxnId) → AreNames (aborted.now ++ committed.now) txns → length txns ≡ count) }
+    ensures few { IfOk result (λ count. count ≤ 2 * HELD_NAMES) }
+{
+    let aborted = aborted.cases(alloc)?;
+    let committed = committed.cases(alloc)?;
+    count_of_both(alloc, &aborted, &committed)
 }

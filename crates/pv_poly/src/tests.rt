@@ -3,9 +3,7 @@
 ghost use Rattle.std.specs.Prelude.{◌≡◌, ◌<◌, ◌^◌, true, length, map};
 ghost use Rattle.std.specs.List.{sum};
 
-use crate::meetings::{Meeting, assignment_at, meetings};
-use crate::names::names_of;
-use crate::{Poly, Read, ordered, push_names};
+use crate::{Poly, Read, ordered};
 use pv_base::{Case, CaseError, ItemId, Literal, NameError, NoMemory, SiteId, TxnId};
 use std::alloc::Global;
 use std::process::Abort;
@@ -271,66 +269,6 @@ fn cases_that_are_not_canonical_are_joined_alone(rt: HostRuntime) -> Result<(), 
         &join(&rt, alloc, &cases)?,
         &[(&[aborts(0)], 50), (&[commits(0)], 60)],
     );
-    Ok(())
-}
-
-#[test]
-fn transactions_are_put_in_order(rt: HostRuntime) -> Result<(), Fail> {
-    let mut txns = Vec::new(rt.alloc());
-    for site in [2, 0, 2, 1, 0] {
-        txns.push(txn(site))?;
-    }
-    let txns = ordered(txns);
-    assert_eq!(rt; txns.as_slice(), [txn(0), txn(1), txn(2)].as_slice());
-    Ok(())
-}
-
-#[test]
-fn names_are_pushed_as_they_stand(rt: HostRuntime) -> Result<(), Fail> {
-    let alloc = rt.alloc();
-    let poly = fifty_or_sixty(alloc)?;
-    let mut txns = Vec::new(alloc);
-    txns.push(txn(3))?;
-    push_names(&mut txns, poly.cases())?;
-    assert_eq!(rt; txns.as_slice(), [txn(3), txn(0), txn(0)].as_slice());
-    Ok(())
-}
-
-#[test]
-fn each_outcome_has_its_first_two_cases(rt: HostRuntime) -> Result<(), Fail> {
-    let alloc = rt.alloc();
-    let cases = listed(alloc, &[(&[aborts(0)], 1), (&[commits(0)], 2), (&[], 3)])?;
-    assert!(rt; are_few(&cases));
-    let txns = names_of(alloc, &cases)?;
-    let found = meetings(alloc, &cases, &txns)?;
-    let wanted = [
-        Meeting {
-            first: Some(0),
-            second: Some(2),
-        },
-        Meeting {
-            first: Some(1),
-            second: Some(2),
-        },
-    ];
-    assert_eq!(rt; found.as_slice(), wanted.as_slice());
-    Ok(())
-}
-
-#[test]
-fn the_first_transaction_is_the_most_significant(rt: HostRuntime) -> Result<(), Fail> {
-    let alloc = rt.alloc();
-    let txns = [txn(0), txn(1), txn(2)];
-    assert!(rt; assignment_at(alloc, &txns, 0)?.is_empty());
-    assert_eq!(rt;
-        assignment_at(alloc, &txns, 1)?.as_slice(),
-        [txn(2)].as_slice()
-    );
-    assert_eq!(rt;
-        assignment_at(alloc, &txns, 5)?.as_slice(),
-        [txn(0), txn(2)].as_slice()
-    );
-    assert_eq!(rt; assignment_at(alloc, &txns, 7)?.as_slice(), txns.as_slice());
     Ok(())
 }
 

@@ -5,12 +5,12 @@ use Rattle.std.specs.List.{Contains}
 use Rattle.std.proofs.lemmas.List.Elements.{All-weaker, All-contains_itself}
 use Rattle.pv_base.specs.declared.txn.TxnId.{TxnId}
 use Rattle.pv_base.specs.Polyvalue.{Case, meets, value_at, IsCanonical, sure}
-use Rattle.pv_model.specs.Answers.{possible, certain}
-use Rattle.pv_model.proofs.Basics.{Some_inj}
-use Rattle.pv_model.proofs.ItemLemmas.{Contains-first, Contains-behind}
-use Rattle.pv_model.proofs.MapLemmas.{Contains-unmap}
-use Rattle.pv_model.proofs.PolyvalueLemmas.{canonical-complete, one-canonical}
-use Rattle.pv_model.proofs.ExistenceLemmas.{case-met}
+use Rattle.pv_model.specs.PossibleAnswers.{possible, certain}
+use Rattle.pv_base.proofs.Basics.{Some_inj}
+use Rattle.pv_base.proofs.ContainsLemmas.{Contains-first, Contains-behind}
+use Rattle.pv_base.proofs.MapLemmas.{Contains-unmap}
+use Rattle.pv_law_polyvalues.proofs.PolyvalueLemmas.{canonical-complete, one-canonical}
+use Rattle.pv_law_polyvalues.proofs.ExistenceLemmas.{case-met}
 use Rattle.pv_query.proofs.RepeatLemmas.{Contains-repeats, Contains-from-repeats, only-value}
 
 module _ {V : Type 0} where

@@ -10,9 +10,9 @@ use Rattle.pv_base.specs.declared.literal.Literal.{Literal}
 use Rattle.pv_base.specs.declared.txn.TxnId.{TxnId}
 use Rattle.pv_base.specs.Assignment.{is_same_txn, commits, assignments}
 use Rattle.pv_base.specs.Polyvalue.{Case, names, AreNames}
-use Rattle.pv_model.specs.Answers.{sum_at, sums}
-use Rattle.pv_model.proofs.MapLemmas.{Contains-map, Contains-unmap}
-use Rattle.pv_model.proofs.TableLemmas.{chosen-is-assignment, value_at-chosen}
+use Rattle.pv_model.specs.PossibleAnswers.{sum_at, sums}
+use Rattle.pv_base.proofs.MapLemmas.{Contains-map, Contains-unmap}
+use Rattle.pv_law_polyvalues.proofs.TableLemmas.{chosen-is-assignment, value_at-chosen}
 use Rattle.pv_query.proofs.OutcomeLemmas.{together}
 use Rattle.pv_query.proofs.RepeatLemmas.{Contains-repeats, Contains-from-repeats}
 use Rattle.pv_query.proofs.SumLemmas.{numbers-exact}

@@ -1,6 +1,6 @@
 -- The outcomes that several values name together.
-use Rattle.std.proofs.Common.{◌≡◌, ⊎_elim, ℕ, suc, ◌+◌, ◌*◌, ◌<◌, ◌≤◌, List, [], ◌∷◌, length, get_or, take, drop, refl, sym, ap, subst, ◌∙◌, arith}
-use Rattle.std.specs.Prelude.{map, All, ◌++◌, IsTrue}
+use Rattle.std.proofs.Common.{◌≡◌, ⊎_elim, ℕ, suc, ◌+◌, ◌*◌, ◌<◌, ◌≤◌, List, [], ◌∷◌, length, get_or, take, drop, sym, ap, subst, ◌∙◌, arith}
+use Rattle.std.specs.Prelude.{All, ◌++◌, IsTrue}
 use Rattle.std.specs.List.{Contains, flat_map, list_any}
 use Rattle.std.proofs.Math.Nat.{mul-suc}
 use Rattle.std.proofs.lemmas.Bool.{or_cases, false≢true}
@@ -11,9 +11,10 @@ use Rattle.pv_base.specs.declared.literal.Literal.{Literal}
 use Rattle.pv_base.specs.declared.txn.TxnId.{TxnId}
 use Rattle.pv_base.specs.Assignment.{is_same_txn}
 use Rattle.pv_base.specs.Polyvalue.{Case, names, AreNames, IsPolyvalue}
-use Rattle.pv_poly.specs.Names.{txns_of}
-use Rattle.pv_model.proofs.NameLemmas.{some-names, listed-named}
-use Rattle.pv_model.proofs.AscendingLemmas.{fewer-ascending}
+use Rattle.pv_cases.specs.Names.{txns_of}
+use Rattle.pv_cases.proofs.OrderedNames.{txns_of-append}
+use Rattle.pv_law_polyvalues.proofs.NameLemmas.{some-names, listed-named}
+use Rattle.pv_law_polyvalues.proofs.AscendingLemmas.{fewer-ascending}
 
 among-more : (limit count : ℕ) (own rest : List TxnId) → length own ≤ limit → length rest ≤ limit * count → length (own ++ rest) ≤ limit * (suc count)
 among-more limit count own rest first others = omega (arith, length-append own rest, first, others, mul-suc limit count)
@@ -28,12 +29,6 @@ module _ {V : Type 0} where
   -- the cases of all the values, one after another
   abbrev pub together : List (List (Case V)) → List (Case V)
   together values = flat_map (λ cases. cases) values
-
-  txns_of-append : (cases others : List (Case V)) → txns_of (cases ++ others) ≡ (txns_of cases ++ txns_of others)
-  txns_of-append [] others = refl
-  txns_of-append (case ∷ cases) others =
-      ap (λ (rest : List TxnId). map (λ (literal : Literal). literal.txn) case.when ++ rest) (txns_of-append cases others)
-      ∙ sym (append_assoc (map (λ (literal : Literal). literal.txn) case.when) (txns_of cases) (txns_of others))
 
   -- One more value is read.
   pub outcomes-next : (values : List (List (Case V))) (whole txns more : List TxnId) (i : ℕ) (value cases : List (Case V)) → i < length values → value ≡ get_or values i value

@@ -6,9 +6,9 @@ use Rattle.std.proofs.lemmas.Bool.{false≢true}
 use Rattle.std.proofs.lemmas.List.{append_assoc, append-nil, at_drop_more, drop_all}
 use Rattle.std.proofs.lemmas.List.Elements.{All-contains, All-contains_itself, All-filter}
 use Rattle.std.proofs.lemmas.List.Folds.{list_any-append}
-use Rattle.pv_model.specs.Answers.{without_repeats, only}
-use Rattle.pv_model.proofs.Basics.{Some_inj}
-use Rattle.pv_model.proofs.ItemLemmas.{Contains-first, Contains-behind, Contains-nil, Contains-cases, Contains-filter}
+use Rattle.pv_model.specs.PossibleAnswers.{without_repeats, only}
+use Rattle.pv_base.proofs.Basics.{Some_inj}
+use Rattle.pv_base.proofs.ContainsLemmas.{Contains-first, Contains-behind, Contains-nil, Contains-cases, Contains-filter}
 use Rattle.pv_query.specs.Repeats.{with_new}
 
 and-yes : (b : Bool) → (b && true) ≡ b

@@ -11,11 +11,11 @@ use Rattle.pv_base.specs.declared.txn.TxnId.{TxnId}
 use Rattle.pv_base.specs.Assignment.{assignments}
 use Rattle.pv_base.specs.Polyvalue.{Case, meets, value_at, IsCanonical, AreValues}
 use Rattle.pv_model.specs.Alternatives.{number_at}
-use Rattle.pv_model.specs.Answers.{sum_at}
-use Rattle.pv_model.proofs.Basics.{Some_inj}
-use Rattle.pv_model.proofs.MapLemmas.{map-map, map-constant, map-replicate}
-use Rattle.pv_model.proofs.PolyvalueLemmas.{canonical-complete}
-use Rattle.pv_model.proofs.TableLemmas.{length-assignments, length-values}
+use Rattle.pv_model.specs.PossibleAnswers.{sum_at}
+use Rattle.pv_base.proofs.Basics.{Some_inj}
+use Rattle.pv_base.proofs.MapLemmas.{map-map, map-constant, map-replicate}
+use Rattle.pv_law_polyvalues.proofs.PolyvalueLemmas.{canonical-complete}
+use Rattle.pv_law_polyvalues.proofs.TableLemmas.{length-assignments, length-values}
 use Rattle.pv_query.specs.Sums.{added, IsWithin, AreWithin}
 use Rattle.pv_query.specs.declared.adding.RunningSums.{RunningSums}
 

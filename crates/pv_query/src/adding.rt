@@ -6,12 +6,13 @@ ghost use Rattle.pv_base.specs.Assignment.{precedes, assignments};
 ghost use Rattle.pv_base.specs.Polyvalue.{AreNames, IsPolyvalue};
 ghost use Rattle.pv_base.specs.declared.txn.TxnId.{TxnId};
 ghost use Rattle.pv_model.specs.Alternatives.{number_at};
-ghost use Rattle.pv_model.specs.Answers.{sum_at, sums, without_repeats};
+ghost use Rattle.pv_model.specs.PossibleAnswers.{sum_at, sums, without_repeats};
 ghost use Rattle.pv_query.specs.Sums.{added, totals, IsWithin, AreWithin};
 
 use crate::repeats::push_new;
 use pv_base::{HELD_NAMES, MAX_ITEMS, NoMemory, TxnId};
-use pv_poly::{Poly, ordered, push_names};
+use pv_cases::{ordered, push_names};
+use pv_poly::Poly;
 use std::alloc::Global;
 use std::error::Error;
 use std::fmt;

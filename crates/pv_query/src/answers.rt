@@ -4,7 +4,7 @@ ghost use Rattle.std.specs.List.{Contains};
 ghost use Rattle.pv_base.specs.Polyvalue.{value_at};
 ghost use Rattle.pv_base.specs.declared.txn.TxnId.{TxnId};
 ghost use Rattle.pv_ast.specs.declared.effect.Reply.{Reply};
-ghost use Rattle.pv_model.specs.Answers.{possible, certain};
+ghost use Rattle.pv_model.specs.PossibleAnswers.{possible, certain};
 
 use crate::repeats::push_new;
 use pv_ast::Reply;

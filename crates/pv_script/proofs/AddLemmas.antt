@@ -10,7 +10,7 @@ use Rattle.pv_base.specs.declared.catalog.CatalogError.{CatalogError}
 use Rattle.pv_base.specs.declared.catalog.CatalogError.TheVariants.{BadName, NameTaken, NoSite, TooMany, NoMemory}
 use Rattle.pv_model.specs.Causes.{Before}
 use Rattle.pv_model.specs.LineForms.{Field, site, value, name, has_good_number}
-use Rattle.pv_script.specs.Faults.{texts, fault_of_catalog, IsFault, IsLineFault}
+use Rattle.pv_script.specs.Faults.{texts, fault_of_catalog, IsFieldFault, IsLineFault}
 use Rattle.pv_script.specs.declared.schedule.LineCause.TheVariants.{WrongCount, BadNumber}
 use Rattle.pv_script.proofs.HeadLemmas.{IsItemLine, IsLineFault-bad_name, IsLineFault-taken, IsLineFault-full}
 
@@ -70,13 +70,13 @@ IsLineFault-add before line word at digits catalog NoMemory is same within cause
 abbrev ItemForms : List (List Field)
 ItemForms = (name ∷ site ∷ value ∷ []) ∷ []
 
-pub item-few : (sites : ℕ) (args : List (Bor (List ℕ))) → length args < 3 → IsFault sites ItemForms (texts args) WrongCount
+pub item-few : (sites : ℕ) (args : List (Bor (List ℕ))) → length args < 3 → IsFieldFault sites ItemForms (texts args) WrongCount
 item-few sites [] few = refl
 item-few sites (a ∷ []) few = refl
 item-few sites (a ∷ b ∷ []) few = refl
 item-few sites (a ∷ b ∷ c ∷ more) few = absurd (omega arith)
 
-pub item-many : (sites : ℕ) (args : List (Bor (List ℕ))) → 4 ≤ length args → IsFault sites ItemForms (texts args) WrongCount
+pub item-many : (sites : ℕ) (args : List (Bor (List ℕ))) → 4 ≤ length args → IsFieldFault sites ItemForms (texts args) WrongCount
 item-many sites [] many = absurd (omega arith)
 item-many sites (a ∷ []) many = absurd (omega arith)
 item-many sites (a ∷ b ∷ []) many = absurd (omega arith)
@@ -84,7 +84,7 @@ item-many sites (a ∷ b ∷ c ∷ []) many = absurd (omega arith)
 item-many sites (a ∷ b ∷ c ∷ d ∷ more) many = grind (arith, common_steps)
 
 pub item-bad_site : (sites : ℕ) (args : List (Bor (List ℕ))) (d : Bor (List ℕ)) → 3 ≤ length args → length args < 4
-    → has_good_number sites (site, (get_or args 1 d).now) ≡ false → IsFault sites ItemForms (texts args) BadNumber
+    → has_good_number sites (site, (get_or args 1 d).now) ≡ false → IsFieldFault sites ItemForms (texts args) BadNumber
 item-bad_site sites [] d some few wrong = absurd (omega arith)
 item-bad_site sites (a ∷ []) d some few wrong = absurd (omega arith)
 item-bad_site sites (a ∷ b ∷ []) d some few wrong = absurd (omega arith)
@@ -92,7 +92,7 @@ item-bad_site sites (a ∷ b ∷ c ∷ []) d some few wrong = (λ none. cc, and_
 item-bad_site sites (a ∷ b ∷ c ∷ e ∷ more) d some few wrong = absurd (omega arith)
 
 pub item-bad_value : (sites : ℕ) (args : List (Bor (List ℕ))) (d : Bor (List ℕ)) → 3 ≤ length args → length args < 4
-    → has_good_number sites (value, (get_or args 2 d).now) ≡ false → IsFault sites ItemForms (texts args) BadNumber
+    → has_good_number sites (value, (get_or args 2 d).now) ≡ false → IsFieldFault sites ItemForms (texts args) BadNumber
 item-bad_value sites [] d some few wrong = absurd (omega arith)
 item-bad_value sites (a ∷ []) d some few wrong = absurd (omega arith)
 item-bad_value sites (a ∷ b ∷ []) d some few wrong = absurd (omega arith)

@@ -2,116 +2,115 @@
 use Rattle.std.proofs.Common.{◌≡◌, ◌≢◌, ℕ, ◌<◌, ◌≤◌, true, false, Option, Some, None, List, [], ◌∷◌, length, refl, sym, ap, ◌∙◌, subst, arith, find}
 use Rattle.std.specs.Prelude.{◌==◌}
 use Rattle.std.specs.List.{list_all, Contains}
+use Rattle.std.proofs.lemmas.Option.{none-some}
 use Rattle.std.proofs.lemmas.Bool.{both_ways}
-use Rattle.pv_model.specs.Causes.{Before, Cause, too_long, not_text, sites_expected, unknown_word, twice, too_late, wrong_count, bad_number, bad_mode, bad_name, name_taken, too_many_items, at_program, names_no_item, too_many_names, query_assigns, rank, HasCause, or_default}
+use Rattle.pv_model.specs.Causes as model
+use Rattle.pv_model.specs.Causes.{Before, too_long, not_text, sites_expected, unknown_word, twice, too_late, wrong_count, bad_number, bad_mode, bad_name, name_taken, too_many_items, at_program, names_no_item, too_many_names, query_assigns, line_cause_rank, HasLineCause, or_default}
 use Rattle.pv_model.specs.LineForms.{Field, mode, first_of, first_word, forms_of, takes_program, site_and_text, program_text, arguments, form_of, fields_in, fields_of, has_good_number}
 use Rattle.pv_model.specs.ProgramText.{Kind}
-use Rattle.pv_model.specs.Text.{Line, is_text_byte, IsText, words}
-use Rattle.pv_script.specs.Answers.{cause_of}
-use Rattle.pv_script.specs.Faults.{form_among, IsFault, IsLineFault}
+use Rattle.pv_model.specs.Text.{TextLine, is_text_byte, IsText, words}
+use Rattle.pv_script.specs.ScriptErrors.{cause_of}
+use Rattle.pv_script.specs.Faults.{form_among, IsFieldFault, IsLineFault}
 use Rattle.pv_script.specs.Said.{IsHead}
 use Rattle.pv_script.specs.declared.fault.Fault.TheVariants.{At}
 use Rattle.pv_script.specs.declared.schedule.LineCause.{LineCause}
 use Rattle.pv_script.specs.declared.schedule.LineCause.TheVariants.{TooLong, NotText, UnknownWord, WrongCount, BadNumber, BadMode}
 
 -- No cause of a lower rank holds.
-abbrev pub NoneBefore : Before → Line → ℕ → Type 0
-NoneBefore before line r = (cause : Cause) → HasCause before line cause → r ≤ rank cause
+abbrev pub NoneBefore : Before → TextLine → ℕ → Type 0
+NoneBefore before line r = (cause : model.LineCause) → HasLineCause before line cause → r ≤ line_cause_rank cause
 
-module _ (before : Before) (line : Line) where
+module _ (before : Before) (line : TextLine) where
   pub none0 : NoneBefore before line 0
   none0 cause has = omega arith
 
-  pub none1 : (HasCause before line too_long → ⊥) → NoneBefore before line 1
+  pub none1 : (HasLineCause before line too_long → ⊥) → NoneBefore before line 1
   none1 refuted too_long has = absurd (refuted has)
   none1 refuted cause has = omega arith
 
-  pub none2 : NoneBefore before line 1 → (HasCause before line not_text → ⊥) → NoneBefore before line 2
+  pub none2 : NoneBefore before line 1 → (HasLineCause before line not_text → ⊥) → NoneBefore before line 2
   none2 none refuted not_text has = absurd (refuted has)
   none2 none refuted cause has = let more = none cause has in omega arith
 
-  pub none3 : NoneBefore before line 2 → (HasCause before line sites_expected → ⊥) → NoneBefore before line 3
+  pub none3 : NoneBefore before line 2 → (HasLineCause before line sites_expected → ⊥) → NoneBefore before line 3
   none3 none refuted sites_expected has = absurd (refuted has)
   none3 none refuted cause has = let more = none cause has in omega arith
 
-  pub none4 : NoneBefore before line 3 → (HasCause before line unknown_word → ⊥) → NoneBefore before line 4
+  pub none4 : NoneBefore before line 3 → (HasLineCause before line unknown_word → ⊥) → NoneBefore before line 4
   none4 none refuted unknown_word has = absurd (refuted has)
   none4 none refuted cause has = let more = none cause has in omega arith
 
-  pub none5 : NoneBefore before line 4 → (HasCause before line twice → ⊥) → NoneBefore before line 5
+  pub none5 : NoneBefore before line 4 → (HasLineCause before line twice → ⊥) → NoneBefore before line 5
   none5 none refuted twice has = absurd (refuted has)
   none5 none refuted cause has = let more = none cause has in omega arith
 
-  pub none6 : NoneBefore before line 5 → (HasCause before line too_late → ⊥) → NoneBefore before line 6
+  pub none6 : NoneBefore before line 5 → (HasLineCause before line too_late → ⊥) → NoneBefore before line 6
   none6 none refuted too_late has = absurd (refuted has)
   none6 none refuted cause has = let more = none cause has in omega arith
 
-  pub none7 : NoneBefore before line 6 → (HasCause before line wrong_count → ⊥) → NoneBefore before line 7
+  pub none7 : NoneBefore before line 6 → (HasLineCause before line wrong_count → ⊥) → NoneBefore before line 7
   none7 none refuted wrong_count has = absurd (refuted has)
   none7 none refuted cause has = let more = none cause has in omega arith
 
-  pub none8 : NoneBefore before line 7 → (HasCause before line bad_number → ⊥) → NoneBefore before line 8
+  pub none8 : NoneBefore before line 7 → (HasLineCause before line bad_number → ⊥) → NoneBefore before line 8
   none8 none refuted bad_number has = absurd (refuted has)
   none8 none refuted cause has = let more = none cause has in omega arith
 
-  pub none9 : NoneBefore before line 8 → (HasCause before line bad_mode → ⊥) → NoneBefore before line 9
+  pub none9 : NoneBefore before line 8 → (HasLineCause before line bad_mode → ⊥) → NoneBefore before line 9
   none9 none refuted bad_mode has = absurd (refuted has)
   none9 none refuted cause has = let more = none cause has in omega arith
 
-  pub none10 : NoneBefore before line 9 → (HasCause before line bad_name → ⊥) → NoneBefore before line 10
+  pub none10 : NoneBefore before line 9 → (HasLineCause before line bad_name → ⊥) → NoneBefore before line 10
   none10 none refuted bad_name has = absurd (refuted has)
   none10 none refuted cause has = let more = none cause has in omega arith
 
-  pub none11 : NoneBefore before line 10 → (HasCause before line name_taken → ⊥) → NoneBefore before line 11
+  pub none11 : NoneBefore before line 10 → (HasLineCause before line name_taken → ⊥) → NoneBefore before line 11
   none11 none refuted name_taken has = absurd (refuted has)
   none11 none refuted cause has = let more = none cause has in omega arith
 
-  pub none12 : NoneBefore before line 11 → (HasCause before line too_many_items → ⊥) → NoneBefore before line 12
+  pub none12 : NoneBefore before line 11 → (HasLineCause before line too_many_items → ⊥) → NoneBefore before line 12
   none12 none refuted too_many_items has = absurd (refuted has)
   none12 none refuted cause has = let more = none cause has in omega arith
 
-  pub none13 : NoneBefore before line 12 → ((kind : Kind) (column : ℕ) → HasCause before line (at_program kind column) → ⊥) → NoneBefore before line 13
+  pub none13 : NoneBefore before line 12 → ((kind : Kind) (column : ℕ) → HasLineCause before line (at_program kind column) → ⊥) → NoneBefore before line 13
   none13 none refuted (at_program kind column) has = absurd (refuted kind column has)
   none13 none refuted cause has = let more = none cause has in omega arith
 
-  pub none14 : NoneBefore before line 13 → (HasCause before line names_no_item → ⊥) → NoneBefore before line 14
+  pub none14 : NoneBefore before line 13 → (HasLineCause before line names_no_item → ⊥) → NoneBefore before line 14
   none14 none refuted names_no_item has = absurd (refuted has)
   none14 none refuted cause has = let more = none cause has in omega arith
 
-  pub none15 : NoneBefore before line 14 → ((n : ℕ) → HasCause before line (too_many_names n) → ⊥) → NoneBefore before line 15
+  pub none15 : NoneBefore before line 14 → ((n : ℕ) → HasLineCause before line (too_many_names n) → ⊥) → NoneBefore before line 15
   none15 none refuted (too_many_names n) has = absurd (refuted n has)
   none15 none refuted cause has = let more = none cause has in omega arith
 
-  pub none16 : NoneBefore before line 15 → (HasCause before line query_assigns → ⊥) → NoneBefore before line 16
+  pub none16 : NoneBefore before line 15 → (HasLineCause before line query_assigns → ⊥) → NoneBefore before line 16
   none16 none refuted query_assigns has = absurd (refuted has)
   none16 none refuted cause has = let more = none cause has in omega arith
 
 -- ---- what is told first
 
-pub told : (before : Before) (line : Line) (cause : LineCause) (is : Cause) → cause_of cause ≡ Some is → HasCause before line is
-    → NoneBefore before line (rank is) → IsLineFault before line (At cause)
+pub told : (before : Before) (line : TextLine) (cause : LineCause) (is : model.LineCause) → cause_of cause ≡ Some is → HasLineCause before line is
+    → NoneBefore before line (line_cause_rank is) → IsLineFault before line (At cause)
 told before line cause is same has none = (is, same, record { has = has; first = none })
 
-pub IsLineFault-long : (before : Before) (line : Line) → 1000 < length line → IsLineFault before line (At TooLong)
+pub IsLineFault-long : (before : Before) (line : TextLine) → 1000 < length line → IsLineFault before line (At TooLong)
 IsLineFault-long before line long = told before line TooLong too_long refl long (none0 before line)
 
-none-long : (before : Before) (line : Line) → length line ≤ 1000 → NoneBefore before line 1
+none-long : (before : Before) (line : TextLine) → length line ≤ 1000 → NoneBefore before line 1
 none-long before line short = none1 before line (λ has. absurd (omega arith))
 
-pub IsLineFault-bytes : (before : Before) (line : Line) → length line ≤ 1000 → list_all is_text_byte line ≡ false → IsLineFault before line (At NotText)
+pub IsLineFault-bytes : (before : Before) (line : TextLine) → length line ≤ 1000 → list_all is_text_byte line ≡ false → IsLineFault before line (At NotText)
 IsLineFault-bytes before line short bytes = told before line NotText not_text refl bytes (none-long before line short)
 
-pub none-text : (before : Before) (line : Line) → IsText line → NoneBefore before line 2
+pub none-text : (before : Before) (line : TextLine) → IsText line → NoneBefore before line 2
 none-text before line is = none2 before line (none-long before line is.short) (λ bytes. both_ways (list_all is_text_byte line) bytes is.bytes)
 
-none-some : {X : Type 0} (x : X) → None ≡ Some x → ⊥
-none-some x e = cc
-
 -- a line behind the count of sites
-pub none-said : (before : Before) (line : Line) (sites : ℕ) → IsText line → before.sites ≡ Some sites → NoneBefore before line 3
+pub none-said : (before : Before) (line : TextLine) (sites : ℕ) → IsText line → before.sites ≡ Some sites → NoneBefore before line 3
 none-said before line sites is said = none3 before line (none-text before line is) (λ has. none-some sites (sym has.0 ∙ said))
 
-pub IsLineFault-unknown : (before : Before) (line : Line) (sites : ℕ) → IsText line → before.sites ≡ Some sites → forms_of (first_word line) ≡ []
+pub IsLineFault-unknown : (before : Before) (line : TextLine) (sites : ℕ) → IsText line → before.sites ≡ Some sites → forms_of (first_word line) ≡ []
     → IsLineFault before line (At UnknownWord)
 IsLineFault-unknown before line sites is said unknown = told before line UnknownWord unknown_word refl unknown (none-said before line sites is said)
 
@@ -143,20 +142,20 @@ fields_of-line line word args given are same =
     ∙ ap (λ (form : Option (List Field)). fields_in form given) (form_of-line line word args given are same)
 
 -- A line behind the count of sites has these words; what stands behind the first one is given.
-pub record IsGiven (before : Before) (line : Line) (word : List ℕ) (args given : List (List ℕ)) : Type 0 where
+pub record IsGiven (before : Before) (line : TextLine) (word : List ℕ) (args given : List (List ℕ)) : Type 0 where
   pub head : IsHead before line word args
   pub same : arguments line ≡ given
   pub known : forms_of word ≢ []
 
-pub none-known : (before : Before) (line : Line) (word : List ℕ) (args : List (List ℕ)) → IsHead before line word args → forms_of word ≢ []
+pub none-known : (before : Before) (line : TextLine) (word : List ℕ) (args : List (List ℕ)) → IsHead before line word args → forms_of word ≢ []
     → NoneBefore before line 4
 none-known before line word args head known =
     none4 before line (none-said before line head.sites head.text head.said)
     (λ unknown. known (ap forms_of (sym (first-line line word args head.words)) ∙ unknown))
 
 -- Fields are tested in order.
-pub IsLineFault-fields : (before : Before) (line : Line) (word : List ℕ) (args given : List (List ℕ)) (cause : LineCause) → words line ≡ word ∷ args
-    → arguments line ≡ given → NoneBefore before line 6 → IsFault (or_default 0 before.sites) (forms_of word) given cause → IsLineFault before line (At cause)
+pub IsLineFault-fields : (before : Before) (line : TextLine) (word : List ℕ) (args given : List (List ℕ)) (cause : LineCause) → words line ≡ word ∷ args
+    → arguments line ≡ given → NoneBefore before line 6 → IsFieldFault (or_default 0 before.sites) (forms_of word) given cause → IsLineFault before line (At cause)
 IsLineFault-fields before line word args given WrongCount are same none fault =
     told before line WrongCount wrong_count refl (form_of-line line word args given are same ∙ fault) none
 IsLineFault-fields before line word args given BadNumber are same none fault =

@@ -7,8 +7,8 @@ use Rattle.std.proofs.lemmas.List.FromFn.{length-enumerate_from}
 use Rattle.std.proofs.lemmas.List.Filters.{length-filter_both}
 use Rattle.pv_model.specs.Causes.{Before}
 use Rattle.pv_model.specs.Events as model
-use Rattle.pv_model.specs.Schedule.{AreLines, none, declaration, event, IsSchedule, counted}
-use Rattle.pv_model.specs.Text.{Line, lines, numbered, is_counted, parts_that_are_lines}
+use Rattle.pv_model.specs.Schedule.{AreLines, none, declaration, event, IsSchedule, significant}
+use Rattle.pv_model.specs.Text.{TextLine, lines, numbered, is_significant, parts_that_are_lines}
 use Rattle.pv_script.proofs.LineLemmas.{Begins, Begins-slice_split, is_feed}
 
 length-last : (empty : Bool) (part : List ℕ) → length (cond {A = List (List ℕ)} empty [] (part ∷ [])) ≤ 1
@@ -38,18 +38,18 @@ length-filter_le : {X : Type 0} (p : X → Bool) (xs : List X) → length (filte
 length-filter_le p xs = omega (arith, length-filter_both p (λ x. not (p x)) (λ _. refl) xs)
 
 -- no more lines count than there are bytes
-length-counted : (text : List ℕ) → length (counted text) ≤ length text
+length-significant : (text : List ℕ) → length (significant text) ≤ length text
 unfolding numbered
-length-counted text =
+length-significant text =
     let all = length-lines text in
     let each = length-enumerate_from 1 (lines text) in
-    let some = length-filter_le (λ line. is_counted line.1) (enumerate_from 1 (lines text)) in
+    let some = length-filter_le (λ line. is_significant line.1) (enumerate_from 1 (lines text)) in
     rw (length-map (numbered text) (λ line. line.1)) (omega arith)
 
-length-events : {before last : Before} {all : List Line} {events : List model.Event} → AreLines before all events last → length events ≤ length all
+length-events : {before last : Before} {all : List TextLine} {events : List model.Event} → AreLines before all events last → length events ≤ length all
 length-events (none before) = omega arith
 length-events (declaration before after last line all events declares are) = let fewer = length-events are in omega arith
 length-events (event before last line all e events says are) = let fewer = length-events are in omega arith
 
 pub few-events : (text : List ℕ) (schedule : model.Schedule) → IsSchedule text schedule → length schedule.events ≤ length text
-few-events text schedule is = let fewer = length-events is.are in let all = length-counted text in omega arith
+few-events text schedule is = let fewer = length-events is.are in let all = length-significant text in omega arith

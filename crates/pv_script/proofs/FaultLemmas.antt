@@ -1,12 +1,12 @@
 -- Lines taken one by one: what they say so far, and the first one at fault.
 use Rattle.std.proofs.Common.{◌≡◌, ℕ, List, [], ◌∷◌, ◌++◌, ◌+◌, length, map, inl, inr, refl, sym, ap, subst}
 use Rattle.pv_base.specs.Catalog.{Declared}
-use Rattle.pv_model.specs.Causes.{Before, at_first, Cause, sites_expected, IsFirstCause}
+use Rattle.pv_model.specs.Causes.{Before, at_first, LineCause, sites_expected, IsFirstCause}
 use Rattle.pv_model.specs.Events as model
 use Rattle.pv_model.specs.FirstFault.{without_numbers}
-use Rattle.pv_model.specs.Schedule.{Declares, IsEvent, with_event, AreLines, none, declaration, event, IsAtFault, IsMalformed}
-use Rattle.pv_model.specs.Text.{Line, lines, numbered}
-use Rattle.pv_script.specs.Answers.{Refuses}
+use Rattle.pv_model.specs.Schedule.{Declares, IsEvent, with_event, AreLines, none, declaration, event, IsAtFault, IsMalformedSchedule}
+use Rattle.pv_model.specs.Text.{TextLine, lines, numbered}
+use Rattle.pv_script.specs.ScriptErrors.{Refuses}
 use Rattle.pv_script.specs.Faults.{error_at, IsErrorAt, IsLineFault}
 use Rattle.pv_script.specs.Takes.{Takes, declared, happened}
 use Rattle.pv_script.specs.View.{event_of}
@@ -17,45 +17,45 @@ use Rattle.pv_script.specs.declared.schedule.ScriptError.{ScriptError}
 use Rattle.pv_script.specs.declared.schedule.ScriptError.TheVariants as error
 
 -- Lines behind what was said are first at fault at this number, for this cause.
-pub record IsAtFaultFrom (start : Before) (all : List (ℕ × Line)) (number : ℕ) (cause : Cause) : Type 0 where
-  pub front : List (ℕ × Line)
-  pub line : Line
-  pub rest : List (ℕ × Line)
+pub record IsAtFaultFrom (start : Before) (all : List (ℕ × TextLine)) (number : ℕ) (cause : LineCause) : Type 0 where
+  pub front : List (ℕ × TextLine)
+  pub line : TextLine
+  pub rest : List (ℕ × TextLine)
   pub split : all ≡ front ++ (number, line) ∷ rest
   pub events : List model.Event
   pub before : Before
   pub are : AreLines start (without_numbers front) events before
   pub first : IsFirstCause before line cause
 
-pub fault-whole : (text : List ℕ) (number : ℕ) (cause : Cause) → IsAtFaultFrom at_first (numbered text) number cause → IsAtFault text number cause
+pub fault-whole : (text : List ℕ) (number : ℕ) (cause : LineCause) → IsAtFaultFrom at_first (numbered text) number cause → IsAtFault text number cause
 fault-whole text number cause is =
     record { front = is.front; line = is.line; rest = is.rest; split = is.split; events = is.events; before = is.before; are = is.are; first = is.first }
 
-pub fault-here : (before : Before) (number : ℕ) (line : Line) (rest : List (ℕ × Line)) (cause : Cause) → IsFirstCause before line cause
+pub fault-here : (before : Before) (number : ℕ) (line : TextLine) (rest : List (ℕ × TextLine)) (cause : LineCause) → IsFirstCause before line cause
     → IsAtFaultFrom before ((number, line) ∷ rest) number cause
 fault-here before number line rest cause first =
     record { front = []; line = line; rest = rest; split = refl; events = []; before = before; are = none before; first = first }
 
-pub fault-declares : (before after : Before) (k : ℕ) (line : Line) (left : List (ℕ × Line)) (number : ℕ) (cause : Cause) → Declares before line after
+pub fault-declares : (before after : Before) (k : ℕ) (line : TextLine) (left : List (ℕ × TextLine)) (number : ℕ) (cause : LineCause) → Declares before line after
     → IsAtFaultFrom after left number cause → IsAtFaultFrom before ((k, line) ∷ left) number cause
 fault-declares before after k line left number cause declares is = record {
   front = (k, line) ∷ is.front;
   line = is.line;
   rest = is.rest;
-  split = ap (λ (all : List (ℕ × Line)). (k, line) ∷ all) is.split;
+  split = ap (λ (all : List (ℕ × TextLine)). (k, line) ∷ all) is.split;
   events = is.events;
   before = is.before;
   are = declaration before after is.before line (without_numbers is.front) is.events declares is.are;
   first = is.first;
 }
 
-fault-event : (before : Before) (e : model.Event) (k : ℕ) (line : Line) (left : List (ℕ × Line)) (number : ℕ) (cause : Cause) → IsEvent before line e
+fault-event : (before : Before) (e : model.Event) (k : ℕ) (line : TextLine) (left : List (ℕ × TextLine)) (number : ℕ) (cause : LineCause) → IsEvent before line e
     → IsAtFaultFrom (with_event before) left number cause → IsAtFaultFrom before ((k, line) ∷ left) number cause
 fault-event before e k line left number cause says is = record {
   front = (k, line) ∷ is.front;
   line = is.line;
   rest = is.rest;
-  split = ap (λ (all : List (ℕ × Line)). (k, line) ∷ all) is.split;
+  split = ap (λ (all : List (ℕ × TextLine)). (k, line) ∷ all) is.split;
   events = e ∷ is.events;
   before = is.before;
   are = event before is.before line (without_numbers is.front) e is.events says is.are;
@@ -63,7 +63,7 @@ fault-event before e k line left number cause says is = record {
 }
 
 -- What is first at fault behind a line is so from the line on.
-pub fault-takes : (before after : Before) (catalog : Declared) (old new : List Event) (k : ℕ) (line : Line) (left : List (ℕ × Line)) (number : ℕ) (cause : Cause)
+pub fault-takes : (before after : Before) (catalog : Declared) (old new : List Event) (k : ℕ) (line : TextLine) (left : List (ℕ × TextLine)) (number : ℕ) (cause : LineCause)
     → Takes before line after catalog old new → IsAtFaultFrom after left number cause → IsAtFaultFrom before ((k, line) ∷ left) number cause
 fault-takes before after catalog old new k line left number cause (declared declares same) is = fault-declares before after k line left number cause declares is
 fault-takes before after catalog old new k line left number cause (happened e says then plan more) is =
@@ -74,7 +74,7 @@ map-snoc [] e more = refl
 map-snoc (x ∷ old) e more = ap (λ (es : List model.Event). event_of x ∷ es) (map-snoc old e more)
 
 -- Whatever is read behind a line is read from the line on.
-pub lines-takes : (before after : Before) (catalog : Declared) (old new : List Event) (line : Line) (left whole : List Line) (more : List model.Event) (last : Before)
+pub lines-takes : (before after : Before) (catalog : Declared) (old new : List Event) (line : TextLine) (left whole : List TextLine) (more : List model.Event) (last : Before)
     → Takes before line after catalog old new
     → ((more : List model.Event) (last : Before) → AreLines before (line ∷ left) more last → AreLines at_first whole (map event_of old ++ more) last)
     → AreLines after left more last → AreLines at_first whole (map event_of new ++ more) last
@@ -88,25 +88,25 @@ lines-takes before after catalog old new line left whole more last (happened e s
 
 -- ---- refusals
 
-pub refuses-first : (text : List ℕ) (number : ℕ) (line : Line) (rest : List (ℕ × Line)) (fault : Fault) → numbered text ≡ (number, line) ∷ rest
-    → IsLineFault at_first line fault → Refuses (IsMalformed text) (error_at number fault)
+pub refuses-first : (text : List ℕ) (number : ℕ) (line : TextLine) (rest : List (ℕ × TextLine)) (fault : Fault) → numbered text ≡ (number, line) ∷ rest
+    → IsLineFault at_first line fault → Refuses (IsMalformedSchedule text) (error_at number fault)
 refuses-first text number line rest (At told) split fault =
-    (fault.0, fault.1, inl (fault-whole text number fault.0 (subst (λ (all : List (ℕ × Line)). IsAtFaultFrom at_first all number fault.0) (sym split) (fault-here at_first number line rest fault.0 fault.2))))
+    (fault.0, fault.1, inl (fault-whole text number fault.0 (subst (λ (all : List (ℕ × TextLine)). IsAtFaultFrom at_first all number fault.0) (sym split) (fault-here at_first number line rest fault.0 fault.2))))
 refuses-first text number line rest NoMemory split fault = tt
 
-pub error-fault : (before : Before) (number : ℕ) (line : Line) (fault : Fault) → IsLineFault before line fault → IsErrorAt before number line (error_at number fault)
+pub error-fault : (before : Before) (number : ℕ) (line : TextLine) (fault : Fault) → IsLineFault before line fault → IsErrorAt before number line (error_at number fault)
 error-fault before number line (At told) fault = (refl, fault)
 error-fault before number line NoMemory fault = tt
 
 -- An error of a line of the text refuses the text.
-pub refuses-line : (text : List ℕ) (before : Before) (number : ℕ) (line : Line) (rest : List (ℕ × Line)) (e : ScriptError)
-    → ((n : ℕ) (cause : Cause) → IsAtFaultFrom before ((number, line) ∷ rest) n cause → IsAtFault text n cause)
-    → IsErrorAt before number line e → Refuses (IsMalformed text) e
+pub refuses-line : (text : List ℕ) (before : Before) (number : ℕ) (line : TextLine) (rest : List (ℕ × TextLine)) (e : ScriptError)
+    → ((n : ℕ) (cause : LineCause) → IsAtFaultFrom before ((number, line) ∷ rest) n cause → IsAtFault text n cause)
+    → IsErrorAt before number line e → Refuses (IsMalformedSchedule text) e
 refuses-line text before number line rest (error.Malformed place told) so is =
     let at = so number is.1.0 (fault-here before number line rest is.1.0 is.1.2) in
     (is.1.0, is.1.1, inl (subst (λ (n : ℕ). IsAtFault text n is.1.0) (sym is.0) at))
 refuses-line text before number line rest error.NoMemory so is = tt
 
 -- A text without lines lacks the sites.
-pub lacks-sites : (text : List ℕ) (place : ℕ) → numbered text ≡ [] → place ≡ length (lines text) + 1 → IsMalformed text place sites_expected
+pub lacks-sites : (text : List ℕ) (place : ℕ) → numbered text ≡ [] → place ≡ length (lines text) + 1 → IsMalformedSchedule text place sites_expected
 lacks-sites text place empty at = inr (record { empty = empty; place = at; is = refl })

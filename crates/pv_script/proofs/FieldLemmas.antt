@@ -8,8 +8,8 @@ use Rattle.pv_model.specs.Causes.{mode_words}
 use Rattle.pv_model.specs.LineForms.{Field, number, site, value, mode, are_digits, has_good_number}
 use Rattle.pv_model.specs.Meaning.{fits_i64}
 use Rattle.pv_model.specs.Schedule.{IsIn}
-use Rattle.pv_model.specs.Text.{value_of, digits_of, signed_value_of, IsNumber, IsSigned}
-use Rattle.pv_script.specs.Faults.{texts, IsFault}
+use Rattle.pv_model.specs.Text.{number_of_digits, digits_of, number_of_signed, IsNumber, IsSigned}
+use Rattle.pv_script.specs.Faults.{texts, IsFieldFault}
 use Rattle.pv_script.specs.declared.schedule.LineCause.TheVariants.{BadNumber, BadMode}
 
 are_digits-some : (word : List ℕ) → 0 < length word → IsTrue (list_all is_digit word) → are_digits word ≡ true
@@ -21,18 +21,18 @@ are_digits-some (b ∷ bs) some digits = digits
 pub good-number : (sites least most n : ℕ) (word : List ℕ) → IsIn least most word n → has_good_number sites (number least most, word) ≡ true
 good-number sites least most n word is =
     let same = is.0.value in
-    and_from (are_digits word) (nat_le least (value_of word) && nat_le (value_of word) most) (are_digits-some word is.0.some is.0.digits)
-    (and_from (nat_le least (value_of word)) (nat_le (value_of word) most) (le-leb least (value_of word) (rw same at is.1)) (le-leb (value_of word) most (rw same at is.2)))
+    and_from (are_digits word) (nat_le least (number_of_digits word) && nat_le (number_of_digits word) most) (are_digits-some word is.0.some is.0.digits)
+    (and_from (nat_le least (number_of_digits word)) (nat_le (number_of_digits word) most) (le-leb least (number_of_digits word) (rw same at is.1)) (le-leb (number_of_digits word) most (rw same at is.2)))
 
 pub good-site : (sites n : ℕ) (word : List ℕ) → IsNumber word n → n < sites → has_good_number sites (site, word) ≡ true
 good-site sites n word is below =
     let same = is.value in
-    and_from (are_digits word) (nat_lt (value_of word) sites) (are_digits-some word is.some is.digits)
-    (le-leb (suc (value_of word)) sites (omega arith))
+    and_from (are_digits word) (nat_lt (number_of_digits word) sites) (are_digits-some word is.some is.digits)
+    (le-leb (suc (number_of_digits word)) sites (omega arith))
 
 pub good-value : (sites : ℕ) (z : ℤ) (word : List ℕ) → IsSigned word z → IsTrue (fits_i64 z) → has_good_number sites (value, word) ≡ true
 good-value sites z word is fits =
-    and_from (are_digits (digits_of word)) (fits_i64 (signed_value_of word)) (are_digits-some (digits_of word) is.some is.digits)
+    and_from (are_digits (digits_of word)) (fits_i64 (number_of_signed word)) (are_digits-some (digits_of word) is.some is.digits)
     (ap fits_i64 (sym is.value) ∙ fits)
 
 -- ---- one word
@@ -43,11 +43,11 @@ texts-one (word ∷ []) d some few = refl
 texts-one (word ∷ more ∷ args) d some few = absurd (omega arith)
 
 pub bad-one : (field : Field) (sites : ℕ) (word : List ℕ) → has_good_number sites (field, word) ≡ false
-    → IsFault sites ((field ∷ []) ∷ []) (word ∷ []) BadNumber
+    → IsFieldFault sites ((field ∷ []) ∷ []) (word ∷ []) BadNumber
 bad-one field sites word bad = (λ none. cc, rw bad refl)
 
 pub bad-most : (sites : ℕ) (word : List ℕ) → has_good_number sites (number 1 1000000, word) ≡ false
-    → IsFault sites ([] ∷ (number 1 1000000 ∷ []) ∷ []) (word ∷ []) BadNumber
+    → IsFieldFault sites ([] ∷ (number 1 1000000 ∷ []) ∷ []) (word ∷ []) BadNumber
 bad-most sites word bad = (λ none. cc, rw bad refl)
 
 -- ---- a site, a call and a mode
@@ -64,27 +64,27 @@ abbrev ArmForms : List (List Field)
 ArmForms = (site ∷ number 1 1000 ∷ mode ∷ []) ∷ []
 
 pub bad-call : (sites : ℕ) (at call left : List ℕ) → has_good_number sites (number 1 1000, call) ≡ false
-    → IsFault sites ArmForms (at ∷ call ∷ left ∷ []) BadNumber
+    → IsFieldFault sites ArmForms (at ∷ call ∷ left ∷ []) BadNumber
 bad-call sites at call left bad =
     (λ none. cc, and_right (has_good_number sites (site, at)) _ (and_left (has_good_number sites (number 1 1000, call)) true bad))
 
 pub bad-mode : (sites n k : ℕ) (at call left : List ℕ) → IsNumber at n → n < sites → IsIn 1 1000 call k → (Contains mode_words left → ⊥)
-    → IsFault sites ArmForms (at ∷ call ∷ left ∷ []) BadMode
+    → IsFieldFault sites ArmForms (at ∷ call ∷ left ∷ []) BadMode
 bad-mode sites n k at call left is below within bad =
     (λ none. cc, and_from (has_good_number sites (site, at)) _ (good-site sites n at is below) (and_from (has_good_number sites (number 1 1000, call)) true (good-number sites 1 1000 k call within) refl), left, (2, omega arith, refl), bad)
 
 pub bad-alone : (field : Field) (sites : ℕ) (args : List (Bor (List ℕ))) (d : Bor (List ℕ)) → 1 ≤ length args → length args < 2
-    → has_good_number sites (field, (get_or args 0 d).now) ≡ false → IsFault sites ((field ∷ []) ∷ []) (texts args) BadNumber
+    → has_good_number sites (field, (get_or args 0 d).now) ≡ false → IsFieldFault sites ((field ∷ []) ∷ []) (texts args) BadNumber
 bad-alone field sites [] d some few bad = absurd (omega arith)
 bad-alone field sites (word ∷ []) d some few bad = bad-one field sites word.now bad
 bad-alone field sites (word ∷ more ∷ args) d some few bad = absurd (omega arith)
 
 pub bad-call-at : (sites : ℕ) (args : List (Bor (List ℕ))) (d : Bor (List ℕ)) → 3 ≤ length args → length args < 4
-    → has_good_number sites (number 1 1000, (get_or args 1 d).now) ≡ false → IsFault sites ArmForms (texts args) BadNumber
+    → has_good_number sites (number 1 1000, (get_or args 1 d).now) ≡ false → IsFieldFault sites ArmForms (texts args) BadNumber
 bad-call-at sites args d some few bad = rw (texts-three args d d d some few) (bad-call sites (get_or args 0 d).now (get_or args 1 d).now (get_or args 2 d).now bad)
 
 pub bad-mode-at : (sites n k : ℕ) (args : List (Bor (List ℕ))) (d : Bor (List ℕ)) → 3 ≤ length args → length args < 4
     → IsNumber (get_or args 0 d).now n → n < sites → IsIn 1 1000 (get_or args 1 d).now k → (Contains mode_words (get_or args 2 d).now → ⊥)
-    → IsFault sites ArmForms (texts args) BadMode
+    → IsFieldFault sites ArmForms (texts args) BadMode
 bad-mode-at sites n k args d some few is below within bad =
     rw (texts-three args d d d some few) (bad-mode sites n k (get_or args 0 d).now (get_or args 1 d).now (get_or args 2 d).now is below within bad)

@@ -9,9 +9,9 @@ use Rattle.pv_base.specs.Name.{is_name}
 use Rattle.pv_base.specs.Catalog.{place_of}
 use Rattle.pv_model.specs.Causes.{Before, at_first, sites_expected, twice, too_late, bad_name, name_taken, too_many_items, BeginsWith, IsSaid, or_default, Has}
 use Rattle.pv_model.specs.LineForms.{Field, number, site, value, mode, name, first_word, forms_of, form_of, fields_of, fields_in, has_good_number}
-use Rattle.pv_model.specs.Text.{Line, IsText, words, IsNumber, IsSigned}
+use Rattle.pv_model.specs.Text.{TextLine, IsText, words, IsNumber, IsSigned}
 use Rattle.pv_model.specs.Meaning.{fits_i64}
-use Rattle.pv_script.specs.Faults.{form_among, IsFault, IsLineFault}
+use Rattle.pv_script.specs.Faults.{form_among, IsFieldFault, IsLineFault}
 use Rattle.pv_script.specs.Keywords.{command_word, command_forms}
 use Rattle.pv_script.specs.Said.{IsHead}
 use Rattle.pv_script.specs.declared.keyword.Command as code
@@ -53,7 +53,7 @@ known-command command none = some_command command (sym (forms-command command) �
     some_command code.TheVariants.Report e = cc
     some_command code.TheVariants.Total e = cc
 
-none-command : (before : Before) (line : Line) (command : code.Command) (args : List (List ℕ)) → IsHead before line (command_word command) args → NoneBefore before line 6
+none-command : (before : Before) (line : TextLine) (command : code.Command) (args : List (List ℕ)) → IsHead before line (command_word command) args → NoneBefore before line 6
 none-command before line command args head =
     let none = none-known before line (command_word command) args head (known-command command) in
     none6 before line
@@ -62,8 +62,8 @@ none-command before line command args head =
     (λ (p : BeginsWith (codes "journal") line × IsSaid before.journal). begins line (command_word command) (codes "journal") args head.words (command-no_journal command) p.0)))
     (λ late. ⊎_elim (begins line (command_word command) (codes "journal") args head.words (command-no_journal command)) (begins line (command_word command) (codes "item") args head.words (command-no_item command)) late.0)
 
-pub IsLineFault-command : (before : Before) (line : Line) (sites : ℕ) (command : code.Command) (args : List (List ℕ)) (cause : LineCause)
-    → IsHead before line (command_word command) args → or_default 0 before.sites ≡ sites → IsFault sites (command_forms command) args cause
+pub IsLineFault-command : (before : Before) (line : TextLine) (sites : ℕ) (command : code.Command) (args : List (List ℕ)) (cause : LineCause)
+    → IsHead before line (command_word command) args → or_default 0 before.sites ≡ sites → IsFieldFault sites (command_forms command) args cause
     → IsLineFault before line (At cause)
 IsLineFault-command before line sites command args cause head said fault =
     IsLineFault-fields before line (command_word command) args args cause head.words
@@ -73,10 +73,10 @@ IsLineFault-command before line sites command args cause head said fault =
 
 -- ---- the first line
 
-pub IsLineFault-no_sites : (line : Line) → IsText line → (first_word line ≡ codes "sites" → ⊥) → IsLineFault at_first line (At SitesExpected)
+pub IsLineFault-no_sites : (line : TextLine) → IsText line → (first_word line ≡ codes "sites" → ⊥) → IsLineFault at_first line (At SitesExpected)
 IsLineFault-no_sites line is refuted = told at_first line SitesExpected sites_expected refl (refl, refuted) (none-text at_first line is)
 
-none-first : (line : Line) (args : List (List ℕ)) → IsText line → words line ≡ codes "sites" ∷ args → NoneBefore at_first line 6
+none-first : (line : TextLine) (args : List (List ℕ)) → IsText line → words line ≡ codes "sites" ∷ args → NoneBefore at_first line 6
 none-first line args is are =
     none6 at_first line
     (none5 at_first line
@@ -86,15 +86,15 @@ none-first line args is are =
     (⊎_elim (λ (p : BeginsWith (codes "sites") line × IsSaid at_first.sites). p.1 refl) (λ (p : BeginsWith (codes "journal") line × IsSaid at_first.journal). p.1 refl)))
     (λ late. let begun : false ≡ true = late.1 in cc)
 
-pub IsLineFault-sites : (line : Line) (args : List (List ℕ)) (cause : LineCause) → IsText line → words line ≡ codes "sites" ∷ args
-    → IsFault 0 ((number 1 16 ∷ []) ∷ []) args cause → IsLineFault at_first line (At cause)
+pub IsLineFault-sites : (line : TextLine) (args : List (List ℕ)) (cause : LineCause) → IsText line → words line ≡ codes "sites" ∷ args
+    → IsFieldFault 0 ((number 1 16 ∷ []) ∷ []) args cause → IsLineFault at_first line (At cause)
 IsLineFault-sites line args cause is are fault =
     IsLineFault-fields at_first line (codes "sites") args args cause are
     (arguments-line line (codes "sites") args are plain-sites) (none-first line args is are) (rw forms-sites fault)
 
 -- ---- a second `sites`
 
-pub IsLineFault-twice_sites : (before : Before) (line : Line) (args : List (List ℕ)) → IsHead before line (codes "sites") args → IsLineFault before line (At Twice)
+pub IsLineFault-twice_sites : (before : Before) (line : TextLine) (args : List (List ℕ)) → IsHead before line (codes "sites") args → IsLineFault before line (At Twice)
 IsLineFault-twice_sites before line args head =
     told before line Twice twice refl
     (inl (first-line line (codes "sites") args head.words, λ none. let said = head.said in let refuted : None ≡ Some head.sites = sym none ∙ said in cc))
@@ -102,28 +102,28 @@ IsLineFault-twice_sites before line args head =
 
 -- ---- journals
 
-none-journal : (before : Before) (line : Line) (args : List (List ℕ)) → IsHead before line (codes "journal") args → NoneBefore before line 4
+none-journal : (before : Before) (line : TextLine) (args : List (List ℕ)) → IsHead before line (codes "journal") args → NoneBefore before line 4
 none-journal before line args head =
     none-known before line (codes "journal") args head (some_forms (forms_of (codes "journal")) (number 32 4294967296 ∷ []) [] forms-journal)
 
-pub IsLineFault-twice_journal : (before : Before) (line : Line) (args : List (List ℕ)) → IsHead before line (codes "journal") args
+pub IsLineFault-twice_journal : (before : Before) (line : TextLine) (args : List (List ℕ)) → IsHead before line (codes "journal") args
     → before.journal ≢ None → IsLineFault before line (At Twice)
 IsLineFault-twice_journal before line args head said =
     told before line Twice twice refl (inr (first-line line (codes "journal") args head.words, said)) (none-journal before line args head)
 
-none-once : (before : Before) (line : Line) (args : List (List ℕ)) → IsHead before line (codes "journal") args → before.journal ≡ None → NoneBefore before line 5
+none-once : (before : Before) (line : TextLine) (args : List (List ℕ)) → IsHead before line (codes "journal") args → before.journal ≡ None → NoneBefore before line 5
 none-once before line args head once =
     none5 before line (none-journal before line args head)
     (⊎_elim (λ (p : BeginsWith (codes "sites") line × IsSaid before.sites). begins line (codes "journal") (codes "sites") args head.words (differs (codes "journal") (codes "sites") refl) p.0)
     (λ (p : BeginsWith (codes "journal") line × IsSaid before.journal). p.1 once))
 
-pub IsLineFault-late_journal : (before : Before) (line : Line) (args : List (List ℕ)) → IsHead before line (codes "journal") args
+pub IsLineFault-late_journal : (before : Before) (line : TextLine) (args : List (List ℕ)) → IsHead before line (codes "journal") args
     → before.journal ≡ None → before.begun ≡ true → IsLineFault before line (At TooLate)
 IsLineFault-late_journal before line args head once late =
     told before line TooLate too_late refl (inl (first-line line (codes "journal") args head.words), late) (none-once before line args head once)
 
-pub IsLineFault-journal : (before : Before) (line : Line) (args : List (List ℕ)) (cause : LineCause) → IsHead before line (codes "journal") args
-    → before.journal ≡ None → before.begun ≡ false → IsFault (or_default 0 before.sites) ((number 32 4294967296 ∷ []) ∷ []) args cause
+pub IsLineFault-journal : (before : Before) (line : TextLine) (args : List (List ℕ)) (cause : LineCause) → IsHead before line (codes "journal") args
+    → before.journal ≡ None → before.begun ≡ false → IsFieldFault (or_default 0 before.sites) ((number 32 4294967296 ∷ []) ∷ []) args cause
     → IsLineFault before line (At cause)
 IsLineFault-journal before line args cause head once early fault =
     IsLineFault-fields before line (codes "journal") args args cause head.words
@@ -133,29 +133,29 @@ IsLineFault-journal before line args cause head once early fault =
 
 -- ---- items
 
-none-item : (before : Before) (line : Line) (args : List (List ℕ)) → IsHead before line (codes "item") args → NoneBefore before line 5
+none-item : (before : Before) (line : TextLine) (args : List (List ℕ)) → IsHead before line (codes "item") args → NoneBefore before line 5
 none-item before line args head =
     none5 before line
     (none-known before line (codes "item") args head (some_forms (forms_of (codes "item")) (name ∷ site ∷ value ∷ []) [] forms-item))
     (⊎_elim (λ (p : BeginsWith (codes "sites") line × IsSaid before.sites). begins line (codes "item") (codes "sites") args head.words (differs (codes "item") (codes "sites") refl) p.0)
     (λ (p : BeginsWith (codes "journal") line × IsSaid before.journal). begins line (codes "item") (codes "journal") args head.words (differs (codes "item") (codes "journal") refl) p.0))
 
-pub IsLineFault-late_item : (before : Before) (line : Line) (args : List (List ℕ)) → IsHead before line (codes "item") args
+pub IsLineFault-late_item : (before : Before) (line : TextLine) (args : List (List ℕ)) → IsHead before line (codes "item") args
     → before.begun ≡ true → IsLineFault before line (At TooLate)
 IsLineFault-late_item before line args head late =
     told before line TooLate too_late refl (inr (first-line line (codes "item") args head.words), late) (none-item before line args head)
 
-none-early : (before : Before) (line : Line) (args : List (List ℕ)) → IsHead before line (codes "item") args → before.begun ≡ false → NoneBefore before line 6
+none-early : (before : Before) (line : TextLine) (args : List (List ℕ)) → IsHead before line (codes "item") args → before.begun ≡ false → NoneBefore before line 6
 none-early before line args head early = none6 before line (none-item before line args head) (λ late. both_ways before.begun early late.1)
 
-pub IsLineFault-item : (before : Before) (line : Line) (args : List (List ℕ)) (cause : LineCause) → IsHead before line (codes "item") args
-    → before.begun ≡ false → IsFault (or_default 0 before.sites) ((name ∷ site ∷ value ∷ []) ∷ []) args cause → IsLineFault before line (At cause)
+pub IsLineFault-item : (before : Before) (line : TextLine) (args : List (List ℕ)) (cause : LineCause) → IsHead before line (codes "item") args
+    → before.begun ≡ false → IsFieldFault (or_default 0 before.sites) ((name ∷ site ∷ value ∷ []) ∷ []) args cause → IsLineFault before line (At cause)
 IsLineFault-item before line args cause head early fault =
     IsLineFault-fields before line (codes "item") args args cause head.words
     (arguments-line line (codes "item") args head.words plain-item) (none-early before line args head early) (rw forms-item fault)
 
 -- The fields of a line that declares an item, where the numbers are good.
-pub record IsItemLine (before : Before) (line : Line) (word at digits : List ℕ) : Type 0 where
+pub record IsItemLine (before : Before) (line : TextLine) (word at digits : List ℕ) : Type 0 where
   pub head : IsHead before line (codes "item") (word ∷ at ∷ digits ∷ [])
   pub early : before.begun ≡ false
   pub n : ℕ

@@ -4,6 +4,7 @@ use Rattle.std.specs.Prelude.{codes, ◌||◌}
 use Rattle.std.specs.List.{list_all, list_any}
 use Rattle.std.specs.Option.{option_map}
 use Rattle.std.specs.Str.{bytes_eq}
+use Rattle.std.proofs.lemmas.Option.{none-some}
 use Rattle.std.proofs.lemmas.Bool.{and_parts, both_ways}
 use Rattle.std.proofs.lemmas.Slice.Eq.{bytes_eq-Decides}
 use Rattle.pv_model.specs.LineForms.{Field, number, site, value, name, program, line_forms, forms_of, takes_program}
@@ -11,9 +12,6 @@ use Rattle.pv_script.specs.Keywords.{spelled, listed, command_word, command_form
 use Rattle.pv_script.specs.declared.keyword.Keyword.{Keyword}
 use Rattle.pv_script.specs.declared.keyword.Command as code
 use Rattle.pv_script.specs.declared.keyword.Command.TheVariants.{Deliver, Pump, Lose, Drop, Tick, Stop, Start, Cut, Fail, Mend, Sent, Report, Total}
-
-none_some : {A : Type 0} (x : A) → None ≡ Some x → ⊥
-none_some x e = cc
 
 -- ---- the forms of each word
 
@@ -140,7 +138,7 @@ unlisted bytes (e ∷ table) none = go (bytes_eq bytes e.0.now) (unlisted bytes 
   where
     go : (b : Bool) → (option_map (λ (entry : Bor (List ℕ) × Keyword). entry.1) (find (λ entry. bytes_eq bytes entry.0.now) table) ≡ None → list_any (λ entry. bytes_eq bytes entry.0.now) table ≡ false)
         → option_map (λ (entry : Bor (List ℕ) × Keyword). entry.1) (cond b (Some e) (find (λ entry. bytes_eq bytes entry.0.now) table)) ≡ None → b || list_any (λ entry. bytes_eq bytes entry.0.now) table ≡ false
-    go true more is = absurd (none_some e.1 (sym is))
+    go true more is = absurd (none-some e.1 (sym is))
     go false more is = more is
 
 -- Where each form's word is in the table, bytes that are none of the table's words have no form.
@@ -165,7 +163,7 @@ unlisted-forms bytes table all none = no_forms bytes table line_forms all (unlis
 pub listed-spelled : (bytes : List ℕ) (table : List (Bor (List ℕ) × Keyword)) (keyword : Keyword)
     → list_all (λ entry. bytes_eq entry.0.now (spelled entry.1)) table ≡ true → listed bytes table ≡ Some keyword → bytes ≡ spelled keyword
 unfolding listed
-listed-spelled bytes [] keyword all found = absurd (none_some keyword found)
+listed-spelled bytes [] keyword all found = absurd (none-some keyword found)
 listed-spelled bytes (e ∷ table) keyword all found = go (bytes_eq bytes e.0.now) refl (listed-spelled bytes table keyword parts.1) found
   where
     parts : (bytes_eq e.0.now (spelled e.1) ≡ true) × (list_all (λ entry. bytes_eq entry.0.now (spelled entry.1)) table ≡ true)

@@ -15,11 +15,11 @@ use Rattle.pv_model.specs.LineForms.{Field, site, mode, name, program, forms_of,
 use Rattle.pv_model.specs.ProgramText.{malformed, unknown_name, too_deep, IsProgramText, at_fault, IsRefused}
 use Rattle.pv_model.specs.Schedule.{request_word, IsRequest}
 use Rattle.pv_model.specs.Syntax.{Program}
-use Rattle.pv_model.specs.Text.{Line, IsNumber}
-use Rattle.pv_model.proofs.ItemLemmas.{one_items}
-use Rattle.pv_model.proofs.NoRefusalLemmas.{no_refusal}
-use Rattle.pv_model.proofs.ProgramTextLemmas.{one_program_text}
-use Rattle.pv_script.specs.Faults.{texts, form_among, fault_of_parse, fault_of_check, IsFault, IsLineFault}
+use Rattle.pv_model.specs.Text.{TextLine, IsNumber}
+use Rattle.pv_law_programs.proofs.ItemLemmas.{one_items}
+use Rattle.pv_law_programs.proofs.NoRefusalLemmas.{no_refusal}
+use Rattle.pv_law_programs.proofs.ProgramTextLemmas.{one_program_text}
+use Rattle.pv_script.specs.Faults.{texts, form_among, fault_of_parse, fault_of_check, IsFieldFault, IsLineFault}
 use Rattle.pv_script.specs.Said.{IsHead}
 use Rattle.pv_script.specs.declared.fault.Fault.TheVariants.{At}
 use Rattle.pv_script.specs.declared.schedule.LineCause.{LineCause}
@@ -111,7 +111,7 @@ request-no_item : (query : Bool) → request_word query ≡ codes "item" → ⊥
 request-no_item true = differs (codes "query") (codes "item") refl
 request-no_item false = differs (codes "submit") (codes "item") refl
 
-none-request : (before : Before) (line : Line) (query : Bool) (args : List (List ℕ)) → IsHead before line (request_word query) args → NoneBefore before line 6
+none-request : (before : Before) (line : TextLine) (query : Bool) (args : List (List ℕ)) → IsHead before line (request_word query) args → NoneBefore before line 6
 none-request before line query args head =
     let none = none-known before line (request_word query) args head (some_forms (forms_of (request_word query)) (site ∷ program ∷ []) [] (request-forms query)) in
     none6 before line
@@ -120,17 +120,17 @@ none-request before line query args head =
     (λ (p : BeginsWith (codes "journal") line × IsSaid before.journal). begins line (request_word query) (codes "journal") args head.words (request-no_journal query) p.0)))
     (λ late. ⊎_elim (begins line (request_word query) (codes "journal") args head.words (request-no_journal query)) (begins line (request_word query) (codes "item") args head.words (request-no_item query)) late.0)
 
-request-fault : (before : Before) (line : Line) (query : Bool) (args given : List (List ℕ)) (cause : LineCause) → IsHead before line (request_word query) args
-    → arguments line ≡ given → IsFault (or_default 0 before.sites) RequestForms given cause → IsLineFault before line (At cause)
+request-fault : (before : Before) (line : TextLine) (query : Bool) (args given : List (List ℕ)) (cause : LineCause) → IsHead before line (request_word query) args
+    → arguments line ≡ given → IsFieldFault (or_default 0 before.sites) RequestForms given cause → IsLineFault before line (At cause)
 request-fault before line query args given cause head same fault =
     IsLineFault-fields before line (request_word query) args given cause head.words same (none-request before line query args head) (rw (request-forms query) fault)
 
-few : (sites : ℕ) (text : List ℕ) (args : List (Bor (List ℕ))) → length args < 2 → IsFault sites RequestForms (site_and_text text (texts args)) WrongCount
+few : (sites : ℕ) (text : List ℕ) (args : List (Bor (List ℕ))) → length args < 2 → IsFieldFault sites RequestForms (site_and_text text (texts args)) WrongCount
 few sites text [] short = refl
 few sites text (a ∷ []) short = refl
 few sites text (a ∷ b ∷ more) short = absurd (omega arith)
 
-pub IsLineFault-short : (before : Before) (line : Line) (query : Bool) (args : List (Bor (List ℕ))) → IsHead before line (request_word query) (texts args)
+pub IsLineFault-short : (before : Before) (line : TextLine) (query : Bool) (args : List (Bor (List ℕ))) → IsHead before line (request_word query) (texts args)
     → length args < 2 → IsLineFault before line (At WrongCount)
 IsLineFault-short before line query args head short =
     request-fault before line query (texts args) (site_and_text (program_text line) (texts args)) WrongCount head
@@ -142,25 +142,25 @@ two_parts text (a ∷ []) d some = absurd (omega arith)
 two_parts text (a ∷ b ∷ more) d some = refl
 
 -- what stands behind the first word of a request
-pub request-given : (before : Before) (line : Line) (query : Bool) (args : List (Bor (List ℕ))) (d : Bor (List ℕ)) → IsHead before line (request_word query) (texts args)
+pub request-given : (before : Before) (line : TextLine) (query : Bool) (args : List (Bor (List ℕ))) (d : Bor (List ℕ)) → IsHead before line (request_word query) (texts args)
     → 2 ≤ length args → arguments line ≡ (get_or args 0 d).now ∷ program_text line ∷ []
 request-given before line query args d head some =
     arguments-request line (request_word query) (texts args) head.words (request-takes query) ∙ two_parts (program_text line) args d some
 
-pub IsLineFault-away : (before : Before) (line : Line) (query : Bool) (args : List (Bor (List ℕ))) (d : Bor (List ℕ)) → IsHead before line (request_word query) (texts args)
+pub IsLineFault-away : (before : Before) (line : TextLine) (query : Bool) (args : List (Bor (List ℕ))) (d : Bor (List ℕ)) → IsHead before line (request_word query) (texts args)
     → 2 ≤ length args → has_good_number (or_default 0 before.sites) (site, (get_or args 0 d).now) ≡ false → IsLineFault before line (At BadNumber)
 IsLineFault-away before line query args d head some wrong =
     request-fault before line query (texts args) ((get_or args 0 d).now ∷ program_text line ∷ []) BadNumber head (request-given before line query args d head some)
     ((λ none. cc), rw wrong refl)
 
 -- The line is a request at a site, with this text of a program.
-pub record IsRequestLine (before : Before) (line : Line) (query : Bool) (args : List (List ℕ)) (at text : List ℕ) (n : ℕ) : Type 0 where
+pub record IsRequestLine (before : Before) (line : TextLine) (query : Bool) (args : List (List ℕ)) (at text : List ℕ) (n : ℕ) : Type 0 where
   pub head : IsHead before line (request_word query) args
   pub given : arguments line ≡ at ∷ text ∷ []
   pub site : IsNumber at n
   pub below : n < or_default 0 before.sites
 
-pub request-line : (before : Before) (line : Line) (query : Bool) (args : List (Bor (List ℕ))) (d : Bor (List ℕ)) (text : List ℕ) (n sites : ℕ)
+pub request-line : (before : Before) (line : TextLine) (query : Bool) (args : List (Bor (List ℕ))) (d : Bor (List ℕ)) (text : List ℕ) (n sites : ℕ)
     → IsHead before line (request_word query) (texts args) → 2 ≤ length args → text ≡ program_text line → IsNumber (get_or args 0 d).now n → n < sites
     → sites ≡ or_default 0 before.sites → IsRequestLine before line query (texts args) (get_or args 0 d).now text n
 request-line before line query args d text n sites head some same number_is below count =
@@ -175,7 +175,7 @@ pub is_program : Field → Bool
 is_program program = true
 is_program _ = false
 
-module _ (before : Before) (line : Line) (query : Bool) (args : List (List ℕ)) (at text : List ℕ) (n : ℕ) (is : IsRequestLine before line query args at text n) where
+module _ (before : Before) (line : TextLine) (query : Bool) (args : List (List ℕ)) (at text : List ℕ) (n : ℕ) (is : IsRequestLine before line query args at text n) where
   form : form_of line ≡ Some (site ∷ program ∷ [])
   form =
       form_of-line line (request_word query) args (at ∷ text ∷ []) is.head.words is.given

@@ -9,8 +9,8 @@ use Rattle.std.proofs.lemmas.Slice.Eq.{bytes_eq-Decides}
 use Rattle.pv_model.specs.Schedule.{IsIn}
 use Rattle.pv_model.specs.Causes.{Before, at_first}
 use Rattle.pv_model.specs.LineForms.{number, line_forms, forms_of, first_of}
-use Rattle.pv_model.specs.Text.{Line, IsText, words}
-use Rattle.pv_script.specs.Faults.{texts, IsFault, IsLineFault}
+use Rattle.pv_model.specs.Text.{TextLine, IsText, words}
+use Rattle.pv_script.specs.Faults.{texts, IsFieldFault, IsLineFault}
 use Rattle.pv_script.specs.declared.fault.Fault.TheVariants.{At}
 use Rattle.pv_script.specs.declared.schedule.LineCause.{LineCause}
 use Rattle.pv_script.specs.declared.schedule.LineCause.TheVariants.{SitesExpected, UnknownWord}
@@ -66,20 +66,20 @@ pub none-said : (said : Option ℕ) (r : Bool) → r ≡ is_some said → r ≡ 
 none-said None r is refuted = refl
 none-said (Some n) r is refuted = absurd (both_ways r refuted is)
 
-pub sites-expected : (line : Line) (spelled : List (List ℕ)) → IsText line → spelled ≡ words line → (first_of spelled ≡ codes "sites" → ⊥) → IsLineFault at_first line (At SitesExpected)
+pub sites-expected : (line : TextLine) (spelled : List (List ℕ)) → IsText line → spelled ≡ words line → (first_of spelled ≡ codes "sites" → ⊥) → IsLineFault at_first line (At SitesExpected)
 sites-expected line spelled is same refuted = IsLineFault-no_sites line is (λ first. refuted (ap first_of same ∙ first))
 
-pub sites-fault : (line : Line) (spelled args : List (List ℕ)) (result : Result ℕ LineCause) → IsText line → spelled ≡ words line → spelled ≡ codes "sites" ∷ args
-    → IfErr result (IsFault 0 ((number 1 16 ∷ []) ∷ []) args) → IfErr result (λ cause. IsLineFault at_first line (At cause))
+pub sites-fault : (line : TextLine) (spelled args : List (List ℕ)) (result : Result ℕ LineCause) → IsText line → spelled ≡ words line → spelled ≡ codes "sites" ∷ args
+    → IfErr result (IsFieldFault 0 ((number 1 16 ∷ []) ∷ []) args) → IfErr result (λ cause. IsLineFault at_first line (At cause))
 sites-fault line spelled args (Ok n) is same are fault = tt
 sites-fault line spelled args (Err cause) is same are fault = IsLineFault-sites line args cause is (sym same ∙ are) fault
 
-pub head-of : (before : Before) (line : Line) (items words_now : List (Bor (List ℕ))) (word : List ℕ) (args : List (List ℕ)) (sites : ℕ) → IsText line
+pub head-of : (before : Before) (line : TextLine) (items words_now : List (Bor (List ℕ))) (word : List ℕ) (args : List (List ℕ)) (sites : ℕ) → IsText line
     → texts items ≡ words line → words_now ≡ items → texts words_now ≡ word ∷ args → before.sites ≡ Some sites → IsHead before line word args
 head-of before line items words_now word args sites is same deref are said =
     record { text = is; sites = sites; said = said; words = sym same ∙ ap texts (sym deref) ∙ are }
 
-pub unknown-fault : (before : Before) (line : Line) (items words_now : List (Bor (List ℕ))) (sites : ℕ) (cause : LineCause) → IsText line
+pub unknown-fault : (before : Before) (line : TextLine) (items words_now : List (Bor (List ℕ))) (sites : ℕ) (cause : LineCause) → IsText line
     → texts items ≡ words line → words_now ≡ items → before.sites ≡ Some sites → (cause ≡ UnknownWord) × (forms_of (first_of (texts words_now)) ≡ [])
     → IsLineFault before line (At cause)
 unknown-fault before line items words_now sites cause is same deref said unknown =

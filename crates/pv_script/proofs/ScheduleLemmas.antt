@@ -2,13 +2,13 @@
 use Rattle.std.proofs.Common.{◌≡◌, ◌≢◌, ℕ, zero, suc, false, Some, None, List, [], ◌∷◌, ◌++◌, All, refl, sym, ap, ◌∙◌, subst, arith, ⊎_elim}
 use Rattle.std.proofs.lemmas.Bool.{both_ways}
 use Rattle.pv_base.specs.Catalog.{Item, Declared}
-use Rattle.pv_model.specs.Causes.{Before, at_first, Cause, declared_by}
+use Rattle.pv_model.specs.Causes.{Before, at_first, LineCause, declared_by}
 use Rattle.pv_model.specs.Check.{IsPlan}
 use Rattle.pv_model.specs.Events as model
 use Rattle.pv_model.specs.FirstFault.{without_numbers}
-use Rattle.pv_model.specs.Schedule.{Declares, DeclaresSites, DeclaresJournal, DeclaresItem, AreLines, none, declaration, counted, IsSchedule, IsAtFault, IsMalformed}
-use Rattle.pv_model.specs.Text.{Line, numbered}
-use Rattle.pv_script.specs.Answers.{Refuses, IsRefusal}
+use Rattle.pv_model.specs.Schedule.{Declares, DeclaresSites, DeclaresJournal, DeclaresItem, AreLines, none, declaration, significant, IsSchedule, IsAtFault, IsMalformedSchedule}
+use Rattle.pv_model.specs.Text.{TextLine, numbered}
+use Rattle.pv_script.specs.ScriptErrors.{Refuses, IsRefusal}
 use Rattle.pv_script.specs.Said.{before_of, IsLimited}
 use Rattle.pv_script.specs.Takes.{Takes, declared, happened}
 use Rattle.pv_script.specs.View.{HasPlan}
@@ -18,7 +18,7 @@ use Rattle.pv_script.specs.declared.schedule.Event.TheVariants.{Submit, Deliver,
 use Rattle.pv_script.specs.declared.schedule.ScriptError.{ScriptError}
 use Rattle.pv_script.specs.declared.schedule.ScriptError.TheVariants.{Malformed, NoMemory}
 use Rattle.pv_script.proofs.FaultLemmas.{IsAtFaultFrom, fault-whole, fault-declares}
-use Rattle.pv_model.proofs.OneScheduleLemmas.{one_fault, no_fault}
+use Rattle.pv_law_schedules.proofs.OneScheduleLemmas.{one_fault, no_fault}
 
 -- The catalog is what was declared.
 pub limited : (said : Said) → IsLimited said → declared_by (before_of said) ≡ said.catalog
@@ -26,17 +26,17 @@ limited said is = λ i. record { sites = said.catalog.sites; journal = sym is i;
 
 -- ---- the first line
 
-pub lines-first : (text : List ℕ) (k : ℕ) (line : Line) (left : List (ℕ × Line)) (after last : Before) (more : List model.Event) → numbered text ≡ (k, line) ∷ left
-    → Declares at_first line after → AreLines after (without_numbers left) more last → AreLines at_first (counted text) more last
+pub lines-first : (text : List ℕ) (k : ℕ) (line : TextLine) (left : List (ℕ × TextLine)) (after last : Before) (more : List model.Event) → numbered text ≡ (k, line) ∷ left
+    → Declares at_first line after → AreLines after (without_numbers left) more last → AreLines at_first (significant text) more last
 lines-first text k line left after last more split declares are =
-    subst (λ (all : List (ℕ × Line)). AreLines at_first (without_numbers all) more last) (sym split)
+    subst (λ (all : List (ℕ × TextLine)). AreLines at_first (without_numbers all) more last) (sym split)
     (declaration at_first after last line (without_numbers left) more declares are)
 
-pub fault-first : (text : List ℕ) (k : ℕ) (line : Line) (left : List (ℕ × Line)) (after : Before) (number : ℕ) (cause : Cause) → numbered text ≡ (k, line) ∷ left
+pub fault-first : (text : List ℕ) (k : ℕ) (line : TextLine) (left : List (ℕ × TextLine)) (after : Before) (number : ℕ) (cause : LineCause) → numbered text ≡ (k, line) ∷ left
     → Declares at_first line after → IsAtFaultFrom after left number cause → IsAtFault text number cause
 fault-first text k line left after number cause split declares is =
     fault-whole text number cause
-    (subst (λ (all : List (ℕ × Line)). IsAtFaultFrom at_first all number cause) (sym split) (fault-declares at_first after k line left number cause declares is))
+    (subst (λ (all : List (ℕ × TextLine)). IsAtFaultFrom at_first all number cause) (sym split) (fault-declares at_first after k line left number cause declares is))
 
 -- ---- plans
 
@@ -62,12 +62,12 @@ All-one_more P (x ∷ old) e each last zero d below = each 0 d (omega arith)
 All-one_more P (x ∷ old) e each last (suc k) d below = All-one_more P old e (λ j f h. each (suc j) f (omega arith)) last k d (omega arith)
 
 -- Whoever declares has no event before.
-early : (before after : Before) (line : Line) (sites : ℕ) → before.sites ≡ Some sites → Declares before line after → before.begun ≡ false
+early : (before after : Before) (line : TextLine) (sites : ℕ) → before.sites ≡ Some sites → Declares before line after → before.begun ≡ false
 early before after line sites said =
     ⊎_elim (λ (is : DeclaresSites before line after). absurd (let first = is.first in let never : None ≡ Some sites = sym first ∙ said in cc))
     (⊎_elim (λ (is : DeclaresJournal before line after). is.early) (λ (is : DeclaresItem before line after). is.early))
 
-pub plans-takes : (before after : Before) (line : Line) (catalog now : Declared) (old new : List Event) (sites : ℕ) → before.sites ≡ Some sites
+pub plans-takes : (before after : Before) (line : TextLine) (catalog now : Declared) (old new : List Event) (sites : ℕ) → before.sites ≡ Some sites
     → before.items ≡ catalog.items → after.items ≡ now.items → (before.begun ≡ false → old ≡ []) → All (HasPlan catalog) old → Takes before line after now old new
     → All (HasPlan now) new
 plans-takes before after line catalog now old new sites said same same_now begun plans (declared declares kept) =
@@ -77,7 +77,7 @@ plans-takes before after line catalog now old new sites said same same_now begun
     subst (λ (es : List Event). All (HasPlan now) es) (sym appended)
     (All-one_more (HasPlan now) old e (λ k d below. HasPlan-items _ catalog now items (plans k d below)) plan)
 
-pub begun-takes : (before after : Before) (line : Line) (now : Declared) (old new : List Event) (sites : ℕ) → before.sites ≡ Some sites
+pub begun-takes : (before after : Before) (line : TextLine) (now : Declared) (old new : List Event) (sites : ℕ) → before.sites ≡ Some sites
     → (before.begun ≡ false → old ≡ []) → Takes before line after now old new → after.begun ≡ false → new ≡ []
 begun-takes before after line now old new sites said begun (declared declares kept) quiet = kept ∙ begun (early before after line sites said declares)
 begun-takes before after line now old new sites said begun (happened e says then plan appended) quiet =
@@ -89,13 +89,13 @@ append-nil : (es : List model.Event) → es ++ [] ≡ es
 append-nil [] = refl
 append-nil (e ∷ es) = ap (λ (more : List model.Event). e ∷ more) (append-nil es)
 
-pub IsSchedule-read : (text : List ℕ) (said : Said) (events : List model.Event) (left : List (ℕ × Line)) → IsLimited said → left ≡ []
-    → ((more : List model.Event) (last : Before) → AreLines (before_of said) (without_numbers left) more last → AreLines at_first (counted text) (events ++ more) last)
+pub IsSchedule-read : (text : List ℕ) (said : Said) (events : List model.Event) (left : List (ℕ × TextLine)) → IsLimited said → left ≡ []
+    → ((more : List model.Event) (last : Before) → AreLines (before_of said) (without_numbers left) more last → AreLines at_first (significant text) (events ++ more) last)
     → IsSchedule text (record { catalog = said.catalog; events = events })
 IsSchedule-read text said events left is empty so = record {
   last = before_of said;
-  are = subst (λ (es : List model.Event). AreLines at_first (counted text) es (before_of said)) (append-nil events)
-      (so [] (before_of said) (subst (λ (all : List (ℕ × Line)). AreLines (before_of said) (without_numbers all) [] (before_of said)) (sym empty) (none (before_of said))));
+  are = subst (λ (es : List model.Event). AreLines at_first (significant text) es (before_of said)) (append-nil events)
+      (so [] (before_of said) (subst (λ (all : List (ℕ × TextLine)). AreLines (before_of said) (without_numbers all) [] (before_of said)) (sym empty) (none (before_of said))));
   sites = said.catalog.sites;
   said = refl;
   catalog = sym (limited said is);
@@ -103,11 +103,11 @@ IsSchedule-read text said events left is empty so = record {
 
 -- ---- one answer
 
-pub error-no_schedule : (text : List ℕ) (schedule : model.Schedule) (e : ScriptError) → Refuses (IsMalformed text) e → IsSchedule text schedule → e ≡ NoMemory
+pub error-no_schedule : (text : List ℕ) (schedule : model.Schedule) (e : ScriptError) → Refuses (IsMalformedSchedule text) e → IsSchedule text schedule → e ≡ NoMemory
 error-no_schedule text schedule (Malformed place told) refused is = absurd (no_fault text schedule place refused.0 is refused.2)
 error-no_schedule text schedule NoMemory refused is = refl
 
-pub error-one_fault : (text : List ℕ) (number : ℕ) (cause : Cause) (e : ScriptError) → Refuses (IsMalformed text) e → IsMalformed text number cause → e ≢ NoMemory → IsRefusal number cause e
+pub error-one_fault : (text : List ℕ) (number : ℕ) (cause : LineCause) (e : ScriptError) → Refuses (IsMalformedSchedule text) e → IsMalformedSchedule text number cause → e ≢ NoMemory → IsRefusal number cause e
 error-one_fault text number cause (Malformed place told) refused is some =
     let same = one_fault text place number refused.0 cause refused.2 is in
     (same.0, refused.1 ∙ ap Some same.1)

@@ -4,27 +4,27 @@ use Rattle.std.specs.Prelude.{nat_le, ◌&&◌}
 use Rattle.std.specs.List.{list_all}
 use Rattle.std.proofs.lemmas.Bool.{eq-eqb, ne_eqb, leb-true, leb-false}
 use Rattle.std.proofs.Math.Nat.{pow-succ', mul-le-mul_right}
-use Rattle.pv_model.specs.Form as model
+use Rattle.pv_script.specs.Form as model
 use Rattle.pv_model.specs.LineForms.{first_of, takes_program}
-use Rattle.pv_model.specs.Text.{Line, value_of, words}
+use Rattle.pv_model.specs.Text.{TextLine, number_of_digits, words}
 use Rattle.pv_script.specs.Faults.{texts}
-use Rattle.pv_script.specs.Stages.{stage_behind_word}
+use Rattle.pv_script.specs.Stages.{stage_after_word}
 
-pub behind-nil : (args : List (Bor (List ℕ))) → length args < 1 → None ≡ stage_behind_word (first_of (texts args))
+pub behind-nil : (args : List (Bor (List ℕ))) → length args < 1 → None ≡ stage_after_word (first_of (texts args))
 unfolding takes_program
 behind-nil [] few = refl
 behind-nil (a ∷ args) few = absurd (omega arith)
 
-pub stage-sites : (line : Line) (spelled : List (List ℕ)) → spelled ≡ words line → model.stage_behind model.sites_next line ≡ cond (model.is_one_site spelled) (Some model.any_next) None
-unfolding model.stage_behind
+pub stage-sites : (line : TextLine) (spelled : List (List ℕ)) → spelled ≡ words line → model.stage_after model.sites_next line ≡ cond (model.is_one_site spelled) (Some model.any_next) None
+unfolding model.stage_after
 stage-sites line spelled same = rw same refl
 
-pub stage-any : (line : Line) (spelled : List (List ℕ)) → spelled ≡ words line → model.stage_behind model.any_next line ≡ stage_behind_word (first_of spelled)
-unfolding model.stage_behind
+pub stage-any : (line : TextLine) (spelled : List (List ℕ)) → spelled ≡ words line → model.stage_after model.any_next line ≡ stage_after_word (first_of spelled)
+unfolding model.stage_after
 stage-any line spelled same = rw same refl
 
-pub stage-pump : (line : Line) (spelled : List (List ℕ)) → spelled ≡ words line → model.stage_behind model.pump_next line ≡ cond (model.is_pump spelled) (Some model.any_next) None
-unfolding model.stage_behind
+pub stage-pump : (line : TextLine) (spelled : List (List ℕ)) → spelled ≡ words line → model.stage_after model.pump_next line ≡ cond (model.is_pump spelled) (Some model.any_next) None
+unfolding model.stage_after
 stage-pump line spelled same = rw same refl
 
 -- ---- a one, behind zeros
@@ -57,31 +57,31 @@ abbrev are_zeros : List ℕ → Bool
 are_zeros digits = list_all (λ digit. nat_le digit 48) digits
 
 -- the last digit is a one
-pub value-one : (bs : List ℕ) (k : ℕ) → k + 1 ≡ length bs → get_or bs k 0 ≡ 49 → are_zeros (take k bs) ≡ eqb (value_of bs) 1
+pub value-one : (bs : List ℕ) (k : ℕ) → k + 1 ≡ length bs → get_or bs k 0 ≡ 49 → are_zeros (take k bs) ≡ eqb (number_of_digits bs) 1
 value-one [] k within last = absurd (omega arith)
 value-one (b ∷ bs) zero within last = go bs (omega arith)
   where
-    go : (more : List ℕ) → length more ≡ 0 → true ≡ eqb (value_of (b ∷ more)) 1
-    go [] none = sym (eq-eqb (value_of (b ∷ [])) 1 (omega arith))
+    go : (more : List ℕ) → length more ≡ 0 → true ≡ eqb (number_of_digits (b ∷ more)) 1
+    go [] none = sym (eq-eqb (number_of_digits (b ∷ [])) 1 (omega arith))
     go (c ∷ more) none = absurd (omega arith)
 value-one (b ∷ bs) (suc k) within last =
-    digit-front b (value_of bs) (10 ^ length bs) (are_zeros (take k bs)) (power-large (length bs) (omega arith)) (value-one bs k (omega arith) last)
+    digit-front b (number_of_digits bs) (10 ^ length bs) (are_zeros (take k bs)) (power-large (length bs) (omega arith)) (value-one bs k (omega arith) last)
 
 and-false : (b : Bool) → false ≡ (b && false)
 and-false true = refl
 and-false false = refl
 
 -- the last digit is another
-pub value-other : (bs : List ℕ) (k : ℕ) → k + 1 ≡ length bs → (get_or bs k 0 ≡ 49 → ⊥) → false ≡ eqb (value_of bs) 1
+pub value-other : (bs : List ℕ) (k : ℕ) → k + 1 ≡ length bs → (get_or bs k 0 ≡ 49 → ⊥) → false ≡ eqb (number_of_digits bs) 1
 value-other [] k within other = absurd (omega arith)
 value-other (b ∷ bs) zero within other = go bs (omega arith)
   where
-    go : (more : List ℕ) → length more ≡ 0 → false ≡ eqb (value_of (b ∷ more)) 1
-    go [] none = sym (ne_eqb (value_of (b ∷ [])) 1 (λ one. other (omega arith)))
+    go : (more : List ℕ) → length more ≡ 0 → false ≡ eqb (number_of_digits (b ∷ more)) 1
+    go [] none = sym (ne_eqb (number_of_digits (b ∷ [])) 1 (λ one. other (omega arith)))
     go (c ∷ more) none = absurd (omega arith)
 value-other (b ∷ bs) (suc k) within other =
-    and-false (nat_le b 48) ∙ digit-front b (value_of bs) (10 ^ length bs) false (power-large (length bs) (omega arith)) (value-other bs k (omega arith) other)
+    and-false (nat_le b 48) ∙ digit-front b (number_of_digits bs) (10 ^ length bs) false (power-large (length bs) (omega arith)) (value-other bs k (omega arith) other)
 
-pub value-nil : (bs : List ℕ) → length bs < 1 → false ≡ eqb (value_of bs) 1
+pub value-nil : (bs : List ℕ) → length bs < 1 → false ≡ eqb (number_of_digits bs) 1
 value-nil [] few = refl
 value-nil (b ∷ bs) few = absurd (omega arith)

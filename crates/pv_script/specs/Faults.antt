@@ -11,8 +11,8 @@ use Rattle.pv_parse.specs.declared.error.ParseError.TheVariants as parse
 use Rattle.pv_model.specs.Causes as model
 use Rattle.pv_model.specs.Causes.{Before, mode_words, IsFirstCause}
 use Rattle.pv_model.specs.LineForms.{Field, mode, fields_in, has_good_number}
-use Rattle.pv_model.specs.Text.{Line}
-use Rattle.pv_script.specs.Answers.{cause_of}
+use Rattle.pv_model.specs.Text.{TextLine}
+use Rattle.pv_script.specs.ScriptErrors.{cause_of}
 use Rattle.pv_script.specs.declared.fault.Fault.{Fault}
 use Rattle.pv_script.specs.declared.fault.Fault.TheVariants.{At, NoMemory}
 use Rattle.pv_script.specs.declared.schedule.LineCause.{LineCause}
@@ -54,22 +54,22 @@ texts words = map (λ word. word.now) words
 abbrev pub form_among : List (List Field) → List (List ℕ) → Option (List Field)
 form_among forms args = find (λ form. length form == length args) forms
 
--- Words behind the first one that has these forms have this fault in their fields, and none before it. There are so many sites.
-abbrev pub IsFault : ℕ → List (List Field) → List (List ℕ) → LineCause → Type 0
-IsFault sites forms args WrongCount = form_among forms args ≡ None
-IsFault sites forms args BadNumber =
+-- Words after the first one that has these forms have this fault in their fields, and none before it. There are so many sites.
+abbrev pub IsFieldFault : ℕ → List (List Field) → List (List ℕ) → LineCause → Type 0
+IsFieldFault sites forms args WrongCount = form_among forms args ≡ None
+IsFieldFault sites forms args BadNumber =
     (form_among forms args ≢ None) × (list_all (has_good_number sites) (fields_in (form_among forms args) args) ≡ false)
-IsFault sites forms args BadMode =
+IsFieldFault sites forms args BadMode =
     (form_among forms args ≢ None) × (list_all (has_good_number sites) (fields_in (form_among forms args) args) ≡ true)
     × (word : List ℕ) × Contains (fields_in (form_among forms args) args) (mode, word) × (Contains mode_words word → ⊥)
-IsFault sites forms args _ = ⊥
+IsFieldFault sites forms args _ = ⊥
 
 -- The line has this cause first, or there was no memory.
-abbrev pub IsLineFault : Before → Line → Fault → Type 0
-IsLineFault before line (At told) = (cause : model.Cause) × (cause_of told ≡ Some cause) × IsFirstCause before line cause
+abbrev pub IsLineFault : Before → TextLine → Fault → Type 0
+IsLineFault before line (At reported) = (cause : model.LineCause) × (cause_of reported ≡ Some cause) × IsFirstCause before line cause
 IsLineFault before line NoMemory = Unit {0}
 
 -- The error names the line of this number, with its first cause, or there was no memory.
-abbrev pub IsErrorAt : Before → ℕ → Line → ScriptError → Type 0
-IsErrorAt before number line (error.Malformed place told) = (place ≡ number) × IsLineFault before line (At told)
+abbrev pub IsErrorAt : Before → ℕ → TextLine → ScriptError → Type 0
+IsErrorAt before number line (error.Malformed place reported) = (place ≡ number) × IsLineFault before line (At reported)
 IsErrorAt before number line error.NoMemory = Unit {0}

@@ -24,7 +24,7 @@ command_word Sent = codes "sent"
 command_word Report = codes "report"
 command_word Total = codes "total"
 
--- what stands behind the word, in each of its forms
+-- what stands after the word, in each of its forms
 abbrev pub command_forms : code_command.Command → List (List Field)
 command_forms Deliver = (number 0 (2 ^ 64 - 1) ∷ []) ∷ []
 command_forms Pump = [] ∷ (number 1 1000000 ∷ []) ∷ []

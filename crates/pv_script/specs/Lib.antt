@@ -1,8 +1,9 @@
 pub mod LinesLeft
-pub mod Answers
+pub mod ScriptErrors
 pub mod View
 pub mod Faults
 pub mod Keywords
 pub mod Said
 pub mod Stages
 pub mod Takes
+pub mod Form

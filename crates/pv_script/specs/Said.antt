@@ -3,7 +3,7 @@ use Rattle.std.specs.Prelude.{◌≡◌, ℕ, Bool, true, false, Option, Some, N
 use Rattle.pv_model.specs.Causes.{Before, or_default}
 use Rattle.pv_model.specs.Events.{Event}
 use Rattle.pv_model.specs.Schedule.{IsIn, Says}
-use Rattle.pv_model.specs.Text.{Line, IsText, words}
+use Rattle.pv_model.specs.Text.{TextLine, IsText, words}
 use Rattle.pv_script.specs.declared.said.Said.{Said}
 
 abbrev pub before_of : Said → Before
@@ -15,9 +15,9 @@ IsLimited said = said.catalog.journal ≡ or_default 4294967296 said.journal
 
 -- Whatever line has these words says this event, where there are so many sites.
 abbrev pub WordsSay : ℕ → List (List ℕ) → Event → Type 0
-WordsSay sites spelled event = (before : Before) (line : Line) → or_default 0 before.sites ≡ sites → words line ≡ spelled → Says before line event
+WordsSay sites spelled event = (before : Before) (line : TextLine) → or_default 0 before.sites ≡ sites → words line ≡ spelled → Says before line event
 
--- words behind `pump`, and how many messages they name
+-- words after `pump`, and how many messages they name
 abbrev pub IsMost : List (List ℕ) → Option ℕ → Type 0
 IsMost args None = args ≡ []
 IsMost args (Some n) = (word : List ℕ) × (args ≡ word ∷ []) × IsIn 1 1000000 word n
@@ -27,8 +27,8 @@ abbrev pub arm_word : Bool → List ℕ
 arm_word true = codes "cut"
 arm_word false = codes "fail"
 
--- A line behind what was said is text of this word and those.
-pub record IsHead (before : Before) (line : Line) (word : List ℕ) (args : List (List ℕ)) : Type 0 where
+-- A line after what was said is text of this word and those.
+pub record IsHead (before : Before) (line : TextLine) (word : List ℕ) (args : List (List ℕ)) : Type 0 where
   pub text : IsText line
   pub sites : ℕ
   pub said : before.sites ≡ Some sites

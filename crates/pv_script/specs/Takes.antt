@@ -3,12 +3,12 @@ use Rattle.std.specs.Prelude.{◌≡◌, List, [], ◌∷◌, ◌++◌}
 use Rattle.pv_base.specs.Catalog.{Declared}
 use Rattle.pv_model.specs.Causes.{Before}
 use Rattle.pv_model.specs.Schedule.{Declares, IsEvent, with_event}
-use Rattle.pv_model.specs.Text.{Line}
+use Rattle.pv_model.specs.Text.{TextLine}
 use Rattle.pv_script.specs.View.{event_of, HasPlan}
 use Rattle.pv_script.specs.declared.schedule.Event.{Event}
 
 -- The line declares something, or is one more event, whose plan is over the catalog.
-pub data Takes (before : Before) (line : Line) (after : Before) (catalog : Declared) (old new : List Event) : Type 0 where
+pub data Takes (before : Before) (line : TextLine) (after : Before) (catalog : Declared) (old new : List Event) : Type 0 where
   declared : Declares before line after → new ≡ old → Takes before line after catalog old new
   happened : (event : Event) → IsEvent before line (event_of event) → after ≡ with_event before → HasPlan catalog event → new ≡ old ++ event ∷ []
       → Takes before line after catalog old new

@@ -1,10 +1,10 @@
-// What stands behind the first word of a line that has no program.
+// What stands after the first word of a line that has no program.
 ghost use Rattle.std.specs.Prelude.{◌≡◌, ℕ, ◌-◌, ◌^◌, ◌<◌, List, [], ◌∷◌, IfOk, IfErr, OnOk};
 ghost use Rattle.pv_base.specs.Catalog.{Declared};
 ghost use Rattle.pv_model.specs.LineForms as field;
 ghost use Rattle.pv_model.specs.Schedule.{IsIn};
 ghost use Rattle.pv_model.specs.Text.{IsNumber};
-ghost use Rattle.pv_script.specs.Faults.{texts, IsFault};
+ghost use Rattle.pv_script.specs.Faults.{texts, IsFieldFault};
 ghost use Rattle.pv_script.specs.Keywords.{command_forms, command_word};
 ghost use Rattle.pv_script.specs.Said.{IsMost, WordsSay, arm_word};
 ghost use Rattle.pv_script.specs.View.{event_of, HasPlan};
@@ -20,28 +20,28 @@ const MAX_PUMP: u64 = 1_000_000;
 // The greatest number of a call that `cut` and `fail` may name.
 const MAX_CALL: u64 = 1000;
 
-/// The count of sites that the words behind `sites` spell.
+/// The count of sites that the words after `sites` spell.
 pub fn count_in(args: &[&[u8]]) -> Result<u8, LineCause>
     ensures count { IfOk result (λ n. (word : List ℕ) × (texts args.now ≡ word ∷ []) × IsIn 1 16 word n) }
-    ensures fault { (sites : ℕ) → IfErr result (IsFault sites ((field.number 1 16 ∷ []) ∷ []) (texts args.now)) }
+    ensures fault { (sites : ℕ) → IfErr result (IsFieldFault sites ((field.number 1 16 ∷ []) ∷ []) (texts args.now)) }
 {
     let count = number_alone(args, 1, u64::from(MAX_SITES))?;
     Ok(count as u8)
 }
 
-/// The limit of the journals that the words behind `journal` spell.
+/// The limit of the journals that the words after `journal` spell.
 pub fn limit_in(args: &[&[u8]]) -> Result<u64, LineCause>
     ensures limit { IfOk result (λ n. (word : List ℕ) × (texts args.now ≡ word ∷ []) × IsIn 32 (2 ^ 32) word n) }
-    ensures fault { (sites : ℕ) → IfErr result (IsFault sites ((field.number 32 (2 ^ 32) ∷ []) ∷ []) (texts args.now)) }
+    ensures fault { (sites : ℕ) → IfErr result (IsFieldFault sites ((field.number 32 (2 ^ 32) ∷ []) ∷ []) (texts args.now)) }
 {
     number_alone(args, MIN_JOURNAL, MAX_JOURNAL)
 }
 
-/// The event of a command with these words behind it, where there are so many sites.
+/// The event of a command with these words after it, where there are so many sites.
 pub fn event_in(command: Command, args: &[&[u8]], sites: u8) -> Result<Event, LineCause>
     ensures event { IfOk result (λ event. WordsSay sites (command_word command ∷ texts args.now) (event_of event)) }
     ensures plan { (catalog : Declared) → IfOk result (HasPlan catalog) }
-    ensures fault { IfErr result (IsFault sites (command_forms command) (texts args.now)) }
+    ensures fault { IfErr result (IsFieldFault sites (command_forms command) (texts args.now)) }
 {
     match command {
         Command::Deliver => Ok(Event::Deliver(message_in(args)?)),
@@ -72,7 +72,7 @@ pub fn event_in(command: Command, args: &[&[u8]], sites: u8) -> Result<Event, Li
 // The number of a message.
 fn message_in(args: &[&[u8]]) -> Result<u64, LineCause>
     ensures message { IfOk result (λ n. (word : List ℕ) × (texts args.now ≡ word ∷ []) × IsIn 0 (2 ^ 64 - 1) word n) }
-    ensures fault { (sites : ℕ) → IfErr result (IsFault sites ((field.number 0 (2 ^ 64 - 1) ∷ []) ∷ []) (texts args.now)) }
+    ensures fault { (sites : ℕ) → IfErr result (IsFieldFault sites ((field.number 0 (2 ^ 64 - 1) ∷ []) ∷ []) (texts args.now)) }
 {
     number_alone(args, 0, u64::MAX)
 }
@@ -80,7 +80,7 @@ fn message_in(args: &[&[u8]]) -> Result<u64, LineCause>
 // How many messages are delivered at most, if the line says so.
 fn most_in(args: &[&[u8]]) -> Result<Option<u32>, LineCause>
     ensures most { IfOk result (IsMost (texts args.now)) }
-    ensures fault { (sites : ℕ) → IfErr result (IsFault sites ([] ∷ (field.number 1 1000000 ∷ []) ∷ []) (texts args.now)) }
+    ensures fault { (sites : ℕ) → IfErr result (IsFieldFault sites ([] ∷ (field.number 1 1000000 ∷ []) ∷ []) (texts args.now)) }
 {
     match args {
         [] => Ok(None),
@@ -92,7 +92,7 @@ fn most_in(args: &[&[u8]]) -> Result<Option<u32>, LineCause>
 // The most messages that a word names.
 fn most(word: &[u8]) -> Result<Option<u32>, LineCause>
     ensures most { IfOk result (IsMost (word.now ∷ [])) }
-    ensures fault { (sites : ℕ) → IfErr result (IsFault sites ([] ∷ (field.number 1 1000000 ∷ []) ∷ []) (word.now ∷ [])) }
+    ensures fault { (sites : ℕ) → IfErr result (IsFieldFault sites ([] ∷ (field.number 1 1000000 ∷ []) ∷ []) (word.now ∷ [])) }
 {
     match number_in(word, 1, MAX_PUMP) {
         Some(most) => Ok(Some(most as u32)),
@@ -104,7 +104,7 @@ fn most(word: &[u8]) -> Result<Option<u32>, LineCause>
 fn arm_in(args: &[&[u8]], sites: u8, stop: bool) -> Result<Event, LineCause>
     ensures event { IfOk result (λ event. WordsSay sites (arm_word stop ∷ texts args.now) (event_of event)) }
     ensures plan { (catalog : Declared) → IfOk result (HasPlan catalog) }
-    ensures fault { IfErr result (IsFault sites ((field.site ∷ field.number 1 1000 ∷ field.mode ∷ []) ∷ []) (texts args.now)) }
+    ensures fault { IfErr result (IsFieldFault sites ((field.site ∷ field.number 1 1000 ∷ field.mode ∷ []) ∷ []) (texts args.now)) }
 {
     let [at, number, left] = args else {
         return Err(LineCause::WrongCount);
@@ -130,7 +130,7 @@ fn arm_in(args: &[&[u8]], sites: u8, stop: bool) -> Result<Event, LineCause>
 // Nothing stands there.
 fn nothing_in(args: &[&[u8]]) -> Result<(), LineCause>
     ensures none { OnOk result (texts args.now ≡ []) }
-    ensures fault { (sites : ℕ) → IfErr result (IsFault sites ([] ∷ []) (texts args.now)) }
+    ensures fault { (sites : ℕ) → IfErr result (IsFieldFault sites ([] ∷ []) (texts args.now)) }
 {
     if !args.is_empty() {
         return Err(LineCause::WrongCount);
@@ -141,7 +141,7 @@ fn nothing_in(args: &[&[u8]]) -> Result<(), LineCause>
 // A number in a range, alone.
 fn number_alone(args: &[&[u8]], least: u64, most: u64) -> Result<u64, LineCause>
     ensures number { IfOk result (λ n. (word : List ℕ) × (texts args.now ≡ word ∷ []) × IsIn least most word n) }
-    ensures fault { (sites : ℕ) → IfErr result (IsFault sites ((field.number least most ∷ []) ∷ []) (texts args.now)) }
+    ensures fault { (sites : ℕ) → IfErr result (IsFieldFault sites ((field.number least most ∷ []) ∷ []) (texts args.now)) }
 {
     let [word] = args else {
         return Err(LineCause::WrongCount);
@@ -155,7 +155,7 @@ fn number_alone(args: &[&[u8]], least: u64, most: u64) -> Result<u64, LineCause>
 // A site, alone.
 fn site_alone(args: &[&[u8]], sites: u8) -> Result<SiteId, LineCause>
     ensures site { IfOk result (λ site. (word : List ℕ) × (texts args.now ≡ word ∷ []) × IsNumber word site.0 × (site.0 < sites)) }
-    ensures fault { IfErr result (IsFault sites ((field.site ∷ []) ∷ []) (texts args.now)) }
+    ensures fault { IfErr result (IsFieldFault sites ((field.site ∷ []) ∷ []) (texts args.now)) }
 {
     let [word] = args else {
         return Err(LineCause::WrongCount);

@@ -1,4 +1,4 @@
-// What single words behind the first one of a line spell.
+// What single words after the first one of a line spell.
 ghost use Rattle.std.specs.Prelude.{◌≡◌, ℕ, ◌<◌, false, IfSome, IfNone, IsTrue};
 ghost use Rattle.std.specs.List.{Contains};
 ghost use Rattle.pv_model.specs.Causes.{mode_words};

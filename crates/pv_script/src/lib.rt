@@ -15,7 +15,7 @@ mod stages;
 mod words;
 
 pub use line::Line;
-pub use lines::MAX_TEXT;
+pub use lines::MAX_SCHEDULE;
 pub use read::read_schedule;
 pub use schedule::{Event, LineCause, Schedule, ScriptError};
 pub use stages::not_built;

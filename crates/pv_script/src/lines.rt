@@ -1,24 +1,24 @@
-// The lines of a text that count, one after another.
+// The significant lines of a text, one after another.
 ghost use Rattle.std.specs.Prelude.{◌≡◌, ◌+◌, ◌<◌, ◌≤◌, [], ◌∷◌, length, IfNone, IfSome};
 ghost use Rattle.std.specs.Str.Lines.{strip_carriage_return};
-ghost use Rattle.pv_model.specs.Text.{lines, is_counted, is_blank};
+ghost use Rattle.pv_model.specs.Text.{lines, is_significant, is_blank};
 
 use memchr::memchr;
 use std::marker::Model;
 
-/// The most bytes that a text may have, so that the number behind its last line is one of 32 bits.
-pub const MAX_TEXT: usize = 4_294_967_294;
+/// The most bytes that a text may have, so that the number after its last line is one of 32 bits.
+pub const MAX_SCHEDULE: usize = 4_294_967_294;
 
 /// A line that counts.
 #[derive(Clone, Copy, Debug)]
-pub struct Counted<'a> {
+pub struct SignificantLine<'a> {
     /// The place among all lines of the text, from 1.
     pub number: u32,
     /// The bytes, without the line's end.
     pub text: &'a [u8],
 }
 
-/// The lines of a text that count and are still to be read.
+/// The significant lines of a text that are still to be read.
 #[derive(Drop)]
 pub struct Lines<'a> {
     rest: &'a [u8],
@@ -27,18 +27,18 @@ pub struct Lines<'a> {
 
 impl<'a> Model for Lines<'a> {
     ghost use Rattle.std.specs.Prelude.{◌+◌, ◌≤◌, length};
-    ghost use Rattle.pv_model.specs.Text.{counted_from, lines};
+    ghost use Rattle.pv_model.specs.Text.{significant_from, lines};
     ghost use Rattle.pv_script.specs.LinesLeft.{LinesLeft};
-    ghost use Rattle.pv_script.specs.declared.lines.TheConstants.{MAX_TEXT};
+    ghost use Rattle.pv_script.specs.declared.lines.TheConstants.{MAX_SCHEDULE};
 
     ghost Value = { LinesLeft };
 
     ghost view = { λ l. record {
-      numbered = counted_from (l.passed + 1) (lines l.rest.now);
-      behind = l.passed + length (lines l.rest.now) + 1;
+      numbered = significant_from (l.passed + 1) (lines l.rest.now);
+      after_last = l.passed + length (lines l.rest.now) + 1;
     } };
 
-    ghost invariant = { λ l. l.passed + length l.rest.now ≤ MAX_TEXT };
+    ghost invariant = { λ l. l.passed + length l.rest.now ≤ MAX_SCHEDULE };
 }
 
 impl<'a> Lines<'a> {
@@ -46,8 +46,8 @@ impl<'a> Lines<'a> {
 
     /// All lines of a text.
     pub fn new(text: &'a [u8]) -> Lines<'a>
-        requires { length text.now ≤ MAX_TEXT }
-        ensures { result ≡ record { numbered = numbered text.now; behind = length (lines text.now) + 1 } }
+        requires { length text.now ≤ MAX_SCHEDULE }
+        ensures { result ≡ record { numbered = numbered text.now; after_last = length (lines text.now) + 1 } }
     {
         Lines {
             rest: text,
@@ -56,18 +56,18 @@ impl<'a> Lines<'a> {
     }
 
     /// The next line that counts.
-    pub fn next(&mut self) -> Option<Counted<'a>>
+    pub fn next(&mut self) -> Option<SignificantLine<'a>>
         ensures none { IfNone result (self.old.numbered ≡ []) }
         ensures some { IfSome result (λ line. self.old.numbered ≡ (line.number, line.text.now) ∷ self.new.numbered) }
-        ensures behind { self.new.behind ≡ self.old.behind }
+        ensures after_last { self.new.after_last ≡ self.old.after_last }
     {
         while !self.rest.is_empty() {
             let (line, after) = first_line(self.rest);
             self.rest = after;
             self.passed += 1;
             let text = without_return(line);
-            if is_counted(text) {
-                return Some(Counted {
+            if is_significant(text) {
+                return Some(SignificantLine {
                     number: self.passed,
                     text,
                 });
@@ -76,9 +76,9 @@ impl<'a> Lines<'a> {
         None
     }
 
-    /// The number behind the last line of the text, however many of its lines are read.
-    pub fn behind(&self) -> u32
-        ensures { result ≡ self.now.behind }
+    /// The number after the last line of the text, however many of its lines are read.
+    pub fn after_last(&self) -> u32
+        ensures { result ≡ self.now.after_last }
     {
         let mut rest = self.rest;
         let mut passed = self.passed;
@@ -91,7 +91,7 @@ impl<'a> Lines<'a> {
     }
 }
 
-// The first line, with the carriage return that may end it, and what stands behind its line feed.
+// The first line, with the carriage return that may end it, and what stands after its line feed.
 fn first_line(rest: &[u8]) -> (&[u8], &[u8])
     requires { 0 < length rest.now }
     ensures first { lines rest.now ≡ strip_carriage_return result.0.now ∷ lines result.1.now }
@@ -116,8 +116,8 @@ fn without_return(line: &[u8]) -> &[u8]
 }
 
 // Whether the line has more than blanks, and is no comment.
-fn is_counted(line: &[u8]) -> bool
-    ensures { result ≡ is_counted line.now }
+fn is_significant(line: &[u8]) -> bool
+    ensures { result ≡ is_significant line.now }
 {
     line.iter()
         .copied()

@@ -1,45 +1,45 @@
 // Where the text of a program stands in a line.
 ghost use Rattle.std.specs.Prelude.{◌≡◌, ◌≤◌, length};
-ghost use Rattle.pv_model.specs.LineForms.{behind_blanks, behind_word, before_blanks, program_text};
+ghost use Rattle.pv_model.specs.LineForms.{after_blanks, after_word, before_blanks, program_text};
 
 use crate::lines::is_blank;
 
-/// The text of a program: what stands behind the first two words of a line, without the blanks round it.
+/// The text of a program: what stands after the first two words of a line, without the blanks round it.
 #[tactic(auto, unfolding(pv_model::specs::LineForms::program_text))]
 pub fn program_text(line: &[u8]) -> &[u8]
     ensures text { result.now ≡ program_text line.now }
     ensures shorter { length result.now ≤ length line.now }
 {
-    let site = behind_blanks(behind_word(behind_blanks(line)));
-    before_blanks(behind_blanks(behind_word(site)))
+    let site = after_blanks(after_word(after_blanks(line)));
+    before_blanks(after_blanks(after_word(site)))
 }
 
-// What is behind the blanks at the front.
-fn behind_blanks(bytes: &[u8]) -> &[u8]
-    ensures rest { result.now ≡ behind_blanks bytes.now }
+// What is after the blanks at the front.
+fn after_blanks(bytes: &[u8]) -> &[u8]
+    ensures rest { result.now ≡ after_blanks bytes.now }
     ensures shorter { length result.now ≤ length bytes.now }
 {
     let mut rest = bytes;
-    while let [first, behind @ ..] = rest {
+    while let [first, later @ ..] = rest {
         if !is_blank(*first) {
             return rest;
         }
-        rest = behind;
+        rest = later;
     }
     rest
 }
 
-// What is behind the first word, from the blank on.
-fn behind_word(bytes: &[u8]) -> &[u8]
-    ensures rest { result.now ≡ behind_word bytes.now }
+// What is after the first word, from the blank on.
+fn after_word(bytes: &[u8]) -> &[u8]
+    ensures rest { result.now ≡ after_word bytes.now }
     ensures shorter { length result.now ≤ length bytes.now }
 {
     let mut rest = bytes;
-    while let [first, behind @ ..] = rest {
+    while let [first, later @ ..] = rest {
         if is_blank(*first) {
             return rest;
         }
-        rest = behind;
+        rest = later;
     }
     rest
 }

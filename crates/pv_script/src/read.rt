@@ -1,30 +1,29 @@
 // How a schedule is read.
 ghost use Rattle.std.specs.Prelude.{◌≡◌, ◌≢◌, ◌≤◌, ℕ, List, ◌∷◌, All, length, vec_len, IfOk, IfErr, OnOk};
 ghost use Rattle.pv_model.specs.Causes as model;
-ghost use Rattle.pv_model.specs.Causes.{Cause};
 ghost use Rattle.pv_model.specs.Events as events;
-ghost use Rattle.pv_model.specs.Schedule.{Declares, IsSchedule, IsMalformed};
-ghost use Rattle.pv_script.specs.Answers.{Refuses, IsRefusal};
+ghost use Rattle.pv_model.specs.Schedule.{Declares, IsSchedule, IsMalformedSchedule};
+ghost use Rattle.pv_script.specs.ScriptErrors.{Refuses, IsRefusal};
 ghost use Rattle.pv_script.specs.Faults.{IsErrorAt};
 ghost use Rattle.pv_script.specs.LinesLeft.{lines_of};
 ghost use Rattle.pv_script.specs.Said.{before_of, IsLimited};
 ghost use Rattle.pv_script.specs.Takes.{Takes};
 ghost use Rattle.pv_script.specs.View.{schedule_of, HasPlan};
 
-use crate::lines::{Counted, Lines, MAX_TEXT};
+use crate::lines::{Lines, MAX_SCHEDULE, SignificantLine};
 use crate::said::Said;
 use crate::schedule::{Event, LineCause, Schedule, ScriptError};
 use std::alloc::Global;
 
-/// The schedule that a text of at most [`MAX_TEXT`] bytes says.
+/// The schedule that a text of at most [`MAX_SCHEDULE`] bytes says.
 ///
 /// Its lines are read in order. The first one at fault refuses the text, with its first cause in the order of
-/// [`LineCause`]; where no line counts, the place behind the last line does. Want of memory may come at any place. Each
+/// [`LineCause`]; where no line is significant, the place after the last line does. `NoMemory` may come at any place. Each
 /// request is checked against the items declared before it, and has its plan.
 ///
 /// The cost is linear in the length of the text, but for looking up the names of items.
 pub fn read_schedule(alloc: Global, text: &[u8]) -> Result<Schedule, ScriptError>
-    requires { length text.now ≤ MAX_TEXT }
+    requires { length text.now ≤ MAX_SCHEDULE }
 
     // What is read is the schedule that the text is, and what is a schedule is read.
     ensures schedule { IfOk result (λ schedule. IsSchedule text.now (schedule_of schedule)) }
@@ -35,8 +34,8 @@ pub fn read_schedule(alloc: Global, text: &[u8]) -> Result<Schedule, ScriptError
     ensures plans { IfOk result (λ schedule. All (HasPlan schedule.catalog) schedule.events.items) }
 
     // What is refused is malformed there, and what is malformed is refused there.
-    ensures refused { IfErr result (Refuses (IsMalformed text.now)) }
-    ensures refuses { (number : ℕ) (cause : Cause) → IsMalformed text.now number cause →
+    ensures refused { IfErr result (Refuses (IsMalformedSchedule text.now)) }
+    ensures refuses { (number : ℕ) (cause : model.LineCause) → IsMalformedSchedule text.now number cause →
         IfOk result (λ _. ⊥) × IfErr result (λ error. error ≢ ScriptError.NoMemory → IsRefusal number cause error) }
 
     // There are no more events than bytes.
@@ -59,11 +58,11 @@ fn read_first(alloc: Global, lines: &mut Lines) -> Result<Said, ScriptError>
     ensures declares { IfOk result (λ said. (number : ℕ) × (line : List ℕ)
         × (lines.old.numbered ≡ (number, line) ∷ lines.new.numbered) × Declares model.at_first line (before_of said)) }
     ensures limited { IfOk result IsLimited }
-    ensures fault { (text : List ℕ) → IfErr result (λ error. lines.old ≡ lines_of text → Refuses (IsMalformed text) error) }
+    ensures fault { (text : List ℕ) → IfErr result (λ error. lines.old ≡ lines_of text → Refuses (IsMalformedSchedule text) error) }
 {
     let Some(line) = lines.next() else {
         return Err(ScriptError::Malformed {
-            line: lines.behind(),
+            line: lines.after_last(),
             cause: LineCause::SitesExpected,
         });
     };
@@ -78,7 +77,7 @@ fn read_line(
     alloc: Global,
     said: &mut Said,
     events: &mut Vec<Event>,
-    line: Counted,
+    line: SignificantLine,
 ) -> Result<(), ScriptError>
     requires { IsLimited said.old }
     ensures takes { OnOk result (Takes (before_of said.old) line.entry.text.now (before_of said.new) said.new.catalog events.old.items events.new.items) }

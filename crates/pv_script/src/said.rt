@@ -86,7 +86,7 @@ impl Said {
         Ok(None)
     }
 
-    // Sets the limit of the journals, as words behind `journal` say.
+    // Sets the limit of the journals, as words after `journal` say.
     fn limit(&mut self, args: &[&[u8]]) -> Result<(), LineCause>
         requires { IsLimited self.old }
         ensures declares { (line : List ℕ) → IsHead (before_of self.old) line (codes "journal") (texts args.now) →
@@ -107,7 +107,7 @@ impl Said {
         Ok(())
     }
 
-    // Adds the item that words behind `item` declare.
+    // Adds the item that words after `item` declare.
     fn declare(&mut self, args: &[&[u8]]) -> Result<(), Fault>
         requires { IsLimited self.old }
         ensures declares { (line : List ℕ) → IsHead (before_of self.old) line (codes "item") (texts args.now) →
@@ -195,7 +195,7 @@ fn sites_in(words: &[&[u8]]) -> Result<u8, LineCause>
     count_in(args)
 }
 
-// The first of the words, if a line may begin with it, and the words behind it.
+// The first of the words, if a line may begin with it, and the words after it.
 fn split<'a, 'b>(words: &'b [&'a [u8]]) -> Result<(Keyword, &'b [&'a [u8]]), LineCause>
     ensures words { IfOk result (λ found. texts words.now ≡ spelled found.0 ∷ texts found.1.now) }
     ensures unknown { IfErr result (λ cause. (cause ≡ UnknownWord) × (forms_of (first_of (texts words.now)) ≡ [])) }

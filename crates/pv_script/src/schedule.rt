@@ -75,13 +75,13 @@ pub enum LineCause {
     TooLong,
     /// A byte isn't printable ASCII, a space or a tab.
     NotText,
-    /// The first line that counts doesn't begin with `sites`, or no line counts.
+    /// The first significant line doesn't begin with `sites`, or there is none.
     SitesExpected,
     /// The first word isn't one that a line begins with.
     UnknownWord,
     /// A second `sites` or `journal`.
     Twice,
-    /// A `journal` or an `item` behind an event.
+    /// A `journal` or an `item` after an event.
     TooLate,
     /// There are too few or too many words. A program counts as one.
     WrongCount,
@@ -109,7 +109,7 @@ pub enum LineCause {
     QueryAssigns,
     /// A query has no `return`.
     NoReturn,
-    /// The line isn't malformed, but can't be run so far. Where a pump is missing at the end, it is told of the number behind
+    /// The line isn't malformed, but can't be run so far. Where a pump is missing at the end, it is reported at the number after
     /// the last line.
     NotBuilt,
 }
@@ -119,7 +119,7 @@ pub enum LineCause {
 pub enum ScriptError {
     /// A line is at fault, and none before it.
     Malformed {
-        /// The line's number, from 1. Where no line counts, it is the number behind the last one.
+        /// The line's number, from 1. Where no line is significant, it is the number after the last one.
         line: u32,
         /// What is wrong with it.
         cause: LineCause,

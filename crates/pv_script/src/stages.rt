@@ -2,14 +2,14 @@
 ghost use Rattle.std.specs.Prelude.{◌≡◌, ◌==◌, ◌≤◌, ℕ, nat_le, List, length, IfOk};
 ghost use Rattle.std.specs.List.{list_all};
 ghost use Rattle.std.specs.Option.{option_map};
-ghost use Rattle.pv_model.specs.Form as model;
+ghost use Rattle.pv_script.specs.Form as model;
 ghost use Rattle.pv_model.specs.LineForms.{first_of, takes_program};
 ghost use Rattle.pv_model.specs.Text as written;
-ghost use Rattle.pv_model.specs.Text.{value_of};
+ghost use Rattle.pv_model.specs.Text.{number_of_digits};
 ghost use Rattle.pv_script.specs.Faults.{texts};
-ghost use Rattle.pv_script.specs.Stages.{stage_of, stage_behind_word};
+ghost use Rattle.pv_script.specs.Stages.{stage_of, stage_after_word};
 
-use crate::lines::{Lines, MAX_TEXT};
+use crate::lines::{Lines, MAX_SCHEDULE};
 use crate::words::words_of;
 use pv_base::NoMemory;
 use std::alloc::Global;
@@ -21,62 +21,62 @@ enum Stage {
     Sites,
     // An item, a request or a report, or the end.
     Any,
-    // The pump behind a request.
+    // The pump after a request.
     Pump,
 }
 
 /// The number of the first line of a schedule's text that can't be run so far, if there is one. A text that ends too early
-/// can't be run behind its last line. Its one error is want of memory.
+/// can't be run after its last line. Its one error is to be out of memory.
 pub fn not_built(alloc: Global, text: &[u8]) -> Result<Option<u32>, NoMemory>
-    requires { length text.now ≤ MAX_TEXT }
+    requires { length text.now ≤ MAX_SCHEDULE }
     ensures { IfOk result (λ number. number ≡ model.not_built text.now) }
 {
     let mut lines = Lines::new(text);
     let mut stage = Stage::Sites;
     while let Some(line) = lines.next() {
-        match stage_behind(alloc, stage, line.text)? {
+        match stage_after(alloc, stage, line.text)? {
             Some(next) => stage = next,
             None => return Ok(Some(line.number)),
         }
     }
     match stage {
         Stage::Any => Ok(None),
-        Stage::Sites | Stage::Pump => Ok(Some(lines.behind())),
+        Stage::Sites | Stage::Pump => Ok(Some(lines.after_last())),
     }
 }
 
-// What may come behind a line, if the line can be run.
-fn stage_behind(alloc: Global, stage: Stage, line: &[u8]) -> Result<Option<Stage>, NoMemory>
-    ensures { IfOk result (λ next. option_map stage_of next ≡ model.stage_behind (stage_of stage) line.now) }
+// What may come after a line, if the line can be run.
+fn stage_after(alloc: Global, stage: Stage, line: &[u8]) -> Result<Option<Stage>, NoMemory>
+    ensures { IfOk result (λ next. option_map stage_of next ≡ model.stage_after (stage_of stage) line.now) }
 {
     let words = words_of(alloc, line)?;
     Ok(next(stage, &words))
 }
 
-// What may come behind a line of these words.
+// What may come after a line of these words.
 fn next(stage: Stage, words: &[&[u8]]) -> Option<Stage>
-    ensures { (line : List ℕ) → texts words.now ≡ written.words line → option_map stage_of result ≡ model.stage_behind (stage_of stage) line }
+    ensures { (line : List ℕ) → texts words.now ≡ written.words line → option_map stage_of result ≡ model.stage_after (stage_of stage) line }
 {
     match stage {
         Stage::Sites => is_one_site(words).then_some(Stage::Any),
-        Stage::Any => behind_any(words),
+        Stage::Any => after_any(words),
         Stage::Pump => is_pump(words).then_some(Stage::Any),
     }
 }
 
-// What may come behind a line of these words, where any line may come.
-fn behind_any(words: &[&[u8]]) -> Option<Stage>
-    ensures { option_map stage_of result ≡ stage_behind_word (first_of (texts words.now)) }
+// What may come after a line of these words, where any line may come.
+fn after_any(words: &[&[u8]]) -> Option<Stage>
+    ensures { option_map stage_of result ≡ stage_after_word (first_of (texts words.now)) }
 {
     let [first, ..] = words else {
         return None;
     };
-    stage_behind_word(first)
+    stage_after_word(first)
 }
 
-// What may come behind a line of this first word, where any line may come.
-fn stage_behind_word(word: &[u8]) -> Option<Stage>
-    ensures { option_map stage_of result ≡ stage_behind_word word.now }
+// What may come after a line of this first word, where any line may come.
+fn stage_after_word(word: &[u8]) -> Option<Stage>
+    ensures { option_map stage_of result ≡ stage_after_word word.now }
 {
     if is_free(word) {
         return Some(Stage::Any);
@@ -112,10 +112,10 @@ fn is_one_site(words: &[&[u8]]) -> bool
     }
 }
 
-// Whether digits are a 1, behind any number of zeros. Of a text that is no schedule other bytes may stand here: each counts as
-// how far it is behind `0`, and as 0 where it is before it.
+// Whether digits are a 1, after any number of zeros. Of a text that is no schedule other bytes may stand here: each counts as
+// how far it is after `0`, and as 0 where it is before it.
 fn is_one(digits: &[u8]) -> bool
-    ensures { result ≡ (value_of digits.now == 1) }
+    ensures { result ≡ (number_of_digits digits.now == 1) }
 {
     let [zeros @ .., last] = digits else {
         return false;

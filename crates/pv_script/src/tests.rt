@@ -1,6 +1,6 @@
 // What no clause says: that calls succeed, what texts say to one who reads them, and how a refusal is printed.
 ghost use Rattle.std.specs.Prelude.{◌≤◌, length};
-ghost use Rattle.pv_script.specs.declared.lines.TheConstants.{MAX_TEXT};
+ghost use Rattle.pv_script.specs.declared.lines.TheConstants.{MAX_SCHEDULE};
 
 use crate::{Event, LineCause, ScriptError, not_built, read_schedule};
 use pv_base::{ItemId, SiteId};
@@ -9,7 +9,7 @@ use std::test::Fail;
 
 // Asserts that the text is refused at this line, for this cause.
 fn assert_refused(rt: &(impl Abort + AllocGlobal), text: &[u8], line: u32, cause: LineCause)
-    requires { length text.now ≤ MAX_TEXT }
+    requires { length text.now ≤ MAX_SCHEDULE }
 {
     match read_schedule(rt.alloc(), text) {
         Ok(_) => panic!(rt; "read, and not refused at {line}"),
@@ -19,7 +19,7 @@ fn assert_refused(rt: &(impl Abort + AllocGlobal), text: &[u8], line: u32, cause
 
 // Asserts that the text is a schedule of so many items and events.
 fn assert_read(rt: &(impl Abort + AllocGlobal), text: &[u8], items: u32, events: usize)
-    requires { length text.now ≤ MAX_TEXT }
+    requires { length text.now ≤ MAX_SCHEDULE }
 {
     match read_schedule(rt.alloc(), text) {
         Ok(schedule) => {
@@ -342,7 +342,7 @@ fn requests_are_tested(rt: HostRuntime) {
     assert_refused(&rt, names, 19, LineCause::TooManyNames(17));
 }
 
-// Asserts that the line behind three others is refused for this cause.
+// Asserts that the line after three others is refused for this cause.
 fn assert_request(rt: &(impl Abort + AllocGlobal), head: &[u8], line: &[u8], cause: LineCause)
     requires head { length head.now ≤ 1000 }
     requires line { length line.now ≤ 1000 }
@@ -399,7 +399,7 @@ fn what_is_not_built_is_told(rt: HostRuntime) {
 
 // Asserts that this is the first line that can't be run so far.
 fn assert_built(rt: &(impl Abort + AllocGlobal), text: &[u8], line: Option<u32>)
-    requires { length text.now ≤ MAX_TEXT }
+    requires { length text.now ≤ MAX_SCHEDULE }
 {
     match not_built(rt.alloc(), text) {
         Ok(found) => assert!(rt; found == line),

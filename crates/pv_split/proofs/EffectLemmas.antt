@@ -10,8 +10,8 @@ use Rattle.pv_model.specs.Alternatives.{Read, number_at, rows_at}
 use Rattle.pv_model.specs.Items.{lacks, has_once, has_items, has_all_items}
 use Rattle.pv_model.specs.Meaning.{Row, Effect, items_of_rows, exec}
 use Rattle.pv_model.specs.Syntax.{Expr, number, item, minus, negation, two, Program, end, assign, require, return, when, when_else}
-use Rattle.pv_model.proofs.Basics.{heads, tails}
-use Rattle.pv_model.proofs.TableLemmas.{length-assignments}
+use Rattle.pv_base.proofs.Basics.{heads, tails}
+use Rattle.pv_law_polyvalues.proofs.TableLemmas.{length-assignments}
 use Rattle.pv_split.specs.Columns.{Column, column_of, columns_of, row_at, effects_at}
 
 -- The columns.

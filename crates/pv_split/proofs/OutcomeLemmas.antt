@@ -1,5 +1,5 @@
 -- What reads name together, read by read, and that rows hang only on these outcomes.
-use Rattle.std.proofs.Common.{◌≡◌, ℕ, ℤ, ◌+◌, ◌<◌, ◌≤◌, Bool, ◌||◌, List, [], ◌∷◌, ◌++◌, map, take, get_or, length, append_assoc, IsTrue, refl, sym, ap, ◌∙◌, filter}
+use Rattle.std.proofs.Common.{◌≡◌, ℕ, ℤ, ◌+◌, ◌<◌, ◌≤◌, Bool, ◌||◌, List, [], ◌∷◌, ◌++◌, map, take, get_or, length, IsTrue, refl, sym, ap, ◌∙◌, filter}
 use Rattle.std.specs.List.{Contains}
 use Rattle.std.proofs.lemmas.Bool.{or_left, or_right}
 use Rattle.std.proofs.lemmas.Grind.{flat_map-append}
@@ -8,24 +8,18 @@ use Rattle.std.proofs.lemmas.List.Folds.{list_any-append}
 use Rattle.std.specs.Prelude.{Option, pos}
 use Rattle.std.specs.List.{list_any}
 use Rattle.std.specs.Option.{unwrap_or}
-use Rattle.pv_base.specs.declared.literal.Literal.{Literal}
 use Rattle.pv_base.specs.declared.txn.TxnId.{TxnId}
 use Rattle.pv_base.specs.Assignment.{is_same_txn, commits, assignments}
 use Rattle.pv_base.specs.Polyvalue.{Case, names, AreNames}
 use Rattle.pv_model.specs.Alternatives.{Read, all_cases, number_at, rows_at}
 use Rattle.pv_model.specs.Meaning.{Row}
-use Rattle.pv_model.proofs.MapLemmas.{same-mapped}
-use Rattle.pv_model.proofs.NameLemmas.{one-names}
-use Rattle.pv_model.proofs.TableLemmas.{chosen-is-assignment, value_at-chosen}
-use Rattle.pv_poly.specs.Names.{txns_of}
+use Rattle.pv_base.proofs.MapLemmas.{same-mapped}
+use Rattle.pv_law_polyvalues.proofs.NameLemmas.{one-names}
+use Rattle.pv_law_polyvalues.proofs.TableLemmas.{chosen-is-assignment, value_at-chosen}
+use Rattle.pv_cases.specs.Names.{txns_of}
+use Rattle.pv_cases.proofs.OrderedNames.{txns_of-append}
 
 -- The transactions of reads.
-
-txns_of-append : {V : Type 0} (cases others : List (Case V)) → txns_of (cases ++ others) ≡ txns_of cases ++ txns_of others
-txns_of-append [] others = refl
-txns_of-append (case ∷ cases) others =
-    let first = map (λ (literal : Literal). literal.txn) case.when in
-    ap (λ (rest : List TxnId). first ++ rest) (txns_of-append cases others) ∙ sym (append_assoc first (txns_of cases) (txns_of others))
 
 txns-more : (reads : List Read) (i : ℕ) (d : Read) → i < length reads
     → txns_of (all_cases (take (i + 1) reads)) ≡ txns_of (all_cases (take i reads)) ++ txns_of (get_or reads i d).cases

@@ -12,10 +12,10 @@ use Rattle.pv_model.specs.Alternatives.{Read, all_cases, number_at, rows_at, ass
 use Rattle.pv_model.specs.Meaning.{Row, Reply, Effect, exec}
 use Rattle.pv_model.specs.ProgramLaws.{assigns}
 use Rattle.pv_model.specs.Syntax.{Program}
-use Rattle.pv_model.proofs.MapLemmas.{map-map}
-use Rattle.pv_model.proofs.NameLemmas.{NamesAtMost-within}
-use Rattle.pv_model.proofs.ProgramLemmas.{items_stay}
-use Rattle.pv_model.proofs.TableLemmas.{value_at-chosen}
+use Rattle.pv_base.proofs.MapLemmas.{map-map}
+use Rattle.pv_law_polyvalues.proofs.NameLemmas.{NamesAtMost-within}
+use Rattle.pv_law_programs.proofs.ProgramLemmas.{items_stay}
+use Rattle.pv_law_polyvalues.proofs.TableLemmas.{value_at-chosen}
 use Rattle.pv_split.specs.Columns.{effects_at, value_in_row, values_in_row}
 use Rattle.pv_split.proofs.OutcomeLemmas.{everywhere, rows_at-chosen}
 

@@ -6,7 +6,8 @@ ghost use Rattle.pv_model.specs.Alternatives.{all_cases};
 
 use crate::SplitError;
 use pv_base::{NoMemory, READ_NAMES, TxnId};
-use pv_poly::{Read, ordered, push_names};
+use pv_cases::{ordered, push_names};
+use pv_poly::Read;
 use std::alloc::Global;
 
 /// The outcomes that the reads name together, ascending. Takes time in proportion to the literals of the reads, times the logarithm of their

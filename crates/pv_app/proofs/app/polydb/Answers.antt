@@ -1,12 +1,12 @@
 -- What was read is what the source had left, and what was written is the answer to it.
 use Rattle.std.proofs.Common.{◌≡◌, ◌≤◌, None, List, ℕ, length, refl, ◌∙◌, subst, sym, arith}
-use Rattle.pv_model.proofs.Agreement.{replies_agree, reports_agree}
-use Rattle.pv_model.specs.Form.{not_built}
+use Rattle.pv_law_runs.proofs.AgreementLemmas.{replies_agree, reports_agree}
+use Rattle.pv_script.specs.Form.{not_built}
 use Rattle.pv_model.specs.Run.{output_of}
 use Rattle.pv_model.specs.Schedule.{IsSchedule}
 use Rattle.pv_app.proofs.AnswerLemmas.{output_at_done, prefix_of_run, schedule_at_done, status_of_answer, usage_or_fault}
 use Rattle.pv_app.proofs.OutputLemmas.{AppendsPrefix-none}
-use Rattle.pv_app.specs.Answers.{IsAnswer, max_input, usage_text}
+use Rattle.pv_app.specs.InputAnswers.{IsAnswer, max_input, usage_text}
 use Rattle.pv_app.specs.declared.status.Status.TheVariants.{Done}
 use Rattle.pv_app.proofs.app.polydb.Goals as goal
 

@@ -1,10 +1,10 @@
 -- What was written is a beginning of the one answer that the input has.
 use Rattle.std.proofs.Common.{◌≡◌, Some, None, refl}
-use Rattle.pv_model.specs.Form.{not_built}
+use Rattle.pv_script.specs.Form.{not_built}
 use Rattle.pv_model.specs.Run.{output_of}
 use Rattle.pv_script.specs.View.{schedule_of}
 use Rattle.pv_app.specs.declared.status.Status.TheVariants.{Done, Malformed}
-use Rattle.pv_app.specs.Answers.{IsRefusedAt, fault_text}
+use Rattle.pv_app.specs.InputAnswers.{IsRefusedAt, fault_text}
 use Rattle.pv_app.proofs.AnswerLemmas.{answered_refusal, prefix_of_answer, prefix_of_run}
 use Rattle.pv_app.proofs.ReadyLemmas.{ready-schedule}
 use Rattle.pv_app.proofs.app.run_built.Goals as goal

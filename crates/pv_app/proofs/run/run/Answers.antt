@@ -1,6 +1,6 @@
 -- Each event's step is one step of the run.
 use Rattle.std.proofs.Common.{rules, arith, ℕ, suc, sym, subst, add-one}
-use Rattle.pv_model.specs.Run.{World}
+use Rattle.pv_model.specs.Run.{OneSite}
 use Rattle.pv_script.specs.View.{event_of, schedule_of}
 use Rattle.pv_app.specs.Ready.{IsReady}
 use Rattle.pv_app.proofs.OutputLemmas.{on_any_err}
@@ -12,7 +12,7 @@ loop-event-init g c =
     let held = g.W.Sink.held c.args.sink.now in
     let faults = g.W.Sink.faults c.args.sink.now in
     let schedule = schedule_of c.args.schedule.now in
-    subst (λ (world : World). IsUnderWay held held faults faults schedule world 0) (sym c.in_ok-world.ensures) (start held faults schedule)
+    subst (λ (world : OneSite). IsUnderWay held held faults faults schedule world 0) (sym c.in_ok-world.ensures) (start held faults schedule)
 
 pub loop-event-preserved : goal.loop-event-preserved
 loop-event-preserved g c =
@@ -29,7 +29,7 @@ loop-event-preserved g c =
     let way = go_on first (g.W.Sink.held c.loop-event.sink) next counted_first (g.W.Sink.faults c.loop-event.sink) counted_next schedule c.loop-event.world i (event_of event)
     c.loop-event.invariant split ready c.in_ok-step.ensures.writes.written c.in_ok-step.ensures.writes.counted in
     subst (λ (k : ℕ). IsUnderWay first next counted_first counted_next schedule c.step.new.world k) (sym (add-one i))
-    (subst (λ (world : World). IsUnderWay first next counted_first counted_next schedule world (suc i)) (sym c.in_ok-step.ensures.after) way)
+    (subst (λ (world : OneSite). IsUnderWay first next counted_first counted_next schedule world (suc i)) (sym c.in_ok-step.ensures.after) way)
 
 pub returns-in_err-step : goal.returns-in_err-step
 returns-in_err-step g c =

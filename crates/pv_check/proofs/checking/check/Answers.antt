@@ -1,6 +1,6 @@
 -- The parts are a plan, since the wants are the program's.
 use Rattle.std.proofs.Common.{List, sym, subst}
-use Rattle.pv_base.specs.declared.want.Want.{Want}
+use Rattle.pv_base.specs.Want.{Want}
 use Rattle.pv_check.specs.Wants.{AreWants}
 use Rattle.pv_check.proofs.checking.check.Goals as goal
 

@@ -1,6 +1,6 @@
 -- The wants that the marks stand for are the program's.
 use Rattle.std.proofs.Common.{List, sym, subst, arith}
-use Rattle.pv_base.specs.declared.want.Want.{Want}
+use Rattle.pv_base.specs.Want.{Want}
 use Rattle.pv_check.specs.Wants.{AreWants}
 use Rattle.pv_check.proofs.WantLemmas.{AreWants-among}
 use Rattle.pv_check.proofs.marks.wants_of.Goals as goal

@@ -1,5 +1,5 @@
 -- `parse` reads digits alone.
-use Rattle.pv_model.proofs.NumberLemmas.{utf8-read, utf8-text}
+use Rattle.pv_law_programs.proofs.NumberLemmas.{utf8-read, utf8-text}
 use Rattle.pv_parse.proofs.NumberLemmas.{digits-text, digits-parsed}
 use Rattle.pv_parse.proofs.token.number_of.Goals as goal
 

@@ -2,8 +2,8 @@
 use Rattle.std.proofs.Common.{◌≡◌, drop, take}
 use Rattle.std.specs.Prelude.{◌++◌, All}
 use Rattle.pv_base.specs.Polyvalue.{IsPolyvalue}
-use Rattle.pv_base.specs.declared.faults.TheConstants.{HELD_NAMES}
-use Rattle.pv_poly.specs.Names.{txns_of}
+use Rattle.pv_base.specs.declared.limits.TheConstants.{HELD_NAMES}
+use Rattle.pv_cases.specs.Names.{txns_of}
 use Rattle.pv_query.proofs.OutcomeLemmas.{together}
 use Rattle.pv_query.proofs.adding.outcomes.Given as goal
 

@@ -3,8 +3,8 @@ use Rattle.std.proofs.Common.{◌≡◌, ℕ, List, length, inl, ap, sym, subst,
 use Rattle.std.specs.Prelude.{ℤ, Err, All}
 use Rattle.std.specs.List.{Contains}
 use Rattle.pv_base.specs.declared.txn.TxnId.{TxnId}
-use Rattle.pv_model.specs.Answers.{sum_at, sums}
-use Rattle.pv_model.proofs.NameLemmas.{one-names}
+use Rattle.pv_model.specs.PossibleAnswers.{sum_at, sums}
+use Rattle.pv_law_polyvalues.proofs.NameLemmas.{one-names}
 use Rattle.pv_query.proofs.OutcomeLemmas.{together}
 use Rattle.pv_query.proofs.EverySumLemmas.{every-sum, each-sum}
 use Rattle.pv_query.specs.declared.adding.SumError.TheVariants.{OutcomeLimit}

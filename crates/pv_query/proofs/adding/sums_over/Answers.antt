@@ -4,7 +4,7 @@ use Rattle.std.specs.Prelude.{ℤ, map, IfOk}
 use Rattle.std.specs.Ordering.{int_eq}
 use Rattle.std.proofs.lemmas.List.{take_all}
 use Rattle.pv_base.specs.Assignment.{assignments}
-use Rattle.pv_model.specs.Answers.{sum_at, without_repeats}
+use Rattle.pv_model.specs.PossibleAnswers.{sum_at, without_repeats}
 use Rattle.pv_query.specs.Sums.{totals}
 use Rattle.pv_query.proofs.SumLemmas.{sums-more, length-sums, AreWithin-weaker}
 use Rattle.pv_query.proofs.adding.sums_over.Goals as goal

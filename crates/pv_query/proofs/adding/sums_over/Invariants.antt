@@ -2,7 +2,7 @@
 use Rattle.std.proofs.Common.{◌≡◌, ◌*◌, ◌^◌, take}
 use Rattle.std.specs.Prelude.{map}
 use Rattle.pv_base.specs.Assignment.{assignments}
-use Rattle.pv_model.specs.Answers.{sum_at}
+use Rattle.pv_model.specs.PossibleAnswers.{sum_at}
 use Rattle.pv_query.specs.Sums.{totals, AreWithin}
 use Rattle.pv_query.proofs.adding.sums_over.Given as goal
 

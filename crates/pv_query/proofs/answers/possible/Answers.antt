@@ -8,7 +8,7 @@ use Rattle.pv_ast.specs.ReplyExact.{reply_exact}
 use Rattle.pv_ast.specs.contracts.effect.ReplyPartialEq.TheImpl as reply_eq
 use Rattle.pv_query.proofs.RepeatLemmas.{left-start, left-step, left-end}
 use Rattle.pv_query.proofs.AnswerLemmas.{every-possible, each-given}
-use Rattle.pv_model.specs.Answers.{possible}
+use Rattle.pv_model.specs.PossibleAnswers.{possible}
 use Rattle.pv_query.proofs.answers.possible.Goals as goal
 
 pub loop-case-init : goal.loop-case-init

@@ -9,9 +9,9 @@ pub returns-in_default-clause-fault : goal.returns-in_default-clause-fault
 returns-in_default-clause-fault c = λ text same. (
   sites_expected,
   refl,
-  lacks-sites text c.behind.result
+  lacks-sites text c.after_last.result
       (sym (ap (λ (left : LinesLeft). left.numbered) same) ∙ c.in_default.ensures.none)
-      (c.behind.ensures ∙ c.in_default.ensures.behind ∙ ap (λ (left : LinesLeft). left.behind) same),
+      (c.after_last.ensures ∙ c.in_default.ensures.after_last ∙ ap (λ (left : LinesLeft). left.after_last) same),
 )
 
 pub returns-in-Err-clause-fault : goal.returns-in-Err-clause-fault

@@ -3,14 +3,14 @@ use Rattle.std.proofs.Common.{ℕ, List, sym, ap, ◌∙◌, refl, subst, map, a
 use Rattle.std.proofs.lemmas.List.{length-map}
 use Rattle.std.proofs.lemmas.Result.{err_from_is_err_and}
 use Rattle.pv_model.specs.FirstFault.{without_numbers}
-use Rattle.pv_model.specs.Schedule.{AreLines, counted}
-use Rattle.pv_model.specs.Text.{Line}
+use Rattle.pv_model.specs.Schedule.{AreLines, significant}
+use Rattle.pv_model.specs.Text.{TextLine}
 use Rattle.pv_script.specs.LinesLeft.{LinesLeft}
 use Rattle.pv_script.specs.Said.{before_of}
 use Rattle.pv_script.specs.View.{event_of}
 use Rattle.pv_script.proofs.CountLemmas.{few-events}
 use Rattle.pv_script.proofs.FaultLemmas.{IsAtFaultFrom, fault-takes, lines-takes, refuses-line}
-use Rattle.pv_model.proofs.OneScheduleLemmas.{one_schedule, no_fault}
+use Rattle.pv_law_schedules.proofs.OneScheduleLemmas.{one_schedule, no_fault}
 use Rattle.pv_script.proofs.ScheduleLemmas.{lines-first, fault-first, plans-takes, begun-takes, IsSchedule-read, error-no_schedule, error-one_fault}
 use Rattle.pv_script.proofs.read.read_schedule.Goals as goal
 
@@ -40,11 +40,11 @@ loop-line-preserved c = (
   c.in_ok-read_line.ensures.limited,
   λ more last are.
       lines-takes (before_of c.loop-line.said) (before_of c.read_line.new.said) c.read_line.new.said.catalog c.loop-line.events.items c.read_line.new.events.items c.in-Some.line.text.now
-      (without_numbers c.next.new.self.numbered) (counted c.args.text.now) more last c.in_ok-read_line.ensures.takes
-      (λ more last are. c.loop-line.invariant.1 more last (subst (λ (all : List (ℕ × Line)). AreLines (before_of c.loop-line.said) (without_numbers all) more last) (sym c.in-Some.ensures.some) are)) are,
+      (without_numbers c.next.new.self.numbered) (significant c.args.text.now) more last c.in_ok-read_line.ensures.takes
+      (λ more last are. c.loop-line.invariant.1 more last (subst (λ (all : List (ℕ × TextLine)). AreLines (before_of c.loop-line.said) (without_numbers all) more last) (sym c.in-Some.ensures.some) are)) are,
   λ number cause is.
       c.loop-line.invariant.2 number cause
-      (subst (λ (all : List (ℕ × Line)). IsAtFaultFrom (before_of c.loop-line.said) all number cause) (sym c.in-Some.ensures.some)
+      (subst (λ (all : List (ℕ × TextLine)). IsAtFaultFrom (before_of c.loop-line.said) all number cause) (sym c.in-Some.ensures.some)
       (fault-takes (before_of c.loop-line.said) (before_of c.read_line.new.said) c.read_line.new.said.catalog c.loop-line.events.items c.read_line.new.events.items c.in-Some.line.number c.in-Some.line.text.now
       c.next.new.self.numbered number cause c.in_ok-read_line.ensures.takes is)),
   plans-takes (before_of c.loop-line.said) (before_of c.read_line.new.said) c.in-Some.line.text.now c.loop-line.said.catalog c.read_line.new.said.catalog c.loop-line.events.items c.read_line.new.events.items
@@ -58,7 +58,7 @@ returns-in_err-read_line-clause-refused c =
     let p = err_from_is_err_and c.from_residual-in_err-read_line.result c.from_residual-in_err-read_line.ensures.1 in
     rw (p.1, p.2)
     (refuses-line c.args.text.now (before_of c.loop-line.said) c.in-Some.line.number c.in-Some.line.text.now c.next.new.self.numbered c.in_err-read_line.field-0.0
-    (λ n cause is. c.loop-line.invariant.2 n cause (subst (λ (all : List (ℕ × Line)). IsAtFaultFrom (before_of c.loop-line.said) all n cause) (sym c.in-Some.ensures.some) is))
+    (λ n cause is. c.loop-line.invariant.2 n cause (subst (λ (all : List (ℕ × TextLine)). IsAtFaultFrom (before_of c.loop-line.said) all n cause) (sym c.in-Some.ensures.some) is))
     c.in_err-read_line.ensures.fault)
 
 pub returns-in_err-read_line-clause-read : goal.returns-in_err-read_line-clause-read
@@ -68,7 +68,7 @@ returns-in_err-read_line-clause-read c = λ schedule whole.
       tt,
       error-no_schedule c.args.text.now schedule c.in_err-read_line.field-0.0
           (refuses-line c.args.text.now (before_of c.loop-line.said) c.in-Some.line.number c.in-Some.line.text.now c.next.new.self.numbered c.in_err-read_line.field-0.0
-          (λ n cause is. c.loop-line.invariant.2 n cause (subst (λ (all : List (ℕ × Line)). IsAtFaultFrom (before_of c.loop-line.said) all n cause) (sym c.in-Some.ensures.some) is))
+          (λ n cause is. c.loop-line.invariant.2 n cause (subst (λ (all : List (ℕ × TextLine)). IsAtFaultFrom (before_of c.loop-line.said) all n cause) (sym c.in-Some.ensures.some) is))
           c.in_err-read_line.ensures.fault) whole,
     )
 
@@ -79,7 +79,7 @@ returns-in_err-read_line-clause-refuses c = λ number fault whole.
       tt,
       error-one_fault c.args.text.now number fault c.in_err-read_line.field-0.0
           (refuses-line c.args.text.now (before_of c.loop-line.said) c.in-Some.line.number c.in-Some.line.text.now c.next.new.self.numbered c.in_err-read_line.field-0.0
-          (λ n cause is. c.loop-line.invariant.2 n cause (subst (λ (all : List (ℕ × Line)). IsAtFaultFrom (before_of c.loop-line.said) all n cause) (sym c.in-Some.ensures.some) is))
+          (λ n cause is. c.loop-line.invariant.2 n cause (subst (λ (all : List (ℕ × TextLine)). IsAtFaultFrom (before_of c.loop-line.said) all n cause) (sym c.in-Some.ensures.some) is))
           c.in_err-read_line.ensures.fault) whole,
     )
 

@@ -1,9 +1,9 @@
 -- What is read from what is left is read from all behind the events so far, and what is at fault there is so in the text.
 use Rattle.std.proofs.Common.{◌≡◌, ℕ, false, List, [], ◌++◌, length, map, All}
-use Rattle.pv_model.specs.Causes.{Before, at_first, Cause}
+use Rattle.pv_model.specs.Causes.{Before, at_first, LineCause}
 use Rattle.pv_model.specs.Events as model
 use Rattle.pv_model.specs.FirstFault.{without_numbers}
-use Rattle.pv_model.specs.Schedule.{AreLines, counted, IsAtFault}
+use Rattle.pv_model.specs.Schedule.{AreLines, significant, IsAtFault}
 use Rattle.pv_script.specs.Said.{before_of, IsLimited}
 use Rattle.pv_script.specs.View.{event_of, HasPlan}
 use Rattle.pv_script.proofs.FaultLemmas.{IsAtFaultFrom}
@@ -13,8 +13,8 @@ abbrev pub invariant-loop-line : goal.invariant-loop-line
 invariant-loop-line l =
     IsLimited l.said
     × ((more : List model.Event) (last : Before) → AreLines (before_of l.said) (without_numbers l.lines.numbered) more last
-    → AreLines at_first (counted l.text) (map event_of l.events.items ++ more) last)
-    × ((number : ℕ) (cause : Cause) → IsAtFaultFrom (before_of l.said) l.lines.numbered number cause → IsAtFault l.text number cause)
+    → AreLines at_first (significant l.text) (map event_of l.events.items ++ more) last)
+    × ((number : ℕ) (cause : LineCause) → IsAtFaultFrom (before_of l.said) l.lines.numbered number cause → IsAtFault l.text number cause)
     × All (HasPlan l.said.catalog) l.events.items
     × (l.said.begun ≡ false → l.events.items ≡ [])
 

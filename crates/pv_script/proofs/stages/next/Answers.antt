@@ -2,7 +2,7 @@
 use Rattle.std.proofs.Common.{◌≡◌, Bool, Option, Some, None, cond, true, false, sym, ap, ◌∙◌}
 use Rattle.std.specs.Bool.{then_some}
 use Rattle.std.specs.Option.{option_map}
-use Rattle.pv_model.specs.Form as model
+use Rattle.pv_script.specs.Form as model
 use Rattle.pv_script.specs.Faults.{texts}
 use Rattle.pv_script.specs.Stages.{stage_of}
 use Rattle.pv_script.specs.declared.stages.Stage.{Stage}
@@ -20,7 +20,7 @@ returns-in-Sites c = λ line same.
     (any-if c.then_some.result c.is_one_site.result (model.is_one_site (texts c.args.words.now)) c.then_some.ensures c.is_one_site.ensures ∙ sym (stage-sites line (texts c.args.words.now) same))
 
 pub returns-in-Any : goal.returns-in-Any
-returns-in-Any c = λ line same. rw c.in-Any.is (c.behind_any.ensures ∙ sym (stage-any line (texts c.args.words.now) same))
+returns-in-Any c = λ line same. rw c.in-Any.is (c.after_any.ensures ∙ sym (stage-any line (texts c.args.words.now) same))
 
 pub returns-in-Pump : goal.returns-in-Pump
 returns-in-Pump c = λ line same.

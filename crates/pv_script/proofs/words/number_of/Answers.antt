@@ -1,6 +1,6 @@
 -- `parse` reads digits alone.
 use Rattle.std.proofs.Common.{sym, ◌∙◌}
-use Rattle.pv_model.proofs.NumberLemmas.{IsUtf8-digits, number-parsed, utf8-read, utf8-text}
+use Rattle.pv_law_programs.proofs.NumberLemmas.{IsUtf8-digits, number-parsed, utf8-read, utf8-text}
 use Rattle.pv_script.proofs.words.number_of.Goals as goal
 
 pub returns-in_err-ok-clause-none : goal.returns-in_err-ok-clause-none

@@ -3,7 +3,7 @@ use Rattle.std.proofs.Common.{sym, ◌∙◌, IsTrue}
 use Rattle.std.specs.List.{list_all}
 use Rattle.pv_base.specs.Name.{is_digit}
 use Rattle.pv_model.specs.Text.{digits_of}
-use Rattle.pv_model.proofs.NumberLemmas.{IsUtf8-signed, signed-parsed, utf8-read, utf8-text}
+use Rattle.pv_law_programs.proofs.NumberLemmas.{IsUtf8-signed, signed-parsed, utf8-read, utf8-text}
 use Rattle.pv_script.proofs.words.signed_of.Goals as goal
 
 pub returns-in_err-ok-clause-none : goal.returns-in_err-ok-clause-none

@@ -4,7 +4,7 @@ use Rattle.std.specs.List.{Contains}
 use Rattle.pv_base.specs.declared.txn.TxnId.{TxnId}
 use Rattle.pv_ast.specs.ReplyView.{reply_of}
 use Rattle.pv_model.specs.Alternatives.{all_cases}
-use Rattle.pv_model.proofs.NameLemmas.{listed-named}
+use Rattle.pv_law_polyvalues.proofs.NameLemmas.{listed-named}
 use Rattle.pv_split.specs.Columns.{effects_at}
 use Rattle.pv_split.proofs.EffectLemmas.{length-effects}
 use Rattle.pv_split.proofs.WriteLemmas.{replied-everywhere}

@@ -3,7 +3,7 @@ use Rattle.std.proofs.Common.{List, ap, ◌∙◌}
 use Rattle.pv_model.specs.Alternatives.{rows_at}
 use Rattle.pv_model.specs.Items.{lacks}
 use Rattle.pv_model.specs.Meaning.{Row, exec}
-use Rattle.pv_model.proofs.ProgramLemmas.{unassigned_keeps_value}
+use Rattle.pv_law_programs.proofs.ProgramLemmas.{unassigned_keeps_value}
 use Rattle.pv_split.proofs.LawLemmas.{lacks-unassigned}
 use Rattle.pv_split.proofs.laws.leaves_what_is_not_written.Goals as goal
 

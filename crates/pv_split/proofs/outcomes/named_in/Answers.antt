@@ -1,7 +1,7 @@
 -- Read by read, and then in order, they are the names.
 use Rattle.std.proofs.Common.{ap, ◌∙◌}
 use Rattle.pv_model.specs.Alternatives.{Read, all_cases}
-use Rattle.pv_poly.proofs.OrderedNames.{AreNames-ordered}
+use Rattle.pv_cases.proofs.OrderedNames.{AreNames-ordered}
 use Rattle.pv_split.proofs.OutcomeLemmas.{txns-next, txns-end}
 use Rattle.pv_split.proofs.outcomes.named_in.Goals as goal
 

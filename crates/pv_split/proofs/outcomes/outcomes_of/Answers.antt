@@ -1,6 +1,6 @@
 -- The reads name as many outcomes as were counted.
 use Rattle.std.proofs.Common.{◌≡◌, ◌≢◌, ◌<◌, ◌⊎◌, ℕ, Err, IfErr, subst, sym}
-use Rattle.pv_base.specs.declared.faults.TheConstants.{READ_NAMES}
+use Rattle.pv_base.specs.declared.limits.TheConstants.{READ_NAMES}
 use Rattle.pv_split.specs.declared.joining.SplitError.TheVariants.{OutcomeLimit, NoMemory}
 use Rattle.pv_split.proofs.OutcomeLemmas.{same_count}
 use Rattle.pv_split.proofs.outcomes.outcomes_of.Goals as goal

@@ -3,7 +3,7 @@ use Rattle.std.proofs.Common.{List, subst}
 use Rattle.pv_ast.specs.declared.effect.Reply.{Reply}
 use Rattle.pv_ast.specs.ReplyView.{reply_of}
 use Rattle.pv_base.specs.Polyvalue.{AreValues}
-use Rattle.pv_base.specs.declared.faults.TheConstants.{HELD_NAMES, READ_NAMES}
+use Rattle.pv_base.specs.declared.limits.TheConstants.{HELD_NAMES, READ_NAMES}
 use Rattle.pv_split.proofs.WriteLemmas.{replies-at, over_ok, over_both_ok, IsPolyvalue-within}
 use Rattle.pv_split.proofs.writes.reply_over.Goals as goal
 

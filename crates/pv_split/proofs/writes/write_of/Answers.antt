@@ -1,5 +1,5 @@
 -- The write names no more than the transactions, which are few.
-use Rattle.pv_base.specs.declared.faults.TheConstants.{HELD_NAMES, READ_NAMES}
+use Rattle.pv_base.specs.declared.limits.TheConstants.{HELD_NAMES, READ_NAMES}
 use Rattle.pv_split.proofs.WriteLemmas.{IsPolyvalue-within}
 use Rattle.pv_split.proofs.writes.write_of.Goals as goal
 

@@ -1,7 +1,7 @@
 -- Read by read, the row is written where the program assigns the item, and else left out.
 use Rattle.std.proofs.Common.{All, List, ap, sym, subst, ◌≡◌, ◌∙◌, length}
 use Rattle.pv_base.specs.Polyvalue.{IsPolyvalue}
-use Rattle.pv_base.specs.declared.faults.TheConstants.{READ_NAMES}
+use Rattle.pv_base.specs.declared.limits.TheConstants.{READ_NAMES}
 use Rattle.pv_model.specs.Alternatives.{Read, rows_at}
 use Rattle.pv_model.specs.ProgramLaws.{assigns}
 use Rattle.pv_split.proofs.EffectLemmas.{length-effects}

@@ -1,7 +1,7 @@
 -- The rows so far are written, each write names only the transactions, and each is a polyvalue.
 use Rattle.std.proofs.Common.{◌≡◌, List, take, All}
 use Rattle.pv_base.specs.Polyvalue.{IsPolyvalue}
-use Rattle.pv_base.specs.declared.faults.TheConstants.{READ_NAMES}
+use Rattle.pv_base.specs.declared.limits.TheConstants.{READ_NAMES}
 use Rattle.pv_base.specs.declared.txn.TxnId.{TxnId}
 use Rattle.pv_model.specs.Alternatives.{rows_at, assigned}
 use Rattle.pv_split.proofs.WriteLemmas.{after, NamesOnly}

@@ -7,20 +7,20 @@ use Rattle.pv_parse.specs.ChainView.{chain_of}
 use Rattle.pv_parse.proofs.ExpressionLemmas.{ChainSoFar}
 use Rattle.pv_parse.proofs.parser.Parser.+expression.Given as goal
 
-abbrev rank : Chain → ℕ
-rank Product = 3
-rank Sum = 5
-rank Conjunction = 9
-rank Disjunction = 11
+abbrev chain_level : Chain → ℕ
+chain_level Product = 3
+chain_level Sum = 5
+chain_level Conjunction = 9
+chain_level Disjunction = 11
 
 abbrev below : ℕ → ℕ
 below depth = (33 - depth) * 13
 
 abbrev pub decreases-chain : goal.decreases-chain
-decreases-chain l = below l.depth + (rank l.chain + 1)
+decreases-chain l = below l.depth + (chain_level l.chain + 1)
 
 abbrev pub decreases-side : goal.decreases-side
-decreases-side l = below l.depth + rank l.chain
+decreases-side l = below l.depth + chain_level l.chain
 
 abbrev pub decreases-negated : goal.decreases-negated
 decreases-negated l = below l.depth + 8

@@ -22,12 +22,12 @@ pub returns-in_err-value-clause-stops : goal.returns-in_err-value-clause-stops
 returns-in_err-value-clause-stops c =
     let p = err_from_is_err_and c.from_residual-in_err-value.result c.from_residual-in_err-value.ensures.1 in
     let named = c.in_ok-item.ensures in
-    let mark = rw named.passed at c.in_ok-expect.ensures.passed in
+    let punctuation = rw named.passed at c.in_ok-expect.ensures.passed in
     rw (p.1, p.2)
-    (stops-assign-value c.args.self.now c.args.word.now c.in_ok-item.item.0 c.args.depth c.args.column c.args.tokens.now _ _ _ c.requires.next named.item named.shallow mark c.in_err-value.ensures.stops)
+    (stops-assign-value c.args.self.now c.args.word.now c.in_ok-item.item.0 c.args.depth c.args.column c.args.tokens.now _ _ _ c.requires.next named.item named.shallow punctuation c.in_err-value.ensures.stops)
 
 pub returns-clause-read : goal.returns-clause-read
 returns-clause-read c =
     let named = c.in_ok-item.ensures in
-    let mark = rw named.passed at c.in_ok-expect.ensures.passed in
-    reads-assign c.args.self.now c.args.word.now c.args.depth c.args.column c.args.tokens.now _ _ _ c.in_ok-item.item c.in_ok-value.value c.requires.next named.item named.shallow mark c.in_ok-value.ensures.read
+    let punctuation = rw named.passed at c.in_ok-expect.ensures.passed in
+    reads-assign c.args.self.now c.args.word.now c.args.depth c.args.column c.args.tokens.now _ _ _ c.in_ok-item.item c.in_ok-value.value c.requires.next named.item named.shallow punctuation c.in_ok-value.ensures.read

@@ -1,6 +1,6 @@
 use Rattle.std.proofs.Common.{subst}
 use Rattle.pv_base.specs.Polyvalue.{IsCanonical}
-use Rattle.pv_poly.proofs.PolyvalueFacts.{some-met}
+use Rattle.pv_cases.proofs.PolyvalueFacts.{some-met}
 use Rattle.pv_poly.proofs.poly.Poly.at.Goals as goal
 
 pub unreachable-requires : goal.unreachable-requires

@@ -2,7 +2,7 @@ use Rattle.std.proofs.Common.{◌+◌, ◌≤◌, ℕ, sym, ap, ◌∙◌, subst
 use Rattle.std.proofs.lemmas.Bool.{false≢true}
 use Rattle.pv_base.specs.Polyvalue.{Case, IsPolyvalue}
 use Rattle.pv_base.specs.declared.faults.NameError.TheVariants.{TooManyOutcomes}
-use Rattle.pv_poly.proofs.CountLemmas.{refused-count, chosen-polyvalue, same-few}
+use Rattle.pv_cases.proofs.CountLemmas.{refused-count, chosen-polyvalue, same-few}
 use Rattle.pv_poly.proofs.poly.Poly.choose.Goals as goal
 
 pub returns-then-same-clause-refuses : goal.returns-then-same-clause-refuses

@@ -1,8 +1,8 @@
 -- What is wrong with cases that have to be canonical.
 use Rattle.std.proofs.Common.{inr}
 use Rattle.std.proofs.lemmas.Result.{err_from_is_err_and}
-use Rattle.pv_base.specs.declared.faults.TheConstants.{HELD_NAMES}
-use Rattle.pv_poly.proofs.CanonicalFaultLemmas.{refused-too, refuses-too, canonical-fault, unreduced-told, unreduced-alone}
+use Rattle.pv_base.specs.declared.limits.TheConstants.{HELD_NAMES}
+use Rattle.pv_cases.proofs.CanonicalFaultLemmas.{refused-too, refuses-too, canonical-fault, unreduced-told, unreduced-alone}
 use Rattle.pv_poly.proofs.poly.Poly.from_cases.Goals as goal
 
 pub returns-in_err-poly-clause-refused : goal.returns-in_err-poly-clause-refused

@@ -1,5 +1,5 @@
-use Rattle.pv_base.specs.declared.faults.TheConstants.{HELD_NAMES}
-use Rattle.pv_poly.proofs.PolyvalueFacts.{polyvalue-within}
+use Rattle.pv_base.specs.declared.limits.TheConstants.{HELD_NAMES}
+use Rattle.pv_cases.proofs.PolyvalueFacts.{polyvalue-within}
 use Rattle.pv_poly.proofs.poly.Poly.from_table.Goals as goal
 
 pub invariant_of-result : goal.invariant_of-result

@@ -2,7 +2,7 @@ use Rattle.std.proofs.Common.{◌≡◌, sym, subst, List, IsTrue}
 use Rattle.std.proofs.lemmas.Result.{IfOk-weaker}
 use Rattle.pv_base.specs.Polyvalue.{Case, names, NamesAtMost}
 use Rattle.pv_base.specs.declared.txn.TxnId.{TxnId}
-use Rattle.pv_model.proofs.NameLemmas.{NamesAtMost-fewer}
+use Rattle.pv_law_polyvalues.proofs.NameLemmas.{NamesAtMost-fewer}
 use Rattle.pv_poly.proofs.poly.Poly.settled.Goals as goal
 
 pub returns-clause-few : goal.returns-clause-few

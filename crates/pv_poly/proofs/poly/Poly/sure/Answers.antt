@@ -1,4 +1,4 @@
-use Rattle.pv_poly.proofs.CountLemmas.{sure-polyvalue}
+use Rattle.pv_cases.proofs.CountLemmas.{sure-polyvalue}
 use Rattle.pv_poly.proofs.poly.Poly.sure.Goals as goal
 
 pub invariant_of-result : goal.invariant_of-result

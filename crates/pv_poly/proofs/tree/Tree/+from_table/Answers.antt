@@ -4,7 +4,8 @@ use Rattle.std.specs.List.{Contains}
 use Rattle.std.proofs.lemmas.Result.{IfOk-weaker}
 use Rattle.pv_base.specs.declared.txn.TxnId.{TxnId}
 use Rattle.pv_base.specs.Polyvalue.{names, IsCanonical, sure, IsChoice, AreValues}
-use Rattle.pv_poly.proofs.TableSteps.{ascending-rest, values-choice, rest-behind, names-listed, half}
+use Rattle.pv_cases.proofs.PartingLemmas.{ascending-rest}
+use Rattle.pv_poly.proofs.TableSteps.{values-choice, rest-behind, names-listed, half}
 use Rattle.pv_poly.proofs.tree.Tree.+from_table.Goals as goal
 
 pub returns-in_default-clause-canonical : goal.returns-in_default-clause-canonical

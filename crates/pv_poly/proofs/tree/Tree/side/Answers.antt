@@ -1,6 +1,6 @@
 use Rattle.std.proofs.Common.{sym, ◌∙◌}
 use Rattle.std.proofs.lemmas.Bool.{false≢true}
-use Rattle.pv_poly.proofs.TxnTests.{equal-txns, unequal-txns}
+use Rattle.pv_cases.proofs.TxnTests.{equal-txns, unequal-txns}
 use Rattle.pv_poly.proofs.TopOfTree.{at_Test}
 use Rattle.pv_poly.proofs.TestLemmas.{at-sure, reduced-canonical, front-side, back-side, whole-side, behind-other, side-is}
 use Rattle.pv_poly.proofs.tree.Tree.side.Goals as goal

@@ -2,7 +2,7 @@
 use Rattle.std.proofs.Common.{◌^◌, get_or, sym, subst}
 use Rattle.std.specs.Prelude.{pos, ◌+ℤ◌, All}
 use Rattle.std.specs.Ordering.{int_eq}
-use Rattle.pv_model.specs.Answers.{without_repeats}
+use Rattle.pv_model.specs.PossibleAnswers.{without_repeats}
 use Rattle.pv_query.specs.Sums.{totals, IsWithin}
 use Rattle.pv_query.proofs.RepeatLemmas.{left-start, left-step, left-end}
 use Rattle.pv_query.proofs.SumLemmas.{numbers-exact, whole-place, element-itself}

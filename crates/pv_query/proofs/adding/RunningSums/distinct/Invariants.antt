@@ -2,7 +2,7 @@
 use Rattle.std.proofs.Common.{◌≡◌, drop}
 use Rattle.std.specs.Prelude.{◌++◌, ◌+ℤ◌, map}
 use Rattle.std.specs.Ordering.{int_eq}
-use Rattle.pv_model.specs.Answers.{without_repeats}
+use Rattle.pv_model.specs.PossibleAnswers.{without_repeats}
 use Rattle.pv_query.specs.Sums.{totals}
 use Rattle.pv_query.proofs.RepeatLemmas.{left_of}
 use Rattle.pv_query.proofs.adding.RunningSums.distinct.Given as goal

@@ -5,8 +5,8 @@ use Rattle.pv_base.specs.Catalog.{Declared}
 use Rattle.pv_model.specs.Causes.{declared_by}
 use Rattle.pv_model.specs.ProgramText.{IsProgramText, IsRefused}
 use Rattle.pv_parse.specs.Refusals.{refusal_of}
-use Rattle.pv_model.proofs.DeclaredItems.{declared-items}
-use Rattle.pv_model.proofs.ItemLemmas.{some_items}
+use Rattle.pv_law_programs.proofs.DeclaredItems.{declared-items}
+use Rattle.pv_law_programs.proofs.ItemLemmas.{some_items}
 use Rattle.pv_script.specs.Faults.{texts}
 use Rattle.pv_script.specs.Said.{before_of, IsLimited}
 use Rattle.pv_script.specs.declared.said.Said.{Said}

@@ -1,0 +1,4 @@
+pub mod Joining
+pub mod Meetings
+pub mod Names
+pub mod Partings

@@ -1,0 +1,148 @@
+// Worked lists of cases, and that calls which want memory have their answer where there is some.
+ghost use Rattle.std.specs.Prelude.{◌≡◌, ◌<◌, ◌^◌, true, length, map};
+ghost use Rattle.std.specs.List.{sum};
+
+use super::*;
+use crate::meetings::{Meeting, assignment_at, meetings};
+use pv_base::{Case, CaseError, Literal, NoMemory, SiteId, TxnId};
+use std::alloc::Global;
+use std::test::Fail;
+
+// The first transaction of a site.
+fn txn(site: u8) -> TxnId {
+    TxnId {
+        site: SiteId(site),
+        epoch: 1,
+        number: 0,
+    }
+}
+
+fn commits(site: u8) -> Literal {
+    Literal {
+        txn: txn(site),
+        commits: true,
+    }
+}
+
+fn aborts(site: u8) -> Literal {
+    Literal {
+        txn: txn(site),
+        commits: false,
+    }
+}
+
+fn case(alloc: Global, when: &[Literal], value: i64) -> Result<Case<i64>, NoMemory> {
+    let when = Vec::from_slice(alloc, when)?;
+    Ok(Case { when, value })
+}
+
+// Whether the cases and their literals are as few as joining them wants; in a test they are.
+fn are_few(cases: &[Case<i64>]) -> bool
+    ensures { result ≡ true → (length cases.now < 2 ^ 32) × (sum (map (λ case. length case.when) cases.now) < 2 ^ 32) }
+{
+    if cases.len() > 256 {
+        return false;
+    }
+    let mut literals = 0;
+    for case in cases {
+        if case.when.len() > 256 {
+            return false;
+        }
+        literals += case.when.len() as u32;
+    }
+    true
+}
+
+// The cases, each with these literals and this value.
+fn listed(alloc: Global, cases: &[(&[Literal], i64)]) -> Result<Vec<Case<i64>>, NoMemory> {
+    let mut list = Vec::new(alloc);
+    for (when, value) in cases {
+        list.push(case(alloc, when, *value)?)?;
+    }
+    Ok(list)
+}
+
+#[test]
+fn transactions_are_put_in_order(rt: HostRuntime) -> Result<(), Fail> {
+    let mut txns = Vec::new(rt.alloc());
+    for site in [2, 0, 2, 1, 0] {
+        txns.push(txn(site))?;
+    }
+    let txns = ordered(txns);
+    assert_eq!(rt; txns.as_slice(), [txn(0), txn(1), txn(2)].as_slice());
+    Ok(())
+}
+
+#[test]
+fn names_are_pushed_as_they_stand(rt: HostRuntime) -> Result<(), Fail> {
+    let alloc = rt.alloc();
+    let cases = listed(alloc, &[(&[aborts(0)], 50), (&[commits(0)], 60)])?;
+    let mut txns = Vec::new(alloc);
+    txns.push(txn(3))?;
+    push_names(&mut txns, &cases)?;
+    assert_eq!(rt; txns.as_slice(), [txn(3), txn(0), txn(0)].as_slice());
+    Ok(())
+}
+
+#[test]
+fn each_outcome_has_its_first_two_cases(rt: HostRuntime) -> Result<(), Fail> {
+    let alloc = rt.alloc();
+    let cases = listed(alloc, &[(&[aborts(0)], 1), (&[commits(0)], 2), (&[], 3)])?;
+    assert!(rt; are_few(&cases));
+    let txns = names_of(alloc, &cases)?;
+    let found = meetings(alloc, &cases, &txns)?;
+    let wanted = [
+        Meeting {
+            first: Some(0),
+            second: Some(2),
+        },
+        Meeting {
+            first: Some(1),
+            second: Some(2),
+        },
+    ];
+    assert_eq!(rt; found.as_slice(), wanted.as_slice());
+    Ok(())
+}
+
+#[test]
+fn the_first_transaction_is_the_most_significant(rt: HostRuntime) -> Result<(), Fail> {
+    let alloc = rt.alloc();
+    let txns = [txn(0), txn(1), txn(2)];
+    assert!(rt; assignment_at(alloc, &txns, 0)?.is_empty());
+    assert_eq!(rt;
+        assignment_at(alloc, &txns, 1)?.as_slice(),
+        [txn(2)].as_slice()
+    );
+    assert_eq!(rt;
+        assignment_at(alloc, &txns, 5)?.as_slice(),
+        [txn(0), txn(2)].as_slice()
+    );
+    assert_eq!(rt; assignment_at(alloc, &txns, 7)?.as_slice(), txns.as_slice());
+    Ok(())
+}
+
+#[test]
+fn cases_have_a_table(rt: HostRuntime) -> Result<(), Fail> {
+    let alloc = rt.alloc();
+    let cases = listed(alloc, &[(&[commits(1)], 60), (&[aborts(1)], 50)])?;
+    assert!(rt; are_few(&cases));
+    let table = table_of(alloc, &cases)?;
+    assert_eq!(rt; table.txns.as_slice(), [txn(1)].as_slice());
+    assert_eq!(rt; table.values.as_slice(), [50i64, 60].as_slice());
+    let refused = table_of(alloc, &[]);
+    assert!(rt; matches!(refused, Err(CaseError::NotComplete(_))));
+    Ok(())
+}
+
+#[test]
+fn both_lists_name_each_transaction_once(rt: HostRuntime) -> Result<(), Fail> {
+    let alloc = rt.alloc();
+    let cases = listed(alloc, &[(&[aborts(0)], 1), (&[commits(0)], 2)])?;
+    let others = listed(alloc, &[(&[aborts(1), aborts(0)], 1)])?;
+    let names = names_of(alloc, &cases)?;
+    assert_eq!(rt; names.as_slice(), [txn(0)].as_slice());
+    assert_eq!(rt; first_difference(&cases, &others), Some(0));
+    assert_eq!(rt; first_difference(&cases, &cases), None);
+    Ok(())
+}

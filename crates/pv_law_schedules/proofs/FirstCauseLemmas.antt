@@ -1,0 +1,145 @@
+-- A line that has a cause has a first one.
+use Rattle.std.proofs.Common.{◌≡◌, ◌⊎◌, ⊎_elim, ℕ, suc, ◌<◌, ◌≤◌, true, false, None, List, length, inl, inr, refl, sym, ap, subst, ◌∙◌, arith}
+use Rattle.std.specs.Prelude.{codes}
+use Rattle.std.specs.List.{list_all, Contains}
+use Rattle.std.proofs.lemmas.Bool.{false≢true}
+use Rattle.pv_base.specs.Catalog.{place_of}
+use Rattle.pv_base.specs.Name.{is_name}
+use Rattle.pv_model.specs.Causes as causes
+use Rattle.pv_model.specs.Causes.{Before, or_default, LineCause, line_cause_rank, HasLineCause, IsFirstCause, mode_words}
+use Rattle.pv_model.specs.Check.{names, has_assignment, has_return}
+use Rattle.pv_model.specs.LineForms.{fields_of, first_word, forms_of, form_of, has_good_number}
+use Rattle.pv_model.specs.Syntax.{Program}
+use Rattle.pv_model.specs.Text.{TextLine, is_text_byte}
+use Rattle.pv_law_programs.proofs.ItemLemmas.{some_items}
+use Rattle.pv_law_schedules.proofs.OneCauseLemmas.{says_more, plain_of, plain-cause}
+use Rattle.pv_law_schedules.proofs.SomeCauseLemmas.{Told, told-bool, told-and, told-or, told-not, told-nothing, told-empty, told-bytes, told-less, told-contains, told-mode, told-name, AtProgram, some-program, told-fault, told-program, told-no_items, NamesMany, told-many}
+
+-- Whether a line has a cause that says nothing more.
+
+begins : (word : List ℕ) (line : TextLine) → Told (first_word line ≡ word)
+begins word line = told-bytes (first_word line) word
+
+abbrev BeginsRequest : TextLine → (Program → Type 0) → Program → Type 0
+BeginsRequest line Q p = (first_word line ≡ codes "query") × Q p
+
+told-request : (before : Before) (line : TextLine) (Q : Program → Type 0) → ((p : Program) → Told (Q p)) → Told ((p : Program) × causes.HasProgram before line p × BeginsRequest line Q p)
+told-request before line Q told = told-program before line (BeginsRequest line Q) (λ p. told-and (begins (codes "query") line) (told p)) (some-program before line)
+
+told-as : {P Q : Type 0} → (P → Q) → (Q → P) → Told P → Told Q
+told-as to from (inl p) = inl (to p)
+told-as to from (inr isnt) = inr (λ q. isnt (from q))
+
+told-cause : (before : Before) (line : TextLine) (c : LineCause) → says_more (line_cause_rank c) ≡ false → Told (HasLineCause before line c)
+told-cause before line causes.too_long e = told-less 1000 (length line)
+told-cause before line causes.not_text e = told-bool (list_all is_text_byte line) false
+told-cause before line causes.sites_expected e = told-and (told-nothing before.sites) (told-not (begins (codes "sites") line))
+told-cause before line causes.unknown_word e = told-empty (forms_of (first_word line))
+told-cause before line causes.twice e =
+    told-or (told-and (begins (codes "sites") line) (told-not (told-nothing before.sites))) (told-and (begins (codes "journal") line) (told-not (told-nothing before.journal)))
+told-cause before line causes.too_late e = told-and (told-or (begins (codes "journal") line) (begins (codes "item") line)) (told-bool before.begun true)
+told-cause before line causes.wrong_count e = told-nothing (form_of line)
+told-cause before line causes.bad_number e = told-bool (list_all (has_good_number (or_default 0 before.sites)) (fields_of line)) false
+told-cause before line causes.bad_mode e = told-mode (λ w. Contains mode_words w → ⊥) (λ w. told-not (told-contains mode_words w)) line
+told-cause before line causes.bad_name e = told-name (λ w. is_name w ≡ false) (λ w. told-bool (is_name w) false) line
+told-cause before line causes.name_taken e = told-name (λ w. place_of w before.items ≡ None → ⊥) (λ w. told-not (told-nothing (place_of w before.items))) line
+told-cause before line causes.too_many_items e = told-and (begins (codes "item") line) (told-as (λ l. omega (arith, l)) (λ l. omega (arith, l)) (told-less 1023 (length before.items)))
+told-cause before line (causes.at_program kind column) e = absurd (false≢true (sym e))
+told-cause before line causes.names_no_item e =
+    told-program before line (λ p. (n : ℕ) → names p n ≡ false) (λ p. let some = some_items p in told-no_items p some.0 some.1) (some-program before line)
+told-cause before line (causes.too_many_names n) e = absurd (false≢true (sym e))
+told-cause before line causes.query_assigns e =
+    told-as (λ h. (h.0, h.1, h.2.0, h.2.1)) (λ h. (h.0, h.1, (h.2, h.3))) (told-request before line (λ p. has_assignment p ≡ true) (λ p. told-bool (has_assignment p) true))
+told-cause before line causes.no_return e =
+    told-as (λ h. (h.0, h.1, h.2.0, h.2.1)) (λ h. (h.0, h.1, (h.2, h.3))) (told-request before line (λ p. has_return p ≡ false) (λ p. told-bool (has_return p) false))
+
+-- Whether a line has a cause of a rank.
+
+abbrev HasAt : Before → TextLine → ℕ → Type 0
+HasAt before line r = (c : LineCause) × HasLineCause before line c × (line_cause_rank c ≡ r)
+
+plain-at : (before : Before) (line : TextLine) (c : LineCause) → says_more (line_cause_rank c) ≡ false → Told (HasAt before line (line_cause_rank c))
+plain-at before line c plain =
+    ⊎_elim (λ has. inl (c, has, refl))
+    (λ none. inr (λ h.
+    let same : h.0 ≡ c = plain-cause h.0 (ap says_more h.2 ∙ plain) ∙ ap plain_of h.2 ∙ sym (plain-cause c plain) in
+    none (subst (HasLineCause before line) same h.1)))
+    (told-cause before line c plain)
+
+no-fault-at : (before : Before) (line : TextLine) → (AtProgram before line → ⊥) → (c : LineCause) → HasLineCause before line c → line_cause_rank c ≡ 12 → ⊥
+no-fault-at before line none (causes.at_program kind column) has e = none (kind, column, has)
+no-fault-at before line none c has e = omega (arith, e)
+
+fault-at : (before : Before) (line : TextLine) → Told (HasAt before line 12)
+fault-at before line =
+    ⊎_elim (λ h. inl (causes.at_program h.0 h.1, h.2, refl)) (λ none. inr (λ h. no-fault-at before line none h.0 h.1 h.2)) (told-fault before line (some-program before line))
+
+abbrev AtMany : Before → TextLine → Type 0
+AtMany before line = (p : Program) × causes.HasProgram before line p × NamesMany p
+
+no-many-at : (before : Before) (line : TextLine) → (AtMany before line → ⊥) → (c : LineCause) → HasLineCause before line c → line_cause_rank c ≡ 14 → ⊥
+no-many-at before line none (causes.too_many_names n) has e =
+    none (has.0, has.1, (has.2, has.3, subst (λ (m : ℕ). 16 < m) has.4 has.5))
+no-many-at before line none c has e = omega (arith, e)
+
+many-at : (before : Before) (line : TextLine) → Told (HasAt before line 14)
+many-at before line =
+    ⊎_elim (λ h. inl (causes.too_many_names (length h.2.0), (h.0, h.1, h.2.0, h.2.1, refl, h.2.2), refl)) (λ none. inr (λ h. no-many-at before line none h.0 h.1 h.2))
+    (told-program before line NamesMany told-many (some-program before line))
+
+-- The causes are told from the first to the last.
+
+abbrev From : Before → TextLine → ℕ → Type 0
+From before line r = (c : LineCause) → HasLineCause before line c → r ≤ line_cause_rank c
+
+abbrev pub SomeFirst : Before → TextLine → Type 0
+SomeFirst before line = ((c : LineCause) × IsFirstCause before line c) ⊎ ((c : LineCause) → HasLineCause before line c → ⊥)
+
+first-at : (before : Before) (line : TextLine) (r : ℕ) → Told (HasAt before line r) → (From before line (suc r) → SomeFirst before line) → From before line r → SomeFirst before line
+first-at before line r (inl h) next from = inl (h.0, record { has = h.1; first = λ other has. omega (arith, h.2, from other has) })
+first-at before line r (inr none) next from =
+    next (λ c has. let low = from c has in let isnt : line_cause_rank c ≡ r → ⊥ = λ e. none (c, has, e) in above r (line_cause_rank c) low isnt)
+  where
+    above : (r n : ℕ) → r ≤ n → (n ≡ r → ⊥) → suc r ≤ n
+    above r n low isnt = omega (arith, low, isnt)
+
+rank-below : (c : LineCause) → line_cause_rank c ≤ 16
+rank-below causes.too_long = omega arith
+rank-below causes.not_text = omega arith
+rank-below causes.sites_expected = omega arith
+rank-below causes.unknown_word = omega arith
+rank-below causes.twice = omega arith
+rank-below causes.too_late = omega arith
+rank-below causes.wrong_count = omega arith
+rank-below causes.bad_number = omega arith
+rank-below causes.bad_mode = omega arith
+rank-below causes.bad_name = omega arith
+rank-below causes.name_taken = omega arith
+rank-below causes.too_many_items = omega arith
+rank-below (causes.at_program kind column) = omega arith
+rank-below causes.names_no_item = omega arith
+rank-below (causes.too_many_names n) = omega arith
+rank-below causes.query_assigns = omega arith
+rank-below causes.no_return = omega arith
+
+pub some-first : (before : Before) (line : TextLine) → SomeFirst before line
+some-first before line =
+    first-at before line 0 (plain-at before line causes.too_long refl) (
+    first-at before line 1 (plain-at before line causes.not_text refl) (
+    first-at before line 2 (plain-at before line causes.sites_expected refl) (
+    first-at before line 3 (plain-at before line causes.unknown_word refl) (
+    first-at before line 4 (plain-at before line causes.twice refl) (
+    first-at before line 5 (plain-at before line causes.too_late refl) (
+    first-at before line 6 (plain-at before line causes.wrong_count refl) (
+    first-at before line 7 (plain-at before line causes.bad_number refl) (
+    first-at before line 8 (plain-at before line causes.bad_mode refl) (
+    first-at before line 9 (plain-at before line causes.bad_name refl) (
+    first-at before line 10 (plain-at before line causes.name_taken refl) (
+    first-at before line 11 (plain-at before line causes.too_many_items refl) (
+    first-at before line 12 (fault-at before line) (
+    first-at before line 13 (plain-at before line causes.names_no_item refl) (
+    first-at before line 14 (many-at before line) (
+    first-at before line 15 (plain-at before line causes.query_assigns refl) (
+    first-at before line 16 (plain-at before line causes.no_return refl)
+    (λ from. inr (λ c has. omega (arith, from c has, rank-below c)))))))))))))))))))
+    (λ c has. omega arith)

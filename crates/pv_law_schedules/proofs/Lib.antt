@@ -1,0 +1,12 @@
+pub mod LineFormLemmas
+pub mod LineLawLemmas
+pub mod OneEventLemmas
+pub mod LineTextLemmas
+pub mod OneCauseLemmas
+pub mod OneScheduleLemmas
+pub mod SomeCauseLemmas
+pub mod FirstCauseLemmas
+pub mod NoCauseLemmas
+pub mod MeaningLemmas
+pub mod SomeLineLemmas
+pub mod SomeScheduleLemmas

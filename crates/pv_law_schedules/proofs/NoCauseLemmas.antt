@@ -1,0 +1,309 @@
+-- A line without causes fits: each of its fields is as it has to be.
+use Rattle.std.proofs.Common.{◌≡◌, ◌⊎◌, ⊎_elim, ℕ, ◌<◌, ◌≤◌, Bool, true, false, Option, Some, None, List, [], ◌∷◌, length, inl, inr, refl, sym, ap, subst, ◌∙◌, arith}
+use Rattle.std.specs.Prelude.{◌==◌, ◌||◌, not, cond, map, filter, codes}
+use Rattle.std.specs.List.{list_all, Contains}
+use Rattle.std.specs.Cmp.Derive.{both_true}
+use Rattle.std.specs.Str.{bytes_eq}
+use Rattle.std.proofs.lemmas.Bool.{false≢true, eqb-true}
+use Rattle.std.proofs.lemmas.Slice.Eq.{bytes_eq-Decides}
+use Rattle.pv_base.specs.Catalog.{place_of}
+use Rattle.pv_base.specs.Name.{is_name}
+use Rattle.pv_model.specs.Causes as causes
+use Rattle.pv_model.specs.Causes.{Before, or_default, declared_by, LineCause, HasLineCause, Has, HasProgram, mode_words}
+use Rattle.pv_model.specs.Check.{AreItems, has_assignment, has_return}
+use Rattle.pv_model.specs.LineForms as fields
+use Rattle.pv_model.specs.LineForms.{Field, line_forms, first_word, forms_of, takes_program, after_blanks, after_word, before_blanks, program_text, site_and_text, rest_of, arguments, form_of, fields_of, fields_in, beside, has_good_number}
+use Rattle.pv_model.specs.ProgramText.{Refusal, too_large, at_fault, IsRefused, IsProgramText}
+use Rattle.pv_model.specs.Syntax.{Program}
+use Rattle.pv_model.specs.Text.{TextLine, words, is_blank, is_text_byte, IsText}
+use Rattle.pv_base.proofs.Basics.{and-left, and-right}
+use Rattle.pv_base.proofs.ContainsLemmas.{Contains-first, Contains-behind, Contains-nil}
+use Rattle.pv_law_programs.proofs.ItemLemmas.{some_items}
+use Rattle.pv_law_schedules.proofs.LineFormLemmas.{Each, Each-contains, Runs, Suits, Fits, look, form_of-look}
+use Rattle.pv_law_schedules.proofs.LineTextLemmas.{found-in, is_program, none-stands, one-text}
+use Rattle.pv_law_programs.proofs.SomeAnswer.{some_answer}
+use Rattle.pv_law_schedules.proofs.SomeCauseLemmas.{Told, told-nothing, told-bytes, told-less, told-contains, names-none}
+
+pub isnt-true : (b : Bool) → (b ≡ true → ⊥) → b ≡ false
+isnt-true true isnt = absurd (isnt refl)
+isnt-true false isnt = refl
+
+pub isnt-false : (b : Bool) → (b ≡ false → ⊥) → b ≡ true
+isnt-false true isnt = refl
+isnt-false false isnt = absurd (isnt refl)
+
+-- A program's text is no longer than its line.
+
+length-cond : (b : Bool) (xs ys : List ℕ) (n : ℕ) → length xs ≤ n → length ys ≤ n → length (cond b xs ys) ≤ n
+length-cond true xs ys n h k = h
+length-cond false xs ys n h k = k
+
+length-after_blanks : (bs : List ℕ) → length (after_blanks bs) ≤ length bs
+length-after_blanks [] = omega arith
+length-after_blanks (b ∷ bs) =
+    length-cond (is_blank b) (after_blanks bs) (b ∷ bs) (length (b ∷ bs)) (let fewer = length-after_blanks bs in omega (arith, fewer)) (omega arith)
+
+length-after_word : (bs : List ℕ) → length (after_word bs) ≤ length bs
+length-after_word [] = omega arith
+length-after_word (b ∷ bs) =
+    length-cond (is_blank b) (b ∷ bs) (after_word bs) (length (b ∷ bs)) (omega arith) (let fewer = length-after_word bs in omega (arith, fewer))
+
+length-before_blanks : (bs : List ℕ) → length (before_blanks bs) ≤ length bs
+length-before_blanks [] = omega arith
+length-before_blanks (b ∷ bs) =
+    length-cond (list_all is_blank (b ∷ bs)) [] (b ∷ before_blanks bs) (length (b ∷ bs)) (omega arith) (let fewer = length-before_blanks bs in omega (arith, fewer))
+
+length-program_text : (line : TextLine) → length (program_text line) ≤ length line
+unfolding program_text
+length-program_text line =
+    let a = after_blanks line in
+    let b = after_word a in
+    let c = after_blanks b in
+    let d = after_word c in
+    let e = after_blanks d in
+    omega (arith, length-after_blanks line, length-after_word a, length-after_blanks b, length-after_word c, length-after_blanks d, length-before_blanks e)
+
+-- The text of a program is what stands behind the first two words.
+
+-- what holds of each entry with this word holds of the forms
+forms-pass : (q : List Field → Bool) (word : List ℕ) (entries : List (List ℕ × List Field)) → Each (λ entry. bytes_eq word entry.0 ≡ true → q entry.1 ≡ true) entries
+    → list_all q (map (λ entry. entry.1) (filter (λ entry. bytes_eq word entry.0) entries)) ≡ true
+forms-pass q word [] each = refl
+forms-pass q word (entry ∷ entries) each = go (forms-pass q word entries each.1) (bytes_eq word entry.0) each.0
+  where
+    go : list_all q (map (λ (entry : List ℕ × List Field). entry.1) (filter (λ entry. bytes_eq word entry.0) entries)) ≡ true → (b : Bool) → (b ≡ true → q entry.1 ≡ true)
+        → list_all q (map (λ (entry : List ℕ × List Field). entry.1) (cond b (entry ∷ filter (λ entry. bytes_eq word entry.0) entries) (filter (λ entry. bytes_eq word entry.0) entries))) ≡ true
+    go more true is = both_true (is refl) more
+    go more false is = more
+
+abbrev programless : List Field → Bool
+programless form = list_all (λ field. not (is_program field)) form
+
+either-first : (a b : Bool) → (a || b) ≡ false → a ≡ true → ⊥
+either-first true b e h = false≢true (sym e)
+either-first false b e h = false≢true h
+
+either-second : (a b : Bool) → (a || b) ≡ false → b ≡ true → ⊥
+either-second true b e h = false≢true (sym e)
+either-second false b e h = false≢true (sym e ∙ h)
+
+programless-forms : (word : List ℕ) → takes_program word ≡ false → list_all programless (forms_of word) ≡ true
+unfolding line_forms takes_program is_program
+programless-forms word plain =
+    forms-pass programless word line_forms (
+      (λ e. refl),
+      (
+        (λ e. refl),
+        (
+          (λ e. refl),
+          (
+            (λ e. absurd (either-first (bytes_eq word (codes "submit")) (bytes_eq word (codes "query")) plain e)),
+            (
+              (λ e. absurd (either-second (bytes_eq word (codes "submit")) (bytes_eq word (codes "query")) plain e)),
+              (
+                (λ e. refl),
+                (
+                  (λ e. refl),
+                  (
+                    (λ e. refl),
+                    (
+                      (λ e. refl),
+                      (
+                        (λ e. refl),
+                        (
+                          (λ e. refl),
+                          (
+                            (λ e. refl),
+                            (
+                              (λ e. refl),
+                              (
+                                (λ e. refl),
+                                ((λ e. refl), ((λ e. refl), ((λ e. refl), ((λ e. refl), ((λ e. refl), tt))))),
+                              ),
+                            ),
+                          ),
+                        ),
+                      ),
+                    ),
+                  ),
+                ),
+              ),
+            ),
+          ),
+        ),
+      ),
+    )
+
+-- a line whose first word takes no program has none
+no-program : (form : Option (List Field)) (given : List (List ℕ)) (text : List ℕ) → ((fields : List Field) → form ≡ Some fields → programless fields ≡ true)
+    → Contains (fields_in form given) (fields.program, text) → ⊥
+no-program None given text less has = Contains-nil (fields.program, text) has
+no-program (Some form) given text less has = none-stands form given text (less form refl) has
+
+plain-no-program : (line : TextLine) (text : List ℕ) → takes_program (first_word line) ≡ false → Has line fields.program text → ⊥
+plain-no-program line text plain has =
+    no-program (form_of line) (arguments line) text
+    (λ form e. found-in programless _ (forms_of (first_word line)) form (programless-forms (first_word line) plain) (sym (form_of-look line) ∙ e)) has
+
+pub request-words : (word : List ℕ) → takes_program word ≡ true → (word ≡ codes "submit") ⊎ (word ≡ codes "query")
+unfolding takes_program
+request-words word takes =
+    ⊎_elim inl (λ isnt. ⊎_elim inr (λ other. absurd (neither (bytes_eq word (codes "submit")) (bytes_eq word (codes "query")) takes
+    (λ e. isnt ((bytes_eq-Decides word (codes "submit")).0 e)) (λ e. other ((bytes_eq-Decides word (codes "query")).0 e))))
+    (told-bytes word (codes "query"))) (told-bytes word (codes "submit"))
+  where
+    neither : (a b : Bool) → (a || b) ≡ true → (a ≡ true → ⊥) → (b ≡ true → ⊥) → ⊥
+    neither true b e x y = x refl
+    neither false b e x y = y e
+
+-- one form of so many words
+pub one-form : (k n : ℕ) (only form : List Field) → cond (k == n) (Some only) None ≡ Some form → (k ≡ n) × (only ≡ form)
+one-form k n only form e = go (k == n) refl e
+  where
+    go : (b : Bool) → (k == n) ≡ b → cond b (Some only) None ≡ Some form → (k ≡ n) × (only ≡ form)
+    go true same found = (eqb-true k n same, let is : only ≡ form = cc in is)
+    go false same found = let never : ⊥ = cc in absurd never
+
+abbrev RequestForm : TextLine → List Field → Type 0
+RequestForm line form = (2 ≡ length (arguments line)) × (fields.site ∷ fields.program ∷ [] ≡ form)
+
+request-form : (line : TextLine) (form : List Field) → takes_program (first_word line) ≡ true → form_of line ≡ Some form → RequestForm line form
+unfolding line_forms
+request-form line form takes found =
+    let at : look (first_word line) (length (arguments line)) ≡ Some form = sym (form_of-look line) ∙ found in
+    ⊎_elim
+    (λ e. one-form 2 (length (arguments line)) (fields.site ∷ fields.program ∷ []) form (subst (λ (w : List ℕ). look w (length (arguments line)) ≡ Some form) e at))
+    (λ e. one-form 2 (length (arguments line)) (fields.site ∷ fields.program ∷ []) form (subst (λ (w : List ℕ). look w (length (arguments line)) ≡ Some form) e at))
+    (request-words (first_word line) takes)
+
+second-text : (text : List ℕ) (said : List (List ℕ)) → 2 ≡ length (site_and_text text said) → (at : List ℕ) × (site_and_text text said ≡ at ∷ text ∷ [])
+second-text text [] e = absurd (omega (arith, e))
+second-text text (at ∷ []) e = absurd (omega (arith, e))
+second-text text (at ∷ word ∷ more) e = (at, refl)
+
+abbrev GivesText : TextLine → Type 0
+GivesText line = (at : List ℕ) × (arguments line ≡ at ∷ program_text line ∷ [])
+
+pub arguments-request : (line : TextLine) → takes_program (first_word line) ≡ true → arguments line ≡ site_and_text (program_text line) (rest_of (words line))
+unfolding arguments
+arguments-request line takes = rw takes refl
+
+gives-text : (line : TextLine) → takes_program (first_word line) ≡ true → 2 ≡ length (arguments line) → GivesText line
+gives-text line takes two =
+    let is = arguments-request line takes in
+    let second = second-text (program_text line) (rest_of (words line)) (two ∙ ap (λ (ws : List (List ℕ)). length ws) is) in
+    (second.0, is ∙ second.1)
+
+-- the text that a line has, where it has a form
+pub text-of : (line : TextLine) (form : List Field) (text : List ℕ) → form_of line ≡ Some form → Has line fields.program text → text ≡ program_text line
+text-of line form text found has = go (takes_program (first_word line)) refl
+  where
+    stands : GivesText line → fields.site ∷ fields.program ∷ [] ≡ form → Has line fields.program (program_text line)
+    stands gives same =
+        let all : fields_of line ≡ (fields.site, gives.0) ∷ (fields.program, program_text line) ∷ [] = rw found (rw (← same) (rw gives.1 refl)) in
+        subst (λ (entries : List (Field × List ℕ)). Contains entries (fields.program, program_text line)) (sym all)
+        (Contains-behind (fields.site, gives.0) ((fields.program, program_text line) ∷ []) (fields.program, program_text line) (Contains-first (fields.program, program_text line) []))
+
+    go : (b : Bool) → takes_program (first_word line) ≡ b → text ≡ program_text line
+    go true takes =
+        let is = request-form line form takes found in
+        one-text line text (program_text line) has (stands (gives-text line takes is.0) is.1)
+    go false plain = absurd (plain-no-program line text plain has)
+
+-- What holds of each entry that a list has, element by element.
+
+each-from : {X : Type 0} (P : X → Type 0) (xs : List X) → ((x : X) → Contains xs x → P x) → Each P xs
+each-from P [] each = tt
+each-from P (x ∷ xs) each = (each x (Contains-first x xs), each-from P xs (λ y c. each y (Contains-behind x xs y c)))
+
+each-of : {X : Type 0} (q : X → Bool) (xs : List X) → list_all q xs ≡ true → Each (λ x. q x ≡ true) xs
+each-of q [] all = tt
+each-of q (x ∷ xs) all = (and-left (q x) (list_all q xs) all, each-of q xs (and-right (q x) (list_all q xs) all))
+
+abbrev Free : Before → TextLine → Type 0
+Free before line = (c : LineCause) → HasLineCause before line c → ⊥
+
+free-good : (before : Before) (line : TextLine) → Free before line → (x : Field × List ℕ) → Contains (fields_of line) x → has_good_number (or_default 0 before.sites) x ≡ true
+free-good before line free x c =
+    let all = isnt-false (list_all (has_good_number (or_default 0 before.sites)) (fields_of line)) (free causes.bad_number) in
+    Each-contains (λ x. has_good_number (or_default 0 before.sites) x ≡ true) (fields_of line) x (each-of (has_good_number (or_default 0 before.sites)) (fields_of line) all) c
+
+free-text : (before : Before) (line : TextLine) → Free before line → IsText line
+free-text before line free = record {
+  short = short (told-less 1000 (length line));
+  bytes = isnt-false (list_all is_text_byte line) (free causes.not_text);
+}
+  where
+    short : Told (1000 < length line) → length line ≤ 1000
+    short (inl long) = absurd (free causes.too_long long)
+    short (inr isnt) = by (length line) isnt
+      where
+        by : (n : ℕ) → (1000 < n → ⊥) → n ≤ 1000
+        by n isnt = omega (arith, isnt)
+
+free-form : (before : Before) (line : TextLine) → Free before line → (form : List Field) × (form_of line ≡ Some form)
+free-form before line free = go (form_of line) refl
+  where
+    go : (o : Option (List Field)) → form_of line ≡ o → (form : List Field) × (form_of line ≡ Some form)
+    go None e = absurd (free causes.wrong_count e)
+    go (Some form) e = (form, e)
+
+abbrev SomeOf : Before → TextLine → List ℕ → Type 0
+SomeOf before line text = (p : Program) × IsProgramText (declared_by before) text p
+
+free-program : (before : Before) (line : TextLine) → Free before line → (text : List ℕ) → Has line fields.program text → SomeOf before line text
+free-program before line free text has = ⊎_elim (λ p. p) (λ r. absurd (refused r.0 r.1)) (some_answer (declared_by before) text)
+  where
+    refused : (r : Refusal) → IsRefused (declared_by before) text r → ⊥
+    refused (too_large n) is =
+        let form = free-form before line free in
+        let same = ap (λ (t : List ℕ). length t) (text-of line form.0 text form.1 has) in
+        omega (arith, same, is.0, is.1, length-program_text line, (free-text before line free).short)
+    refused (at_fault kind column) is = free (causes.at_program kind column) (text, has, is)
+
+free-runs : (before : Before) (line : TextLine) → Free before line → (p : Program) → HasProgram before line p → Runs p (first_word line)
+free-runs before line free p has =
+    let some = some_items p in
+    record {
+      items = some.0;
+      are = some.1;
+      some = more some.0 some.1;
+      few = by (length some.0) (λ many. free (causes.too_many_names (length some.0)) (p, has, some.0, some.1, refl, many));
+      answers = λ query. (isnt-true (has_assignment p) (λ is. free causes.query_assigns (p, has, query, is)), isnt-false (has_return p) (λ is. free causes.no_return (p, has, query, is)));
+    }
+  where
+    more : (items : List ℕ) → AreItems p items → 0 < length items
+    more [] are = absurd (free causes.names_no_item (p, has, names-none p are))
+    more (n ∷ items) are = omega arith
+
+    by : (n : ℕ) → (16 < n → ⊥) → n ≤ 16
+    by n isnt = omega (arith, isnt)
+
+free-suits : (before : Before) (line : TextLine) → Free before line → (x : Field × List ℕ) → Contains (fields_of line) x → Suits before (first_word line) x
+free-suits before line free (fields.number least most, w) c = free-good before line free (fields.number least most, w) c
+free-suits before line free (fields.site, w) c = free-good before line free (fields.site, w) c
+free-suits before line free (fields.value, w) c = free-good before line free (fields.value, w) c
+free-suits before line free (fields.mode, w) c = ⊎_elim (λ is. is) (λ isnt. absurd (free causes.bad_mode (w, c, isnt))) (told-contains mode_words w)
+free-suits before line free (fields.name, w) c =
+    (isnt-false (is_name w) (λ is. free causes.bad_name (w, c, is)), ⊎_elim (λ is. is) (λ isnt. absurd (free causes.name_taken (w, c, isnt))) (told-nothing (place_of w before.items)))
+free-suits before line free (fields.program, w) c =
+    let some = free-program before line free w c in
+    (some.0, some.1, free-runs before line free some.0 (w, c, some.1))
+
+pub free-fits : (before : Before) (line : TextLine) → ((c : LineCause) → HasLineCause before line c → ⊥) → Fits before line
+free-fits before line free =
+    let form = free-form before line free in
+    record {
+      text = free-text before line free;
+      said = λ none. ⊎_elim (λ is. is) (λ isnt. absurd (free causes.sites_expected (none, isnt))) (told-bytes (first_word line) (codes "sites"));
+      once = free causes.twice;
+      early = free causes.too_late;
+      form = form.0;
+      known = free causes.unknown_word;
+      formed = form.1;
+      each = each-from (Suits before (first_word line)) (fields_of line) (free-suits before line free);
+      room = λ item. by (length before.items) (λ many. free causes.too_many_items (item, many));
+    }
+  where
+    by : (n : ℕ) → (1024 ≤ n → ⊥) → n < 1024
+    by n isnt = omega (arith, isnt)

@@ -1,0 +1,6 @@
+-- The lemma on texts.
+use Rattle.pv_law_schedules.proofs.OneScheduleLemmas as lemmas
+use Rattle.pv_law_schedules.proofs.texts.one_fault.Goals as goal
+
+pub returns : goal.returns
+returns c = λ text m n a b is also. lemmas.one_fault text m n a b is also

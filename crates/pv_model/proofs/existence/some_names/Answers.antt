@@ -1,6 +1,0 @@
--- The lemma, as the law of an empty function.
-use Rattle.pv_model.proofs.NameLemmas as lemmas
-use Rattle.pv_model.proofs.existence.some_names.Goals as goal
-
-pub returns : goal.returns
-returns g c = λ cases. lemmas.some-names cases

@@ -1,6 +1,0 @@
--- The lemma, as the law of an empty function.
-use Rattle.pv_model.proofs.ProgramLemmas as lemmas
-use Rattle.pv_model.proofs.items_stay.Goals as goal
-
-pub returns : goal.returns
-returns c = lemmas.items_stay

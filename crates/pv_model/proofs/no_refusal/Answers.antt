@@ -1,6 +1,0 @@
--- The lemma on texts.
-use Rattle.pv_model.proofs.NoRefusalLemmas as lemmas
-use Rattle.pv_model.proofs.no_refusal.Goals as goal
-
-pub returns : goal.returns
-returns c = λ catalog text p r a f. lemmas.no_refusal catalog text p r a f

@@ -1,6 +1,0 @@
--- The lemma on texts.
-use Rattle.pv_model.proofs.OneScheduleLemmas as lemmas
-use Rattle.pv_model.proofs.one_fault.Goals as goal
-
-pub returns : goal.returns
-returns c = λ text m n a b is also. lemmas.one_fault text m n a b is also

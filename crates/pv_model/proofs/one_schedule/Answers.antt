@@ -1,6 +1,0 @@
--- The lemma on texts.
-use Rattle.pv_model.proofs.OneScheduleLemmas as lemmas
-use Rattle.pv_model.proofs.one_schedule.Goals as goal
-
-pub returns : goal.returns
-returns c = λ text s t is also. lemmas.one_schedule text s t is also

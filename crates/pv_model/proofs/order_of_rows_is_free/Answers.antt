@@ -1,6 +1,0 @@
--- The lemma, as the law of an empty function.
-use Rattle.pv_model.proofs.ProgramLemmas as lemmas
-use Rattle.pv_model.proofs.order_of_rows_is_free.Goals as goal
-
-pub returns : goal.returns
-returns c = lemmas.order_of_rows_is_free

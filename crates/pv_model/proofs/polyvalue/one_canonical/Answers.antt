@@ -1,6 +1,0 @@
--- The lemma on the one canonical list.
-use Rattle.pv_model.proofs.PolyvalueLemmas as lemmas
-use Rattle.pv_model.proofs.polyvalue.one_canonical.Goals as goal
-
-pub returns : goal.returns
-returns g c = lemmas.one-canonical

@@ -1,6 +1,0 @@
--- The lemma on texts.
-use Rattle.pv_model.proofs.SomeAnswer as lemmas
-use Rattle.pv_model.proofs.some_answer.Goals as goal
-
-pub returns : goal.returns
-returns c = λ catalog text. lemmas.some_answer catalog text

@@ -1,0 +1,41 @@
+-- When a text is refused.
+use Rattle.std.specs.Prelude.{◌≡◌, ℕ, Option, Some, None}
+use Rattle.pv_model.specs.Causes as model
+use Rattle.pv_model.specs.ProgramText.{malformed, unknown_name, too_deep}
+use Rattle.pv_script.specs.declared.schedule.LineCause.{LineCause}
+use Rattle.pv_script.specs.declared.schedule.LineCause.TheVariants.{TooLong, NotText, SitesExpected, UnknownWord, Twice, TooLate, WrongCount, BadNumber, BadMode, BadName, NameTaken, TooManyItems, ProgramColumn, UnknownName, TooDeep, NamesNoItem, TooManyNames, QueryAssigns, NoReturn, NotBuilt}
+use Rattle.pv_script.specs.declared.schedule.ScriptError.{ScriptError}
+use Rattle.pv_script.specs.declared.schedule.ScriptError.TheVariants.{Malformed, NoMemory}
+
+-- A line that is only not built isn't malformed.
+abbrev pub cause_of : LineCause → Option model.LineCause
+cause_of TooLong = Some model.too_long
+cause_of NotText = Some model.not_text
+cause_of SitesExpected = Some model.sites_expected
+cause_of UnknownWord = Some model.unknown_word
+cause_of Twice = Some model.twice
+cause_of TooLate = Some model.too_late
+cause_of WrongCount = Some model.wrong_count
+cause_of BadNumber = Some model.bad_number
+cause_of BadMode = Some model.bad_mode
+cause_of BadName = Some model.bad_name
+cause_of NameTaken = Some model.name_taken
+cause_of TooManyItems = Some model.too_many_items
+cause_of (ProgramColumn column) = Some (model.at_program malformed column)
+cause_of (UnknownName column) = Some (model.at_program unknown_name column)
+cause_of (TooDeep column) = Some (model.at_program too_deep column)
+cause_of NamesNoItem = Some model.names_no_item
+cause_of (TooManyNames n) = Some (model.too_many_names n)
+cause_of QueryAssigns = Some model.query_assigns
+cause_of NoReturn = Some model.no_return
+cause_of NotBuilt = None
+
+-- The error names the line of this number, for this cause.
+abbrev pub IsRefusal : ℕ → model.LineCause → ScriptError → Type 0
+IsRefusal number cause (Malformed line reported) = (line ≡ number) × (cause_of reported ≡ Some cause)
+IsRefusal number cause NoMemory = ⊥
+
+-- A refusal names a line at fault and its cause. `NoMemory` may come at any place.
+abbrev pub Refuses : (ℕ → model.LineCause → Type 0) → ScriptError → Type 0
+Refuses IsFault (Malformed line reported) = (cause : model.LineCause) × (cause_of reported ≡ Some cause) × IsFault line cause
+Refuses IsFault NoMemory = Unit {0}
