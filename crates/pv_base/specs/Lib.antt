@@ -1,5 +1,6 @@
 pub mod Answer
 pub mod Assignment
+pub mod BigEndian
 pub mod Canonical
 pub mod CaseFaults
 pub mod Catalog

@@ -1,0 +1,23 @@
+-- The records that the contents of a journal spell.
+use Rattle.std.specs.Prelude.{◌≡◌, ℕ, List, [], ◌∷◌, take, slice_get, Some, ⊤}
+use Rattle.pv_format.specs.Record.{Record}
+use Rattle.pv_format.specs.RecordSpelling.{SpellsRecord}
+
+-- The bytes spell no record.
+abbrev pub IsNoRecord : List ℕ → Type 0
+IsNoRecord bytes = (record_ : Record) → SpellsRecord record_ bytes → ⊥
+
+-- There are as many contents as records, and each spells its record.
+abbrev pub SpellRecords : List Record → List (List ℕ) → Type 0
+SpellRecords [] [] = ⊤
+SpellRecords [] (content ∷ contents) = ⊥
+SpellRecords (record_ ∷ records) [] = ⊥
+SpellRecords (record_ ∷ records) (content ∷ contents) = SpellsRecord record_ content × SpellRecords records contents
+
+-- The content at this place spells no record, and each before it spells one.
+pub record IsFirstBadContent (contents : List (List ℕ)) (place : ℕ) : Type 0 where
+  pub content : List ℕ
+  pub there : slice_get contents place ≡ Some content
+  pub none : IsNoRecord content
+  pub records : List Record
+  pub before : SpellRecords records (take place contents)

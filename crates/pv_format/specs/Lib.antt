@@ -1,0 +1,11 @@
+pub mod Contents
+pub mod FirstFault
+pub mod Layout
+pub mod Length
+pub mod Message
+pub mod MessageSpelling
+pub mod PolyvalueSpelling
+pub mod Range
+pub mod Record
+pub mod RecordSpelling
+pub mod Spelling

@@ -1,0 +1,44 @@
+-- Which bytes spell a message on its way.
+use Rattle.std.specs.Prelude.{ℕ, List}
+use Rattle.pv_base.specs.BigEndian.{IsNumber}
+use Rattle.pv_base.specs.Want.{Want}
+use Rattle.pv_format.specs.Message.{Envelope, Message, lock, granted, denied, prepare, vote_yes, vote_no, outcome_told, ask, NoCause, grant_lost, journal_full, txn_of}
+use Rattle.pv_format.specs.RecordSpelling.{SpellsReads}
+use Rattle.pv_format.specs.Spelling.{◌followed_by◌, IsEmpty, IsAllowed, IsSite, IsTruth, SpellsTxn, SpellsGrant, SpellsEntries, is_item_from}
+
+-- the number of each kind of message
+abbrev pub kind_of : Message → ℕ
+kind_of (lock txn wants) = 1
+kind_of (granted txn grant values) = 2
+kind_of (denied txn item holder) = 3
+kind_of (prepare txn grant writes) = 4
+kind_of (vote_yes txn) = 5
+kind_of (vote_no txn cause) = 6
+kind_of (outcome_told txn commits) = 7
+kind_of (ask txn) = 8
+
+-- Items with whether the transaction may change them, at least so many.
+abbrev pub SpellsWants : ℕ → List Want → List ℕ → Type 0
+SpellsWants = SpellsEntries (λ want. IsTruth want.exclusive) (λ want. want.item)
+
+-- A cause is 1 where the grant is lost, and 2 and a length where the journal is full.
+abbrev pub SpellsNoCause : NoCause → List ℕ → Type 0
+SpellsNoCause grant_lost = IsNumber 1 1
+SpellsNoCause (journal_full length) = IsNumber 1 2 followed_by IsNumber 8 length
+
+-- what stands in a message after its transaction
+abbrev pub SpellsBody : Message → List ℕ → Type 0
+SpellsBody (lock txn wants) = SpellsWants 1 wants
+SpellsBody (granted txn grant values) = SpellsGrant grant followed_by SpellsReads 1 values
+SpellsBody (denied txn item holder) = IsAllowed 4 (is_item_from 0) item followed_by SpellsTxn holder
+SpellsBody (prepare txn grant writes) = SpellsGrant grant followed_by SpellsReads 0 writes
+SpellsBody (vote_yes txn) = IsEmpty
+SpellsBody (vote_no txn cause) = SpellsNoCause cause
+SpellsBody (outcome_told txn commits) = IsTruth commits
+SpellsBody (ask txn) = IsEmpty
+
+-- A message is its kind, the sites that it comes from and goes to, its transaction, and what its kind has besides.
+abbrev pub SpellsEnvelope : Envelope → List ℕ → Type 0
+SpellsEnvelope envelope =
+    IsNumber 1 (kind_of envelope.message) followed_by IsSite envelope.from followed_by IsSite envelope.to
+    followed_by SpellsTxn (txn_of envelope.message) followed_by SpellsBody envelope.message

@@ -1,0 +1,15 @@
+pub mod AnswerLemmas
+pub mod Bytes
+pub mod CaseCount
+pub mod Codes
+pub mod EnvelopeCode
+pub mod LengthLemmas
+pub mod ListCodes
+pub mod NumberCodes
+pub mod OneFault
+pub mod PartCodes
+pub mod PolyvalueCode
+pub mod PolyvalueDecided
+pub mod RangeLemmas
+pub mod RecordCode
+pub mod ReplayLemmas

@@ -1,0 +1,10 @@
+-- The cases so far were written.
+use Rattle.std.proofs.Common.{ℕ, List, drop}
+use Rattle.pv_format.specs.PolyvalueSpelling.{SpellsCase}
+use Rattle.pv_format.specs.Spelling.{SpellsEach}
+use Rattle.pv_law_fields.proofs.ListLemmas.{IsWriting}
+use Rattle.pv_replay.proofs.poly.put_cases.Given as goal
+
+abbrev pub invariant-loop-case : goal.invariant-loop-case
+invariant-loop-case l =
+    (bytes : List ℕ) → SpellsEach SpellsCase l.cases bytes → IsWriting SpellsCase (drop l.case-index l.cases) l.initial.put bytes l.put

@@ -1,0 +1,19 @@
+-- One literal after another.
+use Rattle.std.proofs.Common.{get_or, refl, arith}
+use Rattle.std.proofs.lemmas.List.{get_or_default}
+use Rattle.pv_format.specs.PolyvalueSpelling.{SpellsLiteral}
+use Rattle.pv_law_fields.proofs.ListLemmas.{writing_goes_on, writing_ends}
+use Rattle.pv_replay.proofs.poly.put_literals.Goals as goal
+
+pub loop-literal-init : goal.loop-literal-init
+loop-literal-init c = λ bytes spelled. record { rest = bytes; spelled = spelled; same = refl }
+
+pub loop-literal-preserved : goal.loop-literal-preserved
+loop-literal-preserved c = λ bytes spelled.
+    writing_goes_on SpellsLiteral c.args.when.now c.loop-literal.literal-index _ c.args.put.now bytes c.loop-literal.put c.put_literal.new.put
+      c.loop-literal-test.true (get_or_default c.args.when.now c.loop-literal.literal-index _ _ c.loop-literal-test.true)
+      (c.loop-literal.invariant bytes spelled) c.in_ok-put_literal.ensures
+
+pub returns : goal.returns
+returns c = λ bytes spelled.
+    writing_ends SpellsLiteral c.args.when.now c.loop-literal.literal-index c.args.put.now bytes c.loop-literal.put c.loop-literal-test.false (c.loop-literal.invariant bytes spelled)

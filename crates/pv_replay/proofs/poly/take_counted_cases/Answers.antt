@@ -1,0 +1,37 @@
+-- One case after another.
+use Rattle.std.proofs.Common.{◌<◌, ◌≤◌, ◌∷◌, [], length, sym, subst, length-append, arith}
+use Rattle.std.proofs.lemmas.Result.{err_from_is_err_and}
+use Rattle.pv_format.specs.Layout.{case_layout}
+use Rattle.pv_format.specs.PolyvalueSpelling.{SpellsCase}
+use Rattle.pv_replay.specs.Faults.{fault_of}
+use Rattle.pv_law_fields.proofs.ListLemmas.{IsReading, reading_starts, reading_goes_on, reading_stops, reading_ends}
+use Rattle.pv_replay.proofs.poly.take_counted_cases.Goals as goal
+
+pub reading-init : goal.reading-init
+reading-init c =
+    rw c.new-cases.ensures.items record { few = omega arith; reading = reading_starts SpellsCase case_layout c.args.count c.args.take.now }
+
+pub reading-preserved : goal.reading-preserved
+reading-preserved c =
+    let some : length c.reading.cases.items < c.args.count = omega arith in
+    rw c.in_ok-push.ensures.items
+    record {
+      few = let more = length-append c.reading.cases.items (c.in_ok-take_case.field-0 ∷ []) in omega arith;
+      reading = reading_goes_on SpellsCase case_layout c.reading.cases.items c.in_ok-take_case.field-0 c.args.count c.args.take.now c.reading.take c.take_case.new.take some
+                  c.reading.invariant.reading c.in_ok-take_case.ensures.passes;
+    }
+
+pub returns-in_err-take_case-clause-stops : goal.returns-in_err-take_case-clause-stops
+returns-in_err-take_case-clause-stops c =
+    let p = err_from_is_err_and c.from_residual.result c.from_residual.ensures.1 in
+    let some : length c.reading.cases.items < c.args.count = omega arith in
+    rw (p.1, p.2)
+    (reading_stops SpellsCase case_layout c.reading.cases.items c.args.count c.args.take.now c.reading.take (fault_of c.in_err-take_case.field-0.0) some
+      c.reading.invariant.reading c.in_err-take_case.ensures.stops)
+
+pub returns-clause-counted : goal.returns-clause-counted
+returns-clause-counted c = omega arith
+
+pub returns-clause-passes : goal.returns-clause-passes
+returns-clause-passes c =
+    reading_ends SpellsCase case_layout c.reading.cases.items c.args.count c.args.take.now c.reading.take (omega arith) c.reading.invariant.reading

@@ -1,0 +1,15 @@
+-- The cases so far were read, and each turn reads one.
+use Rattle.std.proofs.Common.{◌-◌, ◌≤◌, length, vec_len}
+use Rattle.pv_format.specs.Layout.{case_layout}
+use Rattle.pv_format.specs.PolyvalueSpelling.{SpellsCase}
+use Rattle.pv_law_fields.proofs.ListLemmas.{IsReading}
+use Rattle.pv_replay.proofs.poly.take_counted_cases.Given as goal
+
+abbrev pub invariant-reading : goal.invariant-reading
+invariant-reading l = record {
+  few : length l.cases.items ≤ l.count;
+  reading : IsReading SpellsCase case_layout l.cases.items l.count l.initial.take l.take;
+}
+
+abbrev pub decreases-reading : goal.decreases-reading
+decreases-reading l = l.count - vec_len l.cases

@@ -1,0 +1,15 @@
+-- The literals so far were read, and each turn reads one.
+use Rattle.std.proofs.Common.{◌-◌, ◌≤◌, length, vec_len}
+use Rattle.pv_format.specs.Layout.{literal_layout}
+use Rattle.pv_format.specs.PolyvalueSpelling.{SpellsLiteral}
+use Rattle.pv_law_fields.proofs.ListLemmas.{IsReading}
+use Rattle.pv_replay.proofs.poly.take_literals.Given as goal
+
+abbrev pub invariant-reading : goal.invariant-reading
+invariant-reading l = record {
+  few : length l.when.items ≤ l.count;
+  reading : IsReading SpellsLiteral literal_layout l.when.items l.count l.initial.take l.take;
+}
+
+abbrev pub decreases-reading : goal.decreases-reading
+decreases-reading l = l.count - vec_len l.when

@@ -1,0 +1,14 @@
+//! The records of a site's journal as bytes, and the polyvalues in them, each with one spelling.
+#![tactic(auto)]
+
+mod error;
+mod fields;
+mod order;
+mod poly;
+
+pub use error::{PolyError, ReplayError};
+pub use fields::{
+    put_truth, put_txn, take_count, take_item, take_site, take_truth, take_txn,
+};
+pub use poly::{put_poly, take_poly};
+pub use pv_poly::Read;

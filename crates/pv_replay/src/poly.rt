@@ -1,0 +1,153 @@
+// Polyvalues as bytes: the count of the cases, and for each case the count of its literals, the literals and the value.
+ghost use Rattle.std.specs.Prelude.{◌≡◌, ◌++◌, ◌<◌, ◌≤◌, ℕ, ℤ, List, length, All, MatchOption, IfOk, IfErr, OnOk};
+ghost use Rattle.pv_base.specs.CaseFaults.{fault_of as case_fault_of};
+ghost use Rattle.pv_base.specs.declared.literal.Literal.{Literal};
+ghost use Rattle.pv_base.specs.Polyvalue as model;
+ghost use Rattle.pv_format.specs.Layout.{case_layout, cases_layout, literal_layout, polyvalue_then, repeated};
+ghost use Rattle.pv_format.specs.PolyvalueSpelling.{SpellsCase, SpellsCases, SpellsLiteral, SpellsPolyvalue};
+ghost use Rattle.pv_format.specs.Spelling.{SpellsEach};
+ghost use Rattle.pv_law_fields.specs.Decoding.{Passes, Stops};
+ghost use Rattle.pv_replay.specs.Faults.{fault_of};
+
+use crate::PolyError;
+use crate::fields::{put_truth, put_txn, take_truth, take_txn};
+use crate::order::are_in_order;
+use pv_base::{Case, CaseError, Literal, NoMemory};
+use pv_bytes::{Put, Take};
+use pv_poly::{Poly, no_canonical_fault};
+use std::alloc::Global;
+
+/// Writes a polyvalue that some bytes spell. Takes time in proportion to these bytes. After a refusal the `Put` holds a part of them, and is to
+/// be dropped.
+pub fn put_poly(put: &mut Put, value: &Poly<i64>) -> Result<(), NoMemory>
+    requires { (bytes : List ℕ) × SpellsPolyvalue value.now bytes }
+    ensures { (bytes : List ℕ) → SpellsPolyvalue value.now bytes → OnOk result (put.new ≡ put.old ++ bytes) }
+{
+    let cases = value.cases();
+    put.u16(cases.len() as u16)?;
+    put_cases(put, cases)
+}
+
+// Writes the cases, one after another.
+fn put_cases(put: &mut Put, cases: &[Case<i64>]) -> Result<(), NoMemory>
+    requires { All (λ case. length case.when < 256) cases.now }
+    ensures { (bytes : List ℕ) → SpellsEach SpellsCase cases.now bytes → OnOk result (put.new ≡ put.old ++ bytes) }
+{
+    for case in cases {
+        put_case(put, case)?;
+    }
+    Ok(())
+}
+
+// Writes a case.
+fn put_case(put: &mut Put, case: &Case<i64>) -> Result<(), NoMemory>
+    requires { length case.now.when < 256 }
+    ensures { (bytes : List ℕ) → SpellsCase case.now bytes → OnOk result (put.new ≡ put.old ++ bytes) }
+{
+    put.u8(case.when.len() as u8)?;
+    put_literals(put, &case.when)?;
+    put.i64(case.value)
+}
+
+// Writes the literals, one after another.
+fn put_literals(put: &mut Put, when: &[Literal]) -> Result<(), NoMemory>
+    ensures { (bytes : List ℕ) → SpellsEach SpellsLiteral when.now bytes → OnOk result (put.new ≡ put.old ++ bytes) }
+{
+    for literal in when {
+        put_literal(put, *literal)?;
+    }
+    Ok(())
+}
+
+// Writes a literal.
+fn put_literal(put: &mut Put, literal: Literal) -> Result<(), NoMemory>
+    ensures { (bytes : List ℕ) → SpellsLiteral literal bytes → OnOk result (put.new ≡ put.old ++ bytes) }
+{
+    put_truth(put, literal.commits)?;
+    put_txn(put, literal.txn)
+}
+
+/// Reads a polyvalue. The first fault in reading order is told: a field that isn't whole, or isn't in its range; or, where all of the
+/// fields are read, that they are no polyvalue in canonical form. Takes time in proportion to the bytes that it reads. After a refusal the `Take`
+/// stands somewhere within them, and is to be dropped.
+pub fn take_poly(alloc: Global, take: &mut Take<'_>) -> Result<Poly<i64>, PolyError>
+    ensures passes { IfOk result (λ poly. Passes (SpellsPolyvalue poly) polyvalue_then take.old take.new) }
+    ensures stops { IfErr result (λ e. Stops polyvalue_then take.old (fault_of e)) }
+{
+    let place = take.place();
+    let cases = take_cases(alloc, take)?;
+    if !are_in_order(&cases) {
+        return Err(PolyError::BadPoly(place));
+    }
+    no_canonical_fault::<i64>();
+    match Poly::from_cases(alloc, cases) {
+        Ok(poly) => Ok(poly),
+        Err(e) => Err(refusal(&e, place)),
+    }
+}
+
+// What is told of the polyvalue at this place, where its cases are refused for this cause.
+fn refusal(cause: &CaseError, place: usize) -> PolyError
+    ensures { MatchOption (case_fault_of cause.now) (result ≡ PolyError.NoMemory) (λ _. result ≡ PolyError.BadPoly place) }
+{
+    match cause {
+        CaseError::NoMemory => PolyError::NoMemory,
+        _ => PolyError::BadPoly(place),
+    }
+}
+
+// Reads cases, whether or not they are a polyvalue. Room is made for a case when it is read, and not by the count.
+fn take_cases(alloc: Global, take: &mut Take<'_>) -> Result<Vec<Case<i64>>, PolyError>
+    ensures passes { IfOk result (λ cases. Passes (SpellsCases cases.items) cases_layout take.old take.new) }
+    ensures stops { IfErr result (λ e. Stops cases_layout take.old (fault_of e)) }
+{
+    let count = take.u16()?;
+    take_counted_cases(alloc, take, count)
+}
+
+// Reads so many cases.
+fn take_counted_cases(alloc: Global, take: &mut Take<'_>, count: u16) -> Result<Vec<Case<i64>>, PolyError>
+    ensures counted { IfOk result (λ cases. length cases.items ≡ count) }
+    ensures passes { IfOk result (λ cases. Passes (SpellsEach SpellsCase cases.items) (repeated count case_layout) take.old take.new) }
+    ensures stops { IfErr result (λ e. Stops (repeated count case_layout) take.old (fault_of e)) }
+{
+    let mut cases = Vec::new(alloc);
+    'reading: while cases.len() < usize::from(count) {
+        cases.push(take_case(alloc, take)?)?;
+    }
+    Ok(cases)
+}
+
+// Reads a case.
+fn take_case(alloc: Global, take: &mut Take<'_>) -> Result<Case<i64>, PolyError>
+    ensures passes { IfOk result (λ case. Passes (SpellsCase case) case_layout take.old take.new) }
+    ensures stops { IfErr result (λ e. Stops case_layout take.old (fault_of e)) }
+{
+    let count = take.u8()?;
+    let when = take_literals(alloc, take, count)?;
+    let value = take.i64()?;
+    Ok(Case { when, value })
+}
+
+// Reads so many literals.
+fn take_literals(alloc: Global, take: &mut Take<'_>, count: u8) -> Result<Vec<Literal>, PolyError>
+    ensures counted { IfOk result (λ when. length when.items ≡ count) }
+    ensures passes { IfOk result (λ when. Passes (SpellsEach SpellsLiteral when.items) (repeated count literal_layout) take.old take.new) }
+    ensures stops { IfErr result (λ e. Stops (repeated count literal_layout) take.old (fault_of e)) }
+{
+    let mut when = Vec::new(alloc);
+    'reading: while when.len() < usize::from(count) {
+        when.push(take_literal(take)?)?;
+    }
+    Ok(when)
+}
+
+// Reads a literal.
+fn take_literal(take: &mut Take<'_>) -> Result<Literal, PolyError>
+    ensures passes { IfOk result (λ literal. Passes (SpellsLiteral literal) literal_layout take.old take.new) }
+    ensures stops { IfErr result (λ e. Stops literal_layout take.old (fault_of e)) }
+{
+    let commits = take_truth(take)?;
+    let txn = take_txn(take)?;
+    Ok(Literal { txn, commits })
+}
