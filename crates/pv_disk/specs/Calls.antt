@@ -9,6 +9,17 @@ pub data DiskCall : Type 0 where
   write : (place : ℕ) (bytes : List ℕ) → DiskCall
   sync : DiskCall
 
+-- It only reads.
+abbrev pub IsRead : DiskCall → Type 0
+IsRead len = Unit {0}
+IsRead (read place count) = Unit {0}
+IsRead _ = ⊥
+
+-- Some calls that only read were made, one after another. `goes` is as below.
+pub data OnlyReads {W : Type 0} (goes : W → DiskCall → Bool → W → Type 0) (old : W) : W → Type 0 where
+  none : OnlyReads goes old old
+  one_more : (mid : W) (call : DiskCall) (ok : Bool) (new : W) → OnlyReads goes old mid → IsRead call → goes mid call ok new → OnlyReads goes old new
+
 -- A call of a log that may be answered by an error.
 pub data LogCall : Type 0 where
   read_all : LogCall

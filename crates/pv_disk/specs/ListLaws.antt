@@ -1,5 +1,5 @@
 -- A log in memory as a log.
-use Rattle.std.specs.Prelude.{◌≡◌, ℕ, ◌≤◌, Option, Some, length}
+use Rattle.std.specs.Prelude.{◌≡◌, ℕ, ◌^◌, ◌≤◌, Option, Some, length}
 use Rattle.std.proofs.Common.{sym, ◌∙◌, ap, arith}
 use Rattle.std.proofs.lemmas.List.{take_all}
 use Rattle.pv_disk.specs.Size.{Contents, size_of}
@@ -27,12 +27,12 @@ list_model = record {
   size = λ log. size_of log.contents;
   limit = λ log. log.limit;
   has_room = HasPlace;
-  is_intact = λ log. size_of log.contents ≤ log.limit;
+  is_intact = λ log. size_of log.contents ≤ 2 ^ 62;
   goes = ListGoes;
   counts_now = was_held;
   only_now = held_now;
   is_left = λ log held is. sym is;
   settled = λ log held left intact up is left_is. left_is ∙ is;
   size_is = λ log held intact up is. same_size log.contents held is;
-  is_within = λ log within. within;
+  is_bounded = λ log bounded. bounded;
 }

@@ -1,0 +1,4 @@
+pub mod Bodies
+pub mod Contents
+pub mod Format
+pub mod OneAnswer

@@ -1,0 +1,2 @@
+//! A journal on a disk: records that a crash at any moment leaves whole, or as they were before.
+#![tactic(auto)]
