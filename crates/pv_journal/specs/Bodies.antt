@@ -35,7 +35,7 @@ pub record HasFrame (rest : List ℕ) : Type 0 where
   pub short : length content < 2 ^ 32
   pub is : rest ≡ framed content ++ gate ∷ more
 
-first_and_rest : (bytes : List ℕ) → 0 < length bytes → (first : ℕ) × (rest : List ℕ) × (bytes ≡ first ∷ rest)
+pub first_and_rest : (bytes : List ℕ) → 0 < length bytes → (first : ℕ) × (rest : List ℕ) × (bytes ≡ first ∷ rest)
 first_and_rest [] some = absurd (omega arith)
 first_and_rest (first ∷ rest) some = (first, rest, refl)
 
@@ -46,8 +46,7 @@ frame_length rest content more gate short is =
     let number = big_endian 4 (length content) in
     let size : length number ≡ 4 = length-big_endian 4 (length content) in
     let split : rest ≡ number ++ (content ++ gate ∷ more) = is ∙ append_assoc number content (gate ∷ more) in
-    let front : take 4 rest ≡ number = ap (λ (l : List ℕ). take 4 l) split ∙ take_at number (content ++ gate ∷ more) 4 size in
-    (
+    let front : take 4 rest ≡ number = ap (λ (l : List ℕ). take 4 l) split ∙ take_at number (content ++ gate ∷ more) 4 size in (
       front,
       ap number_of front ∙ number_of-big_endian 4 (length content) short,
       omega (arith, ap length split, length-append number (content ++ gate ∷ more), length-append content (gate ∷ more), size),
@@ -85,13 +84,13 @@ module _ (rest : List ℕ) where
         | inr large ↦ inr (λ content more gate short is. absurd (omega (arith, (frame_length rest content more gate short is).1)))
         | inl small ↦ elim (cases_lt (4 + n) (length rest)) [
           | inr cut ↦ inr (λ content more gate short is.
-            let parts = frame_length rest content more gate short is in absurd (omega (arith, parts.1, parts.2)))
+              let parts = frame_length rest content more gate short is in absurd (omega (arith, parts.1, parts.2)))
           | inl long ↦ elim (cases_Bool (bytes_eq (take 4 rest) (big_endian 4 n))) [
             | inl same ↦ inl (whole small long ((bytes_eq-Decides (take 4 rest) (big_endian 4 n)).0 same))
             | inr differ ↦ inr (λ content more gate short is.
-              let parts = frame_length rest content more gate short is in
-              let spelled : take 4 rest ≡ big_endian 4 n = parts.0 ∙ ap (big_endian 4) (sym parts.1) in
-              false≢true (sym differ ∙ (bytes_eq-Decides (take 4 rest) (big_endian 4 n)).1 spelled))
+                let parts = frame_length rest content more gate short is in
+                let spelled : take 4 rest ≡ big_endian 4 n = parts.0 ∙ ap (big_endian 4) (sym parts.1) in
+                false≢true (sym differ ∙ (bytes_eq-Decides (take 4 rest) (big_endian 4 n)).1 spelled))
           ]
         ]
       ]
@@ -101,19 +100,25 @@ BodyOrCut body = ((contents : Contents) × IsBody contents body) ⊎ ((contents 
 
 -- One more record before a body.
 more_body : (content : List ℕ) (rest body : List ℕ) → length content < 2 ^ 32 → rest ≡ framed content ++ body → BodyOrCut body → BodyOrCut (1 ∷ rest)
-more_body content rest body short is (inl (contents, ok)) = inl (content ∷ contents, record {
-  short = All-cons (λ c. length c < 2 ^ 32) content contents short ok.short;
-  gate = ok.gate;
-  rest = ok.rest;
-  closed = ok.closed;
-  is = ap (λ (l : List ℕ). 1 ∷ l) (is ∙ ap (λ (l : List ℕ). framed content ++ l) ok.is ∙ sym (append_assoc (framed content) (records_of contents) (ok.gate ∷ ok.rest)));
-})
-more_body content rest body short is (inr (contents, cut)) = inr (content ∷ contents, record {
-  short = All-cons (λ c. length c < 2 ^ 32) content contents short cut.short;
-  rest = cut.rest;
-  cut = cut.cut;
-  is = ap (λ (l : List ℕ). 1 ∷ l) (is ∙ ap (λ (l : List ℕ). framed content ++ l) cut.is ∙ sym (append_assoc (framed content) (records_of contents) (1 ∷ cut.rest)));
-})
+more_body content rest body short is (inl (contents, ok)) = inl (
+  content ∷ contents,
+  record {
+    short = All-cons (λ c. length c < 2 ^ 32) content contents short ok.short;
+    gate = ok.gate;
+    rest = ok.rest;
+    closed = ok.closed;
+    is = ap (λ (l : List ℕ). 1 ∷ l) (is ∙ ap (λ (l : List ℕ). framed content ++ l) ok.is ∙ sym (append_assoc (framed content) (records_of contents) (ok.gate ∷ ok.rest)));
+  },
+)
+more_body content rest body short is (inr (contents, cut)) = inr (
+  content ∷ contents,
+  record {
+    short = All-cons (λ c. length c < 2 ^ 32) content contents short cut.short;
+    rest = cut.rest;
+    cut = cut.cut;
+    is = ap (λ (l : List ℕ). 1 ∷ l) (is ∙ ap (λ (l : List ℕ). framed content ++ l) cut.is ∙ sym (append_assoc (framed content) (records_of contents) (1 ∷ cut.rest)));
+  },
+)
 
 pub body_of : (fuel : ℕ) (body : List ℕ) → 0 < length body → length body ≤ fuel → BodyOrCut body
 body_of zero body some le = absurd (omega arith)
@@ -127,4 +132,3 @@ body_of (suc fuel) (gate ∷ rest) some le = elim (cases_eq gate 1) [
         more_body frame.content rest (frame.gate ∷ frame.more) frame.short frame.is (body_of fuel (frame.gate ∷ frame.more) (omega arith) (omega (arith, size)))
   ])
 ]
-

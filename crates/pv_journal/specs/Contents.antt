@@ -11,7 +11,6 @@ use Rattle.pv_base.specs.BigEndian.{big_endian, number_of}
 use Rattle.pv_base.proofs.BigEndianLemmas.{length-big_endian, number_of-big_endian}
 use Rattle.pv_disk.specs.Size.{Contents}
 use Rattle.pv_journal.specs.Format.{header, framed, records_of, AreShort, IsJournal, end_of, HasNoHeader, IsCut, EndsShort, IsNotOurs}
-
 use Rattle.pv_journal.specs.Bodies.{IsBody, IsCutBody, body_of}
 
 -- Where bytes first differ from what they are to begin with.
@@ -43,26 +42,49 @@ begins_or_differs (byte ∷ expected) (other ∷ bytes) = elim (cases_eq other b
 -- Bytes are a journal, or they are none, and it shows.
 pub journal_or_not : (bytes : List ℕ) → ((contents : Contents) × IsJournal contents bytes) ⊎ ((place : ℕ) × IsNotOurs bytes place)
 journal_or_not bytes = elim (begins_or_differs header bytes) [
-  | inr differs ↦ inr (differs.0, inl (record {
-    within = omega (arith, differs.1.within);
-    before = differs.1.before;
-    reached = differs.1.reached;
-    wrong = ⊎_elim (λ missing. inl missing) (λ other. inr (differs.1.within, other)) differs.1.wrong;
-  }))
+  | inr differs ↦ inr (
+    differs.0,
+    inl (record {
+      within = omega (arith, differs.1.within);
+      before = differs.1.before;
+      reached = differs.1.reached;
+      wrong = ⊎_elim (λ missing. inl missing) (λ other. inr (differs.1.within, other)) differs.1.wrong;
+    }),
+  )
   | inl (body, is) ↦ elim (cases_lt 0 (length body)) [
-    | inr none ↦ inr (8, inl (record {
-      within = omega arith;
-      before = ap (λ (l : List ℕ). take 8 l) is ∙ take_at header body 8 refl;
-      reached = omega (arith, ap length is, length-append header body);
-      wrong = inl (omega (arith, ap length is, length-append header body, none));
-    }))
+    | inr none ↦ inr (
+      8,
+      inl (record {
+        within = omega arith;
+        before = ap (λ (l : List ℕ). take 8 l) is ∙ take_at header body 8 refl;
+        reached = omega (arith, ap length is, length-append header body);
+        wrong = inl (omega (arith, ap length is, length-append header body, none));
+      }),
+    )
     | inl some ↦ elim (body_of (length body) body some (omega arith)) [
-      | inl (contents, ok) ↦ inl (contents, record {
-        short = ok.short; gate = ok.gate; rest = ok.rest; closed = ok.closed; is = is ∙ ap (λ (l : List ℕ). header ++ l) ok.is;
-      })
-      | inr (contents, cut) ↦ inr (end_of contents, inr (contents, record {
-        short = cut.short; rest = cut.rest; is = is ∙ ap (λ (l : List ℕ). header ++ l) cut.is; cut = cut.cut; place_is = refl;
-      }))
+      | inl (contents, ok) ↦ inl (
+        contents,
+        record {
+          short = ok.short;
+          gate = ok.gate;
+          rest = ok.rest;
+          closed = ok.closed;
+          is = is ∙ ap (λ (l : List ℕ). header ++ l) ok.is;
+        },
+      )
+      | inr (contents, cut) ↦ inr (
+        end_of contents,
+        inr (
+          contents,
+          record {
+            short = cut.short;
+            rest = cut.rest;
+            is = is ∙ ap (λ (l : List ℕ). header ++ l) cut.is;
+            cut = cut.cut;
+            place_is = refl;
+          },
+        ),
+      )
     ]
   ]
 ]

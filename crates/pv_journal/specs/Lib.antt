@@ -1,4 +1,7 @@
 pub mod Bodies
 pub mod Contents
 pub mod Format
+pub mod Journal
+pub mod JournalModel
 pub mod OneAnswer
+pub mod Reading

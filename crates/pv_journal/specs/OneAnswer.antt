@@ -32,14 +32,20 @@ read_twice [] (y ∷ b) g h r s short_a short_b is =
     let opened : g ≡ 1 = cc in
     let rests : r ≡ framed y ++ records_of b ++ h ∷ s = cc in
     let next = starts b h s in
-    inr (inl (opened, λ cut. cut y next.1 next.0 (All-head (λ c. length c < 2 ^ 32) y b short_b)
-      (rests ∙ append_assoc (framed y) (records_of b) (h ∷ s) ∙ ap (λ (l : List ℕ). framed y ++ l) next.2)))
+    inr (inl (
+      opened,
+      λ cut. cut y next.1 next.0 (All-head (λ c. length c < 2 ^ 32) y b short_b)
+          (rests ∙ append_assoc (framed y) (records_of b) (h ∷ s) ∙ ap (λ (l : List ℕ). framed y ++ l) next.2),
+    ))
 read_twice (x ∷ a) [] g h r s short_a short_b is =
     let opened : h ≡ 1 = cc in
     let rests : s ≡ framed x ++ records_of a ++ g ∷ r = cc in
     let next = starts a g r in
-    inr (inr (opened, λ cut. cut x next.1 next.0 (All-head (λ c. length c < 2 ^ 32) x a short_a)
-      (rests ∙ append_assoc (framed x) (records_of a) (g ∷ r) ∙ ap (λ (l : List ℕ). framed x ++ l) next.2)))
+    inr (inr (
+      opened,
+      λ cut. cut x next.1 next.0 (All-head (λ c. length c < 2 ^ 32) x a short_a)
+          (rests ∙ append_assoc (framed x) (records_of a) (g ∷ r) ∙ ap (λ (l : List ℕ). framed x ++ l) next.2),
+    ))
 read_twice (x ∷ a) (y ∷ b) g h r s short_a short_b is =
     let tails : framed x ++ records_of a ++ g ∷ r ≡ framed y ++ records_of b ++ h ∷ s = cc in
     let short_x = All-head (λ c. length c < 2 ^ 32) x a short_a in

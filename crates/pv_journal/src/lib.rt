@@ -1,2 +1,7 @@
 //! A journal on a disk: records that a crash at any moment leaves whole, or as they were before.
 #![tactic(auto)]
+
+mod journal;
+mod reading;
+
+pub use journal::Journal;
