@@ -1,6 +1,6 @@
 -- How calls that only read join.
 use Rattle.std.proofs.Common.{◌≡◌, ◌⊎◌, inl, inr, ⊎_elim, ℕ, ◌≤◌, Bool, true, false, List, Option, Some, None, Result, Ok, Err, refl, sym, ◌∙◌, ap, subst, arith}
-use Rattle.std.specs.Prelude.{is_some, IsErrOf}
+use Rattle.std.specs.Prelude.{is_some, IsErrOf, IfOk, IfErr, IfSome}
 use Rattle.pv_base.specs.Fault.{Rose}
 use Rattle.pv_base.specs.declared.failure.Failed.{Failed as Fault}
 use Rattle.pv_disk.specs.Calls.{DiskCall, IsRead, OnlyReads, none, one_more}
@@ -9,6 +9,7 @@ use Rattle.pv_disk.specs.Disk.{LeavesOnly, Observes}
 use Rattle.pv_disk.proofs.DiskLemmas.{LeavesOnly-none, LeavesOnly-trans}
 use Rattle.pv_disk.specs.declared.disk_error.LookError.{LookError}
 use Rattle.pv_disk.specs.declared.disk_error.LookError.TheVariants.{Failed, NotOurs, NoMemory}
+use Rattle.pv_journal.specs.Opening.{place_in}
 use Rattle.pv_journal.specs.Reading.{Looks, LooksBy}
 
 module _ {D : Type 0} (M : DiskModel D) where
@@ -95,3 +96,17 @@ module _ {D : Type 0} (M : DiskModel D) where
   looked_in_vain old new other is looks = subst (LooksBy M old new) (sym is) looks
 
 pub ruleset looking = (looked_ok, looked_err, looked_in_vain, looks_ok, looks_failed, looks_none)
+
+-- What is said of each place that a reading tells, is said of the place in its error.
+pub place_told : {X : Type 0} (P : ℕ → Type 0) (result : Result X LookError) → ((place : ℕ) → IsErrOf result (NotOurs place) → P place)
+    → IfErr result (λ e. IfSome (place_in e) P)
+place_told P (Ok x) told = tt
+place_told P (Err Failed) told = tt
+place_told P (Err (NotOurs place)) told = told place refl
+place_told P (Err NoMemory) told = tt
+
+-- What is said of all bytes that are told, is said of these.
+pub found_at : {X E : Type 0} (P : X → List ℕ → Type 0) (content : Option (List ℕ)) (bytes : List ℕ) (result : Result X E)
+    → IfOk result (λ x. (held : List ℕ) → content ≡ Some held → P x held) → content ≡ Some bytes → IfOk result (λ x. P x bytes)
+found_at P content bytes (Ok x) found is = found bytes is
+found_at P content bytes (Err e) found is = tt

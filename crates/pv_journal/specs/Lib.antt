@@ -4,4 +4,5 @@ pub mod Format
 pub mod Journal
 pub mod JournalModel
 pub mod OneAnswer
+pub mod Opening
 pub mod Reading

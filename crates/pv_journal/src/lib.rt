@@ -2,6 +2,8 @@
 #![tactic(auto)]
 
 mod journal;
+mod open_log;
 mod reading;
 
-pub use journal::Journal;
+pub use journal::{Journal, format, look};
+pub use open_log::OpenLog;
