@@ -1,5 +1,6 @@
 -- How the effects of calls on a disk join.
-use Rattle.std.proofs.Common.{◌≡◌, ◌⊎◌, inl, inr, ⊎_elim, ℕ, ◌≤◌, List, arith}
+use Rattle.std.proofs.Common.{◌≡◌, ◌⊎◌, inl, inr, ⊎_elim, refl, Bool, true, false, ℕ, ◌≤◌, List, [], ◌∷◌, arith}
+use Rattle.pv_disk.specs.Calls.{Makes}
 use Rattle.pv_disk.specs.DiskModel.{DiskModel}
 use Rattle.pv_disk.specs.Disk.{LeavesOnly}
 
@@ -24,3 +25,17 @@ module _ {W : Type 0} (M : DiskModel W) where
         (second.before t left (omega (arith, first.later)) since);
     keeps = λ t left le since. second.keeps t left (omega (arith, first.later)) (first.keeps t left le since);
   }
+
+  -- What a crash leaves has what follows from it.
+  pub LeavesOnly-weaken : (old new : W) (P Q : List ℕ → Type 0) → LeavesOnly M old new P → ((left : List ℕ) → P left → Q left) → LeavesOnly M old new Q
+  LeavesOnly-weaken old new P Q leaves follows = record {
+    later = leaves.later;
+    each = λ left since. follows left (leaves.each left since);
+    before = λ t left le since. ⊎_elim (λ was. inl was) (λ has. inr (follows left has)) (leaves.before t left le since);
+    keeps = leaves.keeps;
+  }
+
+-- One call is a course of calls.
+pub Makes-one : {W Call : Type 0} (goes : W → Call → Bool → W → Type 0) (old : W) (call : Call) (ok : Bool) (new : W) → goes old call ok new → Makes goes old (call ∷ []) ok new
+Makes-one goes old call true new is = inr (new, is, (refl, refl))
+Makes-one goes old call false new is = inl (refl, is)

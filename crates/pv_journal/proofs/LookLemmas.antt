@@ -110,3 +110,8 @@ pub found_at : {X E : Type 0} (P : X → List ℕ → Type 0) (content : Option 
     → IfOk result (λ x. (held : List ℕ) → content ≡ Some held → P x held) → content ≡ Some bytes → IfOk result (λ x. P x bytes)
 found_at P content bytes (Ok x) found is = found bytes is
 found_at P content bytes (Err e) found is = tt
+
+-- What is told now was told before, where that stays alike.
+pub told_before : {X : Type 0} (old new : Option X) (x : X) → is_some new ≡ is_some old → new ≡ Some x → (was : X) × (old ≡ Some was)
+told_before (Some was) new x alike is = (was, refl)
+told_before None new x alike is = absurd (let some : is_some new ≡ true = ap is_some is in cc)

@@ -127,7 +127,7 @@ read_cut contents bytes place to (rest, stands, cut) =
     let body : to.body ≡ 1 ∷ rest = sym (at_place contents bytes place to) ∙ stands in
     record { short = to.short; rest = rest; is = to.is ∙ ap (λ (l : List ℕ). header ++ (records_of contents ++ l)) body; cut = cut; place_is = to.place_is }
 
-records_of-push : (contents : Contents) (content : List ℕ) → records_of (contents ++ content ∷ []) ≡ records_of contents ++ record_of content
+pub records_of-push : (contents : Contents) (content : List ℕ) → records_of (contents ++ content ∷ []) ≡ records_of contents ++ record_of content
 records_of-push contents content = flat_map-append record_of contents (content ∷ []) ∙ ap (λ (l : List ℕ). records_of contents ++ l) (append-nil (record_of content))
 
 length-record_of : (content : List ℕ) → length (record_of content) ≡ 5 + length content

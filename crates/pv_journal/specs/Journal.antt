@@ -1,5 +1,5 @@
 -- A journal on a disk as a log.
-use Rattle.std.specs.Prelude.{◌≡◌, ◌≢◌, ◌⊎◌, ℕ, ◌+◌, ◌^◌, ◌<◌, ◌≤◌, Bool, true, false, MatchBool, List, [], ◌∷◌, ◌++◌, Option, Some, None, length, option_and_then, vec_capacity}
+use Rattle.std.specs.Prelude.{◌≡◌, ◌≢◌, ◌⊎◌, ℕ, ◌+◌, ◌-◌, ◌^◌, ◌<◌, ◌≤◌, Bool, true, false, MatchBool, List, [], ◌∷◌, ◌++◌, Option, Some, None, length, option_and_then, vec_capacity}
 use Rattle.pv_base.specs.BigEndian.{big_endian}
 use Rattle.pv_disk.specs.Calls.{DiskCall, LogCall, Makes, OnlyReads, read_all, reserve, append, make_room, write, sync}
 use Rattle.pv_disk.specs.DiskModel.{DiskModel}
@@ -9,19 +9,22 @@ use Rattle.pv_journal.specs.Format.{framed, IsJournal, end_of}
 use Rattle.pv_journal.specs.Contents.{contents_of}
 use Rattle.pv_journal.specs.declared.journal.Journal.{Journal}
 
--- What an append at a closed gate asks of the disk, in this order: the content with its length and a closed gate after it, a sync, the
--- gate, a sync.
+-- What an append at a closed gate asks of the disk, in this order: the frame after the gate, a sync, the gate, a sync.
+abbrev pub frame_calls : ℕ → List ℕ → List DiskCall
+frame_calls end frame = write (end + 1) frame ∷ sync ∷ write end (1 ∷ []) ∷ sync ∷ []
+
+-- The frame is the content with its length before it and a closed gate after it.
 abbrev pub append_calls : ℕ → List ℕ → List DiskCall
-append_calls end content = write (end + 1) (framed content ++ 0 ∷ []) ∷ sync ∷ write end (1 ∷ []) ∷ sync ∷ []
+append_calls end content = frame_calls end (framed content ++ 0 ∷ [])
 
 module _ {D : Type 0} (M : DiskModel D) where
-  -- While the journal isn't down, its disk is a journal whose closed gate stands at `end`, all of it synced.
+  -- While the journal isn't down, its disk is a journal of that length up to its closed gate, all of it synced.
   pub record IsIntact (journal : Journal D) : Type 0 where
-    pub starts : 8 ≤ journal.end
-    pub bounded : journal.end + 1 ≤ 2 ^ 62
+    pub starts : 9 ≤ journal.length
+    pub bounded : journal.length ≤ 2 ^ 62
     pub limited : journal.limit ≤ 2 ^ 32
     pub at_rest : journal.down ≡ false → (bytes : List ℕ) → M.content journal.disk ≡ Some bytes
-        → (contents : Contents) × IsJournal contents bytes × (journal.end ≡ end_of contents)
+        → (contents : Contents) × IsJournal contents bytes × (journal.length ≡ end_of contents + 1)
     pub durable : journal.down ≡ false → (bytes : List ℕ) → M.content journal.disk ≡ Some bytes → Only bytes (M.may_leave journal.disk)
 
   -- The contents of the journal that the disk tells.
@@ -41,11 +44,11 @@ module _ {D : Type 0} (M : DiskModel D) where
     pub frame : 5 + content ≤ vec_capacity journal.frame
     pub room : 6 + content ≤ M.room journal.disk
     pub writes : 2 ≤ M.writes journal.disk
-    pub within : journal.end + 1 + (5 + content) ≤ journal.limit
+    pub within : journal.length + (5 + content) ≤ journal.limit
 
   -- The calls that one call makes of the disk. A journal that is down makes none, and one without room within its limit neither.
   abbrev pub JournalGoes : Journal D → LogCall → Bool → Journal D → Type 0
   JournalGoes old read_all ok new = OnlyReads M.goes old.disk new.disk
   JournalGoes old (reserve content) ok new = (new.disk ≡ old.disk) ⊎ Makes M.goes old.disk (make_room (6 + content) 2 ∷ []) ok new.disk
   JournalGoes old (append content) ok new =
-      MatchBool old.down ((ok ≡ false) × (new ≡ old)) (Makes M.goes old.disk (append_calls old.end content) ok new.disk)
+      MatchBool old.down ((ok ≡ false) × (new ≡ old)) (Makes M.goes old.disk (append_calls (old.length - 1) content) ok new.disk)

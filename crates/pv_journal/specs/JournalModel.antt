@@ -36,12 +36,12 @@ module _ {D : Type 0} (M : DiskModel D) where
       let told = told_bytes (M.content journal.disk) held is in
       leaves.2 ∙ ap contents_of (intact.durable up told.0 told.1 leaves.0 leaves.1) ∙ told.2
 
-  pub size_of_journal : (journal : Journal D) (held : Contents) → IsIntact M journal → journal.down ≡ false → contents_now M journal ≡ Some held → journal.end + 1 ≡ size_of held
+  pub size_of_journal : (journal : Journal D) (held : Contents) → IsIntact M journal → journal.down ≡ false → contents_now M journal ≡ Some held → journal.length ≡ size_of held
   size_of_journal journal held intact up is =
       let told = told_bytes (M.content journal.disk) held is in
       let rest = intact.at_rest up told.0 told.1 in
       let same : rest.0 ≡ held = same_contents rest.0 held told.0 rest.1 (contents_of-journal held told.0 told.2) in
-      ap (λ n. n + 1) (rest.2 ∙ ap end_of same) ∙ sym (end_of-size held)
+      rest.2 ∙ ap (λ (c : Contents). end_of c + 1) same ∙ sym (end_of-size held)
 
   pub held_is_left : (journal : Journal D) (held : Contents) → contents_now M journal ≡ Some held → LeavesNow M journal (Some held)
   held_is_left journal held is =
@@ -56,7 +56,7 @@ module _ {D : Type 0} (M : DiskModel D) where
     left_since = LeavesSince M;
     faults = λ journal. M.faults journal.disk;
     is_down = λ journal. journal.down;
-    size = λ journal. journal.end + 1;
+    size = λ journal. journal.length;
     limit = λ journal. journal.limit;
     has_room = HasRoom M;
     is_intact = IsIntact M;

@@ -20,8 +20,8 @@ pub struct Journal<D: Disk> {
     pub(crate) disk: D,
     /// The memory of the next record, from its length to the closed gate after it.
     pub(crate) frame: Vec<u8>,
-    /// The place of the closed gate.
-    pub(crate) end: u64,
+    /// Its length in bytes, up to and with the closed gate.
+    pub(crate) length: u64,
     /// How long the journal may become, in bytes.
     pub(crate) limit: u64,
     /// Whether a call failed since it was opened.
@@ -46,7 +46,7 @@ impl<D: Disk> Journal<D> {
             Ok(end) => Ok(Journal {
                 disk,
                 frame: Vec::new(alloc),
-                end,
+                length: end + 1,
                 limit,
                 down: false,
             }),

@@ -2,6 +2,7 @@
 #![tactic(auto)]
 
 mod journal;
+mod log;
 mod open_log;
 mod reading;
 
