@@ -65,8 +65,7 @@ module _ (contents : Contents) (content bytes : List ℕ) (journal : IsJournal c
       journal.is ∙ sym (append_assoc header (records_of contents) (journal.gate ∷ journal.rest)) ∙ sym (append_assoc front (journal.gate ∷ []) journal.rest) in
       let begins : take (end + 1) bytes ≡ start = ap (take (end + 1)) whole ∙ take_at start journal.rest (end + 1) size in
       let tail = drop (end + 1 + length frame) bytes in
-      let behind : frame ++ tail ≡ framed content ++ 0 ∷ tail = ap (λ (l : List ℕ). l ++ tail) is ∙ append_assoc (framed content) (0 ∷ []) tail in
-      (
+      let behind : frame ++ tail ≡ framed content ++ 0 ∷ tail = ap (λ (l : List ℕ). l ++ tail) is ∙ append_assoc (framed content) (0 ∷ []) tail in (
         tail,
         ap (λ (l : List ℕ). l ++ (frame ++ tail)) begins ∙ ap (λ (l : List ℕ). start ++ l) behind ∙ append_assoc front (journal.gate ∷ []) (framed content ++ 0 ∷ tail),
       )
@@ -116,8 +115,8 @@ module _ {D : Type 0} (M : DiskModel D) (d0 : D) (end : ℕ) (frame : List ℕ) 
   after_write d1 leaves =
       LeavesOnly-weaken M d0 d1 (LeftTorn M d0 (end + 1) (length frame)) P leaves
       (λ left torn.
-        let from : torn.0 ≡ bytes = ready.durable torn.0 torn.1 in
-        inl (torn_behind contents content bytes ready.journal ready.short end (length frame) left ready.gate (subst (λ (l : List ℕ). Torn (end + 1) (length frame) l left) from torn.2)))
+      let from : torn.0 ≡ bytes = ready.durable torn.0 torn.1 in
+      inl (torn_behind contents content bytes ready.journal ready.short end (length frame) left ready.gate (subst (λ (l : List ℕ). Torn (end + 1) (length frame) l left) from torn.2)))
 
   -- A call after which a crash leaves what it might have left before.
   pub after_quiet : (d d' : D) → LeavesOnly M d0 d P → LeavesOnly M d d' (M.may_leave d) → LeavesOnly M d0 d' P
@@ -130,9 +129,9 @@ module _ {D : Type 0} (M : DiskModel D) (d0 : D) (end : ℕ) (frame : List ℕ) 
         let parts = staged_is contents content bytes ready.journal ready.short end frame ready.gate ready.framed_is in
         LeavesOnly-trans M d0 d2 d3 P (LeftTorn M d2 end 1) P first leaves (λ left has. has)
         (λ left torn.
-          let from : torn.0 ≡ overlaid bytes (end + 1) frame = only torn.0 torn.1 in
-          torn_gate contents content bytes ready.journal ready.short end parts.0 (overlaid bytes (end + 1) frame) ready.gate parts.1 left
-            (subst (λ (l : List ℕ). Torn end 1 l left) from torn.2))
+        let from : torn.0 ≡ overlaid bytes (end + 1) frame = only torn.0 torn.1 in
+        torn_gate contents content bytes ready.journal ready.short end parts.0 (overlaid bytes (end + 1) frame) ready.gate parts.1 left
+        (subst (λ (l : List ℕ). Torn end 1 l left) from torn.2))
 
     pub long_enough : end < length (overlaid bytes (end + 1) frame)
     long_enough =

@@ -43,9 +43,12 @@ told_length more content tail number gate count is spelled fits short frame =
     (sym same, omega (arith, parts.2, same))
 
 pub cut_late : (rest more number : List ℕ) (count : ℕ) → rest ≡ 1 ∷ more → number ≡ take 4 more → big_endian 4 count ≡ number → count < 2 ^ 32 → length rest ≤ count + 5 → StandsCut rest
-cut_late rest more number count is read spelled fits late =
-    (more, is, λ content tail gate short frame.
-      absurd (omega (arith, ap length is, (told_length more content tail number gate count read spelled fits short frame).1)))
+cut_late rest more number count is read spelled fits late = (
+  more,
+  is,
+  λ content tail gate short frame.
+      absurd (omega (arith, ap length is, (told_length more content tail number gate count read spelled fits short frame).1)),
+)
 
 pub stands_open : (rest more number : List ℕ) (count : ℕ) → rest ≡ 1 ∷ more → number ≡ take 4 more → big_endian 4 count ≡ number → count + 5 < length rest → StandsAt rest (Open count)
 stands_open rest more number count is read spelled early =
@@ -65,7 +68,7 @@ pub whole_number : (bytes left : List ℕ) (number : ℕ) → bytes ≡ big_endi
 whole_number bytes left number is four =
     let size : length (big_endian 4 number) ≡ 4 = length-big_endian 4 number in
     sym (is ∙ ap (λ (l : List ℕ). big_endian 4 number ++ l) (nil_from_length left (omega (arith, ap length is, length-append (big_endian 4 number) left, size)))
-      ∙ append-nil (big_endian 4 number))
+    ∙ append-nil (big_endian 4 number))
 
 -- A disk that begins otherwise, or ends within the header.
 pub no_header : (bytes front : List ℕ) (size place : ℕ) → size ≡ length bytes → front ≡ take (min size 8) bytes → place ≤ length front → place < 8
@@ -80,8 +83,11 @@ no_header bytes front size place is read reached within same differ =
       reached = omega (arith, whole, is);
       wrong = elim (cases_lt place (length front)) [
         | inr ends ↦ inl (omega (arith, whole, is))
-        | inl inside ↦ inr (within, λ equal. differ inside
-          (ap (λ (l : List ℕ). slice_index l place) read ∙ get_or-take count bytes place 0 (omega (arith, whole)) ∙ equal))
+        | inl inside ↦ inr (
+          within,
+          λ equal. differ inside
+              (ap (λ (l : List ℕ). slice_index l place) read ∙ get_or-take count bytes place 0 (omega (arith, whole)) ∙ equal),
+        )
       ];
     }
 
@@ -116,8 +122,7 @@ at_place contents bytes place to =
 
 pub read_closed : (contents : Contents) (bytes : List ℕ) (place : ℕ) → ReadsTo contents bytes place → StandsAt (drop place bytes) Closed → IsJournal contents bytes × (place ≡ end_of contents)
 read_closed contents bytes place to (gate, more, closed, stands) =
-    let body : to.body ≡ gate ∷ more = sym (at_place contents bytes place to) ∙ stands in
-    (
+    let body : to.body ≡ gate ∷ more = sym (at_place contents bytes place to) ∙ stands in (
       record { short = to.short; gate = gate; rest = more; closed = closed; is = to.is ∙ ap (λ (l : List ℕ). header ++ (records_of contents ++ l)) body },
       to.place_is,
     )
@@ -130,7 +135,7 @@ read_cut contents bytes place to (rest, stands, cut) =
 pub records_of-push : (contents : Contents) (content : List ℕ) → records_of (contents ++ content ∷ []) ≡ records_of contents ++ record_of content
 records_of-push contents content = flat_map-append record_of contents (content ∷ []) ∙ ap (λ (l : List ℕ). records_of contents ++ l) (append-nil (record_of content))
 
-length-record_of : (content : List ℕ) → length (record_of content) ≡ 5 + length content
+pub length-record_of : (content : List ℕ) → length (record_of content) ≡ 5 + length content
 length-record_of content = omega (arith, length-append (big_endian 4 (length content)) content, length-big_endian 4 (length content))
 
 -- One more record was read.

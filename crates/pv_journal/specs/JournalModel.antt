@@ -24,7 +24,7 @@ end_of-size (content ∷ contents) =
     omega (arith, sum_by-cons (λ c. 5 + length c) content contents, end_of-size contents, length-append (record_of content) (records_of contents), length-framed content)
 
 -- What is told is some bytes, of which the contents are told.
-told_bytes : (content : Option (List ℕ)) (held : Contents) → option_and_then contents_of content ≡ Some held
+pub told_bytes : (content : Option (List ℕ)) (held : Contents) → option_and_then contents_of content ≡ Some held
     → (bytes : List ℕ) × (content ≡ Some bytes) × (contents_of bytes ≡ Some held)
 told_bytes None held is = cc
 told_bytes (Some bytes) held is = (bytes, refl, is)

@@ -58,12 +58,16 @@ impl<D: Disk> Log for Journal<D> {
             return Err(LogError::Down);
         }
         make_frame(&mut self.frame, content);
-        if write_record(&mut self.disk, self.length - 1, &self.frame).is_err() {
-            self.down = true;
-            return Err(LogError::Failed);
+        match write_record(&mut self.disk, self.length - 1, &self.frame) {
+            Ok(()) => {
+                self.length += 5 + content.len() as u64;
+                Ok(())
+            }
+            Err(_) => {
+                self.down = true;
+                Err(LogError::Failed)
+            }
         }
-        self.length += 5 + content.len() as u64;
-        Ok(())
     }
 
     fn length(&self) -> u64 {
@@ -78,7 +82,7 @@ fn write_record<D: Disk>(disk: &mut D, end: u64, frame: &[u8]) -> Result<(), Fai
     requires short { end + 1 + length frame.now ≤ 2 ^ 40 }
     requires room { 1 + length frame.now ≤ D.model.room disk.old }
     requires writes { 2 ≤ D.model.writes disk.old }
-    ensures record { (contents : Contents) (content bytes : List ℕ) → IsReady D.model disk.old end frame.now contents content bytes
+    ensures crash { (contents : Contents) (content bytes : List ℕ) → IsReady D.model disk.old end frame.now contents content bytes
         → WritesRecord D.model disk.old disk.new contents content result }
     ensures told { is_some (D.model.content disk.new) ≡ is_some (D.model.content disk.old) }
     ensures calls { Makes D.model.goes disk.old (frame_calls end frame.now) (is_ok result) disk.new }

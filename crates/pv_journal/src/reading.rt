@@ -105,7 +105,12 @@ pub(crate) fn read_contents<D: Disk>(alloc: Global, disk: &mut D) -> Result<Vec<
 ///
 /// - [`LookError::NotOurs`]: as in [`gate_at`].
 #[tactic(auto, using(crate::proofs::LookLemmas::looking))]
-fn read_record<D: Disk>(alloc: Global, disk: &mut D, size: u64, place: u64) -> Result<Option<Vec<u8>>, LookError>
+fn read_record<D: Disk>(
+    alloc: Global,
+    disk: &mut D,
+    size: u64,
+    place: u64,
+) -> Result<Option<Vec<u8>>, LookError>
     requires told { (bytes : List ℕ) → D.model.content disk.old ≡ Some bytes → size ≡ length bytes }
     requires within { place < size }
     requires bounded { size ≤ 2 ^ 62 }

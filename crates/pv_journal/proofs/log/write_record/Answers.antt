@@ -7,14 +7,14 @@ use Rattle.pv_journal.proofs.LookLemmas.{told_before}
 use Rattle.pv_journal.proofs.AppendLemmas.{after_write, after_quiet, after_gate_write, now_longer, broken_off, finished}
 use Rattle.pv_journal.proofs.log.write_record.Goals as goal
 
-pub returns-in_err-write_at-clause-record : goal.returns-in_err-write_at-clause-record
-returns-in_err-write_at-clause-record g c contents content bytes ready =
+pub returns-in_err-write_at-clause-crash : goal.returns-in_err-write_at-clause-crash
+returns-in_err-write_at-clause-crash g c contents content bytes ready =
     let M = g.D.Disk.model in
     let first = after_write M c.args.disk.now c.args.end c.args.frame.now contents content bytes ready c.write_at.new.self c.write_at.ensures.effect.any_moment in
     broken_off M c.args.disk.now c.args.end c.args.frame.now contents content bytes ready c.write_at.new.self c.from_residual.result (record {}) (search rules) first
 
-pub returns-in_err-sync-clause-record : goal.returns-in_err-sync-clause-record
-returns-in_err-sync-clause-record g c contents content bytes ready =
+pub returns-in_err-sync-clause-crash : goal.returns-in_err-sync-clause-crash
+returns-in_err-sync-clause-crash g c contents content bytes ready =
     let M = g.D.Disk.model in
     let first = after_write M c.args.disk.now c.args.end c.args.frame.now contents content bytes ready c.write_at.new.self c.write_at.ensures.effect.any_moment in
     let second = after_quiet M c.args.disk.now c.args.end c.args.frame.now contents content bytes ready c.write_at.new.self c.sync.new.self first c.sync.ensures.effect.observes.any_moment in
@@ -30,8 +30,8 @@ write_at-requires-2-clause-within g c held is =
     let same : staged ≡ held = cc in
     omega (arith, ap length same, length-overlaid was.0 (c.args.end + 1) c.args.frame.now within)
 
-pub returns-in_err-write_at-2-clause-record : goal.returns-in_err-write_at-2-clause-record
-returns-in_err-write_at-2-clause-record g c contents content bytes ready =
+pub returns-in_err-write_at-2-clause-crash : goal.returns-in_err-write_at-2-clause-crash
+returns-in_err-write_at-2-clause-crash g c contents content bytes ready =
     let M = g.D.Disk.model in
     let first = after_write M c.args.disk.now c.args.end c.args.frame.now contents content bytes ready c.write_at.new.self c.write_at.ensures.effect.any_moment in
     let second = after_quiet M c.args.disk.now c.args.end c.args.frame.now contents content bytes ready c.write_at.new.self c.sync.new.self first c.sync.ensures.effect.observes.any_moment in
@@ -42,8 +42,8 @@ returns-in_err-write_at-2-clause-record g c contents content bytes ready =
     let third = after_gate_write M c.args.disk.now c.args.end c.args.frame.now contents content bytes ready c.sync.new.self second told only c.write_at-2.new.self c.write_at-2.ensures.effect.any_moment in
     broken_off M c.args.disk.now c.args.end c.args.frame.now contents content bytes ready c.write_at-2.new.self c.from_residual-in_err-write_at-2.result (record {}) (search rules) third
 
-pub returns-clause-record : goal.returns-clause-record
-returns-clause-record g c contents content bytes ready =
+pub returns-clause-crash : goal.returns-clause-crash
+returns-clause-crash g c contents content bytes ready =
     let M = g.D.Disk.model in
     let first = after_write M c.args.disk.now c.args.end c.args.frame.now contents content bytes ready c.write_at.new.self c.write_at.ensures.effect.any_moment in
     let second = after_quiet M c.args.disk.now c.args.end c.args.frame.now contents content bytes ready c.write_at.new.self c.sync.new.self first c.sync.ensures.effect.observes.any_moment in
@@ -59,5 +59,16 @@ returns-clause-record g c contents content bytes ready =
 
 pub returns-clause-calls : goal.returns-clause-calls
 returns-clause-calls g c =
-    inr (c.write_at.new.self, c.in_ok-write_at.ensures.goes, inr (c.sync.new.self, c.in_ok-sync.ensures.goes, inr (c.write_at-2.new.self, c.in_ok-write_at-2.ensures.goes,
-      Makes-one g.D.Disk.model.goes c.write_at-2.new.self sync _ c.sync-2.new.self c.sync-2.ensures.goes)))
+    inr (
+      c.write_at.new.self,
+      c.in_ok-write_at.ensures.goes,
+      inr (
+        c.sync.new.self,
+        c.in_ok-sync.ensures.goes,
+        inr (
+          c.write_at-2.new.self,
+          c.in_ok-write_at-2.ensures.goes,
+          Makes-one g.D.Disk.model.goes c.write_at-2.new.self sync _ c.sync-2.new.self c.sync-2.ensures.goes,
+        ),
+      ),
+    )

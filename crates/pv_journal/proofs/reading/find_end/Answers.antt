@@ -29,18 +29,16 @@ pub loop-count-preserved : goal.loop-count-preserved
 loop-count-preserved g c =
     let both = looked_ok g.D.Disk.model c.args.disk.now c.loop-count.disk c.gate_at.new.disk (c.loop-count.invariant.0, c.loop-count.invariant.1) c.in_ok-gate_at.ensures.effect in
     let count = c.in-Open.count in
-    let ends : EndsBefore (Open count) (c.in_ok-size.size - c.loop-count.place) = subst (λ (gate : Gate). EndsBefore gate (c.in_ok-size.size - c.loop-count.place)) c.in-Open.is c.in_ok-gate_at.ensures.ends in
-    (
+    let ends : EndsBefore (Open count) (c.in_ok-size.size - c.loop-count.place) = subst (λ (gate : Gate). EndsBefore gate (c.in_ok-size.size - c.loop-count.place)) c.in-Open.is c.in_ok-gate_at.ensures.ends in (
       both.0,
       both.1,
       λ bytes is.
-      let to = c.loop-count.invariant.2 bytes is in
-      let stands = subst (StandsAt (drop c.loop-count.place bytes)) c.in-Open.is (c.in_ok-gate_at.ensures.stands bytes (c.loop-count.invariant.1 ∙ is)) in
-      (
-        to.0 ++ stands.0 ∷ [],
-        subst (λ n. ReadsTo (to.0 ++ stands.0 ∷ []) bytes (c.loop-count.place + (5 + n))) (sym c.from.ensures)
-          (read_open to.0 bytes stands.0 stands.2 c.loop-count.place count stands.1 to.1 stands.3 ends.1 stands.4),
-      ),
+          let to = c.loop-count.invariant.2 bytes is in
+          let stands = subst (StandsAt (drop c.loop-count.place bytes)) c.in-Open.is (c.in_ok-gate_at.ensures.stands bytes (c.loop-count.invariant.1 ∙ is)) in (
+            to.0 ++ stands.0 ∷ [],
+            subst (λ n. ReadsTo (to.0 ++ stands.0 ∷ []) bytes (c.loop-count.place + (5 + n))) (sym c.from.ensures)
+                (read_open to.0 bytes stands.0 stands.2 c.loop-count.place count stands.1 to.1 stands.3 ends.1 stands.4),
+          ),
       omega (arith, ends.0, c.from.ensures),
       omega (arith, c.loop-count.invariant.4),
     )

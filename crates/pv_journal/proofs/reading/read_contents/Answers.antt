@@ -35,14 +35,13 @@ loop-all-preserved g c =
     let size : length content.items ≡ vec_len content = search rules in
     let ends = subst (λ (found : Option (Vec ℕ Global)). IfSome found (λ it. (vec_len it + 5 < c.in_ok-size.size - c.loop-all.place) × (vec_len it < 2 ^ 32))) c.in-Some.is c.in_ok-content.ensures.ends in
     let grown : map f c.push.new.self.items ≡ all ++ content.items ∷ [] = ap (map f) c.in_ok-push.ensures.items ∙ map_push f c.loop-all.all.items content in
-    let length_is : c.len.result ≡ vec_len content = c.len.ensures in
-    (
+    let length_is : c.len.result ≡ vec_len content = c.len.ensures in (
       both.0,
       both.1,
       λ bytes is.
-      let stands = subst (HoldsRecord (drop c.loop-all.place bytes)) c.in-Some.is (c.in_ok-content.ensures.stands bytes (c.loop-all.invariant.1 ∙ is)) in
-      rw (grown, length_is)
-      (read_open all bytes content.items stands.1 c.loop-all.place (vec_len content) stands.0 (c.loop-all.invariant.2 bytes is) size ends.1 stands.2),
+          let stands = subst (HoldsRecord (drop c.loop-all.place bytes)) c.in-Some.is (c.in_ok-content.ensures.stands bytes (c.loop-all.invariant.1 ∙ is)) in
+          rw (grown, length_is)
+          (read_open all bytes content.items stands.1 c.loop-all.place (vec_len content) stands.0 (c.loop-all.invariant.2 bytes is) size ends.1 stands.2),
       omega (arith, ends.0, length_is),
     )
 
