@@ -36,18 +36,18 @@ notes old new P more past now_has more_has kept =
     λ t le. ap (λ (l : List Moment). drop t l) past ∙ drop-append-le t old.image.past more le in
     let split : (t : ℕ) (left : List ℕ) → t ≤ length old.image.past → LeftSince new.image t left → LeftSince old.image t left ⊎ P left =
     λ t left le since. ⊎_elim (λ now. inr (now_has left now))
-      (λ might. ⊎_elim (λ early. inl (inr early)) (λ late. inr (more_has left late))
-        (MightHaveLeft-split (drop t old.image.past) more left (subst (λ (l : List Moment). MightHaveLeft l left) (from t le) might))) since in
+    (λ might. ⊎_elim (λ early. inl (inr early)) (λ late. inr (more_has left late))
+    (MightHaveLeft-split (drop t old.image.past) more left (subst (λ (l : List Moment). MightHaveLeft l left) (from t le) might))) since in
     record {
       later = omega (arith, ap length past, length-append old.image.past more);
       each = λ left since.
           ⊎_elim (λ now. now_has left now)
           (λ might. more_has left (subst (λ (l : List Moment). MightHaveLeft l left)
-            (ap (λ (l : List Moment). drop (length old.image.past) l) past ∙ drop_at old.image.past more (length old.image.past) refl) might)) since;
+          (ap (λ (l : List Moment). drop (length old.image.past) l) past ∙ drop_at old.image.past more (length old.image.past) refl) might)) since;
       before = split;
       keeps = λ t left le since.
           ⊎_elim (λ now. ⊎_elim (λ still. inl still)
-              (λ noted. inr (subst (λ (l : List Moment). MightHaveLeft l left) (sym (from t le)) (MightHaveLeft-late (drop t old.image.past) more left noted))) (kept left now))
+          (λ noted. inr (subst (λ (l : List Moment). MightHaveLeft l left) (sym (from t le)) (MightHaveLeft-late (drop t old.image.past) more left noted))) (kept left now))
           (λ might. inr (subst (λ (l : List Moment). MightHaveLeft l left) (sym (from t le)) (MightHaveLeft-early (drop t old.image.past) more left might))) since;
     }
 
@@ -67,20 +67,20 @@ pub settles : (old new : MemState) (P : List ℕ → Type 0) → IsMade old.imag
 settles old new P made noted settled same has old_has =
     let now_has : (left : List ℕ) → LeftNow new.image left → P left =
     λ left is. ⊎_elim (λ here. subst P (sym here) has)
-      (λ may. let at_rest : left ≡ new.image.content = subst (λ (m : Moment). MayLeave m left) settled may in subst P (sym at_rest) has) is in
+    (λ may. let at_rest : left ≡ new.image.content = subst (λ (m : Moment). MayLeave m left) settled may in subst P (sym at_rest) has) is in
     let reached : MayLeave old.image.now old.image.content = AreMade-Reaches old.image.now.ranges old.image.now.synced old.image.content made in
     ⊎_elim
     (λ past. notes old new P (old.image.now ∷ []) past now_has (λ left might. old_has left (⊎_elim (λ may. inr may) (λ none. absurd none) might))
-      (λ left is. inr (inl (⊎_elim (λ here. subst (MayLeave old.image.now) (sym here) reached) (λ may. may) is))))
+    (λ left is. inr (inl (⊎_elim (λ here. subst (MayLeave old.image.now) (sym here) reached) (λ may. may) is))))
     (λ past. notes old new P [] (past.0 ∙ sym (append-nil old.image.past)) now_has (λ left none. absurd none)
-      (λ left is. inl (inl (
-        let was : left ≡ old.image.content =
-        ⊎_elim (λ here. here)
-          (λ may.
-            let at_synced : left ≡ old.image.now.synced = subst (λ (l : List Range). Reaches old.image.now.synced l left) past.1 may in
-            let content : old.image.content ≡ old.image.now.synced = subst (λ (l : List Range). AreMade old.image.now.synced l old.image.content) past.1 made in
-            at_synced ∙ sym content) is in
-        was ∙ sym (same past.1)))))
+    (λ left is. inl (inl (
+    let was : left ≡ old.image.content =
+    ⊎_elim (λ here. here)
+    (λ may.
+    let at_synced : left ≡ old.image.now.synced = subst (λ (l : List Range). Reaches old.image.now.synced l left) past.1 may in
+    let content : old.image.content ≡ old.image.now.synced = subst (λ (l : List Range). AreMade old.image.now.synced l old.image.content) past.1 made in
+    at_synced ∙ sym content) is in
+    was ∙ sym (same past.1)))))
     noted
 
 -- A write that doesn't fire.
@@ -92,10 +92,10 @@ writes old new place bytes made within content now past =
     let torn : Torn place (length bytes) old.image.content new.image.content = rw content (Torn-overlaid old.image.content place bytes within) in
     notes old new (LeftTorn mem_model old place (length bytes)) (old.image.now ∷ []) past
     (λ left is. ⊎_elim
-      (λ here. (old.image.content, inl refl, subst (Torn place (length bytes) old.image.content) (sym here) torn))
-      (λ may.
-        let back = Reaches-push old.image.now.ranges (record { place = place; count = length bytes }) old.image.now.synced left (subst (λ (m : Moment). MayLeave m left) now may) in
-        (back.0, inr back.1, back.2)) is)
+    (λ here. (old.image.content, inl refl, subst (Torn place (length bytes) old.image.content) (sym here) torn))
+    (λ may.
+    let back = Reaches-push old.image.now.ranges (record { place = place; count = length bytes }) old.image.now.synced left (subst (λ (m : Moment). MayLeave m left) now may) in
+    (back.0, inr back.1, back.2)) is)
     (λ left might. ⊎_elim (λ may. (left, inr may, Torn-refl place (length bytes) left)) (λ none. absurd none) might)
     (λ left is. inr (inl (⊎_elim (λ here. subst (MayLeave old.image.now) (sym here) reached) (λ may. may) is)))
 
@@ -116,14 +116,13 @@ pub left_by_write : (mode : Mode) (old : MemState) (place : ℕ) (bytes : List �
 left_by_write Lost old place bytes made within =
     (old.image.now.synced, inr (Reaches-synced old.image.now.ranges old.image.now.synced), Torn-refl place (length bytes) old.image.now.synced)
 left_by_write Kept old place bytes made within = (old.image.content, inl refl, Torn-overlaid old.image.content place bytes within)
-left_by_write TornAll old place bytes made within =
-    (
-      filled old.image.now.ranges old.image.content,
-      inr (Reaches-filled old.image.now.ranges old.image.now.synced old.image.content made),
-      Torn-filled old.image.now.ranges (record { place = place; count = length bytes }) old.image.content (overlaid old.image.content place bytes)
-        (AreMade-inside old.image.now.ranges old.image.now.synced old.image.content made) (Torn-overlaid old.image.content place bytes within)
-        (omega (arith, length-overlaid old.image.content place bytes within)),
-    )
+left_by_write TornAll old place bytes made within = (
+  filled old.image.now.ranges old.image.content,
+  inr (Reaches-filled old.image.now.ranges old.image.now.synced old.image.content made),
+  Torn-filled old.image.now.ranges (record { place = place; count = length bytes }) old.image.content (overlaid old.image.content place bytes)
+      (AreMade-inside old.image.now.ranges old.image.now.synced old.image.content made) (Torn-overlaid old.image.content place bytes within)
+      (omega (arith, length-overlaid old.image.content place bytes within)),
+)
 
 -- What is left at rest is the content alone.
 only_content : (image : ImageState) → image.now ≡ settled_at image.content → Only image.content (LeftNow image)
@@ -186,10 +185,10 @@ module _ {X : Type 0} (old new : MemState) (place : ℕ) (bytes : List ℕ) (mad
       let first = writes old mid place bytes made within content now past in
       let fires : P new.image.content =
       subst P (sym (crashed ∙ ap (λ (m : Moment). left_by mode m mid.image.content) now ∙ ap (left_by mode (written_at old.image.now place (length bytes))) content))
-        (left_by_write mode old place bytes made within) in
+      (left_by_write mode old place bytes made within) in
       let second : LeavesOnly mem_model mid new P =
       settles mid new P mid_made noted settled (λ none. crashed ∙ left_by_none mode mid.image mid_made none) fires
-        (λ left is. first.each left (inl is)) in
+      (λ left is. first.each left (inl is)) in
       record {
         content = tt;
         told = refl;

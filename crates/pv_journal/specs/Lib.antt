@@ -3,6 +3,7 @@ pub mod Bodies
 pub mod Contents
 pub mod Format
 pub mod Journal
+pub mod Lending
 pub mod JournalModel
 pub mod OneAnswer
 pub mod Opening

@@ -29,6 +29,10 @@ pub struct Journal<D: Disk> {
 }
 
 impl<D: Disk> Journal<D> {
+    ghost use Rattle.std.specs.Borrow.{Lends, sem};
+    ghost use Rattle.pv_journal.specs.contracts.journal.Journal.{the_row};
+    ghost use Rattle.pv_journal.specs.Lending.{with_disk};
+
     /// Opens the journal on a disk, which may become `limit` bytes long, from 32 to 4,294,967,296. It begins with a sync
     /// and then only reads, in time linear in the count of records. A journal that is longer than the limit is opened too.
     ///
@@ -54,6 +58,14 @@ impl<D: Disk> Journal<D> {
             Err(LookError::NotOurs(place)) => Err(OpenLog::NotOurs(disk, place)),
             Err(LookError::NoMemory) => Err(OpenLog::NoMemory(disk)),
         }
+    }
+
+    /// The disk, to see it or to arm it. The calls of `Log` that come after need its content as it was.
+    pub fn disk(&mut self) -> &mut D
+        ensures* lends { sem 𝓛 (Lends (the_row D.row) D.row self.entry result (with_disk self.old)) }
+        ensures value { result.now ≡ self.old.disk }
+    {
+        &mut self.disk
     }
 
     /// The disk.

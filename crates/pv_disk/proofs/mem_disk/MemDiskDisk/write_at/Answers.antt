@@ -21,4 +21,4 @@ returns-clause-effect c =
     let within : c.args.place ≤ length c.self.inside.image.content = search rules in
     rw (← c.self.view_is)
     (write_fired old new c.args.place c.args.bytes.now was.made within (omega (arith, was.room, is.room)) (omega (arith, was.writes, is.writes))
-      mid c.in-Some.mode (record {}) was.content was.now was.past is.made is.past is.content is.now (search rules) c.saturating_add-self-inside.ensures)
+    mid c.in-Some.mode (record {}) was.content was.now was.past is.made is.past is.content is.now (search rules) c.saturating_add-self-inside.ensures)
