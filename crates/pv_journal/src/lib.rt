@@ -8,3 +8,8 @@ mod reading;
 
 pub use journal::{Journal, format, look};
 pub use open_log::OpenLog;
+
+#[cfg(test)]
+mod crash_tests;
+#[cfg(test)]
+mod tests;
