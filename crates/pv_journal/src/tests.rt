@@ -31,15 +31,19 @@ fn told_of(alloc: Global, bytes: Vec<u8>) -> Result<Option<Told>, Fail>
         Err(LookError::NotOurs(place)) => NotOurs(place),
         Err(e) => return Err(e.into()),
     };
-    let opened = match Journal::open(alloc, disk, 66) {
-        Ok(mut journal) => Holds(journal.read_all()?.len()),
-        Err(OpenLog::NotOurs(_, place)) => NotOurs(place),
-        Err(_) => return Ok(None),
-    };
-    if opened != looked {
+    if opened_as(alloc, disk)? != looked {
         return Ok(None);
     }
     Ok(Some(looked))
+}
+
+fn opened_as(alloc: Global, disk: MemDisk) -> Result<Told, LogError> {
+    match Journal::open(alloc, disk, 66) {
+        Ok(mut journal) => Ok(Holds(journal.read_all()?.len())),
+        Err(OpenLog::NotOurs(_disk, place)) => Ok(NotOurs(place)),
+        Err(OpenLog::Failed(_disk)) => Err(LogError::Failed),
+        Err(OpenLog::NoMemory(_disk)) => Err(LogError::NoMemory),
+    }
 }
 
 // What is told at the numbers from the first to the second, without that one.
