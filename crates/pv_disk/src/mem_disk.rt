@@ -17,7 +17,7 @@ use std::marker::Model;
 /// A disk in memory. It tells what it holds.
 ///
 /// A write costs its bytes. A sync costs nothing that grows with the disk or its writes, and wants no memory; a write or a
-/// sync that fires costs the bytes written since the last sync. For each write some 40 bytes of its record are kept.
+/// sync that fires costs the bytes written since the last sync. For each write 32 bytes of its record are kept.
 #[derive(Drop)]
 pub struct MemDisk {
     /// What it holds, and what a crash may leave.

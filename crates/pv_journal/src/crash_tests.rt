@@ -2,7 +2,7 @@
 ghost use Rattle.std.specs.Prelude.{◌≡◌, ◌<◌, ◌^◌, length, IfOk};
 
 use super::*;
-use pv_base::Mode;
+use pv_base::{MAX_JOURNAL, Mode};
 use pv_disk::{Disk, Log, LogError, LookError, MemDisk};
 use std::alloc::Global;
 use std::test::Fail;
@@ -89,6 +89,38 @@ fn a_record_is_left_whole_or_not_at_all(rt: HostRuntime) -> Result<(), Fail> {
         add(&mut journal, b"three")?;
         assert_eq!(rt; journal.read_all()?.len(), *records + 1);
     }
+    Ok(())
+}
+
+// The length of a journal after so many appends of 20 bytes. `bench/appends` times the two tests that follow.
+fn length_after(alloc: Global, appends: u32) -> Result<u64, Fail> {
+    let mut disk = MemDisk::new(alloc);
+    format(&mut disk)?;
+    let Ok(mut journal) = Journal::open(alloc, disk, MAX_JOURNAL) else {
+        return Err(LookError::Failed.into());
+    };
+    add_all(&mut journal, appends)?;
+    Ok(journal.length())
+}
+
+fn add_all<L: Log>(log: &mut L, appends: u32) -> Result<(), LogError>
+    requires { L.model.is_intact log.old }
+{
+    for _ in 0..appends {
+        add(log, &[7; 20])?;
+    }
+    Ok(())
+}
+
+#[test]
+fn appends_10_000(rt: HostRuntime) -> Result<(), Fail> {
+    assert_eq!(rt; length_after(rt.alloc(), 10_000)?, 250_009);
+    Ok(())
+}
+
+#[test]
+fn appends_100_000(rt: HostRuntime) -> Result<(), Fail> {
+    assert_eq!(rt; length_after(rt.alloc(), 100_000)?, 2_500_009);
     Ok(())
 }
 
