@@ -1,0 +1,12 @@
+pub mod Calls
+pub mod Disk
+pub mod DiskModel
+pub mod ListLaws
+pub mod ListLog
+pub mod Log
+pub mod LogModel
+pub mod MemDisk
+pub mod MemHistory
+pub mod MemLaws
+pub mod MemImage
+pub mod Size

@@ -1,0 +1,4 @@
+mod AppendLemmas
+mod LogLemmas
+mod LookLemmas
+mod ReadLemmas

@@ -1,0 +1,51 @@
+use Rattle.std.proofs.Common.{rules, arith, ◌≡◌, ℕ, List, Err, inr, sym, ◌∙◌, subst, ap, map, drop, length, ◌+◌, ◌-◌, ◌++◌, ◌∷◌, [], vec_len, Vec, Global, Option, ◌<◌, ◌^◌}
+use Rattle.std.specs.Prelude.{IfSome}
+use Rattle.std.proofs.lemmas.List.{map_push}
+use Rattle.pv_disk.specs.Size.{Contents}
+use Rattle.pv_disk.specs.declared.disk_error.LookError.TheVariants.{NoMemory}
+use Rattle.pv_journal.specs.Format.{IsJournal, EndsShort}
+use Rattle.pv_journal.specs.Reading.{ReadsTo, HoldsRecord}
+use Rattle.pv_journal.proofs.LookLemmas.{looked_ok, looked_in_vain}
+use Rattle.pv_journal.proofs.ReadLemmas.{read_closed, read_cut, read_open}
+use Rattle.pv_journal.proofs.reading.read_contents.Goals as goal
+
+pub returns-in_err-content-clause-not_ours : goal.returns-in_err-content-clause-not_ours
+returns-in_err-content-clause-not_ours g c place told bytes is =
+    let cut = c.read_record.ensures.not_ours place (search rules) bytes (c.loop-all.invariant.1 ∙ is) in
+    let all = map (λ (it : Vec ℕ Global). it.items) c.loop-all.all.items in
+    inr (all, subst (EndsShort all bytes) (sym cut.0) (read_cut all bytes c.loop-all.place (c.loop-all.invariant.2 bytes is) cut.1))
+
+pub returns-in_default-clause-effect : goal.returns-in_default-clause-effect
+returns-in_default-clause-effect g c =
+    looked_ok g.D.Disk.model c.args.disk.now c.loop-all.disk c.read_record.new.disk (c.loop-all.invariant.0, c.loop-all.invariant.1) c.in_ok-content.ensures.effect
+
+pub returns-in_default-clause-found : goal.returns-in_default-clause-found
+returns-in_default-clause-found g c bytes is =
+    let all = map (λ (it : Vec ℕ Global). it.items) c.loop-all.all.items in
+    let stands = c.in_ok-content.ensures.stands bytes (c.loop-all.invariant.1 ∙ is) in
+    let closed = subst (HoldsRecord (drop c.loop-all.place bytes)) c.in_default.is stands in
+    (read_closed all bytes c.loop-all.place (c.loop-all.invariant.2 bytes is) closed).0
+
+pub loop-all-preserved : goal.loop-all-preserved
+loop-all-preserved g c =
+    let both = looked_ok g.D.Disk.model c.args.disk.now c.loop-all.disk c.read_record.new.disk (c.loop-all.invariant.0, c.loop-all.invariant.1) c.in_ok-content.ensures.effect in
+    let f = λ (it : Vec ℕ Global). it.items in
+    let all = map f c.loop-all.all.items in
+    let content = c.in-Some.content in
+    let size : length content.items ≡ vec_len content = search rules in
+    let ends = subst (λ (found : Option (Vec ℕ Global)). IfSome found (λ it. (vec_len it + 5 < c.in_ok-size.size - c.loop-all.place) × (vec_len it < 2 ^ 32))) c.in-Some.is c.in_ok-content.ensures.ends in
+    let grown : map f c.push.new.self.items ≡ all ++ content.items ∷ [] = ap (map f) c.in_ok-push.ensures.items ∙ map_push f c.loop-all.all.items content in
+    let length_is : c.len.result ≡ vec_len content = c.len.ensures in (
+      both.0,
+      both.1,
+      λ bytes is.
+          let stands = subst (HoldsRecord (drop c.loop-all.place bytes)) c.in-Some.is (c.in_ok-content.ensures.stands bytes (c.loop-all.invariant.1 ∙ is)) in
+          rw (grown, length_is)
+          (read_open all bytes content.items stands.1 c.loop-all.place (vec_len content) stands.0 (c.loop-all.invariant.2 bytes is) size ends.1 stands.2),
+      omega (arith, ends.0, length_is),
+    )
+
+pub returns-in_err-push-clause-effect : goal.returns-in_err-push-clause-effect
+returns-in_err-push-clause-effect g c =
+    looked_in_vain g.D.Disk.model c.args.disk.now c.read_record.new.disk c.from_residual-in_err-push.result (search rules)
+    (looked_ok g.D.Disk.model c.args.disk.now c.loop-all.disk c.read_record.new.disk (c.loop-all.invariant.0, c.loop-all.invariant.1) c.in_ok-content.ensures.effect)

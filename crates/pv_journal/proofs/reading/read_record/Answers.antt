@@ -1,0 +1,23 @@
+use Rattle.std.proofs.Common.{rules, arith, ◌≡◌, ℕ, List, sym, ◌∙◌, subst, ap, take, drop, length, ◌+◌, ◌-◌, ◌++◌, ◌∷◌, vec_len}
+use Rattle.std.proofs.lemmas.List.{drop-drop}
+use Rattle.pv_journal.specs.Format.{framed}
+use Rattle.pv_journal.specs.Reading.{StandsAt, EndsBefore}
+use Rattle.pv_journal.specs.declared.reading.Gate.{Gate}
+use Rattle.pv_journal.specs.declared.reading.Gate.TheVariants.{Open}
+use Rattle.pv_journal.proofs.ReadLemmas.{content_behind}
+use Rattle.pv_journal.proofs.reading.read_record.Goals as goal
+
+pub returns-in_ok-read_content-in-Open-clause-stands : goal.returns-in_ok-read_content-in-Open-clause-stands
+returns-in_ok-read_content-in-Open-clause-stands g c bytes is =
+    let rest = drop c.args.place bytes in
+    let stands = subst (StandsAt rest) c.in-Open.is (c.in_ok-gate_at.ensures.stands bytes is) in
+    let read = c.in_ok-read_content-in-Open.ensures.bytes bytes (c.in_ok-gate_at.ensures.effect.1 ∙ is) in
+    let same : c.in_ok-read_content-in-Open.field-0.items ≡ stands.0 =
+    read ∙ ap (take c.in-Open.count) (sym (drop-drop 5 c.args.place bytes)) ∙ content_behind rest stands.0 stands.2 stands.1 c.in-Open.count stands.3 stands.4 in
+    (stands.1, stands.2, stands.4 ∙ ap (λ (l : List ℕ). 1 ∷ (framed l ++ stands.1 ∷ stands.2)) (sym same))
+
+pub returns-in_ok-read_content-in-Open-clause-ends : goal.returns-in_ok-read_content-in-Open-clause-ends
+returns-in_ok-read_content-in-Open-clause-ends g c =
+    let ends : EndsBefore (Open c.in-Open.count) (c.args.size - c.args.place) =
+    subst (λ (gate : Gate). EndsBefore gate (c.args.size - c.args.place)) c.in-Open.is c.in_ok-gate_at.ensures.ends in
+    (omega (arith, ends.0, c.in_ok-read_content-in-Open.ensures.count), omega (arith, ends.1, c.in_ok-read_content-in-Open.ensures.count))

@@ -1,0 +1,54 @@
+-- A journal on a disk as a log.
+use Rattle.std.specs.Prelude.{◌≡◌, ◌≢◌, ◌⊎◌, ℕ, ◌+◌, ◌-◌, ◌^◌, ◌<◌, ◌≤◌, Bool, true, false, MatchBool, List, [], ◌∷◌, ◌++◌, Option, Some, None, length, option_and_then, vec_capacity}
+use Rattle.pv_base.specs.BigEndian.{big_endian}
+use Rattle.pv_disk.specs.Calls.{DiskCall, LogCall, Makes, OnlyReads, read_all, reserve, append, make_room, write, sync}
+use Rattle.pv_disk.specs.DiskModel.{DiskModel}
+use Rattle.pv_disk.specs.Disk.{Only}
+use Rattle.pv_disk.specs.Size.{Contents}
+use Rattle.pv_journal.specs.Format.{framed, IsJournal, end_of}
+use Rattle.pv_journal.specs.Contents.{contents_of}
+use Rattle.pv_journal.specs.declared.journal.Journal.{Journal}
+
+-- What an append at a closed gate asks of the disk, in this order: the frame after the gate, a sync, the gate, a sync.
+abbrev pub frame_calls : ℕ → List ℕ → List DiskCall
+frame_calls end frame = write (end + 1) frame ∷ sync ∷ write end (1 ∷ []) ∷ sync ∷ []
+
+-- The frame is the content with its length before it and a closed gate after it.
+abbrev pub append_calls : ℕ → List ℕ → List DiskCall
+append_calls end content = frame_calls end (framed content ++ 0 ∷ [])
+
+module _ {D : Type 0} (M : DiskModel D) where
+  -- While the journal isn't down, its disk is a journal of that length up to its closed gate, all of it synced.
+  pub record IsIntact (journal : Journal D) : Type 0 where
+    pub starts : 9 ≤ journal.length
+    pub bounded : journal.length ≤ 2 ^ 62
+    pub limited : journal.limit ≤ 2 ^ 32
+    pub at_rest : journal.down ≡ false → (bytes : List ℕ) → M.content journal.disk ≡ Some bytes
+        → (contents : Contents) × IsJournal contents bytes × (journal.length ≡ end_of contents + 1)
+    pub durable : journal.down ≡ false → (bytes : List ℕ) → M.content journal.disk ≡ Some bytes → Only bytes (M.may_leave journal.disk)
+
+  -- The contents of the journal that the disk tells.
+  abbrev pub contents_now : Journal D → Option Contents
+  contents_now journal = option_and_then contents_of (M.content journal.disk)
+
+  -- A crash leaves these contents, or what is no journal.
+  abbrev pub LeavesNow : Journal D → Option Contents → Type 0
+  LeavesNow journal left = (bytes : List ℕ) × M.may_leave journal.disk bytes × (left ≡ contents_of bytes)
+
+  -- The same since an earlier moment.
+  abbrev pub LeavesSince : Journal D → ℕ → Option Contents → Type 0
+  LeavesSince journal t left = (bytes : List ℕ) × M.left_since journal.disk t bytes × (left ≡ contents_of bytes)
+
+  -- There is room for an append of a content of so many bytes, in memory, on the disk and within the limit.
+  pub record HasRoom (journal : Journal D) (content : ℕ) : Type 0 where
+    pub frame : 5 + content ≤ vec_capacity journal.frame
+    pub room : 6 + content ≤ M.room journal.disk
+    pub writes : 2 ≤ M.writes journal.disk
+    pub within : journal.length + (5 + content) ≤ journal.limit
+
+  -- The calls that one call makes of the disk. A journal that is down makes none, and one without room within its limit neither.
+  abbrev pub JournalGoes : Journal D → LogCall → Bool → Journal D → Type 0
+  JournalGoes old read_all ok new = OnlyReads M.goes old.disk new.disk
+  JournalGoes old (reserve content) ok new = (new.disk ≡ old.disk) ⊎ Makes M.goes old.disk (make_room (6 + content) 2 ∷ []) ok new.disk
+  JournalGoes old (append content) ok new =
+      MatchBool old.down ((ok ≡ false) × (new ≡ old)) (Makes M.goes old.disk (append_calls (old.length - 1) content) ok new.disk)

@@ -1,0 +1,65 @@
+-- What opening, looking at and making a journal do.
+use Rattle.std.specs.Prelude.{◌≡◌, ◌⊎◌, ℕ, ◌+◌, ◌^◌, ◌≤◌, Bool, true, false, List, [], ◌∷◌, ◌++◌, Option, Some, None, is_some, map, length, Result, Ok, Err, Vec}
+use Rattle.std.specs.declared.alloc.Global.{Global}
+use Rattle.pv_base.specs.Fault.{Rose}
+use Rattle.pv_disk.specs.Calls.{DiskCall, OnlyReads, Makes, make_room, write, sync}
+use Rattle.pv_disk.specs.DiskModel.{DiskModel}
+use Rattle.pv_disk.specs.Disk.{Only, LeavesOnly}
+use Rattle.pv_disk.specs.Size.{Contents}
+use Rattle.pv_disk.specs.declared.disk_error.LookError.{LookError}
+use Rattle.pv_disk.specs.declared.disk_error.LookError.TheVariants.{Failed as LookFailed, NotOurs as LookNotOurs, NoMemory as LookNoMemory}
+use Rattle.pv_disk.specs.declared.disk_error.DiskError.{DiskError}
+use Rattle.pv_disk.specs.declared.disk_error.DiskError.TheVariants.{Failed as DiskFailed, NoMemory as DiskNoMemory}
+use Rattle.pv_journal.specs.Format.{header, IsNotOurs}
+use Rattle.pv_journal.specs.Contents.{contents_of}
+use Rattle.pv_journal.specs.Journal.{IsIntact, contents_now}
+use Rattle.pv_journal.specs.declared.journal.Journal.{Journal}
+use Rattle.pv_journal.specs.declared.open_log.OpenLog.{OpenLog}
+use Rattle.pv_journal.specs.declared.open_log.OpenLog.TheVariants.{Failed, NotOurs, NoMemory}
+
+-- The contents of read records.
+abbrev pub contents_in : Vec (Vec ℕ Global) Global → Contents
+contents_in all = map (λ it. it.items) all.items
+
+-- The place that a refusal tells, where it is that there is no journal.
+abbrev pub place_in : LookError → Option ℕ
+place_in (LookNotOurs place) = Some place
+place_in LookFailed = None
+place_in LookNoMemory = None
+
+-- An empty journal: the header and a closed gate.
+abbrev pub empty_journal : List ℕ
+empty_journal = header ++ 0 ∷ []
+
+module _ {D : Type 0} (M : DiskModel D) where
+  -- A sync was asked for, and where it succeeded calls that only read.
+  abbrev pub SyncsAndReads : D → D → Type 0
+  SyncsAndReads old new = M.goes old sync false new ⊎ ((mid : D) × M.goes old sync true mid × OnlyReads M.goes mid new)
+
+  -- What an opening leaves of the disk: at each moment a crash leaves what it might have left before.
+  pub record Opened (old new : D) : Type 0 where
+    pub told : is_some (M.content new) ≡ is_some (M.content old)
+    pub any_moment : LeavesOnly M old new (M.may_leave old)
+    pub faults : M.faults old ≤ M.faults new
+    pub calls : SyncsAndReads old new
+
+  -- An opening, by its answer: the journal has the contents of the disk's bytes, or they are none, and it shows at that place.
+  abbrev pub Opens : D → ℕ → Result (Journal D) (OpenLog D) → Type 0
+  Opens old limit (Ok journal) =
+      Opened old journal.disk × (M.content journal.disk ≡ M.content old) × IsIntact M journal × (journal.down ≡ false) × (journal.limit ≡ limit)
+  Opens old limit (Err (Failed disk)) = Opened old disk × Rose (M.faults old) (M.faults disk)
+  Opens old limit (Err (NotOurs disk place)) =
+      Opened old disk × (M.content disk ≡ M.content old) × ((bytes : List ℕ) → M.content old ≡ Some bytes → IsNotOurs bytes place)
+  Opens old limit (Err (NoMemory disk)) = Opened old disk × (M.content disk ≡ M.content old)
+
+  -- What making an empty journal asks of the disk.
+  abbrev pub format_calls : List DiskCall
+  format_calls = make_room 9 1 ∷ write 0 empty_journal ∷ sync ∷ []
+
+  -- Making an empty journal on an empty disk, by its answer: it is there, and each crash from now on leaves it.
+  abbrev pub Formats : {X : Type 0} → D → D → Result X DiskError → Type 0
+  Formats old new (Ok _) =
+      ((held : List ℕ) → M.content old ≡ Some held → (M.content new ≡ Some empty_journal) × Only empty_journal (M.may_leave new)) × (M.faults old ≤ M.faults new)
+      × Makes M.goes old format_calls true new
+  Formats old new (Err DiskFailed) = Rose (M.faults old) (M.faults new) × Makes M.goes old format_calls false new
+  Formats old new (Err DiskNoMemory) = (M.content new ≡ M.content old) × (M.faults old ≤ M.faults new) × Makes M.goes old format_calls false new

@@ -1,0 +1,104 @@
+// A journal on a disk, and how it is opened, looked at and made.
+ghost use Rattle.std.specs.Prelude.{◌≡◌, ◌⊎◌, ℕ, ◌+◌, ◌<◌, ◌≤◌, ◌^◌, [], List, Some, map, length, IfOk, IfErr, OnOk, IsErrOf};
+ghost use Rattle.pv_base.specs.Answer.{Answers};
+ghost use Rattle.pv_disk.specs.Size.{Contents};
+ghost use Rattle.pv_journal.specs.Format.{IsJournal, IsNotOurs};
+ghost use Rattle.pv_journal.specs.Reading.{LooksBy};
+ghost use Rattle.pv_journal.specs.Opening.{contents_in, place_in, Opens, Formats};
+
+use crate::OpenLog;
+use crate::reading::{HEADER, find_end, read_contents};
+use pv_base::{Failed, MAX_JOURNAL, MIN_JOURNAL};
+use pv_disk::{Disk, DiskError, LookError};
+use std::alloc::Global;
+
+/// A log on a disk: records, each with a gate before it. The gate of a new record is closed on the disk before anything is
+/// written after it, and opened by a write of its own after a sync, so that a crash leaves the record whole or not at all.
+#[derive(Drop)]
+pub struct Journal<D: Disk> {
+    /// What it lies on.
+    pub(crate) disk: D,
+    /// The memory of the next record, from its length to the closed gate after it.
+    pub(crate) frame: Vec<u8>,
+    /// Its length in bytes, up to and with the closed gate.
+    pub(crate) length: u64,
+    /// How long the journal may become, in bytes.
+    pub(crate) limit: u64,
+    /// Whether a call failed since it was opened.
+    pub(crate) down: bool,
+}
+
+impl<D: Disk> Journal<D> {
+    ghost use Rattle.std.specs.Borrow.{Lends, sem};
+    ghost use Rattle.pv_journal.specs.contracts.journal.Journal.{the_row};
+    ghost use Rattle.pv_journal.specs.Lending.{with_disk};
+
+    /// Opens the journal on a disk, which may become `limit` bytes long, from 32 to 4,294,967,296. It begins with a sync
+    /// and then only reads, in time linear in the count of records. A journal that is longer than the limit is opened too.
+    ///
+    /// See [`OpenLog`] for the refusals, which hand the disk back.
+    pub fn open(alloc: Global, disk: D, limit: u64) -> Result<Journal<D>, OpenLog<D>>
+        requires least { MIN_JOURNAL ≤ limit }
+        requires most { limit ≤ MAX_JOURNAL }
+        ensures { Opens D.model disk limit result }
+    {
+        let mut disk = disk;
+        if disk.sync().is_err() {
+            return Err(OpenLog::Failed(disk));
+        }
+        match find_end(alloc, &mut disk) {
+            Ok(end) => Ok(Journal {
+                disk,
+                frame: Vec::new(alloc),
+                length: end + 1,
+                limit,
+                down: false,
+            }),
+            Err(LookError::Failed) => Err(OpenLog::Failed(disk)),
+            Err(LookError::NotOurs(place)) => Err(OpenLog::NotOurs(disk, place)),
+            Err(LookError::NoMemory) => Err(OpenLog::NoMemory(disk)),
+        }
+    }
+
+    /// The disk, to see it or to arm it. The calls of `Log` that come after need its content as it was.
+    pub fn disk(&mut self) -> &mut D
+        ensures* lends { sem 𝓛 (Lends (the_row D.row) D.row self.entry result (with_disk self.old)) }
+        ensures value { result.now ≡ self.old.disk }
+    {
+        &mut self.disk
+    }
+
+    /// The disk.
+    pub fn close(self) -> D
+        ensures { result ≡ self.disk }
+    {
+        self.disk
+    }
+}
+
+/// Makes an empty journal on an empty disk: the header and a closed gate, synced.
+///
+/// - [`DiskError::Failed`]: the disk failed, and what it holds is as a crash in the write may leave it.
+/// - [`DiskError::NoMemory`]: there was no memory, and the disk is empty still.
+pub fn format<D: Disk>(disk: &mut D) -> Result<(), DiskError>
+    requires { (held : List ℕ) → D.model.content disk.old ≡ Some held → held ≡ [] }
+    ensures { Formats D.model disk.old disk.new result }
+{
+    disk.reserve(9, 1)?;
+    disk.write_at(0, b"PVJRNL01\0")?;
+    disk.sync()?;
+    Ok(())
+}
+
+/// The contents of the journal on a disk, the oldest first. It only reads, in time linear in the journal's bytes.
+///
+/// - [`LookError::Failed`]: the disk failed, and counted the fault.
+/// - [`LookError::NotOurs`]: the disk holds no journal, which shows at that place, as [`OpenLog::NotOurs`] tells it.
+/// - [`LookError::NoMemory`]: there was no memory.
+pub fn look<D: Disk>(alloc: Global, disk: &mut D) -> Result<Vec<Vec<u8>>, LookError>
+    ensures answer { (bytes : List ℕ) → D.model.content disk.old ≡ Some bytes
+        → Answers (λ contents. IsJournal contents bytes) (IsNotOurs bytes) contents_in place_in result }
+    ensures effect { LooksBy D.model disk.old disk.new result }
+{
+    read_contents(alloc, disk)
+}

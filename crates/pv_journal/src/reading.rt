@@ -1,0 +1,234 @@
+// How a journal is read from a disk.
+ghost use Rattle.std.specs.Prelude.{◌≡◌, ◌≢◌, ◌⊎◌, ℕ, ◌+◌, ◌-◌, ◌<◌, ◌≤◌, ◌^◌, ◌++◌, [], List, Some, map, length, take, drop, slice_index, vec_len, IfOk, IfErr, IfSome, OnOk, IsErrOf};
+ghost use Rattle.pv_base.specs.BigEndian.{big_endian};
+ghost use Rattle.pv_disk.specs.Size.{Contents};
+ghost use Rattle.pv_journal.specs.Format.{header, IsJournal, IsNotOurs, HasNoHeader, end_of};
+ghost use Rattle.pv_journal.specs.Reading.{LooksBy, ReadsTo, StandsAt, StandsCut, EndsBefore, HoldsRecord};
+
+use pv_bytes::Take;
+use pv_disk::{Disk, LookError};
+use std::alloc::{AllocError, Global};
+
+/// What a journal begins with.
+pub(crate) const HEADER: [u8; 8] = *b"PVJRNL01";
+
+/// What stands at a gate.
+#[derive(Clone, Copy)]
+pub(crate) enum Gate {
+    /// It is closed.
+    Closed,
+    /// It is open, and a content of so many bytes follows, with the next gate.
+    Open(u32),
+}
+
+/// How long the disk is.
+#[tactic(auto, using(crate::proofs::LookLemmas::looking))]
+fn size_of_disk<D: Disk>(disk: &mut D) -> Result<u64, LookError>
+    ensures effect { LooksBy D.model disk.old disk.new result }
+    ensures size { IfOk result (λ size. (bytes : List ℕ) → D.model.content disk.old ≡ Some bytes → size ≡ length bytes) }
+    ensures bounded { IfOk result (λ size. size ≤ 2 ^ 62) }
+    ensures not_ours { (at : ℕ) → IsErrOf result (LookError.NotOurs at) → ⊥ }
+{
+    match disk.len() {
+        Ok(size) => Ok(size),
+        Err(_) => Err(LookError::Failed),
+    }
+}
+
+/// Fills `into` from this place on.
+#[tactic(auto, using(crate::proofs::LookLemmas::looking))]
+fn read_from<D: Disk>(disk: &mut D, place: u64, into: &mut [u8]) -> Result<(), LookError>
+    requires { (bytes : List ℕ) → D.model.content disk.old ≡ Some bytes → place + length into.old ≤ length bytes }
+    ensures effect { LooksBy D.model disk.old disk.new result }
+    ensures bytes { OnOk result ((bytes : List ℕ) → D.model.content disk.old ≡ Some bytes → into.new ≡ take (length into.old) (drop place bytes)) }
+    ensures not_ours { (at : ℕ) → IsErrOf result (LookError.NotOurs at) → ⊥ }
+{
+    match disk.read_at(place, into) {
+        Ok(()) => Ok(()),
+        Err(_) => Err(LookError::Failed),
+    }
+}
+
+/// The place of the closed gate.
+///
+/// - [`LookError::Failed`]: the disk failed.
+/// - [`LookError::NotOurs`]: the disk holds no journal, which shows at that place.
+/// - [`LookError::NoMemory`]: there was no memory for eight bytes.
+#[tactic(auto, using(crate::proofs::LookLemmas::looking))]
+pub(crate) fn find_end<D: Disk>(alloc: Global, disk: &mut D) -> Result<u64, LookError>
+    ensures effect { LooksBy D.model disk.old disk.new result }
+    ensures found { IfOk result (λ end. (bytes : List ℕ) → D.model.content disk.old ≡ Some bytes
+        → (contents : Contents) × IsJournal contents bytes × (end ≡ end_of contents)) }
+    ensures not_ours { (place : ℕ) → IsErrOf result (LookError.NotOurs place)
+        → (bytes : List ℕ) → D.model.content disk.old ≡ Some bytes → IsNotOurs bytes place }
+    ensures starts { IfOk result (λ end. 8 ≤ end) }
+    ensures bounded { IfOk result (λ end. end + 1 ≤ 2 ^ 62) }
+{
+    let size = size_of_disk(disk)?;
+    read_header(alloc, disk, size)?;
+    let mut place = 8;
+    loop {
+        match gate_at(disk, size, place)? {
+            Gate::Closed => return Ok(place),
+            Gate::Open(count) => place += 5 + u64::from(count),
+        }
+    }
+}
+
+/// The contents, the oldest first. No memory is taken for a content before its bytes are known to be there.
+///
+/// - [`LookError::Failed`]: the disk failed.
+/// - [`LookError::NotOurs`]: the disk holds no journal, which shows at that place.
+/// - [`LookError::NoMemory`]: there was no memory.
+#[tactic(auto, using(crate::proofs::LookLemmas::looking))]
+pub(crate) fn read_contents<D: Disk>(alloc: Global, disk: &mut D) -> Result<Vec<Vec<u8>>, LookError>
+    ensures effect { LooksBy D.model disk.old disk.new result }
+    ensures found { IfOk result (λ all. (bytes : List ℕ) → D.model.content disk.old ≡ Some bytes
+        → IsJournal (map (λ it. it.items) all.items) bytes) }
+    ensures not_ours { (place : ℕ) → IsErrOf result (LookError.NotOurs place)
+        → (bytes : List ℕ) → D.model.content disk.old ≡ Some bytes → IsNotOurs bytes place }
+{
+    let size = size_of_disk(disk)?;
+    read_header(alloc, disk, size)?;
+    let mut all = Vec::new(alloc);
+    let mut place = 8;
+    loop {
+        let Some(content) = read_record(alloc, disk, size, place)? else {
+            return Ok(all);
+        };
+        place += 5 + content.len() as u64;
+        all.push(content)?;
+    }
+}
+
+/// The content of the record at a gate, on a disk of this size; none where the gate is closed.
+///
+/// - [`LookError::NotOurs`]: as in [`gate_at`].
+#[tactic(auto, using(crate::proofs::LookLemmas::looking))]
+fn read_record<D: Disk>(
+    alloc: Global,
+    disk: &mut D,
+    size: u64,
+    place: u64,
+) -> Result<Option<Vec<u8>>, LookError>
+    requires told { (bytes : List ℕ) → D.model.content disk.old ≡ Some bytes → size ≡ length bytes }
+    requires within { place < size }
+    requires bounded { size ≤ 2 ^ 62 }
+    ensures effect { LooksBy D.model disk.old disk.new result }
+    ensures stands { IfOk result (λ found. (bytes : List ℕ) → D.model.content disk.old ≡ Some bytes → HoldsRecord (drop place bytes) found) }
+    ensures ends { IfOk result (λ found. IfSome found (λ content. (vec_len content + 5 < size - place) × (vec_len content < 2 ^ 32))) }
+    ensures not_ours { (at : ℕ) → IsErrOf result (LookError.NotOurs at)
+        → (bytes : List ℕ) → D.model.content disk.old ≡ Some bytes → (at ≡ place) × StandsCut (drop place bytes) }
+{
+    match gate_at(disk, size, place)? {
+        Gate::Closed => Ok(None),
+        Gate::Open(count) => Ok(Some(read_content(alloc, disk, place + 5, count as usize)?)),
+    }
+}
+
+/// Tests what a journal begins with, up to the first gate, on a disk of this size.
+#[tactic(auto, using(crate::proofs::LookLemmas::looking))]
+fn read_header<D: Disk>(alloc: Global, disk: &mut D, size: u64) -> Result<(), LookError>
+    requires { (bytes : List ℕ) → D.model.content disk.old ≡ Some bytes → size ≡ length bytes }
+    ensures effect { LooksBy D.model disk.old disk.new result }
+    ensures passed { OnOk result ((bytes : List ℕ) → D.model.content disk.old ≡ Some bytes → ReadsTo [] bytes 8) }
+    ensures long { OnOk result (8 < size) }
+    ensures not_ours { (place : ℕ) → IsErrOf result (LookError.NotOurs place)
+        → (bytes : List ℕ) → D.model.content disk.old ≡ Some bytes → HasNoHeader bytes place }
+{
+    let front = read_content(alloc, disk, 0, size.min(8) as usize)?;
+    let place = agreement(&front, &HEADER);
+    if place < 8 {
+        return Err(LookError::NotOurs(place as u64));
+    }
+    if size <= 8 {
+        return Err(LookError::NotOurs(8));
+    }
+    Ok(())
+}
+
+/// What stands at a gate, on a disk of this size.
+///
+/// - [`LookError::NotOurs`]: it is open, and its length, its content or the next gate is past the end. The place is its own.
+#[tactic(auto, using(crate::proofs::LookLemmas::looking))]
+fn gate_at<D: Disk>(disk: &mut D, size: u64, place: u64) -> Result<Gate, LookError>
+    requires told { (bytes : List ℕ) → D.model.content disk.old ≡ Some bytes → size ≡ length bytes }
+    requires within { place < size }
+    requires bounded { size ≤ 2 ^ 62 }
+    ensures effect { LooksBy D.model disk.old disk.new result }
+    ensures stands { IfOk result (λ gate. (bytes : List ℕ) → D.model.content disk.old ≡ Some bytes → StandsAt (drop place bytes) gate) }
+    ensures ends { IfOk result (λ gate. EndsBefore gate (size - place)) }
+    ensures not_ours { (at : ℕ) → IsErrOf result (LookError.NotOurs at)
+        → (bytes : List ℕ) → D.model.content disk.old ≡ Some bytes → (at ≡ place) × StandsCut (drop place bytes) }
+{
+    let mut gate = [0];
+    read_from(disk, place, &mut gate)?;
+    if gate[0] != 1 {
+        return Ok(Gate::Closed);
+    }
+    let left = size - place;
+    if left < 5 {
+        return Err(LookError::NotOurs(place));
+    }
+    let mut number = [0; 4];
+    read_from(disk, place + 1, &mut number)?;
+    let count = number_in(&number);
+    if u64::from(count) + 5 >= left {
+        return Err(LookError::NotOurs(place));
+    }
+    Ok(Gate::Open(count))
+}
+
+/// So many bytes from this place on.
+#[tactic(auto, using(crate::proofs::LookLemmas::looking))]
+fn read_content<D: Disk>(
+    alloc: Global,
+    disk: &mut D,
+    place: u64,
+    count: usize,
+) -> Result<Vec<u8>, LookError>
+    requires { (bytes : List ℕ) → D.model.content disk.old ≡ Some bytes → place + count ≤ length bytes }
+    ensures effect { LooksBy D.model disk.old disk.new result }
+    ensures bytes { IfOk result (λ content. (bytes : List ℕ) → D.model.content disk.old ≡ Some bytes → content.items ≡ take count (drop place bytes)) }
+    ensures count { IfOk result (λ content. vec_len content ≡ count) }
+    ensures not_ours { (at : ℕ) → IsErrOf result (LookError.NotOurs at) → ⊥ }
+{
+    let mut content = zeroes(alloc, count)?;
+    read_from(disk, place, &mut content)?;
+    Ok(content)
+}
+
+/// How far the bytes are what is expected.
+fn agreement(bytes: &[u8], expected: &[u8]) -> usize
+    ensures within { result ≤ length bytes.now }
+    ensures within_expected { result ≤ length expected.now }
+    ensures same { take result bytes.now ≡ take result expected.now }
+    ensures differ { result < length bytes.now → result < length expected.now → slice_index bytes.now result ≢ slice_index expected.now result }
+{
+    let mut place = 0;
+    while place < bytes.len() && place < expected.len() {
+        if bytes[place] != expected[place] {
+            return place;
+        }
+        place += 1;
+    }
+    place
+}
+
+// The number that four bytes are.
+fn number_in(bytes: &[u8]) -> u32
+    requires { length bytes.now ≡ 4 }
+    ensures { big_endian 4 result ≡ bytes.now }
+{
+    match Take::new(bytes).u32() {
+        Ok(number) => number,
+        Err(_) => unreachable!(),
+    }
+}
+
+// So many zeroes. It promises the length alone, so that no proof about a reading ever writes them out.
+fn zeroes(alloc: Global, count: usize) -> Result<Vec<u8>, AllocError>
+    ensures { IfOk result (λ zeroes. vec_len zeroes ≡ count) }
+{
+    Ok(vec![in alloc; 0; count]?)
+}
