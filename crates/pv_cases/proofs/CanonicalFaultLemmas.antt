@@ -1,5 +1,5 @@
 -- What is wrong with cases that have to be canonical, once it is known whether they can be joined.
-use Rattle.std.proofs.Common.{◌≡◌, ℕ, List, Option, Some, None, IfSome, sym, ap}
+use Rattle.std.proofs.Common.{ℕ, List, Option, Some, None, IfSome, sym, ap}
 use Rattle.std.specs.Prelude.{slice_get}
 use Rattle.pv_base.specs.CaseFaults.{CaseFault, unreduced, IsJoinFault, IsCanonicalFault, are_no_polyvalue, is_not_reduced, DifferFrom}
 use Rattle.pv_base.specs.Polyvalue.{Case, IsCanonical, IsSound, NamesAtMost, AreSameEverywhere}

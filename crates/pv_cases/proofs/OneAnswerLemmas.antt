@@ -1,11 +1,11 @@
 -- Cases have one table, one polyvalue, or one first fault.
-use Rattle.std.proofs.Common.{◌≡◌, ◌⊎◌, ⊎_elim, ℕ, Bool, List, inl, inr, refl, sym, ap, ap₂, subst, ◌∙◌}
+use Rattle.std.proofs.Common.{◌≡◌, ⊎_elim, ℕ, Bool, List, inl, inr, refl, sym, ap₂, subst, ◌∙◌}
 use Rattle.std.specs.List.{filter_map}
 use Rattle.pv_base.specs.declared.txn.TxnId.{TxnId}
 use Rattle.pv_base.specs.Answer.{HasOneAnswer}
 use Rattle.pv_base.specs.Canonical.{IsExact}
-use Rattle.pv_base.specs.CaseFaults.{CaseFault, IsJoinFault, IsCanonicalFault}
-use Rattle.pv_base.specs.Polyvalue.{Case, names, AreNames, AreValues, IsCanonical, IsPolyvalue, AreSameEverywhere, NamesAtMost}
+use Rattle.pv_base.specs.CaseFaults.{IsJoinFault, IsCanonicalFault}
+use Rattle.pv_base.specs.Polyvalue.{Case, names, AreValues, IsCanonical, IsPolyvalue, AreSameEverywhere, NamesAtMost}
 use Rattle.pv_law_polyvalues.proofs.NameLemmas.{some-names, one-names, NamesAtMost-fewer}
 use Rattle.pv_law_polyvalues.proofs.PolyvalueLemmas.{value_at-agree, depends-named, one-canonical}
 use Rattle.pv_law_polyvalues.proofs.TableLemmas.{one-values}
