@@ -1,4 +1,5 @@
 mod AppendLemmas
 mod LogLemmas
 mod LookLemmas
+mod NumberLemmas
 mod ReadLemmas

@@ -109,7 +109,7 @@ fn make_frame(frame: &mut Vec<u8>, content: &[u8])
 }
 
 // A number in four bytes, the most significant first.
-#[tactic(auto, using(pv_bytes::proofs::KitNumbers::written_four))]
+#[tactic(auto, using(crate::proofs::NumberLemmas::written_four))]
 fn number_bytes(number: u32) -> [u8; 4]
     ensures { result ≡ big_endian 4 number }
 {
