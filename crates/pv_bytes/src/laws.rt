@@ -28,3 +28,8 @@ pub fn one_signed_number()
 pub fn signed_numbers()
     ensures { (number : ℕ) → number < 2 ^ 64 → (signed : ℤ) × FitsSigned w64 signed × (twos_complement signed ≡ number) }
 {}
+
+/// The two's complement of a signed number of 64 bits fits 64 bits.
+pub fn fitting_complement()
+    ensures { (number : ℤ) → FitsSigned w64 number → twos_complement number < 2 ^ 64 }
+{}

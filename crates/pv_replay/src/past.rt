@@ -25,7 +25,7 @@ pub struct Past {
 /// The records that these contents spell, in order. Where some content is no record, the first such one is told. Takes time in proportion to
 /// the bytes.
 pub fn replay(alloc: Global, contents: &[Vec<u8>]) -> Result<Past, ReplayError>
-    ensures records { Answers (λ records. SpellRecords records (contents_of contents.now)) (IsFirstBadContent (contents_of contents.now))
+    ensures answer { Answers (λ records. SpellRecords records (contents_of contents.now)) (IsFirstBadContent (contents_of contents.now))
         (λ past. records_of past.records.items) index_of result }
     ensures epoch { IfOk result (λ past. past.epoch ≡ last_epoch (records_of past.records.items)) }
 {
@@ -44,7 +44,8 @@ pub fn replay(alloc: Global, contents: &[Vec<u8>]) -> Result<Past, ReplayError>
     Ok(Past { epoch, records })
 }
 
-// Says that contents are bytes, which is known of each as a slice. It computes nothing.
+// Says that contents are bytes, so that there is exactly one answer to them. That is known of each content when it is a slice, and of all by
+// going through them. It computes nothing.
 fn tell_bytes(contents: &[Vec<u8>])
     ensures { All AreBytes (contents_of contents.now) }
 {

@@ -73,11 +73,12 @@ fn put_literal(put: &mut Put, literal: Literal) -> Result<(), NoMemory>
 /// fields are read, that they are no polyvalue in canonical form. Takes time in proportion to the bytes that it reads. After a refusal the `Take`
 /// stands somewhere within them, and is to be dropped.
 pub fn take_poly(alloc: Global, take: &mut Take<'_>) -> Result<Poly<i64>, PolyError>
-    ensures answers { Answers (λ (read : List (model.Case ℤ) × List ℕ). BeginsWith read.0 read.1 take.old.left) (PolyvalueFault take.old.place take.old.left)
+    ensures answer { Answers (λ (read : List (model.Case ℤ) × List ℕ). BeginsWith read.0 read.1 take.old.left) (PolyvalueFault take.old.place take.old.left)
         (λ poly. (poly, take.new.left)) fault_of result }
     ensures passes { IfOk result (λ poly. Passes (SpellsPolyvalue poly) polyvalue_then take.old take.new) }
     ensures stops { IfErr result (λ e. Stops polyvalue_then take.old (fault_of e)) }
 {
+    // That what is left is bytes is known by this call: every list of bytes has one answer.
     let _ = take.place();
     read_poly(alloc, take)
 }

@@ -3,6 +3,7 @@ use crate::past::decode_record;
 use crate::*;
 use pv_base::{NoMemory, TxnId};
 use pv_bytes::{Put, Take};
+use pv_poly::Poly;
 use std::alloc::{AllocFailed, Global};
 use std::test::Fail;
 
@@ -120,6 +121,13 @@ fn a_journal_is_replayed(rt: HostRuntime) -> Result<(), Fail> {
     assert_eq!(rt; past.epoch, 1);
     assert_eq!(rt; past.records.len(), 2);
 
+    let mut other = Vec::new(alloc);
+    other.push(bytes_of(alloc, "04")?)?;
+    assert_eq!(rt;
+        replay(alloc, &other).err(),
+        Some(ReplayError::BadRecord(0))
+    );
+
     let none = Vec::new(alloc);
     assert_eq!(rt; replay(alloc, &none)?.epoch, 0);
 
@@ -140,6 +148,10 @@ fn a_sure_value_is_read_and_written(rt: HostRuntime) -> Result<(), Fail> {
     let nobody: [TxnId; 0] = [];
     assert_eq!(rt; value.at(&nobody), 101);
     assert_eq!(rt; value.cases().len(), 1);
+    let sure = Poly::sure(alloc, 101i64)?;
+    assert!(rt;
+        format!(in alloc; "{sure:?}")?.as_str() == format!(in alloc; "{value:?}")?.as_str()
+    );
     assert!(rt;
         poly_again(alloc, &bytes)?.is_some_and(|written| written.as_slice() == bytes.as_slice())
     );
@@ -184,6 +196,11 @@ fn the_first_fault_is_told(rt: HostRuntime) -> Result<(), Fail> {
         (
             "ffff 01 01 00 00000001 00000000 00000000000000",
             PolyError::Short(13),
+        ),
+        // Nine transactions, of which no polyvalue may name more than eight.
+        (
+            "0001 09 00 00 00000001 00000000 00 00 00000001 00000001 00 00 00000001 00000002 00 00 00000001 00000003 00 00 00000001 00000004 00 00 00000001 00000005 00 00 00000001 00000006 00 00 00000001 00000007 00 00 00000001 00000008 0000000000000000",
+            PolyError::BadPoly(0),
         ),
         // One of two outcomes; both in the other order; both with one value.
         (

@@ -21,22 +21,22 @@ Found content found = MatchOption found (IsNoRecord content) (λ value. SpellsRe
 found : (content : List ℕ) (told is : Option Record) → told ≡ is → Found content told → Found content is
 found content told is same what = subst (Found content) same what
 
-pub returns-in_err-record-clause-records : goal.returns-in_err-record-clause-records
-returns-in_err-record-clause-records c =
+pub returns-in_err-record-clause-answer : goal.returns-in_err-record-clause-answer
+returns-in_err-record-clause-answer c =
     let p = err_from_is_err_and c.from_residual.result c.from_residual.ensures.1 in
     rw (p.1, p.2)
     (answered (λ records. SpellRecords records (contents_of c.args.contents.now)) (IsFirstBadContent (contents_of c.args.contents.now))
     (one-replay-answer (contents_of c.args.contents.now) c.tell_bytes.ensures) (λ (past : Past). records_of past.records.items) index_of (Err NoMemory) tt tt)
 
-pub returns-in_err-push-in-Some-clause-records : goal.returns-in_err-push-in-Some-clause-records
-returns-in_err-push-in-Some-clause-records c =
+pub returns-in_err-push-in-Some-clause-answer : goal.returns-in_err-push-in-Some-clause-answer
+returns-in_err-push-in-Some-clause-answer c =
     let p = err_from_is_err_and c.from_residual-in_err-push-in-Some.result c.from_residual-in_err-push-in-Some.ensures.1 in
     rw (p.1, p.2)
     (answered (λ records. SpellRecords records (contents_of c.args.contents.now)) (IsFirstBadContent (contents_of c.args.contents.now))
     (one-replay-answer (contents_of c.args.contents.now) c.tell_bytes.ensures) (λ (past : Past). records_of past.records.items) index_of (Err NoMemory) tt tt)
 
-pub returns-in-None-clause-records : goal.returns-in-None-clause-records
-returns-in-None-clause-records c =
+pub returns-in-None-clause-answer : goal.returns-in-None-clause-answer
+returns-in-None-clause-answer c =
     let index : c.len.result ≡ c.loop-content.content-index = omega arith in
     answered (λ records. SpellRecords records (contents_of c.args.contents.now)) (IsFirstBadContent (contents_of c.args.contents.now))
     (one-replay-answer (contents_of c.args.contents.now) c.tell_bytes.ensures) (λ (past : Past). records_of past.records.items) index_of (Err (BadRecord c.len.result)) tt
@@ -58,8 +58,8 @@ loop-content-preserved c =
           ∙ ap last_epoch (sym (map-append record_of c.loop-content.records.items (c.in-Some.record ∷ [])));
     }
 
-pub returns-clause-records : goal.returns-clause-records
-returns-clause-records c =
+pub returns-clause-answer : goal.returns-clause-answer
+returns-clause-answer c =
     let contents : List (Vec ℕ) = c.args.contents.now in
     let all : length (contents_of contents) ≤ c.loop-content.content-index
     = subst (λ n. n ≤ c.loop-content.content-index) (sym (length-map contents (λ (v : Vec ℕ). v.items))) c.loop-content-test.false in

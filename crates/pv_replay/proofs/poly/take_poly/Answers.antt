@@ -35,5 +35,5 @@ module _ (old new : Rest) (all : AreBytes old.left) where
       answered (λ (read : List (Case ℤ) × List ℕ). BeginsWith read.0 read.1 old.left) (PolyvalueFault old.place old.left) (one-polyvalue-answer old.left old.place all)
       (λ (poly : Poly ℤ). (poly, new.left)) fault_of (Err e) tt (told (fault_of e) stops)
 
-pub returns-clause-answers : goal.returns-clause-answers
-returns-clause-answers c = answers c.args.take.now c.read_poly.new.take c.place.ensures.bytes c.read_poly.result c.read_poly.ensures.passes c.read_poly.ensures.stops
+pub returns-clause-answer : goal.returns-clause-answer
+returns-clause-answer c = answers c.args.take.now c.read_poly.new.take c.place.ensures.bytes c.read_poly.result c.read_poly.ensures.passes c.read_poly.ensures.stops
