@@ -3,6 +3,7 @@ use Rattle.std.proofs.Common.{◌≡◌, ℕ, ◌≤◌, ◌<◌, List, [], ◌�
 use Rattle.std.specs.Bool.{⊤}
 use Rattle.std.specs.Io.KnownBytes.{Appends}
 use Rattle.std.proofs.lemmas.List.{append-nil}
+use Rattle.pv_base.specs.declared.limits.TheConstants.{MAX_INPUT}
 use Rattle.pv_io.specs.Stream.{AppendsPrefix}
 use Rattle.pv_model.specs.Causes.{LineCause}
 use Rattle.pv_model.specs.Events.{Schedule}
@@ -12,7 +13,7 @@ use Rattle.pv_model.specs.Run.{output_of}
 use Rattle.pv_law_schedules.proofs.OneScheduleLemmas.{one_schedule, one_fault, no_fault}
 use Rattle.pv_app.specs.declared.status.Status.{Status}
 use Rattle.pv_app.specs.declared.status.Status.TheVariants.{Done, Usage, Malformed, WriteFault, TooLong, NoMemory}
-use Rattle.pv_app.specs.InputAnswers.{IsAnswer, IsRefusedAt, GivesUp, GrowsBySome, fault_text, max_input}
+use Rattle.pv_app.specs.InputAnswers.{IsAnswer, IsRefusedAt, GivesUp, GrowsBySome, fault_text}
 use Rattle.pv_app.proofs.OutputLemmas.{AppendsPrefix-whole}
 
 -- a list of one element
@@ -115,7 +116,7 @@ usage_or_fault (Err e) status is = inr is
 
 -- Where a refusal was to be written, that is the input's answer, or it gave up.
 pub answered_refusal : (input : List ℕ) (result : Status) (old new : Option (List ℕ)) (number : ℕ) (cause : Option LineCause)
-    → length input ≤ max_input → IsRefusedAt input number cause → (result ≡ Malformed) ⊎ ((result ≡ WriteFault) ⊎ (result ≡ NoMemory))
+    → length input ≤ MAX_INPUT → IsRefusedAt input number cause → (result ≡ Malformed) ⊎ ((result ≡ WriteFault) ⊎ (result ≡ NoMemory))
     → (result ≡ Malformed → Appends old new (fault_text number cause)) → GivesUp result ⊎ GrowsBySome old new (IsAnswer input result)
 answered_refusal input result old new number cause short refused (inl is) written =
     inr (fault_text number cause, written is, subst (λ (s : Status). IsAnswer input s (fault_text number cause)) (sym is) (short, number, cause, refused, refl))

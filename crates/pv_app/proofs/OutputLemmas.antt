@@ -22,8 +22,8 @@ pub AppendsPrefix-whole : (a b : Option (List ℕ)) (xs ys : List ℕ) → Appen
 AppendsPrefix-whole a b xs ys p = (length xs, subst (Appends a b) (sym (take-append_seam xs ys)) p)
 
 -- and then a beginning of the rest
-pub AppendsPrefix-behind : (a b c : Option (List ℕ)) (xs ys : List ℕ) → Appends a b xs → AppendsPrefix b c ys → AppendsPrefix a c (xs ++ ys)
-AppendsPrefix-behind a b c xs ys p q =
+pub AppendsPrefix-after : (a b c : Option (List ℕ)) (xs ys : List ℕ) → Appends a b xs → AppendsPrefix b c ys → AppendsPrefix a c (xs ++ ys)
+AppendsPrefix-after a b c xs ys p q =
     (length xs + q.0, subst (Appends a c) (sym (take-append-add xs ys q.0)) (Appends-trans a b c xs (take q.0 ys) p q.1))
 
 -- what holds at any rate holds at an error

@@ -7,7 +7,7 @@ use Rattle.pv_law_programs.proofs.RowLemmas.{has_once-same}
 use Rattle.pv_model.specs.Check.{reads, names}
 use Rattle.pv_model.specs.Items.{lacks, has_once, has_items, has_all_items}
 use Rattle.pv_model.specs.Meaning.{Row, items_of_rows}
-use Rattle.pv_model.specs.Run.{rows_from, declared_rows}
+use Rattle.pv_model.specs.Serial.{rows_from, declared_rows}
 use Rattle.pv_model.specs.Syntax.{Expr, number, item, minus, negation, two, Program, end, assign, require, return, when, when_else}
 use Rattle.pv_app.specs.Ready.{NamesOnly}
 

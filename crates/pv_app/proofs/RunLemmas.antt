@@ -1,10 +1,11 @@
 -- A run, event by event.
-use Rattle.std.proofs.Common.{◌≡◌, ℕ, ◌+◌, ◌≤◌, ◌<◌, zero, suc, All, List, [], ◌∷◌, ◌++◌, map, length, drop, drop-cons, get_or, Option, Some, None, sym, ap, ◌∙◌, subst, arith, length-append}
+use Rattle.std.proofs.Common.{◌≡◌, ℕ, ◌+◌, ◌≤◌, ◌<◌, zero, suc, All, List, [], ◌∷◌, ◌++◌, map, length, drop, drop-cons, get_or, Option, Some, None, refl, sym, ap, ◌∙◌, subst, arith, length-append}
 use Rattle.std.specs.Io.KnownBytes.{Appends}
 use Rattle.std.proofs.KnownBytes.{Appends-trans}
 use Rattle.std.proofs.lemmas.List.{drop-map}
 use Rattle.std.proofs.lemmas.Grind.{flat_map-append}
-use Rattle.pv_io.specs.Stream.{AppendsPrefix}
+use Rattle.pv_io.specs.Stream.{AppendsPrefix, TellsAlike}
+use Rattle.pv_io.specs.declared.sink.Sink.{Ghosts}
 use Rattle.pv_model.specs.Events.{Schedule, Event, pump}
 use Rattle.pv_model.specs.Print.{line_text, text_of}
 use Rattle.pv_model.specs.Run.{OneSite, opening, after_commit, after, lines_of, txn_of, run, output_of}
@@ -12,16 +13,17 @@ use Rattle.pv_model.specs.Syntax.{Program}
 use Rattle.pv_script.specs.declared.schedule.Event as code
 use Rattle.pv_script.specs.View.{event_of}
 use Rattle.pv_app.specs.Ready.{IsReady, FitsCatalog}
-use Rattle.pv_app.proofs.OutputLemmas.{AppendsPrefix-front, AppendsPrefix-behind}
+use Rattle.pv_app.proofs.OutputLemmas.{AppendsPrefix-front, AppendsPrefix-after}
 use Rattle.pv_app.proofs.ReadyLemmas.{sound-opening, sound-after}
 
--- Behind `done` events, what is left to be printed ends where all that is to be printed ends, and the world is sound.
-pub record IsUnderWay (first now : Option (List ℕ)) (faults_first faults_now : ℕ) (schedule : Schedule) (world : OneSite) (done : ℕ) : Type 0 where
-  pub whole : (end : Option (List ℕ)) → Appends now end (text_of (run schedule.catalog world (drop done schedule.events))) → Appends first end (output_of schedule)
-  pub prefix : (end : Option (List ℕ)) → AppendsPrefix now end (text_of (run schedule.catalog world (drop done schedule.events))) → AppendsPrefix first end (output_of schedule)
+-- After `done` events, what is left to be printed ends where all that is to be printed ends, and the world is sound.
+pub record IsUnderWay {W : Type 0} (sink : Ghosts W) (first now : W) (schedule : Schedule) (world : OneSite) (done : ℕ) : Type 0 where
+  pub whole : (end : Option (List ℕ)) → Appends (sink.held now) end (text_of (run schedule.catalog world (drop done schedule.events))) → Appends (sink.held first) end (output_of schedule)
+  pub prefix : (end : Option (List ℕ)) → AppendsPrefix (sink.held now) end (text_of (run schedule.catalog world (drop done schedule.events))) → AppendsPrefix (sink.held first) end (output_of schedule)
+  pub told : TellsAlike (sink.held first) (sink.held now)
   pub numbers : length world.order ≤ done
   pub sound : FitsCatalog schedule.catalog world
-  pub counted : faults_first ≤ faults_now
+  pub counted : sink.faults first ≤ sink.faults now
 
 -- the events, as the definitions see them
 abbrev pub events_of : List code.Event → List Event
@@ -54,18 +56,19 @@ order-after : (world : OneSite) (event : Event) → length (after world event).o
 order-after world (pump None) = order-commit world world.waiting
 order-after world _ = omega arith
 
-pub start : (held : Option (List ℕ)) (faults : ℕ) (schedule : Schedule) → IsUnderWay held held faults faults schedule (opening schedule.catalog) 0
+pub start : {W : Type 0} (sink : Ghosts W) (first : W) (schedule : Schedule) → IsUnderWay sink first first schedule (opening schedule.catalog) 0
 unfolding output_of
-start held faults schedule = record {
+start sink first schedule = record {
   whole = λ end p. p;
   prefix = λ end p. p;
+  told = refl;
   numbers = omega arith;
   sound = sound-opening schedule.catalog;
   counted = omega arith;
 }
 
-module _ (first now next : Option (List ℕ)) (faults_first faults_now faults_next : ℕ) (schedule : Schedule) (world : OneSite) (done : ℕ) (event : Event)
-    (way : IsUnderWay first now faults_first faults_now schedule world done) (split : drop done schedule.events ≡ event ∷ drop (suc done) schedule.events) where
+module _ {W : Type 0} (sink : Ghosts W) (first now next : W) (schedule : Schedule) (world : OneSite) (done : ℕ) (event : Event)
+    (way : IsUnderWay sink first now schedule world done) (split : drop done schedule.events ≡ event ∷ drop (suc done) schedule.events) where
   abbrev lines : List ℕ
   lines = text_of (lines_of schedule.catalog world event)
 
@@ -78,16 +81,17 @@ module _ (first now next : Option (List ℕ)) (faults_first faults_now faults_ne
       ∙ flat_map-append line_text (lines_of schedule.catalog world event) (run schedule.catalog (after world event) (drop (suc done) schedule.events))
 
   -- The event's lines are written, and the next event comes.
-  pub go_on : IsReady schedule.catalog event → Appends now next lines → faults_now ≤ faults_next
-      → IsUnderWay first next faults_first faults_next schedule (after world event) (suc done)
-  go_on ready written counted = record {
-    whole = λ end p. way.whole end (subst (Appends now end) (sym left) (Appends-trans now next end lines rest written p));
-    prefix = λ end p. way.prefix end (subst (AppendsPrefix now end) (sym left) (AppendsPrefix-behind now next end lines rest written p));
+  pub go_on : IsReady schedule.catalog event → Appends (sink.held now) (sink.held next) lines → TellsAlike (sink.held now) (sink.held next) → sink.faults now ≤ sink.faults next
+      → IsUnderWay sink first next schedule (after world event) (suc done)
+  go_on ready written told counted = record {
+    whole = λ end p. way.whole end (subst (Appends (sink.held now) end) (sym left) (Appends-trans (sink.held now) (sink.held next) end lines rest written p));
+    prefix = λ end p. way.prefix end (subst (AppendsPrefix (sink.held now) end) (sym left) (AppendsPrefix-after (sink.held now) (sink.held next) end lines rest written p));
+    told = told ∙ way.told;
     numbers = omega (arith, order-after world event, way.numbers);
     sound = sound-after schedule.catalog world event ready way.sound;
     counted = omega (arith, way.counted);
   }
 
   -- A beginning of the event's lines is written.
-  pub give_up : AppendsPrefix now next lines → AppendsPrefix first next (output_of schedule)
-  give_up written = way.prefix next (subst (AppendsPrefix now next) (sym left) (AppendsPrefix-front now next lines rest written))
+  pub give_up : AppendsPrefix (sink.held now) (sink.held next) lines → AppendsPrefix (sink.held first) (sink.held next) (output_of schedule)
+  give_up written = way.prefix (sink.held next) (subst (AppendsPrefix (sink.held now) (sink.held next)) (sym left) (AppendsPrefix-front (sink.held now) (sink.held next) lines rest written))

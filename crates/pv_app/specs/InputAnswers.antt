@@ -1,16 +1,16 @@
 -- What the program has to answer.
 use Rattle.std.specs.Prelude.{◌≡◌, ℕ, ◌<◌, ◌≤◌, List, [], ◌∷◌, ◌++◌, length, codes, Option, Some, None, Result, Ok, Err, ⊤}
 use Rattle.std.specs.Io.KnownBytes.{Appends}
-use Rattle.std.specs.Fmt.{decimal}
+use Rattle.pv_base.specs.declared.limits.TheConstants.{MAX_INPUT}
 use Rattle.pv_app.specs.declared.status.Status.{Status}
 use Rattle.pv_app.specs.declared.status.Status.TheVariants.{Done, Usage, Malformed, ReadFault, WriteFault, TooLong, NoMemory}
 use Rattle.pv_app.specs.declared.run.RunEnd.{RunEnd}
 use Rattle.pv_app.specs.declared.run.RunEnd.TheVariants as end
-use Rattle.pv_model.specs.Causes.{LineCause, too_long, not_text, sites_expected, unknown_word, twice, too_late, wrong_count, bad_number, bad_mode, bad_name, name_taken, too_many_items, at_program, names_no_item, too_many_names, query_assigns, no_return}
+use Rattle.pv_model.specs.Causes.{LineCause}
 use Rattle.pv_model.specs.Events.{Schedule}
+use Rattle.pv_script.specs.CauseTexts.{refused_text}
 use Rattle.pv_script.specs.Form.{not_built}
 use Rattle.pv_model.specs.Print.{line_feed}
-use Rattle.pv_model.specs.ProgramText.{malformed, unknown_name, too_deep}
 use Rattle.pv_model.specs.Schedule.{IsSchedule, IsMalformedSchedule}
 use Rattle.pv_model.specs.Run.{output_of}
 
@@ -21,40 +21,9 @@ IsRun words = words ≡ codes "run" ∷ []
 abbrev pub usage_text : List ℕ
 usage_text = codes "usage: polydb run\n"
 
--- what is wrong with a malformed line, as it is printed
-unfoldable pub cause_text : LineCause → List ℕ
-cause_text too_long = codes "too long"
-cause_text not_text = codes "not text"
-cause_text sites_expected = codes "sites expected"
-cause_text unknown_word = codes "unknown word"
-cause_text twice = codes "twice"
-cause_text too_late = codes "too late"
-cause_text wrong_count = codes "wrong count"
-cause_text bad_number = codes "bad number"
-cause_text bad_mode = codes "bad mode"
-cause_text bad_name = codes "bad name"
-cause_text name_taken = codes "name taken"
-cause_text too_many_items = codes "too many items"
-cause_text (at_program malformed column) = codes "program column " ++ decimal column
-cause_text (at_program unknown_name column) = codes "unknown name column " ++ decimal column
-cause_text (at_program too_deep column) = codes "too deep column " ++ decimal column
-cause_text names_no_item = codes "names no item"
-cause_text (too_many_names n) = codes "too many names " ++ decimal n
-cause_text query_assigns = codes "query assigns"
-cause_text no_return = codes "no return"
-
--- the same, and what is printed of a line that is well formed but can't be run so far
-abbrev pub reason_text : Option LineCause → List ℕ
-reason_text None = codes "not built"
-reason_text (Some cause) = cause_text cause
-
 -- what is written of an input that is refused at this line
 unfoldable pub fault_text : ℕ → Option LineCause → List ℕ
-fault_text number cause = codes "line " ++ (decimal number ++ (codes ": " ++ (reason_text cause ++ line_feed)))
-
--- the greatest length of an input, in bytes
-abbrev pub max_input : ℕ
-max_input = 16777216
+fault_text number cause = refused_text number cause ++ line_feed
 
 -- An input is refused at the line of this number: it is malformed there, for this cause, or it is a schedule of which this is the first
 -- line that can't be run so far.
@@ -66,10 +35,10 @@ IsRefusedAt input number None = (schedule : Schedule) × IsSchedule input schedu
 -- the line at which it is refused. A longer input than may be is neither.
 abbrev pub IsAnswer : List ℕ → Status → List ℕ → Type 0
 IsAnswer input Done output =
-    (length input ≤ max_input) × (schedule : Schedule) × IsSchedule input schedule × (not_built input ≡ None) × (output ≡ output_of schedule)
+    (length input ≤ MAX_INPUT) × (schedule : Schedule) × IsSchedule input schedule × (not_built input ≡ None) × (output ≡ output_of schedule)
 IsAnswer input Malformed output =
-    (length input ≤ max_input) × (number : ℕ) × (cause : Option LineCause) × IsRefusedAt input number cause × (output ≡ fault_text number cause)
-IsAnswer input TooLong output = (max_input < length input) × (output ≡ [])
+    (length input ≤ MAX_INPUT) × (number : ℕ) × (cause : Option LineCause) × IsRefusedAt input number cause × (output ≡ fault_text number cause)
+IsAnswer input TooLong output = (MAX_INPUT < length input) × (output ≡ [])
 IsAnswer input _ output = ⊥
 
 -- It gives up where something outside failed, or out of memory.

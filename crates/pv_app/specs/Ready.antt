@@ -4,7 +4,8 @@ use Rattle.pv_base.specs.Catalog.{Declared}
 use Rattle.pv_model.specs.Check.{names}
 use Rattle.pv_model.specs.Events.{Event, submit}
 use Rattle.pv_model.specs.Meaning.{items_of_rows}
-use Rattle.pv_model.specs.Run.{OneSite, declared_rows}
+use Rattle.pv_model.specs.Run.{OneSite}
+use Rattle.pv_model.specs.Serial.{declared_rows}
 use Rattle.pv_model.specs.Syntax.{Program}
 
 -- The program names only items of the catalog.

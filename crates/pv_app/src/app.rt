@@ -10,18 +10,14 @@ ghost use Rattle.pv_model.specs.Run.{Agrees, RepliesAgree, output_of};
 ghost use Rattle.pv_model.specs.Schedule.{IsSchedule};
 ghost use Rattle.pv_script.specs.ScriptErrors.{cause_of};
 ghost use Rattle.pv_script.specs.View.{schedule_of};
-ghost use Rattle.pv_app.specs.InputAnswers.{IsRun, IsAnswer, GivesUp, GrowsBySome, status_of, max_input, usage_text, fault_text};
+ghost use Rattle.pv_app.specs.InputAnswers.{IsRun, IsAnswer, GivesUp, GrowsBySome, status_of, usage_text, fault_text};
 
-use crate::print::push_fault_line;
 use crate::run::{RunEnd, run};
 use crate::status::Status;
-use pv_base::Failed;
+use pv_base::{Failed, MAX_INPUT};
 use pv_io::{ReadEnd, Sink, Source, read_all, write_all};
 use pv_script::{LineCause, Schedule, ScriptError, not_built, read_schedule};
 use std::alloc::Global;
-
-/// The greatest length of an input, in bytes.
-pub const MAX_INPUT: u64 = 16_777_216;
 
 const USAGE: &[u8] = b"usage: polydb run\n";
 
@@ -69,7 +65,7 @@ pub fn polydb<R: Source, W: Sink>(
     ensures write_fault { result ≡ Status.WriteFault → Rose (W.faults sink.old) (W.faults sink.new) }
     ensures too_long { result ≡ Status.TooLong → Keeps (W.held sink.old) (W.held sink.new) }
     ensures short { result ≡ Status.WriteFault → IsRun (map string_bytes words.now) →
-        (input : List ℕ) → R.left source.old ≡ Some input → length input ≤ max_input }
+        (input : List ℕ) → R.left source.old ≡ Some input → length input ≤ MAX_INPUT }
 {
     if !is_run(words) {
         return status_of_write(write_all(sink, USAGE), Status::Usage);
@@ -94,7 +90,7 @@ fn is_run(words: &[String]) -> bool
 
 // What `run` answers to an input that was read to its end.
 fn answer<W: Sink>(alloc: Global, input: &[u8], sink: &mut W) -> Status
-    requires { length input.now ≤ max_input }
+    requires { length input.now ≤ MAX_INPUT }
     ensures answered { GivesUp result ⊎ GrowsBySome (W.held sink.old) (W.held sink.new) (IsAnswer input.now result) }
     ensures prefix { (status : Status) (output : List ℕ) → IsAnswer input.now status output →
         AppendsPrefix (W.held sink.old) (W.held sink.new) output }
@@ -111,7 +107,7 @@ fn answer<W: Sink>(alloc: Global, input: &[u8], sink: &mut W) -> Status
 
 // Runs the schedule that the input is, or names the first line that can't be run so far.
 fn run_built<W: Sink>(alloc: Global, input: &[u8], schedule: &Schedule, sink: &mut W) -> Status
-    requires short { length input.now ≤ max_input }
+    requires short { length input.now ≤ MAX_INPUT }
     requires schedule { IsSchedule input.now (schedule_of schedule.now) }
     requires few { vec_len schedule.now.events ≤ length input.now }
     ensures answered { GivesUp result ⊎ GrowsBySome (W.held sink.old) (W.held sink.new) (IsAnswer input.now result) }
@@ -129,15 +125,16 @@ fn run_built<W: Sink>(alloc: Global, input: &[u8], schedule: &Schedule, sink: &m
 }
 
 // Names the line at which the input is refused.
+#[tactic(auto, unfolding(crate::specs::InputAnswers::fault_text))]
 fn refuse<W: Sink>(alloc: Global, line: u32, cause: LineCause, sink: &mut W) -> Status
     ensures written { result ≡ Status.Malformed → Appends (W.held sink.old) (W.held sink.new) (fault_text line (cause_of cause)) }
     ensures prefix { AppendsPrefix (W.held sink.old) (W.held sink.new) (fault_text line (cause_of cause)) }
     ensures fault { result ≡ Status.WriteFault → Rose (W.faults sink.old) (W.faults sink.new) }
     ensures others { (result ≡ Status.Malformed) ⊎ ((result ≡ Status.WriteFault) ⊎ (result ≡ Status.NoMemory)) }
 {
-    let mut text = Vec::new(alloc);
-    match push_fault_line(&mut text, line, cause) {
-        Ok(()) => status_of_write(write_all(sink, &text), Status::Malformed),
+    let error = ScriptError::Malformed { line, cause };
+    match format!(in alloc; "{error}\n") {
+        Ok(text) => status_of_write(write_all(sink, text.as_bytes()), Status::Malformed),
         Err(_) => Status::NoMemory,
     }
 }

@@ -1,13 +1,12 @@
 // The state of one site: its transactions in order, each item's value, and the program whose messages wait.
-ghost use Rattle.std.specs.Prelude.{◌≡◌, ◌-◌, ◌^◌, ◌<◌, Some, length, IfOk, OnOk, OnErr, IsTrue};
+ghost use Rattle.std.specs.Prelude.{◌≡◌, ◌<◌, Some, length, IfOk, OnOk, OnErr, IsTrue};
 ghost use Rattle.std.specs.Option.{option_map};
-ghost use Rattle.pv_ast.specs.ReplyView.{reply_of};
 ghost use Rattle.pv_model.specs.Items.{has_all_items};
 ghost use Rattle.pv_model.specs.Meaning.{exec};
-ghost use Rattle.pv_model.specs.Run.{declared_rows};
+ghost use Rattle.pv_model.specs.Serial.{declared_rows};
 
 use pv_ast::{Program, Reply, Row, exec};
-use pv_base::{Catalog, ItemId, NoMemory, SiteId, TxnId};
+use pv_base::{Catalog, ItemId, NEVER_GIVEN, NoMemory, SiteId, TxnId};
 use std::alloc::Global;
 use std::marker::Model;
 
@@ -69,7 +68,7 @@ impl<'a> OneSite<'a> {
 
     /// The transaction that comes next.
     pub fn next_txn(&self) -> TxnId
-        requires { length self.now.order < 2 ^ 32 - 1 }
+        requires { length self.now.order < NEVER_GIVEN }
         ensures { result ≡ txn_of (length self.now.order) }
     {
         TxnId {
@@ -89,10 +88,10 @@ impl<'a> OneSite<'a> {
     /// Runs the program and commits it. Without memory the site stays as it was. Takes time in proportion to the parts of
     /// the program that run, times the items.
     pub fn commit(&mut self, alloc: Global, program: &Program) -> Result<Reply, NoMemory>
-        requires number { length self.old.order < 2 ^ 32 - 1 }
+        requires number { length self.old.order < NEVER_GIVEN }
         requires items { IsTrue (has_all_items self.old.rows program.now) }
         ensures after { OnOk result (self.new ≡ after_commit self.old (Some program.now)) }
-        ensures reply { IfOk result (λ reply. reply_of reply ≡ (exec program.now self.old.rows).reply) }
+        ensures reply { IfOk result (λ reply. reply ≡ (exec program.now self.old.rows).reply) }
         ensures unchanged { OnErr result (self.new ≡ self.old) }
     {
         let txn = self.next_txn();

@@ -1,18 +1,13 @@
 // The lines that a run prints, each put after what a buffer holds. After an error the buffer's content is of no use.
 ghost use Rattle.std.specs.Prelude.{◌≡◌, ◌++◌, length, OnOk};
-ghost use Rattle.std.specs.Fmt.{decimal};
-ghost use Rattle.pv_app.specs.InputAnswers.{reason_text, fault_text};
-ghost use Rattle.pv_ast.specs.ReplyView.{decline_of, reply_of};
-ghost use Rattle.pv_model.specs.Meaning.{declined};
+ghost use Rattle.pv_base.specs.declared.reply.Reply.TheVariants.{Declined};
 ghost use Rattle.pv_model.specs.Print as model;
 ghost use Rattle.pv_model.specs.Print.{line_text, list_text, text_of};
 ghost use Rattle.pv_model.specs.Run.{item_lines, report_lines};
-ghost use Rattle.pv_script.specs.ScriptErrors.{cause_of};
 
 use itoa::Buffer;
 use pv_ast::{Decline, Reply, Row};
 use pv_base::{Catalog, ItemId, NoMemory, TxnId, push_txn};
-use pv_script::LineCause;
 
 // Each transaction, with a space before it.
 fn push_list(text: &mut Vec<u8>, txns: &[TxnId]) -> Result<(), NoMemory>
@@ -38,7 +33,7 @@ pub fn push_txn_line(text: &mut Vec<u8>, txn: TxnId) -> Result<(), NoMemory>
 /// `commit T certain REPLY`
 #[tactic(auto, unfolding(pv_model::specs::Print::line_text))]
 pub fn push_commit_line(text: &mut Vec<u8>, txn: TxnId, reply: Reply) -> Result<(), NoMemory>
-    ensures { OnOk result (text.new.items ≡ text.old.items ++ line_text (model.commit txn (reply_of reply))) }
+    ensures { OnOk result (text.new.items ≡ text.old.items ++ line_text (model.commit txn reply)) }
 {
     text.extend_from_slice(b"commit ")?;
     push_txn(text, txn)?;
@@ -49,7 +44,7 @@ pub fn push_commit_line(text: &mut Vec<u8>, txn: TxnId, reply: Reply) -> Result<
 
 // The reply, as it is printed.
 fn push_reply(text: &mut Vec<u8>, reply: Reply) -> Result<(), NoMemory>
-    ensures { OnOk result (text.new.items ≡ text.old.items ++ model.reply_text (reply_of reply)) }
+    ensures { OnOk result (text.new.items ≡ text.old.items ++ model.reply_text reply) }
 {
     match reply {
         Reply::Value(value) => {
@@ -63,7 +58,7 @@ fn push_reply(text: &mut Vec<u8>, reply: Reply) -> Result<(), NoMemory>
 
 // Why a program declined, as it is printed.
 fn decline_text(decline: Decline) -> &'static [u8]
-    ensures { result.now ≡ model.reply_text (declined (decline_of decline)) }
+    ensures { result.now ≡ model.reply_text (Declined decline) }
 {
     match decline {
         Decline::Require => b"declined-require",
@@ -124,58 +119,9 @@ pub fn push_report(
     Ok(text.extend_from_slice(b"end\n")?)
 }
 
-/// `line N: CAUSE`
-#[tactic(auto, unfolding(crate::specs::InputAnswers::fault_text))]
-pub fn push_fault_line(text: &mut Vec<u8>, line: u32, cause: LineCause) -> Result<(), NoMemory>
-    ensures { OnOk result (text.new.items ≡ text.old.items ++ fault_text line (cause_of cause)) }
-{
-    push_numbered(text, b"line ", line)?;
-    text.extend_from_slice(b": ")?;
-    push_cause(text, cause)?;
-    Ok(text.extend_from_slice(b"\n")?)
-}
-
-// What is wrong with a line.
-#[tactic(auto, unfolding(crate::specs::InputAnswers::cause_text))]
-fn push_cause(text: &mut Vec<u8>, cause: LineCause) -> Result<(), NoMemory>
-    ensures { OnOk result (text.new.items ≡ text.old.items ++ reason_text (cause_of cause)) }
-{
-    match cause {
-        LineCause::TooLong => push_words(text, b"too long"),
-        LineCause::NotText => push_words(text, b"not text"),
-        LineCause::SitesExpected => push_words(text, b"sites expected"),
-        LineCause::UnknownWord => push_words(text, b"unknown word"),
-        LineCause::Twice => push_words(text, b"twice"),
-        LineCause::TooLate => push_words(text, b"too late"),
-        LineCause::WrongCount => push_words(text, b"wrong count"),
-        LineCause::BadNumber => push_words(text, b"bad number"),
-        LineCause::BadMode => push_words(text, b"bad mode"),
-        LineCause::BadName => push_words(text, b"bad name"),
-        LineCause::NameTaken => push_words(text, b"name taken"),
-        LineCause::TooManyItems => push_words(text, b"too many items"),
-        LineCause::ProgramColumn(column) => push_numbered(text, b"program column ", column),
-        LineCause::UnknownName(column) => push_numbered(text, b"unknown name column ", column),
-        LineCause::TooDeep(column) => push_numbered(text, b"too deep column ", column),
-        LineCause::NamesNoItem => push_words(text, b"names no item"),
-        LineCause::TooManyNames(count) => push_numbered(text, b"too many names ", count),
-        LineCause::QueryAssigns => push_words(text, b"query assigns"),
-        LineCause::NoReturn => push_words(text, b"no return"),
-        LineCause::NotBuilt => push_words(text, b"not built"),
-    }
-}
-
 // Words as they stand.
 fn push_words(text: &mut Vec<u8>, words: &[u8]) -> Result<(), NoMemory>
     ensures { OnOk result (text.new.items ≡ text.old.items ++ words.now) }
 {
     Ok(text.extend_from_slice(words)?)
-}
-
-// Words, and a number after them.
-fn push_numbered(text: &mut Vec<u8>, words: &[u8], number: u32) -> Result<(), NoMemory>
-    ensures { OnOk result (text.new.items ≡ text.old.items ++ (words.now ++ decimal number)) }
-{
-    let mut digits = Buffer::new();
-    text.extend_from_slice(words)?;
-    Ok(text.extend_from_slice(digits.format(number).as_bytes())?)
 }

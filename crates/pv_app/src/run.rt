@@ -1,8 +1,8 @@
 // A run: each event's lines are written when the event is done.
-ghost use Rattle.std.specs.Prelude.{◌≡◌, ◌-◌, ◌^◌, ◌<◌, Some, All, IsTrue, length, vec_len, OnOk};
+ghost use Rattle.std.specs.Prelude.{◌≡◌, ◌<◌, Some, All, IsTrue, length, vec_len, OnOk};
 ghost use Rattle.pv_app.specs.Ready.{IsReady, FitsCatalog};
-ghost use Rattle.pv_app.specs.View.{Writes};
-ghost use Rattle.pv_ast.specs.ReplyView.{reply_of};
+ghost use Rattle.pv_app.specs.View.{IsWriteFault};
+ghost use Rattle.pv_io.specs.SinkEffects.{Writes};
 ghost use Rattle.pv_model.specs.Items.{has_all_items};
 ghost use Rattle.pv_model.specs.Meaning.{exec};
 ghost use Rattle.pv_model.specs.Print as model;
@@ -13,7 +13,7 @@ ghost use Rattle.pv_script.specs.View.{event_of, schedule_of};
 use crate::one_site::OneSite;
 use crate::print::{push_commit_line, push_report, push_txn_line};
 use pv_ast::{Program, Reply};
-use pv_base::{Catalog, Failed, NoMemory, TxnId};
+use pv_base::{Catalog, Failed, NEVER_GIVEN, NoMemory, TxnId};
 use pv_io::{Sink, write_all};
 use pv_script::{Event, Schedule};
 use std::alloc::Global;
@@ -50,10 +50,9 @@ impl From<NoMemory> for RunEnd {
 /// Runs a schedule of one site, and writes what it prints. Takes time in proportion to its events and its output, and for each
 /// transaction to the parts of its program that run, times the items.
 pub fn run<W: Sink>(alloc: Global, schedule: &Schedule, sink: &mut W) -> Result<(), RunEnd>
-    requires numbers { vec_len schedule.now.events < 2 ^ 32 - 1 }
+    requires numbers { vec_len schedule.now.events < NEVER_GIVEN }
     requires ready { All (IsReady schedule.now.catalog) (schedule_of schedule.now).events }
-    ensures { Writes (W.held sink.old) (W.held sink.new) (W.faults sink.old) (W.faults sink.new) result
-        (output_of (schedule_of schedule.now)) }
+    ensures { Writes W.Sink IsWriteFault sink.old sink.new (output_of (schedule_of schedule.now)) result }
 {
     let mut world = OneSite::new(alloc, &schedule.catalog)?;
     let mut text = Vec::new(alloc);
@@ -72,11 +71,10 @@ fn step<'a, W: Sink>(
     text: &mut Vec<u8>,
     sink: &mut W,
 ) -> Result<(), RunEnd>
-    requires number { length world.old.order < 2 ^ 32 - 1 }
+    requires number { length world.old.order < NEVER_GIVEN }
     requires sound { FitsCatalog catalog.now world.old }
     ensures after { OnOk result (world.new ≡ after world.old (event_of event.now)) }
-    ensures writes { Writes (W.held sink.old) (W.held sink.new) (W.faults sink.old) (W.faults sink.new) result
-        (text_of (lines_of catalog.now world.old (event_of event.now))) }
+    ensures writes { Writes W.Sink IsWriteFault sink.old sink.new (text_of (lines_of catalog.now world.old (event_of event.now))) result }
 {
     match event {
         Event::Submit { program, .. } => submit(world, program, text, sink),
@@ -94,10 +92,9 @@ fn submit<'a, W: Sink>(
     text: &mut Vec<u8>,
     sink: &mut W,
 ) -> Result<(), RunEnd>
-    requires number { length world.old.order < 2 ^ 32 - 1 }
+    requires number { length world.old.order < NEVER_GIVEN }
     ensures after { OnOk result (world.new ≡ record world.old { waiting = Some program.now }) }
-    ensures writes { Writes (W.held sink.old) (W.held sink.new) (W.faults sink.old) (W.faults sink.new) result
-        (line_text (model.txn (txn_of (length world.old.order)))) }
+    ensures writes { Writes W.Sink IsWriteFault sink.old sink.new (line_text (model.txn (txn_of (length world.old.order)))) result }
 {
     world.request(program);
     write_txn(world.next_txn(), text, sink)
@@ -111,11 +108,10 @@ fn pump<W: Sink>(
     text: &mut Vec<u8>,
     sink: &mut W,
 ) -> Result<(), RunEnd>
-    requires number { length world.old.order < 2 ^ 32 - 1 }
+    requires number { length world.old.order < NEVER_GIVEN }
     requires sound { FitsCatalog catalog.now world.old }
     ensures after { OnOk result (world.new ≡ after_commit world.old world.old.waiting) }
-    ensures writes { Writes (W.held sink.old) (W.held sink.new) (W.faults sink.old) (W.faults sink.new) result
-        (text_of (commit_lines world.old world.old.waiting)) }
+    ensures writes { Writes W.Sink IsWriteFault sink.old sink.new (text_of (commit_lines world.old world.old.waiting)) result }
 {
     match world.waiting() {
         Some(program) => commit(alloc, world, program, text, sink),
@@ -131,11 +127,10 @@ fn commit<W: Sink>(
     text: &mut Vec<u8>,
     sink: &mut W,
 ) -> Result<(), RunEnd>
-    requires number { length world.old.order < 2 ^ 32 - 1 }
+    requires number { length world.old.order < NEVER_GIVEN }
     requires items { IsTrue (has_all_items world.old.rows program.now) }
     ensures after { OnOk result (world.new ≡ after_commit world.old (Some program.now)) }
-    ensures writes { Writes (W.held sink.old) (W.held sink.new) (W.faults sink.old) (W.faults sink.new) result
-        (line_text (model.commit (txn_of (length world.old.order)) (exec program.now world.old.rows).reply)) }
+    ensures writes { Writes W.Sink IsWriteFault sink.old sink.new (line_text (model.commit (txn_of (length world.old.order)) (exec program.now world.old.rows).reply)) result }
 {
     let txn = world.next_txn();
     let reply = world.commit(alloc, program)?;
@@ -144,8 +139,7 @@ fn commit<W: Sink>(
 
 // The line of a request.
 fn write_txn<W: Sink>(txn: TxnId, text: &mut Vec<u8>, sink: &mut W) -> Result<(), RunEnd>
-    ensures { Writes (W.held sink.old) (W.held sink.new) (W.faults sink.old) (W.faults sink.new) result
-        (line_text (model.txn txn)) }
+    ensures { Writes W.Sink IsWriteFault sink.old sink.new (line_text (model.txn txn)) result }
 {
     text.clear();
     push_txn_line(text, txn)?;
@@ -159,8 +153,7 @@ fn write_commit<W: Sink>(
     text: &mut Vec<u8>,
     sink: &mut W,
 ) -> Result<(), RunEnd>
-    ensures { Writes (W.held sink.old) (W.held sink.new) (W.faults sink.old) (W.faults sink.new) result
-        (line_text (model.commit txn (reply_of reply))) }
+    ensures { Writes W.Sink IsWriteFault sink.old sink.new (line_text (model.commit txn reply)) result }
 {
     text.clear();
     push_commit_line(text, txn, reply)?;
@@ -175,8 +168,7 @@ fn report<W: Sink>(
     sink: &mut W,
 ) -> Result<(), RunEnd>
     requires sound { FitsCatalog catalog.now world.now }
-    ensures { Writes (W.held sink.old) (W.held sink.new) (W.faults sink.old) (W.faults sink.new) result
-        (text_of (report_lines catalog.now world.now.order world.now.rows)) }
+    ensures { Writes W.Sink IsWriteFault sink.old sink.new (text_of (report_lines catalog.now world.now.order world.now.rows)) result }
 {
     text.clear();
     push_report(text, catalog, world.order(), world.rows())?;

@@ -3,6 +3,5 @@ pub mod ExprView
 pub mod ExprFalls
 pub mod ProgramView
 pub mod ProgramFalls
-pub mod ReplyExact
-pub mod ReplyView
+pub mod CourseView
 pub mod ShortCircuit

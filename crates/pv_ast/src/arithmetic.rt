@@ -2,13 +2,12 @@
 ghost use Rattle.std.specs.Prelude.{◌≡◌, ◌+ℤ◌, ◌-ℤ◌, ◌*ℤ◌, neg_ℤ, pos, int_lt, if◌then◌else◌};
 ghost use Rattle.pv_model.specs.Meaning.{within, quotient, remainder, truth, computed};
 ghost use Rattle.pv_ast.specs.OpView.{op_of};
-ghost use Rattle.pv_ast.specs.ReplyView.{computed_of};
 
 use crate::{Decline, Op};
 
 /// An operator on the values of both sides.
 pub fn compute(op: Op, x: i64, y: i64) -> Result<i64, Decline>
-    ensures { computed_of result ≡ computed (op_of op) x y }
+    ensures { result ≡ computed (op_of op) x y }
 {
     match op {
         Op::Or => Ok(truth(x != 0 || y != 0)),
@@ -38,7 +37,7 @@ pub fn truth(test: bool) -> i64
 
 /// The number with the other sign, which declines for the least number.
 pub fn negative(x: i64) -> Result<i64, Decline>
-    ensures { computed_of result ≡ within (neg_ℤ x) }
+    ensures { result ≡ within (neg_ℤ x) }
 {
     match x.checked_neg() {
         Some(z) => Ok(z),
@@ -47,7 +46,7 @@ pub fn negative(x: i64) -> Result<i64, Decline>
 }
 
 fn sum(x: i64, y: i64) -> Result<i64, Decline>
-    ensures { computed_of result ≡ within (x +ℤ y) }
+    ensures { result ≡ within (x +ℤ y) }
 {
     match x.checked_add(y) {
         Some(z) => Ok(z),
@@ -56,7 +55,7 @@ fn sum(x: i64, y: i64) -> Result<i64, Decline>
 }
 
 fn difference(x: i64, y: i64) -> Result<i64, Decline>
-    ensures { computed_of result ≡ within (x -ℤ y) }
+    ensures { result ≡ within (x -ℤ y) }
 {
     match x.checked_sub(y) {
         Some(z) => Ok(z),
@@ -65,7 +64,7 @@ fn difference(x: i64, y: i64) -> Result<i64, Decline>
 }
 
 fn product(x: i64, y: i64) -> Result<i64, Decline>
-    ensures { computed_of result ≡ within (x *ℤ y) }
+    ensures { result ≡ within (x *ℤ y) }
 {
     match x.checked_mul(y) {
         Some(z) => Ok(z),
@@ -74,7 +73,7 @@ fn product(x: i64, y: i64) -> Result<i64, Decline>
 }
 
 fn quotient(x: i64, y: i64) -> Result<i64, Decline>
-    ensures { computed_of result ≡ quotient x y }
+    ensures { result ≡ quotient x y }
 {
     if y == 0 {
         return Err(Decline::ZeroDivisor);
@@ -86,7 +85,7 @@ fn quotient(x: i64, y: i64) -> Result<i64, Decline>
 }
 
 fn remainder(x: i64, y: i64) -> Result<i64, Decline>
-    ensures { computed_of result ≡ remainder x y }
+    ensures { result ≡ remainder x y }
 {
     if y == 0 {
         return Err(Decline::ZeroDivisor);

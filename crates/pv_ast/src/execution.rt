@@ -6,7 +6,7 @@ ghost use Rattle.pv_model.specs.Syntax as model;
 ghost use Rattle.pv_ast.specs.OpView.{op_of};
 ghost use Rattle.pv_ast.specs.ShortCircuit.{IsShortCircuit};
 ghost use Rattle.pv_ast.specs.ExprView.{expr_of};
-ghost use Rattle.pv_ast.specs.ReplyView.{computed_of, course_from};
+ghost use Rattle.pv_ast.specs.CourseView.{course_from};
 ghost use Rattle.pv_ast.specs.ProgramView.{followed_by};
 
 use crate::arithmetic::{compute, negative, truth};
@@ -88,7 +88,7 @@ fn step(stmt: &Stmt, rows: &mut [Row]) -> Result<Option<i64>, Decline>
 
 // The value of an expression.
 fn value_of(expr: &Expr, rows: &[Row]) -> Result<i64, Decline>
-    ensures { computed_of result ≡ value_of (expr_of expr.now) rows.now }
+    ensures { result ≡ value_of (expr_of expr.now) rows.now }
 {
     match expr {
         Expr::Number(number) => Ok(*number),

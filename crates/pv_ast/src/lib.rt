@@ -9,11 +9,12 @@ mod program;
 mod rows;
 mod execution;
 
-pub use effect::{Decline, Effect, Reply};
+pub use effect::Effect;
 pub use expr::{Expr, Op, Operand};
 pub use program::{Program, Stmt};
 pub use rows::Row;
 pub use execution::exec;
+pub use pv_base::{Decline, Reply};
 
 #[cfg(test)]
 mod tests;

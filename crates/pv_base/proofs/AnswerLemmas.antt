@@ -17,16 +17,16 @@ module _ {V F : Type 0} (IsValue : V → Type 0) (IsFault : F → Type 0) (one :
     pub answered : (result : Result X E) → IfOk result (λ x. IsValue (value_of x)) → IfErr result (λ e. IfSome (fault_of e) IsFault)
         → Answers IsValue IsFault value_of fault_of result
     answered (Ok x) given refused = record {
-        one = one;
-        given = given;
-        gives = λ value is. (one.one_value (value_of x) value given is, tt);
-        refused = refused;
-        refuses = λ fault is. (one.not_both (value_of x) fault given is, tt);
-      }
+      one = one;
+      given = given;
+      gives = λ value is. (one.one_value (value_of x) value given is, tt);
+      refused = refused;
+      refuses = λ fault is. (one.not_both (value_of x) fault given is, tt);
+    }
     answered (Err e) given refused = record {
-        one = one;
-        given = given;
-        gives = λ value is. (tt, told-nothing (fault_of e) refused value is);
-        refused = refused;
-        refuses = λ fault is. (tt, told-the-fault (fault_of e) refused fault is);
-      }
+      one = one;
+      given = given;
+      gives = λ value is. (tt, told-nothing (fault_of e) refused value is);
+      refused = refused;
+      refuses = λ fault is. (tt, told-the-fault (fault_of e) refused fault is);
+    }

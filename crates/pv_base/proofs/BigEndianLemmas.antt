@@ -112,6 +112,14 @@ unfolding big_endian
 bytes_high_first-big_endian zero number = refl
 bytes_high_first-big_endian (suc size) number = λ i. byte_at-digit size number i ∷ bytes_high_first-big_endian size number i
 
+one_digit : (number : ℕ) → number < 256 → number / 256 ^ 0 % 256 ≡ number
+one_digit number fits = omega arith
+
+-- One byte is its own number.
+pub big_endian-one : (number : ℕ) → number < 256 → big_endian 1 number ≡ number ∷ []
+unfolding big_endian
+big_endian-one number fits = λ i. one_digit number fits i ∷ []
+
 -- The kit's name for the same number.
 pub cast_unsigned-twos_complement : (number : ℤ) → cast_unsigned w64 number ≡ twos_complement number
 unfolding twos_complement

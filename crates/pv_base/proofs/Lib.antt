@@ -1,8 +1,9 @@
 -- The lemmas of this crate.
 pub mod AnswerLemmas
-pub mod EntryLemmas
-pub mod BigEndianLemmas
 pub mod AssignmentLemmas
 pub mod Basics
+pub mod BigEndianLemmas
 pub mod ContainsLemmas
+pub mod EntryLemmas
 pub mod MapLemmas
+pub mod OrderLemmas

@@ -1,4 +1,4 @@
--- What a call answers that gives the value that there is, or tells the first fault.
+-- What a call answers that gives the value that there is, or reports the first fault.
 use Rattle.std.specs.Prelude.{◌≡◌, ◌≢◌, ◌⊎◌, Option, Some, None, Result, Err, OnOk, IfOk, IfErr, IfSome}
 
 module _ {V F : Type 0} (IsValue : V → Type 0) (IsFault : F → Type 0) where
@@ -10,17 +10,17 @@ module _ {V F : Type 0} (IsValue : V → Type 0) (IsFault : F → Type 0) where
     pub not_both : (value : V) (fault : F) → IsValue value → IsFault fault → ⊥
 
   module _ {X E : Type 0} (value_of : X → V) (fault_of : E → Option F) (result : Result X E) where
-    -- The call gives the value exactly where there is one, and tells the fault exactly where there is one. An error that is
-    -- no fault is want of memory, which may come in place of either.
+    -- The call gives the value exactly where there is one, and reports the fault exactly where there is one. An error that is
+    -- no fault is out of memory, which may come in place of either.
     pub record Answers : Type 0 where
       pub one : HasOneAnswer
       pub given : IfOk result (λ x. IsValue (value_of x))
       pub gives : (value : V) → IsValue value → IfOk result (λ x. value_of x ≡ value) × IfErr result (λ e. fault_of e ≡ None)
       pub refused : IfErr result (λ e. IfSome (fault_of e) IsFault)
-      pub refuses : (fault : F) → IsFault fault → IfOk result (λ _. ⊥) × IfErr result (λ e. IfSome (fault_of e) (λ told. told ≡ fault))
+      pub refuses : (fault : F) → IsFault fault → IfOk result (λ _. ⊥) × IfErr result (λ e. IfSome (fault_of e) (λ reported. reported ≡ fault))
 
 module _ {X E : Type 0} (cause : Option E) (memory : E) (result : Result X E) where
-  -- A call is refused for the cause that there is, and for no other. Want of memory may come in place of it.
+  -- A call is refused for the cause that there is, and for no other. Out of memory may come in place of it.
   pub record Refuses : Type 0 where
     pub accepted : OnOk result (cause ≡ None)
     pub refused : IfErr result (λ e. e ≢ memory → cause ≡ Some e)

@@ -5,6 +5,7 @@ use Rattle.std.specs.declared.cmp.Ordering.{Ordering}
 use Rattle.std.specs.Ordering.{nat_cmp, ordering_then, is_lt}
 use Rattle.pv_base.specs.declared.txn.TxnId.{TxnId}
 
+-- Both are the same transaction.
 abbrev pub is_same_txn : TxnId → TxnId → Bool
 is_same_txn t u = t.site.0 == u.site.0 && t.epoch == u.epoch && t.number == u.number
 
@@ -12,6 +13,7 @@ is_same_txn t u = t.site.0 == u.site.0 && t.epoch == u.epoch && t.number == u.nu
 abbrev pub txn_cmp : TxnId → TxnId → Ordering
 txn_cmp t u = ordering_then (nat_cmp t.site.0 u.site.0) (ordering_then (nat_cmp t.epoch u.epoch) (nat_cmp t.number u.number))
 
+-- The one transaction comes before the other in that order.
 abbrev pub precedes : TxnId → TxnId → Bool
 precedes t u = is_lt (txn_cmp t u)
 

@@ -18,7 +18,7 @@ pub data CaseFault : Type 0 where
   -- the list differs from its canonical form from this place on
   unreduced : ℕ → CaseFault
 
--- The fault that the error tells, unless it is want of memory.
+-- The fault that the error reports, unless it is out of memory.
 abbrev pub fault_of : CaseError → Option CaseFault
 fault_of (TooManyOutcomes count) = Some (too_many count)
 fault_of (NotDisjoint first second) = Some (overlap first second)

@@ -37,7 +37,7 @@ refusal_of_new declared site =
     if nat_le declared.sites site then Some NoSite else
     (if nat_le MAX_ITEMS (length declared.items) then Some TooMany else None)
 
--- Why an addition is refused, the first cause that there is. Want of memory comes after all of these.
+-- Why an addition is refused, the first cause that there is. Out of memory comes after all of these.
 abbrev pub refusal : Declared → List ℕ → ℕ → Option CatalogError
 refusal declared name site =
     if is_name name

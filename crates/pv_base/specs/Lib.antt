@@ -7,6 +7,8 @@ pub mod Catalog
 pub mod CatalogView
 pub mod Fault
 pub mod Name
+pub mod Named
 pub mod Polyvalue
+pub mod ReplyExact
 pub mod Txn
 pub mod Want

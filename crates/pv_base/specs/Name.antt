@@ -1,4 +1,4 @@
--- The names of items.
+-- Bytes of texts, and the names of items.
 use Rattle.std.specs.Prelude.{ℕ, Bool, false, not, ◌&&◌, ◌||◌, ◌==◌, nat_le, List, [], ◌∷◌, length, codes}
 use Rattle.std.specs.List.{list_any, list_all}
 use Rattle.std.specs.Str.{bytes_eq}
@@ -7,12 +7,16 @@ use Rattle.pv_base.specs.declared.limits.TheConstants.{MAX_NAME}
 -- The words of the program language, none of which names an item.
 abbrev pub keywords : List (List ℕ)
 keywords =
-    codes "and" ∷ codes "or" ∷ codes "not" ∷ codes "min" ∷ codes "max" ∷ codes "if" ∷ codes "else" ∷ codes "require"
+    codes "or" ∷ codes "and" ∷ codes "not" ∷ codes "min" ∷ codes "max" ∷ codes "if" ∷ codes "else" ∷ codes "require"
     ∷ codes "return" ∷ codes "certain" ∷ []
 
 -- Whether the text is one of those words.
 unfoldable pub is_keyword : List ℕ → Bool
 is_keyword text = list_any (bytes_eq text) keywords
+
+-- A space or a tab.
+abbrev pub is_blank : ℕ → Bool
+is_blank b = b == 32 || b == 9
 
 -- An ASCII lower-case letter.
 abbrev pub is_lower : ℕ → Bool

@@ -4,7 +4,7 @@ use Rattle.std.specs.Bool.{beq}
 use Rattle.std.specs.List.{AllPairs, Contains, filter, list_all, list_any}
 use Rattle.pv_base.specs.declared.literal.Literal.{Literal}
 use Rattle.pv_base.specs.declared.txn.TxnId.{TxnId}
-use Rattle.pv_base.specs.Assignment.{is_same_txn, precedes, commits, AgreeOn, assignments}
+use Rattle.pv_base.specs.Assignment.{is_same_txn, precedes, commits, with_outcome, AgreeOn, AreAscending, assignments}
 
 -- a value under a condition, which is a list of literals
 pub record Case (V : Type 0) : Type 0 where
@@ -18,6 +18,15 @@ is_met assignment literal = beq (commits assignment literal.txn) literal.commits
 -- Every literal of the condition is met.
 abbrev pub meets : List Literal → List TxnId → Bool
 meets when assignment = list_all (is_met assignment) when
+
+-- the assignment with the outcomes that these literals ask for, and else as it was
+abbrev pub with_outcomes : List Literal → List TxnId → List TxnId
+with_outcomes [] assignment = assignment
+with_outcomes (literal ∷ literals) assignment = with_outcome literal.txn literal.commits (with_outcomes literals assignment)
+
+-- The literals ascend by their transactions, and each is on another one.
+abbrev pub AreOutcomes : List Literal → Type 0
+AreOutcomes literals = AllPairs (λ (literal later : Literal). IsTrue (precedes literal.txn later.txn)) literals
 
 module _ {V : Type 0} where
   -- the value of the first case that the assignment meets; where the cases are sound, of the one that it meets
@@ -42,15 +51,16 @@ module _ {V : Type 0} where
   under txn outcome cases = map (λ case. record { when = record { txn = txn; commits = outcome } ∷ case.when; value = case.value }) cases
 
   -- The one list of cases for its values: the leaves, from left to right, of the smallest decision tree over ascending
-  -- transactions. The side on which the transaction doesn't commit comes first, and a test with equal sides isn't made (Bryant, 1986).
+  -- transactions. The side on which the transaction aborts comes first, and a test with equal sides isn't made (Bryant, 1986).
   pub data IsCanonical : List (Case V) → Type 0 where
     sure : (value : V) → IsCanonical (record { when = []; value = value } ∷ [])
-    tested : (txn : TxnId) (front back : List (Case V)) → IsCanonical front → IsCanonical back → NamesOnlyAfter txn front → NamesOnlyAfter txn back
-        → (front ≡ back → ⊥) → IsCanonical (under txn false front ++ under txn true back)
+    tested : (txn : TxnId) (aborted committed : List (Case V)) → IsCanonical aborted → IsCanonical committed
+        → NamesOnlyAfter txn aborted → NamesOnlyAfter txn committed
+        → (aborted ≡ committed → ⊥) → IsCanonical (under txn false aborted ++ under txn true committed)
 
   -- The list is of the transactions that the cases name, in their order, each once. All cases have exactly one such list.
   pub record AreNames (cases : List (Case V)) (txns : List TxnId) : Type 0 where
-    pub ascending : AllPairs (λ txn later. IsTrue (precedes txn later)) txns
+    pub ascending : AreAscending txns
     pub each : All (λ txn. IsTrue (names cases txn)) txns
     pub whole : (txn : TxnId) → IsTrue (names cases txn) → Contains txns txn
 
@@ -71,24 +81,25 @@ module _ {V : Type 0} where
   abbrev pub DependsOnlyOn : (TxnId → Bool) → List (Case V) → Type 0
   DependsOnlyOn set cases = (assignment other : List TxnId) → AgreeOn set assignment other → value_at cases assignment ≡ value_at cases other
 
-  -- The value is the new one where the transaction commits, and else the old one.
+  -- The value is the second one where the transaction commits, and the first one where it aborts.
   abbrev pub IsChoice : TxnId → List (Case V) → List (Case V) → List (Case V) → Type 0
-  IsChoice txn new old cases = (assignment : List TxnId) → value_at cases assignment ≡ value_at (if commits assignment txn then new else old) assignment
+  IsChoice txn aborted committed cases =
+      (assignment : List TxnId) → value_at cases assignment ≡ value_at (if commits assignment txn then committed else aborted) assignment
 
-  -- The value is as before wherever the transaction has this outcome, and the transaction isn't named.
-  pub record IsSettled (txn : TxnId) (outcome : Bool) (before after : List (Case V)) : Type 0 where
-    pub same : (assignment : List TxnId) → commits assignment txn ≡ outcome → value_at after assignment ≡ value_at before assignment
-    pub unnamed : names after txn ≡ false
+  -- The value at each assignment is the one before at that assignment with these outcomes put in, and none of their transactions is named.
+  pub record IsSettled (literals : List Literal) (before after : List (Case V)) : Type 0 where
+    pub same : (assignment : List TxnId) → value_at after assignment ≡ value_at before (with_outcomes literals assignment)
+    pub unnamed : All (λ literal. names after literal.txn ≡ false) literals
 
   -- The value at each assignment of these transactions, in the order of `assignments`.
   abbrev pub AreValues : List (Case V) → List TxnId → List V → Type 0
   AreValues cases txns values = map Some values ≡ map (value_at cases) (assignments txns)
 
   -- The polyvalue of this choice names so many transactions.
-  pub record ChoiceNames (txn : TxnId) (new old : List (Case V)) (count : ℕ) : Type 0 where
+  pub record ChoiceNames (txn : TxnId) (aborted committed : List (Case V)) (count : ℕ) : Type 0 where
     pub cases : List (Case V)
     pub canonical : IsCanonical cases
-    pub choice : IsChoice txn new old cases
+    pub choice : IsChoice txn aborted committed cases
     pub txns : List TxnId
     pub named : AreNames cases txns
     pub counted : length txns ≡ count

@@ -69,7 +69,7 @@ impl<T: Drop> From<AllocFailed<T>> for CatalogError {
 /// What is declared of a database before it runs: how many sites there are, how long each site's journal may grow, and
 /// the items in order of declaration, no two of one name.
 ///
-/// It gives each item a number, its [`ItemId`], by which everything else refers to the item, and it tells the name, the
+/// It gives each item a number, its [`ItemId`], by which everything else refers to the item, and it gives the name, the
 /// site and the first value of each. What an item holds later isn't in it.
 #[derive(Debug, Drop)]
 pub struct Catalog {

@@ -1,4 +1,4 @@
-// The two refusals that have no more to say: want of memory, and a fault of something outside.
+// The two refusals that have no more to say: out of memory, and a fault of something outside.
 use std::alloc::{AllocError, AllocFailed};
 use std::error::Error;
 use std::fmt;

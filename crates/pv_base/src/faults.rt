@@ -3,8 +3,8 @@ use crate::{NoMemory, TxnId};
 use std::error::Error;
 use std::fmt;
 
-/// Why a list of cases isn't a polyvalue. The first cause that holds is told, in the order in which they stand here; want of
-/// memory may come in place of any.
+/// Why a list of cases isn't a polyvalue. The first cause that holds is reported, in the order in which they stand here; out
+/// of memory may come in place of any.
 #[derive(Debug, Drop)]
 pub enum CaseError {
     /// The cases name this many outcomes, more than [`HELD_NAMES`].

@@ -1,4 +1,4 @@
-//! What every crate of polydb names: sites, transactions, items, the catalog of items, and what a refusal is.
+//! What every crate of polydb names: sites, transactions, items, the catalog of items, replies, and what a refusal is.
 #![tactic(auto)]
 
 mod case;
@@ -12,6 +12,7 @@ mod limits;
 mod literal;
 mod mode;
 mod naming;
+mod reply;
 mod txn;
 mod want;
 
@@ -27,7 +28,8 @@ pub use limits::{
 };
 pub use literal::Literal;
 pub use mode::Mode;
-pub use naming::is_name;
+pub use naming::{continues_name, is_blank, is_name};
+pub use reply::{Decline, Reply};
 pub use txn::{SiteId, TxnId, print_txn, push_txn};
 pub use want::Want;
 

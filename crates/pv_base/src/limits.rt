@@ -22,7 +22,7 @@ pub const MAX_DEPTH: u32 = 32;
 /// The greatest length of an input, in bytes.
 pub const MAX_INPUT: u64 = 16_777_216;
 
-/// The greatest count of messages that one `pump` may be told to deliver.
+/// The greatest count of messages that one `pump` may name.
 pub const MAX_PUMP: u32 = 1_000_000;
 
 /// The greatest number of the write or sync that may be armed.

@@ -1,14 +1,14 @@
-// The names of items.
+// Bytes of texts, and the names of items.
 ghost use Rattle.std.specs.Prelude.{◌≡◌, map};
 ghost use Rattle.std.specs.List.{list_all, list_any};
 ghost use Rattle.std.specs.Str.{bytes_eq};
-ghost use Rattle.pv_base.specs.Name.{continues_name, is_keyword, is_name, is_spelled_as_name};
+ghost use Rattle.pv_base.specs.Name.{continues_name, is_blank, is_keyword, is_name, is_spelled_as_name};
 
 use crate::MAX_NAME;
 
 // The words of the program language, none of which names an item.
 const KEYWORDS: [&[u8]; 10] = [
-    b"and", b"or", b"not", b"min", b"max", b"if", b"else", b"require", b"return", b"certain",
+    b"or", b"and", b"not", b"min", b"max", b"if", b"else", b"require", b"return", b"certain",
 ];
 
 /// Whether the text names an item: 1 to 16 bytes, a lower-case letter and then lower-case letters, digits and
@@ -38,8 +38,15 @@ fn all_continue_name(bytes: &[u8]) -> bool
     bytes.iter().all(|byte| continues_name(*byte))
 }
 
-// Whether the byte may follow the first letter of a name.
-fn continues_name(byte: u8) -> bool
+/// Whether a byte is a space or a tab.
+pub fn is_blank(byte: u8) -> bool
+    ensures { result ≡ is_blank byte }
+{
+    byte == b' ' || byte == b'\t'
+}
+
+/// Whether a byte may follow the first letter of a name.
+pub fn continues_name(byte: u8) -> bool
     ensures { result ≡ continues_name byte }
 {
     byte.is_ascii_lowercase() || byte.is_ascii_digit() || byte == b'_'

@@ -37,7 +37,7 @@ fn a_transaction_is_printed_with_dots(rt: HostRuntime) -> Result<(), NoMemory> {
 }
 
 #[test]
-fn a_transaction_is_put_behind_what_the_buffer_holds(rt: HostRuntime) -> Result<(), Fail> {
+fn a_transaction_is_put_after_what_the_buffer_holds(rt: HostRuntime) -> Result<(), Fail> {
     let last = TxnId {
         site: SiteId(15),
         epoch: u32::MAX,

@@ -30,7 +30,7 @@ pub fn print_txn(alloc: Global, txn: TxnId) -> Result<Vec<u8>, NoMemory>
     Ok(text)
 }
 
-/// Puts the transaction, as [`print_txn`] prints it, behind what the buffer holds. After an error nothing is promised
+/// Puts the transaction, as [`print_txn`] prints it, after what the buffer holds. After an error nothing is promised
 /// of what the buffer holds.
 pub fn push_txn(text: &mut Vec<u8>, txn: TxnId) -> Result<(), NoMemory>
     ensures { OnOk result (text.new.items ≡ text.old.items ++ txn_text txn) }

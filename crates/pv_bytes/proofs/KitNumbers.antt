@@ -5,7 +5,7 @@ use Rattle.byteorder.specs.Endian.{big_from, big_number, big_bytes}
 use Rattle.byteorder.specs.Numbers.{big_from-cons}
 use Rattle.std.proofs.lemmas.List.Elements.{All-head}
 use Rattle.pv_base.specs.BigEndian.{big_endian, number_of, twos_complement, AreBytes}
-use Rattle.pv_base.proofs.BigEndianLemmas.{bytes_high_first-big_endian, cast_unsigned-twos_complement, twos_complement-cast_signed, big_endian-number_of, number_of-lt}
+use Rattle.pv_base.proofs.BigEndianLemmas.{big_endian-one, bytes_high_first-big_endian, cast_unsigned-twos_complement, twos_complement-cast_signed, big_endian-number_of, number_of-lt}
 
 -- The number that the kit reads from all of the bytes.
 pub big_from-number_of : (size : ℕ) (bytes : List ℕ) → length bytes ≡ size → big_from 0 size bytes ≡ number_of bytes
@@ -19,6 +19,9 @@ big_from-number_of (suc size) (byte ∷ bytes) count =
     ap (λ number. byte * 256 ^ size + number) rest ∙ ap (λ n. byte * 256 ^ n + number_of bytes) (sym counted)
 
 -- What the kit writes.
+pub written_byte : (number : ℕ) → number < 256 → big_endian 1 number ≡ number ∷ []
+written_byte number fits = big_endian-one number fits
+
 pub written_two : (number : ℕ) → big_bytes 2 number ≡ big_endian 2 number
 written_two number = bytes_high_first-big_endian 2 number
 
@@ -31,18 +34,10 @@ written_eight number = bytes_high_first-big_endian 8 number
 pub written_signed : (number : ℤ) → big_bytes 8 (cast_unsigned w64 number) ≡ big_endian 8 (twos_complement number)
 written_signed number = bytes_high_first-big_endian 8 (cast_unsigned w64 number) ∙ ap (big_endian 8) (cast_unsigned-twos_complement number)
 
-one_digit : (number : ℕ) → number < 256 → number / 256 ^ 0 % 256 ≡ number
-one_digit number fits = omega arith
-
--- One byte is its own number.
-pub one_byte : (number : ℕ) → number < 256 → big_endian 1 number ≡ number ∷ []
-unfolding big_endian
-one_byte number fits = λ i. one_digit number fits i ∷ []
-
 -- The byte that was read is that of its number.
 pub read_byte : (bytes : List ℕ) → length bytes ≡ 1 → AreBytes bytes → big_endian 1 (slice_index bytes 0) ≡ bytes
 read_byte [] count all = absurd (omega arith)
-read_byte (byte ∷ []) count all = one_byte byte (All-head (λ b. b < 256) byte [] all)
+read_byte (byte ∷ []) count all = big_endian-one byte (All-head (λ b. b < 256) byte [] all)
 read_byte (byte ∷ other ∷ bytes) count all = absurd (omega arith)
 
 -- The bytes that were read are those of the number that the kit made of them.

@@ -42,7 +42,7 @@ impl Put {
     }
 
     /// Writes a number in one byte.
-    #[tactic(auto, using(crate::proofs::KitNumbers::one_byte))]
+    #[tactic(auto, using(crate::proofs::KitNumbers::written_byte))]
     pub fn u8(&mut self, n: u8) -> Result<(), NoMemory>
         ensures written { OnOk result (self.new ≡ self.old ++ big_endian 1 n) }
         ensures unchanged { OnErr result (self.new ≡ self.old) }

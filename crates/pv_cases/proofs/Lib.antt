@@ -13,6 +13,7 @@ pub mod PartingLemmas
 pub mod PlaceLemmas
 pub mod PolyvalueFacts
 pub mod SameCaseLemmas
+pub mod SettledLemmas
 pub mod SomeFaultLemmas
 pub mod TxnTests
 pub mod ValuesMetLemmas

@@ -1,10 +1,10 @@
 -- What is sorted and freed of repeats is ascending, and the transactions of cases in that order are their names.
-use Rattle.std.proofs.Common.{◌≡◌, ℕ, Bool, true, ◌||◌, List, [], ◌∷◌, ◌++◌, map, length, IsTrue, ◌<◌, ◌≤◌, ◌+◌, get_or, drop, append_assoc, Less, is_lt, refl, sym, ap, subst, ◌∙◌, arith}
+use Rattle.std.proofs.Common.{◌≡◌, ℕ, Bool, true, ◌||◌, List, [], ◌∷◌, ◌++◌, map, length, IsTrue, ◌<◌, ◌≤◌, ◌+◌, get_or, drop, take, append_assoc, Less, is_lt, refl, sym, ap, subst, ◌∙◌, arith}
 use Rattle.std.specs.Prelude.{◌↔◌}
 use Rattle.std.specs.List.{Contains, dedup, list_any}
 use Rattle.std.specs.List.Sorted.{IsSorted, IsPermutation, IsStrictlySortedBy}
 use Rattle.std.specs.Cmp.{IsEquivalence}
-use Rattle.std.proofs.lemmas.List.{at_drop_more, drop_all, append-nil}
+use Rattle.std.proofs.lemmas.List.{at_drop_more, drop_all, append-nil, length-take, take-append-drop, take-append-le}
 use Rattle.std.proofs.lemmas.List.Elements.{All-weaker, All-contains_itself}
 use Rattle.std.proofs.lemmas.List.Folds.{Any-from_list_any, list_any-append, list_any_at}
 use Rattle.std.proofs.lemmas.List.Kept.{AllPairs-cons, Contains-dedup, Contains-from_dedup, IsStrictlySortedBy-dedup}
@@ -61,6 +61,15 @@ contained : (txns : List TxnId) (txn : TxnId) → list_any (is_same_txn txn) txn
 contained txns txn some =
     let found = Any-from_list_any (is_same_txn txn) txns some in
     subst (λ (t : TxnId). Contains txns t) (sym (same-eq {t = txn} {u = found.1} found.4)) (found.0, found.2, found.3)
+
+-- What a list held still stands in front after two steps that keep what there was.
+pub kept-further : (old now new : List TxnId) → take (length old) now ≡ old → take (length now) new ≡ now → take (length old) new ≡ old
+kept-further old now new first second =
+    let short : length old ≤ length now = omega (arith, sym (ap length first), length-take (length old) now) in
+    ap (λ (list : List TxnId). take (length old) list) (sym (take-append-drop (length now) new))
+    ∙ ap (λ (list : List TxnId). take (length old) (list ++ drop (length now) new)) second
+    ∙ take-append-le (length old) now (drop (length now) new) short
+    ∙ first
 
 module _ {V : Type 0} where
   -- Cases name a transaction exactly where it is one of theirs.

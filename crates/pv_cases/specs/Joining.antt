@@ -4,7 +4,7 @@ use Rattle.std.specs.List.{Contains}
 use Rattle.pv_base.specs.Polyvalue.{Case}
 use Rattle.pv_cases.specs.declared.meetings.Meeting.{Meeting}
 
--- The first pair of places isn't behind the other: the first place decides, and then the second.
+-- The first pair of places comes before the other, or is the same: the first place decides, and then the second.
 abbrev pub IsPairBefore : ℕ → ℕ → ℕ → ℕ → Type 0
 IsPairBefore first second other another = (first < other) ⊎ ((first ≡ other) × (second ≤ another))
 

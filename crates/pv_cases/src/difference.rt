@@ -30,8 +30,9 @@ fn are_same_at<V: Exact>(cases: &[Case<V>], others: &[Case<V>], place: usize) ->
     is_same(case, other)
 }
 
+// Whether they are one case.
 fn is_same<V: Exact>(case: &Case<V>, other: &Case<V>) -> bool
     ensures { MatchBool result (case.now ≡ other.now) (case.now ≡ other.now → ⊥) }
 {
-    case.when == other.when && case.value == other.value
+    case == other
 }

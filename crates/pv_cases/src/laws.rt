@@ -1,5 +1,5 @@
-// What is wrong with cases, as laws: there is one fault exactly where they aren't a polyvalue.
-ghost use Rattle.std.specs.Prelude.{◌≡◌, ◌⊎◌, ℕ, List};
+// Laws: there is one fault exactly where cases aren't a polyvalue, and cases are compared exactly.
+ghost use Rattle.std.specs.Prelude.{◌≡◌, ◌⊎◌, ◌↔◌, ℕ, true, List};
 ghost use Rattle.pv_base.specs.CaseFaults.{CaseFault, IsJoinFault, IsCanonicalFault};
 ghost use Rattle.pv_base.specs.Polyvalue.{Case, IsSound, IsPolyvalue, NamesAtMost};
 
@@ -34,4 +34,9 @@ pub fn no_canonical_fault<V>()
 pub fn one_canonical_fault<V>()
     ensures { (limit : ℕ) (cases : List (Case V)) (fault other : CaseFault) → IsCanonicalFault limit cases fault →
         IsCanonicalFault limit cases other → fault ≡ other }
+{}
+
+/// Cases are equal by `==` exactly where they are one.
+pub fn equal_cases_are_one<V: Exact>()
+    ensures { (case other : Case V) → (⟦<pv_base::Case<V> as PartialEq>⟧.eq case other ≡ true) ↔ (case ≡ other) }
 {}

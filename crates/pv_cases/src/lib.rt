@@ -1,6 +1,7 @@
 //! Lists of cases, however a polyvalue is held: what they name, and their table of values or the first thing that is wrong with them.
 #![tactic(auto)]
 
+mod copy;
 mod count;
 mod difference;
 mod laws;
@@ -8,11 +9,12 @@ mod meetings;
 mod names;
 mod table;
 
+pub use copy::copy_cases;
 pub use count::count_of_both;
 pub use difference::first_difference;
 pub use laws::{
-    no_canonical_fault, no_join_fault, one_canonical_fault, one_join_fault, some_canonical_fault,
-    some_join_fault,
+    equal_cases_are_one, no_canonical_fault, no_join_fault, one_canonical_fault, one_join_fault,
+    some_canonical_fault, some_join_fault,
 };
 pub use names::{names_of, ordered, push_names};
 pub use table::{Table, table_of};

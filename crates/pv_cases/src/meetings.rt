@@ -1,7 +1,6 @@
 // Which cases the assignments of some transactions meet.
 ghost use Rattle.std.specs.Prelude.{◌≡◌, ◌++◌, ◌<◌, ◌^◌, length, slice_get, Some, All, IsTrue, IfOk, OnOk};
-ghost use Rattle.std.specs.List.{AllPairs};
-ghost use Rattle.pv_base.specs.Assignment.{precedes, assignments};
+ghost use Rattle.pv_base.specs.Assignment.{AreAscending, assignments};
 ghost use Rattle.pv_base.specs.Polyvalue.{AreNames};
 ghost use Rattle.pv_cases.specs.Meetings.{meeting_of, meetings_of};
 ghost use Rattle.pv_cases.specs.Partings.{allows, places_with, meetings_among};
@@ -20,7 +19,7 @@ pub struct Meeting {
 
 /// The meetings of every assignment of the transactions, which the cases name.
 ///
-/// Cases are parted by one transaction after another, so a case that doesn't ask for both outcomes of a transaction takes time
+/// Cases are split by one transaction after another, so a case that doesn't ask for both outcomes of a transaction takes time
 /// only at the assignments that meet it: in proportion to these, times the transactions and its literals. Besides, each
 /// assignment takes some.
 pub fn meetings<V>(
@@ -41,8 +40,8 @@ pub fn meetings<V>(
     Ok(meetings)
 }
 
-// Puts the meetings of every assignment of the transactions, among the cases at these places and as far as their literals are
-// on these transactions, behind what the list holds.
+// Appends the meetings of every assignment of the transactions, among the cases at these places and as far as their literals are
+// on these transactions.
 fn push_meetings<V>(
     alloc: Global,
     cases: &[Case<V>],
@@ -51,17 +50,17 @@ fn push_meetings<V>(
     meetings: &mut Vec<Meeting>,
 ) -> Result<(), NoMemory>
     requires there { All (λ place. place < length cases.now) places.now }
-    requires ascending { AllPairs (λ txn later. IsTrue (precedes txn later)) txns.now }
+    requires ascending { AreAscending txns.now }
     ensures { OnOk result (meetings.new.items ≡ meetings.old.items ++ meetings_among cases.now places.now txns.now) }
 {
     let Some((txn, rest)) = txns.split_first() else {
         meetings.push(first_two(places))?;
         return Ok(());
     };
-    let without = parted(alloc, cases, places, *txn, false)?;
-    push_meetings(alloc, cases, &without, rest, meetings)?;
-    let with = parted(alloc, cases, places, *txn, true)?;
-    push_meetings(alloc, cases, &with, rest, meetings)?;
+    let aborted = parted(alloc, cases, places, *txn, false)?;
+    push_meetings(alloc, cases, &aborted, rest, meetings)?;
+    let committed = parted(alloc, cases, places, *txn, true)?;
+    push_meetings(alloc, cases, &committed, rest, meetings)?;
     Ok(())
 }
 

@@ -1,7 +1,7 @@
 // The transactions that cases name.
-ghost use Rattle.std.specs.Prelude.{◌≡◌, ◌++◌, ◌↔◌, map, IsTrue, IfOk, OnOk};
-ghost use Rattle.std.specs.List.{AllPairs, Contains};
-ghost use Rattle.pv_base.specs.Assignment.{precedes};
+ghost use Rattle.std.specs.Prelude.{◌≡◌, ◌++◌, ◌↔◌, length, map, take, IfOk, OnOk, OnErr};
+ghost use Rattle.std.specs.List.{Contains};
+ghost use Rattle.pv_base.specs.Assignment.{AreAscending};
 ghost use Rattle.pv_base.specs.Polyvalue.{AreNames};
 ghost use Rattle.pv_base.specs.declared.literal.Literal.{Literal};
 ghost use Rattle.pv_base.specs.declared.txn.TxnId.{TxnId};
@@ -20,10 +20,24 @@ pub fn names_of<V>(alloc: Global, cases: &[Case<V>]) -> Result<Vec<TxnId>, NoMem
     Ok(ordered(txns))
 }
 
-/// Appends the transaction of each literal, in order and with repeats; [`ordered`] then makes one list of names of it. Takes time
-/// in proportion to the literals. After an error nothing is promised of what the list holds.
+/// Appends the transaction of each literal, in order and with repeats; [`ordered`] then makes one list of names of it. After an error the
+/// list is as it was. Takes time in proportion to the literals.
 pub fn push_names<V>(txns: &mut Vec<TxnId>, cases: &[Case<V>]) -> Result<(), NoMemory>
-    ensures { OnOk result (txns.new.items ≡ txns.old.items ++ txns_of cases.now) }
+    ensures names { OnOk result (txns.new.items ≡ txns.old.items ++ txns_of cases.now) }
+    ensures unchanged { OnErr result (txns.new.items ≡ txns.old.items) }
+{
+    let before = txns.len();
+    let pushed = push_all(txns, cases);
+    if pushed.is_err() {
+        txns.truncate(before);
+    }
+    pushed
+}
+
+// Appends the transaction of each literal, or of some of them where the memory runs out.
+fn push_all<V>(txns: &mut Vec<TxnId>, cases: &[Case<V>]) -> Result<(), NoMemory>
+    ensures names { OnOk result (txns.new.items ≡ txns.old.items ++ txns_of cases.now) }
+    ensures kept { take (length txns.old.items) txns.new.items ≡ txns.old.items }
 {
     for case in cases {
         push_txns(txns, &case.when)?;
@@ -31,9 +45,10 @@ pub fn push_names<V>(txns: &mut Vec<TxnId>, cases: &[Case<V>]) -> Result<(), NoM
     Ok(())
 }
 
-// Puts the transactions of the literals behind what the list holds.
+// The same for the literals of one case.
 fn push_txns(txns: &mut Vec<TxnId>, when: &[Literal]) -> Result<(), NoMemory>
-    ensures { OnOk result (txns.new.items ≡ txns.old.items ++ map (λ (literal : Literal). literal.txn) when.now) }
+    ensures names { OnOk result (txns.new.items ≡ txns.old.items ++ map (λ (literal : Literal). literal.txn) when.now) }
+    ensures kept { take (length txns.old.items) txns.new.items ≡ txns.old.items }
 {
     for literal in when {
         txns.push(literal.txn)?;
@@ -43,7 +58,7 @@ fn push_txns(txns: &mut Vec<TxnId>, when: &[Literal]) -> Result<(), NoMemory>
 
 /// These transactions, ascending, each once. Takes time in proportion to them, times the logarithm of their number.
 pub fn ordered(mut txns: Vec<TxnId>) -> Vec<TxnId>
-    ensures ascending { AllPairs (λ txn later. IsTrue (precedes txn later)) result.items }
+    ensures ascending { AreAscending result.items }
     ensures same { (txn : TxnId) → Contains result.items txn ↔ Contains txns.items txn }
 {
     txns.sort_unstable();

@@ -62,7 +62,7 @@ fn first_overlap(meetings: &[Meeting]) -> Option<(u32, u32)>
     for meeting in meetings {
         if let Some(pair) = meeting.first.zip(meeting.second) {
             least = match least {
-                Some(other) if is_not_behind(other, pair) => Some(other),
+                Some(other) if is_first_or_same(other, pair) => Some(other),
                 _ => Some(pair),
             };
         }
@@ -71,7 +71,7 @@ fn first_overlap(meetings: &[Meeting]) -> Option<(u32, u32)>
 }
 
 // Whether the pair is before the other, or equal to it.
-fn is_not_behind(pair: (u32, u32), other: (u32, u32)) -> bool
+fn is_first_or_same(pair: (u32, u32), other: (u32, u32)) -> bool
     ensures { MatchBool result (IsPairBefore pair.0 pair.1 other.0 other.1) (IsPairBefore other.0 other.1 pair.0 pair.1) }
 {
     pair <= other

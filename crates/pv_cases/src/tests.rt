@@ -130,7 +130,8 @@ fn cases_have_a_table(rt: HostRuntime) -> Result<(), Fail> {
     let table = table_of(alloc, &cases)?;
     assert_eq!(rt; table.txns.as_slice(), [txn(1)].as_slice());
     assert_eq!(rt; table.values.as_slice(), [50i64, 60].as_slice());
-    let refused = table_of(alloc, &[]);
+    let none: [Case<i64>; 0] = [];
+    let refused = table_of(alloc, &none);
     assert!(rt; matches!(refused, Err(CaseError::NotComplete(_))));
     Ok(())
 }

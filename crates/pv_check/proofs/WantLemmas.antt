@@ -1,9 +1,9 @@
 -- The wants that marks stand for are the program's, and as many as the items that it names.
-use Rattle.std.proofs.Common.{◌≡◌, ⊎_elim, ℕ, zero, suc, ◌<◌, ◌≤◌, Bool, true, false, List, [], ◌∷◌, ◌++◌, map, length, get_or, cond, refl, sym, ap, subst, ◌∙◌, arith}
+use Rattle.std.proofs.Common.{◌≡◌, ⊎_elim, ℕ, zero, suc, ◌<◌, ◌≤◌, Bool, true, false, List, [], ◌∷◌, ◌++◌, map, length, cond, refl, sym, ap, subst, ◌∙◌, arith}
 use Rattle.std.specs.Prelude.{◌↔◌, IsTrue}
 use Rattle.std.specs.List.{All, AllPairs, Contains}
 use Rattle.std.proofs.lemmas.Bool.{false≢true, false_from_ne_true, cases_lt}
-use Rattle.std.proofs.lemmas.List.{length-map, get_or-map, get_or_past}
+use Rattle.std.proofs.lemmas.List.{length-map, get_or_past}
 use Rattle.std.proofs.lemmas.List.Elements.{All-nil, All-push, All-map, Contains-append_left, Contains-push}
 use Rattle.std.proofs.lemmas.List.Quantifiers.{all_pairs_push}
 use Rattle.pv_base.specs.Want.{Want}
@@ -11,6 +11,7 @@ use Rattle.pv_model.specs.Syntax.{Program}
 use Rattle.pv_model.specs.ProgramLaws.{assigns}
 use Rattle.pv_model.specs.Check.{names, AreItems}
 use Rattle.pv_base.proofs.MapLemmas.{Contains-map}
+use Rattle.pv_base.proofs.OrderLemmas.{pairs-map}
 use Rattle.pv_law_programs.proofs.ItemLemmas.{one_items}
 use Rattle.pv_check.specs.declared.marks.Mark.{Mark}
 use Rattle.pv_check.specs.declared.marks.Mark.TheVariants.{Unnamed}
@@ -111,14 +112,6 @@ AreWants-among program marks count all are = record {
 }
 
 -- The items of wants.
-
-pairs-map : {X Y : Type 0} (R : Y → Y → Type 0) (f : X → Y) (xs : List X) → AllPairs (λ x y. R (f x) (f y)) xs → AllPairs R (map f xs)
-pairs-map R f [] h = λ i j d before within. absurd (omega (arith, within))
-pairs-map R f (x ∷ xs) h = λ i j d before within.
-    let inside : j < length (x ∷ xs) = omega (arith, within, length-map (x ∷ xs) f) in
-    let first : i < length (x ∷ xs) = omega (arith, before, inside) in
-    subst (λ z. R (get_or (map f (x ∷ xs)) i d) z) (sym (get_or-map f (x ∷ xs) j x d inside))
-    (subst (λ y. R y (f (get_or (x ∷ xs) j x))) (sym (get_or-map f (x ∷ xs) i x d first)) (h i j x before inside))
 
 AreItems-wants : (program : Program) (wants : List Want) → AreWants program wants → AreItems program (map (λ (want : Want). want.item) wants)
 AreItems-wants program wants are = record {

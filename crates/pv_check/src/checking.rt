@@ -3,6 +3,7 @@ ghost use Rattle.std.specs.Prelude.{◌≡◌, ◌≢◌, ◌<◌, ◌↔◌, �
 ghost use Rattle.pv_base.specs.Answer.{RefusesFirst};
 ghost use Rattle.pv_model.specs.Syntax as model;
 ghost use Rattle.pv_model.specs.Check.{names, AreItems, IsPlan};
+ghost use Rattle.pv_model.specs.Plan.{plan_of};
 ghost use Rattle.pv_check.specs.Refusal.{refusal};
 ghost use Rattle.pv_check.specs.Wants.{AreWants, wants_at};
 
@@ -36,6 +37,9 @@ pub fn check(
 ) -> Result<Plan, CheckError>
     requires { (n : ℕ) → IsTrue (names program.now n) → n < length catalog.now.items }
     ensures plan { IfOk result (λ plan. IsPlan program.now catalog.now.items plan.parts.items) }
+
+    // There is one such plan: a law.
+    ensures computed { IfOk result (λ plan. plan.parts.items ≡ plan_of program.now catalog.now.items) }
 
     // Any list of the items that the program names is the same; that there is one is a law.
     ensures refused { (items : List ℕ) → AreItems program.now items →

@@ -1,6 +1,6 @@
 -- The records that the contents of a journal spell.
-use Rattle.std.specs.Prelude.{◌≡◌, ℕ, List, [], ◌∷◌, take, slice_get, Some, ⊤}
-use Rattle.pv_format.specs.Record.{Record}
+use Rattle.std.specs.Prelude.{◌≡◌, ℕ, max, List, [], ◌∷◌, take, slice_get, Some, ⊤}
+use Rattle.pv_format.specs.Record.{Record, epoch_begun}
 use Rattle.pv_format.specs.RecordSpelling.{SpellsRecord}
 
 -- The bytes spell no record.
@@ -21,3 +21,9 @@ pub record IsFirstBadContent (contents : List (List ℕ)) (place : ℕ) : Type 0
   pub none : IsNoRecord content
   pub records : List Record
   pub before : SpellRecords records (take place contents)
+
+-- the greatest epoch that is recorded, or 0
+abbrev pub last_epoch : List Record → ℕ
+last_epoch [] = 0
+last_epoch (epoch_begun epoch ∷ records) = max epoch (last_epoch records)
+last_epoch (other ∷ records) = last_epoch records

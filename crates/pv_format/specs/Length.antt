@@ -6,30 +6,30 @@ use Rattle.pv_model.specs.Alternatives.{Read}
 use Rattle.pv_format.specs.Message.{Envelope, Message, lock, granted, denied, prepare, vote_yes, vote_no, outcome_told, ask, NoCause, grant_lost, journal_full}
 use Rattle.pv_format.specs.Record.{Record, epoch_begun, prepared, outcome_known}
 
--- of a case: the count of its literals, 10 bytes for each of them, and the value
+-- how many bytes a case has: the count of its literals, 10 bytes for each of them, and the value
 abbrev pub case_length : Case ℤ → ℕ
 case_length case = 9 + 10 * length case.when
 
--- of a polyvalue: the count of its cases, and the cases
+-- how many bytes a polyvalue has: the count of its cases, and the cases
 abbrev pub polyvalue_length : List (Case ℤ) → ℕ
 polyvalue_length cases = 2 + sum_by case_length cases
 
--- of items with their polyvalues: their count, and for each the item and the polyvalue
+-- how many bytes items with their polyvalues have: their count, and for each the item and the polyvalue
 abbrev pub reads_length : List Read → ℕ
 reads_length reads = 1 + sum_by (λ read. 4 + polyvalue_length read.cases) reads
 
--- of a record
+-- how many bytes a record has
 abbrev pub record_length : Record → ℕ
 record_length (epoch_begun epoch) = 5
 record_length (prepared txn writes) = 10 + reads_length writes
 record_length (outcome_known txn commits) = 11
 
--- of why a participant votes no
+-- how many bytes the cause of a no has
 abbrev pub cause_length : NoCause → ℕ
 cause_length grant_lost = 1
 cause_length (journal_full length) = 9
 
--- of what stands in a message after its transaction
+-- how many bytes a message has after its transaction
 abbrev pub body_length : Message → ℕ
 body_length (lock txn wants) = 1 + 5 * length wants
 body_length (granted txn grant values) = 8 + reads_length values
@@ -40,6 +40,6 @@ body_length (vote_no txn cause) = cause_length cause
 body_length (outcome_told txn commits) = 1
 body_length (ask txn) = 0
 
--- of a message
+-- how many bytes a message has, with its addresses
 abbrev pub envelope_length : Envelope → ℕ
 envelope_length envelope = 12 + body_length envelope.message

@@ -5,7 +5,7 @@ use Rattle.pv_model.specs.Alternatives.{Read}
 
 -- What a site keeps for good.
 pub data Record : Type 0 where
-  -- the site has started, for the time of this number
+  -- the site has started; this is its epoch, which rises at each start
   epoch_begun : (epoch : ℕ) → Record
   -- the site has promised these new values, if the transaction commits
   prepared : (txn : TxnId) (writes : List Read) → Record

@@ -47,11 +47,11 @@ SpellsTxn txn = IsSite txn.site.0 followed_by IsNumber 4 txn.epoch followed_by I
 abbrev pub SpellsGrant : GrantId → List ℕ → Type 0
 SpellsGrant grant = IsNumber 4 grant.epoch followed_by IsNumber 4 grant.number
 
--- The number of an item that may stand next, where this one is the least that may.
+-- The number is of an item, and at least this one.
 abbrev pub is_item_from : ℕ → ℕ → Bool
 is_item_from least number = nat_le least number && nat_lt number MAX_ITEMS
 
--- A count of entries, of which there have to be so many at least.
+-- The number is a count of entries that a program may have, and at least this one.
 abbrev pub is_count_from : ℕ → ℕ → Bool
 is_count_from fewest number = nat_le fewest number && nat_le number MAX_PROGRAM_ITEMS
 

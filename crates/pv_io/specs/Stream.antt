@@ -1,4 +1,4 @@
--- What is told of the bytes that a source has left and of those that a sink holds.
+-- What is known of the bytes that a source has left and of those that a sink holds.
 use Rattle.std.specs.Prelude.{◌≡◌, ℕ, ◌+◌, ◌-◌, ◌^◌, min, List, Option, None, Some, Result, is_some, is_ok, take, if◌then◌else◌, ◌≤◌, length}
 use Rattle.std.specs.Io.KnownBytes.{Appends, Consumes}
 

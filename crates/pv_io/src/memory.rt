@@ -1,4 +1,4 @@
-// A source and a sink in memory, which fail at the calls that they are told.
+// A source and a sink in memory, which fail at the calls that they are made to fail at.
 ghost use Rattle.std.specs.Prelude.{◌≡◌, ◌↔◌, ◌<◌, ◌≤◌, [], ◌++◌, Some, length, take, drop, min, Contains, IsErr, IfOk, OnOk, OnErr};
 ghost use Rattle.std.specs.Io.KnownBytes.{ReadConsumes, WriteAppends};
 ghost use Rattle.pv_base.specs.Fault.{HasCause};

@@ -1,3 +1,4 @@
 pub mod PartLemmas
 pub mod ListLemmas
 pub mod PolyvalueLemmas
+pub mod EntryLemmas

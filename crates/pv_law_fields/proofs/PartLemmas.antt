@@ -1,5 +1,5 @@
 -- One number after another: what was read is spelled, and a fault stays one for what is read before it.
-use Rattle.std.proofs.Common.{◌≡◌, ℕ, ◌+◌, ◌^◌, ◌<◌, Bool, true, false, List, ◌++◌, length, Option, Some, None, IfSome, IsTrue, IsFalse, if◌then◌else◌, refl, sym, ap, subst, ◌∙◌, append_assoc, length-append, arith}
+use Rattle.std.proofs.Common.{◌≡◌, ℕ, ◌+◌, ◌^◌, ◌<◌, Bool, true, false, List, ◌++◌, length, Option, Some, None, IfSome, Result, Ok, Err, IfOk, IsTrue, IsFalse, if◌then◌else◌, refl, sym, ap, subst, ◌∙◌, append_assoc, length-append, arith}
 use Rattle.pv_base.specs.BigEndian.{big_endian, IsNumber}
 use Rattle.pv_base.proofs.BigEndianLemmas.{length-big_endian}
 use Rattle.pv_bytes.specs.Reading.{Rest, HasTaken, IsShort}
@@ -67,7 +67,22 @@ number_any size value old new taken fits = record {
     later = (passes_number size value old new taken fits any refl).later;
   }
 
--- The same, where it goes on the same after every number.
+-- A number was read that is allowed, and only what it is matters.
+pub number_allowed : (size value : ℕ) (allows : ℕ → Bool) (old new : Rest) → HasTaken (big_endian size value) old new → value < 256 ^ size → IsTrue (allows value)
+    → PassesNumber (IsNumber size value) size allows value old new
+number_allowed size value allows old new taken fits allowed = record {
+    taken = taken_any size value old new taken fits;
+    later = (passes_number size value old new taken fits allows allowed).later;
+  }
+
+-- A part that is one thing is another, where all that is the one is the other.
+pub passes_as : (Is Js : List ℕ → Type 0) (layout : Layout → Layout) (old new : Rest) → ((bytes : List ℕ) → Is bytes → Js bytes) → Passes Is layout old new → Passes Js layout old new
+passes_as Is Js layout old new as_ passes = record {
+    taken = record { front = passes.taken.front; is = as_ passes.taken.front passes.taken.is; taken = passes.taken.taken };
+    later = passes.later;
+  }
+
+-- Any number was read, where the layout goes on the same after every one.
 pub passes_any : (size value : ℕ) (old new : Rest) → HasTaken (big_endian size value) old new → value < 256 ^ size
     → Passes (IsNumber size value) (λ next. number_then size any (λ _. next)) old new
 passes_any size value old new taken fits = record {
@@ -142,3 +157,17 @@ module _ (First : List ℕ → Type 0) (size : ℕ) (allows : ℕ → Bool) (val
 pub appended_both : (old mid new front back bytes : List ℕ) → bytes ≡ front ++ back → mid ≡ old ++ front → new ≡ mid ++ back → new ≡ old ++ bytes
 appended_both old mid new front back bytes whole first second =
     second ∙ ap (λ done. done ++ back) first ∙ append_assoc old front back ∙ ap (λ all. old ++ all) (sym whole)
+
+-- A number after which the layout goes on at once.
+pub passes_alone : (Is : List ℕ → Type 0) (size : ℕ) (allows : ℕ → Bool) (value : ℕ) (layouts : ℕ → Layout → Layout) (old new : Rest) → PassesNumber Is size allows value old new
+    → ((next : Layout) → layouts value next ≡ next) → Passes Is (λ next. number_then size allows (λ number. layouts number next)) old new
+passes_alone Is size allows value layouts old new number same = record {
+    taken = number.taken;
+    later = λ next fault has.
+      number.later (λ n. layouts n next) fault (subst (λ layout. HasFault layout new.place new.left fault) (sym (same next)) has);
+  }
+
+-- What follows from two clauses on an `Ok`.
+pub ok_from_both : {X E : Type 0} (r : Result X E) (P Q R : X → Type 0) → ((x : X) → P x → Q x → R x) → IfOk r P → IfOk r Q → IfOk r R
+ok_from_both (Ok x) P Q R both p q = both x p q
+ok_from_both (Err e) P Q R both p q = tt

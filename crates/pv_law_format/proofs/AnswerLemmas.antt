@@ -6,7 +6,7 @@ use Rattle.std.proofs.lemmas.List.{append-nil}
 use Rattle.pv_base.specs.Answer.{HasOneAnswer}
 use Rattle.pv_base.specs.BigEndian.{big_endian, IsNumber, AreBytes}
 use Rattle.pv_base.specs.Polyvalue.{Case}
-use Rattle.pv_model.proofs.Basics.{heads, tails}
+use Rattle.pv_base.proofs.Basics.{heads, tails}
 use Rattle.pv_format.specs.FirstFault.{Fault, short, bad_kind, extra, HasFault, EndFault, is_extra, is_short, is_refused, is_later, PolyvalueFault, EnvelopeFault, RecordFault, has_no_kind, has_bad_kind, is_in_fields, is_kind}
 use Rattle.pv_format.specs.Layout.{nothing_more, number_then, polyvalue_then, message_layout, record_layout}
 use Rattle.pv_format.specs.Message.{Envelope}

@@ -10,10 +10,10 @@ use Rattle.std.proofs.Math.Nat.{one-le-pow, pow-suc}
 use Rattle.pv_base.specs.declared.txn.TxnId.{TxnId}
 use Rattle.pv_base.specs.Assignment.{precedes}
 use Rattle.pv_base.specs.Polyvalue.{Case, IsCanonical, sure, tested, IsPolyvalue, names, under}
-use Rattle.pv_model.proofs.AssignmentLemmas.{precedes-irrefl}
-use Rattle.pv_model.proofs.ItemLemmas.{Contains-cases, Contains-nil, Contains-filter}
-use Rattle.pv_model.proofs.NameLemmas.{some-names}
-use Rattle.pv_model.proofs.PolyvalueLemmas.{names-self, names-front, names-back}
+use Rattle.pv_base.proofs.AssignmentLemmas.{precedes-irrefl}
+use Rattle.pv_base.proofs.ContainsLemmas.{Contains-cases, Contains-nil, Contains-filter}
+use Rattle.pv_law_polyvalues.proofs.NameLemmas.{some-names}
+use Rattle.pv_law_polyvalues.proofs.PolyvalueLemmas.{names-self, names-front, names-back}
 
 filtered : {X : Type 0} (p : X → Bool) (xs : List X) → length (filter p xs) ≤ length xs
 filtered p xs = omega (arith, length-filter p xs, count_by-le-length p xs)

@@ -7,9 +7,9 @@ use Rattle.std.proofs.lemmas.Bool.{cases_lt}
 use Rattle.std.proofs.lemmas.Cmp.{int_eq_equiv}
 use Rattle.pv_base.specs.Polyvalue.{Case, IsCanonical, IsPolyvalue, NamesAtMost}
 use Rattle.pv_model.specs.Alternatives.{number_at}
-use Rattle.pv_model.proofs.ExistenceLemmas.{IsExact, cases-equal, some-polyvalue}
-use Rattle.pv_model.proofs.NameLemmas.{some-names, NamesAtMost-from}
-use Rattle.pv_model.proofs.PolyvalueLemmas.{canonical-complete, one-canonical, value_at-agree}
+use Rattle.pv_law_polyvalues.proofs.ExistenceLemmas.{IsExact, cases-equal, some-polyvalue}
+use Rattle.pv_law_polyvalues.proofs.NameLemmas.{some-names, NamesAtMost-from}
+use Rattle.pv_law_polyvalues.proofs.PolyvalueLemmas.{canonical-complete, one-canonical, value_at-agree}
 
 int_eq-exact : (x y : ℤ) → int_eq x y ≡ true → x ≡ y
 int_eq-exact x y same = search rules

@@ -1,4 +1,4 @@
-//! Laws on the definitions of `pv_format`: messages, records and polyvalues have one spelling each, bytes spell one value at most,
+//! Laws on the definitions of `pv_format`: messages, records and polyvalues have at most one spelling each, bytes spell one value at most,
 //! and no spelling is the beginning of another. The functions here do nothing: each states a law.
 #![tactic(auto)]
 

@@ -1,5 +1,5 @@
 -- Ascending lists of transactions: one for its members, no longer than a list that has them all, and one for any list's members.
-use Rattle.std.proofs.Common.{◌≡◌, ◌⊎◌, ⊎_elim, zero, suc, ◌+◌, ◌<◌, ◌≤◌, Bool, true, false, List, [], ◌∷◌, inl, inr, cond, length, get_or, refl, sym, ap, subst, ◌∙◌, arith}
+use Rattle.std.proofs.Common.{◌≡◌, ◌⊎◌, ⊎_elim, ◌+◌, ◌<◌, ◌≤◌, Bool, true, false, List, [], ◌∷◌, inl, inr, cond, length, get_or, sym, ap, subst, ◌∙◌, arith}
 use Rattle.std.specs.Prelude.{IsTrue, not, All}
 use Rattle.std.specs.List.{AllPairs, Contains, filter}
 use Rattle.std.proofs.lemmas.Bool.{not_from_false, false≢true}
@@ -8,6 +8,7 @@ use Rattle.std.proofs.lemmas.List.Kept.{AllPairs-cons}
 use Rattle.pv_base.specs.declared.txn.TxnId.{TxnId}
 use Rattle.pv_base.specs.Assignment.{is_same_txn, precedes}
 use Rattle.pv_base.proofs.ContainsLemmas.{Contains-first, Contains-behind, Contains-nil, Contains-cases, Contains-filter}
+use Rattle.pv_base.proofs.OrderLemmas.{pairs-tail, pairs-first, one-ordered}
 use Rattle.pv_base.proofs.AssignmentLemmas.{same-refl, precedes-irrefl, precedes-trans, precedes-other, order-of-two}
 
 abbrev pub Ascending : List TxnId → Type 0
@@ -17,16 +18,9 @@ Ascending txns = AllPairs (λ txn later. IsTrue (precedes txn later)) txns
 abbrev pub Distinct : List TxnId → Type 0
 Distinct txns = AllPairs (λ txn later. is_same_txn txn later ≡ false) txns
 
-module _ (P : TxnId → Type 0) where
-  pub All-from_members : (txns : List TxnId) → ((t : TxnId) → Contains txns t → P t) → All P txns
-  All-from_members txns each = λ k d within. each _ (All-contains_itself txns k d within)
-
-module _ (R : TxnId → TxnId → Type 0) where
-  pub pairs-tail : (t : TxnId) (txns : List TxnId) → AllPairs R (t ∷ txns) → AllPairs R txns
-  pairs-tail t txns pairs = λ i j d before within. pairs (suc i) (suc j) d (omega (arith, before)) (omega (arith, within))
-
-  pub pairs-first : (t : TxnId) (txns : List TxnId) → AllPairs R (t ∷ txns) → (u : TxnId) → Contains txns u → R t u
-  pairs-first t txns pairs u (k, within, at) = subst (R t) at (pairs zero (suc k) u (omega arith) (omega (arith, within)))
+module _ {X : Type 0} (P : X → Type 0) where
+  pub All-from_members : (xs : List X) → ((x : X) → Contains xs x → P x) → All P xs
+  All-from_members xs each = λ k d within. each _ (All-contains_itself xs k d within)
 
 pub ascending-tail : (t : TxnId) (txns : List TxnId) → Ascending (t ∷ txns) → Ascending txns
 ascending-tail t txns up = pairs-tail (λ txn later. IsTrue (precedes txn later)) t txns up
@@ -43,33 +37,10 @@ ascending-distinct txns up = λ i j d before within. precedes-other (get_or txns
 
 -- Two ascending lists with the same members are one.
 
-same-first : (t : TxnId) (ts : List TxnId) (u : TxnId) (us : List TxnId) → Ascending (t ∷ ts) → Ascending (u ∷ us)
-    → (t ≡ u) ⊎ Contains ts u → (u ≡ t) ⊎ Contains us t → t ≡ u
-same-first t ts u us up others (inl same) other = same
-same-first t ts u us up others (inr here) (inl same) = sym same
-same-first t ts u us up others (inr here) (inr there) =
-    absurd (precedes-irrefl t (precedes-trans t u t (ascending-first t ts up u here) (ascending-first u us others t there)))
-
--- What is behind the first of one list is behind the first of the other.
-behind-first : (t : TxnId) (ts : List TxnId) (u : TxnId) (us : List TxnId) → t ≡ u → Ascending (t ∷ ts)
-    → ((x : TxnId) → Contains (t ∷ ts) x → Contains (u ∷ us) x) → (x : TxnId) → Contains ts x → Contains us x
-behind-first t ts u us same up kept x h =
-    ⊎_elim
-    (λ first. absurd (precedes-irrefl t (subst (λ z. IsTrue (precedes t z)) (sym (same ∙ first)) (ascending-first t ts up x h))))
-    (λ behind. behind)
-    (Contains-cases u us x (kept x (Contains-behind t ts x h)))
-
 pub one-ascending : (ts us : List TxnId) → Ascending ts → Ascending us
     → ((x : TxnId) → Contains ts x → Contains us x) → ((x : TxnId) → Contains us x → Contains ts x) → ts ≡ us
-one-ascending [] [] up others kept back = refl
-one-ascending [] (u ∷ us) up others kept back = absurd (Contains-nil u (back u (Contains-first u us)))
-one-ascending (t ∷ ts) [] up others kept back = absurd (Contains-nil t (kept t (Contains-first t ts)))
-one-ascending (t ∷ ts) (u ∷ us) up others kept back =
-    let same : t ≡ u = same-first t ts u us up others
-    (Contains-cases t ts u (back u (Contains-first u us))) (Contains-cases u us t (kept t (Contains-first t ts))) in
-    ap (λ (x : TxnId). x ∷ ts) same
-    ∙ ap (λ (rest : List TxnId). u ∷ rest) (one-ascending ts us (ascending-tail t ts up) (ascending-tail u us others)
-    (behind-first t ts u us same up kept) (behind-first u us t ts (sym same) others back))
+one-ascending =
+    one-ordered (λ txn later. IsTrue (precedes txn later)) precedes-irrefl precedes-trans
 
 -- A list without repeats whose members are all in another list is no longer than it.
 
@@ -115,7 +86,7 @@ pub record IsInserted (t : TxnId) (txns more : List TxnId) : Type 0 where
   pub kept : (x : TxnId) → Contains txns x → Contains more x
   pub only : (x : TxnId) → Contains more x → (t ≡ x) ⊎ Contains txns x
 
-insert-behind : (t u : TxnId) (us more : List TxnId) → Ascending (u ∷ us) → IsTrue (precedes u t) → IsInserted t us more → IsInserted t (u ∷ us) (u ∷ more)
+pub insert-behind : (t u : TxnId) (us more : List TxnId) → Ascending (u ∷ us) → IsTrue (precedes u t) → IsInserted t us more → IsInserted t (u ∷ us) (u ∷ more)
 insert-behind t u us more up before is = record {
   ascending = ascending-cons u more
       (λ x h. ⊎_elim (λ same. subst (λ z. IsTrue (precedes u z)) same before) (λ old. ascending-first u us up x old) (is.only x h))
@@ -128,7 +99,7 @@ insert-behind t u us more up before is = record {
       (Contains-cases u more x h);
 }
 
-insert-first : (t u : TxnId) (us : List TxnId) → Ascending (u ∷ us) → IsTrue (precedes t u) → IsInserted t (u ∷ us) (t ∷ u ∷ us)
+pub insert-first : (t u : TxnId) (us : List TxnId) → Ascending (u ∷ us) → IsTrue (precedes t u) → IsInserted t (u ∷ us) (t ∷ u ∷ us)
 insert-first t u us up before = record {
   ascending = ascending-cons t (u ∷ us)
       (λ x h. ⊎_elim (λ same. subst (λ z. IsTrue (precedes t z)) same before) (λ old. precedes-trans t u x before (ascending-first u us up x old)) (Contains-cases u us x h))
@@ -138,7 +109,7 @@ insert-first t u us up before = record {
   only = λ x h. Contains-cases t (u ∷ us) x h;
 }
 
-insert-same : (t u : TxnId) (us : List TxnId) → Ascending (u ∷ us) → t ≡ u → IsInserted t (u ∷ us) (u ∷ us)
+pub insert-same : (t u : TxnId) (us : List TxnId) → Ascending (u ∷ us) → t ≡ u → IsInserted t (u ∷ us) (u ∷ us)
 insert-same t u us up same = record {
   ascending = up;
   first = subst (Contains (u ∷ us)) (sym same) (Contains-first u us);

@@ -1,17 +1,16 @@
--- Values that depend on finitely many transactions have canonical cases: so do choices, which so name some number of transactions,
--- and values with a transaction's outcome settled.
+-- Values that depend on finitely many transactions have canonical cases: so do choices, which so name some number of transactions.
 use Rattle.std.proofs.Common.{◌≡◌, ◌⊎◌, ⊎_elim, ℕ, Bool, true, false, Some, List, [], ◌∷◌, inl, inr, length, refl, sym, ap, subst, ◌∙◌, arith}
-use Rattle.std.specs.Prelude.{IsTrue, ◌++◌, not, if◌then◌else◌}
-use Rattle.std.specs.List.{Contains, filter}
-use Rattle.std.proofs.lemmas.Bool.{false≢true, false_from_ne_true}
-use Rattle.std.proofs.lemmas.List.Elements.{All-contains, All-contains_itself, All-filter, Contains-append_left, Contains-append_right, Contains-append_cases, filter_passes}
+use Rattle.std.specs.Prelude.{IsTrue, ◌++◌, if◌then◌else◌}
+use Rattle.std.specs.List.{Contains}
+use Rattle.std.proofs.lemmas.Bool.{false≢true}
+use Rattle.std.proofs.lemmas.List.Elements.{Contains-append_left, Contains-append_right, Contains-append_cases}
 use Rattle.pv_base.specs.declared.literal.Literal.{Literal}
 use Rattle.pv_base.specs.declared.txn.TxnId.{TxnId}
 use Rattle.pv_base.specs.Assignment.{is_same_txn, commits, with_outcome}
-use Rattle.pv_base.specs.Polyvalue.{Case, value_at, names, under, IsCanonical, sure, tested, IsChoice, IsSettled, ChoiceNames}
+use Rattle.pv_base.specs.Polyvalue.{Case, value_at, names, under, IsCanonical, sure, tested, IsChoice, ChoiceNames}
 use Rattle.pv_base.proofs.Basics.{Some_inj, heads, tails}
-use Rattle.pv_base.proofs.ContainsLemmas.{Contains-first, Contains-behind, Contains-nil, Contains-cases, Contains-filter}
-use Rattle.pv_base.proofs.AssignmentLemmas.{same-refl, same-eq, same-from-eq, commits-with, commits-with-same, commits-with-alike}
+use Rattle.pv_base.proofs.ContainsLemmas.{Contains-first, Contains-behind, Contains-nil, Contains-cases}
+use Rattle.pv_base.proofs.AssignmentLemmas.{same-eq, same-from-eq, commits-with, commits-with-same, commits-with-alike}
 use Rattle.pv_law_polyvalues.proofs.PolyvalueLemmas.{value_at-agree, value_at-tested, names-tested, behind-unnamed, canonical-complete, unnamed-free, one-canonical}
 use Rattle.pv_law_polyvalues.proofs.AscendingLemmas.{Ascending, ascending-tail, ascending-first, some-ordered}
 use Rattle.pv_law_polyvalues.proofs.NameLemmas.{some-names, one-names, listed-named}
@@ -94,13 +93,6 @@ set-alike t outcome ts a b alike x h =
     (commits-with-same t outcome a ∙ sym (commits-with-same t outcome b)))
     (λ behind. commits-with-alike t outcome a b x (alike x behind))
     (Contains-cases t ts x h)
-
--- What agrees on the listed transactions but this one agrees on all of them once its outcome is set.
-settled-if : (t : TxnId) (outcome : Bool) (a b listed : List TxnId) (u : TxnId) (test : Bool)
-    → ((x : TxnId) → Contains (filter (λ v. not (is_same_txn t v)) listed) x → commits a x ≡ commits b x) → Contains listed u → is_same_txn t u ≡ test
-    → (if test then outcome else commits a u) ≡ (if test then outcome else commits b u)
-settled-if t outcome a b listed u true alike h is = refl
-settled-if t outcome a b listed u false alike h is = alike u (Contains-filter (λ v. not (is_same_txn t v)) listed u (ap not is) h)
 
 module _ {V : Type 0} where
   -- The cases are the canonical ones of the value, and name only these transactions.
@@ -208,7 +200,7 @@ module _ {V : Type 0} where
 
   module _ {same : V → V → Bool} (laws : IsExact same) where
     pub some-choice : (t : TxnId) (front back : List (Case V)) → IsCanonical front → IsCanonical back
-        → (cases : List (Case V)) × (IsCanonical cases × (IsChoice t back front cases × ((u : TxnId) → IsTrue (names cases u) → (t ≡ u) ⊎ (IsTrue (names front u) ⊎ IsTrue (names back u)))))
+        → (cases : List (Case V)) × (IsCanonical cases × (IsChoice t front back cases × ((u : TxnId) → IsTrue (names cases u) → (t ≡ u) ⊎ (IsTrue (names front u) ⊎ IsTrue (names back u)))))
     some-choice t front back in-front in-back =
         let fronts = some-names front in
         let backs = some-names back in
@@ -234,45 +226,17 @@ module _ {V : Type 0} where
         )
 
     -- Every choice names some number of transactions.
-    pub some-choice-names : (t : TxnId) (new old : List (Case V)) → IsCanonical new → IsCanonical old → (count : ℕ) × ChoiceNames t new old count
-    some-choice-names t new old in-new in-old =
-        let found = some-choice t old new in-old in-new in
+    pub some-choice-names : (t : TxnId) (front back : List (Case V)) → IsCanonical front → IsCanonical back → (count : ℕ) × ChoiceNames t front back count
+    some-choice-names t front back in-front in-back =
+        let found = some-choice t front back in-front in-back in
         let listed = some-names found.0 in (
           length listed.0,
           record { cases = found.0; canonical = found.1.0; choice = found.1.1.0; txns = listed.0; named = listed.1; counted = refl },
         )
 
-    pub some-settled : (t : TxnId) (outcome : Bool) (cases : List (Case V)) → IsCanonical cases
-        → (settled : List (Case V)) × (IsCanonical settled × (IsSettled t outcome cases settled × ((u : TxnId) → IsTrue (names settled u) → IsTrue (names cases u))))
-    some-settled t outcome cases canonical =
-        let listed = some-names cases in
-        let other = λ (v : TxnId). not (is_same_txn t v) in
-        let txns = filter other listed.0 in
-        let f = λ (a : List TxnId). value-of cases canonical (with_outcome t outcome a) in
-        let found = some-polyvalue-of laws f txns (λ a b alike.
-        value-of-alike cases canonical (with_outcome t outcome a) (with_outcome t outcome b) (λ u h.
-        commits-with t outcome a u
-        ∙ settled-if t outcome a b listed.0 u (is_same_txn t u) alike (listed.1.whole u h) refl
-        ∙ sym (commits-with t outcome b u))) in (
-          found.0,
-          (
-            found.1.canonical,
-            (
-              record {
-                same = λ a is. found.1.value a ∙ value-of-at cases canonical (with_outcome t outcome a)
-                    ∙ value_at-agree cases (with_outcome t outcome a) a (λ u h. own-outcome t outcome a is u);
-                unnamed = false_from_ne_true (names found.0 t) (λ h.
-                    false≢true (sym (ap not (same-refl t)) ∙ All-contains (λ v. other v ≡ true) txns t (filter_passes other listed.0) (found.1.named t h)));
-              },
-              λ u h. listed-named cases listed.0 listed.1 u
-                  (All-contains (Contains listed.0) txns u (All-filter other (Contains listed.0) listed.0 (All-contains_itself listed.0)) (found.1.named u h)),
-            ),
-          ),
-        )
-
   -- Two counts of what a choice names are equal.
-  pub one-choice-names : (t : TxnId) (new old : List (Case V)) (count other : ℕ) → ChoiceNames t new old count → ChoiceNames t new old other → count ≡ other
-  one-choice-names t new old count other are them =
+  pub one-choice-names : (t : TxnId) (front back : List (Case V)) (count other : ℕ) → ChoiceNames t front back count → ChoiceNames t front back other → count ≡ other
+  one-choice-names t front back count other are them =
       let same : are.cases ≡ them.cases =
       one-canonical are.cases them.cases are.canonical them.canonical (λ a. are.choice a ∙ sym (them.choice a)) in
       let listed : are.txns ≡ them.txns =

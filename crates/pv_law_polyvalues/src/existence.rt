@@ -27,10 +27,10 @@ pub fn some_canonical<V: Exact>()
 
 /// Every choice between two polyvalues names some number of transactions.
 pub fn some_choice<V: Exact>()
-    ensures { (txn : TxnId) (new old : List (Case V)) → IsCanonical new → IsCanonical old → (count : ℕ) × ChoiceNames txn new old count }
+    ensures { (txn : TxnId) (aborted committed : List (Case V)) → IsCanonical aborted → IsCanonical committed → (count : ℕ) × ChoiceNames txn aborted committed count }
 {}
 
 /// A choice names one number of transactions at most.
 pub fn one_choice<V>()
-    ensures { (txn : TxnId) (new old : List (Case V)) (count other : ℕ) → ChoiceNames txn new old count → ChoiceNames txn new old other → count ≡ other }
+    ensures { (txn : TxnId) (aborted committed : List (Case V)) (count other : ℕ) → ChoiceNames txn aborted committed count → ChoiceNames txn aborted committed other → count ≡ other }
 {}

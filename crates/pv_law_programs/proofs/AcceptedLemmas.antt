@@ -4,6 +4,7 @@ use Rattle.std.specs.Prelude.{IsTrue, nat_le}
 use Rattle.std.specs.List.{list_all}
 use Rattle.std.specs.Option.{option_map_or}
 use Rattle.std.proofs.lemmas.Bool.{le-leb}
+use Rattle.pv_base.specs.declared.limits.TheConstants.{MAX_DEPTH, MAX_LINE}
 use Rattle.pv_base.specs.Catalog.{Declared}
 use Rattle.pv_model.specs.Syntax.{Program}
 use Rattle.pv_model.specs.FirstFault.{without_numbers}
@@ -27,7 +28,7 @@ placed_end k = refl
 
 -- no token is nested too deep
 abbrev shallow : List Placed → Bool
-shallow ps = list_all (λ t. nat_le t.0 32) ps
+shallow ps = list_all (λ t. nat_le t.0 MAX_DEPTH) ps
 
 and_true : (a b : Bool) → a ≡ true → b ≡ true → (a && b) ≡ true
 and_true true b h k = k
@@ -59,22 +60,22 @@ placing item_of behind (goes k c t ts now s u d w) =
     subst (λ (ps : List Placed). Placing item_of k ((c, t) ∷ ts) ps) (sym (placed_one k c t ts now s))
     (record {
       same = ap (λ (l : List Token). t ∷ l) r.same;
-      low = and_true (nat_le now.0 32) (shallow (placed now.1 ts)) (le-leb now.0 32 d) r.low;
+      low = and_true (nat_le now.0 MAX_DEPTH) (shallow (placed now.1 ts)) (le-leb now.0 MAX_DEPTH d) r.low;
       known = (known_token item_of t u, r.known);
       last = r.last;
       walks = on k now.1 r.last now.0 t (placed now.1 ts) [] s r.walks;
       ended = r.ended;
     })
 
--- Tokens without a fault are those that are placed, and none is nested deeper than 32.
+-- Tokens without a fault are those that are placed, and none is nested deeper than MAX_DEPTH.
 pub placed-of : (item_of : List ℕ → Option ℕ) (behind : ℕ) (ts : List (ℕ × Token)) → first_fault item_of behind at_start ts ≡ None
-    → (without_numbers ts ≡ without_nestings (placed at_start ts)) × IsTrue (list_all (λ t. nat_le t.0 32) (placed at_start ts))
+    → (without_numbers ts ≡ without_nestings (placed at_start ts)) × IsTrue (list_all (λ t. nat_le t.0 MAX_DEPTH) (placed at_start ts))
 placed-of item_of behind ts e =
     let r = placing item_of behind (clean item_of behind at_start ts e) in
     (r.same, r.low)
 
 -- A text whose tokens have no fault is a program.
-pub accepted-reads : (catalog : Declared) (text : List ℕ) (ts : List (ℕ × Token)) → length text ≤ 1000 → HasTokens text ts
+pub accepted-reads : (catalog : Declared) (text : List ℕ) (ts : List (ℕ × Token)) → length text ≤ MAX_LINE → HasTokens text ts
     → first_fault (item_in catalog) (length text + 1) at_start ts ≡ None → (p : Program) × IsProgramText catalog text p
 accepted-reads catalog text ts short has e =
     let r = placing (item_in catalog) (length text + 1) (clean (item_in catalog) (length text + 1) at_start ts e) in

@@ -1,11 +1,13 @@
 -- A program does the same to rows that have the same values of its items.
-use Rattle.std.proofs.Common.{◌≡◌, ℕ, ℤ, pos, Bool, true, false, ◌||◌, cond, List, Result, Ok, Err, refl, sym, ap, ◌∙◌, subst, inl, inr}
+use Rattle.std.proofs.Common.{◌≡◌, ℕ, ℤ, pos, Bool, true, false, cond, List, Result, Ok, Err, refl, sym, ap, ◌∙◌, subst, inl, inr}
 use Rattle.std.specs.Prelude.{◌==◌, IsTrue, neg_ℤ, not}
-use Rattle.std.proofs.lemmas.Bool.{cases_Bool, eq-eqb, eqb-true, or_left, or_right}
+use Rattle.std.proofs.lemmas.Bool.{cases_Bool, eq-eqb, or_left, or_right}
 use Rattle.pv_model.specs.Check.{reads, names}
 use Rattle.pv_model.specs.Syntax.{Expr, number, item, minus, negation, two, Program, end, assign, require, return, when, when_else}
-use Rattle.pv_model.specs.Items.{lacks}
-use Rattle.pv_model.specs.Meaning.{Row, Decline, value, declined, value_in, with_row, unmet, within, holds, truth, with_value, with_left, value_of, Course, ended, returned, refused, then_with, then_run, course_of, effect_of, exec}
+use Rattle.pv_base.specs.declared.reply.Decline.{Decline}
+use Rattle.pv_base.specs.declared.reply.Decline.TheVariants.{Require}
+use Rattle.pv_base.specs.declared.reply.Reply.TheVariants.{Value, Declined}
+use Rattle.pv_model.specs.Meaning.{Row, with_row, within, holds, truth, with_value, with_left, value_of, Course, ended, returned, refused, then_with, then_run, course_of, effect_of, exec}
 use Rattle.pv_model.specs.ProgramLaws.{HaveSameValues, HaveSameValuesOf}
 use Rattle.pv_law_programs.proofs.ProgramLemmas.{lacks-with_row, value_in-with_row-same, value_in-with_row-other}
 
@@ -78,7 +80,7 @@ module _ (set : ℕ → Bool) where
       (with_row-alike rows others n v (covers n (or_left (n == n) _ (eq-eqb n n refl))) same))
   run-alike (require e next) rows others covers same =
       then_with-alike (value_of e rows) (value_of e others) _ _ (value_of-alike e rows others (λ m r. covers m (or_left (reads e m) (names next m) r)) same)
-      (λ v. cond-alike (holds v) _ (refused unmet) _ (refused unmet) (run-alike next rows others (λ m r. covers m (or_right (reads e m) (names next m) r)) same) refl)
+      (λ v. cond-alike (holds v) _ (refused Require) _ (refused Require) (run-alike next rows others (λ m r. covers m (or_right (reads e m) (names next m) r)) same) refl)
   run-alike (return e next) rows others covers same =
       then_with-alike (value_of e rows) (value_of e others) _ _ (value_of-alike e rows others (λ m r. covers m (or_left (reads e m) (names next m) r)) same)
       (λ v. (refl, same))
@@ -102,11 +104,11 @@ module _ (set : ℕ → Bool) where
   effect_of-alike rows others (ended now) (returned w then) same a = absurd a
   effect_of-alike rows others (ended now) (refused e) same a = absurd a
   effect_of-alike rows others (returned v now) (ended then) same a = absurd a
-  effect_of-alike rows others (returned v now) (returned w then) same a = (ap (λ (z : ℤ). value z) a.0, a.1)
+  effect_of-alike rows others (returned v now) (returned w then) same a = (ap (λ (z : ℤ). Value z) a.0, a.1)
   effect_of-alike rows others (returned v now) (refused e) same a = absurd a
   effect_of-alike rows others (refused d) (ended then) same a = absurd a
   effect_of-alike rows others (refused d) (returned w then) same a = absurd a
-  effect_of-alike rows others (refused d) (refused e) same a = (ap (λ (x : Decline). declined x) a, same)
+  effect_of-alike rows others (refused d) (refused e) same a = (ap (λ (x : Decline). Declined x) a, same)
 
   pub own_rows_alone : (program : Program) (rows others : List Row) → Covers (names program) → HaveSameValuesOf set rows others
       → ((exec program rows).reply ≡ (exec program others).reply) × HaveSameValuesOf set (exec program rows).rows (exec program others).rows

@@ -5,6 +5,7 @@ use Rattle.std.specs.Option.{option_map_or}
 use Rattle.std.proofs.lemmas.Bool.{ltb-true, ltb-false}
 use Rattle.std.proofs.lemmas.Option.{none-some}
 use Rattle.std.proofs.lemmas.List.{length-append}
+use Rattle.pv_base.specs.declared.limits.TheConstants.{MAX_DEPTH}
 use Rattle.pv_model.specs.Tokens.{Token, token_of, AreTokens, at_end, at_blank, at_token, at_stray}
 use Rattle.pv_model.specs.Grammar.{Placed}
 use Rattle.pv_model.specs.ProgramText.{Kind, malformed, unknown_name, too_deep, without_nestings}
@@ -25,18 +26,18 @@ module _ (item_of : List ℕ → Option ℕ) (behind : ℕ) where
     at_unknown : (k : List Expected) (c : ℕ) (t : Token) (ts : List (ℕ × Token)) (now : ℕ × List Expected) → step k t ≡ Some now → is_unknown item_of t ≡ true
         → Stops k ((c, t) ∷ ts) (unknown_name, c)
     at_deep : (k : List Expected) (c : ℕ) (t : Token) (ts : List (ℕ × Token)) (now : ℕ × List Expected) → step k t ≡ Some now → is_unknown item_of t ≡ false
-        → 32 < now.0 → Stops k ((c, t) ∷ ts) (too_deep, c)
+        → MAX_DEPTH < now.0 → Stops k ((c, t) ∷ ts) (too_deep, c)
 
   -- Tokens go on without a fault up to one.
   pub data Faulty : List Expected → List (ℕ × Token) → Kind × ℕ → Type 0 where
     stops : (k : List Expected) (ts : List (ℕ × Token)) (f : Kind × ℕ) → Stops k ts f → Faulty k ts f
     goes_on : (k : List Expected) (c : ℕ) (t : Token) (ts : List (ℕ × Token)) (f : Kind × ℕ) (now : ℕ × List Expected) → step k t ≡ Some now
-        → is_unknown item_of t ≡ false → now.0 ≤ 32 → Faulty now.1 ts f → Faulty k ((c, t) ∷ ts) f
+        → is_unknown item_of t ≡ false → now.0 ≤ MAX_DEPTH → Faulty now.1 ts f → Faulty k ((c, t) ∷ ts) f
 
   -- what `first_fault` answers at a token, by what the token leads to
   abbrev answer : ℕ × Token → List (ℕ × Token) → Option Now → Option (Kind × ℕ)
   answer t ts x = option_map_or
-      (λ now. cond (is_unknown item_of t.1) (Some (unknown_name, t.0)) (cond (nat_lt 32 now.0) (Some (too_deep, t.0)) (first_fault item_of behind now.1 ts)))
+      (λ now. cond (is_unknown item_of t.1) (Some (unknown_name, t.0)) (cond (nat_lt MAX_DEPTH now.0) (Some (too_deep, t.0)) (first_fault item_of behind now.1 ts)))
       x (Some (malformed, t.0))
 
   fault_at_end : (k : List Expected) → first_fault item_of behind k [] ≡ cond (may_end k) None (Some (malformed, behind))
@@ -51,19 +52,19 @@ module _ (item_of : List ℕ → Option ℕ) (behind : ℕ) where
   stops_at_end k f true is e = absurd (none-some f e)
   stops_at_end k f false is e = subst (λ (g : Kind × ℕ). Stops k [] g) (Some_inj e) (ends_early k is)
 
-  faulty_below : (k : List Expected) (c : ℕ) (t : Token) (ts : List (ℕ × Token)) (f : Kind × ℕ) (now : Now) (b : Bool) → nat_lt 32 now.0 ≡ b → step k t ≡ Some now
+  faulty_below : (k : List Expected) (c : ℕ) (t : Token) (ts : List (ℕ × Token)) (f : Kind × ℕ) (now : Now) (b : Bool) → nat_lt MAX_DEPTH now.0 ≡ b → step k t ≡ Some now
       → is_unknown item_of t ≡ false → (first_fault item_of behind now.1 ts ≡ Some f → Faulty now.1 ts f)
       → cond b (Some (too_deep, c)) (first_fault item_of behind now.1 ts) ≡ Some f → Faulty k ((c, t) ∷ ts) f
   faulty_below k c t ts f now true is s u ih e =
-      subst (λ (g : Kind × ℕ). Faulty k ((c, t) ∷ ts) g) (Some_inj e) (stops k ((c, t) ∷ ts) (too_deep, c) (at_deep k c t ts now s u (ltb-true 32 now.0 is)))
-  faulty_below k c t ts f now false is s u ih e = goes_on k c t ts f now s u (ltb-false 32 now.0 is) (ih e)
+      subst (λ (g : Kind × ℕ). Faulty k ((c, t) ∷ ts) g) (Some_inj e) (stops k ((c, t) ∷ ts) (too_deep, c) (at_deep k c t ts now s u (ltb-true MAX_DEPTH now.0 is)))
+  faulty_below k c t ts f now false is s u ih e = goes_on k c t ts f now s u (ltb-false MAX_DEPTH now.0 is) (ih e)
 
   faulty_known : (k : List Expected) (c : ℕ) (t : Token) (ts : List (ℕ × Token)) (f : Kind × ℕ) (now : Now) (b : Bool) → is_unknown item_of t ≡ b → step k t ≡ Some now
       → (first_fault item_of behind now.1 ts ≡ Some f → Faulty now.1 ts f)
-      → cond b (Some (unknown_name, c)) (cond (nat_lt 32 now.0) (Some (too_deep, c)) (first_fault item_of behind now.1 ts)) ≡ Some f → Faulty k ((c, t) ∷ ts) f
+      → cond b (Some (unknown_name, c)) (cond (nat_lt MAX_DEPTH now.0) (Some (too_deep, c)) (first_fault item_of behind now.1 ts)) ≡ Some f → Faulty k ((c, t) ∷ ts) f
   faulty_known k c t ts f now true is s ih e =
       subst (λ (g : Kind × ℕ). Faulty k ((c, t) ∷ ts) g) (Some_inj e) (stops k ((c, t) ∷ ts) (unknown_name, c) (at_unknown k c t ts now s is))
-  faulty_known k c t ts f now false is s ih e = faulty_below k c t ts f now (nat_lt 32 now.0) refl s is ih e
+  faulty_known k c t ts f now false is s ih e = faulty_below k c t ts f now (nat_lt MAX_DEPTH now.0) refl s is ih e
 
   faulty_token : (k : List Expected) (c : ℕ) (t : Token) (ts : List (ℕ × Token)) (f : Kind × ℕ) (x : Option Now) → step k t ≡ x
       → ((j : List Expected) → first_fault item_of behind j ts ≡ Some f → Faulty j ts f)
@@ -81,23 +82,23 @@ module _ (item_of : List ℕ → Option ℕ) (behind : ℕ) where
   pub data Clean : List Expected → List (ℕ × Token) → Type 0 where
     ends : (k : List Expected) → may_end k ≡ true → Clean k []
     goes : (k : List Expected) (c : ℕ) (t : Token) (ts : List (ℕ × Token)) (now : ℕ × List Expected) → step k t ≡ Some now
-        → is_unknown item_of t ≡ false → now.0 ≤ 32 → Clean now.1 ts → Clean k ((c, t) ∷ ts)
+        → is_unknown item_of t ≡ false → now.0 ≤ MAX_DEPTH → Clean now.1 ts → Clean k ((c, t) ∷ ts)
 
   clean_end : (k : List Expected) (b : Bool) → may_end k ≡ b → cond {A = Option (Kind × ℕ)} b None (Some (malformed, behind)) ≡ None → Clean k []
   clean_end k true is e = ends k is
   clean_end k false is e = absurd (none-some (malformed, behind) (sym e))
 
-  clean_below : (k : List Expected) (c : ℕ) (t : Token) (ts : List (ℕ × Token)) (now : Now) (b : Bool) → nat_lt 32 now.0 ≡ b → step k t ≡ Some now
+  clean_below : (k : List Expected) (c : ℕ) (t : Token) (ts : List (ℕ × Token)) (now : Now) (b : Bool) → nat_lt MAX_DEPTH now.0 ≡ b → step k t ≡ Some now
       → is_unknown item_of t ≡ false → (first_fault item_of behind now.1 ts ≡ None → Clean now.1 ts)
       → cond b (Some (too_deep, c)) (first_fault item_of behind now.1 ts) ≡ None → Clean k ((c, t) ∷ ts)
   clean_below k c t ts now true is s u ih e = absurd (none-some (too_deep, c) (sym e))
-  clean_below k c t ts now false is s u ih e = goes k c t ts now s u (ltb-false 32 now.0 is) (ih e)
+  clean_below k c t ts now false is s u ih e = goes k c t ts now s u (ltb-false MAX_DEPTH now.0 is) (ih e)
 
   clean_known : (k : List Expected) (c : ℕ) (t : Token) (ts : List (ℕ × Token)) (now : Now) (b : Bool) → is_unknown item_of t ≡ b → step k t ≡ Some now
       → (first_fault item_of behind now.1 ts ≡ None → Clean now.1 ts)
-      → cond b (Some (unknown_name, c)) (cond (nat_lt 32 now.0) (Some (too_deep, c)) (first_fault item_of behind now.1 ts)) ≡ None → Clean k ((c, t) ∷ ts)
+      → cond b (Some (unknown_name, c)) (cond (nat_lt MAX_DEPTH now.0) (Some (too_deep, c)) (first_fault item_of behind now.1 ts)) ≡ None → Clean k ((c, t) ∷ ts)
   clean_known k c t ts now true is s ih e = absurd (none-some (unknown_name, c) (sym e))
-  clean_known k c t ts now false is s ih e = clean_below k c t ts now (nat_lt 32 now.0) refl s is ih e
+  clean_known k c t ts now false is s ih e = clean_below k c t ts now (nat_lt MAX_DEPTH now.0) refl s is ih e
 
   clean_token : (k : List Expected) (c : ℕ) (t : Token) (ts : List (ℕ × Token)) (x : Option Now) → step k t ≡ x
       → ((j : List Expected) → first_fault item_of behind j ts ≡ None → Clean j ts)

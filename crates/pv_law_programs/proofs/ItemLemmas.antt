@@ -1,54 +1,19 @@
 -- The items that a program names are one ascending list.
-use Rattle.std.proofs.Common.{◌≡◌, ◌⊎◌, ⊎_elim, ℕ, suc, ◌+◌, ◌<◌, Bool, true, List, [], ◌∷◌, inl, inr, refl, sym, ap, ◌∙◌, arith}
+use Rattle.std.proofs.Common.{◌≡◌, ⊎_elim, ℕ, ◌+◌, ◌<◌, Bool, true, List, arith}
 use Rattle.std.specs.Prelude.{◌||◌, ◌==◌, IsTrue}
 use Rattle.std.specs.List.{AllPairs, Contains, filter, range_with_len}
 use Rattle.std.proofs.lemmas.Bool.{eqb-true, or_cases, false≢true}
 use Rattle.std.proofs.lemmas.List.Elements.{All-contains, filter_passes}
 use Rattle.std.proofs.lemmas.List.FromFn.{length-range_with_len, get_or-range_with_len}
 use Rattle.std.proofs.lemmas.List.Kept.{AllPairs-filter}
-use Rattle.pv_base.proofs.ContainsLemmas.{Contains-first, Contains-behind, Contains-nil, Contains-cases, Contains-filter}
+use Rattle.pv_base.proofs.ContainsLemmas.{Contains-filter}
+use Rattle.pv_base.proofs.OrderLemmas.{one-ascending_by}
 use Rattle.pv_model.specs.Syntax.{Expr, number, item, minus, negation, two, Program, end, assign, require, return, when, when_else}
 use Rattle.pv_model.specs.Check.{reads, names, AreItems}
 
--- Two ascending lists of the same numbers are one.
-
-below-later : (x : ℕ) (xs : List ℕ) (n : ℕ) → AllPairs (λ n later. n < later) (x ∷ xs) → Contains xs n → x < n
-below-later x xs n ascending (k, l, at) = omega (arith, ascending 0 (suc k) n (omega arith) (omega (arith, l)), at)
-
-ascending-tail : (x : ℕ) (xs : List ℕ) → AllPairs (λ n later. n < later) (x ∷ xs) → AllPairs (λ n later. n < later) xs
-ascending-tail x xs ascending = λ i j d before within. ascending (suc i) (suc j) d (omega (arith, before)) (omega (arith, within))
-
-same-first : (x : ℕ) (xs : List ℕ) (y : ℕ) (ys : List ℕ)
-    → AllPairs (λ n later. n < later) (x ∷ xs) → AllPairs (λ n later. n < later) (y ∷ ys)
-    → (x ≡ y) ⊎ Contains xs y → (y ≡ x) ⊎ Contains ys x → x ≡ y
-same-first x xs y ys up others (inl same) other = same
-same-first x xs y ys up others (inr here) (inl same) = sym same
-same-first x xs y ys up others (inr here) (inr there) = absurd (omega (arith, below-later x xs y up here, below-later y ys x others there))
-
--- What is behind the first number of one list is behind the first number of the other.
-behind-first : (x : ℕ) (xs : List ℕ) (y : ℕ) (ys : List ℕ) → x ≡ y → AllPairs (λ n later. n < later) (x ∷ xs)
-    → ((n : ℕ) → Contains (x ∷ xs) n → Contains (y ∷ ys) n) → (n : ℕ) → Contains xs n → Contains ys n
-behind-first x xs y ys same up kept n h =
-    ⊎_elim
-    (λ first. absurd (omega (arith, same, first, below-later x xs n up h)))
-    (λ behind. behind)
-    (Contains-cases y ys n (kept n (Contains-behind x xs n h)))
-
-one_ascending : (xs ys : List ℕ) → AllPairs (λ n later. n < later) xs → AllPairs (λ n later. n < later) ys
-    → ((n : ℕ) → Contains xs n → Contains ys n) → ((n : ℕ) → Contains ys n → Contains xs n) → xs ≡ ys
-one_ascending [] [] up others kept back = refl
-one_ascending [] (y ∷ ys) up others kept back = absurd (Contains-nil y (back y (Contains-first y ys)))
-one_ascending (x ∷ xs) [] up others kept back = absurd (Contains-nil x (kept x (Contains-first x xs)))
-one_ascending (x ∷ xs) (y ∷ ys) up others kept back =
-    let same : x ≡ y = same-first x xs y ys up others
-    (Contains-cases x xs y (back y (Contains-first y ys))) (Contains-cases y ys x (kept x (Contains-first x xs))) in
-    ap (λ (n : ℕ). n ∷ xs) same
-    ∙ ap (λ (rest : List ℕ). y ∷ rest) (one_ascending xs ys (ascending-tail x xs up) (ascending-tail y ys others)
-    (behind-first x xs y ys same up kept) (behind-first y ys x xs (sym same) others back))
-
 pub one_items : (program : Program) (items others : List ℕ) → AreItems program items → AreItems program others → items ≡ others
 one_items program items others are them =
-    one_ascending items others are.ascending them.ascending
+    one-ascending_by (λ (n : ℕ). n) items others are.ascending them.ascending
     (λ n h. them.whole n (All-contains (λ (n : ℕ). IsTrue (names program n)) items n are.each h))
     (λ n h. are.whole n (All-contains (λ (n : ℕ). IsTrue (names program n)) others n them.each h))
 

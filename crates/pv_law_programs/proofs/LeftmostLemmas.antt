@@ -3,6 +3,7 @@ use Rattle.std.proofs.Common.{◌≡◌, ℕ, suc, ◌+◌, ◌<◌, ◌≤◌, 
 use Rattle.std.specs.Option.{option_map_or}
 use Rattle.std.proofs.lemmas.List.{append-nil, map-append}
 use Rattle.std.proofs.lemmas.Option.{none-some}
+use Rattle.pv_base.specs.declared.limits.TheConstants.{MAX_DEPTH, MAX_LINE}
 use Rattle.pv_base.specs.Catalog.{Declared}
 use Rattle.pv_model.specs.FirstFault.{MayBegin, without_numbers}
 use Rattle.pv_model.specs.Tokens.{Token, HasTokens}
@@ -124,7 +125,7 @@ module _ (item_of : List ℕ → Option ℕ) (behind : ℕ) where
 
   first_deep : {k j : List Expected} {ts : List (ℕ × Token)} {f : Kind × ℕ} (from to : ℕ) → Faulty item_of behind k ts f → Columns from to ts
       → (front : List (ℕ × Token)) (token : Token) (rest : List (ℕ × Token)) (place : ℕ) → ts ≡ front ++ (place, token) ∷ rest
-      → (before : List Placed) (n : ℕ) (after : List Placed) → without_numbers front ≡ without_nestings before → Walks k (before ++ (n, token) ∷ after) j [] → 32 < n
+      → (before : List Placed) (n : ℕ) (after : List Placed) → without_numbers front ≡ without_nestings before → Walks k (before ++ (n, token) ∷ after) j [] → MAX_DEPTH < n
       → ComesFirst f.0 f.1 too_deep place
   first_deep from to (stops k ts f s) cs [] token rest place e [] n after same walks deep = stop_deep token rest place n s e (next_of walks).1
   first_deep from to (stops k ts f s) cs [] token rest place e (y ∷ before) n after same walks deep = absurd cc
@@ -283,7 +284,7 @@ comes_first catalog text ts f has w cs too_deep place h =
     first_deep (item_in catalog) (length text + 1) 1 (length text + 1) w cs h.front h.token h.later place tokens h.before h.nesting h.after h.same
     (program-walks any_item h.reads).1.1 h.deep
 
-pub refused : (catalog : Declared) (text : List ℕ) (ts : List (ℕ × Token)) (kind : Kind) (column : ℕ) → length text ≤ 1000 → HasTokens text ts
+pub refused : (catalog : Declared) (text : List ℕ) (ts : List (ℕ × Token)) (kind : Kind) (column : ℕ) → length text ≤ MAX_LINE → HasTokens text ts
     → first_fault (item_in catalog) (length text + 1) at_start ts ≡ Some (kind, column) → IsRefused catalog text (at_fault kind column)
 refused catalog text ts kind column short has e =
     let w = faulty (item_in catalog) (length text + 1) at_start ts (kind, column) e in

@@ -17,3 +17,5 @@ pub mod NumberLemmas
 pub mod ItemLemmas
 pub mod DeclaredItems
 pub mod RowLemmas
+pub mod NameLemmas
+pub mod PlanLemmas

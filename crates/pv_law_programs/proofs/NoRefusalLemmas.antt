@@ -5,6 +5,7 @@ use Rattle.std.specs.List.{list_all}
 use Rattle.std.proofs.lemmas.Option.{none-some}
 use Rattle.std.proofs.lemmas.Bool.{leb-true}
 use Rattle.std.proofs.lemmas.List.{map-append}
+use Rattle.pv_base.specs.declared.limits.TheConstants.{MAX_DEPTH}
 use Rattle.pv_base.specs.Catalog.{Declared}
 use Rattle.pv_model.specs.Syntax.{Expr, Program}
 use Rattle.pv_model.specs.Syntax.Expr.{number, item, minus, negation, two}
@@ -266,19 +267,19 @@ module _ (item_of other_of : List ℕ → Option ℕ) where
     agree_next (next d ts r p q) (next d2 ts2 r2 p2 q2) h h2 a = λ same. (refl, agree_program q q2 h h2 a)
 
 abbrev shallow : List Placed → Bool
-shallow placed = list_all (λ t. nat_le t.0 32) placed
+shallow placed = list_all (λ t. nat_le t.0 MAX_DEPTH) placed
 
 -- A nesting that agrees with a shallow one is shallow.
 not_deep : (before placed : List Placed) (n : ℕ) (t : Token) (after : List Placed) (behind : List Token) → Agree placed (before ++ (n, t) ∷ after)
-    → without_nestings placed ≡ without_nestings before ++ t ∷ behind → IsTrue (shallow placed) → 32 < n → ⊥
+    → without_nestings placed ≡ without_nestings before ++ t ∷ behind → IsTrue (shallow placed) → MAX_DEPTH < n → ⊥
 not_deep [] [] n t after behind a e h deep = absurd cc
 not_deep (x ∷ before) [] n t after behind a e h deep = absurd cc
 not_deep [] (y ∷ placed) n t after behind a e h deep =
     let same : y.0 ≡ n = (a (heads e)).0 in
-    let low : y.0 ≤ 32 = leb-true y.0 32 (and-left (nat_le y.0 32) (shallow placed) h) in
+    let low : y.0 ≤ MAX_DEPTH = leb-true y.0 MAX_DEPTH (and-left (nat_le y.0 MAX_DEPTH) (shallow placed) h) in
     omega (arith, same, low, deep)
 not_deep (x ∷ before) (y ∷ placed) n t after behind a e h deep =
-    not_deep before placed n t after behind (a (heads e)).1 (tails e) (and-right (nat_le y.0 32) (shallow placed) h) deep
+    not_deep before placed n t after behind (a (heads e)).1 (tails e) (and-right (nat_le y.0 MAX_DEPTH) (shallow placed) h) deep
 
 -- ---- and so a program text has none of the causes
 

@@ -1,21 +1,24 @@
 -- What a program leaves alone, what stands behind a `return`, and that the order of the rows doesn't matter.
 use Rattle.std.proofs.Common.{◌≡◌, ℕ, ℤ, pos, Bool, true, false, ◌||◌, cond, List, [], ◌∷◌, Result, Ok, Err, refl, sym, ap, ◌∙◌, subst, inl, inr}
-use Rattle.std.specs.Prelude.{◌==◌, neg_ℤ, not}
+use Rattle.std.specs.Prelude.{◌==◌}
 use Rattle.std.proofs.Math.Bool.{or-true}
 use Rattle.std.proofs.lemmas.Bool.{eqb-true, eq-eqb, cases_Bool}
-use Rattle.pv_model.specs.Syntax.{Expr, number, item, minus, negation, two, Program, end, assign, require, return, when, when_else}
+use Rattle.pv_model.specs.Syntax.{Program, end, assign, require, return, when, when_else}
 use Rattle.pv_model.specs.Items.{lacks}
-use Rattle.pv_model.specs.Meaning.{Row, items_of_rows, Decline, unmet, value, declined, value_in, with_row, within, holds, truth, with_value, with_left, value_of, Course, ended, returned, refused, then_with, then_run, course_of, effect_of, exec}
-use Rattle.pv_model.specs.ProgramLaws.{assigns, followed, HaveSameValues}
+use Rattle.pv_base.specs.declared.reply.Decline.{Decline}
+use Rattle.pv_base.specs.declared.reply.Decline.TheVariants.{Require}
+use Rattle.pv_base.specs.declared.reply.Reply.TheVariants.{Value, Declined}
+use Rattle.pv_model.specs.Meaning.{Row, items_of_rows, value_in, with_row, holds, value_of, Course, ended, returned, refused, then_with, then_run, course_of, effect_of, exec}
+use Rattle.pv_model.specs.ProgramLaws.{assigns, followed}
 
 -- ---- a decline
 
-effect_of-declined : (rows : List Row) (o : Course) (d : Decline) → (effect_of rows o).reply ≡ declined d → (effect_of rows o).rows ≡ rows
+effect_of-declined : (rows : List Row) (o : Course) (d : Decline) → (effect_of rows o).reply ≡ Declined d → (effect_of rows o).rows ≡ rows
 effect_of-declined rows (ended now) d is = absurd cc
 effect_of-declined rows (returned v now) d is = absurd cc
 effect_of-declined rows (refused e) d is = refl
 
-pub decline_leaves_rows : (program : Program) (rows : List Row) (d : Decline) → (exec program rows).reply ≡ declined d → (exec program rows).rows ≡ rows
+pub decline_leaves_rows : (program : Program) (rows : List Row) (d : Decline) → (exec program rows).reply ≡ Declined d → (exec program rows).rows ≡ rows
 unfolding exec
 decline_leaves_rows program rows d is = effect_of-declined rows (course_of program rows) d is
 
@@ -48,7 +51,7 @@ run-keeps P (assign n e next) each rows p =
     on-then_with P (value_of e rows) _ (λ v. run-keeps P next (λ m is. each m (ap (λ (b : Bool). (n == m) || b) is ∙ or-true (n == m)))
     (with_row rows n v) (each n (ap (λ (b : Bool). b || assigns next n) (eq-eqb n n refl)) rows v p))
 run-keeps P (require e next) each rows p =
-    on-then_with P (value_of e rows) _ (λ v. on-cond P (holds v) _ (refused unmet) (run-keeps P next each rows p) tt)
+    on-then_with P (value_of e rows) _ (λ v. on-cond P (holds v) _ (refused Require) (run-keeps P next each rows p) tt)
 run-keeps P (return e next) each rows p = on-then_with P (value_of e rows) _ (λ v. p)
 run-keeps P (when e body next) each rows p =
     let of_body = λ (m : ℕ) (is : assigns body m ≡ true). each m (ap (λ (b : Bool). b || assigns next m) is) in
@@ -156,22 +159,22 @@ run-followed (assign n e next) behind rows =
     (λ i. then_with (value_of e rows) (λ (v : ℤ). run-followed next behind (with_row rows n v) i))
     ∙ then_with-then_run (value_of e rows) (λ (v : ℤ). course_of next (with_row rows n v)) (course_of behind)
 run-followed (require e next) behind rows =
-    (λ i. then_with (value_of e rows) (λ (v : ℤ). (ap (λ (o : Course). cond (holds v) o (refused unmet)) (run-followed next behind rows)
-    ∙ cond-then_run (holds v) (course_of next rows) (refused unmet) (course_of behind)) i))
-    ∙ then_with-then_run (value_of e rows) (λ (v : ℤ). cond (holds v) (course_of next rows) (refused unmet)) (course_of behind)
+    (λ i. then_with (value_of e rows) (λ (v : ℤ). (ap (λ (o : Course). cond (holds v) o (refused Require)) (run-followed next behind rows)
+    ∙ cond-then_run (holds v) (course_of next rows) (refused Require) (course_of behind)) i))
+    ∙ then_with-then_run (value_of e rows) (λ (v : ℤ). cond (holds v) (course_of next rows) (refused Require)) (course_of behind)
 run-followed (return e next) behind rows = then_with-then_run (value_of e rows) (λ (v : ℤ). returned v rows) (course_of behind)
 run-followed (when e body next) behind rows =
     chosen-followed (value_of e rows) (course_of body rows) (ended rows) (course_of next) (course_of behind) (course_of (followed next behind)) (λ now. run-followed next behind now)
 run-followed (when_else e body other next) behind rows =
     chosen-followed (value_of e rows) (course_of body rows) (course_of other rows) (course_of next) (course_of behind) (course_of (followed next behind)) (λ now. run-followed next behind now)
 
-effect_of-returned : (rows : List Row) (o : Course) (on : List Row → Course) (v : ℤ) → (effect_of rows o).reply ≡ value v
+effect_of-returned : (rows : List Row) (o : Course) (on : List Row → Course) (v : ℤ) → (effect_of rows o).reply ≡ Value v
     → effect_of rows (then_run o on) ≡ effect_of rows o
 effect_of-returned rows (ended now) on v is = absurd cc
 effect_of-returned rows (returned w now) on v is = refl
 effect_of-returned rows (refused d) on v is = absurd cc
 
-pub return_is_last : (program behind : Program) (rows : List Row) (v : ℤ) → (exec program rows).reply ≡ value v
+pub return_is_last : (program behind : Program) (rows : List Row) (v : ℤ) → (exec program rows).reply ≡ Value v
     → exec (followed program behind) rows ≡ exec program rows
 unfolding exec
 return_is_last program behind rows v is =

@@ -3,7 +3,7 @@ use Rattle.std.proofs.Common.{◌≡◌, ℕ, zero, suc, ◌+◌, ◌≤◌, Boo
 use Rattle.std.specs.Prelude.{IsTrue, not, nat_le}
 use Rattle.std.proofs.lemmas.Bool.{leb-true, leb-false}
 use Rattle.std.proofs.lemmas.Option.{none-some}
-use Rattle.pv_model.specs.Text.{is_blank}
+use Rattle.pv_base.specs.Name.{is_blank}
 use Rattle.pv_model.specs.Tokens.{Token, stray, token_of, BeginsWithToken, BeginsWithNone, AreTokens, at_end, at_blank, at_token, at_stray, HasTokens}
 use Rattle.pv_law_programs.proofs.FaultLemmas.{token_is_long}
 

@@ -4,8 +4,8 @@ use Rattle.std.specs.Prelude.{IsTrue, not, ◌==◌, cond, nat_le, ◌⊎◌}
 use Rattle.std.proofs.Math.Bool.{and-false}
 use Rattle.std.proofs.lemmas.Bool.{eqb-true}
 use Rattle.std.proofs.lemmas.Option.{none-some}
-use Rattle.pv_base.specs.Name.{is_spelled_as_name}
-use Rattle.pv_model.specs.Text.{is_blank}
+use Rattle.pv_base.specs.declared.limits.TheConstants.{MAX_NAME}
+use Rattle.pv_base.specs.Name.{is_blank, is_spelled_as_name}
 use Rattle.pv_model.specs.Tokens.{Token, stray, words_and_symbols, is_digits, token_of, BeginsWithToken, AreTokens, at_end, at_blank, at_token, at_stray}
 use Rattle.pv_base.proofs.Basics.{never, Some_inj}
 
@@ -15,11 +15,11 @@ empty_is_no_token = refl
 
 space_is_no_token : (bs : List ℕ) → token_of (32 ∷ bs) ≡ None
 unfolding token_of words_and_symbols is_spelled_as_name is_digits
-space_is_no_token bs = ap (λ (b : Bool). cond b (Some (Token.name (32 ∷ bs))) None) (and-false (nat_le (length (32 ∷ bs)) 16))
+space_is_no_token bs = ap (λ (b : Bool). cond b (Some (Token.name (32 ∷ bs))) None) (and-false (nat_le (length (32 ∷ bs)) MAX_NAME))
 
 tab_is_no_token : (bs : List ℕ) → token_of (9 ∷ bs) ≡ None
 unfolding token_of words_and_symbols is_spelled_as_name is_digits
-tab_is_no_token bs = ap (λ (b : Bool). cond b (Some (Token.name (9 ∷ bs))) None) (and-false (nat_le (length (9 ∷ bs)) 16))
+tab_is_no_token bs = ap (λ (b : Bool). cond b (Some (Token.name (9 ∷ bs))) None) (and-false (nat_le (length (9 ∷ bs)) MAX_NAME))
 
 blank_cases : (b : ℕ) → IsTrue (is_blank b) → (b ≡ 32) ⊎ (b ≡ 9)
 blank_cases b h = go (b == 32) refl

@@ -1,13 +1,15 @@
 // Laws on what a program does to rows, and what it leaves alone.
 ghost use Rattle.std.specs.Prelude.{◌≡◌, ℕ, ℤ, Bool, false, List, IsTrue};
 ghost use Rattle.pv_model.specs.Check.{names};
-ghost use Rattle.pv_model.specs.Meaning.{Row, Decline, value, declined, value_in, items_of_rows, exec};
+ghost use Rattle.pv_base.specs.declared.reply.Decline.{Decline};
+ghost use Rattle.pv_base.specs.declared.reply.Reply.TheVariants.{Value, Declined};
+ghost use Rattle.pv_model.specs.Meaning.{Row, value_in, items_of_rows, exec};
 ghost use Rattle.pv_model.specs.ProgramLaws.{assigns, followed, HaveSameValues, HaveSameValuesOf};
 ghost use Rattle.pv_model.specs.Syntax.{Program};
 
 /// A program that declines leaves every row as it was.
 pub fn decline_leaves_rows()
-    ensures { (program : Program) (rows : List Row) (decline : Decline) → (exec program rows).reply ≡ declined decline →
+    ensures { (program : Program) (rows : List Row) (decline : Decline) → (exec program rows).reply ≡ Declined decline →
         (exec program rows).rows ≡ rows }
 {}
 
@@ -24,7 +26,7 @@ pub fn unassigned_keeps_value()
 
 /// What stands after a `return` that is reached has no effect.
 pub fn return_is_last()
-    ensures { (program after : Program) (rows : List Row) (returned : ℤ) → (exec program rows).reply ≡ value returned →
+    ensures { (program after : Program) (rows : List Row) (returned : ℤ) → (exec program rows).reply ≡ Value returned →
         exec (followed program after) rows ≡ exec program rows }
 {}
 

@@ -1,4 +1,4 @@
-//! Laws on programs: their texts, their effects on rows and the items that they name. The functions do nothing: each states a law.
+//! Laws on programs: their texts, their effects on rows, the items that they name and their plans. The functions do nothing: each states a law.
 #![tactic(auto)]
 
 mod effects;
@@ -9,5 +9,5 @@ pub use effects::{
     decline_leaves_rows, items_stay, order_of_rows_is_free, own_rows_alone, return_is_last,
     unassigned_keeps_value,
 };
-pub use items::{one_items, some_items};
-pub use texts::{no_refusal, one_program, one_refusal, some_answer};
+pub use items::{one_items, one_plan, some_items, some_plan};
+pub use texts::{name_is_token, no_refusal, one_program, one_refusal, some_answer};

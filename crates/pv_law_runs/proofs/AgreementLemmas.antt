@@ -8,13 +8,14 @@ use Rattle.std.proofs.lemmas.Grind.{flat_map-append}
 use Rattle.pv_base.specs.Catalog.{Declared}
 use Rattle.pv_base.specs.declared.txn.TxnId.{TxnId}
 use Rattle.pv_model.specs.Events.{Event, submit, pump, report, Schedule}
-use Rattle.pv_model.specs.Meaning.{Row, Reply, exec}
+use Rattle.pv_base.specs.declared.reply.Reply.{Reply}
+use Rattle.pv_model.specs.Meaning.{Row, exec}
 use Rattle.pv_model.specs.Syntax.{Program}
 use Rattle.pv_base.proofs.AssignmentLemmas.{same-refl}
 use Rattle.pv_base.specs.Assignment.{is_same_txn, commits}
-use Rattle.pv_model.specs.Serial.{Ordered, rows_after, serial, serial_reply, txns}
+use Rattle.pv_model.specs.Serial.{Ordered, declared_rows, rows_after, serial, serial_reply, txns}
 use Rattle.pv_model.specs.Print.{Printed, txn, commit, line_text, text_of}
-use Rattle.pv_model.specs.Run.{OneSite, opening, declared_rows, txn_of, after_commit, after, lines_of, report_lines, run, output_of, order_from, order_of, output_before, Agrees, RepliesAgree}
+use Rattle.pv_model.specs.Run.{OneSite, opening, txn_of, after_commit, after, lines_of, report_lines, run, output_of, order_from, order_of, output_before, Agrees, RepliesAgree}
 
 -- the world after events
 abbrev pub world_after : OneSite → List Event → OneSite

@@ -3,6 +3,7 @@ use Rattle.std.proofs.Common.{◌≡◌, ◌⊎◌, ⊎_elim, ℕ, suc, ◌<◌,
 use Rattle.std.specs.Prelude.{codes}
 use Rattle.std.specs.List.{list_all, Contains}
 use Rattle.std.proofs.lemmas.Bool.{false≢true}
+use Rattle.pv_base.specs.declared.limits.TheConstants.{MAX_LINE, MAX_PROGRAM_ITEMS}
 use Rattle.pv_base.specs.Catalog.{place_of}
 use Rattle.pv_base.specs.Name.{is_name}
 use Rattle.pv_model.specs.Causes as causes
@@ -31,7 +32,7 @@ told-as to from (inl p) = inl (to p)
 told-as to from (inr isnt) = inr (λ q. isnt (from q))
 
 told-cause : (before : Before) (line : TextLine) (c : LineCause) → says_more (line_cause_rank c) ≡ false → Told (HasLineCause before line c)
-told-cause before line causes.too_long e = told-less 1000 (length line)
+told-cause before line causes.too_long e = told-less MAX_LINE (length line)
 told-cause before line causes.not_text e = told-bool (list_all is_text_byte line) false
 told-cause before line causes.sites_expected e = told-and (told-nothing before.sites) (told-not (begins (codes "sites") line))
 told-cause before line causes.unknown_word e = told-empty (forms_of (first_word line))
@@ -79,7 +80,7 @@ AtMany before line = (p : Program) × causes.HasProgram before line p × NamesMa
 
 no-many-at : (before : Before) (line : TextLine) → (AtMany before line → ⊥) → (c : LineCause) → HasLineCause before line c → line_cause_rank c ≡ 14 → ⊥
 no-many-at before line none (causes.too_many_names n) has e =
-    none (has.0, has.1, (has.2, has.3, subst (λ (m : ℕ). 16 < m) has.4 has.5))
+    none (has.0, has.1, (has.2, has.3, subst (λ (m : ℕ). MAX_PROGRAM_ITEMS < m) has.4 has.5))
 no-many-at before line none c has e = omega (arith, e)
 
 many-at : (before : Before) (line : TextLine) → Told (HasAt before line 14)

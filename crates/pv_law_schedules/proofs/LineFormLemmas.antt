@@ -5,6 +5,7 @@ use Rattle.std.specs.List.{list_all, Contains}
 use Rattle.std.specs.Cmp.Derive.{both_true}
 use Rattle.std.specs.Str.{bytes_eq}
 use Rattle.std.proofs.lemmas.Bool.{false≢true, le-leb, lt-ltb}
+use Rattle.pv_base.specs.declared.limits.TheConstants.{MAX_ITEMS, MAX_PROGRAM_ITEMS}
 use Rattle.pv_base.specs.Catalog.{place_of}
 use Rattle.pv_base.specs.Name.{is_digit, is_name}
 use Rattle.pv_model.specs.Causes as causes
@@ -35,7 +36,7 @@ pub record Runs (p : Program) (word : List ℕ) : Type 0 where
   pub items : List ℕ
   pub are : AreItems p items
   pub some : 0 < length items
-  pub few : length items ≤ 16
+  pub few : length items ≤ MAX_PROGRAM_ITEMS
   pub answers : word ≡ codes "query" → (has_assignment p ≡ false) × (has_return p ≡ true)
 
 -- What stands in a field of a line with this first word may stand there.
@@ -57,7 +58,7 @@ pub record Fits (before : Before) (line : TextLine) : Type 0 where
   pub known : forms_of (first_word line) ≡ [] → ⊥
   pub formed : form_of line ≡ Some form
   pub each : Each (Suits before (first_word line)) (fields_of line)
-  pub room : first_word line ≡ codes "item" → length before.items < 1024
+  pub room : first_word line ≡ codes "item" → length before.items < MAX_ITEMS
 
 -- numbers that suit
 

@@ -5,6 +5,7 @@ use Rattle.std.specs.List.{Contains}
 use Rattle.std.specs.Cmp.Derive.{both_true}
 use Rattle.std.specs.Str.{bytes_eq}
 use Rattle.std.proofs.lemmas.Bool.{false≢true}
+use Rattle.pv_base.specs.declared.limits.TheConstants.{MAX_CALL, MAX_JOURNAL, MAX_PUMP, MAX_SITES, MIN_JOURNAL}
 use Rattle.pv_base.specs.declared.mode.Mode.{Mode}
 use Rattle.pv_base.specs.declared.mode.Mode.TheVariants.{Lost, Kept, Torn}
 use Rattle.pv_model.specs.Causes.{Before, or_default, LineCause, HasLineCause, mode_words}
@@ -46,11 +47,11 @@ fits-alone : (before : Before) (line : TextLine) (n : ℕ) (word : List ℕ) →
 fits-alone before line n word text said isnt plain found is = fits-plain before line n word [] [] text said isnt plain found is tt
 
 fits-arm : (before : Before) (line : TextLine) (n : ℕ) (word : List ℕ) (m call : ℕ) (mode : Mode) → IsText line → before.sites ≡ Some n
-    → is_declaring word ≡ false → takes_program word ≡ false → look word 3 ≡ Some (fields.site ∷ fields.number 1 1000 ∷ fields.mode ∷ [])
+    → is_declaring word ≡ false → takes_program word ≡ false → look word 3 ≡ Some (fields.site ∷ fields.number 1 MAX_CALL ∷ fields.mode ∷ [])
     → IsArm before word m call mode line → Fits before line
 fits-arm before line n word m call mode text said isnt plain found is =
-    fits-plain before line n word (fields.site ∷ fields.number 1 1000 ∷ fields.mode ∷ []) (is.0 ∷ is.1 ∷ is.2 ∷ []) text said isnt plain found is.3
-    (good-site before is.0 m is.4, (good-in (or_default 0 before.sites) 1 1000 is.1 call is.5, (mode-contained is.2 mode is.6, tt)))
+    fits-plain before line n word (fields.site ∷ fields.number 1 MAX_CALL ∷ fields.mode ∷ []) (is.0 ∷ is.1 ∷ is.2 ∷ []) text said isnt plain found is.3
+    (good-site before is.0 m is.4, (good-in (or_default 0 before.sites) 1 MAX_CALL is.1 call is.5, (mode-contained is.2 mode is.6, tt)))
 
 request-query : (query : Bool) → request_word query ≡ codes "query" → query ≡ true
 request-query true is = refl
@@ -70,7 +71,7 @@ event-fits before line (events.submit m false text p) is = fits-request before l
 event-fits before line (events.deliver m) is = fits-number before line is.sites (codes "deliver") 0 (2 ^ 64 - 1) m is.text is.said refl refl refl is.says
 event-fits before line (events.lose m) is = fits-number before line is.sites (codes "lose") 0 (2 ^ 64 - 1) m is.text is.said refl refl refl is.says
 event-fits before line (events.pump None) is = fits-alone before line is.sites (codes "pump") is.text is.said refl refl refl is.says
-event-fits before line (events.pump (Some m)) is = fits-number before line is.sites (codes "pump") 1 1000000 m is.text is.said refl refl refl is.says
+event-fits before line (events.pump (Some m)) is = fits-number before line is.sites (codes "pump") 1 MAX_PUMP m is.text is.said refl refl refl is.says
 event-fits before line (events.drop m) is = fits-site before line is.sites (codes "drop") m is.text is.said refl refl refl is.says
 event-fits before line (events.tick m) is = fits-site before line is.sites (codes "tick") m is.text is.said refl refl refl is.says
 event-fits before line (events.stop m) is = fits-site before line is.sites (codes "stop") m is.text is.said refl refl refl is.says
@@ -97,16 +98,16 @@ fits-sites before after line is =
     let word = codes "sites" in
     let first : first_word line ≡ word = ap first_of is.is.1 in
     let given : arguments line ≡ is.is.0 ∷ [] = arguments-plain line word (is.is.0 ∷ []) refl is.is.1 in
-    let form : form_of line ≡ Some (fields.number 1 16 ∷ []) = form-at line word (is.is.0 ∷ []) (Some (fields.number 1 16 ∷ [])) first given refl in
+    let form : form_of line ≡ Some (fields.number 1 MAX_SITES ∷ []) = form-at line word (is.is.0 ∷ []) (Some (fields.number 1 MAX_SITES ∷ [])) first given refl in
     record {
       text = is.text;
       said = λ none. first;
       once = ⊎_elim (λ c. c.1 is.first) (λ c. word-differs line word (codes "journal") refl refl first c.0);
       early = λ c. ⊎_elim (word-differs line word (codes "journal") refl refl first) (word-differs line word (codes "item") refl refl first) c.0;
-      form = fields.number 1 16 ∷ [];
-      known = look-known-line line word 1 (fields.number 1 16 ∷ []) first refl;
+      form = fields.number 1 MAX_SITES ∷ [];
+      known = look-known-line line word 1 (fields.number 1 MAX_SITES ∷ []) first refl;
       formed = form;
-      each = rw form (rw first (rw given (good-in (or_default 0 before.sites) 1 16 is.is.0 is.count is.is.2, tt)));
+      each = rw form (rw first (rw given (good-in (or_default 0 before.sites) 1 MAX_SITES is.is.0 is.count is.is.2, tt)));
       room = λ item. absurd (word-differs line word (codes "item") refl refl first item);
     }
 
@@ -116,16 +117,16 @@ fits-journal before after line is =
     let word = codes "journal" in
     let first : first_word line ≡ word = ap first_of is.is.1 in
     let given : arguments line ≡ is.is.0 ∷ [] = arguments-plain line word (is.is.0 ∷ []) refl is.is.1 in
-    let form : form_of line ≡ Some (fields.number 32 (2 ^ 32) ∷ []) = form-at line word (is.is.0 ∷ []) (Some (fields.number 32 (2 ^ 32) ∷ [])) first given refl in
+    let form : form_of line ≡ Some (fields.number MIN_JOURNAL MAX_JOURNAL ∷ []) = form-at line word (is.is.0 ∷ []) (Some (fields.number MIN_JOURNAL MAX_JOURNAL ∷ [])) first given refl in
     record {
       text = is.text;
       said = λ none. absurd (none-some-sites before.sites is.sites is.said none);
       once = ⊎_elim (λ c. word-differs line word (codes "sites") refl refl first c.0) (λ c. c.1 is.once);
       early = λ c. false≢true (sym is.early ∙ c.1);
-      form = fields.number 32 (2 ^ 32) ∷ [];
-      known = look-known-line line word 1 (fields.number 32 (2 ^ 32) ∷ []) first refl;
+      form = fields.number MIN_JOURNAL MAX_JOURNAL ∷ [];
+      known = look-known-line line word 1 (fields.number MIN_JOURNAL MAX_JOURNAL ∷ []) first refl;
       formed = form;
-      each = rw form (rw first (rw given (good-in (or_default 0 before.sites) 32 (2 ^ 32) is.is.0 is.limit is.is.2, tt)));
+      each = rw form (rw first (rw given (good-in (or_default 0 before.sites) MIN_JOURNAL MAX_JOURNAL is.is.0 is.limit is.is.2, tt)));
       room = λ item. absurd (word-differs line word (codes "item") refl refl first item);
     }
 

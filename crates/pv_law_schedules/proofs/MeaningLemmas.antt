@@ -3,6 +3,7 @@ use Rattle.std.proofs.Common.{◌≡◌, ⊎_elim, ℕ, ◌<◌, true, false, So
 use Rattle.std.specs.Prelude.{◌==◌, ◌&&◌, nat_le, nat_lt, cond, codes}
 use Rattle.std.specs.List.{list_all, Contains}
 use Rattle.std.proofs.lemmas.Bool.{false≢true, leb-true, ltb-true}
+use Rattle.pv_base.specs.declared.limits.TheConstants.{MAX_CALL}
 use Rattle.pv_base.specs.Name.{is_digit}
 use Rattle.pv_base.specs.declared.mode.Mode.{Mode}
 use Rattle.pv_base.specs.declared.mode.Mode.TheVariants.{Lost, Kept, Torn}
@@ -145,10 +146,10 @@ alone before line word plain first is =
 abbrev pub SomeArm : Before → List ℕ → TextLine → Type 0
 SomeArm before word line = (site call : ℕ) × (mode : Mode) × IsArm before word site call mode line
 
-pub some-arm : (before : Before) (line : TextLine) (word : List ℕ) → IsPlain word → first_word line ≡ word → Reads before line word (fields.site ∷ fields.number 1 1000 ∷ fields.mode ∷ []) 3 → SomeArm before word line
+pub some-arm : (before : Before) (line : TextLine) (word : List ℕ) → IsPlain word → first_word line ≡ word → Reads before line word (fields.site ∷ fields.number 1 MAX_CALL ∷ fields.mode ∷ []) 3 → SomeArm before word line
 some-arm before line word plain first is =
     let three = list-three is.given is.many in
     let said : words line ≡ word ∷ three.0 ∷ three.1 ∷ three.2 ∷ [] = split-words line word plain.some plain.plain first ∙ ap (λ (ws : List (List ℕ)). word ∷ ws) (is.args ∙ three.3) in
     let suit = rw (three.3) at is.suit in
     let mode = mode-good three.2 suit.1.1.0 in
-    (number_of_digits three.0, number_of_digits three.1, mode.0, (three.0, three.1, three.2, said, site-good before three.0 suit.0, in-good (or_default 0 before.sites) 1 1000 three.1 suit.1.0, mode.1))
+    (number_of_digits three.0, number_of_digits three.1, mode.0, (three.0, three.1, three.2, said, site-good before three.0 suit.0, in-good (or_default 0 before.sites) 1 MAX_CALL three.1 suit.1.0, mode.1))

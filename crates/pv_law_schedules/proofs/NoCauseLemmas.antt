@@ -6,8 +6,9 @@ use Rattle.std.specs.Cmp.Derive.{both_true}
 use Rattle.std.specs.Str.{bytes_eq}
 use Rattle.std.proofs.lemmas.Bool.{false≢true, eqb-true}
 use Rattle.std.proofs.lemmas.Slice.Eq.{bytes_eq-Decides}
+use Rattle.pv_base.specs.declared.limits.TheConstants.{MAX_ITEMS, MAX_LINE, MAX_PROGRAM_ITEMS}
 use Rattle.pv_base.specs.Catalog.{place_of}
-use Rattle.pv_base.specs.Name.{is_name}
+use Rattle.pv_base.specs.Name.{is_blank, is_name}
 use Rattle.pv_model.specs.Causes as causes
 use Rattle.pv_model.specs.Causes.{Before, or_default, declared_by, LineCause, HasLineCause, Has, HasProgram, mode_words}
 use Rattle.pv_model.specs.Check.{AreItems, has_assignment, has_return}
@@ -15,7 +16,7 @@ use Rattle.pv_model.specs.LineForms as fields
 use Rattle.pv_model.specs.LineForms.{Field, line_forms, first_word, forms_of, takes_program, after_blanks, after_word, before_blanks, program_text, site_and_text, rest_of, arguments, form_of, fields_of, fields_in, beside, has_good_number}
 use Rattle.pv_model.specs.ProgramText.{Refusal, too_large, at_fault, IsRefused, IsProgramText}
 use Rattle.pv_model.specs.Syntax.{Program}
-use Rattle.pv_model.specs.Text.{TextLine, words, is_blank, is_text_byte, IsText}
+use Rattle.pv_model.specs.Text.{TextLine, words, is_text_byte, IsText}
 use Rattle.pv_base.proofs.Basics.{and-left, and-right}
 use Rattle.pv_base.proofs.ContainsLemmas.{Contains-first, Contains-behind, Contains-nil}
 use Rattle.pv_law_programs.proofs.ItemLemmas.{some_items}
@@ -230,15 +231,15 @@ free-good before line free x c =
 
 free-text : (before : Before) (line : TextLine) → Free before line → IsText line
 free-text before line free = record {
-  short = short (told-less 1000 (length line));
+  short = short (told-less MAX_LINE (length line));
   bytes = isnt-false (list_all is_text_byte line) (free causes.not_text);
 }
   where
-    short : Told (1000 < length line) → length line ≤ 1000
+    short : Told (MAX_LINE < length line) → length line ≤ MAX_LINE
     short (inl long) = absurd (free causes.too_long long)
     short (inr isnt) = by (length line) isnt
       where
-        by : (n : ℕ) → (1000 < n → ⊥) → n ≤ 1000
+        by : (n : ℕ) → (MAX_LINE < n → ⊥) → n ≤ MAX_LINE
         by n isnt = omega (arith, isnt)
 
 free-form : (before : Before) (line : TextLine) → Free before line → (form : List Field) × (form_of line ≡ Some form)
@@ -276,7 +277,7 @@ free-runs before line free p has =
     more [] are = absurd (free causes.names_no_item (p, has, names-none p are))
     more (n ∷ items) are = omega arith
 
-    by : (n : ℕ) → (16 < n → ⊥) → n ≤ 16
+    by : (n : ℕ) → (MAX_PROGRAM_ITEMS < n → ⊥) → n ≤ MAX_PROGRAM_ITEMS
     by n isnt = omega (arith, isnt)
 
 free-suits : (before : Before) (line : TextLine) → Free before line → (x : Field × List ℕ) → Contains (fields_of line) x → Suits before (first_word line) x
@@ -305,5 +306,5 @@ free-fits before line free =
       room = λ item. by (length before.items) (λ many. free causes.too_many_items (item, many));
     }
   where
-    by : (n : ℕ) → (1024 ≤ n → ⊥) → n < 1024
+    by : (n : ℕ) → (MAX_ITEMS ≤ n → ⊥) → n < MAX_ITEMS
     by n isnt = omega (arith, isnt)

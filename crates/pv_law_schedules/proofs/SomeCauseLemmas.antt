@@ -5,6 +5,7 @@ use Rattle.std.specs.List.{Contains}
 use Rattle.std.specs.Str.{bytes_eq}
 use Rattle.std.proofs.lemmas.Bool.{false≢true, leb-true, leb-false}
 use Rattle.std.proofs.lemmas.Slice.Eq.{bytes_eq-Decides}
+use Rattle.pv_base.specs.declared.limits.TheConstants.{MAX_PROGRAM_ITEMS}
 use Rattle.pv_model.specs.Causes as causes
 use Rattle.pv_model.specs.Causes.{Before, or_default, declared_by, BeginsWith, IsSaid, LineCause, line_cause_rank, HasLineCause, HasProgram, Has, IsFirstCause, mode_words}
 use Rattle.pv_model.specs.Check.{names, AreItems}
@@ -210,11 +211,11 @@ told-no_items p [] are = inl (names-none p are)
 told-no_items p (n ∷ items) are = inr (λ none. first-item p (n ∷ items) are (omega arith) none)
 
 abbrev pub NamesMany : Program → Type 0
-NamesMany p = (items : List ℕ) × AreItems p items × (16 < length items)
+NamesMany p = (items : List ℕ) × AreItems p items × (MAX_PROGRAM_ITEMS < length items)
 
 pub told-many : (p : Program) → Told (NamesMany p)
 told-many p =
     let some = some_items p in
     ⊎_elim (λ l. inl (some.0, some.1, l))
-    (λ no_l. inr (λ h. no_l (subst (λ (xs : List ℕ). 16 < length xs) (one_items p h.0 some.0 h.1 some.1) h.2)))
-    (told-less 16 (length some.0))
+    (λ no_l. inr (λ h. no_l (subst (λ (xs : List ℕ). MAX_PROGRAM_ITEMS < length xs) (one_items p h.0 some.0 h.1 some.1) h.2)))
+    (told-less MAX_PROGRAM_ITEMS (length some.0))

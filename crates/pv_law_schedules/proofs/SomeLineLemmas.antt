@@ -5,6 +5,7 @@ use Rattle.std.specs.List.{Contains}
 use Rattle.std.specs.Str.{bytes_eq}
 use Rattle.std.proofs.lemmas.Bool.{false≢true, eqb-true}
 use Rattle.std.proofs.lemmas.Slice.Eq.{bytes_eq-Decides}
+use Rattle.pv_base.specs.declared.limits.TheConstants.{MAX_CALL, MAX_JOURNAL, MAX_PUMP, MAX_SITES, MIN_JOURNAL}
 use Rattle.pv_base.specs.Catalog.{Item}
 use Rattle.pv_model.specs.Causes.{Before, or_default, LineCause, IsFirstCause}
 use Rattle.pv_model.specs.Events as events
@@ -113,24 +114,24 @@ total-line before line = means-alone before line (codes "total") events.total (r
 cut-line : (before : Before) (line : TextLine) → Handles before line (codes "cut")
 unfolding line_forms takes_program
 cut-line before line fits first =
-    let is = some-arm before line (codes "cut") (record { some = some-word _ _; plain = refl }) first (reads-only before line (codes "cut") (fields.site ∷ fields.number 1 1000 ∷ fields.mode ∷ []) 3 fits first (λ n. refl)) in
+    let is = some-arm before line (codes "cut") (record { some = some-word _ _; plain = refl }) first (reads-only before line (codes "cut") (fields.site ∷ fields.number 1 MAX_CALL ∷ fields.mode ∷ []) 3 fits first (λ n. refl)) in
     an-event before line (codes "cut") fits first refl (events.arm is.0 is.1 is.2 true) is.3
 
 fail-line : (before : Before) (line : TextLine) → Handles before line (codes "fail")
 unfolding line_forms takes_program
 fail-line before line fits first =
-    let is = some-arm before line (codes "fail") (record { some = some-word _ _; plain = refl }) first (reads-only before line (codes "fail") (fields.site ∷ fields.number 1 1000 ∷ fields.mode ∷ []) 3 fits first (λ n. refl)) in
+    let is = some-arm before line (codes "fail") (record { some = some-word _ _; plain = refl }) first (reads-only before line (codes "fail") (fields.site ∷ fields.number 1 MAX_CALL ∷ fields.mode ∷ []) 3 fits first (λ n. refl)) in
     an-event before line (codes "fail") fits first refl (events.arm is.0 is.1 is.2 false) is.3
 
 abbrev PumpForm : ℕ → List Field → Type 0
-PumpForm n form = ((0 ≡ n) × ([] ≡ form)) ⊎ ((1 ≡ n) × (fields.number 1 1000000 ∷ [] ≡ form))
+PumpForm n form = ((0 ≡ n) × ([] ≡ form)) ⊎ ((1 ≡ n) × (fields.number 1 MAX_PUMP ∷ [] ≡ form))
 
-pump-form : (n : ℕ) (form : List Field) → cond (0 == n) (Some []) (cond (1 == n) (Some (fields.number 1 1000000 ∷ [])) None) ≡ Some form → PumpForm n form
+pump-form : (n : ℕ) (form : List Field) → cond (0 == n) (Some []) (cond (1 == n) (Some (fields.number 1 MAX_PUMP ∷ [])) None) ≡ Some form → PumpForm n form
 pump-form n form e = go (0 == n) refl e
   where
-    go : (b : Bool) → (0 == n) ≡ b → cond b (Some []) (cond (1 == n) (Some (fields.number 1 1000000 ∷ [])) None) ≡ Some form → PumpForm n form
+    go : (b : Bool) → (0 == n) ≡ b → cond b (Some []) (cond (1 == n) (Some (fields.number 1 MAX_PUMP ∷ [])) None) ≡ Some form → PumpForm n form
     go true same found = inl (eqb-true 0 n same, let is : [] ≡ form = cc in is)
-    go false same found = inr (one-form 1 n (fields.number 1 1000000 ∷ []) form found)
+    go false same found = inr (one-form 1 n (fields.number 1 MAX_PUMP ∷ []) form found)
 
 pump-line : (before : Before) (line : TextLine) → Handles before line (codes "pump")
 unfolding line_forms takes_program
@@ -142,7 +143,7 @@ pump-line before line fits first =
     (λ is. an-event before line (codes "pump") fits first refl (events.pump None)
     (alone before line (codes "pump") plain first (reads before line (codes "pump") [] 0 fits first (fits.formed ∙ ap Some (sym is.1)) is.0)))
     (λ is.
-    let one = one-number before line (codes "pump") 1 1000000 plain first (reads before line (codes "pump") (fields.number 1 1000000 ∷ []) 1 fits first (fits.formed ∙ ap Some (sym is.1)) is.0) in
+    let one = one-number before line (codes "pump") 1 MAX_PUMP plain first (reads before line (codes "pump") (fields.number 1 MAX_PUMP ∷ []) 1 fits first (fits.formed ∙ ap Some (sym is.1)) is.0) in
     an-event before line (codes "pump") fits first refl (events.pump (Some one.0)) one.1)
     (pump-form (length (arguments line)) fits.form at)
 
@@ -189,7 +190,7 @@ none-said (Some n) isnt = absurd (isnt (λ e. let never : ⊥ = cc in never))
 sites-line : (before : Before) (line : TextLine) → Handles before line (codes "sites")
 unfolding line_forms takes_program
 sites-line before line fits first =
-    let is = one-number before line (codes "sites") 1 16 (record { some = some-word _ _; plain = refl }) first (reads-only before line (codes "sites") (fields.number 1 16 ∷ []) 1 fits first (λ n. refl)) in
+    let is = one-number before line (codes "sites") 1 MAX_SITES (record { some = some-word _ _; plain = refl }) first (reads-only before line (codes "sites") (fields.number 1 MAX_SITES ∷ []) 1 fits first (λ n. refl)) in
     inr (
       record before { sites = Some is.0 },
       inl (record {
@@ -204,7 +205,7 @@ sites-line before line fits first =
 journal-line : (before : Before) (line : TextLine) → Handles before line (codes "journal")
 unfolding line_forms takes_program
 journal-line before line fits first =
-    let is = one-number before line (codes "journal") 32 (2 ^ 32) (record { some = some-word _ _; plain = refl }) first (reads-only before line (codes "journal") (fields.number 32 (2 ^ 32) ∷ []) 1 fits first (λ n. refl)) in
+    let is = one-number before line (codes "journal") MIN_JOURNAL MAX_JOURNAL (record { some = some-word _ _; plain = refl }) first (reads-only before line (codes "journal") (fields.number MIN_JOURNAL MAX_JOURNAL ∷ []) 1 fits first (λ n. refl)) in
     let sites = sites-said before line (codes "journal") fits first refl in
     inr (
       record before { journal = Some is.0 },

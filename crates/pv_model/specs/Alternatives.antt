@@ -1,10 +1,11 @@
 -- Programs over polyvalues: a program is computed once for each alternative of what it reads (Montgomery, 1979).
 use Rattle.std.specs.Prelude.{◌≡◌, ℕ, ℤ, pos, List, map, Some}
 use Rattle.std.specs.List.{filter, flat_map}
-use Rattle.std.specs.Option.{option_map, unwrap_or}
+use Rattle.std.specs.Option.{unwrap_or}
 use Rattle.pv_base.specs.declared.txn.TxnId.{TxnId}
 use Rattle.pv_base.specs.Polyvalue.{Case, value_at}
-use Rattle.pv_model.specs.Meaning.{Row, Reply, exec}
+use Rattle.pv_base.specs.declared.reply.Reply.{Reply}
+use Rattle.pv_model.specs.Meaning.{Row, exec}
 use Rattle.pv_model.specs.ProgramLaws.{assigns}
 use Rattle.pv_model.specs.Syntax.{Program}
 
@@ -31,6 +32,6 @@ assigned program rows = filter (λ row. assigns program row.item) rows
 
 -- At every assignment the program, on the values that are read there, leaves the items that it assigns as they are written,
 -- and gives the reply.
-pub record IsSplit {R : Type 0} (reply_of : R → Reply) (program : Program) (reads writes : List Read) (reply : List (Case R)) : Type 0 where
+pub record IsSplit (program : Program) (reads writes : List Read) (reply : List (Case Reply)) : Type 0 where
   pub written : (assignment : List TxnId) → rows_at writes assignment ≡ assigned program (exec program (rows_at reads assignment)).rows
-  pub replied : (assignment : List TxnId) → option_map reply_of (value_at reply assignment) ≡ Some (exec program (rows_at reads assignment)).reply
+  pub replied : (assignment : List TxnId) → value_at reply assignment ≡ Some (exec program (rows_at reads assignment)).reply

@@ -8,9 +8,11 @@ pub mod Grammar
 pub mod Items
 pub mod LineForms
 pub mod Meaning
+pub mod Plan
 pub mod Print
 pub mod ProgramLaws
 pub mod ProgramText
+pub mod Replies
 pub mod Run
 pub mod Schedule
 pub mod Serial

@@ -3,8 +3,8 @@ use Rattle.std.specs.Prelude.{ℕ, ◌^◌, ◌-◌, Bool, true, false, ◌&&◌
 use Rattle.pv_base.specs.declared.limits.TheConstants.{MAX_SITES, MIN_JOURNAL, MAX_JOURNAL, MAX_PUMP, MAX_CALL}
 use Rattle.std.specs.List.{list_all}
 use Rattle.std.specs.Str.{bytes_eq}
-use Rattle.pv_base.specs.Name.{is_digit}
-use Rattle.pv_model.specs.Text.{TextLine, is_blank, number_of_digits, digits_of, number_of_signed, words}
+use Rattle.pv_base.specs.Name.{is_blank, is_digit}
+use Rattle.pv_model.specs.Text.{TextLine, number_of_digits, digits_of, number_of_signed, words}
 use Rattle.pv_model.specs.Meaning.{fits_i64}
 
 -- what may stand after the first word of a line

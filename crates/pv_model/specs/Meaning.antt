@@ -2,6 +2,10 @@
 use Rattle.std.specs.Prelude.{ℕ, ◌^◌, ℤ, pos, nat_lt, ◌+ℤ◌, ◌-ℤ◌, ◌*ℤ◌, neg_ℤ, int_lt, int_le, int_div, int_rem, Bool, not, ◌&&◌, ◌||◌, ◌==◌, List, [], ◌∷◌, map, Result, Ok, Err, if◌then◌else◌}
 use Rattle.std.specs.Ordering.{int_eq}
 use lib.IntN.{negsuc}
+use Rattle.pv_base.specs.declared.reply.Decline.{Decline}
+use Rattle.pv_base.specs.declared.reply.Decline.TheVariants.{Require, Overflow, ZeroDivisor}
+use Rattle.pv_base.specs.declared.reply.Reply.{Reply}
+use Rattle.pv_base.specs.declared.reply.Reply.TheVariants.{Value, Nothing, Declined}
 use Rattle.pv_model.specs.Syntax.{Op, or, and, equal, unequal, less, at_most, greater, at_least, plus, sub, times, over, rest, lesser, larger, Expr, number, item, minus, negation, two, Program, end, assign, require, return, when, when_else}
 
 -- an item and its value
@@ -12,18 +16,6 @@ pub record Row : Type 0 where
 -- the items of rows, in their order
 abbrev pub items_of_rows : List Row → List ℕ
 items_of_rows rows = map (λ row. row.item) rows
-
--- why a program declines
-pub data Decline : Type 0 where
-  unmet : Decline
-  overflow : Decline
-  zero_divisor : Decline
-
--- what a program replies
-pub data Reply : Type 0 where
-  value : ℤ → Reply
-  nothing : Reply
-  declined : Decline → Reply
 
 -- the rows afterwards, and the reply
 pub record Effect : Type 0 where
@@ -47,7 +39,7 @@ fits_i64 (negsuc n) = nat_lt n (2 ^ 63)
 
 -- a result, which declines the program where it is outside 64 bits
 abbrev pub within : ℤ → Result ℤ Decline
-within z = if fits_i64 z then Ok z else Err overflow
+within z = if fits_i64 z then Ok z else Err Overflow
 
 -- Any value but 0 counts as true.
 abbrev pub holds : ℤ → Bool
@@ -59,12 +51,12 @@ truth b = if b then pos 1 else pos 0
 
 -- cut towards zero
 abbrev pub quotient : ℤ → ℤ → Result ℤ Decline
-quotient x y = if int_eq y (pos 0) then Err zero_divisor else within (int_div x y)
+quotient x y = if int_eq y (pos 0) then Err ZeroDivisor else within (int_div x y)
 
 -- with the sign of the dividend; declines where the quotient does
 abbrev pub remainder : ℤ → ℤ → Result ℤ Decline
 remainder x y =
-    if int_eq y (pos 0) then Err zero_divisor else (if fits_i64 (int_div x y) then Ok (int_rem x y) else Err overflow)
+    if int_eq y (pos 0) then Err ZeroDivisor else (if fits_i64 (int_div x y) then Ok (int_rem x y) else Err Overflow)
 
 -- an operator on the values of both sides
 abbrev pub computed : Op → ℤ → ℤ → Result ℤ Decline
@@ -124,7 +116,7 @@ then_run (refused d) go = refused d
 abbrev pub course_of : Program → List Row → Course
 course_of end rows = ended rows
 course_of (assign n e next) rows = then_with (value_of e rows) (λ v. course_of next (with_row rows n v))
-course_of (require e next) rows = then_with (value_of e rows) (λ v. if holds v then course_of next rows else refused unmet)
+course_of (require e next) rows = then_with (value_of e rows) (λ v. if holds v then course_of next rows else refused Require)
 course_of (return e next) rows = then_with (value_of e rows) (λ v. returned v rows)
 course_of (when e body next) rows =
     then_with (value_of e rows) (λ v. then_run (if holds v then course_of body rows else ended rows) (course_of next))
@@ -133,9 +125,9 @@ course_of (when_else e body other next) rows =
 
 -- what is left of a course; the first decline leaves the rows as they were
 abbrev pub effect_of : List Row → Course → Effect
-effect_of before (ended rows) = record { rows = rows; reply = nothing }
-effect_of before (returned v rows) = record { rows = rows; reply = value v }
-effect_of before (refused d) = record { rows = before; reply = declined d }
+effect_of before (ended rows) = record { rows = rows; reply = Nothing }
+effect_of before (returned v rows) = record { rows = rows; reply = Value v }
+effect_of before (refused d) = record { rows = before; reply = Declined d }
 
 -- The program on rows that have each of its items once.
 unfoldable pub exec : Program → List Row → Effect

@@ -3,7 +3,9 @@ use Rattle.std.specs.Prelude.{ℕ, ℤ, List, [], ◌∷◌, ◌++◌, flat_map,
 use Rattle.std.specs.Fmt.{signed_decimal}
 use Rattle.pv_base.specs.Txn.{txn_text}
 use Rattle.pv_base.specs.declared.txn.TxnId.{TxnId}
-use Rattle.pv_model.specs.Meaning.{Reply, value, nothing, declined, unmet, overflow, zero_divisor}
+use Rattle.pv_base.specs.declared.reply.Decline.TheVariants.{Require, Overflow, ZeroDivisor}
+use Rattle.pv_base.specs.declared.reply.Reply.{Reply}
+use Rattle.pv_base.specs.declared.reply.Reply.TheVariants.{Value, Nothing, Declined}
 
 pub data Printed : Type 0 where
   txn : TxnId → Printed
@@ -18,11 +20,11 @@ abbrev pub line_feed : List ℕ
 line_feed = 10 ∷ []
 
 abbrev pub reply_text : Reply → List ℕ
-reply_text (value v) = signed_decimal v
-reply_text nothing = codes "nothing"
-reply_text (declined unmet) = codes "declined-require"
-reply_text (declined overflow) = codes "declined-overflow"
-reply_text (declined zero_divisor) = codes "declined-zero-divisor"
+reply_text (Value v) = signed_decimal v
+reply_text Nothing = codes "nothing"
+reply_text (Declined Require) = codes "declined-require"
+reply_text (Declined Overflow) = codes "declined-overflow"
+reply_text (Declined ZeroDivisor) = codes "declined-zero-divisor"
 
 -- each transaction after a space
 abbrev pub list_text : List TxnId → List ℕ

@@ -3,9 +3,10 @@ use Rattle.std.specs.Prelude.{◌≡◌, ℕ, ◌+◌, Bool, Option, Some, None,
 use Rattle.pv_base.specs.Catalog.{Item, Declared}
 use Rattle.pv_base.specs.declared.txn.TxnId.{TxnId}
 use Rattle.pv_model.specs.Events.{Event, submit, pump, report, Schedule}
-use Rattle.pv_model.specs.Meaning.{Row, Reply, exec}
+use Rattle.pv_base.specs.declared.reply.Reply.{Reply}
+use Rattle.pv_model.specs.Meaning.{Row, exec}
 use Rattle.pv_model.specs.Print.{Printed, txn, commit, order, committed, open_ones, item, end, text_of}
-use Rattle.pv_model.specs.Serial.{Ordered, serial, serial_reply, txns}
+use Rattle.pv_model.specs.Serial.{Ordered, serial, serial_reply, txns, declared_rows}
 use Rattle.pv_model.specs.Syntax.{Program}
 
 -- The state of one site: its transactions in the order in which they committed, each item's value, and the program of the request whose
@@ -14,14 +15,6 @@ pub record OneSite : Type 0 where
   pub order : List TxnId
   pub rows : List Row
   pub waiting : Option Program
-
--- a row for each item, numbered from here on, with its declared value
-abbrev pub rows_from : ℕ → List Item → List Row
-rows_from n [] = []
-rows_from n (declared ∷ items) = record { item = n; value = declared.value } ∷ rows_from (n + 1) items
-
-abbrev pub declared_rows : Declared → List Row
-declared_rows catalog = rows_from 0 catalog.items
 
 -- no transaction yet, and the declared values
 abbrev pub opening : Declared → OneSite

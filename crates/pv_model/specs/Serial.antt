@@ -1,10 +1,21 @@
 -- The serial run: a database of one thread that runs the transactions of an order one after another
 -- (Eswaran, Gray, Lorie, Traiger, 1976).
-use Rattle.std.specs.Prelude.{List, [], ◌∷◌, map, Option, Some, None, if◌then◌else◌}
+use Rattle.std.specs.Prelude.{ℕ, ◌+◌, List, [], ◌∷◌, map, Option, Some, None, if◌then◌else◌}
 use Rattle.pv_base.specs.declared.txn.TxnId.{TxnId}
 use Rattle.pv_base.specs.Assignment.{is_same_txn, commits}
-use Rattle.pv_model.specs.Meaning.{Row, Reply, exec}
+use Rattle.pv_base.specs.Catalog.{Item, Declared}
+use Rattle.pv_base.specs.declared.reply.Reply.{Reply}
+use Rattle.pv_model.specs.Meaning.{Row, exec}
 use Rattle.pv_model.specs.Syntax.{Program}
+
+-- a row for each item, numbered from here on, with its declared value
+abbrev pub rows_from : ℕ → List Item → List Row
+rows_from n [] = []
+rows_from n (declared ∷ items) = record { item = n; value = declared.value } ∷ rows_from (n + 1) items
+
+-- the rows of all items, with their declared values
+abbrev pub declared_rows : Declared → List Row
+declared_rows catalog = rows_from 0 catalog.items
 
 -- a transaction of an order, with its program
 pub record Ordered : Type 0 where

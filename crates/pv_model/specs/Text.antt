@@ -5,7 +5,7 @@ use lib.IntN.{neg_ℤ}
 use Rattle.std.specs.List.{slice_split, list_all, enumerate_from}
 use Rattle.std.specs.Option.{option_map_or}
 use Rattle.std.specs.Str.Lines.{strip_carriage_return}
-use Rattle.pv_base.specs.Name.{is_digit}
+use Rattle.pv_base.specs.Name.{is_blank, is_digit}
 
 -- a line of a text, without its end
 abbrev pub TextLine : Type 0
@@ -20,10 +20,6 @@ parts_that_are_lines (part ∷ next ∷ parts) = part ∷ parts_that_are_lines (
 -- A text is cut into lines at line feeds, and the last line needs none. A carriage return at the end belongs to the line's end.
 unfoldable pub lines : List ℕ → List TextLine
 lines text = map strip_carriage_return (parts_that_are_lines (slice_split (λ b. b == 10) text))
-
--- a space or a tab
-abbrev pub is_blank : ℕ → Bool
-is_blank b = b == 32 || b == 9
 
 -- A line that is empty but for blanks, and one whose first byte after blanks is `#`, are skipped. The others are significant.
 unfoldable pub is_significant : TextLine → Bool

@@ -4,10 +4,10 @@ use Rattle.pv_base.specs.declared.limits.TheConstants.{MAX_NAME}
 use Rattle.std.specs.List.{list_all}
 use Rattle.std.specs.Option.{option_map_or}
 use Rattle.std.specs.Str.{bytes_eq}
-use Rattle.pv_base.specs.Name.{is_digit, is_spelled_as_name}
+use Rattle.pv_base.specs.Name.{is_blank, is_digit, is_spelled_as_name}
 use Rattle.pv_model.specs.Syntax.{Op}
 use Rattle.pv_model.specs.Syntax.Op.{or, and, equal, unequal, less, at_most, greater, at_least, plus, sub, times, over, rest, lesser, larger}
-use Rattle.pv_model.specs.Text.{is_blank, number_of_digits}
+use Rattle.pv_model.specs.Text.{number_of_digits}
 
 -- A token. `reserved` is the word `certain`, and `stray` a byte that begins no token; no program has either.
 pub data Token : Type 0 where

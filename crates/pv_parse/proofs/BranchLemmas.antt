@@ -1,5 +1,6 @@
 -- How `if` and the programs in its braces are put together, and statements are put in a row.
 use Rattle.std.proofs.Common.{◌≡◌, ℕ, suc, ◌+◌, Option, Some, List, [], ◌∷◌, ◌++◌, None, ◌≤◌, length, arith, refl, sym, ap, ◌∙◌, subst}
+use Rattle.pv_base.specs.declared.limits.TheConstants.{MAX_DEPTH}
 use Rattle.pv_ast.specs.declared.expr.Expr.{Expr}
 use Rattle.pv_ast.specs.declared.program.Stmt.{Stmt}
 use Rattle.pv_ast.specs.declared.program.Stmt.TheVariants.{If}
@@ -73,13 +74,13 @@ begins-if source d column before after e = record {
   leads = λ k. ap (λ (n : ℕ). Some (expression d ∷ (d, punctuation opens_body) ∷ (n, program) ∷ (d, punctuation closes_body) ∷ behind_body d k)) (sym (one_more d));
 }
 
-pub if-stops-test : (source : Source) (d column : ℕ) (before mid : Columned) (error : ParseError) → before ≡ (column, Token.asks) ∷ mid → d ≤ 32
+pub if-stops-test : (source : Source) (d column : ℕ) (before mid : Columned) (error : ParseError) → before ≡ (column, Token.asks) ∷ mid → d ≤ MAX_DEPTH
     → Stops source (expression d) mid error → Stops source (d, program) before error
 if-stops-test source d column before mid error e shallow s =
     Stops-through source (d, program) (expression d) (λ k. braced d (behind_body d k)) before mid
     (begins-fault source (d, program) Token.asks column before mid (behind_if d) (begins-if source d column before mid e) shallow) error s
 
-if-test : (source : Source) (d column : ℕ) (before mid now : Columned) (test : model.Expr) → before ≡ (column, Token.asks) ∷ mid → d ≤ 32
+if-test : (source : Source) (d column : ℕ) (before mid now : Columned) (test : model.Expr) → before ≡ (column, Token.asks) ∷ mid → d ≤ MAX_DEPTH
     → ReadsPhrase source (chain disjunction) d mid now test → (k : List Expected) → fault_in source ((d, program) ∷ k) before ≡ fault_in source (braced d (behind_body d k)) now
 if-test source d column before mid now test e shallow p k =
     begins-fault source (d, program) Token.asks column before mid (behind_if d) (begins-if source d column before mid e) shallow k ∙ p.fault (braced d (behind_body d k))
@@ -90,12 +91,12 @@ pub braced-through : (source : Source) (d : ℕ) (before mid : Columned) (e : Ex
     → (error : ParseError) → StopsBraced source d mid error → Stops source e before error
 braced-through source d before mid e behind same error h = λ k. subst (λ (fault : Option (Kind × ℕ)). IsErrorFor fault error) (sym (same k)) (h (behind k))
 
-pub if-stops-body : (source : Source) (d column : ℕ) (before mid now : Columned) (test : model.Expr) (error : ParseError) → before ≡ (column, Token.asks) ∷ mid → d ≤ 32
+pub if-stops-body : (source : Source) (d column : ℕ) (before mid now : Columned) (test : model.Expr) (error : ParseError) → before ≡ (column, Token.asks) ∷ mid → d ≤ MAX_DEPTH
     → ReadsPhrase source (chain disjunction) d mid now test → StopsBraced source d now error → Stops source (d, program) before error
 if-stops-body source d column before mid now test error e shallow p s =
     braced-through source d before now (d, program) (behind_body d) (if-test source d column before mid now test e shallow p) error s
 
-pub if-stops-else : (source : Source) (d column : ℕ) (before mid now after : Columned) (test : model.Expr) (body : model.Program) (error : ParseError) → before ≡ (column, Token.asks) ∷ mid → d ≤ 32
+pub if-stops-else : (source : Source) (d column : ℕ) (before mid now after : Columned) (test : model.Expr) (body : model.Program) (error : ParseError) → before ≡ (column, Token.asks) ∷ mid → d ≤ MAX_DEPTH
     → ReadsPhrase source (chain disjunction) d mid now test → ReadsBody source d now after body → Stops source (d, other) after error → Stops source (d, program) before error
 if-stops-else source d column before mid now after test body error e shallow p b s =
     Stops-through source (d, program) (d, other) (λ k. (d, next) ∷ k) before after
@@ -113,7 +114,7 @@ else-place d before after k q =
     ap (λ (ts : Columned). placed ((d, other) ∷ k) ts) q.split
     ∙ place-on other d q.column Token.otherwise after k (braced d k) (ap (λ (n : ℕ). Some ((d, punctuation opens_body) ∷ (n, program) ∷ (d, punctuation closes_body) ∷ k)) (sym (one_more d)))
 
-pub if-stops-other : (source : Source) (d column : ℕ) (before mid now after last : Columned) (test : model.Expr) (body : model.Program) (error : ParseError) → before ≡ (column, Token.asks) ∷ mid → d ≤ 32
+pub if-stops-other : (source : Source) (d column : ℕ) (before mid now after last : Columned) (test : model.Expr) (body : model.Program) (error : ParseError) → before ≡ (column, Token.asks) ∷ mid → d ≤ MAX_DEPTH
     → ReadsPhrase source (chain disjunction) d mid now test → ReadsBody source d now after body → PassesToken Token.otherwise d after last → StopsBraced source d last error
     → Stops source (d, program) before error
 if-stops-other source d column before mid now after last test body error e shallow p b q s =
@@ -138,7 +139,7 @@ module _ (source : Source) (d : ℕ) where
       (subst (λ ts. ReadsProgram (item_in source.catalog) (d + 1) (placed ((d + 1, program) ∷ (d, punctuation closes_body) ∷ k) b.inside) ts body)
       (b.closed k ∙ ap (λ (ts : List Placed). (d, Token.closes_body) ∷ ts) same) (b.reads ((d, punctuation closes_body) ∷ k)))
 
-pub reads-if : (source : Source) (d column : ℕ) (before mid now after : Columned) (test : Expr) (body : model.Program) → before ≡ (column, Token.asks) ∷ mid → d ≤ 32
+pub reads-if : (source : Source) (d column : ℕ) (before mid now after : Columned) (test : Expr) (body : model.Program) → before ≡ (column, Token.asks) ∷ mid → d ≤ MAX_DEPTH
     → ReadsPhrase source (chain disjunction) d mid now (expr_of test) → ReadsBody source d now after body → Skips source (d, other) after
     → ReadsStmt source d before after (If test body None)
 reads-if source d column before mid now after test body e shallow p b n =
@@ -158,7 +159,7 @@ reads-if source d column before mid now after test body e shallow p b n =
       fewer = omega (arith, f1, f2, f3);
     }
 
-pub reads-if-else : (source : Source) (d column : ℕ) (before mid now after last end : Columned) (test : Expr) (body second : model.Program) → before ≡ (column, Token.asks) ∷ mid → d ≤ 32
+pub reads-if-else : (source : Source) (d column : ℕ) (before mid now after last end : Columned) (test : Expr) (body second : model.Program) → before ≡ (column, Token.asks) ∷ mid → d ≤ MAX_DEPTH
     → ReadsPhrase source (chain disjunction) d mid now (expr_of test) → ReadsBody source d now after body → PassesToken Token.otherwise d after last → ReadsBody source d last end second
     → ReadsStmt source d before end (If test body (Some second))
 reads-if-else source d column before mid now after last end test body second e shallow p b q s =

@@ -7,8 +7,9 @@ use Rattle.pv_law_programs.proofs.FaultLemmas.{token_is_long}
 use Rattle.std.proofs.lemmas.Bool.{cases_lt, both_ways, not_from_false}
 use Rattle.std.proofs.lemmas.List.{take-append-drop, length-take-le, length-append, get_or_append_left, get_or-take}
 use Rattle.std.proofs.Math.Seq.{take-append_seam}
-use Rattle.pv_base.specs.Name.{is_lower, is_digit, continues_name}
-use Rattle.pv_model.specs.Text.{is_blank, number_of_digits}
+use Rattle.pv_base.specs.declared.limits.TheConstants.{MAX_NAME}
+use Rattle.pv_base.specs.Name.{is_blank, is_lower, is_digit, continues_name}
+use Rattle.pv_model.specs.Text.{number_of_digits}
 use Rattle.pv_model.specs.Tokens.{Token, number, stray, is_name_word, is_digits, token_of, AreTokens, at_token, at_stray}
 use Rattle.pv_parse.specs.TokenView.{StartsWith, IsOther, listed}
 use Rattle.pv_parse.proofs.TokenKinds.{word_at_lower, digits_at_digit, short_at_other, token_of-listed, no_token_at_other, token_of-digits, all_from_each, each_from_all, word_continues, word_short, word_from_each, digits_from_each, digits_all}
@@ -58,14 +59,14 @@ some_at p text zero passes end = absurd (both_ways (p (get_or text 0 0)) (end re
 some_at p text (suc n) passes end = omega arith
 
 -- The front of a text that begins with a lower-case letter, as long as a name may be.
-pub front_is_word : (text : List ℕ) (size : ℕ) → is_lower (get_or text 0 0) ≡ true → 1 ≤ size → size ≤ length text → size ≤ 16 →
+pub front_is_word : (text : List ℕ) (size : ℕ) → is_lower (get_or text 0 0) ≡ true → 1 ≤ size → size ≤ length text → size ≤ MAX_NAME →
     ((k : ℕ) → k < size → continues_name (get_or text k 0) ≡ true) → is_name_word (take size text) ≡ true
 front_is_word text size lower some within short each =
     let same = length-take-le size text within in
     word_from_each (take size text) (omega arith) (omega arith) (ap is_lower (get_or-take size text 0 0 some) ∙ lower) (taken_each continues_name text size within each)
 
-pub word_starts : (text : List ℕ) (size : ℕ) (t : Token) → is_lower (get_or text 0 0) ≡ true → 1 ≤ size → size ≤ length text → size ≤ 16 →
-    (size < 16 → size < length text → continues_name (get_or text size 0) ≡ false) → token_of (take size text) ≡ Some t → StartsWith text t size
+pub word_starts : (text : List ℕ) (size : ℕ) (t : Token) → is_lower (get_or text 0 0) ≡ true → 1 ≤ size → size ≤ length text → size ≤ MAX_NAME →
+    (size < MAX_NAME → size < length text → continues_name (get_or text size 0) ≡ false) → token_of (take size text) ≡ Some t → StartsWith text t size
 word_starts text size t lower some within short end is = starts text size t some within is longest
   where
     longest : (longer other : List ℕ) (u : Token) → text ≡ longer ++ other → token_of longer ≡ Some u → length longer ≤ size

@@ -1,6 +1,7 @@
 -- Operators and marks, where they are expected and where others stand.
 use Rattle.std.proofs.Common.{◌≡◌, ℕ, Bool, true, false, Some, None, List, [], ◌∷◌, ◌<◌, ◌≤◌, arith, refl, sym, ap, ◌∙◌, subst}
 use Rattle.std.specs.Prelude.{IsTrue, if◌then◌else◌}
+use Rattle.pv_base.specs.declared.limits.TheConstants.{MAX_DEPTH}
 use Rattle.pv_model.specs.Syntax as model
 use Rattle.pv_model.specs.Tokens.{Token}
 use Rattle.pv_model.specs.Grammar.{Chain, joins, compares, side, chain, sum}
@@ -55,13 +56,13 @@ skips-comparing-other source d column op ts rest e h =
     let is : Token.operator op ≡ t.1 = ap (λ (x : ℕ × Token). x.1) (heads (sym e ∙ same)) in
     subst (λ (x : Token). after_symbol comparing d x k ≡ None) is (comparing-other d op k h))
 
-pub stops-more : (source : Source) (c : Chain) (d column : ℕ) (op : model.Op) (ts rest : Columned) → ts ≡ (column, Token.operator op) ∷ rest → joins c op ≡ true → 32 < d
+pub stops-more : (source : Source) (c : Chain) (d column : ℕ) (op : model.Op) (ts rest : Columned) → ts ≡ (column, Token.operator op) ∷ rest → joins c op ≡ true → MAX_DEPTH < d
     → Stops source (d, more c) ts (TooDeep column)
 stops-more source c d column op ts rest e h deep =
     λ k. subst (λ (x : Columned). fault_in source ((d, more c) ∷ k) x ≡ Some (too_deep, column)) (sym e)
     (fault-deep source (more c) d column (Token.operator op) rest k ((d, phrase (side c)) ∷ (d, more c) ∷ k) (more-joined c d op k h) refl deep)
 
-pub stops-comparing : (source : Source) (d column : ℕ) (op : model.Op) (ts rest : Columned) → ts ≡ (column, Token.operator op) ∷ rest → compares op ≡ true → 32 < d
+pub stops-comparing : (source : Source) (d column : ℕ) (op : model.Op) (ts rest : Columned) → ts ≡ (column, Token.operator op) ∷ rest → compares op ≡ true → MAX_DEPTH < d
     → Stops source (d, comparing) ts (TooDeep column)
 stops-comparing source d column op ts rest e h deep =
     λ k. subst (λ (x : Columned). fault_in source ((d, comparing) ∷ k) x ≡ Some (too_deep, column)) (sym e)
@@ -94,7 +95,7 @@ mark-known source OpenBody = refl
 mark-known source CloseBody = refl
 mark-known source Comma = refl
 
-pub passes-mark : (source : Source) (m : Marked) (d column : ℕ) (t : Token) (ts : Columned) → ts ≡ (column, t) ∷ rest_of ts → is_punctuation (punctuation_of m) t ≡ true → d ≤ 32
+pub passes-mark : (source : Source) (m : Marked) (d column : ℕ) (t : Token) (ts : Columned) → ts ≡ (column, t) ∷ rest_of ts → is_punctuation (punctuation_of m) t ≡ true → d ≤ MAX_DEPTH
     → PassesPunctuation source (punctuation_of m) (token_of_punctuation m) d ts (rest_of ts)
 passes-mark source m d column t [] e h shallow = absurd cc
 passes-mark source m d column t (x ∷ ts) e h shallow =
@@ -109,7 +110,7 @@ passes-mark source m d column t (x ∷ ts) e h shallow =
       fewer = omega arith;
     }
 
-pub stops-mark-deep : (source : Source) (m : Marked) (d column : ℕ) (t : Token) (ts : Columned) → ts ≡ (column, t) ∷ rest_of ts → is_punctuation (punctuation_of m) t ≡ true → 32 < d
+pub stops-mark-deep : (source : Source) (m : Marked) (d column : ℕ) (t : Token) (ts : Columned) → ts ≡ (column, t) ∷ rest_of ts → is_punctuation (punctuation_of m) t ≡ true → MAX_DEPTH < d
     → Stops source (d, punctuation (punctuation_of m)) ts (TooDeep column)
 stops-mark-deep source m d column t ts e h deep =
     let same : t ≡ token_of_punctuation m = mark-is m t h in

@@ -1,6 +1,7 @@
 -- How programs are put together from what is read of them.
 use Rattle.std.proofs.Common.{◌≡◌, ℕ, suc, Bool, true, false, Option, Some, None, List, [], ◌∷◌, ◌<◌, ◌≤◌, arith, refl, sym, ap, ◌∙◌, subst}
 use Rattle.std.specs.Prelude.{IsTrue}
+use Rattle.pv_base.specs.declared.limits.TheConstants.{MAX_DEPTH}
 use denote.Ref.{Bor}
 use Rattle.pv_ast.specs.declared.expr.Expr.{Expr}
 use Rattle.pv_ast.specs.declared.program.Stmt.{Stmt}
@@ -69,7 +70,7 @@ begins-return source d column before after e = record { split = e; known = refl;
 
 -- A fault in the expression behind the word of a statement.
 pub stops-word : (source : Source) (t : Token) (d column : ℕ) (before mid : Columned) (error : ParseError)
-    → Begins source (d, program) t column before mid (λ k. expression d ∷ (d, next) ∷ k) → d ≤ 32 → Stops source (expression d) mid error
+    → Begins source (d, program) t column before mid (λ k. expression d ∷ (d, next) ∷ k) → d ≤ MAX_DEPTH → Stops source (expression d) mid error
     → Stops source (d, program) before error
 stops-word source t d column before mid error b shallow s =
     Stops-through source (d, program) (expression d) (λ k. (d, next) ∷ k) before mid
@@ -77,7 +78,7 @@ stops-word source t d column before mid error b shallow s =
 
 -- The word and the expression behind it are the statement that they are by the grammar.
 pub reads-word : (source : Source) (t : Token) (d column : ℕ) (before mid after : Columned) (e : Expr) (stmt : Stmt)
-    → Begins source (d, program) t column before mid (λ k. expression d ∷ (d, next) ∷ k) → d ≤ 32
+    → Begins source (d, program) t column before mid (λ k. expression d ∷ (d, next) ∷ k) → d ≤ MAX_DEPTH
     → ((ts rest behind : List Placed) (q : model.Program) → Reads (item_in source.catalog) (chain disjunction) d ts rest (expr_of e) → ReadsNext (item_in source.catalog) d rest behind q
     → ReadsProgram (item_in source.catalog) d ((d, t) ∷ ts) behind (followed_by stmt q))
     → ReadsPhrase source (chain disjunction) d mid after (expr_of e) → ReadsStmt source d before after stmt
@@ -93,13 +94,13 @@ reads-word source t d column before mid after e stmt b shallow made p =
       fewer = omega (arith, shorter, inner);
     }
 
-pub reads-require : (source : Source) (d column : ℕ) (before mid after : Columned) (e : Expr) → before ≡ (column, Token.requires) ∷ mid → d ≤ 32
+pub reads-require : (source : Source) (d column : ℕ) (before mid after : Columned) (e : Expr) → before ≡ (column, Token.requires) ∷ mid → d ≤ MAX_DEPTH
     → ReadsPhrase source (chain disjunction) d mid after (expr_of e) → ReadsStmt source d before after (Require e)
 reads-require source d column before mid after e split shallow p =
     reads-word source Token.requires d column before mid after e (Require e) (begins-require source d column before mid split) shallow
     (λ ts rest behind q r n. grammar.requires d ts rest behind (expr_of e) q r n) p
 
-pub reads-return : (source : Source) (d column : ℕ) (before mid after : Columned) (e : Expr) → before ≡ (column, Token.returns) ∷ mid → d ≤ 32
+pub reads-return : (source : Source) (d column : ℕ) (before mid after : Columned) (e : Expr) → before ≡ (column, Token.returns) ∷ mid → d ≤ MAX_DEPTH
     → ReadsPhrase source (chain disjunction) d mid after (expr_of e) → ReadsStmt source d before after (Return e)
 reads-return source d column before mid after e split shallow p =
     reads-word source Token.returns d column before mid after e (Return e) (begins-return source d column before mid split) shallow
@@ -116,7 +117,7 @@ begins-assign source word n d column before after e h = record { split = e; know
 
 -- What a name may be refused for where a statement is expected.
 pub stops-assign-name : (source : Source) (word : List ℕ) (d column : ℕ) (before after : Columned) (error : ParseError) → before ≡ (column, Token.name word) ∷ after
-    → (x : Option ℕ) → item_in source.catalog word ≡ x → (x ≡ None → error ≡ UnknownName column) → ((n : ℕ) → x ≡ Some n → (error ≡ TooDeep column) × (32 < d))
+    → (x : Option ℕ) → item_in source.catalog word ≡ x → (x ≡ None → error ≡ UnknownName column) → ((n : ℕ) → x ≡ Some n → (error ≡ TooDeep column) × (MAX_DEPTH < d))
     → Stops source (d, program) before error
 stops-assign-name source word d column before after error e None h unknown deep =
     subst (λ (x : ParseError). Stops source (d, program) before x) (sym (unknown refl))
@@ -126,19 +127,19 @@ stops-assign-name source word d column before after error e (Some n) h unknown d
     subst (λ (x : ParseError). Stops source (d, program) before x) (sym is.0)
     (begins-deep source (d, program) (Token.name word) column before after (behind_name d) (begins-assign source word n d column before after e h) is.1)
 
-pub stops-assign-mark : (source : Source) (word : List ℕ) (n d column : ℕ) (before mid : Columned) (error : ParseError) → before ≡ (column, Token.name word) ∷ mid → item_in source.catalog word ≡ Some n → d ≤ 32
+pub stops-assign-mark : (source : Source) (word : List ℕ) (n d column : ℕ) (before mid : Columned) (error : ParseError) → before ≡ (column, Token.name word) ∷ mid → item_in source.catalog word ≡ Some n → d ≤ MAX_DEPTH
     → Stops source (d, punctuation becomes) mid error → Stops source (d, program) before error
 stops-assign-mark source word n d column before mid error e h shallow s =
     Stops-through source (d, program) (d, punctuation becomes) (λ k. expression d ∷ (d, next) ∷ k) before mid
     (begins-fault source (d, program) (Token.name word) column before mid (behind_name d) (begins-assign source word n d column before mid e h) shallow) error s
 
-pub stops-assign-value : (source : Source) (word : List ℕ) (n d column : ℕ) (before mid now : Columned) (error : ParseError) → before ≡ (column, Token.name word) ∷ mid → item_in source.catalog word ≡ Some n → d ≤ 32
+pub stops-assign-value : (source : Source) (word : List ℕ) (n d column : ℕ) (before mid now : Columned) (error : ParseError) → before ≡ (column, Token.name word) ∷ mid → item_in source.catalog word ≡ Some n → d ≤ MAX_DEPTH
     → PassesPunctuation source becomes Token.becomes d mid now → Stops source (expression d) now error → Stops source (d, program) before error
 stops-assign-value source word n d column before mid now error e h shallow m s =
     Stops-through source (d, program) (expression d) (λ k. (d, next) ∷ k) before now
     (λ k. begins-fault source (d, program) (Token.name word) column before mid (behind_name d) (begins-assign source word n d column before mid e h) shallow k ∙ m.fault (expression d ∷ (d, next) ∷ k)) error s
 
-pub reads-assign : (source : Source) (word : List ℕ) (d column : ℕ) (before mid now after : Columned) (item : ItemId) (e : Expr) → before ≡ (column, Token.name word) ∷ mid → item_in source.catalog word ≡ Some item.0 → d ≤ 32
+pub reads-assign : (source : Source) (word : List ℕ) (d column : ℕ) (before mid now after : Columned) (item : ItemId) (e : Expr) → before ≡ (column, Token.name word) ∷ mid → item_in source.catalog word ≡ Some item.0 → d ≤ MAX_DEPTH
     → PassesPunctuation source becomes Token.becomes d mid now → ReadsPhrase source (chain disjunction) d now after (expr_of e) → ReadsStmt source d before after (Assign item e)
 reads-assign source word d column before mid now after item e split h shallow m p =
     let b = begins-assign source word item.0 d column before mid split h in

@@ -3,6 +3,7 @@ use Rattle.std.proofs.Common.{◌≡◌, ℕ, Bool, true, false, ◌&&◌, Optio
 use Rattle.std.specs.Prelude.{nat_lt, if◌then◌else◌}
 use Rattle.std.proofs.lemmas.Bool.{lt-ltb, le-ltb}
 use Rattle.std.specs.Option.{option_map_or}
+use Rattle.pv_base.specs.declared.limits.TheConstants.{MAX_DEPTH}
 use Rattle.pv_model.specs.Tokens.{Token}
 use Rattle.pv_model.specs.ProgramText.{Kind, malformed, unknown_name, too_deep, item_in}
 use Rattle.pv_law_programs.specs.Prediction.{Symbol, Expected, is_optional, may_end, after_symbol, step, placed, is_unknown, first_fault}
@@ -11,7 +12,7 @@ use Rattle.pv_parse.specs.Reading.{Columned, Source, fault_in, Skips}
 -- the first fault from a token on, by what is expected behind it, or where it can't come
 abbrev pub fault_behind : Source → ℕ → Token → Columned → Option (ℕ × List Expected) → Option (Kind × ℕ)
 fault_behind source column t ts behind =
-    option_map_or (λ (now : ℕ × List Expected). if is_unknown (item_in source.catalog) t then Some (unknown_name, column) else (if nat_lt 32 now.0 then Some (too_deep, column) else fault_in source now.1 ts))
+    option_map_or (λ (now : ℕ × List Expected). if is_unknown (item_in source.catalog) t then Some (unknown_name, column) else (if nat_lt MAX_DEPTH now.0 then Some (too_deep, column) else fault_in source now.1 ts))
     behind (Some (malformed, column))
 
 pub step-behind : (s : Symbol) (d : ℕ) (t : Token) (more k : List Expected) → after_symbol s d t more ≡ Some k → step ((d, s) ∷ more) t ≡ Some (d, k)
@@ -32,21 +33,21 @@ step-none s d t more e o =
 
 -- The token is passed.
 pub fault-on : (source : Source) (s : Symbol) (d column : ℕ) (t : Token) (ts : Columned) (more k : List Expected) → after_symbol s d t more ≡ Some k
-    → is_unknown (item_in source.catalog) t ≡ false → d ≤ 32 → fault_in source ((d, s) ∷ more) ((column, t) ∷ ts) ≡ fault_in source k ts
+    → is_unknown (item_in source.catalog) t ≡ false → d ≤ MAX_DEPTH → fault_in source ((d, s) ∷ more) ((column, t) ∷ ts) ≡ fault_in source k ts
 unfolding first_fault
 fault-on source s d column t ts more k e known h =
     ap (fault_behind source column t ts) (step-behind s d t more k e)
-    ∙ ap (λ (b : Bool). if b then Some (unknown_name, column) else (if nat_lt 32 d then Some (too_deep, column) else first_fault (item_in source.catalog) source.after_text k ts)) known
-    ∙ ap (λ (b : Bool). if b then Some (too_deep, column) else first_fault (item_in source.catalog) source.after_text k ts) (le-ltb 32 d h)
+    ∙ ap (λ (b : Bool). if b then Some (unknown_name, column) else (if nat_lt MAX_DEPTH d then Some (too_deep, column) else first_fault (item_in source.catalog) source.after_text k ts)) known
+    ∙ ap (λ (b : Bool). if b then Some (too_deep, column) else first_fault (item_in source.catalog) source.after_text k ts) (le-ltb MAX_DEPTH d h)
 
 -- The token is nested too deeply.
 pub fault-deep : (source : Source) (s : Symbol) (d column : ℕ) (t : Token) (ts : Columned) (more k : List Expected) → after_symbol s d t more ≡ Some k
-    → is_unknown (item_in source.catalog) t ≡ false → 32 < d → fault_in source ((d, s) ∷ more) ((column, t) ∷ ts) ≡ Some (too_deep, column)
+    → is_unknown (item_in source.catalog) t ≡ false → MAX_DEPTH < d → fault_in source ((d, s) ∷ more) ((column, t) ∷ ts) ≡ Some (too_deep, column)
 unfolding first_fault
 fault-deep source s d column t ts more k e known h =
     ap (fault_behind source column t ts) (step-behind s d t more k e)
-    ∙ ap (λ (b : Bool). if b then Some (unknown_name, column) else (if nat_lt 32 d then Some (too_deep, column) else first_fault (item_in source.catalog) source.after_text k ts)) known
-    ∙ ap (λ (b : Bool). if b then Some (too_deep, column) else first_fault (item_in source.catalog) source.after_text k ts) (lt-ltb 32 d h)
+    ∙ ap (λ (b : Bool). if b then Some (unknown_name, column) else (if nat_lt MAX_DEPTH d then Some (too_deep, column) else first_fault (item_in source.catalog) source.after_text k ts)) known
+    ∙ ap (λ (b : Bool). if b then Some (too_deep, column) else first_fault (item_in source.catalog) source.after_text k ts) (lt-ltb MAX_DEPTH d h)
 
 -- The token is a name that no item has.
 pub fault-unknown : (source : Source) (s : Symbol) (d column : ℕ) (t : Token) (ts : Columned) (more k : List Expected) → after_symbol s d t more ≡ Some k
@@ -54,7 +55,7 @@ pub fault-unknown : (source : Source) (s : Symbol) (d column : ℕ) (t : Token) 
 unfolding first_fault
 fault-unknown source s d column t ts more k e unknown =
     ap (fault_behind source column t ts) (step-behind s d t more k e)
-    ∙ ap (λ (b : Bool). if b then Some (unknown_name, column) else (if nat_lt 32 d then Some (too_deep, column) else first_fault (item_in source.catalog) source.after_text k ts)) unknown
+    ∙ ap (λ (b : Bool). if b then Some (unknown_name, column) else (if nat_lt MAX_DEPTH d then Some (too_deep, column) else first_fault (item_in source.catalog) source.after_text k ts)) unknown
 
 -- The token can't come.
 pub fault-none : (source : Source) (s : Symbol) (d column : ℕ) (t : Token) (ts : Columned) (more : List Expected) → after_symbol s d t more ≡ None → is_optional s ≡ false

@@ -7,23 +7,15 @@ use Rattle.std.specs.Str.{bytes_eq}
 use Rattle.std.proofs.lemmas.Option.{none-some}
 use Rattle.std.proofs.lemmas.Bool.{and_parts, and_from, and_left, or_cases, or_left, or_right, leb-true, lt-leb, le-leb, cases_Bool, both_ways, not_from_true, not_from_false}
 use Rattle.std.proofs.lemmas.Slice.Eq.{bytes_eq-Decides}
+use Rattle.pv_base.specs.declared.limits.TheConstants.{MAX_NAME}
 use Rattle.pv_base.specs.Name.{is_lower, is_digit, continues_name, is_spelled_as_name}
 use Rattle.pv_model.specs.Text.{number_of_digits}
+use Rattle.pv_law_programs.proofs.NameLemmas.{found_all}
 use Rattle.pv_model.specs.Tokens.{Token, name, number, words_and_symbols, is_name_word, is_digits, name_or_number, token_of}
 use denote.Ref.{Bor}
 use Rattle.pv_parse.specs.declared.token.Token as code
 use Rattle.pv_parse.specs.TokenView.{IsOther, beside, listed}
 use Rattle.pv_parse.specs.TokenView.{token_of as token_view}
-
--- What holds of each text in a table holds of bytes that are found there.
-found_all : (Q : List ℕ → Bool) (bytes : List ℕ) (table : List (List ℕ × Token)) (entry : List ℕ × Token) →
-    list_all (λ e. Q e.0) table ≡ true → find (λ e. bytes_eq bytes e.0) table ≡ Some entry → Q bytes ≡ true
-found_all Q bytes [] entry all found = absurd (none-some entry found)
-found_all Q bytes (e ∷ table) entry all found = go (bytes_eq bytes e.0) refl (λ is. found_all Q bytes table entry ((and_parts (Q e.0) (list_all (λ f. Q f.0) table) all).1) is) found
-  where
-    go : (b : Bool) → bytes_eq bytes e.0 ≡ b → (find (λ f. bytes_eq bytes f.0) table ≡ Some entry → Q bytes ≡ true) → cond b (Some e) (find (λ f. bytes_eq bytes f.0) table) ≡ Some entry → Q bytes ≡ true
-    go true same rest is = ap Q ((bytes_eq-Decides bytes e.0).0 same) ∙ (and_parts (Q e.0) (list_all (λ f. Q f.0) table) all).0
-    go false other rest is = rest is
 
 named : (bytes : List ℕ) (t : Token) (P : Type 0) → (is_name_word bytes ≡ true → P) → (is_digits bytes ≡ true → P) → name_or_number bytes ≡ Some t → P
 named bytes t P word digits is = go (is_name_word bytes) refl (is_digits bytes) refl is
@@ -102,7 +94,7 @@ digit_digits (b ∷ bs) h = or_right (not (is_digit b)) (is_digits (b ∷ bs)) h
 first_is_lower : (b : ℕ) (bs : List ℕ) → is_name_word (b ∷ bs) ≡ true → is_lower b ≡ true
 unfolding is_spelled_as_name
 first_is_lower b bs h =
-    (and_parts (is_lower b) (list_all continues_name bs) ((and_parts (nat_le (length (b ∷ bs)) 16) (is_lower b && list_all continues_name bs) h).1)).0
+    (and_parts (is_lower b) (list_all continues_name bs) ((and_parts (nat_le (length (b ∷ bs)) MAX_NAME) (is_lower b && list_all continues_name bs) h).1)).0
 
 digit_word : (bytes : List ℕ) → is_name_word bytes ≡ true → is_number_at_digit bytes ≡ true
 unfolding is_number_at_digit
@@ -235,17 +227,17 @@ pub word_continues : (bytes : List ℕ) → is_name_word bytes ≡ true → list
 unfolding is_spelled_as_name
 word_continues [] h = refl
 word_continues (b ∷ bs) h =
-    let parts = and_parts (is_lower b) (list_all continues_name bs) ((and_parts (nat_le (length (b ∷ bs)) 16) (is_lower b && list_all continues_name bs) h).1) in
+    let parts = and_parts (is_lower b) (list_all continues_name bs) ((and_parts (nat_le (length (b ∷ bs)) MAX_NAME) (is_lower b && list_all continues_name bs) h).1) in
     and_from (continues_name b) (list_all continues_name bs) (lower_continues b parts.0) parts.1
 
-pub word_short : (bytes : List ℕ) → is_name_word bytes ≡ true → length bytes ≤ 16
-word_short bytes h = leb-true (length bytes) 16 ((and_parts (nat_le (length bytes) 16) (is_spelled_as_name bytes) h).0)
+pub word_short : (bytes : List ℕ) → is_name_word bytes ≡ true → length bytes ≤ MAX_NAME
+word_short bytes h = leb-true (length bytes) MAX_NAME ((and_parts (nat_le (length bytes) MAX_NAME) (is_spelled_as_name bytes) h).0)
 
-pub word_from_each : (bytes : List ℕ) → 1 ≤ length bytes → length bytes ≤ 16 → is_lower (get_or bytes 0 0) ≡ true → list_all continues_name bytes ≡ true → is_name_word bytes ≡ true
+pub word_from_each : (bytes : List ℕ) → 1 ≤ length bytes → length bytes ≤ MAX_NAME → is_lower (get_or bytes 0 0) ≡ true → list_all continues_name bytes ≡ true → is_name_word bytes ≡ true
 unfolding is_spelled_as_name
 word_from_each [] some short lower all = absurd (omega arith)
 word_from_each (b ∷ bs) some short lower all =
-    and_from (nat_le (length (b ∷ bs)) 16) (is_lower b && list_all continues_name bs) (le-leb (length (b ∷ bs)) 16 short)
+    and_from (nat_le (length (b ∷ bs)) MAX_NAME) (is_lower b && list_all continues_name bs) (le-leb (length (b ∷ bs)) MAX_NAME short)
     (and_from (is_lower b) (list_all continues_name bs) lower ((and_parts (continues_name b) (list_all continues_name bs) all).1))
 
 pub digits_from_each : (bytes : List ℕ) → 1 ≤ length bytes → list_all is_digit bytes ≡ true → is_digits bytes ≡ true

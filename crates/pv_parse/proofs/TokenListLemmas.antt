@@ -2,7 +2,7 @@
 use Rattle.std.proofs.Common.{◌≡◌, ℕ, suc, true, ◌+◌, ◌<◌, ◌≤◌, List, [], ◌∷◌, ◌++◌, length, map, get_or, drop, sym, ap, ◌∙◌, subst, append_assoc, All, arith}
 use Rattle.std.proofs.lemmas.List.{append-nil, map-append}
 use Rattle.std.proofs.lemmas.List.Elements.{All-push, All-same}
-use Rattle.pv_model.specs.Text.{is_blank}
+use Rattle.pv_base.specs.Name.{is_blank}
 use Rattle.pv_model.specs.Tokens.{Token, AreTokens, at_end, at_blank}
 use Rattle.pv_parse.specs.declared.token.Located.{Located}
 use Rattle.pv_parse.specs.TokenView.{located_of, HasDigits, StartsWith}

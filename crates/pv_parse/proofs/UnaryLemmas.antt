@@ -3,6 +3,7 @@ use Rattle.std.proofs.Common.{◌≡◌, ℕ, suc, ◌+◌, ◌^◌, pos, Bool, 
 use Rattle.std.specs.Prelude.{IsTrue, nat_lt, if◌then◌else◌}
 use Rattle.std.specs.Option.{option_map_or}
 use Rattle.std.proofs.lemmas.Bool.{lt-ltb, le-ltb}
+use Rattle.pv_base.specs.declared.limits.TheConstants.{MAX_DEPTH}
 use Rattle.pv_model.specs.Syntax as model
 use Rattle.pv_model.specs.Syntax.Op.{sub, lesser, larger}
 use Rattle.pv_model.specs.Syntax.Expr.{number, item, minus, two}
@@ -29,7 +30,7 @@ pub record Begins (source : Source) (e : Expected) (t : Token) (column : ℕ) (b
   pub leads : (k : List Expected) → after_symbol e.1 e.0 t k ≡ Some (behind k)
 
 pub begins-fault : (source : Source) (e : Expected) (t : Token) (column : ℕ) (before after : Columned) (behind : List Expected → List Expected)
-    → Begins source e t column before after behind → e.0 ≤ 32 → (k : List Expected) → fault_in source (e ∷ k) before ≡ fault_in source (behind k) after
+    → Begins source e t column before after behind → e.0 ≤ MAX_DEPTH → (k : List Expected) → fault_in source (e ∷ k) before ≡ fault_in source (behind k) after
 begins-fault source e t column before after behind b shallow k =
     ap (λ (ts : Columned). fault_in source (e ∷ k) ts) b.split ∙ fault-on source e.1 e.0 column t after k (behind k) (b.leads k) b.known shallow
 
@@ -43,7 +44,7 @@ pub begins-fewer : (source : Source) (e : Expected) (t : Token) (column : ℕ) (
 begins-fewer source e t column before after behind b = ap (λ (ts : Columned). length ts) b.split
 
 pub begins-deep : (source : Source) (e : Expected) (t : Token) (column : ℕ) (before after : Columned) (behind : List Expected → List Expected)
-    → Begins source e t column before after behind → 32 < e.0 → Stops source e before (TooDeep column)
+    → Begins source e t column before after behind → MAX_DEPTH < e.0 → Stops source e before (TooDeep column)
 begins-deep source e t column before after behind b deep = λ k.
     ap (λ (ts : Columned). fault_in source (e ∷ k) ts) b.split ∙ fault-deep source e.1 e.0 column t after k (behind k) (b.leads k) b.known deep
 
@@ -61,7 +62,7 @@ pub number-large : (source : Source) (n d column : ℕ) (before after : Columned
 number-large source n d column before after e h = λ k.
     ap (λ (ts : Columned). fault_in source ((d, phrase unary) ∷ k) ts) e ∙ fault-none source (phrase unary) d column (Token.number n) after k (fits n d k false (le-ltb n (2 ^ 63) h)) refl
 
-pub reads-number : (source : Source) (n d column : ℕ) (before after : Columned) → before ≡ (column, Token.number n) ∷ after → n < 2 ^ 63 → d ≤ 32
+pub reads-number : (source : Source) (n d column : ℕ) (before after : Columned) → before ≡ (column, Token.number n) ∷ after → n < 2 ^ 63 → d ≤ MAX_DEPTH
     → ReadsPhrase source unary d before after (number (pos n))
 reads-number source n d column before after e h shallow =
     let b = begins-number source n d column before after e h in
@@ -86,7 +87,7 @@ pub begins-name : (source : Source) (word : List ℕ) (n d column : ℕ) (before
     → Begins source (d, phrase unary) (Token.name word) column before after (λ k. k)
 begins-name source word n d column before after e h = record { split = e; known = known-name source word n h; leads = λ k. refl }
 
-pub reads-name : (source : Source) (word : List ℕ) (n d column : ℕ) (before after : Columned) → before ≡ (column, Token.name word) ∷ after → item_in source.catalog word ≡ Some n → d ≤ 32
+pub reads-name : (source : Source) (word : List ℕ) (n d column : ℕ) (before after : Columned) → before ≡ (column, Token.name word) ∷ after → item_in source.catalog word ≡ Some n → d ≤ MAX_DEPTH
     → ReadsPhrase source unary d before after (item n)
 reads-name source word n d column before after e h shallow =
     let b = begins-name source word n d column before after e h in
@@ -101,7 +102,7 @@ reads-name source word n d column before after e h shallow =
 
 -- What a name may be refused for where an expression is expected.
 pub stops-name : (source : Source) (word : List ℕ) (d column : ℕ) (before after : Columned) (error : ParseError) → before ≡ (column, Token.name word) ∷ after
-    → (x : Option ℕ) → item_in source.catalog word ≡ x → (x ≡ None → error ≡ UnknownName column) → ((n : ℕ) → x ≡ Some n → (error ≡ TooDeep column) × (32 < d))
+    → (x : Option ℕ) → item_in source.catalog word ≡ x → (x ≡ None → error ≡ UnknownName column) → ((n : ℕ) → x ≡ Some n → (error ≡ TooDeep column) × (MAX_DEPTH < d))
     → Stops source (d, phrase unary) before error
 stops-name source word d column before after error e None h unknown deep =
     subst (λ (x : ParseError). Stops source (d, phrase unary) before x) (sym (unknown refl))
@@ -117,7 +118,7 @@ pub begins-minus : (source : Source) (d column : ℕ) (before after : Columned) 
     → Begins source (d, phrase unary) (Token.operator sub) column before after (λ k. (suc d, phrase unary) ∷ k)
 begins-minus source d column before after e = record { split = e; known = refl; leads = λ k. refl }
 
-pub reads-minus : (source : Source) (d column : ℕ) (before mid after : Columned) (e : model.Expr) → before ≡ (column, Token.operator sub) ∷ mid → d ≤ 32
+pub reads-minus : (source : Source) (d column : ℕ) (before mid after : Columned) (e : model.Expr) → before ≡ (column, Token.operator sub) ∷ mid → d ≤ MAX_DEPTH
     → ReadsPhrase source unary (d + 1) mid after e → ReadsPhrase source unary d before after (minus e)
 reads-minus source d column before mid after e split shallow read =
     let p : ReadsPhrase source unary (suc d) mid after e = subst (λ (n : ℕ). ReadsPhrase source unary n mid after e) (one_more d) read in
@@ -133,7 +134,7 @@ reads-minus source d column before mid after e split shallow read =
       fewer = omega (arith, shorter, inner);
     }
 
-pub stops-minus : (source : Source) (d column : ℕ) (before mid : Columned) (error : ParseError) → before ≡ (column, Token.operator sub) ∷ mid → d ≤ 32
+pub stops-minus : (source : Source) (d column : ℕ) (before mid : Columned) (error : ParseError) → before ≡ (column, Token.operator sub) ∷ mid → d ≤ MAX_DEPTH
     → Stops source (d + 1, phrase unary) mid error → Stops source (d, phrase unary) before error
 stops-minus source d column before mid error split shallow s =
     let b = begins-minus source d column before mid split in
@@ -150,7 +151,7 @@ pub begins-brackets : (source : Source) (d column : ℕ) (before after : Columne
     → Begins source (d, phrase unary) Token.opens column before after (in_brackets d)
 begins-brackets source d column before after e = record { split = e; known = refl; leads = λ k. refl }
 
-pub reads-brackets : (source : Source) (d column : ℕ) (before mid now after : Columned) (e : model.Expr) → before ≡ (column, Token.opens) ∷ mid → d ≤ 32
+pub reads-brackets : (source : Source) (d column : ℕ) (before mid now after : Columned) (e : model.Expr) → before ≡ (column, Token.opens) ∷ mid → d ≤ MAX_DEPTH
     → ReadsPhrase source (chain disjunction) (d + 1) mid now e → PassesPunctuation source closes Token.closes d now after → ReadsPhrase source unary d before after e
 reads-brackets source d column before mid now after e split shallow read close =
     let p : ReadsPhrase source (chain disjunction) (suc d) mid now e = subst (λ (n : ℕ). ReadsPhrase source (chain disjunction) n mid now e) (one_more d) read in
@@ -168,7 +169,7 @@ reads-brackets source d column before mid now after e split shallow read close =
       fewer = omega (arith, shorter, inner, last);
     }
 
-pub stops-brackets-inner : (source : Source) (d column : ℕ) (before mid : Columned) (error : ParseError) → before ≡ (column, Token.opens) ∷ mid → d ≤ 32
+pub stops-brackets-inner : (source : Source) (d column : ℕ) (before mid : Columned) (error : ParseError) → before ≡ (column, Token.opens) ∷ mid → d ≤ MAX_DEPTH
     → Stops source (d + 1, phrase (chain disjunction)) mid error → Stops source (d, phrase unary) before error
 stops-brackets-inner source d column before mid error split shallow s =
     let b = begins-brackets source d column before mid split in
@@ -176,7 +177,7 @@ stops-brackets-inner source d column before mid error split shallow s =
     (begins-fault source (d, phrase unary) Token.opens column before mid (in_brackets d) b shallow) error
     (subst (λ (n : ℕ). Stops source (n, phrase (chain disjunction)) mid error) (one_more d) s)
 
-pub stops-brackets-close : (source : Source) (d column : ℕ) (before mid now : Columned) (e : model.Expr) (error : ParseError) → before ≡ (column, Token.opens) ∷ mid → d ≤ 32
+pub stops-brackets-close : (source : Source) (d column : ℕ) (before mid now : Columned) (e : model.Expr) (error : ParseError) → before ≡ (column, Token.opens) ∷ mid → d ≤ MAX_DEPTH
     → ReadsPhrase source (chain disjunction) (d + 1) mid now e → Stops source (d, punctuation closes) now error → Stops source (d, phrase unary) before error
 stops-brackets-close source d column before mid now e error split shallow read s =
     let p : ReadsPhrase source (chain disjunction) (suc d) mid now e = subst (λ (n : ℕ). ReadsPhrase source (chain disjunction) n mid now e) (one_more d) read in
@@ -208,7 +209,7 @@ begins-two source op d column before after e h = record { split = e; known = ref
 pub record Led (source : Source) (d : ℕ) (before now : Columned) (behind : List Expected → List Expected) : Type 0 where
   pub fault : (k : List Expected) → fault_in source ((d, phrase unary) ∷ k) before ≡ fault_in source (behind k) now
 
-pub led-word : (source : Source) (op : model.Op) (d column : ℕ) (before after : Columned) → before ≡ (column, Token.operator op) ∷ after → IsTrue (is_min_or_max op) → d ≤ 32
+pub led-word : (source : Source) (op : model.Op) (d column : ℕ) (before after : Columned) → before ≡ (column, Token.operator op) ∷ after → IsTrue (is_min_or_max op) → d ≤ MAX_DEPTH
     → Led source d before after (both_sides d)
 led-word source op d column before after e h shallow =
     record { fault = begins-fault source (d, phrase unary) (Token.operator op) column before after (both_sides d) (begins-two source op d column before after e h) shallow }
@@ -258,7 +259,7 @@ led-stops-second source d before now error l s =
     (subst (λ (n : ℕ). Stops source (n, phrase (chain disjunction)) now error) (one_more d) s)
 
 pub reads-two : (source : Source) (op : model.Op) (d column : ℕ) (before t1 t2 t3 t4 t5 after : Columned) (left right : model.Expr)
-    → before ≡ (column, Token.operator op) ∷ t1 → IsTrue (is_min_or_max op) → d ≤ 32 → PassesPunctuation source opens Token.opens d t1 t2
+    → before ≡ (column, Token.operator op) ∷ t1 → IsTrue (is_min_or_max op) → d ≤ MAX_DEPTH → PassesPunctuation source opens Token.opens d t1 t2
     → ReadsPhrase source (chain disjunction) (d + 1) t2 t3 left → PassesPunctuation source comma Token.parts (d + 1) t3 t4
     → ReadsPhrase source (chain disjunction) (d + 1) t4 t5 right → PassesPunctuation source closes Token.closes d t5 after
     → ReadsPhrase source unary d before after (two op left right)

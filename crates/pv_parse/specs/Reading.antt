@@ -1,5 +1,6 @@
 -- What a step of reading promises, whatever is expected after what it reads.
 use Rattle.std.specs.Prelude.{◌≡◌, ℕ, ◌≤◌, Bool, true, false, Option, Some, None, List, [], ◌∷◌, length, IsTrue}
+use Rattle.pv_base.specs.declared.limits.TheConstants.{MAX_DEPTH}
 use Rattle.pv_base.specs.Catalog.{Declared}
 use Rattle.pv_model.specs.Syntax as model
 use Rattle.pv_model.specs.Tokens.{Token}
@@ -82,7 +83,7 @@ pub record Skips (source : Source) (e : Expected) (tokens : Columned) : Type 0 w
 pub record PassesToken (token : Token) (d : ℕ) (before after : Columned) : Type 0 where
   pub column : ℕ
   pub split : before ≡ (column, token) ∷ after
-  pub shallow : d ≤ 32
+  pub shallow : d ≤ MAX_DEPTH
 
 -- An operator that is wanted is passed. Where none stands next, nothing is passed, and nothing more is expected here.
 abbrev pub TakesOperator : Source → Symbol → (model.Op → Bool) → ℕ → Columned → Columned → Option Op → Type 0

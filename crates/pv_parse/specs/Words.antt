@@ -1,5 +1,6 @@
 -- The tokens that may be left out with what they begin.
 use Rattle.std.specs.Prelude.{◌≡◌, ℕ, ◌<◌, Bool, true, false, not, [], ◌∷◌, IsTrue}
+use Rattle.pv_base.specs.declared.limits.TheConstants.{MAX_DEPTH}
 use Rattle.pv_model.specs.Tokens.{Token}
 use Rattle.pv_parse.specs.declared.error.ParseError.{ParseError}
 use Rattle.pv_parse.specs.declared.error.ParseError.TheVariants.{TooDeep}
@@ -34,4 +35,4 @@ pub record StopsTooDeep (word : Word) (d : ℕ) (before : Columned) (error : Par
   pub column : ℕ
   pub next : before ≡ (column, token_of_word word) ∷ rest_of before
   pub is : error ≡ TooDeep column
-  pub deep : 32 < d
+  pub deep : MAX_DEPTH < d

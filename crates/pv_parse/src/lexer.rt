@@ -1,14 +1,13 @@
 // The token that a text begins with: a word, a number or a symbol, each as long as may be.
 ghost use Rattle.std.specs.Prelude.{◌≡◌, ℕ, ◌+◌, ◌<◌, ◌≤◌, Bool, false, true, not, Some, length, slice_index, IfSome, IsTrue, [], ◌∷◌};
 ghost use Rattle.std.specs.Option.{option_map};
-ghost use Rattle.pv_base.specs.Name.{is_lower, is_digit, continues_name};
-ghost use Rattle.pv_model.specs.Text.{is_blank};
+ghost use Rattle.pv_base.specs.Name.{is_blank, is_lower, is_digit, continues_name};
 ghost use Rattle.pv_model.specs.Tokens as model;
 ghost use Rattle.pv_parse.specs.TokenView.{token_of, HasDigits, IsOther, StartsWith, beside, listed};
 
 use crate::token::Token;
 use pv_ast::Op;
-use pv_base::MAX_NAME;
+use pv_base::{MAX_NAME, continues_name};
 
 // The words and symbols that stand for themselves.
 const WORDS_AND_SYMBOLS: [(&[u8], Token<'static>); 28] = [
@@ -41,13 +40,6 @@ const WORDS_AND_SYMBOLS: [(&[u8], Token<'static>); 28] = [
     (b";", Token::Next),
     (b",", Token::Comma),
 ];
-
-/// Whether a byte is a space or a tab.
-pub(crate) fn is_blank(byte: u8) -> bool
-    ensures { result ≡ is_blank byte }
-{
-    byte == b' ' || byte == b'\t'
-}
 
 /// The token that a text begins with, and its length. A byte that begins no token is stray.
 pub(crate) fn first_token<'a>(text: &'a [u8]) -> (Token<'a>, usize)
@@ -88,13 +80,6 @@ fn word_size(text: &[u8]) -> usize
         }
     }
     text.len()
-}
-
-// Whether a byte may follow the first letter of a name.
-fn continues_name(byte: u8) -> bool
-    ensures { result ≡ continues_name byte }
-{
-    byte.is_ascii_lowercase() || byte.is_ascii_digit() || byte == b'_'
 }
 
 // The token that a word is: one that stands for itself, else a name.

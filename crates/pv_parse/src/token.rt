@@ -4,9 +4,9 @@ ghost use Rattle.pv_model.specs.Text.{number_of_digits};
 ghost use Rattle.pv_model.specs.Tokens.{HasTokens, is_digits};
 ghost use Rattle.pv_parse.specs.TokenView.{located_of, HasDigits};
 
-use crate::lexer::{first_token, is_blank};
+use crate::lexer::first_token;
 use pv_ast::Op;
-use pv_base::{MAX_LINE, NoMemory};
+use pv_base::{MAX_LINE, NoMemory, is_blank};
 use std::alloc::Global;
 use std::str;
 

@@ -7,17 +7,17 @@ use Rattle.pv_base.specs.declared.literal.Literal.{Literal}
 use Rattle.pv_base.specs.declared.txn.TxnId.{TxnId}
 use Rattle.pv_base.specs.Polyvalue.{Case, under, IsCanonical, sure, tested}
 use Rattle.pv_base.proofs.Basics.{heads, tails}
-use Rattle.pv_poly.specs.CasesAt.{asks_commit, behind, beyond}
+use Rattle.pv_poly.specs.CasesAt.{asks_commit, under_all, beyond}
 use Rattle.pv_poly.specs.TreeFalls.{length-under, length-tested, some_case}
 use Rattle.pv_poly.specs.TreeView.{AreSides}
 
 module _ {V : Type 0} where
-  pub behind-none : (cases : List (Case V)) → behind [] cases ≡ cases
+  pub behind-none : (cases : List (Case V)) → under_all [] cases ≡ cases
   behind-none [] = refl
   behind-none (case ∷ cases) = ap (λ (rest : List (Case V)). case ∷ rest) (behind-none cases)
 
   behind-under : (way : List Literal) (txn : TxnId) (outcome : Bool) (cases : List (Case V)) →
-      behind way (under txn outcome cases) ≡ behind (way ++ record { txn = txn; commits = outcome } ∷ []) cases
+      under_all way (under txn outcome cases) ≡ under_all (way ++ record { txn = txn; commits = outcome } ∷ []) cases
   behind-under way txn outcome [] = refl
   behind-under way txn outcome (case ∷ cases) =
       let literal : Literal = record { txn = txn; commits = outcome } in
@@ -25,21 +25,21 @@ module _ {V : Type 0} where
       let rest = behind-under way txn outcome cases in
       λ i. record { when = longer i; value = case.value } ∷ rest i
 
-  pub behind-tested : (way : List Literal) (txn : TxnId) (front back : List (Case V)) →
-      behind way (under txn false front ++ under txn true back) ≡
-      behind (way ++ record { txn = txn; commits = false } ∷ []) front ++ behind (way ++ record { txn = txn; commits = true } ∷ []) back
-  behind-tested way txn front back =
-      map-append _ (under txn false front) (under txn true back) ∙ ap₂ ◌++◌ (behind-under way txn false front) (behind-under way txn true back)
+  pub behind-tested : (way : List Literal) (txn : TxnId) (aborted committed : List (Case V)) →
+      under_all way (under txn false aborted ++ under txn true committed) ≡
+      under_all (way ++ record { txn = txn; commits = false } ∷ []) aborted ++ under_all (way ++ record { txn = txn; commits = true } ∷ []) committed
+  behind-tested way txn aborted committed =
+      map-append _ (under txn false aborted) (under txn true committed) ∙ ap₂ ◌++◌ (behind-under way txn false aborted) (behind-under way txn true committed)
 
   -- what is pushed of a test, a side after the other
-  pub pushed-tested : (way first second : List Literal) (txn : TxnId) (front back : List (Case V)) (old middle new : List (Case V)) →
+  pub pushed-tested : (way first second : List Literal) (txn : TxnId) (aborted committed : List (Case V)) (old middle new : List (Case V)) →
       first ≡ way ++ record { txn = txn; commits = false } ∷ [] → second ≡ way ++ record { txn = txn; commits = true } ∷ [] →
-      middle ≡ old ++ behind first front → new ≡ middle ++ behind second back → new ≡ old ++ behind way (under txn false front ++ under txn true back)
-  pushed-tested way first second txn front back old middle new is is-too added added-too =
+      middle ≡ old ++ under_all first aborted → new ≡ middle ++ under_all second committed → new ≡ old ++ under_all way (under txn false aborted ++ under txn true committed)
+  pushed-tested way first second txn aborted committed old middle new is is-too added added-too =
       added-too
-      ∙ ap₂ (λ (m : List (Case V)) (w : List Literal). m ++ behind w back) (added ∙ ap (λ w. old ++ behind w front) is) is-too
+      ∙ ap₂ (λ (m : List (Case V)) (w : List Literal). m ++ under_all w committed) (added ∙ ap (λ w. old ++ under_all w aborted) is) is-too
       ∙ append_assoc old _ _
-      ∙ ap (λ c. old ++ c) (sym (behind-tested way txn front back))
+      ∙ ap (λ c. old ++ c) (sym (behind-tested way txn aborted committed))
 
   pub beyond-none : (cases : List (Case V)) → beyond 0 cases ≡ cases
   beyond-none [] = refl
@@ -62,19 +62,19 @@ module _ {V : Type 0} where
 pub literals-end : (depth : ℕ) (literals : List Literal) → false ≡ ltb depth (length literals) → drop depth literals ≡ []
 literals-end depth literals e = drop_all depth literals (grind (arith, nat_tests, e))
 
--- the literal at a depth, and what is behind it
+-- the literal at a depth, and what is under_all it
 pub literals-begin : (depth : ℕ) (literals : List Literal) (literal : Literal) → depth < length literals → literal ≡ get_or literals depth literal →
     drop depth literals ≡ literal ∷ drop (depth + 1) literals
 literals-begin depth literals literal within is = rw (add-one) (drop-cons literals depth literal within ∙ ap (λ (l : Literal). l ∷ drop (suc depth) literals) (sym is))
 
 -- Where a list is mapped to two parts, its own parts are mapped to them.
-parts-mapped : {X Y : Type 0} (f : X → Y) (xs : List X) (front back : List Y) → map f xs ≡ front ++ back →
-    (map f (take (length front) xs) ≡ front) × (map f (drop (length front) xs) ≡ back)
-parts-mapped f xs [] back e = (refl, e)
-parts-mapped f [] (y ∷ front) back e = absurd (let none : ⊥ = cc in none)
-parts-mapped f (x ∷ xs) (y ∷ front) back e =
+parts-mapped : {X Y : Type 0} (f : X → Y) (xs : List X) (aborted committed : List Y) → map f xs ≡ aborted ++ committed →
+    (map f (take (length aborted) xs) ≡ aborted) × (map f (drop (length aborted) xs) ≡ committed)
+parts-mapped f xs [] committed e = (refl, e)
+parts-mapped f [] (y ∷ aborted) committed e = absurd (let none : ⊥ = cc in none)
+parts-mapped f (x ∷ xs) (y ∷ aborted) committed e =
     let first = heads e in
-    let rest = parts-mapped f xs front back (tails e) in
+    let rest = parts-mapped f xs aborted committed (tails e) in
     (λ i. first i ∷ rest.0 i, rest.1)
 
 module _ {V : Type 0} where
@@ -82,62 +82,62 @@ module _ {V : Type 0} where
   length-beyond depth cases = length-map cases _
 
   -- The second side begins at the first case whose literal asks for a commit.
-  place-of-back : (depth : ℕ) (txn : TxnId) (front : List (Case V)) (next : Case V) (back cases : List (Case V)) →
-      beyond depth cases ≡ under txn false front ++ under txn true (next ∷ back) →
-      position_or_len (λ case. asks_commit (drop depth case.when)) cases ≡ length front
-  place-of-back depth txn [] next back [] e = cc
-  place-of-back depth txn (first ∷ front) next back [] e = cc
-  place-of-back depth txn [] next back (case ∷ cases) e =
+  place-of-committed : (depth : ℕ) (txn : TxnId) (aborted : List (Case V)) (next : Case V) (committed cases : List (Case V)) →
+      beyond depth cases ≡ under txn false aborted ++ under txn true (next ∷ committed) →
+      position_or_len (λ case. asks_commit (drop depth case.when)) cases ≡ length aborted
+  place-of-committed depth txn [] next committed [] e = cc
+  place-of-committed depth txn (first ∷ aborted) next committed [] e = cc
+  place-of-committed depth txn [] next committed (case ∷ cases) e =
       let asks : asks_commit (drop depth case.when) ≡ true = ap (λ (k : Case V). asks_commit k.when) (heads e) in
       rw asks
-  place-of-back depth txn (first ∷ front) next back (case ∷ cases) e =
+  place-of-committed depth txn (first ∷ aborted) next committed (case ∷ cases) e =
       let asks : asks_commit (drop depth case.when) ≡ false = ap (λ (k : Case V). asks_commit k.when) (heads e) in
-      let rest = place-of-back depth txn front next back cases (tails e) in
+      let rest = place-of-committed depth txn aborted next committed cases (tails e) in
       rw asks (omega (arith, rest))
 
   -- Beyond this depth the cases are those of a test on the literal's transaction, and its sides meet at this place.
   pub record IsCut (depth : ℕ) (cases : List (Case V)) (literal : Literal) (place : ℕ) : Type 0 where
-    pub front : List (Case V)
-    pub back : List (Case V)
-    pub is : beyond depth cases ≡ under literal.txn false front ++ under literal.txn true back
-    pub sides : AreSides literal.txn front back
-    pub front_is : beyond (depth + 1) (take place cases) ≡ front
-    pub back_is : beyond (depth + 1) (drop place cases) ≡ back
+    pub aborted : List (Case V)
+    pub committed : List (Case V)
+    pub is : beyond depth cases ≡ under literal.txn false aborted ++ under literal.txn true committed
+    pub sides : AreSides literal.txn aborted committed
+    pub aborted_is : beyond (depth + 1) (take place cases) ≡ aborted
+    pub committed_is : beyond (depth + 1) (drop place cases) ≡ committed
     pub some_before : 0 < place
     pub some_behind : place < length cases
 
-  cut-some : (depth : ℕ) (cases : List (Case V)) (txn : TxnId) (front : List (Case V)) (next : Case V) (back : List (Case V)) →
-      beyond depth cases ≡ under txn false front ++ under txn true (next ∷ back) → AreSides txn front (next ∷ back) → (literal : Literal) → txn ≡ literal.txn →
+  cut-some : (depth : ℕ) (cases : List (Case V)) (txn : TxnId) (aborted : List (Case V)) (next : Case V) (committed : List (Case V)) →
+      beyond depth cases ≡ under txn false aborted ++ under txn true (next ∷ committed) → AreSides txn aborted (next ∷ committed) → (literal : Literal) → txn ≡ literal.txn →
       IsCut depth cases literal (position_or_len (λ case. asks_commit (drop depth case.when)) cases)
-  cut-some depth cases txn front next back e sides literal same =
-      let place = place-of-back depth txn front next back cases e in
-      let parts = parts-mapped _ cases (under txn false front) (under txn true (next ∷ back)) e in
-      let long = length-under txn false front in
+  cut-some depth cases txn aborted next committed e sides literal same =
+      let place = place-of-committed depth txn aborted next committed cases e in
+      let parts = parts-mapped _ cases (under txn false aborted) (under txn true (next ∷ committed)) e in
+      let long = length-under txn false aborted in
       subst (λ n. IsCut depth cases literal n) (sym place)
       (record {
-        front = front;
-        back = next ∷ back;
-        is = subst (λ t. beyond depth cases ≡ under t false front ++ under t true (next ∷ back)) same e;
-        sides = subst (λ t. AreSides t front (next ∷ back)) same sides;
-        front_is = beyond-under depth txn false _ front (subst (λ n. beyond depth (take n cases) ≡ under txn false front) long parts.0);
-        back_is = beyond-under depth txn true _ (next ∷ back) (subst (λ n. beyond depth (drop n cases) ≡ under txn true (next ∷ back)) long parts.1);
-        some_before = omega (arith, some_case sides.front_canonical);
-        some_behind = omega (arith, ap length e, length-beyond depth cases, length-tested txn front (next ∷ back));
+        aborted = aborted;
+        committed = next ∷ committed;
+        is = subst (λ t. beyond depth cases ≡ under t false aborted ++ under t true (next ∷ committed)) same e;
+        sides = subst (λ t. AreSides t aborted (next ∷ committed)) same sides;
+        aborted_is = beyond-under depth txn false _ aborted (subst (λ n. beyond depth (take n cases) ≡ under txn false aborted) long parts.0);
+        committed_is = beyond-under depth txn true _ (next ∷ committed) (subst (λ n. beyond depth (drop n cases) ≡ under txn true (next ∷ committed)) long parts.1);
+        some_before = omega (arith, some_case sides.aborted_canonical);
+        some_behind = omega (arith, ap length e, length-beyond depth cases, length-tested txn aborted (next ∷ committed));
       })
 
-  cut-sides : (depth : ℕ) (cases : List (Case V)) (txn : TxnId) (front back : List (Case V)) →
-      beyond depth cases ≡ under txn false front ++ under txn true back → AreSides txn front back → (literal : Literal) → txn ≡ literal.txn →
+  cut-sides : (depth : ℕ) (cases : List (Case V)) (txn : TxnId) (aborted committed : List (Case V)) →
+      beyond depth cases ≡ under txn false aborted ++ under txn true committed → AreSides txn aborted committed → (literal : Literal) → txn ≡ literal.txn →
       IsCut depth cases literal (position_or_len (λ case. asks_commit (drop depth case.when)) cases)
-  cut-sides depth cases txn front [] e sides literal same = absurd (omega (arith, some_case sides.back_canonical))
-  cut-sides depth cases txn front (next ∷ back) e sides literal same = cut-some depth cases txn front next back e sides literal same
+  cut-sides depth cases txn aborted [] e sides literal same = absurd (omega (arith, some_case sides.committed_canonical))
+  cut-sides depth cases txn aborted (next ∷ committed) e sides literal same = cut-some depth cases txn aborted next committed e sides literal same
 
   -- the transaction of the first literal beyond this depth is the tested one
-  first-txn : (depth : ℕ) (cases : List (Case V)) (txn : TxnId) (front back : List (Case V)) → 1 ≤ length front →
-      beyond depth cases ≡ under txn false front ++ under txn true back → (first : Case V) → first ≡ get_or cases 0 first →
+  first-txn : (depth : ℕ) (cases : List (Case V)) (txn : TxnId) (aborted committed : List (Case V)) → 1 ≤ length aborted →
+      beyond depth cases ≡ under txn false aborted ++ under txn true committed → (first : Case V) → first ≡ get_or cases 0 first →
       (literal : Literal) (more : List Literal) → drop depth first.when ≡ literal ∷ more → txn ≡ literal.txn
-  first-txn depth cases txn [] back some e first at literal more begins = absurd (omega (arith, some))
-  first-txn depth [] txn (next ∷ front) back some e first at literal more begins = absurd (let none : ⊥ = cc in none)
-  first-txn depth (case ∷ cases) txn (next ∷ front) back some e first at literal more begins =
+  first-txn depth cases txn [] committed some e first at literal more begins = absurd (omega (arith, some))
+  first-txn depth [] txn (next ∷ aborted) committed some e first at literal more begins = absurd (let none : ⊥ = cc in none)
+  first-txn depth (case ∷ cases) txn (next ∷ aborted) committed some e first at literal more begins =
       let same = heads (sym begins ∙ ap (λ (k : Case V). drop depth k.when) at ∙ ap (λ (k : Case V). k.when) (heads e)) in
       ap (λ (l : Literal). l.txn) (sym same)
 
@@ -152,9 +152,9 @@ module _ {V : Type 0} where
       let none : ⊥ = cc in
       none
       )
-  cut-by depth cases whole (tested txn front back f b fb bb d) e first at literal more begins =
-      cut-sides depth cases txn front back e (record { front_canonical = f; back_canonical = b; front_behind = fb; back_behind = bb; differ = d }) literal
-      (first-txn depth cases txn front back (some_case f) e first at literal more begins)
+  cut-by depth cases whole (tested txn aborted committed f b fb bb d) e first at literal more begins =
+      cut-sides depth cases txn aborted committed e (record { aborted_canonical = f; committed_canonical = b; aborted_after = fb; committed_after = bb; differ = d }) literal
+      (first-txn depth cases txn aborted committed (some_case f) e first at literal more begins)
 
   -- Cases that are canonical beyond a depth, and of which the first has a literal there, are those of a test.
   pub cut-at : (depth : ℕ) (cases : List (Case V)) → IsCanonical (beyond depth cases) → (first : Case V) → first ≡ get_or cases 0 first →
@@ -168,9 +168,9 @@ module _ {V : Type 0} where
   sure-by depth (case ∷ cases) whole (sure value) e first at ends =
       let same = ap (λ (k : Case V). k.value) at ∙ ap (λ (k : Case V). k.value) (heads e) in
       e ∙ (λ i. record { when = []; value = sym same i } ∷ [])
-  sure-by depth cases whole (tested txn [] back f b fb bb d) e first at ends = absurd (omega (arith, some_case f))
-  sure-by depth [] whole (tested txn (next ∷ front) back f b fb bb d) e first at ends = absurd (let none : ⊥ = cc in none)
-  sure-by depth (case ∷ cases) whole (tested txn (next ∷ front) back f b fb bb d) e first at ends =
+  sure-by depth cases whole (tested txn [] committed f b fb bb d) e first at ends = absurd (omega (arith, some_case f))
+  sure-by depth [] whole (tested txn (next ∷ aborted) committed f b fb bb d) e first at ends = absurd (let none : ⊥ = cc in none)
+  sure-by depth (case ∷ cases) whole (tested txn (next ∷ aborted) committed f b fb bb d) e first at ends =
       absurd (
       let full = sym ends ∙ ap (λ (k : Case V). drop depth k.when) at ∙ ap (λ (k : Case V). k.when) (heads e) in
       let none : ⊥ = cc in
@@ -198,15 +198,15 @@ module _ {V : Type 0} where
       let none = ap (drop depth) (sym (when ∙ ap (λ (k : Case V). k.when) open-is)) ∙ literals-end depth literals ends in
       ap (λ (k : Case V). record { when = []; value = k.value } ∷ []) open-is ∙ sym (sure-at depth cases canonical first at none)
 
-  pub cut-front : {depth : ℕ} {cases : List (Case V)} {literal : Literal} {place : ℕ} (cut : IsCut depth cases literal place) (part : List (Case V)) →
+  pub cut-aborted : {depth : ℕ} {cases : List (Case V)} {literal : Literal} {place : ℕ} (cut : IsCut depth cases literal place) (part : List (Case V)) →
       part ≡ take place cases → IsCanonical (beyond (depth + 1) part)
-  cut-front {depth} cut part is =
-      subst IsCanonical (sym (ap (λ (p : List (Case V)). beyond (depth + 1) p) is ∙ cut.front_is)) cut.sides.front_canonical
+  cut-aborted {depth} cut part is =
+      subst IsCanonical (sym (ap (λ (p : List (Case V)). beyond (depth + 1) p) is ∙ cut.aborted_is)) cut.sides.aborted_canonical
 
-  pub cut-back : {depth : ℕ} {cases : List (Case V)} {literal : Literal} {place : ℕ} (cut : IsCut depth cases literal place) (part : List (Case V)) →
+  pub cut-committed : {depth : ℕ} {cases : List (Case V)} {literal : Literal} {place : ℕ} (cut : IsCut depth cases literal place) (part : List (Case V)) →
       part ≡ drop place cases → IsCanonical (beyond (depth + 1) part)
-  cut-back {depth} cut part is =
-      subst IsCanonical (sym (ap (λ (p : List (Case V)). beyond (depth + 1) p) is ∙ cut.back_is)) cut.sides.back_canonical
+  cut-committed {depth} cut part is =
+      subst IsCanonical (sym (ap (λ (p : List (Case V)). beyond (depth + 1) p) is ∙ cut.committed_is)) cut.sides.committed_canonical
 
   -- The sides that are read are those of the test.
   pub cut-read : {depth : ℕ} {cases : List (Case V)} {literal : Literal} {place : ℕ} → IsCut depth cases literal place →
@@ -214,8 +214,8 @@ module _ {V : Type 0} where
       aborted ≡ beyond (depth + 1) before → committed ≡ beyond (depth + 1) after →
       AreSides literal.txn aborted committed × (under literal.txn false aborted ++ under literal.txn true committed ≡ beyond depth cases)
   cut-read {depth} {cases} {literal} cut before after aborted committed is-before is-after is-aborted is-committed =
-      let first : aborted ≡ cut.front = is-aborted ∙ ap (λ (p : List (Case V)). beyond (depth + 1) p) is-before ∙ cut.front_is in
-      let second : committed ≡ cut.back = is-committed ∙ ap (λ (p : List (Case V)). beyond (depth + 1) p) is-after ∙ cut.back_is in (
-        subst (λ side. AreSides literal.txn side committed) (sym first) (subst (λ side. AreSides literal.txn cut.front side) (sym second) cut.sides),
+      let first : aborted ≡ cut.aborted = is-aborted ∙ ap (λ (p : List (Case V)). beyond (depth + 1) p) is-before ∙ cut.aborted_is in
+      let second : committed ≡ cut.committed = is-committed ∙ ap (λ (p : List (Case V)). beyond (depth + 1) p) is-after ∙ cut.committed_is in (
+        subst (λ side. AreSides literal.txn side committed) (sym first) (subst (λ side. AreSides literal.txn cut.aborted side) (sym second) cut.sides),
         ap₂ (λ (a b : List (Case V)). under literal.txn false a ++ under literal.txn true b) first second ∙ sym cut.is,
       )

@@ -29,14 +29,14 @@ module _ {V : Type 0} where
   AreAdded cases txns old new = (added : List V) × (new ≡ old ++ added) × AreValues cases txns added
 
   -- a test of the first transaction: the values of both sides over the rest, one after the other
-  pub added-tested : (cases front back : List (Case V)) (txn : TxnId) (txns rest : List TxnId) (old middle new : List V) → IsTested txn front back cases →
-      txns ≡ txn ∷ rest → Ascending txns → AreAdded front rest old middle → AreAdded back rest middle new → AreAdded cases txns old new
-  added-tested cases front back txn txns rest old middle new top is up (xs, first, are) (ys, second, them) = (
+  pub added-tested : (cases aborted committed : List (Case V)) (txn : TxnId) (txns rest : List TxnId) (old middle new : List V) → IsTested txn aborted committed cases →
+      txns ≡ txn ∷ rest → Ascending txns → AreAdded aborted rest old middle → AreAdded committed rest middle new → AreAdded cases txns old new
+  added-tested cases aborted committed txn txns rest old middle new top is up (xs, first, are) (ys, second, them) = (
     xs ++ ys,
     second ∙ ap (λ zs. zs ++ ys) first ∙ append_assoc old xs ys,
     subst (λ us. AreValues cases us (xs ++ ys)) (sym is)
         (subst (λ all. AreValues all (txn ∷ rest) (xs ++ ys)) (sym top.is)
-        (values-tested txn rest front back xs ys top.sides.front_behind top.sides.back_behind (first-before is up) are them)),
+        (values-tested txn rest aborted committed xs ys top.sides.aborted_after top.sides.committed_after (first-before is up) are them)),
   )
 
   -- the first transaction isn't named: the values over the rest, twice
@@ -49,34 +49,34 @@ module _ {V : Type 0} where
   )
 
   -- a test of an earlier transaction: the values of the side where it doesn't commit
-  pub added-before : (cases front back : List (Case V)) (txn first : TxnId) (txns rest : List TxnId) (old new : List V) → IsTested txn front back cases →
-      txns ≡ first ∷ rest → Ascending txns → IsTrue (precedes txn first) → AreAdded front txns old new → AreAdded cases txns old new
-  added-before cases front back txn first txns rest old new top is up before (xs, added, are) =
+  pub added-before : (cases aborted committed : List (Case V)) (txn first : TxnId) (txns rest : List TxnId) (old new : List V) → IsTested txn aborted committed cases →
+      txns ≡ first ∷ rest → Ascending txns → IsTrue (precedes txn first) → AreAdded aborted txns old new → AreAdded cases txns old new
+  added-before cases aborted committed txn first txns rest old new top is up before (xs, added, are) =
       let all : (u : TxnId) → Contains (first ∷ rest) u → IsTrue (precedes txn u) = first-and-rest txn first rest before (subst Ascending is up) in (
         xs,
         added,
         subst (λ all. AreValues all txns xs) (sym top.is)
-            (values-before txn txns front back xs
+            (values-before txn txns aborted committed xs
             (subst (λ us. All (λ u. IsTrue (precedes txn u)) us) (sym is) (All-from_members (λ u. IsTrue (precedes txn u)) (first ∷ rest) all)) are),
       )
 
   -- A test of a later transaction doesn't name this one.
-  pub later-unnamed : (cases front back : List (Case V)) (txn first : TxnId) → IsTested txn front back cases → IsTrue (precedes first txn) → names cases first ≡ false
-  later-unnamed cases front back txn first top before =
+  pub later-unnamed : (cases aborted committed : List (Case V)) (txn first : TxnId) → IsTested txn aborted committed cases → IsTrue (precedes first txn) → names cases first ≡ false
+  later-unnamed cases aborted committed txn first top before =
       behind-unnamed first cases
       (λ u named. ⊎_elim
       (λ same. subst (λ t. IsTrue (precedes first t)) same before)
-      (λ sides. precedes-trans first txn u before (⊎_elim (top.sides.front_behind u) (top.sides.back_behind u) sides))
-      (names-tested txn front back u (subst (λ all. IsTrue (names all u)) top.is named)))
+      (λ sides. precedes-trans first txn u before (⊎_elim (top.sides.aborted_after u) (top.sides.committed_after u) sides))
+      (names-tested txn aborted committed u (subst (λ all. IsTrue (names all u)) top.is named)))
 
   -- the values of what chooses between both sides
-  pub values-choice : (cases front back : List (Case V)) (txn : TxnId) (txns rest : List TxnId) (xs ys : List V) → IsChoice txn back front cases →
-      NamesOnlyAfter txn front → NamesOnlyAfter txn back → txns ≡ txn ∷ rest → Ascending txns → AreValues front rest xs → AreValues back rest ys →
+  pub values-choice : (cases aborted committed : List (Case V)) (txn : TxnId) (txns rest : List TxnId) (xs ys : List V) → IsChoice txn aborted committed cases →
+      NamesOnlyAfter txn aborted → NamesOnlyAfter txn committed → txns ≡ txn ∷ rest → Ascending txns → AreValues aborted rest xs → AreValues committed rest ys →
       AreValues cases txns (xs ++ ys)
-  values-choice cases front back txn txns rest xs ys choice behind behind-too is up are them =
+  values-choice cases aborted committed txn txns rest xs ys choice behind behind-too is up are them =
       subst (λ us. AreValues cases us (xs ++ ys)) (sym is)
-      (values-tested txn rest front back xs ys behind behind-too (first-before is up) are them
-      ∙ map-same _ _ (assignments (txn ∷ rest)) (λ a _. value_at-tested txn front back a ∙ sym (choice a)))
+      (values-tested txn rest aborted committed xs ys behind behind-too (first-before is up) are them
+      ∙ map-same _ _ (assignments (txn ∷ rest)) (λ a _. value_at-tested txn aborted committed a ∙ sym (choice a)))
 
   -- A side that names only what is in the rest names only what is behind the first.
   pub rest-behind : (cases : List (Case V)) (txn : TxnId) (txns rest : List TxnId) → txns ≡ txn ∷ rest → Ascending txns →
@@ -84,11 +84,11 @@ module _ {V : Type 0} where
   rest-behind cases txn txns rest is up within u named = ascending-first txn rest (subst Ascending is up) u (within u named)
 
   -- What a test names is the first transaction, or stands in the rest.
-  pub names-listed : (cases front back : List (Case V)) (txn : TxnId) (txns rest : List TxnId) → txns ≡ txn ∷ rest →
-      ((u : TxnId) → IsTrue (names front u) → Contains rest u) → ((u : TxnId) → IsTrue (names back u) → Contains rest u) →
-      ((u : TxnId) → IsTrue (names cases u) → (txn ≡ u) ⊎ (IsTrue (names front u) ⊎ IsTrue (names back u))) →
+  pub names-listed : (cases aborted committed : List (Case V)) (txn : TxnId) (txns rest : List TxnId) → txns ≡ txn ∷ rest →
+      ((u : TxnId) → IsTrue (names aborted u) → Contains rest u) → ((u : TxnId) → IsTrue (names committed u) → Contains rest u) →
+      ((u : TxnId) → IsTrue (names cases u) → (txn ≡ u) ⊎ (IsTrue (names aborted u) ⊎ IsTrue (names committed u))) →
       (u : TxnId) → IsTrue (names cases u) → Contains txns u
-  names-listed cases front back txn txns rest is within within-too all u named =
+  names-listed cases aborted committed txn txns rest is within within-too all u named =
       subst (λ us. Contains us u) (sym is)
       (⊎_elim
       (λ same. subst (λ t. Contains (txn ∷ rest) t) same (Contains-first txn rest))

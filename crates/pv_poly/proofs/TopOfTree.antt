@@ -11,9 +11,9 @@ use Rattle.pv_poly.specs.TreeFalls.{length-tested, some_case}
 use Rattle.pv_poly.specs.TreeView.{cases_of, AreSides, IsReduced}
 
 -- The cases are those of a test of the transaction, with these sides.
-pub record IsTested {V : Type 0} (txn : TxnId) (front back cases : List (Case V)) : Type 0 where
-  pub is : cases ≡ under txn false front ++ under txn true back
-  pub sides : AreSides txn front back
+pub record IsTested {V : Type 0} (txn : TxnId) (aborted committed cases : List (Case V)) : Type 0 where
+  pub is : cases ≡ under txn false aborted ++ under txn true committed
+  pub sides : AreSides txn aborted committed
 
 pub at_Test : {V : Type 0} {node : Node V} {cases : List (Case V)} {txn : TxnId} {aborted committed : Box (Tree V) Global} →
     cases_of node ≡ cases → IsReduced node → node ≡ Test txn aborted committed → IsTested txn aborted.value committed.value cases
@@ -24,14 +24,14 @@ pub at_Sure : {V : Type 0} {node : Node V} {cases : List (Case V)} {value : V} �
 at_Sure view is = sym view ∙ ap cases_of is
 
 -- The value where no transaction commits is that of the side where the tested one doesn't.
-pub none-tested : {V : Type 0} {txn : TxnId} {front back cases : List (Case V)} → IsTested txn front back cases →
-    value_at cases [] ≡ value_at front []
-none-tested {V} {txn} {front} {back} top = ap (λ (cases : List (Case V)). value_at cases []) top.is ∙ value_at-front txn front back [] refl
+pub none-tested : {V : Type 0} {txn : TxnId} {aborted committed cases : List (Case V)} → IsTested txn aborted committed cases →
+    value_at cases [] ≡ value_at aborted []
+none-tested {V} {txn} {aborted} {committed} top = ap (λ (cases : List (Case V)). value_at cases []) top.is ∙ value_at-front txn aborted committed [] refl
 
 -- Each side of a test has fewer cases.
 
-pub front-shorter : {V : Type 0} {txn : TxnId} {front back cases : List (Case V)} → IsTested txn front back cases → length front < length cases
-front-shorter {V} {txn} {front} {back} top = omega (arith, ap length top.is, length-tested txn front back, some_case top.sides.back_canonical)
+pub aborted-shorter : {V : Type 0} {txn : TxnId} {aborted committed cases : List (Case V)} → IsTested txn aborted committed cases → length aborted < length cases
+aborted-shorter {V} {txn} {aborted} {committed} top = omega (arith, ap length top.is, length-tested txn aborted committed, some_case top.sides.committed_canonical)
 
-pub back-shorter : {V : Type 0} {txn : TxnId} {front back cases : List (Case V)} → IsTested txn front back cases → length back < length cases
-back-shorter {V} {txn} {front} {back} top = omega (arith, ap length top.is, length-tested txn front back, some_case top.sides.front_canonical)
+pub committed-shorter : {V : Type 0} {txn : TxnId} {aborted committed cases : List (Case V)} → IsTested txn aborted committed cases → length committed < length cases
+committed-shorter {V} {txn} {aborted} {committed} top = omega (arith, ap length top.is, length-tested txn aborted committed, some_case top.sides.aborted_canonical)

@@ -10,8 +10,8 @@ asks_commit (literal ∷ literals) = literal.commits
 
 module _ {V : Type 0} where
   -- the cases, each under all of these literals, which stand in front
-  abbrev pub behind : List Literal → List (Case V) → List (Case V)
-  behind way cases = map (λ case. record { when = way ++ case.when; value = case.value }) cases
+  abbrev pub under_all : List Literal → List (Case V) → List (Case V)
+  under_all way cases = map (λ case. record { when = way ++ case.when; value = case.value }) cases
 
   -- the cases, each without so many of the first literals of its condition
   abbrev pub beyond : ℕ → List (Case V) → List (Case V)

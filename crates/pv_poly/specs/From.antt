@@ -31,15 +31,15 @@ module _ {V : Type 0} where
 
   -- This is the first transaction before this one that one of two lists of cases names, if they name any before it.
   abbrev pub IsFirstOf : TxnId → List (Case V) → List (Case V) → Option TxnId → Type 0
-  IsFirstOf txn front back None = NamesFrom txn front × NamesFrom txn back
-  IsFirstOf txn front back (Some first) =
-      IsTrue (precedes first txn) × (NamesFrom first front × (NamesFrom first back × (IsTrue (names front first) ⊎ IsTrue (names back first))))
+  IsFirstOf txn aborted committed None = NamesFrom txn aborted × NamesFrom txn committed
+  IsFirstOf txn aborted committed (Some first) =
+      IsTrue (precedes first txn) × (NamesFrom first aborted × (NamesFrom first committed × (IsTrue (names aborted first) ⊎ IsTrue (names committed first))))
 
   -- One side of cases that name nothing before the transaction: their values where it has this outcome.
   pub record IsSide (txn : TxnId) (outcome : Bool) (cases side : List (Case V)) : Type 0 where
     pub same : (assignment : List TxnId) → commits assignment txn ≡ outcome → value_at side assignment ≡ value_at cases assignment
     pub named : (other : TxnId) → IsTrue (names side other) → IsTrue (names cases other)
-    pub behind : NamesOnlyAfter txn side
+    pub after : NamesOnlyAfter txn side
     pub canonical : IsCanonical side
     pub shorter : length side ≤ length cases
     pub smaller : IsTrue (names cases txn) → length side < length cases

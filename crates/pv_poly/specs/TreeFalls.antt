@@ -12,17 +12,17 @@ pub length-under : {V : Type 0} (txn : _) (outcome : _) (cases : List (Case V)) 
 length-under txn outcome cases = length-map cases _
 
 -- how many cases a test has
-pub length-tested : {V : Type 0} (txn : _) (front back : List (Case V)) → length (under txn false front ++ under txn true back) ≡ length front + length back
-length-tested txn front back =
-    omega (arith, length-append (under txn false front) (under txn true back), length-under txn false front, length-under txn true back)
+pub length-tested : {V : Type 0} (txn : _) (aborted committed : List (Case V)) → length (under txn false aborted ++ under txn true committed) ≡ length aborted + length committed
+length-tested txn aborted committed =
+    omega (arith, length-append (under txn false aborted) (under txn true committed), length-under txn false aborted, length-under txn true committed)
 
 -- canonical cases aren't none
 pub some_case : {V : Type 0} {cases : List (Case V)} → IsCanonical cases → 1 ≤ length cases
 some_case (sure value) = omega arith
-some_case (tested txn front back f b fb bb d) = omega (arith, some_case f, length-tested txn front back)
+some_case (tested txn aborted committed f b fb bb d) = omega (arith, some_case f, length-tested txn aborted committed)
 
 -- no side is deeper than the node has cases
 pub depth_le-length-cases : {V : Type 0} (node : Node V) → IsReduced node → max (deep-Node V node) 0 ≤ length (cases_of node)
 depth_le-length-cases (Sure value) r = omega arith
 depth_le-length-cases (Test txn aborted committed) r =
-    omega (arith, some_case r.front_canonical, some_case r.back_canonical, length-tested txn aborted.value committed.value)
+    omega (arith, some_case r.aborted_canonical, some_case r.committed_canonical, length-tested txn aborted.value committed.value)

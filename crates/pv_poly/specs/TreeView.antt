@@ -6,12 +6,12 @@ use Rattle.pv_poly.specs.declared.tree.Node.{Node}
 use Rattle.pv_poly.specs.declared.tree.Node.TheVariants.{Sure, Test}
 
 -- The cases of both sides of a test on the transaction are canonical, and the test is needed.
-pub record AreSides {V : Type 0} (txn : TxnId) (front back : List (Case V)) : Type 0 where
-  pub front_canonical : IsCanonical front
-  pub back_canonical : IsCanonical back
-  pub front_behind : NamesOnlyAfter txn front
-  pub back_behind : NamesOnlyAfter txn back
-  pub differ : front ≡ back → ⊥
+pub record AreSides {V : Type 0} (txn : TxnId) (aborted committed : List (Case V)) : Type 0 where
+  pub aborted_canonical : IsCanonical aborted
+  pub committed_canonical : IsCanonical committed
+  pub aborted_after : NamesOnlyAfter txn aborted
+  pub committed_after : NamesOnlyAfter txn committed
+  pub differ : aborted ≡ committed → ⊥
 
 -- the leaves from left to right, each under the literals on the way to it
 abbrev pub cases_of : {V : Type 0} → Node V → List (Case V)

@@ -2,7 +2,7 @@
 ghost use Rattle.std.specs.Prelude.{◌≡◌, ◌++◌, drop, IfOk, OnOk};
 ghost use Rattle.std.specs.List.{position_or_len};
 ghost use Rattle.pv_base.specs.Polyvalue.{IsCanonical};
-ghost use Rattle.pv_poly.specs.CasesAt.{asks_commit, behind, beyond};
+ghost use Rattle.pv_poly.specs.CasesAt.{asks_commit, beyond, under_all};
 
 use crate::tree::{Node, Tree};
 use pv_base::{Case, Exact, Literal, NoMemory};
@@ -10,15 +10,15 @@ use std::alloc::Global;
 
 impl<V: Exact> Tree<V> {
     /// The tree of these cases, which are canonical.
-    pub fn from_cases(alloc: Global, cases: &[Case<V>]) -> Result<Tree<V>, NoMemory>
+    pub fn read(alloc: Global, cases: &[Case<V>]) -> Result<Tree<V>, NoMemory>
         requires { IsCanonical cases.now }
         ensures { IfOk result (λ tree. tree ≡ cases.now) }
     {
-        Tree::from_cases_at(alloc, cases, 0)
+        Tree::read_at(alloc, cases, 0)
     }
 
     // The tree of these cases, where so many of the first literals of each are those of the way down to it.
-    fn from_cases_at(alloc: Global, cases: &[Case<V>], depth: usize) -> Result<Tree<V>, NoMemory>
+    fn read_at(alloc: Global, cases: &[Case<V>], depth: usize) -> Result<Tree<V>, NoMemory>
         requires { IsCanonical (beyond depth cases.now) }
         ensures { IfOk result (λ tree. tree ≡ beyond depth cases.now) }
     {
@@ -26,9 +26,9 @@ impl<V: Exact> Tree<V> {
         match first.when.get(depth) {
             None => Ok(Tree::sure(first.value)),
             Some(literal) => {
-                let (front, back) = cases.split_at(front_len(cases, depth));
-                let aborted = Tree::from_cases_at(alloc, front, depth + 1)?;
-                let committed = Tree::from_cases_at(alloc, back, depth + 1)?;
+                let (aborted, committed) = cases.split_at(aborted_len(cases, depth));
+                let aborted = Tree::read_at(alloc, aborted, depth + 1)?;
+                let committed = Tree::read_at(alloc, committed, depth + 1)?;
                 Ok(Tree {
                     node: Node::Test(
                         literal.txn,
@@ -49,9 +49,9 @@ impl<V: Exact> Tree<V> {
         Ok(cases)
     }
 
-    // Puts the cases, each under the literals of the way down to here, behind what the list holds.
+    // Appends the cases, each under the literals of the way down to here.
     fn push_cases(&self, way: &mut Vec<Literal>, cases: &mut Vec<Case<V>>) -> Result<(), NoMemory>
-        ensures cases { OnOk result (cases.new.items ≡ cases.old.items ++ behind way.old.items self.now) }
+        ensures cases { OnOk result (cases.new.items ≡ cases.old.items ++ under_all way.old.items self.now) }
         ensures way { OnOk result (way.new.items ≡ way.old.items) }
     {
         match &self.node {
@@ -82,7 +82,7 @@ impl<V: Exact> Tree<V> {
 }
 
 // How many cases stand before the first whose literal at this depth asks for a commit.
-fn front_len<V>(cases: &[Case<V>], depth: usize) -> usize
+fn aborted_len<V>(cases: &[Case<V>], depth: usize) -> usize
     ensures { result ≡ position_or_len (λ case. asks_commit (drop depth case.when)) cases.now }
 {
     cases

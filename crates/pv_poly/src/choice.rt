@@ -1,27 +1,38 @@
 // Trees after an outcome is known, and trees that choose by an outcome.
 ghost use Rattle.std.specs.Prelude.{◌≡◌, ◌⊎◌, false, true, IsTrue, IfOk};
-ghost use Rattle.pv_base.specs.Polyvalue.{names, IsCanonical, IsChoice, IsSettled};
+ghost use Rattle.pv_base.specs.Polyvalue.{names, AreOutcomes, IsCanonical, IsChoice, IsSettled};
 ghost use Rattle.pv_poly.specs.From.{NamesFrom, IsFirst, IsSide, before, earlier, first_of};
 ghost use Rattle.pv_base.specs.declared.txn.TxnId.{TxnId};
 
 use crate::tree::{Node, Tree};
-use pv_base::{Exact, NoMemory, TxnId};
+use pv_base::{Exact, Literal, NoMemory, TxnId};
 use std::alloc::Global;
+use std::cmp::Ordering;
 
 impl<V: Exact> Tree<V> {
-    /// The tree once the outcome of the transaction is known. Takes time in proportion to the cases, times the names.
-    pub fn settle(&self, alloc: Global, txn: TxnId, commits: bool) -> Result<Tree<V>, NoMemory>
-        ensures settled { IfOk result (IsSettled txn commits self.now) }
+    /// The tree once the outcomes of these transactions are known. Takes time in proportion to the cases, times the names, and to the
+    /// literals.
+    pub fn settle(&self, alloc: Global, literals: &[Literal]) -> Result<Tree<V>, NoMemory>
+        requires outcomes { AreOutcomes literals.now }
+        ensures settled { IfOk result (IsSettled literals.now self.now) }
         ensures names { IfOk result (λ tree. (named : TxnId) → IsTrue (names tree named) → IsTrue (names self.now named)) }
         ensures canonical { IfOk result IsCanonical }
     {
-        match &self.node {
-            Node::Test(tested, aborted, committed) if *tested < txn => {
-                let aborted = aborted.settle(alloc, txn, commits)?;
-                let committed = committed.settle(alloc, txn, commits)?;
-                Tree::test(alloc, *tested, aborted, committed)
+        let Node::Test(txn, aborted, committed) = &self.node else {
+            return self.copy(alloc);
+        };
+        let Some((literal, rest)) = literals.split_first() else {
+            return self.copy(alloc);
+        };
+        match literal.txn.cmp(txn) {
+            Ordering::Less => self.settle(alloc, rest),
+            Ordering::Equal if literal.commits => committed.settle(alloc, rest),
+            Ordering::Equal => aborted.settle(alloc, rest),
+            Ordering::Greater => {
+                let aborted = aborted.settle(alloc, literals)?;
+                let committed = committed.settle(alloc, literals)?;
+                Tree::test(alloc, *txn, aborted, committed)
             }
-            _ => self.side(txn, commits).copy(alloc),
         }
     }
 
@@ -35,31 +46,31 @@ impl<V: Exact> Tree<V> {
     ) -> Result<Tree<V>, NoMemory>
         requires aborted_unnamed { names aborted.now txn ≡ false }
         requires committed_unnamed { names committed.now txn ≡ false }
-        ensures choice { IfOk result (IsChoice txn committed.now aborted.now) }
+        ensures choice { IfOk result (IsChoice txn aborted.now committed.now) }
         ensures names { IfOk result (λ tree. (named : TxnId) → IsTrue (names tree named) →
             (txn ≡ named) ⊎ (IsTrue (names aborted.now named) ⊎ IsTrue (names committed.now named))) }
         ensures canonical { IfOk result IsCanonical }
     {
         match first_of(txn, aborted.top(), committed.top()) {
             None => {
-                let without = aborted.copy(alloc)?;
-                let with = committed.copy(alloc)?;
-                Tree::test(alloc, txn, without, with)
+                let aborted = aborted.copy(alloc)?;
+                let committed = committed.copy(alloc)?;
+                Tree::test(alloc, txn, aborted, committed)
             }
             Some(first) => {
-                let without = Tree::choose(
+                let aborted_side = Tree::choose(
                     alloc,
                     txn,
                     aborted.side(first, false),
                     committed.side(first, false),
                 )?;
-                let with = Tree::choose(
+                let committed_side = Tree::choose(
                     alloc,
                     txn,
                     aborted.side(first, true),
                     committed.side(first, true),
                 )?;
-                Tree::test(alloc, first, without, with)
+                Tree::test(alloc, first, aborted_side, committed_side)
             }
         }
     }

@@ -3,12 +3,13 @@
 
 mod cases;
 mod choice;
-mod copy;
+mod laws;
 mod poly;
 mod read;
 mod table;
 mod tree;
 
+pub use laws::equal_polyvalues_are_one;
 pub use poly::Poly;
 pub use pv_base::{Case, CaseError, NameError};
 pub use pv_cases::{

@@ -1,17 +1,16 @@
 // Polyvalues, and what is done with them.
-ghost use Rattle.std.specs.Prelude.{◌≡◌, ◌≢◌, ◌<◌, ◌≤◌, ◌*◌, ◌^◌, ◌⊎◌, ◌++◌, ℕ, Some, Err, List, IsTrue, length, map, IfOk, IfErr, OnOk};
-ghost use Rattle.std.specs.List.{AllPairs, Contains, sum};
-ghost use Rattle.pv_base.specs.Assignment.{precedes, assignments};
+ghost use Rattle.std.specs.Prelude.{◌≡◌, ◌≢◌, ◌<◌, ◌≤◌, ◌*◌, ◌^◌, ◌⊎◌, [], ◌∷◌, ◌++◌, ℕ, Some, Err, List, IsTrue, length, map, IfOk, IfErr, OnOk};
+ghost use Rattle.std.specs.List.{Contains, sum};
+ghost use Rattle.pv_base.specs.Assignment.{AreAscending, assignments};
 ghost use Rattle.pv_base.specs.CaseFaults.{CaseFault, fault_of, IsJoinFault, IsCanonicalFault};
 ghost use Rattle.pv_base.specs.Polyvalue as model;
-ghost use Rattle.pv_base.specs.Polyvalue.{value_at, names, AreNames, NamesAtMost, IsCanonical, IsSound, IsPolyvalue, AreSameEverywhere, IsChoice, ChoiceNames, IsSettled, AreValues};
+ghost use Rattle.pv_base.specs.Polyvalue.{value_at, names, AreNames, AreOutcomes, NamesAtMost, IsCanonical, IsSound, IsPolyvalue, AreSameEverywhere, IsChoice, ChoiceNames, IsSettled, AreValues};
 ghost use Rattle.pv_base.specs.declared.txn.TxnId.{TxnId};
 ghost use Rattle.pv_base.specs.declared.limits.TheConstants.{HELD_NAMES};
 
-use crate::copy::copy_cases;
 use crate::tree::Tree;
-use pv_base::{Case, CaseError, Exact, HELD_NAMES, NameError, NoMemory, TxnId};
-use pv_cases::{count_of_both, first_difference, names_of, table_of};
+use pv_base::{Case, CaseError, Exact, HELD_NAMES, Literal, NameError, NoMemory, TxnId};
+use pv_cases::{copy_cases, count_of_both, first_difference, names_of, table_of};
 use std::alloc::Global;
 use std::marker::Model;
 
@@ -29,6 +28,29 @@ impl<V> Model for Poly<V> {
     ghost view = { λ poly. poly.cases.items };
 
     ghost invariant = { λ poly. model.IsPolyvalue HELD_NAMES poly.cases.items };
+}
+
+impl<V: PartialEq> PartialEq for Poly<V> {
+    ghost use Rattle.std.specs.Cmp.Lexicographic.{pointwise};
+    ghost use Rattle.std.specs.Cmp.Rules.{comparing};
+    ghost use Rattle.std.proofs.Common.{rules};
+    ghost use Rattle.pv_base.specs.contracts.case.CasePartialEq.TheImpl.Laws as case_laws;
+
+    ghost eq = { pointwise ⟦<Case<V> as PartialEq>⟧.eq };
+
+    ghost laws = { Prim.search (comparing, case_laws.laws-law, rules) depth 9 };
+
+    fn eq(&self, other: &Poly<V>) -> bool {
+        self.cases == other.cases
+    }
+}
+
+impl<V: Eq> Eq for Poly<V> {
+    ghost use Rattle.std.specs.Cmp.Rules.{comparing};
+    ghost use Rattle.std.proofs.Common.{rules};
+    ghost use Rattle.pv_base.specs.contracts.case.CaseEq.TheImpl.Laws as case_laws;
+
+    ghost laws = { Prim.search (comparing, case_laws.laws-law, rules) depth 9 };
 }
 
 impl<V: Exact> Poly<V> {
@@ -53,27 +75,33 @@ impl<V: Exact> Poly<V> {
         new: &Poly<V>,
         old: &Poly<V>,
     ) -> Result<Poly<V>, NameError>
-        ensures choice { IfOk result (IsChoice txn new.now old.now) }
+        ensures choice { IfOk result (IsChoice txn old.now new.now) }
         ensures polyvalue { IfOk result (IsPolyvalue HELD_NAMES) }
 
         // It is refused exactly where it would name too many. Besides, only memory can fail.
-        ensures refused { (count : ℕ) → ChoiceNames txn new.now old.now count →
+        ensures refused { (count : ℕ) → ChoiceNames txn old.now new.now count →
             IfErr result (λ e. e ≢ NameError.NoMemory → (e ≡ NameError.TooManyOutcomes count) × (HELD_NAMES < count)) }
-        ensures refuses { (count : ℕ) → ChoiceNames txn new.now old.now count → HELD_NAMES < count →
+        ensures refuses { (count : ℕ) → ChoiceNames txn old.now new.now count → HELD_NAMES < count →
             (result ≡ Err (NameError.TooManyOutcomes count)) ⊎ (result ≡ Err NameError.NoMemory) }
     {
-        let front = old.settled(alloc, txn, false)?;
-        let back = new.settled(alloc, txn, true)?;
-        if front.same(&back) {
+        let aborted = old.settled_tree(
+            alloc,
+            &[Literal {
+                txn,
+                commits: false,
+            }],
+        )?;
+        let committed = new.settled_tree(alloc, &[Literal { txn, commits: true }])?;
+        if aborted.same(&committed) {
             return Ok(Poly {
-                cases: front.cases(alloc)?,
+                cases: aborted.cases(alloc)?,
             });
         }
-        let count = count_of_sides(alloc, &front, &back)? + 1;
+        let count = count_of_sides(alloc, &aborted, &committed)? + 1;
         if count > HELD_NAMES {
             return Err(NameError::TooManyOutcomes(count));
         }
-        let tree = Tree::choose(alloc, txn, &front, &back)?;
+        let tree = Tree::choose(alloc, txn, &aborted, &committed)?;
         Ok(Poly {
             cases: tree.cases(alloc)?,
         })
@@ -91,26 +119,38 @@ impl<V: Exact> Poly<V> {
         unreachable!()
     }
 
-    /// What the polyvalue is once the outcome of the transaction is known: it has the same values wherever the transaction has that
-    /// outcome, and doesn't name it. Takes time in proportion to the cases, times the names.
+    /// What the polyvalue is once the outcome of the transaction is known: at every assignment its value is that of this one with the outcome
+    /// put in, and it doesn't name the transaction. Takes time in proportion to the cases, times the names.
     pub fn settle(&self, alloc: Global, txn: TxnId, commits: bool) -> Result<Poly<V>, NoMemory>
-        ensures settled { IfOk result (IsSettled txn commits self.now) }
+        ensures settled { IfOk result (IsSettled (record { txn = txn; commits = commits } ∷ []) self.now) }
         ensures polyvalue { IfOk result (IsPolyvalue HELD_NAMES) }
     {
-        let tree = self.settled(alloc, txn, commits)?;
+        self.settle_all(alloc, &[Literal { txn, commits }])
+    }
+
+    /// What the polyvalue is once all of these outcomes are known, which ascend by transaction, each transaction once: at every assignment its
+    /// value is that of this one with the outcomes put in, and it names none of them. Takes time in proportion to the cases, times the
+    /// names, and to the outcomes.
+    pub fn settle_all(&self, alloc: Global, literals: &[Literal]) -> Result<Poly<V>, NoMemory>
+        requires outcomes { AreOutcomes literals.now }
+        ensures settled { IfOk result (IsSettled literals.now self.now) }
+        ensures polyvalue { IfOk result (IsPolyvalue HELD_NAMES) }
+    {
+        let tree = self.settled_tree(alloc, literals)?;
         Ok(Poly {
             cases: tree.cases(alloc)?,
         })
     }
 
-    // The tree of the polyvalue once the outcome of the transaction is known.
-    fn settled(&self, alloc: Global, txn: TxnId, commits: bool) -> Result<Tree<V>, NoMemory>
-        ensures settled { IfOk result (IsSettled txn commits self.now) }
+    // The tree of the polyvalue once these outcomes are known.
+    fn settled_tree(&self, alloc: Global, literals: &[Literal]) -> Result<Tree<V>, NoMemory>
+        requires outcomes { AreOutcomes literals.now }
+        ensures settled { IfOk result (IsSettled literals.now self.now) }
         ensures few { IfOk result (NamesAtMost HELD_NAMES) }
         ensures canonical { IfOk result IsCanonical }
     {
-        let tree = Tree::from_cases(alloc, &self.cases)?;
-        tree.settle(alloc, txn, commits)
+        let tree = Tree::read(alloc, &self.cases)?;
+        tree.settle(alloc, literals)
     }
 
     /// The transactions that the value depends on, ascending. Takes time in proportion to the literals, times the logarithm of their
@@ -200,10 +240,11 @@ impl<V: Exact> Poly<V> {
     /// transaction the most significant. Each of the others doesn't commit. Takes time in proportion to the literals and to the
     /// assignments, times the names.
     pub fn table(&self, alloc: Global, txns: &[TxnId]) -> Result<Vec<V>, NoMemory>
-        requires ascending { AllPairs (λ txn later. IsTrue (precedes txn later)) txns.now }
+        requires ascending { AreAscending txns.now }
+        requires few { length txns.now ≤ HELD_NAMES }
         ensures values { IfOk result (λ values. AreValues self.now txns.now values.items) }
     {
-        let tree = Tree::from_cases(alloc, &self.cases)?;
+        let tree = Tree::read(alloc, &self.cases)?;
         let mut values = Vec::new(alloc);
         tree.push_table(txns, &mut values)?;
         Ok(values)
@@ -212,7 +253,7 @@ impl<V: Exact> Poly<V> {
     /// The polyvalue that has these values at the assignments of these transactions, in the order of [`table`](Poly::table). Takes time in
     /// proportion to the values, times the transactions.
     pub fn from_table(alloc: Global, txns: &[TxnId], values: &[V]) -> Result<Poly<V>, NoMemory>
-        requires ascending { AllPairs (λ txn later. IsTrue (precedes txn later)) txns.now }
+        requires ascending { AreAscending txns.now }
         requires few { length txns.now ≤ HELD_NAMES }
         requires whole { length values.now ≡ 2 ^ length txns.now }
         ensures values { IfOk result (λ poly. AreValues poly txns.now values.now) }

@@ -1,7 +1,7 @@
 // Values at every assignment of some transactions.
 ghost use Rattle.std.specs.Prelude.{◌≡◌, ◌^◌, ◌++◌, List, [], length, IsTrue, IfOk, OnOk, Some, map};
-ghost use Rattle.std.specs.List.{AllPairs, Contains};
-ghost use Rattle.pv_base.specs.Assignment.{precedes, assignments};
+ghost use Rattle.std.specs.List.{Contains};
+ghost use Rattle.pv_base.specs.Assignment.{AreAscending, assignments};
 ghost use Rattle.pv_base.specs.Polyvalue.{value_at, names, IsCanonical, AreValues};
 ghost use Rattle.pv_base.specs.declared.txn.TxnId.{TxnId};
 
@@ -11,9 +11,9 @@ use std::alloc::Global;
 use std::cmp::Ordering;
 
 impl<V: Exact> Tree<V> {
-    /// Puts the value at every assignment of these transactions behind what the list holds.
+    /// Appends the value at every assignment of these transactions.
     pub fn push_table(&self, txns: &[TxnId], values: &mut Vec<V>) -> Result<(), NoMemory>
-        requires ascending { AllPairs (λ txn later. IsTrue (precedes txn later)) txns.now }
+        requires ascending { AreAscending txns.now }
         ensures { OnOk result ((added : List _) × (values.new.items ≡ values.old.items ++ added) × AreValues self.now txns.now added) }
     {
         let Some((first, rest)) = txns.split_first() else {
@@ -47,7 +47,7 @@ impl<V: Exact> Tree<V> {
 
     /// The tree that has these values at the assignments of these transactions.
     pub fn from_table(alloc: Global, txns: &[TxnId], values: &[V]) -> Result<Tree<V>, NoMemory>
-        requires ascending { AllPairs (λ txn later. IsTrue (precedes txn later)) txns.now }
+        requires ascending { AreAscending txns.now }
         requires whole { length values.now ≡ 2 ^ length txns.now }
         ensures values { IfOk result (λ tree. AreValues tree txns.now values.now) }
         ensures names { IfOk result (λ tree. (txn : TxnId) → IsTrue (names tree txn) → Contains txns.now txn) }
@@ -56,9 +56,9 @@ impl<V: Exact> Tree<V> {
         let Some((first, rest)) = txns.split_first() else {
             return Ok(Tree::sure(values[0]));
         };
-        let (front, back) = values.split_at(values.len() / 2);
-        let aborted = Tree::from_table(alloc, rest, front)?;
-        let committed = Tree::from_table(alloc, rest, back)?;
+        let (aborted, committed) = values.split_at(values.len() / 2);
+        let aborted = Tree::from_table(alloc, rest, aborted)?;
+        let committed = Tree::from_table(alloc, rest, committed)?;
         Tree::test(alloc, *first, aborted, committed)
     }
 }

@@ -138,6 +138,52 @@ fn a_choice_by_a_later_transaction_goes_below(rt: HostRuntime) -> Result<(), Fai
     Ok(())
 }
 
+// The polyvalue once two outcomes are known, of which the first is on the earlier transaction.
+fn settle_both(
+    rt: &impl Abort,
+    alloc: Global,
+    poly: &Poly<i64>,
+    first: Literal,
+    second: Literal,
+) -> Result<Poly<i64>, NoMemory> {
+    assert!(rt; first.txn < second.txn);
+    poly.settle_all(alloc, &[first, second])
+}
+
+#[test]
+fn two_outcomes_are_put_in_at_once(rt: HostRuntime) -> Result<(), Fail> {
+    let alloc = rt.alloc();
+    let old = fifty_or_sixty(alloc)?;
+    let new = Poly::sure(alloc, 70)?;
+    let poly = Poly::choose(alloc, txn(1), &new, &old)?;
+    let settled = settle_both(&rt, alloc, &poly, aborts(0), aborts(1))?;
+    assert_cases(&rt, &settled, &[(&[], 50)]);
+    let settled = settle_both(&rt, alloc, &poly, commits(1), commits(2))?;
+    assert_cases(&rt, &settled, &[(&[], 70)]);
+    let settled = settle_both(&rt, alloc, &poly, commits(0), aborts(2))?;
+    assert_cases(&rt, &settled, &[(&[aborts(1)], 60), (&[commits(1)], 70)]);
+    Ok(())
+}
+
+#[test]
+fn equal_polyvalues_are_equal(rt: HostRuntime) -> Result<(), Fail> {
+    let alloc = rt.alloc();
+    let poly = fifty_or_sixty(alloc)?;
+    let copy = poly.copy(alloc)?;
+    assert!(rt; copy == poly);
+    let other = poly.settle(alloc, txn(0), true)?;
+    assert!(rt; other != poly);
+    let [case] = other.cases() else {
+        rt.abort();
+    };
+    let copy = case.copy(alloc)?;
+    assert!(rt; copy == *case);
+    for other in poly.cases() {
+        assert!(rt; copy != *other);
+    }
+    Ok(())
+}
+
 #[test]
 fn a_ninth_name_is_refused(rt: HostRuntime) -> Result<(), Fail> {
     let alloc = rt.alloc();
@@ -294,6 +340,7 @@ fn a_table_is_read_back(rt: HostRuntime) -> Result<(), Fail> {
 
     // A transaction that isn't named changes nothing, and one that is left out doesn't commit.
     let txns = ordered(Vec::from_slice(alloc, &[txn(1), txn(4), txn(0)])?);
+    assert_eq!(rt; txns.len(), 3);
     let table = poly.table(alloc, &txns)?;
     assert_eq!(rt; table.as_slice(), [5i64, 5, 5, 5, 1, 2, 1, 2].as_slice());
     Ok(())
@@ -390,6 +437,12 @@ fn each_assignment_has_the_right_value(rt: HostRuntime) -> Result<(), Fail> {
         let outcome = round % 2 == 0;
         let choice = Poly::choose(alloc, txn(site), &poly, &other)?;
         let settled = poly.settle(alloc, txn(site), outcome)?;
+        let (first, second) = if outcome {
+            (commits(site), aborts(site + 1))
+        } else {
+            (aborts(site), commits(site + 1))
+        };
+        let both = settle_both(&rt, alloc, &poly, first, second)?;
         let cases = spread(alloc, &poly, round)?;
         assert!(rt; are_few(&cases));
         let joined = Poly::join(alloc, cases)?;
@@ -405,6 +458,9 @@ fn each_assignment_has_the_right_value(rt: HostRuntime) -> Result<(), Fail> {
             assert_eq!(rt; choice.at(&yes), chosen);
             let known = assignment(alloc, with(bits, site, outcome))?;
             assert_eq!(rt; settled.at(&yes), poly.at(&known));
+            let bits_of_both = with(with(bits, site, outcome), site + 1, !outcome);
+            let known = assignment(alloc, bits_of_both)?;
+            assert_eq!(rt; both.at(&yes), poly.at(&known));
             assert_eq!(rt; joined.at(&yes), poly.at(&yes));
             let flipped = assignment(alloc, with(bits, site, !commits))?;
             changes |= (poly.at(&yes) != poly.at(&flipped)) as u32;
@@ -413,11 +469,7 @@ fn each_assignment_has_the_right_value(rt: HostRuntime) -> Result<(), Fail> {
         // What a polyvalue names is what its value changes with, and equal values have equal cases.
         assert_eq!(rt; poly.names(alloc)?.contains(&txn(site)), changes == 1);
         assert!(rt; !settled.names(alloc)?.contains(&txn(site)));
-        assert_eq!(rt; joined.cases().len(), poly.cases().len());
-        for (case, wanted) in joined.cases().iter().zip(poly.cases()) {
-            assert_eq!(rt; case.when.as_slice(), wanted.when.as_slice());
-            assert_eq!(rt; case.value, wanted.value);
-        }
+        assert!(rt; joined == poly);
     }
     Ok(())
 }

@@ -1,6 +1,6 @@
 // Decision trees over ascending transactions: how a polyvalue is worked on (Bryant, 1986). A tree stands for its cases.
 ghost use Rattle.std.specs.Prelude.{◌≡◌, ◌⊎◌, false, true, [], ◌∷◌, IsTrue, IfOk};
-ghost use Rattle.pv_base.specs.Polyvalue.{names, IsCanonical, NamesOnlyAfter, IsChoice, IsSettled};
+ghost use Rattle.pv_base.specs.Polyvalue.{names, IsCanonical, NamesOnlyAfter, IsChoice};
 ghost use Rattle.pv_base.specs.declared.txn.TxnId.{TxnId};
 
 use pv_base::{Exact, NoMemory, TxnId};
@@ -60,9 +60,9 @@ impl<V: Exact> Tree<V> {
         aborted: Tree<V>,
         committed: Tree<V>,
     ) -> Result<Tree<V>, NoMemory>
-        requires aborted_behind { NamesOnlyAfter txn aborted }
-        requires committed_behind { NamesOnlyAfter txn committed }
-        ensures choice { IfOk result (IsChoice txn committed aborted) }
+        requires aborted_after { NamesOnlyAfter txn aborted }
+        requires committed_after { NamesOnlyAfter txn committed }
+        ensures choice { IfOk result (IsChoice txn aborted committed) }
         ensures names { IfOk result (λ tree. (named : TxnId) → IsTrue (names tree named) →
             (txn ≡ named) ⊎ (IsTrue (names aborted named) ⊎ IsTrue (names committed named))) }
         ensures canonical { IfOk result IsCanonical }
@@ -87,9 +87,10 @@ impl<V: Exact> Tree<V> {
     {
         match (&self.node, &other.node) {
             (Node::Sure(value), Node::Sure(second)) => value == second,
-            (Node::Test(txn, aborted, committed), Node::Test(second, front, back)) => {
-                txn == second && aborted.same(front) && committed.same(back)
-            }
+            (
+                Node::Test(txn, aborted, committed),
+                Node::Test(second, other_aborted, other_committed),
+            ) => { txn == second && aborted.same(other_aborted) && committed.same(other_committed) }
             _ => false,
         }
     }

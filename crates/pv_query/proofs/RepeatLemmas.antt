@@ -1,10 +1,11 @@
 -- Lists freed of repeats: how they grow by one value after another, and that they contain the values that they were made of.
-use Rattle.std.proofs.Common.{◌≡◌, ⊎_elim, ℕ, ◌+◌, ◌<◌, ◌≤◌, Bool, true, false, cond, List, [], ◌∷◌, length, get_or, drop, refl, sym, ap, subst, ◌∙◌}
+use Rattle.std.proofs.Common.{◌≡◌, ⊎_elim, ℕ, ◌+◌, ◌<◌, ◌≤◌, Bool, true, false, cond, List, [], ◌∷◌, length, get_or, drop, refl, sym, ap, subst, ◌∙◌, ◌≢◌, arith}
 use Rattle.std.specs.Prelude.{not, ◌&&◌, ◌||◌, ◌++◌, map, if◌then◌else◌, Some}
-use Rattle.std.specs.List.{Contains, filter, list_any}
+use Rattle.std.specs.List.{AllPairs, Contains, filter, list_any}
 use Rattle.std.proofs.lemmas.Bool.{false≢true}
 use Rattle.std.proofs.lemmas.List.{append_assoc, append-nil, at_drop_more, drop_all}
-use Rattle.std.proofs.lemmas.List.Elements.{All-contains, All-contains_itself, All-filter}
+use Rattle.std.proofs.lemmas.List.Elements.{All-contains, All-contains_itself, All-filter, All-weaker, filter_passes}
+use Rattle.std.proofs.lemmas.List.Kept.{AllPairs-cons, AllPairs-filter}
 use Rattle.std.proofs.lemmas.List.Folds.{list_any-append}
 use Rattle.pv_model.specs.PossibleAnswers.{without_repeats, only}
 use Rattle.pv_base.proofs.Basics.{Some_inj}
@@ -168,3 +169,14 @@ module _ {V : Type 0} where
   pub only-value : (same : V → V → Bool) → ((x y : V) → same x y ≡ true → x ≡ y) → (values : List V) (v : V) → only (without_repeats same values) ≡ Some v
       → (x : V) → Contains values x → v ≡ x
   only-value same exact values v is x h = only-contained (without_repeats same values) v is x (Contains-repeats same exact values x h)
+
+  -- No value stands twice.
+  pub repeats-distinct : (same : V → V → Bool) → ((x : V) → same x x ≡ true) → (values : List V) → AllPairs (λ x y. x ≢ y) (without_repeats same values)
+  repeats-distinct same itself [] = λ i j d before within. absurd (omega (arith, within))
+  repeats-distinct same itself (value ∷ values) =
+      let other = λ (y : V). not (same value y) in
+      let rest = filter other (without_repeats same values) in
+      AllPairs-cons (λ x y. x ≢ y) value rest
+      (All-weaker (λ (y : V). other y ≡ true) (λ (y : V). value ≢ y)
+      (λ y kept equal. hidden (same value y) kept (subst (λ z. same value z ≡ true) equal (itself value))) rest (filter_passes other (without_repeats same values)))
+      (AllPairs-filter (λ x y. x ≢ y) other (without_repeats same values) (repeats-distinct same itself values))

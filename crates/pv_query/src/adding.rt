@@ -2,7 +2,7 @@
 ghost use Rattle.std.specs.Prelude.{◌≡◌, ◌≢◌, ◌<◌, ◌≤◌, ◌+◌, ◌*◌, ◌^◌, ◌⊎◌, ℕ, pos, List, Err, All, IsTrue, map, length, IfOk, IfErr, OnOk};
 ghost use Rattle.std.specs.List.{AllPairs, Contains, flat_map};
 ghost use Rattle.std.specs.Ordering.{int_eq};
-ghost use Rattle.pv_base.specs.Assignment.{precedes, assignments};
+ghost use Rattle.pv_base.specs.Assignment.{AreAscending, assignments};
 ghost use Rattle.pv_base.specs.Polyvalue.{AreNames, IsPolyvalue};
 ghost use Rattle.pv_base.specs.declared.txn.TxnId.{TxnId};
 ghost use Rattle.pv_model.specs.Alternatives.{number_at};
@@ -59,6 +59,8 @@ pub fn sums(alloc: Global, values: &[Poly<i64>]) -> Result<Vec<i128>, SumError>
     requires { length values.now ≤ MAX_ITEMS }
     ensures sums { (txns : List TxnId) → AreNames (flat_map (λ cases. cases) values.now) txns → IfOk result (λ found. found.items ≡ sums values.now txns) }
 
+    ensures distinct { IfOk result (λ found. AllPairs (λ sum later. sum ≢ later) found.items) }
+
     // They are the sums at all assignments: no sum is left out, and each is the sum at some assignment.
     ensures every { (assignment : List TxnId) → IfOk result (λ found. Contains found.items (sum_at values.now assignment)) }
     ensures each { IfOk result (λ found. All (λ sum. (assignment : List TxnId) × (sum_at values.now assignment ≡ sum)) found.items) }
@@ -92,7 +94,7 @@ fn outcomes(alloc: Global, values: &[Poly<i64>]) -> Result<Vec<TxnId>, NoMemory>
 
 // The sums at every assignment of these few transactions, each once.
 fn sums_over(alloc: Global, values: &[Poly<i64>], txns: &[TxnId]) -> Result<Vec<i128>, NoMemory>
-    requires ascending { AllPairs (λ txn later. IsTrue (precedes txn later)) txns.now }
+    requires ascending { AreAscending txns.now }
     requires few_txns { length txns.now ≤ HELD_NAMES }
     requires few_values { length values.now ≤ MAX_ITEMS }
     ensures { IfOk result (λ found. found.items ≡ sums values.now txns.now) }
@@ -128,7 +130,8 @@ impl RunningSums {
 
     // Adds the value at each assignment of these transactions.
     fn add(&mut self, alloc: Global, value: &Poly<i64>, txns: &[TxnId]) -> Result<(), NoMemory>
-        requires ascending { AllPairs (λ txn later. IsTrue (precedes txn later)) txns.now }
+        requires ascending { AreAscending txns.now }
+        requires few { length txns.now ≤ HELD_NAMES }
         requires room { AreWithin (2 ^ 100) self.old }
         requires places { length self.old.at_each.items ≡ length (assignments txns.now) }
         ensures added { OnOk result (totals self.new ≡ added (totals self.old) (map (number_at value.now) (assignments txns.now))) }

@@ -1,9 +1,9 @@
 // The possible answers of a reply, and the certain one.
-ghost use Rattle.std.specs.Prelude.{◌≡◌, List, Some, All, IfOk, IfSome, IsSomeAnd};
-ghost use Rattle.std.specs.List.{Contains};
+ghost use Rattle.std.specs.Prelude.{◌≡◌, ◌≢◌, List, Some, All, IfOk, IfSome, IsSomeAnd};
+ghost use Rattle.std.specs.List.{AllPairs, Contains};
 ghost use Rattle.pv_base.specs.Polyvalue.{value_at};
 ghost use Rattle.pv_base.specs.declared.txn.TxnId.{TxnId};
-ghost use Rattle.pv_ast.specs.declared.effect.Reply.{Reply};
+ghost use Rattle.pv_base.specs.declared.reply.Reply.{Reply};
 ghost use Rattle.pv_model.specs.PossibleAnswers.{possible, certain};
 
 use crate::repeats::push_new;
@@ -16,6 +16,8 @@ use std::alloc::Global;
 /// different replies.
 pub fn possible(alloc: Global, reply: &Poly<Reply>) -> Result<Vec<Reply>, NoMemory>
     ensures possible { IfOk result (λ replies. replies.items ≡ possible ⟦<Reply as PartialEq>⟧.eq reply.now) }
+
+    ensures distinct { IfOk result (λ replies. AllPairs (λ reply later. reply ≢ later) replies.items) }
 
     // They are the replies at all assignments: no reply is left out, and each is given at some assignment.
     ensures every { (assignment : List TxnId) → IfOk result (λ replies. IsSomeAnd (value_at reply.now assignment) (Contains replies.items)) }

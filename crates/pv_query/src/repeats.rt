@@ -4,7 +4,7 @@ ghost use Rattle.pv_query.specs.Repeats.{with_new};
 
 use pv_base::{Exact, NoMemory};
 
-/// Puts the value behind what the list holds, unless it is there.
+/// Appends the value, unless the list has it.
 pub fn push_new<V: Exact>(values: &mut Vec<V>, value: V) -> Result<(), NoMemory>
     ensures { OnOk result (values.new.items ≡ with_new V.PartialEq.eq values.old.items value) }
 {

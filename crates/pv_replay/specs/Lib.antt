@@ -1,2 +1,4 @@
+pub mod Content
 pub mod Faults
 pub mod Order
+pub mod Values

@@ -84,6 +84,16 @@ impl fmt::Display for ReplayError {
 
 impl Error for ReplayError {}
 
+impl From<NoMemory> for ReplayError {
+    ghost use Rattle.pv_replay.specs.declared.error.ReplayError.TheVariants as error;
+
+    ghost from_gives = { λ _ e. e ≡ error.NoMemory };
+
+    fn from(_: NoMemory) -> Self {
+        ReplayError::NoMemory
+    }
+}
+
 impl<T: Drop> From<AllocFailed<T>> for ReplayError {
     ghost use Rattle.pv_replay.specs.declared.error.ReplayError.TheVariants as error;
 

@@ -4,7 +4,10 @@
 mod error;
 mod fields;
 mod order;
+mod past;
 mod poly;
+mod reads;
+mod record;
 
 pub use error::{PolyError, ReplayError};
 pub use fields::{
@@ -12,3 +15,6 @@ pub use fields::{
 };
 pub use poly::{put_poly, take_poly};
 pub use pv_poly::Read;
+pub use reads::{put_reads, take_reads};
+pub use record::{Record, encode_record};
+pub use past::{Past, replay};

@@ -4,6 +4,7 @@ use Rattle.std.specs.Prelude.{nat_le}
 use Rattle.std.specs.Option.{option_map_or}
 use Rattle.std.proofs.lemmas.Grind.{common_steps}
 use Rattle.std.proofs.lemmas.Bool.{and_left, and_right, leb-true}
+use Rattle.pv_base.specs.declared.limits.TheConstants.{MAX_ITEMS}
 use Rattle.pv_base.specs.Name.{is_name}
 use Rattle.pv_base.specs.Catalog.{Declared, place_of, refusal, refusal_of_taken, refusal_of_new}
 use Rattle.pv_base.specs.declared.catalog.CatalogError.{CatalogError}
@@ -19,7 +20,7 @@ data Why (catalog : Declared) (word : List ℕ) (n : ℕ) : CatalogError → Typ
   bad : is_name word ≡ false → Why catalog word n BadName
   taken : (k : ℕ) → is_name word ≡ true → place_of word catalog.items ≡ Some k → Why catalog word n (NameTaken (record { 0 = k }))
   away : catalog.sites ≤ n → Why catalog word n NoSite
-  full : is_name word ≡ true → place_of word catalog.items ≡ None → 1024 ≤ length catalog.items → Why catalog word n TooMany
+  full : is_name word ≡ true → place_of word catalog.items ≡ None → MAX_ITEMS ≤ length catalog.items → Why catalog word n TooMany
 
 same_error : (e f : CatalogError) → Some e ≡ Some f → e ≡ f
 same_error e f is = cc
@@ -28,11 +29,11 @@ no_error : (e : CatalogError) → None ≡ Some e → ⊥
 no_error e is = cc
 
 why-new : (catalog : Declared) (word : List ℕ) (n : ℕ) (e : CatalogError) → is_name word ≡ true → place_of word catalog.items ≡ None → refusal_of_new catalog n ≡ Some e → Why catalog word n e
-why-new catalog word n e named free is = go (nat_le catalog.sites n) refl (nat_le 1024 (length catalog.items)) refl is
+why-new catalog word n e named free is = go (nat_le catalog.sites n) refl (nat_le MAX_ITEMS (length catalog.items)) refl is
   where
-    go : (a : Bool) → nat_le catalog.sites n ≡ a → (b : Bool) → nat_le 1024 (length catalog.items) ≡ b → cond a (Some NoSite) (cond b (Some TooMany) None) ≡ Some e → Why catalog word n e
+    go : (a : Bool) → nat_le catalog.sites n ≡ a → (b : Bool) → nat_le MAX_ITEMS (length catalog.items) ≡ b → cond a (Some NoSite) (cond b (Some TooMany) None) ≡ Some e → Why catalog word n e
     go true no_site b room told = subst (Why catalog word n) (same_error NoSite e told) (away (leb-true catalog.sites n no_site))
-    go false some_site true many told = subst (Why catalog word n) (same_error TooMany e told) (full named free (leb-true 1024 (length catalog.items) many))
+    go false some_site true many told = subst (Why catalog word n) (same_error TooMany e told) (full named free (leb-true MAX_ITEMS (length catalog.items) many))
     go false some_site false few told = absurd (no_error e told)
 
 why : (catalog : Declared) (word : List ℕ) (n : ℕ) (e : CatalogError) → refusal catalog word n ≡ Some e → Why catalog word n e
@@ -54,7 +55,7 @@ fault-why before line word at digits catalog (NameTaken item) is same within (ta
     IsLineFault-taken before line word at digits is named (some_place k (place_of word before.items) (ap (place_of word) (sym same) ∙ found))
 fault-why before line word at digits catalog NoSite is same within (away far) = absurd (omega arith)
 fault-why before line word at digits catalog TooMany is same within (full named free many) =
-    IsLineFault-full before line word at digits is named (ap (place_of word) (sym same) ∙ free) (subst (λ (items : List _). 1024 ≤ length items) same many)
+    IsLineFault-full before line word at digits is named (ap (place_of word) (sym same) ∙ free) (subst (λ (items : List _). MAX_ITEMS ≤ length items) same many)
 fault-why before line word at digits catalog NoMemory is same within never = elim never [ ]
 
 pub IsLineFault-add : (before : Before) (line word at digits : List ℕ) (catalog : Declared) (e : CatalogError) (is : IsItemLine before line word at digits)

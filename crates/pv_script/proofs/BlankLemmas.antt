@@ -3,7 +3,7 @@ use Rattle.std.proofs.Common.{◌≡◌, ℕ, zero, suc, ◌+◌, Bool, true, fa
 use Rattle.std.specs.Prelude.{◌&&◌}
 use Rattle.std.specs.List.{list_all}
 use Rattle.std.proofs.lemmas.Bool.{and_left, and_right}
-use Rattle.pv_model.specs.Text.{is_blank}
+use Rattle.pv_base.specs.Name.{is_blank}
 use Rattle.pv_model.specs.LineForms.{before_blanks}
 
 -- the last byte is no blank

@@ -1,9 +1,10 @@
 -- The causes of a line, in their order: where the first ones don't hold, a later one is the first that may.
-use Rattle.std.proofs.Common.{◌≡◌, ◌≢◌, ℕ, ◌<◌, ◌≤◌, true, false, Option, Some, None, List, [], ◌∷◌, length, refl, sym, ap, ◌∙◌, subst, arith, find}
+use Rattle.std.proofs.Common.{◌≡◌, ◌≢◌, ℕ, ◌<◌, ◌≤◌, true, false, Option, Some, List, [], ◌∷◌, length, refl, sym, ap, ◌∙◌, subst, arith, find}
 use Rattle.std.specs.Prelude.{◌==◌}
 use Rattle.std.specs.List.{list_all, Contains}
 use Rattle.std.proofs.lemmas.Option.{none-some}
 use Rattle.std.proofs.lemmas.Bool.{both_ways}
+use Rattle.pv_base.specs.declared.limits.TheConstants.{MAX_LINE}
 use Rattle.pv_model.specs.Causes as model
 use Rattle.pv_model.specs.Causes.{Before, too_long, not_text, sites_expected, unknown_word, twice, too_late, wrong_count, bad_number, bad_mode, bad_name, name_taken, too_many_items, at_program, names_no_item, too_many_names, query_assigns, line_cause_rank, HasLineCause, or_default}
 use Rattle.pv_model.specs.LineForms.{Field, mode, first_of, first_word, forms_of, takes_program, site_and_text, program_text, arguments, form_of, fields_in, fields_of, has_good_number}
@@ -94,13 +95,13 @@ pub told : (before : Before) (line : TextLine) (cause : LineCause) (is : model.L
     → NoneBefore before line (line_cause_rank is) → IsLineFault before line (At cause)
 told before line cause is same has none = (is, same, record { has = has; first = none })
 
-pub IsLineFault-long : (before : Before) (line : TextLine) → 1000 < length line → IsLineFault before line (At TooLong)
+pub IsLineFault-long : (before : Before) (line : TextLine) → MAX_LINE < length line → IsLineFault before line (At TooLong)
 IsLineFault-long before line long = told before line TooLong too_long refl long (none0 before line)
 
-none-long : (before : Before) (line : TextLine) → length line ≤ 1000 → NoneBefore before line 1
+none-long : (before : Before) (line : TextLine) → length line ≤ MAX_LINE → NoneBefore before line 1
 none-long before line short = none1 before line (λ has. absurd (omega arith))
 
-pub IsLineFault-bytes : (before : Before) (line : TextLine) → length line ≤ 1000 → list_all is_text_byte line ≡ false → IsLineFault before line (At NotText)
+pub IsLineFault-bytes : (before : Before) (line : TextLine) → length line ≤ MAX_LINE → list_all is_text_byte line ≡ false → IsLineFault before line (At NotText)
 IsLineFault-bytes before line short bytes = told before line NotText not_text refl bytes (none-long before line short)
 
 pub none-text : (before : Before) (line : TextLine) → IsText line → NoneBefore before line 2

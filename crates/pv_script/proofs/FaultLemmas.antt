@@ -1,12 +1,12 @@
 -- Lines taken one by one: what they say so far, and the first one at fault.
-use Rattle.std.proofs.Common.{◌≡◌, ℕ, List, [], ◌∷◌, ◌++◌, ◌+◌, length, map, inl, inr, refl, sym, ap, subst}
+use Rattle.std.proofs.Common.{◌≡◌, ℕ, List, [], ◌∷◌, ◌++◌, ◌+◌, length, map, inl, inr, IfSome, refl, sym, ap, subst}
 use Rattle.pv_base.specs.Catalog.{Declared}
 use Rattle.pv_model.specs.Causes.{Before, at_first, LineCause, sites_expected, IsFirstCause}
 use Rattle.pv_model.specs.Events as model
 use Rattle.pv_model.specs.FirstFault.{without_numbers}
 use Rattle.pv_model.specs.Schedule.{Declares, IsEvent, with_event, AreLines, none, declaration, event, IsAtFault, IsMalformedSchedule}
 use Rattle.pv_model.specs.Text.{TextLine, lines, numbered}
-use Rattle.pv_script.specs.ScriptErrors.{Refuses}
+use Rattle.pv_script.specs.ScriptErrors.{IsMalformedAt, refused_line}
 use Rattle.pv_script.specs.Faults.{error_at, IsErrorAt, IsLineFault}
 use Rattle.pv_script.specs.Takes.{Takes, declared, happened}
 use Rattle.pv_script.specs.View.{event_of}
@@ -89,7 +89,7 @@ lines-takes before after catalog old new line left whole more last (happened e s
 -- ---- refusals
 
 pub refuses-first : (text : List ℕ) (number : ℕ) (line : TextLine) (rest : List (ℕ × TextLine)) (fault : Fault) → numbered text ≡ (number, line) ∷ rest
-    → IsLineFault at_first line fault → Refuses (IsMalformedSchedule text) (error_at number fault)
+    → IsLineFault at_first line fault → IfSome (refused_line (error_at number fault)) (IsMalformedAt text)
 refuses-first text number line rest (At told) split fault =
     (fault.0, fault.1, inl (fault-whole text number fault.0 (subst (λ (all : List (ℕ × TextLine)). IsAtFaultFrom at_first all number fault.0) (sym split) (fault-here at_first number line rest fault.0 fault.2))))
 refuses-first text number line rest NoMemory split fault = tt
@@ -101,7 +101,7 @@ error-fault before number line NoMemory fault = tt
 -- An error of a line of the text refuses the text.
 pub refuses-line : (text : List ℕ) (before : Before) (number : ℕ) (line : TextLine) (rest : List (ℕ × TextLine)) (e : ScriptError)
     → ((n : ℕ) (cause : LineCause) → IsAtFaultFrom before ((number, line) ∷ rest) n cause → IsAtFault text n cause)
-    → IsErrorAt before number line e → Refuses (IsMalformedSchedule text) e
+    → IsErrorAt before number line e → IfSome (refused_line e) (IsMalformedAt text)
 refuses-line text before number line rest (error.Malformed place told) so is =
     let at = so number is.1.0 (fault-here before number line rest is.1.0 is.1.2) in
     (is.1.0, is.1.1, inl (subst (λ (n : ℕ). IsAtFault text n is.1.0) (sym is.0) at))

@@ -3,6 +3,7 @@ use Rattle.std.proofs.Common.{◌≡◌, ℕ, suc, ◌<◌, ◌≤◌, true, fal
 use Rattle.std.specs.Prelude.{IsTrue, ℤ, nat_le, nat_lt, ◌&&◌}
 use Rattle.std.specs.List.{list_all, Contains}
 use Rattle.std.proofs.lemmas.Bool.{and_from, and_left, and_right, le-leb}
+use Rattle.pv_base.specs.declared.limits.TheConstants.{MAX_CALL, MAX_PUMP}
 use Rattle.pv_base.specs.Name.{is_digit}
 use Rattle.pv_model.specs.Causes.{mode_words}
 use Rattle.pv_model.specs.LineForms.{Field, number, site, value, mode, are_digits, has_good_number}
@@ -46,8 +47,8 @@ pub bad-one : (field : Field) (sites : ℕ) (word : List ℕ) → has_good_numbe
     → IsFieldFault sites ((field ∷ []) ∷ []) (word ∷ []) BadNumber
 bad-one field sites word bad = (λ none. cc, rw bad refl)
 
-pub bad-most : (sites : ℕ) (word : List ℕ) → has_good_number sites (number 1 1000000, word) ≡ false
-    → IsFieldFault sites ([] ∷ (number 1 1000000 ∷ []) ∷ []) (word ∷ []) BadNumber
+pub bad-most : (sites : ℕ) (word : List ℕ) → has_good_number sites (number 1 MAX_PUMP, word) ≡ false
+    → IsFieldFault sites ([] ∷ (number 1 MAX_PUMP ∷ []) ∷ []) (word ∷ []) BadNumber
 bad-most sites word bad = (λ none. cc, rw bad refl)
 
 -- ---- a site, a call and a mode
@@ -61,17 +62,17 @@ texts-three (a ∷ b ∷ c ∷ []) d e f some few = refl
 texts-three (a ∷ b ∷ c ∷ more ∷ args) d e f some few = absurd (omega arith)
 
 abbrev ArmForms : List (List Field)
-ArmForms = (site ∷ number 1 1000 ∷ mode ∷ []) ∷ []
+ArmForms = (site ∷ number 1 MAX_CALL ∷ mode ∷ []) ∷ []
 
-pub bad-call : (sites : ℕ) (at call left : List ℕ) → has_good_number sites (number 1 1000, call) ≡ false
+pub bad-call : (sites : ℕ) (at call left : List ℕ) → has_good_number sites (number 1 MAX_CALL, call) ≡ false
     → IsFieldFault sites ArmForms (at ∷ call ∷ left ∷ []) BadNumber
 bad-call sites at call left bad =
-    (λ none. cc, and_right (has_good_number sites (site, at)) _ (and_left (has_good_number sites (number 1 1000, call)) true bad))
+    (λ none. cc, and_right (has_good_number sites (site, at)) _ (and_left (has_good_number sites (number 1 MAX_CALL, call)) true bad))
 
-pub bad-mode : (sites n k : ℕ) (at call left : List ℕ) → IsNumber at n → n < sites → IsIn 1 1000 call k → (Contains mode_words left → ⊥)
+pub bad-mode : (sites n k : ℕ) (at call left : List ℕ) → IsNumber at n → n < sites → IsIn 1 MAX_CALL call k → (Contains mode_words left → ⊥)
     → IsFieldFault sites ArmForms (at ∷ call ∷ left ∷ []) BadMode
 bad-mode sites n k at call left is below within bad =
-    (λ none. cc, and_from (has_good_number sites (site, at)) _ (good-site sites n at is below) (and_from (has_good_number sites (number 1 1000, call)) true (good-number sites 1 1000 k call within) refl), left, (2, omega arith, refl), bad)
+    (λ none. cc, and_from (has_good_number sites (site, at)) _ (good-site sites n at is below) (and_from (has_good_number sites (number 1 MAX_CALL, call)) true (good-number sites 1 MAX_CALL k call within) refl), left, (2, omega arith, refl), bad)
 
 pub bad-alone : (field : Field) (sites : ℕ) (args : List (Bor (List ℕ))) (d : Bor (List ℕ)) → 1 ≤ length args → length args < 2
     → has_good_number sites (field, (get_or args 0 d).now) ≡ false → IsFieldFault sites ((field ∷ []) ∷ []) (texts args) BadNumber
@@ -80,11 +81,11 @@ bad-alone field sites (word ∷ []) d some few bad = bad-one field sites word.no
 bad-alone field sites (word ∷ more ∷ args) d some few bad = absurd (omega arith)
 
 pub bad-call-at : (sites : ℕ) (args : List (Bor (List ℕ))) (d : Bor (List ℕ)) → 3 ≤ length args → length args < 4
-    → has_good_number sites (number 1 1000, (get_or args 1 d).now) ≡ false → IsFieldFault sites ArmForms (texts args) BadNumber
+    → has_good_number sites (number 1 MAX_CALL, (get_or args 1 d).now) ≡ false → IsFieldFault sites ArmForms (texts args) BadNumber
 bad-call-at sites args d some few bad = rw (texts-three args d d d some few) (bad-call sites (get_or args 0 d).now (get_or args 1 d).now (get_or args 2 d).now bad)
 
 pub bad-mode-at : (sites n k : ℕ) (args : List (Bor (List ℕ))) (d : Bor (List ℕ)) → 3 ≤ length args → length args < 4
-    → IsNumber (get_or args 0 d).now n → n < sites → IsIn 1 1000 (get_or args 1 d).now k → (Contains mode_words (get_or args 2 d).now → ⊥)
+    → IsNumber (get_or args 0 d).now n → n < sites → IsIn 1 MAX_CALL (get_or args 1 d).now k → (Contains mode_words (get_or args 2 d).now → ⊥)
     → IsFieldFault sites ArmForms (texts args) BadMode
 bad-mode-at sites n k args d some few is below within bad =
     rw (texts-three args d d d some few) (bad-mode sites n k (get_or args 0 d).now (get_or args 1 d).now (get_or args 2 d).now is below within bad)

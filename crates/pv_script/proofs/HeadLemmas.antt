@@ -5,6 +5,7 @@ use Rattle.std.specs.List.{list_all, Contains}
 use Rattle.std.specs.Str.{bytes_eq}
 use Rattle.std.proofs.lemmas.Bool.{both_ways, and_from, and_parts}
 use Rattle.std.proofs.lemmas.Slice.Eq.{bytes_eq-Decides}
+use Rattle.pv_base.specs.declared.limits.TheConstants.{MAX_ITEMS, MAX_JOURNAL, MAX_SITES, MIN_JOURNAL}
 use Rattle.pv_base.specs.Name.{is_name}
 use Rattle.pv_base.specs.Catalog.{place_of}
 use Rattle.pv_model.specs.Causes.{Before, at_first, sites_expected, twice, too_late, bad_name, name_taken, too_many_items, BeginsWith, IsSaid, or_default, Has}
@@ -82,12 +83,12 @@ none-first line args is are =
     (none5 at_first line
     (none4 at_first line
     (none3 at_first line (none-text at_first line is) (λ has. has.1 (first-line line (codes "sites") args are)))
-    (λ unknown. some_forms (forms_of (codes "sites")) (number 1 16 ∷ []) [] forms-sites (ap forms_of (sym (first-line line (codes "sites") args are)) ∙ unknown)))
+    (λ unknown. some_forms (forms_of (codes "sites")) (number 1 MAX_SITES ∷ []) [] forms-sites (ap forms_of (sym (first-line line (codes "sites") args are)) ∙ unknown)))
     (⊎_elim (λ (p : BeginsWith (codes "sites") line × IsSaid at_first.sites). p.1 refl) (λ (p : BeginsWith (codes "journal") line × IsSaid at_first.journal). p.1 refl)))
     (λ late. let begun : false ≡ true = late.1 in cc)
 
 pub IsLineFault-sites : (line : TextLine) (args : List (List ℕ)) (cause : LineCause) → IsText line → words line ≡ codes "sites" ∷ args
-    → IsFieldFault 0 ((number 1 16 ∷ []) ∷ []) args cause → IsLineFault at_first line (At cause)
+    → IsFieldFault 0 ((number 1 MAX_SITES ∷ []) ∷ []) args cause → IsLineFault at_first line (At cause)
 IsLineFault-sites line args cause is are fault =
     IsLineFault-fields at_first line (codes "sites") args args cause are
     (arguments-line line (codes "sites") args are plain-sites) (none-first line args is are) (rw forms-sites fault)
@@ -98,13 +99,13 @@ pub IsLineFault-twice_sites : (before : Before) (line : TextLine) (args : List (
 IsLineFault-twice_sites before line args head =
     told before line Twice twice refl
     (inl (first-line line (codes "sites") args head.words, λ none. let said = head.said in let refuted : None ≡ Some head.sites = sym none ∙ said in cc))
-    (none-known before line (codes "sites") args head (some_forms (forms_of (codes "sites")) (number 1 16 ∷ []) [] forms-sites))
+    (none-known before line (codes "sites") args head (some_forms (forms_of (codes "sites")) (number 1 MAX_SITES ∷ []) [] forms-sites))
 
 -- ---- journals
 
 none-journal : (before : Before) (line : TextLine) (args : List (List ℕ)) → IsHead before line (codes "journal") args → NoneBefore before line 4
 none-journal before line args head =
-    none-known before line (codes "journal") args head (some_forms (forms_of (codes "journal")) (number 32 4294967296 ∷ []) [] forms-journal)
+    none-known before line (codes "journal") args head (some_forms (forms_of (codes "journal")) (number MIN_JOURNAL MAX_JOURNAL ∷ []) [] forms-journal)
 
 pub IsLineFault-twice_journal : (before : Before) (line : TextLine) (args : List (List ℕ)) → IsHead before line (codes "journal") args
     → before.journal ≢ None → IsLineFault before line (At Twice)
@@ -123,7 +124,7 @@ IsLineFault-late_journal before line args head once late =
     told before line TooLate too_late refl (inl (first-line line (codes "journal") args head.words), late) (none-once before line args head once)
 
 pub IsLineFault-journal : (before : Before) (line : TextLine) (args : List (List ℕ)) (cause : LineCause) → IsHead before line (codes "journal") args
-    → before.journal ≡ None → before.begun ≡ false → IsFieldFault (or_default 0 before.sites) ((number 32 4294967296 ∷ []) ∷ []) args cause
+    → before.journal ≡ None → before.begun ≡ false → IsFieldFault (or_default 0 before.sites) ((number MIN_JOURNAL MAX_JOURNAL ∷ []) ∷ []) args cause
     → IsLineFault before line (At cause)
 IsLineFault-journal before line args cause head once early fault =
     IsLineFault-fields before line (codes "journal") args args cause head.words
@@ -252,7 +253,7 @@ IsLineFault-taken before line word at digits is named taken =
     told before line NameTaken name_taken refl (word, item-has_name line word at digits is.head.words, taken) (none-named before line word at digits is named)
 
 pub IsLineFault-full : (before : Before) (line word at digits : List ℕ) → IsItemLine before line word at digits → is_name word ≡ true
-    → place_of word before.items ≡ None → 1024 ≤ length before.items → IsLineFault before line (At TooManyItems)
+    → place_of word before.items ≡ None → MAX_ITEMS ≤ length before.items → IsLineFault before line (At TooManyItems)
 IsLineFault-full before line word at digits is named free full =
     told before line TooManyItems too_many_items refl (first-line line (codes "item") (word ∷ at ∷ digits ∷ []) is.head.words, full)
     (none11 before line (none-named before line word at digits is named)

@@ -7,6 +7,7 @@ use Rattle.std.specs.Str.{bytes_eq}
 use Rattle.std.proofs.lemmas.Option.{none-some}
 use Rattle.std.proofs.lemmas.Bool.{and_parts, both_ways}
 use Rattle.std.proofs.lemmas.Slice.Eq.{bytes_eq-Decides}
+use Rattle.pv_base.specs.declared.limits.TheConstants.{MAX_JOURNAL, MAX_SITES, MIN_JOURNAL}
 use Rattle.pv_model.specs.LineForms.{Field, number, site, value, name, program, line_forms, forms_of, takes_program}
 use Rattle.pv_script.specs.Keywords.{spelled, listed, command_word, command_forms}
 use Rattle.pv_script.specs.declared.keyword.Keyword.{Keyword}
@@ -88,11 +89,11 @@ command-no_journal command same = both_ways (is_declaration (command_word comman
 pub command-no_item : (command : code.Command) → command_word command ≡ codes "item" → ⊥
 command-no_item command same = both_ways (is_declaration (command_word command)) (no_declaration command) (ap is_declaration same ∙ declares-item)
 
-pub forms-sites : forms_of (codes "sites") ≡ (number 1 16 ∷ []) ∷ []
+pub forms-sites : forms_of (codes "sites") ≡ (number 1 MAX_SITES ∷ []) ∷ []
 unfolding line_forms
 forms-sites = refl
 
-pub forms-journal : forms_of (codes "journal") ≡ (number 32 4294967296 ∷ []) ∷ []
+pub forms-journal : forms_of (codes "journal") ≡ (number MIN_JOURNAL MAX_JOURNAL ∷ []) ∷ []
 unfolding line_forms
 forms-journal = refl
 

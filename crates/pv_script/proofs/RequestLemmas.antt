@@ -3,6 +3,7 @@ use Rattle.std.proofs.Common.{◌≡◌, ◌≢◌, ℕ, zero, suc, ◌<◌, ◌
 use Rattle.std.specs.Prelude.{codes, nat_lt, IfSome, if◌then◌else◌}
 use Rattle.std.specs.List.{list_all, Contains}
 use Rattle.std.proofs.lemmas.Bool.{both_ways, and_from, ltb-true, ltb-false}
+use Rattle.pv_base.specs.declared.limits.TheConstants.{MAX_LINE, MAX_PROGRAM_ITEMS}
 use Rattle.pv_check.specs.Refusal.{refusal, refusal_of_query, first_cause}
 use Rattle.pv_check.specs.declared.plan.CheckError.{CheckError}
 use Rattle.pv_check.specs.declared.plan.CheckError.TheVariants as check
@@ -33,9 +34,9 @@ use Rattle.pv_script.proofs.FieldLemmas.{good-site}
 
 data Why (m : ℕ) (p : Program) (query : Bool) : CheckError → Type 0 where
   none : m ≡ 0 → Why m p query check.NoItem
-  many : 16 < m → Why m p query (check.TooManyItems m)
-  assigning : 0 < m → m ≤ 16 → query ≡ true → has_assignment p ≡ true → Why m p query check.Assigns
-  silent : 0 < m → m ≤ 16 → query ≡ true → has_assignment p ≡ false → has_return p ≡ false → Why m p query check.NoReturn
+  many : MAX_PROGRAM_ITEMS < m → Why m p query (check.TooManyItems m)
+  assigning : 0 < m → m ≤ MAX_PROGRAM_ITEMS → query ≡ true → has_assignment p ≡ true → Why m p query check.Assigns
+  silent : 0 < m → m ≤ MAX_PROGRAM_ITEMS → query ≡ true → has_assignment p ≡ false → has_return p ≡ false → Why m p query check.NoReturn
 
 same_error : (e f : CheckError) → Some e ≡ Some f → e ≡ f
 same_error e f is = cc
@@ -43,7 +44,7 @@ same_error e f is = cc
 no_error : (e : CheckError) → None ≡ Some e → ⊥
 no_error e is = cc
 
-why-query : (m : ℕ) (p : Program) (query : Bool) (e : CheckError) → 0 < m → m ≤ 16 → (if query then refusal_of_query p else None) ≡ Some e → Why m p query e
+why-query : (m : ℕ) (p : Program) (query : Bool) (e : CheckError) → 0 < m → m ≤ MAX_PROGRAM_ITEMS → (if query then refusal_of_query p else None) ≡ Some e → Why m p query e
 why-query m p query e some small is = go query refl (has_assignment p) refl (has_return p) refl is
   where
     go : (q : Bool) → query ≡ q → (a : Bool) → has_assignment p ≡ a → (r : Bool) → has_return p ≡ r
@@ -53,14 +54,14 @@ why-query m p query e some small is = go query refl (has_assignment p) refl (has
     go true asks false pure true returns told = absurd (no_error e told)
     go true asks false pure false quiet told = subst (Why m p query) (same_error check.NoReturn e told) (silent some small asks pure quiet)
 
-why : (m : ℕ) (p : Program) (query : Bool) (e : CheckError) → refusal 16 m p query ≡ Some e → Why m p query e
+why : (m : ℕ) (p : Program) (query : Bool) (e : CheckError) → refusal MAX_PROGRAM_ITEMS m p query ≡ Some e → Why m p query e
 why zero p query e is = subst (Why zero p query) (same_error check.NoItem e is) (none refl)
-why (suc m) p query e is = go (nat_lt 16 (suc m)) refl is
+why (suc m) p query e is = go (nat_lt MAX_PROGRAM_ITEMS (suc m)) refl is
   where
-    go : (b : Bool) → nat_lt 16 (suc m) ≡ b
+    go : (b : Bool) → nat_lt MAX_PROGRAM_ITEMS (suc m) ≡ b
         → first_cause (cond b (Some (check.TooManyItems (suc m))) None) (if query then refusal_of_query p else None) ≡ Some e → Why (suc m) p query e
-    go true large told = subst (Why (suc m) p query) (same_error (check.TooManyItems (suc m)) e told) (many (ltb-true 16 (suc m) large))
-    go false small told = why-query (suc m) p query e (omega arith) (ltb-false 16 (suc m) small) told
+    go true large told = subst (Why (suc m) p query) (same_error (check.TooManyItems (suc m)) e told) (many (ltb-true MAX_PROGRAM_ITEMS (suc m) large))
+    go false small told = why-query (suc m) p query e (omega arith) (ltb-false MAX_PROGRAM_ITEMS (suc m) small) told
 
 some_none : (e : CheckError) → Some e ≡ None → ⊥
 some_none e is = cc
@@ -76,15 +77,15 @@ answers-query p query is asks = go query asks (has_assignment p) refl (has_retur
     go true yes_it false pure false quiet told = absurd (some_none check.NoReturn told)
 
 -- where it may run
-why_not : (m : ℕ) (p : Program) (query : Bool) → refusal 16 m p query ≡ None → (0 < m) × (m ≤ 16) × (query ≡ true → (has_assignment p ≡ false) × (has_return p ≡ true))
+why_not : (m : ℕ) (p : Program) (query : Bool) → refusal MAX_PROGRAM_ITEMS m p query ≡ None → (0 < m) × (m ≤ MAX_PROGRAM_ITEMS) × (query ≡ true → (has_assignment p ≡ false) × (has_return p ≡ true))
 why_not zero p query is = absurd (some_none check.NoItem is)
-why_not (suc m) p query is = go (nat_lt 16 (suc m)) refl is
+why_not (suc m) p query is = go (nat_lt MAX_PROGRAM_ITEMS (suc m)) refl is
   where
-    go : (b : Bool) → nat_lt 16 (suc m) ≡ b
+    go : (b : Bool) → nat_lt MAX_PROGRAM_ITEMS (suc m) ≡ b
         → first_cause (cond b (Some (check.TooManyItems (suc m))) None) (if query then refusal_of_query p else None) ≡ None
-        → (0 < suc m) × (suc m ≤ 16) × (query ≡ true → (has_assignment p ≡ false) × (has_return p ≡ true))
+        → (0 < suc m) × (suc m ≤ MAX_PROGRAM_ITEMS) × (query ≡ true → (has_assignment p ≡ false) × (has_return p ≡ true))
     go true large told = absurd (some_none (check.TooManyItems (suc m)) told)
-    go false small told = (omega arith, ltb-false 16 (suc m) small, answers-query p query told)
+    go false small told = (omega arith, ltb-false MAX_PROGRAM_ITEMS (suc m) small, answers-query p query told)
 
 -- ---- lines
 
@@ -230,7 +231,7 @@ module _ (before : Before) (line : TextLine) (query : Bool) (args : List (List �
       (λ has. no_name has.0 has.1))
       (λ has. begins line (request_word query) (codes "item") args is.head.words (request-no_item query) has.0)
 
-  pub IsLineFault-parse : (error : ParseError) → length text ≤ 1000 → IfSome (refusal_of error) (IsRefused (declared_by before) text) → IsLineFault before line (fault_of_parse error)
+  pub IsLineFault-parse : (error : ParseError) → length text ≤ MAX_LINE → IfSome (refusal_of error) (IsRefused (declared_by before) text) → IsLineFault before line (fault_of_parse error)
   IsLineFault-parse (parse.TooLarge m) short refused = absurd (let same = refused.0 in let large = refused.1 in omega arith)
   IsLineFault-parse (parse.Malformed column) short refused = told before line (ProgramColumn column) (at_program malformed column) refl (text, has_text, refused) none-fields
   IsLineFault-parse (parse.UnknownName column) short refused = told before line (UnknownName column) (at_program unknown_name column) refl (text, has_text, refused) none-fields
@@ -259,7 +260,7 @@ module _ (before : Before) (line : TextLine) (query : Bool) (args : List (List �
         let same = only_program has.0 has.1 in
         both_ways (names p (get_or items 0 0)) (ap (λ (q : Program). names q (get_or items 0 0)) same ∙ has.2 (get_or items 0 0)) (are.each 0 0 some))
 
-    none-few_names : (items : List ℕ) → AreItems p items → 0 < length items → length items ≤ 16 → NoneBefore before line 15
+    none-few_names : (items : List ℕ) → AreItems p items → 0 < length items → length items ≤ MAX_PROGRAM_ITEMS → NoneBefore before line 15
     none-few_names items are some small =
         none15 before line (none-some_name items are some)
         (λ m has.
@@ -286,7 +287,7 @@ module _ (before : Before) (line : TextLine) (query : Bool) (args : List (List �
     fault-why items are check.NoMemory unnamed never = elim never [ ]
 
     pub IsLineFault-check : (items : List ℕ) → AreItems p items → (e : CheckError) → (e ≡ check.NoItem → (m : ℕ) → names p m ≡ false)
-        → (e ≢ check.NoMemory → refusal 16 (length items) p query ≡ Some e) → IsLineFault before line (fault_of_check e)
+        → (e ≢ check.NoMemory → refusal MAX_PROGRAM_ITEMS (length items) p query ≡ Some e) → IsLineFault before line (fault_of_check e)
     IsLineFault-check items are check.NoItem unnamed cause = fault-why items are check.NoItem unnamed (why (length items) p query check.NoItem (cause (λ e. cc)))
     IsLineFault-check items are (check.TooManyItems m) unnamed cause =
         fault-why items are (check.TooManyItems m) unnamed (why (length items) p query (check.TooManyItems m) (cause (λ e. cc)))
@@ -294,7 +295,7 @@ module _ (before : Before) (line : TextLine) (query : Bool) (args : List (List �
     IsLineFault-check items are check.NoReturn unnamed cause = fault-why items are check.NoReturn unnamed (why (length items) p query check.NoReturn (cause (λ e. cc)))
     IsLineFault-check items are check.NoMemory unnamed cause = tt
 
-    pub IsRequest-read : (items : List ℕ) → AreItems p items → refusal 16 (length items) p query ≡ None → IsRequest before n query text p line
+    pub IsRequest-read : (items : List ℕ) → AreItems p items → refusal MAX_PROGRAM_ITEMS (length items) p query ≡ None → IsRequest before n query text p line
     IsRequest-read items are accepted =
         let may = why_not (length items) p query accepted in
         record {

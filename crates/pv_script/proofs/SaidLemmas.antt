@@ -6,6 +6,7 @@ use Rattle.std.specs.Str.{bytes_eq}
 use Rattle.std.proofs.lemmas.Bool.{both_ways}
 use Rattle.std.proofs.lemmas.List.{take_all}
 use Rattle.std.proofs.lemmas.Slice.Eq.{bytes_eq-Decides}
+use Rattle.pv_base.specs.declared.limits.TheConstants.{MAX_SITES}
 use Rattle.pv_model.specs.Schedule.{IsIn}
 use Rattle.pv_model.specs.Causes.{Before, at_first}
 use Rattle.pv_model.specs.LineForms.{number, line_forms, forms_of, first_of}
@@ -54,7 +55,7 @@ first-same args d other r some is same equal =
     texts-split args d some ∙ ap (λ (w : List ℕ). w ∷ texts (take (length args - 1) (drop 1 args))) (word ∙ same)
 
 pub sites-count : (spelled args : List (List ℕ)) (result : Result ℕ LineCause) → spelled ≡ codes "sites" ∷ args
-    → IfOk result (λ n. (word : List ℕ) × (args ≡ word ∷ []) × IsIn 1 16 word n) → IfOk result (λ n. (word : List ℕ) × (spelled ≡ codes "sites" ∷ word ∷ []) × IsIn 1 16 word n)
+    → IfOk result (λ n. (word : List ℕ) × (args ≡ word ∷ []) × IsIn 1 MAX_SITES word n) → IfOk result (λ n. (word : List ℕ) × (spelled ≡ codes "sites" ∷ word ∷ []) × IsIn 1 MAX_SITES word n)
 sites-count spelled args (Ok n) are is = (is.0, are ∙ ap (λ (ws : List (List ℕ)). codes "sites" ∷ ws) is.1, is.2)
 sites-count spelled args (Err cause) are is = tt
 
@@ -70,7 +71,7 @@ pub sites-expected : (line : TextLine) (spelled : List (List ℕ)) → IsText li
 sites-expected line spelled is same refuted = IsLineFault-no_sites line is (λ first. refuted (ap first_of same ∙ first))
 
 pub sites-fault : (line : TextLine) (spelled args : List (List ℕ)) (result : Result ℕ LineCause) → IsText line → spelled ≡ words line → spelled ≡ codes "sites" ∷ args
-    → IfErr result (IsFieldFault 0 ((number 1 16 ∷ []) ∷ []) args) → IfErr result (λ cause. IsLineFault at_first line (At cause))
+    → IfErr result (IsFieldFault 0 ((number 1 MAX_SITES ∷ []) ∷ []) args) → IfErr result (λ cause. IsLineFault at_first line (At cause))
 sites-fault line spelled args (Ok n) is same are fault = tt
 sites-fault line spelled args (Err cause) is same are fault = IsLineFault-sites line args cause is (sym same ∙ are) fault
 

@@ -1,24 +1,24 @@
 -- A schedule read line by line, and why a text is none.
-use Rattle.std.proofs.Common.{◌≡◌, ◌≢◌, ℕ, zero, suc, false, Some, None, List, [], ◌∷◌, ◌++◌, All, refl, sym, ap, ◌∙◌, subst, arith, ⊎_elim}
+use Rattle.std.proofs.Common.{◌≡◌, ℕ, zero, suc, false, Some, None, List, [], ◌∷◌, ◌++◌, All, refl, sym, ap, ◌∙◌, subst, arith, ⊎_elim, inl, inr}
 use Rattle.std.proofs.lemmas.Bool.{both_ways}
 use Rattle.pv_base.specs.Catalog.{Item, Declared}
 use Rattle.pv_model.specs.Causes.{Before, at_first, LineCause, declared_by}
 use Rattle.pv_model.specs.Check.{IsPlan}
 use Rattle.pv_model.specs.Events as model
 use Rattle.pv_model.specs.FirstFault.{without_numbers}
-use Rattle.pv_model.specs.Schedule.{Declares, DeclaresSites, DeclaresJournal, DeclaresItem, AreLines, none, declaration, significant, IsSchedule, IsAtFault, IsMalformedSchedule}
+use Rattle.pv_model.specs.Schedule.{Declares, DeclaresSites, DeclaresJournal, DeclaresItem, AreLines, none, declaration, significant, IsSchedule, IsAtFault}
 use Rattle.pv_model.specs.Text.{TextLine, numbered}
-use Rattle.pv_script.specs.ScriptErrors.{Refuses, IsRefusal}
+use Rattle.pv_base.specs.Answer.{HasOneAnswer}
+use Rattle.pv_script.specs.ScriptErrors.{RefusedLine, IsMalformedAt}
 use Rattle.pv_script.specs.Said.{before_of, IsLimited}
 use Rattle.pv_script.specs.Takes.{Takes, declared, happened}
 use Rattle.pv_script.specs.View.{HasPlan}
 use Rattle.pv_script.specs.declared.said.Said.{Said}
 use Rattle.pv_script.specs.declared.schedule.Event.{Event}
 use Rattle.pv_script.specs.declared.schedule.Event.TheVariants.{Submit, Deliver, Pump, Lose, Drop, Tick, Stop, Start, Arm, Mend, Sent, Report, Total}
-use Rattle.pv_script.specs.declared.schedule.ScriptError.{ScriptError}
-use Rattle.pv_script.specs.declared.schedule.ScriptError.TheVariants.{Malformed, NoMemory}
 use Rattle.pv_script.proofs.FaultLemmas.{IsAtFaultFrom, fault-whole, fault-declares}
-use Rattle.pv_law_schedules.proofs.OneScheduleLemmas.{one_fault, no_fault}
+use Rattle.pv_law_schedules.proofs.OneScheduleLemmas.{one_schedule, one_fault, no_fault}
+use Rattle.pv_law_schedules.proofs.SomeScheduleLemmas.{some_schedule_or_fault}
 
 -- The catalog is what was declared.
 pub limited : (said : Said) → IsLimited said → declared_by (before_of said) ≡ said.catalog
@@ -103,12 +103,16 @@ IsSchedule-read text said events left is empty so = record {
 
 -- ---- one answer
 
-pub error-no_schedule : (text : List ℕ) (schedule : model.Schedule) (e : ScriptError) → Refuses (IsMalformedSchedule text) e → IsSchedule text schedule → e ≡ NoMemory
-error-no_schedule text schedule (Malformed place told) refused is = absurd (no_fault text schedule place refused.0 is refused.2)
-error-no_schedule text schedule NoMemory refused is = refl
+refused_at : (a b : RefusedLine) → a.number ≡ b.number → a.cause ≡ b.cause → a ≡ b
+refused_at a b number cause = λ i. record { number = number i; cause = cause i }
 
-pub error-one_fault : (text : List ℕ) (number : ℕ) (cause : LineCause) (e : ScriptError) → Refuses (IsMalformedSchedule text) e → IsMalformedSchedule text number cause → e ≢ NoMemory → IsRefusal number cause e
-error-one_fault text number cause (Malformed place told) refused is some =
-    let same = one_fault text place number refused.0 cause refused.2 is in
-    (same.0, refused.1 ∙ ap Some same.1)
-error-one_fault text number cause NoMemory refused is some = some refl
+-- Each text has exactly one answer.
+pub one : (text : List ℕ) → HasOneAnswer (IsSchedule text) (IsMalformedAt text)
+one text = record {
+  some = ⊎_elim inl (λ at. inr (record { number = at.0; cause = Some at.1 }, (at.1, refl, at.2))) (some_schedule_or_fault text);
+  one_value = one_schedule text;
+  one_fault = λ a b is also.
+      let same = one_fault text a.number b.number is.0 also.0 is.2 also.2 in
+      refused_at a b same.0 (is.1 ∙ ap Some same.1 ∙ sym also.1);
+  not_both = λ schedule a is fault. no_fault text schedule a.number fault.0 is fault.2;
+}

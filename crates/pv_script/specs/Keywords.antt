@@ -2,6 +2,7 @@
 use Rattle.std.specs.Prelude.{ℕ, ◌-◌, ◌^◌, Option, List, [], ◌∷◌, find, codes}
 use Rattle.std.specs.Option.{option_map}
 use Rattle.std.specs.Str.{bytes_eq}
+use Rattle.pv_base.specs.declared.limits.TheConstants.{MAX_CALL, MAX_PUMP}
 use denote.Ref.{Bor}
 use Rattle.pv_model.specs.LineForms.{Field, number, site, mode}
 use Rattle.pv_script.specs.declared.keyword.Keyword as code
@@ -27,14 +28,14 @@ command_word Total = codes "total"
 -- what stands after the word, in each of its forms
 abbrev pub command_forms : code_command.Command → List (List Field)
 command_forms Deliver = (number 0 (2 ^ 64 - 1) ∷ []) ∷ []
-command_forms Pump = [] ∷ (number 1 1000000 ∷ []) ∷ []
+command_forms Pump = [] ∷ (number 1 MAX_PUMP ∷ []) ∷ []
 command_forms Lose = (number 0 (2 ^ 64 - 1) ∷ []) ∷ []
 command_forms Drop = (site ∷ []) ∷ []
 command_forms Tick = (site ∷ []) ∷ []
 command_forms Stop = (site ∷ []) ∷ []
 command_forms Start = (site ∷ []) ∷ []
-command_forms Cut = (site ∷ number 1 1000 ∷ mode ∷ []) ∷ []
-command_forms Fail = (site ∷ number 1 1000 ∷ mode ∷ []) ∷ []
+command_forms Cut = (site ∷ number 1 MAX_CALL ∷ mode ∷ []) ∷ []
+command_forms Fail = (site ∷ number 1 MAX_CALL ∷ mode ∷ []) ∷ []
 command_forms Mend = (site ∷ []) ∷ []
 command_forms Sent = [] ∷ []
 command_forms Report = [] ∷ []

@@ -1,5 +1,6 @@
 pub mod LinesLeft
 pub mod ScriptErrors
+pub mod CauseTexts
 pub mod View
 pub mod Faults
 pub mod Keywords

@@ -1,5 +1,6 @@
 -- What the lines so far said, as plain data, and what the words of one line say.
 use Rattle.std.specs.Prelude.{◌≡◌, ℕ, Bool, true, false, Option, Some, None, List, [], ◌∷◌, codes}
+use Rattle.pv_base.specs.declared.limits.TheConstants.{MAX_JOURNAL, MAX_PUMP}
 use Rattle.pv_model.specs.Causes.{Before, or_default}
 use Rattle.pv_model.specs.Events.{Event}
 use Rattle.pv_model.specs.Schedule.{IsIn, Says}
@@ -11,7 +12,7 @@ before_of said = record { sites = Some said.catalog.sites; journal = said.journa
 
 -- The catalog has the limit that was said.
 abbrev pub IsLimited : Said → Type 0
-IsLimited said = said.catalog.journal ≡ or_default 4294967296 said.journal
+IsLimited said = said.catalog.journal ≡ or_default MAX_JOURNAL said.journal
 
 -- Whatever line has these words says this event, where there are so many sites.
 abbrev pub WordsSay : ℕ → List (List ℕ) → Event → Type 0
@@ -20,7 +21,7 @@ WordsSay sites spelled event = (before : Before) (line : TextLine) → or_defaul
 -- words after `pump`, and how many messages they name
 abbrev pub IsMost : List (List ℕ) → Option ℕ → Type 0
 IsMost args None = args ≡ []
-IsMost args (Some n) = (word : List ℕ) × (args ≡ word ∷ []) × IsIn 1 1000000 word n
+IsMost args (Some n) = (word : List ℕ) × (args ≡ word ∷ []) × IsIn 1 MAX_PUMP word n
 
 -- what a line begins with that stops a call or makes it fail
 abbrev pub arm_word : Bool → List ℕ

@@ -1,6 +1,7 @@
--- When a text is refused.
-use Rattle.std.specs.Prelude.{◌≡◌, ℕ, Option, Some, None}
+-- At which line a text is refused, and why.
+use Rattle.std.specs.Prelude.{◌≡◌, ℕ, List, Option, Some, None}
 use Rattle.pv_model.specs.Causes as model
+use Rattle.pv_model.specs.Schedule.{IsMalformedSchedule}
 use Rattle.pv_model.specs.ProgramText.{malformed, unknown_name, too_deep}
 use Rattle.pv_script.specs.declared.schedule.LineCause.{LineCause}
 use Rattle.pv_script.specs.declared.schedule.LineCause.TheVariants.{TooLong, NotText, SitesExpected, UnknownWord, Twice, TooLate, WrongCount, BadNumber, BadMode, BadName, NameTaken, TooManyItems, ProgramColumn, UnknownName, TooDeep, NamesNoItem, TooManyNames, QueryAssigns, NoReturn, NotBuilt}
@@ -30,12 +31,16 @@ cause_of QueryAssigns = Some model.query_assigns
 cause_of NoReturn = Some model.no_return
 cause_of NotBuilt = None
 
--- The error names the line of this number, for this cause.
-abbrev pub IsRefusal : ℕ → model.LineCause → ScriptError → Type 0
-IsRefusal number cause (Malformed line reported) = (line ≡ number) × (cause_of reported ≡ Some cause)
-IsRefusal number cause NoMemory = ⊥
+-- A line, by its number, and why a text is refused there. A line that can be read but not run has no cause.
+pub record RefusedLine : Type 0 where
+  pub number : ℕ
+  pub cause : Option model.LineCause
 
--- A refusal names a line at fault and its cause. `NoMemory` may come at any place.
-abbrev pub Refuses : (ℕ → model.LineCause → Type 0) → ScriptError → Type 0
-Refuses IsFault (Malformed line reported) = (cause : model.LineCause) × (cause_of reported ≡ Some cause) × IsFault line cause
-Refuses IsFault NoMemory = Unit {0}
+-- The text is malformed at this line, for this cause.
+abbrev pub IsMalformedAt : List ℕ → RefusedLine → Type 0
+IsMalformedAt text refused = (cause : model.LineCause) × (refused.cause ≡ Some cause) × IsMalformedSchedule text refused.number cause
+
+-- the line that an error names
+abbrev pub refused_line : ScriptError → Option RefusedLine
+refused_line (Malformed line reported) = Some (record { number = line; cause = cause_of reported })
+refused_line NoMemory = None

@@ -12,18 +12,12 @@ ghost use Rattle.pv_script.specs.View.{event_of, HasPlan};
 use crate::fields::{mode_of, number_in, site_in};
 use crate::keyword::Command;
 use crate::schedule::{Event, LineCause};
-use pv_base::{MAX_JOURNAL, MAX_SITES, MIN_JOURNAL, SiteId};
-
-// The most messages that one `pump` may name.
-const MAX_PUMP: u64 = 1_000_000;
-
-// The greatest number of a call that `cut` and `fail` may name.
-const MAX_CALL: u64 = 1000;
+use pv_base::{MAX_CALL, MAX_JOURNAL, MAX_PUMP, MAX_SITES, MIN_JOURNAL, SiteId};
 
 /// The count of sites that the words after `sites` spell.
 pub fn count_in(args: &[&[u8]]) -> Result<u8, LineCause>
-    ensures count { IfOk result (λ n. (word : List ℕ) × (texts args.now ≡ word ∷ []) × IsIn 1 16 word n) }
-    ensures fault { (sites : ℕ) → IfErr result (IsFieldFault sites ((field.number 1 16 ∷ []) ∷ []) (texts args.now)) }
+    ensures count { IfOk result (λ n. (word : List ℕ) × (texts args.now ≡ word ∷ []) × IsIn 1 MAX_SITES word n) }
+    ensures fault { (sites : ℕ) → IfErr result (IsFieldFault sites ((field.number 1 MAX_SITES ∷ []) ∷ []) (texts args.now)) }
 {
     let count = number_alone(args, 1, u64::from(MAX_SITES))?;
     Ok(count as u8)
@@ -31,8 +25,8 @@ pub fn count_in(args: &[&[u8]]) -> Result<u8, LineCause>
 
 /// The limit of the journals that the words after `journal` spell.
 pub fn limit_in(args: &[&[u8]]) -> Result<u64, LineCause>
-    ensures limit { IfOk result (λ n. (word : List ℕ) × (texts args.now ≡ word ∷ []) × IsIn 32 (2 ^ 32) word n) }
-    ensures fault { (sites : ℕ) → IfErr result (IsFieldFault sites ((field.number 32 (2 ^ 32) ∷ []) ∷ []) (texts args.now)) }
+    ensures limit { IfOk result (λ n. (word : List ℕ) × (texts args.now ≡ word ∷ []) × IsIn MIN_JOURNAL MAX_JOURNAL word n) }
+    ensures fault { (sites : ℕ) → IfErr result (IsFieldFault sites ((field.number MIN_JOURNAL MAX_JOURNAL ∷ []) ∷ []) (texts args.now)) }
 {
     number_alone(args, MIN_JOURNAL, MAX_JOURNAL)
 }
@@ -80,7 +74,7 @@ fn message_in(args: &[&[u8]]) -> Result<u64, LineCause>
 // How many messages are delivered at most, if the line says so.
 fn most_in(args: &[&[u8]]) -> Result<Option<u32>, LineCause>
     ensures most { IfOk result (IsMost (texts args.now)) }
-    ensures fault { (sites : ℕ) → IfErr result (IsFieldFault sites ([] ∷ (field.number 1 1000000 ∷ []) ∷ []) (texts args.now)) }
+    ensures fault { (sites : ℕ) → IfErr result (IsFieldFault sites ([] ∷ (field.number 1 MAX_PUMP ∷ []) ∷ []) (texts args.now)) }
 {
     match args {
         [] => Ok(None),
@@ -92,9 +86,9 @@ fn most_in(args: &[&[u8]]) -> Result<Option<u32>, LineCause>
 // The most messages that a word names.
 fn most(word: &[u8]) -> Result<Option<u32>, LineCause>
     ensures most { IfOk result (IsMost (word.now ∷ [])) }
-    ensures fault { (sites : ℕ) → IfErr result (IsFieldFault sites ([] ∷ (field.number 1 1000000 ∷ []) ∷ []) (word.now ∷ [])) }
+    ensures fault { (sites : ℕ) → IfErr result (IsFieldFault sites ([] ∷ (field.number 1 MAX_PUMP ∷ []) ∷ []) (word.now ∷ [])) }
 {
-    match number_in(word, 1, MAX_PUMP) {
+    match number_in(word, 1, u64::from(MAX_PUMP)) {
         Some(most) => Ok(Some(most as u32)),
         None => Err(LineCause::BadNumber),
     }
@@ -104,7 +98,7 @@ fn most(word: &[u8]) -> Result<Option<u32>, LineCause>
 fn arm_in(args: &[&[u8]], sites: u8, stop: bool) -> Result<Event, LineCause>
     ensures event { IfOk result (λ event. WordsSay sites (arm_word stop ∷ texts args.now) (event_of event)) }
     ensures plan { (catalog : Declared) → IfOk result (HasPlan catalog) }
-    ensures fault { IfErr result (IsFieldFault sites ((field.site ∷ field.number 1 1000 ∷ field.mode ∷ []) ∷ []) (texts args.now)) }
+    ensures fault { IfErr result (IsFieldFault sites ((field.site ∷ field.number 1 MAX_CALL ∷ field.mode ∷ []) ∷ []) (texts args.now)) }
 {
     let [at, number, left] = args else {
         return Err(LineCause::WrongCount);
@@ -112,7 +106,7 @@ fn arm_in(args: &[&[u8]], sites: u8, stop: bool) -> Result<Event, LineCause>
     let Some(site) = site_in(at, sites) else {
         return Err(LineCause::BadNumber);
     };
-    let Some(k) = number_in(number, 1, MAX_CALL) else {
+    let Some(k) = number_in(number, 1, u64::from(MAX_CALL)) else {
         return Err(LineCause::BadNumber);
     };
     let Some(mode) = mode_of(left) else {

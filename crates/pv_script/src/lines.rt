@@ -1,9 +1,10 @@
 // The significant lines of a text, one after another.
 ghost use Rattle.std.specs.Prelude.{◌≡◌, ◌+◌, ◌<◌, ◌≤◌, [], ◌∷◌, length, IfNone, IfSome};
 ghost use Rattle.std.specs.Str.Lines.{strip_carriage_return};
-ghost use Rattle.pv_model.specs.Text.{lines, is_significant, is_blank};
+ghost use Rattle.pv_model.specs.Text.{lines, is_significant};
 
 use memchr::memchr;
+use pv_base::is_blank;
 use std::marker::Model;
 
 /// The most bytes that a text may have, so that the number after its last line is one of 32 bits.
@@ -123,11 +124,4 @@ fn is_significant(line: &[u8]) -> bool
         .copied()
         .find(|b| !is_blank(*b))
         .is_some_and(|b| b != b'#')
-}
-
-/// Whether a byte is a space or a tab.
-pub fn is_blank(byte: u8) -> bool
-    ensures { result ≡ is_blank byte }
-{
-    byte == b' ' || byte == b'\t'
 }

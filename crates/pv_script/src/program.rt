@@ -2,7 +2,7 @@
 ghost use Rattle.std.specs.Prelude.{◌≡◌, ◌≤◌, length};
 ghost use Rattle.pv_model.specs.LineForms.{after_blanks, after_word, before_blanks, program_text};
 
-use crate::lines::is_blank;
+use pv_base::is_blank;
 
 /// The text of a program: what stands after the first two words of a line, without the blanks round it.
 #[tactic(auto, unfolding(pv_model::specs::LineForms::program_text))]

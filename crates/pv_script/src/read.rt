@@ -1,9 +1,9 @@
 // How a schedule is read.
-ghost use Rattle.std.specs.Prelude.{◌≡◌, ◌≢◌, ◌≤◌, ℕ, List, ◌∷◌, All, length, vec_len, IfOk, IfErr, OnOk};
+ghost use Rattle.std.specs.Prelude.{◌≡◌, ◌≤◌, ℕ, List, ◌∷◌, All, length, vec_len, IfOk, IfErr, IfSome, OnOk};
+ghost use Rattle.pv_base.specs.Answer.{Answers};
 ghost use Rattle.pv_model.specs.Causes as model;
-ghost use Rattle.pv_model.specs.Events as events;
-ghost use Rattle.pv_model.specs.Schedule.{Declares, IsSchedule, IsMalformedSchedule};
-ghost use Rattle.pv_script.specs.ScriptErrors.{Refuses, IsRefusal};
+ghost use Rattle.pv_model.specs.Schedule.{Declares, IsSchedule};
+ghost use Rattle.pv_script.specs.ScriptErrors.{IsMalformedAt, refused_line};
 ghost use Rattle.pv_script.specs.Faults.{IsErrorAt};
 ghost use Rattle.pv_script.specs.LinesLeft.{lines_of};
 ghost use Rattle.pv_script.specs.Said.{before_of, IsLimited};
@@ -25,18 +25,10 @@ use std::alloc::Global;
 pub fn read_schedule(alloc: Global, text: &[u8]) -> Result<Schedule, ScriptError>
     requires { length text.now ≤ MAX_SCHEDULE }
 
-    // What is read is the schedule that the text is, and what is a schedule is read.
-    ensures schedule { IfOk result (λ schedule. IsSchedule text.now (schedule_of schedule)) }
-    ensures read { (schedule : events.Schedule) → IsSchedule text.now schedule →
-        IfOk result (λ read. schedule_of read ≡ schedule) × IfErr result (λ error. error ≡ ScriptError.NoMemory) }
+    ensures answer { Answers (IsSchedule text.now) (IsMalformedAt text.now) schedule_of refused_line result }
 
     // Each request has the plan of its program.
     ensures plans { IfOk result (λ schedule. All (HasPlan schedule.catalog) schedule.events.items) }
-
-    // What is refused is malformed there, and what is malformed is refused there.
-    ensures refused { IfErr result (Refuses (IsMalformedSchedule text.now)) }
-    ensures refuses { (number : ℕ) (cause : model.LineCause) → IsMalformedSchedule text.now number cause →
-        IfOk result (λ _. ⊥) × IfErr result (λ error. error ≢ ScriptError.NoMemory → IsRefusal number cause error) }
 
     // There are no more events than bytes.
     ensures few { IfOk result (λ schedule. vec_len schedule.events ≤ length text.now) }
@@ -58,7 +50,7 @@ fn read_first(alloc: Global, lines: &mut Lines) -> Result<Said, ScriptError>
     ensures declares { IfOk result (λ said. (number : ℕ) × (line : List ℕ)
         × (lines.old.numbered ≡ (number, line) ∷ lines.new.numbered) × Declares model.at_first line (before_of said)) }
     ensures limited { IfOk result IsLimited }
-    ensures fault { (text : List ℕ) → IfErr result (λ error. lines.old ≡ lines_of text → Refuses (IsMalformedSchedule text) error) }
+    ensures fault { (text : List ℕ) → IfErr result (λ error. lines.old ≡ lines_of text → IfSome (refused_line error) (IsMalformedAt text)) }
 {
     let Some(line) = lines.next() else {
         return Err(ScriptError::Malformed {

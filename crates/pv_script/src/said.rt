@@ -18,8 +18,8 @@ use crate::fields::{site_in, value_in};
 use crate::keyword::{Keyword, keyword_of};
 use crate::program::program_text;
 use crate::schedule::{Event, LineCause};
-use crate::words::{MAX_LINE, is_text, words_of};
-use pv_base::{Catalog, MAX_JOURNAL};
+use crate::words::{is_text, words_of};
+use pv_base::{Catalog, MAX_JOURNAL, MAX_LINE, MAX_SITES};
 use pv_check::check;
 use pv_parse::parse;
 use std::alloc::Global;
@@ -182,7 +182,7 @@ fn words_in<'a>(alloc: Global, line: &'a [u8]) -> Result<Vec<&'a [u8]>, Fault>
 
 // The count of sites that the words of the first line say.
 fn sites_in(words: &[&[u8]]) -> Result<u8, LineCause>
-    ensures sites { IfOk result (λ n. (word : List ℕ) × (texts words.now ≡ codes "sites" ∷ word ∷ []) × IsIn 1 16 word n) }
+    ensures sites { IfOk result (λ n. (word : List ℕ) × (texts words.now ≡ codes "sites" ∷ word ∷ []) × IsIn 1 MAX_SITES word n) }
     ensures fault { (line : List ℕ) → IsText line → texts words.now ≡ written.words line →
         IfErr result (λ cause. IsLineFault model.at_first line (At cause)) }
 {

@@ -1,5 +1,7 @@
 // What a schedule says, and why a text is none.
-ghost use Rattle.std.specs.Prelude.{◌≡◌};
+ghost use Rattle.std.specs.Prelude.{◌≡◌, Some};
+ghost use Rattle.pv_script.specs.CauseTexts.{error_text, reason_text};
+ghost use Rattle.pv_script.specs.ScriptErrors.{cause_of};
 
 use pv_ast::Program;
 use pv_base::{Catalog, Mode, SiteId};
@@ -71,7 +73,7 @@ pub struct Schedule {
 /// What is wrong with a line, in the order in which it is tested. Columns count the bytes of the program's text, from 1.
 #[derive(Clone, Copy, Debug, PartialEq, Eq, Hash)]
 pub enum LineCause {
-    /// It has more than 1,000 bytes, without its end.
+    /// It has more than [`MAX_LINE`](pv_base::MAX_LINE) bytes, without its end.
     TooLong,
     /// A byte isn't printable ASCII, a space or a tab.
     NotText,
@@ -93,17 +95,18 @@ pub enum LineCause {
     BadName,
     /// An item has the name.
     NameTaken,
-    /// There are 1,024 items.
+    /// There are [`MAX_ITEMS`](pv_base::MAX_ITEMS) items.
     TooManyItems,
     /// The program's leftmost fault is at this column, and one of its grammar.
     ProgramColumn(u32),
     /// The program's leftmost fault is at this column: a name that no item has.
     UnknownName(u32),
-    /// The program's leftmost fault is at this column: a token nested deeper than 32.
+    /// The program's leftmost fault is at this column: a token nested deeper than
+    /// [`MAX_DEPTH`](pv_base::MAX_DEPTH).
     TooDeep(u32),
     /// The program names no item.
     NamesNoItem,
-    /// The program names this many items, more than 16.
+    /// The program names this many items, more than [`MAX_PROGRAM_ITEMS`](pv_base::MAX_PROGRAM_ITEMS).
     TooManyNames(u32),
     /// A query has an assignment.
     QueryAssigns,
@@ -129,6 +132,9 @@ pub enum ScriptError {
 }
 
 impl fmt::Display for LineCause {
+    ghost output = { λ cause. Some (reason_text (cause_of cause)) };
+
+    #[tactic(auto, unfolding(crate::specs::CauseTexts::cause_text))]
     fn fmt<W: fmt::Write>(&self, f: &mut fmt::Formatter<W>) -> fmt::Result {
         match self {
             LineCause::TooLong => f.write_str("too long"),
@@ -156,6 +162,8 @@ impl fmt::Display for LineCause {
 }
 
 impl fmt::Display for ScriptError {
+    ghost output = { λ error. Some (error_text error) };
+
     fn fmt<W: fmt::Write>(&self, f: &mut fmt::Formatter<W>) -> fmt::Result {
         match self {
             ScriptError::Malformed { line, cause } => write!(f, "line {line}: {cause}"),

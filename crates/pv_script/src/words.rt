@@ -5,12 +5,9 @@ ghost use Rattle.pv_model.specs.Meaning.{fits_i64};
 ghost use Rattle.pv_base.specs.Name.{is_digit};
 ghost use Rattle.pv_model.specs.Text.{words, digits_of, is_text_byte, IsNumber, IsSigned};
 
-use crate::lines::is_blank;
+use pv_base::is_blank;
 use std::alloc::{AllocError, Global};
 use std::str;
-
-/// The greatest length of a line that counts, in bytes.
-pub const MAX_LINE: usize = 1000;
 
 /// Whether a line has printable bytes and tabs alone.
 pub fn is_text(line: &[u8]) -> bool

@@ -2,14 +2,15 @@
 use Rattle.std.proofs.Common.{◌≡◌, ℕ, zero, suc, ℤ, ◌+◌, ◌<◌, ◌≤◌, Bool, true, false, List, [], ◌∷◌, ◌++◌, map, take, get_or, length, cond, IsTrue, sym, ap, ap₂, subst, ◌∙◌, arith}
 use Rattle.std.specs.Prelude.{Some, Result, Ok, Err, IfOk, pos, All}
 use Rattle.std.specs.List.{Contains}
-use Rattle.std.specs.Option.{option_map, unwrap_or}
+use Rattle.std.specs.Option.{unwrap_or}
 use Rattle.std.proofs.lemmas.List.{get_or-map, length-map, map-append, append-nil, take_all, take_more}
 use Rattle.std.proofs.lemmas.List.Elements.{All-append, filter-append}
 use Rattle.pv_base.specs.declared.txn.TxnId.{TxnId}
 use Rattle.pv_base.specs.Assignment.{assignments}
 use Rattle.pv_base.specs.Polyvalue.{Case, value_at, names, AreValues, IsPolyvalue}
 use Rattle.pv_model.specs.Alternatives.{Read, all_cases, number_at, rows_at, assigned}
-use Rattle.pv_model.specs.Meaning.{Row, Reply, Effect, exec}
+use Rattle.pv_base.specs.declared.reply.Reply.{Reply}
+use Rattle.pv_model.specs.Meaning.{Row, Effect, exec}
 use Rattle.pv_model.specs.ProgramLaws.{assigns}
 use Rattle.pv_model.specs.Syntax.{Program}
 use Rattle.pv_base.proofs.MapLemmas.{map-map}
@@ -110,27 +111,24 @@ module _ (program : Program) (reads : List Read) where
   -- The reply.
 
   -- A reply that is right at each assignment of the transactions is right everywhere.
-  pub replied-everywhere : {R : Type 0} (reply_of : R → Reply) (txns : List TxnId) (cases : List (Case R)) (effects : List Effect)
+  pub replied-everywhere : (txns : List TxnId) (cases : List (Case Reply)) (effects : List Effect)
       → ((t : TxnId) → IsTrue (names (all_cases reads) t) → Contains txns t) → ((t : TxnId) → IsTrue (names cases t) → Contains txns t)
       → effects ≡ effects_at program reads txns
-      → map (λ a. option_map reply_of (value_at cases a)) (assignments txns) ≡ map (λ effect. Some effect.reply) effects
-      → (a : List TxnId) → option_map reply_of (value_at cases a) ≡ Some (exec program (rows_at reads a)).reply
-  replied-everywhere reply_of txns cases effects named named-too are same =
+      → map (value_at cases) (assignments txns) ≡ map (λ effect. Some effect.reply) effects
+      → (a : List TxnId) → value_at cases a ≡ Some (exec program (rows_at reads a)).reply
+  replied-everywhere txns cases effects named named-too are same =
       let f : List TxnId → Effect = λ a. exec program (rows_at reads a) in
-      everywhere (λ a. option_map reply_of (value_at cases a)) (λ a. Some (f a).reply) txns
+      everywhere (value_at cases) (λ a. Some (f a).reply) txns
       (same ∙ ap (map (λ (effect : Effect). Some effect.reply)) are ∙ map-map (λ (effect : Effect). Some effect.reply) f (assignments txns))
-      (λ a. ap (option_map reply_of) (value_at-chosen cases txns named-too a))
+      (λ a. value_at-chosen cases txns named-too a)
       (λ a. ap (λ (rows : List Row). Some (exec program rows).reply) (rows_at-chosen reads txns named a))
 
--- The replies at each assignment, under what they stand for.
-pub replies-at : {R : Type 0} (reply_of : R → Reply) (txns : List TxnId) (cases : List (Case R)) (replies : List R) (effects : List Effect)
-    → AreValues cases txns replies → map reply_of replies ≡ map (λ effect. effect.reply) effects
-    → map (λ a. option_map reply_of (value_at cases a)) (assignments txns) ≡ map (λ effect. Some effect.reply) effects
-replies-at reply_of txns cases replies effects are same =
-    sym (map-map (option_map reply_of) (value_at cases) (assignments txns))
-    ∙ ap (map (option_map reply_of)) (sym are)
-    ∙ map-map (option_map reply_of) Some replies
-    ∙ sym (map-map Some reply_of replies)
+-- The replies at each assignment.
+pub replies-at : (txns : List TxnId) (cases : List (Case Reply)) (replies : List Reply) (effects : List Effect)
+    → AreValues cases txns replies → replies ≡ map (λ effect. effect.reply) effects
+    → map (value_at cases) (assignments txns) ≡ map (λ effect. Some effect.reply) effects
+replies-at txns cases replies effects are same =
+    sym are
     ∙ ap (map Some) same
     ∙ map-map Some (λ (effect : Effect). effect.reply) effects
 

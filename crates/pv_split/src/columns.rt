@@ -1,7 +1,7 @@
 // What is read, at each alternative.
-ghost use Rattle.std.specs.Prelude.{◌≡◌, ◌<◌, map, length, All, IsTrue, IfOk};
-ghost use Rattle.std.specs.List.{AllPairs};
-ghost use Rattle.pv_base.specs.Assignment.{precedes};
+ghost use Rattle.std.specs.Prelude.{◌≡◌, ◌<◌, ◌≤◌, map, length, All, IfOk};
+ghost use Rattle.pv_base.specs.Assignment.{AreAscending};
+ghost use Rattle.pv_base.specs.declared.limits.TheConstants.{READ_NAMES};
 ghost use Rattle.pv_split.specs.Columns.{columns_of, row_at};
 
 use pv_ast::Row;
@@ -31,7 +31,8 @@ pub(crate) fn columns_of(
     reads: &[Read],
     txns: &[TxnId],
 ) -> Result<Vec<Column>, NoMemory>
-    requires ascending { AllPairs (λ txn later. IsTrue (precedes txn later)) txns.now }
+    requires ascending { AreAscending txns.now }
+    requires few { length txns.now ≤ READ_NAMES }
     ensures { IfOk result (λ columns. columns.items ≡ columns_of reads.now txns.now) }
 {
     let mut columns = Vec::new(alloc);

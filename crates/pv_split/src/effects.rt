@@ -1,7 +1,6 @@
 // What a program does at each alternative of what it reads.
 ghost use Rattle.std.specs.Prelude.{◌≡◌, ◌≤◌, [], length, IsTrue, IfOk};
-ghost use Rattle.std.specs.List.{AllPairs};
-ghost use Rattle.pv_base.specs.Assignment.{precedes};
+ghost use Rattle.pv_base.specs.Assignment.{AreAscending};
 ghost use Rattle.pv_model.specs.Alternatives.{rows_at};
 ghost use Rattle.pv_model.specs.Items.{has_all_items};
 ghost use Rattle.pv_split.specs.Columns.{effects_at};
@@ -20,7 +19,7 @@ pub(crate) fn effects_of(
     txns: &[TxnId],
 ) -> Result<Vec<Effect>, NoMemory>
     requires items { IsTrue (has_all_items (rows_at reads.now []) program.now) }
-    requires ascending { AllPairs (λ txn later. IsTrue (precedes txn later)) txns.now }
+    requires ascending { AreAscending txns.now }
     requires few { length txns.now ≤ READ_NAMES }
     ensures { IfOk result (λ effects. effects.items ≡ effects_at program.now reads.now txns.now) }
 {

@@ -3,7 +3,6 @@ ghost use Rattle.std.specs.Prelude.{◌≡◌, ◌≢◌, ◌<◌, ◌⊎◌, �
 ghost use Rattle.std.specs.List.{AllPairs};
 ghost use Rattle.pv_base.specs.Polyvalue.{names, AreNames, IsPolyvalue};
 ghost use Rattle.pv_base.specs.declared.txn.TxnId.{TxnId};
-ghost use Rattle.pv_ast.specs.ReplyView.{reply_of};
 ghost use Rattle.pv_model.specs.Alternatives.{all_cases, rows_at, IsSplit};
 ghost use Rattle.pv_model.specs.Items.{has_all_items};
 
@@ -66,7 +65,7 @@ impl From<NoMemory> for SplitError {
 pub fn split(alloc: Global, program: &Program, reads: &[Read]) -> Result<Joined, SplitError>
     requires ascending { AllPairs (λ read later. read.item < later.item) reads.now }
     requires items { IsTrue (has_all_items (rows_at reads.now []) program.now) }
-    ensures split { IfOk result (λ joined. IsSplit reply_of program.now reads.now joined.writes.items joined.reply) }
+    ensures split { IfOk result (λ joined. IsSplit program.now reads.now joined.writes.items joined.reply) }
     ensures writes { IfOk result (λ joined. All (λ write. IsPolyvalue READ_NAMES write.cases) joined.writes.items) }
     ensures reply { IfOk result (λ joined. IsPolyvalue READ_NAMES joined.reply) }
 

@@ -3,8 +3,7 @@
 ghost use Rattle.std.specs.Prelude.{◌≡◌, ℕ, true, false, List};
 ghost use Rattle.pv_base.specs.Polyvalue.{Case};
 ghost use Rattle.pv_base.specs.declared.txn.TxnId.{TxnId};
-ghost use Rattle.pv_ast.specs.ReplyView.{reply_of};
-ghost use Rattle.pv_ast.specs.declared.effect.Reply.{Reply};
+ghost use Rattle.pv_base.specs.declared.reply.Reply.{Reply};
 ghost use Rattle.pv_model.specs.Alternatives.{Read, rows_at, IsSplit};
 ghost use Rattle.pv_model.specs.Items.{lacks};
 ghost use Rattle.pv_model.specs.Meaning.{value_in, exec};
@@ -15,14 +14,14 @@ ghost use Rattle.pv_model.specs.Syntax.{Program};
 /// values that are read under these outcomes.
 pub fn writes_what_is_left()
     ensures { (program : Program) (reads writes : List Read) (reply : List (Case Reply)) (assignment : List TxnId) (item : ℕ) →
-        IsSplit reply_of program reads writes reply → assigns program item ≡ true →
+        IsSplit program reads writes reply → assigns program item ≡ true →
         value_in (rows_at writes assignment) item ≡ value_in (exec program (rows_at reads assignment)).rows item }
 {}
 
 /// Whatever the outcomes are, an item that the program doesn't assign isn't written, and the program of one thread leaves in it what is read.
 pub fn leaves_what_is_not_written()
     ensures { (program : Program) (reads writes : List Read) (reply : List (Case Reply)) (assignment : List TxnId) (item : ℕ) →
-        IsSplit reply_of program reads writes reply → assigns program item ≡ false →
+        IsSplit program reads writes reply → assigns program item ≡ false →
         (lacks (rows_at writes assignment) item ≡ true)
         × (value_in (exec program (rows_at reads assignment)).rows item ≡ value_in (rows_at reads assignment) item) }
 {}

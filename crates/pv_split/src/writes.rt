@@ -1,11 +1,10 @@
 // What a program writes and replies at all alternatives, as polyvalues.
 ghost use Rattle.std.specs.Prelude.{◌≡◌, ◌<◌, ◌≤◌, ◌^◌, List, Some, map, length, All, IsTrue, IfOk};
-ghost use Rattle.std.specs.List.{AllPairs, Contains};
+ghost use Rattle.std.specs.List.{Contains};
 ghost use Rattle.std.specs.Option.{option_map};
-ghost use Rattle.pv_base.specs.Assignment.{precedes, assignments};
+ghost use Rattle.pv_base.specs.Assignment.{AreAscending, assignments};
 ghost use Rattle.pv_base.specs.Polyvalue.{value_at, names, AreValues, IsPolyvalue};
 ghost use Rattle.pv_base.specs.declared.txn.TxnId.{TxnId};
-ghost use Rattle.pv_ast.specs.ReplyView.{reply_of};
 ghost use Rattle.pv_model.specs.Alternatives.{all_cases, rows_at, assigned};
 ghost use Rattle.pv_model.specs.Meaning.{exec};
 ghost use Rattle.pv_split.specs.Columns.{effects_at, values_in_row};
@@ -24,7 +23,7 @@ pub(crate) fn writes_of(
     txns: &[TxnId],
     effects: &[Effect],
 ) -> Result<Vec<Read>, NoMemory>
-    requires ascending { AllPairs (λ txn later. IsTrue (precedes txn later)) txns.now }
+    requires ascending { AreAscending txns.now }
     requires few { length txns.now ≤ READ_NAMES }
     requires named { (txn : TxnId) → IsTrue (names (all_cases reads.now) txn) → Contains txns.now txn }
     requires effects { effects.now ≡ effects_at program.now reads.now txns.now }
@@ -51,7 +50,7 @@ fn write_of(
     txns: &[TxnId],
     effects: &[Effect],
 ) -> Result<Read, NoMemory>
-    requires ascending { AllPairs (λ txn later. IsTrue (precedes txn later)) txns.now }
+    requires ascending { AreAscending txns.now }
     requires few { length txns.now ≤ READ_NAMES }
     requires whole { length effects.now ≡ 2 ^ length txns.now }
     requires row { All (λ effect. index < length effect.rows) effects.now }
@@ -83,10 +82,10 @@ pub(crate) fn reply_over(
     txns: &[TxnId],
     effects: &[Effect],
 ) -> Result<Poly<Reply>, NoMemory>
-    requires ascending { AllPairs (λ txn later. IsTrue (precedes txn later)) txns.now }
+    requires ascending { AreAscending txns.now }
     requires few { length txns.now ≤ READ_NAMES }
     requires whole { length effects.now ≡ 2 ^ length txns.now }
-    ensures values { IfOk result (λ reply. map (λ assignment. option_map reply_of (value_at reply assignment)) (assignments txns.now)
+    ensures values { IfOk result (λ reply. map (value_at reply) (assignments txns.now)
         ≡ map (λ effect. Some effect.reply) effects.now) }
     ensures names { IfOk result (λ reply. (txn : TxnId) → IsTrue (names reply txn) → Contains txns.now txn) }
     ensures polyvalue { IfOk result (λ reply. IsPolyvalue READ_NAMES reply) }
@@ -97,7 +96,7 @@ pub(crate) fn reply_over(
 
 // The reply of each effect.
 fn replies_of(alloc: Global, effects: &[Effect]) -> Result<Vec<Reply>, NoMemory>
-    ensures { IfOk result (λ replies. map reply_of replies.items ≡ map (λ effect. effect.reply) effects.now) }
+    ensures { IfOk result (λ replies. replies.items ≡ map (λ effect. effect.reply) effects.now) }
 {
     let mut replies = Vec::new(alloc);
     for effect in effects {

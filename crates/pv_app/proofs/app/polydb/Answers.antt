@@ -1,12 +1,13 @@
 -- What was read is what the source had left, and what was written is the answer to it.
 use Rattle.std.proofs.Common.{◌≡◌, ◌≤◌, None, List, ℕ, length, refl, ◌∙◌, subst, sym, arith}
+use Rattle.pv_base.specs.declared.limits.TheConstants.{MAX_INPUT}
 use Rattle.pv_law_runs.proofs.AgreementLemmas.{replies_agree, reports_agree}
 use Rattle.pv_script.specs.Form.{not_built}
 use Rattle.pv_model.specs.Run.{output_of}
 use Rattle.pv_model.specs.Schedule.{IsSchedule}
 use Rattle.pv_app.proofs.AnswerLemmas.{output_at_done, prefix_of_run, schedule_at_done, status_of_answer, usage_or_fault}
 use Rattle.pv_app.proofs.OutputLemmas.{AppendsPrefix-none}
-use Rattle.pv_app.specs.InputAnswers.{IsAnswer, max_input, usage_text}
+use Rattle.pv_app.specs.InputAnswers.{IsAnswer, usage_text}
 use Rattle.pv_app.specs.declared.status.Status.TheVariants.{Done}
 use Rattle.pv_app.proofs.app.polydb.Goals as goal
 
@@ -28,7 +29,7 @@ pub returns-in-Ok-clause-agreement : goal.returns-in-Ok-clause-agreement
 returns-in-Ok-clause-agreement g c = λ run input left schedule says built.
     let whole = c.in-Ok.ensures.whole input left in
     let same = sym (c.deref.ensures.value ∙ whole.0) in
-    let short : length c.deref.result.now ≤ max_input = omega (arith, c.deref.ensures.len, c.in-Ok.ensures.within) in
+    let short : length c.deref.result.now ≤ MAX_INPUT = omega (arith, c.deref.ensures.len, c.in-Ok.ensures.within) in
     let says_read = subst (λ (text : List ℕ). IsSchedule text schedule) same says in
     let built_read = subst (λ (text : List ℕ). not_built text ≡ None) same built in
     let old = g.W.Sink.held c.args.sink.now in

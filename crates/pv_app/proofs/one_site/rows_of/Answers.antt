@@ -2,7 +2,7 @@
 use Rattle.std.proofs.Common.{◌≡◌, ◌++◌, ◌∷◌, [], ℕ, suc, ℤ, List, drop, w64, FitsSigned, ap, sym, ◌∙◌, rules, arith, append_assoc, add-one}
 use Rattle.std.proofs.lemmas.Int.{to_z-of_z}
 use Rattle.pv_model.specs.Meaning.{Row}
-use Rattle.pv_model.specs.Run.{rows_from}
+use Rattle.pv_model.specs.Serial.{rows_from}
 use Rattle.pv_app.proofs.RowLemmas.{rows_from-drop}
 use Rattle.pv_app.proofs.one_site.rows_of.Goals as goal
 

@@ -7,9 +7,9 @@ use Rattle.pv_cases.proofs.count.names_of_both.Goals as goal
 
 pub returns : goal.returns
 returns g c =
-    let first : c.push_names.new.txns.items ≡ txns_of c.args.aborted.now = cc (c.in_ok-push_names.ensures {u = tt}, c.new-txns.ensures.items) in
+    let first : c.push_names.new.txns.items ≡ txns_of c.args.aborted.now = cc (c.in_ok-push_names.ensures.names, c.new-txns.ensures.items) in
     AreNames-ordered (c.args.aborted.now ++ c.args.committed.now) c.push_names-2.new.txns.items c.ordered.result.items
     (txns_of-append c.args.aborted.now c.args.committed.now
     ∙ ap (λ (txns : List TxnId). txns ++ txns_of c.args.committed.now) (sym first)
-    ∙ sym (c.in_ok-push_names-2.ensures {u = tt}))
+    ∙ sym (c.in_ok-push_names-2.ensures.names))
     c.ordered.ensures.ascending c.ordered.ensures.same

@@ -14,7 +14,7 @@ push_meetings-requires g t c κs within = (
   (
     search rules,
     (
-      still-there c.args.cases.now c.args.places.now _ _ _ (c.deref.ensures.value ∙ c.in_ok-without.ensures) c.requires.there,
+      still-there c.args.cases.now c.args.places.now _ _ _ (c.deref.ensures.value ∙ c.in_ok-aborted.ensures) c.requires.there,
       ascending-rest c.in-Some.ensures.cases.0 c.requires.ascending,
     ),
   ),
@@ -26,7 +26,7 @@ push_meetings-requires-2 g t c κs within = (
   (
     search rules,
     (
-      still-there c.args.cases.now c.args.places.now _ _ _ (c.deref-2.ensures.value ∙ c.in_ok-with.ensures) c.requires.there,
+      still-there c.args.cases.now c.args.places.now _ _ _ (c.deref-2.ensures.value ∙ c.in_ok-committed.ensures) c.requires.there,
       ascending-rest c.in-Some.ensures.cases.0 c.requires.ascending,
     ),
   ),
@@ -37,5 +37,5 @@ returns g t c =
     push-first c.args.cases.now c.args.places.now c.args.txns.now c.in-Some.txn.now c.in-Some.rest.now c.deref.result.now c.deref-2.result.now
     c.args.meetings.now.items c.push_meetings.new.meetings.items c.push_meetings-2.new.meetings.items
     c.requires.ascending c.in-Some.ensures.cases.0
-    (c.deref.ensures.value ∙ c.in_ok-without.ensures) (c.deref-2.ensures.value ∙ c.in_ok-with.ensures)
+    (c.deref.ensures.value ∙ c.in_ok-aborted.ensures) (c.deref-2.ensures.value ∙ c.in_ok-committed.ensures)
     c.in_ok-push_meetings.ensures c.in_ok-push_meetings-2.ensures

@@ -10,9 +10,9 @@ loop-meeting-preserved c =
     let within : c.loop-meeting.meeting-index < length c.args.meetings.now = c.loop-meeting-test.true in
     elim c.match-zip.branch [
       | in-Some+in-Some-least w ↦ more-kept c.args.meetings.now c.loop-meeting.meeting-index _ c.loop-meeting.least c.match-zip.least w.in-Some-least.other w.in-Some.pair within
-          (sym c.zip.ensures ∙ w.in-Some.is) w.in-Some-least.is w.least-is w.if-is_not_behind.ensures c.loop-meeting.invariant
+          (sym c.zip.ensures ∙ w.in-Some.is) w.in-Some-least.is w.least-is w.if-is_first_or_same.ensures c.loop-meeting.invariant
       | in-Some+in_default-least-2 w ↦ more-less c.args.meetings.now c.loop-meeting.meeting-index _ c.loop-meeting.least c.match-zip.least w.in-Some-least.other w.in-Some.pair within
-          (sym c.zip.ensures ∙ w.in-Some.is) w.in-Some-least.is w.least-is w.if-is_not_behind.ensures c.loop-meeting.invariant
+          (sym c.zip.ensures ∙ w.in-Some.is) w.in-Some-least.is w.least-is w.if-is_first_or_same.ensures c.loop-meeting.invariant
       | in-Some+in_default-least w ↦ more-first c.args.meetings.now c.loop-meeting.meeting-index _ c.loop-meeting.least c.match-zip.least w.in-Some.pair within
           (sym c.zip.ensures ∙ w.in-Some.is) w.in_default-least.is w.least-is c.loop-meeting.invariant
       | in_default w ↦ more-none c.args.meetings.now c.loop-meeting.meeting-index _ c.loop-meeting.least c.match-zip.least within

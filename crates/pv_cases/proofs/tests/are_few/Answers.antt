@@ -1,5 +1,5 @@
 -- One case after another, each with 256 literals at most.
-use Rattle.std.proofs.Common.{ℤ, length, sym, ap, ◌∙◌, arith}
+use Rattle.std.proofs.Common.{ℤ, length, ap, arith}
 use Rattle.pv_base.specs.Polyvalue.{Case}
 use Rattle.pv_cases.proofs.CountedLiterals.{literals-next, literals-end}
 use Rattle.pv_cases.proofs.tests.are_few.Goals as goal

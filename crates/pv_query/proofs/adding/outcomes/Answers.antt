@@ -12,7 +12,7 @@ use Rattle.pv_query.proofs.adding.outcomes.Goals as goal
 pub loop-value-preserved : goal.loop-value-preserved
 loop-value-preserved c = record {
   read = outcomes-next c.args.values.now (txns_of (together c.args.values.now)) c.loop-value.txns.items c.push_names.new.txns.items c.loop-value.value-index c.value-item.result
-      c.cases.result.now c.loop-value-test.true c.value-item.is c.cases.ensures.cases c.loop-value.invariant.read c.in_ok-push_names.ensures;
+      c.cases.result.now c.loop-value-test.true c.value-item.is c.cases.ensures.cases c.loop-value.invariant.read c.in_ok-push_names.ensures.names;
   polyvalues = All-take-next (IsPolyvalue HELD_NAMES) c.args.values.now c.loop-value.value-index c.value-item.result c.loop-value-test.true c.value-item.is
       c.cases.ensures.polyvalue c.loop-value.invariant.polyvalues;
 }

@@ -1,11 +1,15 @@
 -- The transactions that the values name are one list.
 use Rattle.std.proofs.Common.{◌≡◌, ℕ, List, length, inl, ap, sym, subst, refl, ◌∙◌, arith}
-use Rattle.std.specs.Prelude.{ℤ, Err, All}
-use Rattle.std.specs.List.{Contains}
+use Rattle.std.specs.Prelude.{ℤ, Err, All, ◌≢◌, map}
+use Rattle.std.specs.List.{AllPairs, Contains}
+use Rattle.std.specs.Ordering.{int_eq}
+use Rattle.std.proofs.lemmas.Cmp.{int_eq_equiv}
 use Rattle.pv_base.specs.declared.txn.TxnId.{TxnId}
+use Rattle.pv_base.specs.Assignment.{assignments}
 use Rattle.pv_model.specs.PossibleAnswers.{sum_at, sums}
 use Rattle.pv_law_polyvalues.proofs.NameLemmas.{one-names}
 use Rattle.pv_query.proofs.OutcomeLemmas.{together}
+use Rattle.pv_query.proofs.RepeatLemmas.{repeats-distinct}
 use Rattle.pv_query.proofs.EverySumLemmas.{every-sum, each-sum}
 use Rattle.pv_query.specs.declared.adding.SumError.TheVariants.{OutcomeLimit}
 use Rattle.pv_query.proofs.adding.sums.Goals as goal
@@ -49,3 +53,10 @@ returns-clause-each c =
     subst (All (λ sum. (assignment : List TxnId) × (sum_at c.args.values.now assignment ≡ sum)))
     (sym (c.in_ok-sums_over.ensures ∙ ap (sums c.args.values.now) c.deref.ensures.value))
     (each-sum c.args.values.now c.in_ok-txns.txns.items)
+
+pub returns-clause-distinct : goal.returns-clause-distinct
+returns-clause-distinct c =
+    let txns = c.in_ok-txns.txns.items in
+    subst (λ (found : List ℤ). AllPairs (λ sum later. sum ≢ later) found)
+    (sym (c.in_ok-sums_over.ensures ∙ ap (sums c.args.values.now) c.deref.ensures.value))
+    (repeats-distinct int_eq int_eq_equiv.refl (map (sum_at c.args.values.now) (assignments txns)))

@@ -15,6 +15,7 @@ loop-value-init c = record { sums = c.in_ok-sums.ensures.zeros; within = c.in_ok
 pub add-requires : goal.add-requires
 add-requires c = record {
   ascending = c.requires.ascending;
+  few = c.requires.few_txns;
   room = AreWithin-weaker (c.loop-value.value-index * 2 ^ 63) (2 ^ 100) c.loop-value.sums (omega arith) c.loop-value.invariant.within;
   places = length-sums c.loop-value.sums.sure c.loop-value.sums.at_each.items (sum_at (take c.loop-value.value-index c.args.values.now)) c.args.txns.now c.loop-value.invariant.sums;
 }

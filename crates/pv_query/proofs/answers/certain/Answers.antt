@@ -1,8 +1,8 @@
 -- Of several cases none is certain, and one case has its reply everywhere.
 use Rattle.std.proofs.Common.{arith, ap, length, Some, ◌∙◌}
 use Rattle.std.proofs.lemmas.Grind.{common_steps}
-use Rattle.pv_ast.specs.ReplyExact.{reply_exact}
-use Rattle.pv_ast.specs.contracts.effect.ReplyPartialEq.TheImpl as reply_eq
+use Rattle.pv_base.specs.ReplyExact.{reply_exact}
+use Rattle.pv_base.specs.contracts.reply.ReplyPartialEq.TheImpl as reply_eq
 use Rattle.pv_query.proofs.AnswerLemmas.{every-certain, certain-told, uncertain}
 use Rattle.pv_query.proofs.answers.certain.Goals as goal
 

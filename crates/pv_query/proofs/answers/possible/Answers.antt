@@ -1,12 +1,13 @@
 -- One case after another brings its reply, unless it is there.
 use Rattle.std.proofs.Common.{ap, sym, subst}
-use Rattle.std.specs.Prelude.{IsSomeAnd, All, ◌≡◌, List, Some}
-use Rattle.std.specs.List.{Contains}
+use Rattle.std.specs.Prelude.{IsSomeAnd, All, ◌≡◌, ◌≢◌, List, Some, map}
+use Rattle.std.specs.List.{AllPairs, Contains}
 use Rattle.pv_base.specs.declared.txn.TxnId.{TxnId}
 use Rattle.pv_base.specs.Polyvalue.{Case, value_at}
-use Rattle.pv_ast.specs.ReplyExact.{reply_exact}
-use Rattle.pv_ast.specs.contracts.effect.ReplyPartialEq.TheImpl as reply_eq
-use Rattle.pv_query.proofs.RepeatLemmas.{left-start, left-step, left-end}
+use Rattle.pv_base.specs.ReplyExact.{reply_exact}
+use Rattle.pv_base.specs.contracts.reply.ReplyEq.TheImpl.Laws as reply_laws
+use Rattle.pv_base.specs.contracts.reply.ReplyPartialEq.TheImpl as reply_eq
+use Rattle.pv_query.proofs.RepeatLemmas.{left-start, left-step, left-end, repeats-distinct}
 use Rattle.pv_query.proofs.AnswerLemmas.{every-possible, each-given}
 use Rattle.pv_model.specs.PossibleAnswers.{possible}
 use Rattle.pv_query.proofs.answers.possible.Goals as goal
@@ -37,3 +38,8 @@ pub returns-clause-each : goal.returns-clause-each
 returns-clause-each c =
     subst (λ (replies : List _). All (λ possible. (assignment : List TxnId) × (value_at c.args.reply.now assignment ≡ Some possible)) replies)
     (sym (returns-clause-possible c)) (each-given reply_eq.ghosts.eq c.args.reply.now c.cases-case-items.ensures.polyvalue.canonical)
+
+pub returns-clause-distinct : goal.returns-clause-distinct
+returns-clause-distinct c =
+    subst (λ (replies : List _). AllPairs (λ reply later. reply ≢ later) replies) (sym (returns-clause-possible c))
+    (repeats-distinct reply_eq.ghosts.eq reply_laws.laws-law.refl (map (λ (case : Case _). case.value) c.args.reply.now))

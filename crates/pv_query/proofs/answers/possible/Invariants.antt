@@ -2,7 +2,7 @@
 use Rattle.std.proofs.Common.{◌≡◌, drop}
 use Rattle.std.specs.Prelude.{◌++◌, map}
 use Rattle.pv_base.specs.Polyvalue.{Case}
-use Rattle.pv_ast.specs.contracts.effect.ReplyPartialEq.TheImpl as reply_eq
+use Rattle.pv_base.specs.contracts.reply.ReplyPartialEq.TheImpl as reply_eq
 use Rattle.pv_model.specs.PossibleAnswers.{possible}
 use Rattle.pv_query.proofs.RepeatLemmas.{left_of}
 use Rattle.pv_query.proofs.answers.possible.Given as goal

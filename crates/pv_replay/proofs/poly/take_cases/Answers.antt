@@ -1,5 +1,5 @@
 -- The count, and then so many cases.
-use Rattle.std.proofs.Common.{◌≡◌, Some, ℕ, List, length, Result, Ok, Err, IfOk, sym, subst, arith}
+use Rattle.std.proofs.Common.{◌≡◌, Some, ℕ, List, length, sym, subst, arith}
 use Rattle.std.proofs.lemmas.Result.{err_from_is_err_and, IfErr-weaker}
 use Rattle.pv_format.specs.FirstFault.{short}
 use Rattle.pv_format.specs.Layout.{Layout, any, repeated, case_layout, cases_layout}
@@ -8,16 +8,11 @@ use Rattle.pv_format.specs.Spelling.{◌followed_by◌, SpellsEach}
 use Rattle.pv_base.specs.BigEndian.{IsNumber}
 use Rattle.pv_law_fields.specs.Decoding.{Passes, Stops}
 use Rattle.pv_replay.specs.Faults.{fault_of}
-use Rattle.pv_law_fields.proofs.PartLemmas.{number_any, passes_after_number, stops_after_number, stops_at_number, stops_short}
+use Rattle.pv_law_fields.proofs.PartLemmas.{number_any, ok_from_both, passes_after_number, stops_after_number, stops_at_number, stops_short}
 use Rattle.pv_replay.proofs.poly.take_cases.Goals as goal
 
 abbrev after_count : ℕ → Layout → Layout
 after_count count next = repeated count case_layout next
-
--- What follows from two clauses on an `Ok`.
-from_both : {X E : Type 0} (r : Result X E) (P Q R : X → Type 0) → ((x : X) → P x → Q x → R x) → IfOk r P → IfOk r Q → IfOk r R
-from_both (Ok x) P Q R both p q = both x p q
-from_both (Err e) P Q R both p q = tt
 
 pub returns-in_err-count-clause-stops : goal.returns-in_err-count-clause-stops
 returns-in_err-count-clause-stops c =
@@ -28,7 +23,7 @@ returns-in_err-count-clause-stops c =
 
 pub returns-clause-passes : goal.returns-clause-passes
 returns-clause-passes c =
-    from_both c.take_counted_cases.result (λ cases. length cases.items ≡ c.in_ok-count.count)
+    ok_from_both c.take_counted_cases.result (λ cases. length cases.items ≡ c.in_ok-count.count)
       (λ cases. Passes (SpellsEach SpellsCase cases.items) (repeated c.in_ok-count.count case_layout) c.u16.new.self c.take_counted_cases.new.take) _
       (λ cases counted passes.
         subst (λ (n : ℕ). Passes (IsNumber 2 n followed_by SpellsEach SpellsCase cases.items) cases_layout c.args.take.now c.take_counted_cases.new.take) (sym counted)

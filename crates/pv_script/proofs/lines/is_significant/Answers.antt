@@ -4,7 +4,8 @@ use Rattle.std.specs.Option.{option_map, option_map_or}
 use Rattle.std.proofs.lemmas.Iterator.{YieldsList-from_slice}
 use Rattle.std.proofs.lemmas.Iterator.Consumers.{YieldsList-from_copied, YieldsList-at}
 use Rattle.std.proofs.lemmas.Iterator.Search.{find_from_yields_List}
-use Rattle.pv_model.specs.Text.{is_significant, is_blank}
+use Rattle.pv_base.specs.Name.{is_blank}
+use Rattle.pv_model.specs.Text.{is_significant}
 use Rattle.pv_script.proofs.lines.is_significant.Goals as goal
 
 told : (test : ℕ → Bool) (found first : Option ℕ) (r : Bool) (Post : ℕ → Type 0) → option_map (λ b. b) found ≡ first → MatchOption found (r ≡ false) Post → ((b : ℕ) → Post b → r ≡ test b) → r ≡ option_map_or test first false

@@ -1,7 +1,7 @@
 -- The last byte ends the text, or is a blank that doesn't count.
 use Rattle.std.proofs.Common.{◌≡◌, ◌≤◌, ◌-◌, length, sym, ◌∙◌, arith, true, false, get_or}
 use Rattle.std.proofs.lemmas.List.{length-take-le}
-use Rattle.pv_model.specs.Text.{is_blank}
+use Rattle.pv_base.specs.Name.{is_blank}
 use Rattle.pv_script.proofs.BlankLemmas.{keeps, drops}
 use Rattle.pv_script.proofs.program.before_blanks.Goals as goal
 

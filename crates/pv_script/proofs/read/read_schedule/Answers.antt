@@ -1,28 +1,31 @@
 -- Each line is taken in turn, and what refuses one refuses the text.
-use Rattle.std.proofs.Common.{ℕ, List, sym, ap, ◌∙◌, refl, subst, map, arith}
+use Rattle.std.proofs.Common.{ℕ, List, Err, IfSome, sym, ap, ◌∙◌, refl, subst, map, arith}
 use Rattle.std.proofs.lemmas.List.{length-map}
 use Rattle.std.proofs.lemmas.Result.{err_from_is_err_and}
 use Rattle.pv_model.specs.FirstFault.{without_numbers}
-use Rattle.pv_model.specs.Schedule.{AreLines, significant}
+use Rattle.pv_model.specs.Schedule.{AreLines, significant, IsSchedule}
 use Rattle.pv_model.specs.Text.{TextLine}
+use Rattle.pv_base.specs.Answer.{Answers}
+use Rattle.pv_base.proofs.AnswerLemmas.{answered}
+use Rattle.pv_script.specs.ScriptErrors.{IsMalformedAt, refused_line}
+use Rattle.pv_script.specs.declared.schedule.ScriptError.{ScriptError}
 use Rattle.pv_script.specs.LinesLeft.{LinesLeft}
 use Rattle.pv_script.specs.Said.{before_of}
-use Rattle.pv_script.specs.View.{event_of}
+use Rattle.pv_script.specs.View.{event_of, schedule_of}
 use Rattle.pv_script.proofs.CountLemmas.{few-events}
 use Rattle.pv_script.proofs.FaultLemmas.{IsAtFaultFrom, fault-takes, lines-takes, refuses-line}
-use Rattle.pv_law_schedules.proofs.OneScheduleLemmas.{one_schedule, no_fault}
-use Rattle.pv_script.proofs.ScheduleLemmas.{lines-first, fault-first, plans-takes, begun-takes, IsSchedule-read, error-no_schedule, error-one_fault}
+use Rattle.pv_script.proofs.ScheduleLemmas.{lines-first, fault-first, plans-takes, begun-takes, IsSchedule-read, one}
 use Rattle.pv_script.proofs.read.read_schedule.Goals as goal
 
-pub returns-in_err-said-clause-read : goal.returns-in_err-said-clause-read
-returns-in_err-said-clause-read c = λ schedule is.
-    let p = err_from_is_err_and c.from_residual.result c.from_residual.ensures.1 in
-    rw (p.1, p.2) (tt, error-no_schedule c.args.text.now schedule c.in_err-said.field-0.0 (c.in_err-said.ensures.fault c.args.text.now c.new-lines.ensures) is)
+-- What is refused for the line at fault answers the text.
+refused-so : (text : List ℕ) (e : ScriptError) → IfSome (refused_line e) (IsMalformedAt text)
+    → Answers (IsSchedule text) (IsMalformedAt text) schedule_of refused_line (Err e)
+refused-so text e fault = answered (IsSchedule text) (IsMalformedAt text) (one text) schedule_of refused_line (Err e) tt fault
 
-pub returns-in_err-said-clause-refuses : goal.returns-in_err-said-clause-refuses
-returns-in_err-said-clause-refuses c = λ number cause is.
+pub returns-in_err-said-clause-answer : goal.returns-in_err-said-clause-answer
+returns-in_err-said-clause-answer c =
     let p = err_from_is_err_and c.from_residual.result c.from_residual.ensures.1 in
-    rw (p.1, p.2) (tt, error-one_fault c.args.text.now number cause c.in_err-said.field-0.0 (c.in_err-said.ensures.fault c.args.text.now c.new-lines.ensures) is)
+    rw (p.1, p.2) (refused-so c.args.text.now c.in_err-said.field-0.0 (c.in_err-said.ensures.fault c.args.text.now c.new-lines.ensures))
 
 pub loop-line-init : goal.loop-line-init
 loop-line-init c =
@@ -53,48 +56,23 @@ loop-line-preserved c = (
       c.loop-line.said.catalog.sites refl c.loop-line.invariant.4 c.in_ok-read_line.ensures.takes,
 )
 
-pub returns-in_err-read_line-clause-refused : goal.returns-in_err-read_line-clause-refused
-returns-in_err-read_line-clause-refused c =
+pub returns-in_err-read_line-clause-answer : goal.returns-in_err-read_line-clause-answer
+returns-in_err-read_line-clause-answer c =
     let p = err_from_is_err_and c.from_residual-in_err-read_line.result c.from_residual-in_err-read_line.ensures.1 in
     rw (p.1, p.2)
+    (refused-so c.args.text.now c.in_err-read_line.field-0.0
     (refuses-line c.args.text.now (before_of c.loop-line.said) c.in-Some.line.number c.in-Some.line.text.now c.next.new.self.numbered c.in_err-read_line.field-0.0
     (λ n cause is. c.loop-line.invariant.2 n cause (subst (λ (all : List (ℕ × TextLine)). IsAtFaultFrom (before_of c.loop-line.said) all n cause) (sym c.in-Some.ensures.some) is))
-    c.in_err-read_line.ensures.fault)
+    c.in_err-read_line.ensures.fault))
 
-pub returns-in_err-read_line-clause-read : goal.returns-in_err-read_line-clause-read
-returns-in_err-read_line-clause-read c = λ schedule whole.
-    let p = err_from_is_err_and c.from_residual-in_err-read_line.result c.from_residual-in_err-read_line.ensures.1 in
-    rw (p.1, p.2) (
-      tt,
-      error-no_schedule c.args.text.now schedule c.in_err-read_line.field-0.0
-          (refuses-line c.args.text.now (before_of c.loop-line.said) c.in-Some.line.number c.in-Some.line.text.now c.next.new.self.numbered c.in_err-read_line.field-0.0
-          (λ n cause is. c.loop-line.invariant.2 n cause (subst (λ (all : List (ℕ × TextLine)). IsAtFaultFrom (before_of c.loop-line.said) all n cause) (sym c.in-Some.ensures.some) is))
-          c.in_err-read_line.ensures.fault) whole,
-    )
-
-pub returns-in_err-read_line-clause-refuses : goal.returns-in_err-read_line-clause-refuses
-returns-in_err-read_line-clause-refuses c = λ number fault whole.
-    let p = err_from_is_err_and c.from_residual-in_err-read_line.result c.from_residual-in_err-read_line.ensures.1 in
-    rw (p.1, p.2) (
-      tt,
-      error-one_fault c.args.text.now number fault c.in_err-read_line.field-0.0
-          (refuses-line c.args.text.now (before_of c.loop-line.said) c.in-Some.line.number c.in-Some.line.text.now c.next.new.self.numbered c.in_err-read_line.field-0.0
-          (λ n cause is. c.loop-line.invariant.2 n cause (subst (λ (all : List (ℕ × TextLine)). IsAtFaultFrom (before_of c.loop-line.said) all n cause) (sym c.in-Some.ensures.some) is))
-          c.in_err-read_line.ensures.fault) whole,
-    )
-
-pub returns-clause-schedule : goal.returns-clause-schedule
-returns-clause-schedule c =
-    IsSchedule-read c.args.text.now c.loop-line.said (map event_of c.loop-line.events.items) c.loop-line.lines.numbered c.loop-line.invariant.0 c.in_default.ensures.none c.loop-line.invariant.1
-
-pub returns-clause-read : goal.returns-clause-read
-returns-clause-read c = λ schedule is. (one_schedule c.args.text.now _ schedule (returns-clause-schedule c) is, tt)
-
-pub returns-clause-refuses : goal.returns-clause-refuses
-returns-clause-refuses c = λ number cause is. (no_fault c.args.text.now _ number cause (returns-clause-schedule c) is, tt)
+-- What was read is the schedule that the text is.
+pub returns-clause-answer : goal.returns-clause-answer
+returns-clause-answer c =
+    answered (IsSchedule c.args.text.now) (IsMalformedAt c.args.text.now) (one c.args.text.now) schedule_of refused_line _
+    (IsSchedule-read c.args.text.now c.loop-line.said (map event_of c.loop-line.events.items) c.loop-line.lines.numbered c.loop-line.invariant.0 c.in_default.ensures.none c.loop-line.invariant.1) tt
 
 pub returns-clause-few : goal.returns-clause-few
 returns-clause-few c =
-    let few = few-events c.args.text.now _ (returns-clause-schedule c) in
+    let few = few-events c.args.text.now _ (returns-clause-answer c).given in
     let all = length-map c.loop-line.events.items event_of in
     omega (arith, few, c.loop-line.events.ok.0)

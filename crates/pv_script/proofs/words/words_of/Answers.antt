@@ -2,7 +2,8 @@
 use Rattle.std.proofs.Common.{◌==◌, not, length, rules, tests}
 use Rattle.std.proofs.lemmas.Iterator.Consumers.{YieldsList-from_filter, YieldsList-at, map_from_collect}
 use Rattle.std.proofs.lemmas.Iterator.Splits.{YieldsList-from_slice_split}
-use Rattle.pv_model.specs.Text.{words, is_blank}
+use Rattle.pv_base.specs.Name.{is_blank}
+use Rattle.pv_model.specs.Text.{words}
 use Rattle.pv_script.proofs.words.words_of.Goals as goal
 
 pub returns : goal.returns

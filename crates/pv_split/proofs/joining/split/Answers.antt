@@ -2,7 +2,6 @@
 use Rattle.std.proofs.Common.{List, ◌^◌, length, subst, sym, ap, ◌∙◌}
 use Rattle.std.specs.List.{Contains}
 use Rattle.pv_base.specs.declared.txn.TxnId.{TxnId}
-use Rattle.pv_ast.specs.ReplyView.{reply_of}
 use Rattle.pv_model.specs.Alternatives.{all_cases}
 use Rattle.pv_law_polyvalues.proofs.NameLemmas.{listed-named}
 use Rattle.pv_split.specs.Columns.{effects_at}
@@ -20,7 +19,7 @@ pub returns-clause-split : goal.returns-clause-split
 returns-clause-split c = record {
   written = c.in_ok-writes.ensures.written;
   replied =
-      replied-everywhere c.args.program.now c.args.reads.now reply_of c.deref-4.result.now c.in_ok-reply.reply c.deref-5.result.now
+      replied-everywhere c.args.program.now c.args.reads.now c.deref-4.result.now c.in_ok-reply.reply c.deref-5.result.now
       (λ t is. subst (λ (txns : List TxnId). Contains txns t) (sym c.deref-4.ensures.value) (c.in_ok-txns.ensures.names.whole t is))
       c.in_ok-reply.ensures.names
       (c.deref-5.ensures.value ∙ c.in_ok-effects.ensures

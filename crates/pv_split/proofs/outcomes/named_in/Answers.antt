@@ -8,7 +8,7 @@ use Rattle.pv_split.proofs.outcomes.named_in.Goals as goal
 pub loop-read-preserved : goal.loop-read-preserved
 loop-read-preserved c =
     txns-next c.args.reads.now c.loop-read.read-index c.read-item.result c.cases.result.now c.loop-read.txns.items c.push_names.new.txns.items
-    c.loop-read-test.true c.read-item.is (c.cases.ensures.cases ∙ ap (λ (read : Read). read.cases) c.read.view_is) c.loop-read.invariant c.in_ok-push_names.ensures
+    c.loop-read-test.true c.read-item.is (c.cases.ensures.cases ∙ ap (λ (read : Read). read.cases) c.read.view_is) c.loop-read.invariant c.in_ok-push_names.ensures.names
 
 pub returns : goal.returns
 returns c =

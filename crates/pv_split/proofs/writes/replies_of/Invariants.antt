@@ -1,7 +1,6 @@
 -- The replies of the effects so far.
 use Rattle.std.proofs.Common.{◌≡◌, map, take}
-use Rattle.pv_ast.specs.ReplyView.{reply_of}
 use Rattle.pv_split.proofs.writes.replies_of.Given as goal
 
 abbrev pub invariant-loop-effect : goal.invariant-loop-effect
-invariant-loop-effect l = map reply_of l.replies.items ≡ map (λ effect. effect.reply) (take l.effect-index l.effects)
+invariant-loop-effect l = l.replies.items ≡ map (λ effect. effect.reply) (take l.effect-index l.effects)

@@ -1,7 +1,6 @@
--- The replies have these values, under what they stand for, and name few transactions.
+-- The replies have these values, and name few transactions.
 use Rattle.std.proofs.Common.{List, subst}
-use Rattle.pv_ast.specs.declared.effect.Reply.{Reply}
-use Rattle.pv_ast.specs.ReplyView.{reply_of}
+use Rattle.pv_base.specs.declared.reply.Reply.{Reply}
 use Rattle.pv_base.specs.Polyvalue.{AreValues}
 use Rattle.pv_base.specs.declared.limits.TheConstants.{HELD_NAMES, READ_NAMES}
 use Rattle.pv_split.proofs.WriteLemmas.{replies-at, over_ok, over_both_ok, IsPolyvalue-within}
@@ -10,7 +9,7 @@ use Rattle.pv_split.proofs.writes.reply_over.Goals as goal
 pub returns-clause-values : goal.returns-clause-values
 returns-clause-values c =
     over_ok c.from_table.result _ _
-    (λ reply are. replies-at reply_of c.args.txns.now reply c.in_ok-replies.replies.items c.args.effects.now
+    (λ reply are. replies-at c.args.txns.now reply c.in_ok-replies.replies.items c.args.effects.now
     (subst (λ (replies : List Reply). AreValues reply c.args.txns.now replies) c.deref.ensures.value are) c.in_ok-replies.ensures)
     c.from_table.ensures.values
 

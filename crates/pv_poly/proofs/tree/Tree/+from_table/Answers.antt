@@ -33,13 +33,13 @@ from_table-requires-2 g t c κs within =
       ),
     )
 
-pub test-requires-clause-aborted_behind : goal.test-requires-clause-aborted_behind
-test-requires-clause-aborted_behind g t c =
+pub test-requires-clause-aborted_after : goal.test-requires-clause-aborted_after
+test-requires-clause-aborted_after g t c =
     rest-behind c.in_ok-aborted.aborted c.in-Some.first.now c.args.txns.now c.in-Some.rest.now c.in-Some.ensures.cases.0 c.requires.ascending
     c.in_ok-aborted.ensures.names
 
-pub test-requires-clause-committed_behind : goal.test-requires-clause-committed_behind
-test-requires-clause-committed_behind g t c =
+pub test-requires-clause-committed_after : goal.test-requires-clause-committed_after
+test-requires-clause-committed_after g t c =
     rest-behind c.in_ok-committed.committed c.in-Some.first.now c.args.txns.now c.in-Some.rest.now c.in-Some.ensures.cases.0 c.requires.ascending
     c.in_ok-committed.ensures.names
 
@@ -52,7 +52,7 @@ returns-clause-values g t c =
     let committed = c.in_ok-committed.committed in
     let is = c.in-Some.ensures.cases.0 in
     let up = c.requires.ascending in
-    IfOk-weaker c.test.result (IsChoice first committed aborted) (λ tree. AreValues tree txns c.args.values.now)
+    IfOk-weaker c.test.result (IsChoice first aborted committed) (λ tree. AreValues tree txns c.args.values.now)
     (λ tree choice. subst (λ values. AreValues tree txns values) (sym c.split_at.ensures.by_index.0)
     (values-choice tree aborted committed first txns rest c.split_at.result.0.now c.split_at.result.1.now choice
     (rest-behind aborted first txns rest is up c.in_ok-aborted.ensures.names) (rest-behind committed first txns rest is up c.in_ok-committed.ensures.names)

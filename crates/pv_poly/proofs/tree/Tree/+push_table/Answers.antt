@@ -1,7 +1,7 @@
 use Rattle.std.proofs.Common.{◌≡◌, List, ◌∷◌, length, false, ap, sym, subst, arith}
 use Rattle.std.proofs.lemmas.Result.{IfOk-weaker}
 use Rattle.pv_base.specs.Polyvalue.{Case, names}
-use Rattle.pv_poly.proofs.TopOfTree.{at_Test, at_Sure, front-shorter, back-shorter}
+use Rattle.pv_poly.proofs.TopOfTree.{at_Test, at_Sure, aborted-shorter, committed-shorter}
 use Rattle.pv_cases.proofs.TxnTests.{less-precedes, greater-precedes, equal-same}
 use Rattle.pv_cases.proofs.PartingLemmas.{ascending-rest}
 use Rattle.pv_poly.proofs.TableSteps.{AreAdded, added-tested, added-skip, added-before, later-unnamed}
@@ -21,14 +21,14 @@ returns-in-Less g t c =
 
 pub push_table-requires-in-Equal : goal.push_table-requires-in-Equal
 push_table-requires-in-Equal g t c κs within =
-    let shorter = front-shorter (at_Test c.self.view_is c.self.invariant c.in-Test.is) in (
+    let shorter = aborted-shorter (at_Test c.self.view_is c.self.invariant c.in-Test.is) in (
       omega (arith, shorter, ap length c.deref-in-Equal.ensures, c.in-Some.ensures.cases.1, c.decreases),
       (within, ascending-rest c.in-Some.ensures.cases.0 c.requires.ascending),
     )
 
 pub push_table-requires-in-Equal-2 : goal.push_table-requires-in-Equal-2
 push_table-requires-in-Equal-2 g t c κs within =
-    let shorter = back-shorter (at_Test c.self.view_is c.self.invariant c.in-Test.is) in (
+    let shorter = committed-shorter (at_Test c.self.view_is c.self.invariant c.in-Test.is) in (
       omega (arith, shorter, ap length c.deref-in-Equal-2.ensures, c.in-Some.ensures.cases.1, c.decreases),
       (within, ascending-rest c.in-Some.ensures.cases.0 c.requires.ascending),
     )

@@ -2,17 +2,17 @@ use Rattle.std.proofs.Common.{sym, ◌∙◌}
 use Rattle.std.proofs.lemmas.Bool.{false≢true}
 use Rattle.pv_cases.proofs.TxnTests.{equal-txns, unequal-txns}
 use Rattle.pv_poly.proofs.TopOfTree.{at_Test}
-use Rattle.pv_poly.proofs.TestLemmas.{at-sure, reduced-canonical, front-side, back-side, whole-side, behind-other, side-is}
+use Rattle.pv_poly.proofs.TestLemmas.{at-sure, reduced-canonical, aborted-side, committed-side, whole-side, behind-other, side-is}
 use Rattle.pv_poly.proofs.tree.Tree.side.Goals as goal
 
 pub returns-then-commits : goal.returns-then-commits
 returns-then-commits g c =
-    side-is (back-side (at_Test c.self.view_is c.self.invariant c.in-Test.is)) (equal-txns c.in-Test.tested c.args.txn c.eq.ensures c.if-eq.true)
+    side-is (committed-side (at_Test c.self.view_is c.self.invariant c.in-Test.is)) (equal-txns c.in-Test.tested c.args.txn c.eq.ensures c.if-eq.true)
     c.if-commits.true c.deref.ensures
 
 pub returns-else-commits : goal.returns-else-commits
 returns-else-commits g c =
-    side-is (front-side (at_Test c.self.view_is c.self.invariant c.in-Test.is)) (equal-txns c.in-Test.tested c.args.txn c.eq.ensures c.if-eq.true)
+    side-is (aborted-side (at_Test c.self.view_is c.self.invariant c.in-Test.is)) (equal-txns c.in-Test.tested c.args.txn c.eq.ensures c.if-eq.true)
     c.if-commits.false c.deref-else-commits.ensures
 
 pub returns-in_default : goal.returns-in_default

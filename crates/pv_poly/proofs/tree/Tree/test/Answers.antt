@@ -12,7 +12,7 @@ invariant_of-result g c =
     new-sides c.args.txn c.in_ok-aborted.ensures.ok c.in_ok-committed.ensures.ok
     (reduced-canonical c.aborted.inside.node c.aborted.view_is c.aborted.invariant)
     (reduced-canonical c.committed.inside.node c.committed.view_is c.committed.invariant)
-    c.requires.aborted_behind c.requires.committed_behind
+    c.requires.aborted_after c.requires.committed_after
     (λ equal. false≢true (sym c.if-same.false ∙ c.same.ensures.unequal equal))
 
 pub returns-clause-choice : goal.returns-clause-choice

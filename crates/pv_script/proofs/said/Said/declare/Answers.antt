@@ -48,4 +48,4 @@ returns-in_err-add-clause-fault c = λ line head.
       value = c.in-Some-value_in.ensures.value.0;
       fits = c.in-Some-value_in.ensures.value.1;
     })
-    refl (rw c.sites.ensures.count at c.in-Some.ensures.site.1) c.in_err-add.ensures.cause)
+    refl (rw c.sites.ensures.count at c.in-Some.ensures.site.1) c.in_err-add.ensures.refused.refuses.refused)

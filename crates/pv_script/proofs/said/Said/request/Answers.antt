@@ -33,10 +33,10 @@ returns-in_err-program-clause-fault c =
     (IsLineFault-parse (before_of c.args.self.now) c.args.line.now c.args.query (texts c.args.args.now) (get_or c.args.args.now 0 (record { ref_ptr = (0, 0); now = [] })).now c.program_text-text.result.now c.in-Some.site.0
     (request-line (before_of c.args.self.now) c.args.line.now c.args.query c.args.args.now (record { ref_ptr = (0, 0); now = [] }) c.program_text-text.result.now c.in-Some.site.0 c.sites.result c.requires.head c.in-len2-up.len_at_least c.program_text-text.ensures.text c.in-Some.ensures.site.0 c.in-Some.ensures.site.1 c.sites.ensures.count)
     c.in_err-program.field-0.0 (omega arith)
-    (subst (λ (catalog : Declared). IfSome (refusal_of c.in_err-program.field-0.0) (IsRefused catalog c.program_text-text.result.now)) (sym (limited c.args.self.now c.requires.limited)) c.in_err-program.ensures.refused))
+    (subst (λ (catalog : Declared). IfSome (refusal_of c.in_err-program.field-0.0) (IsRefused catalog c.program_text-text.result.now)) (sym (limited c.args.self.now c.requires.limited)) c.in_err-program.ensures.answer.refused))
 
 pub check-requires : goal.check-requires
-check-requires c = declared-items c.args.self.now.catalog c.program_text-text.result.now c.in_ok-program.program c.in_ok-program.ensures.program
+check-requires c = declared-items c.args.self.now.catalog c.program_text-text.result.now c.in_ok-program.program c.in_ok-program.ensures.answer.given
 
 pub returns-in_err-plan-clause-fault : goal.returns-in_err-plan-clause-fault
 returns-in_err-plan-clause-fault c =
@@ -45,8 +45,8 @@ returns-in_err-plan-clause-fault c =
     rw (p.1, p.2)
     (IsLineFault-check (before_of c.args.self.now) c.args.line.now c.args.query (texts c.args.args.now) (get_or c.args.args.now 0 (record { ref_ptr = (0, 0); now = [] })).now c.program_text-text.result.now c.in-Some.site.0
     (request-line (before_of c.args.self.now) c.args.line.now c.args.query c.args.args.now (record { ref_ptr = (0, 0); now = [] }) c.program_text-text.result.now c.in-Some.site.0 c.sites.result c.requires.head c.in-len2-up.len_at_least c.program_text-text.ensures.text c.in-Some.ensures.site.0 c.in-Some.ensures.site.1 c.sites.ensures.count)
-    c.in_ok-program.program (subst (λ (catalog : Declared). IsProgramText catalog c.program_text-text.result.now c.in_ok-program.program) (sym (limited c.args.self.now c.requires.limited)) c.in_ok-program.ensures.program)
-    items.0 items.1 c.in_err-plan.field-0.0 (λ same. c.check.ensures.no_item.0 (c.in_err-plan.was ∙ ap Err same)) (c.in_err-plan.ensures.cause items.0 items.1))
+    c.in_ok-program.program (subst (λ (catalog : Declared). IsProgramText catalog c.program_text-text.result.now c.in_ok-program.program) (sym (limited c.args.self.now c.requires.limited)) c.in_ok-program.ensures.answer.given)
+    items.0 items.1 c.in_err-plan.field-0.0 (λ same. c.check.ensures.no_item.0 (c.in_err-plan.was ∙ ap Err same)) (c.in_err-plan.ensures.refused items.0 items.1).refuses.refused)
 
 pub returns-clause-event : goal.returns-clause-event
 returns-clause-event c =
@@ -54,5 +54,5 @@ returns-clause-event c =
     rw c.in_ok-text.ensures.items
     (IsRequest-read (before_of c.args.self.now) c.args.line.now c.args.query (texts c.args.args.now) (get_or c.args.args.now 0 (record { ref_ptr = (0, 0); now = [] })).now c.program_text-text.result.now c.in-Some.site.0
     (request-line (before_of c.args.self.now) c.args.line.now c.args.query c.args.args.now (record { ref_ptr = (0, 0); now = [] }) c.program_text-text.result.now c.in-Some.site.0 c.sites.result c.requires.head c.in-len2-up.len_at_least c.program_text-text.ensures.text c.in-Some.ensures.site.0 c.in-Some.ensures.site.1 c.sites.ensures.count)
-    c.in_ok-program.program (subst (λ (catalog : Declared). IsProgramText catalog c.program_text-text.result.now c.in_ok-program.program) (sym (limited c.args.self.now c.requires.limited)) c.in_ok-program.ensures.program)
-    items.0 items.1 (c.in_ok-plan.ensures.accepted items.0 items.1))
+    c.in_ok-program.program (subst (λ (catalog : Declared). IsProgramText catalog c.program_text-text.result.now c.in_ok-program.program) (sym (limited c.args.self.now c.requires.limited)) c.in_ok-program.ensures.answer.given)
+    items.0 items.1 (c.in_ok-plan.ensures.refused items.0 items.1).refuses.accepted)

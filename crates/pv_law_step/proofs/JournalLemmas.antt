@@ -1,0 +1,53 @@
+-- How long a journal is with one more record.
+use Rattle.std.proofs.Common.{◌≡◌, ℕ, ℤ, ◌+◌, ◌*◌, ◌<◌, ◌≤◌, ◌^◌, List, [], ◌∷◌, ◌++◌, length, map, arith}
+use Rattle.std.specs.Prelude.{All}
+use Rattle.std.specs.List.{sum_by}
+use Rattle.std.proofs.lemmas.List.Elements.{All-contains}
+use Rattle.std.proofs.lemmas.List.{length-map}
+use Rattle.std.proofs.lemmas.List.Sums.{sum_by-append, sum_by-cons}
+use Rattle.std.proofs.Math.Nat.{mul-suc}
+use Rattle.pv_base.specs.declared.limits.TheConstants.{HELD_NAMES}
+use Rattle.pv_base.specs.declared.txn.TxnId.{TxnId}
+use Rattle.pv_base.specs.Polyvalue.{Case}
+use Rattle.pv_format.specs.Length.{case_length, polyvalue_length}
+use Rattle.pv_format.specs.Range.{IsPolyvalueInRange, AreReadsInRange}
+use Rattle.pv_format.specs.Record.{Record, prepared}
+use Rattle.pv_law_format.proofs.CaseCount.{polyvalue-few}
+use Rattle.pv_law_step.proofs.Lists.{all-from, all-head, all-tail}
+use Rattle.pv_model.specs.Alternatives.{Read}
+use Rattle.pv_protocol.specs.Here.{Here, length_with}
+use Rattle.pv_protocol.specs.Records.{record_bytes, journal_bytes}
+use Rattle.pv_protocol.specs.Sound.{IsSound}
+
+pub journal-more : (records : List Record) (more : Record) → journal_bytes (records ++ more ∷ []) ≡ journal_bytes records + record_bytes more
+unfolding journal_bytes
+journal-more records more = omega (arith, sum_by-append record_bytes records (more ∷ []))
+
+-- A sum of small numbers is small.
+sum-small : {X : Type 0} (f : X → ℕ) (most : ℕ) (xs : List X) → All (λ x. f x ≤ most) xs → sum_by f xs ≤ most * length xs
+sum-small f most [] small = omega arith
+sum-small f most (x ∷ xs) small =
+    let rest = sum-small f most xs (all-tail (λ y. f y ≤ most) x xs small) in
+    let first = all-head (λ y. f y ≤ most) x xs small in
+    omega (arith, rest, first, sum_by-cons f x xs, mul-suc most (length xs))
+
+case-short : (most : ℕ) (case : Case ℤ) → length case.when ≤ 8 → case_length case ≤ 89
+case-short most case few = omega (arith, few)
+
+polyvalue-short : (cases : List (Case ℤ)) → IsPolyvalueInRange cases → polyvalue_length cases ≤ 30000
+polyvalue-short cases is =
+    let few = polyvalue-few HELD_NAMES cases is.polyvalue in
+    let count : length cases ≤ 256 = few.count in
+    let each : All (λ case. case_length case ≤ 89) cases =
+    all-from (λ case. case_length case ≤ 89) cases (λ case h. case-short 0 case (All-contains (λ case. length case.when ≤ HELD_NAMES) cases case few.literals h)) in
+    omega (arith, count, sum-small case_length 89 cases each)
+
+module _ (here : Here) (sound : IsSound here) where
+  pub length-short : (txn : TxnId) (writes : List Read) → AreReadsInRange 0 writes → length_with here (prepared txn writes) < 2 ^ 64
+  length-short txn writes are =
+      let each : All (λ (read : Read). 4 + polyvalue_length read.cases ≤ 40000) writes =
+      all-from (λ (read : Read). 4 + polyvalue_length read.cases ≤ 40000) writes
+      (λ read h. omega (arith, polyvalue-short read.cases (All-contains (λ (r : Read). IsPolyvalueInRange r.cases) writes read are.values h))) in
+      let few : length (map (λ (read : Read). read.item) writes) ≤ 16 = are.items.few in
+      let short = sum-small (λ (read : Read). 4 + polyvalue_length read.cases) 40000 writes each in
+      omega (arith, short, few, length-map {B = ℕ} writes (λ (read : Read). read.item), sound.room, sound.setup.journal)

@@ -1,0 +1,55 @@
+-- A start is one of its cases, and a site that starts is sound.
+use Rattle.std.proofs.Common.{◌≡◌, ℕ, ◌+◌, ◌<◌, false, List, [], ◌∷◌, ◌++◌, subst, arith}
+use Rattle.std.specs.Prelude.{All, nat_le, nat_lt}
+use Rattle.std.proofs.lemmas.Bool.{ltb-false}
+use Rattle.std.proofs.lemmas.Bool.{leb-false}
+use Rattle.std.proofs.lemmas.List.Elements.{All-append, All-cons, All-nil}
+use Rattle.pv_base.specs.declared.limits.TheConstants.{NEVER_GIVEN}
+use Rattle.pv_format.specs.Range.{IsRecordInRange}
+use Rattle.pv_format.specs.Record.{Record, epoch_begun}
+use Rattle.pv_law_step.proofs.JournalLemmas.{journal-more}
+use Rattle.pv_law_step.proofs.StepCases.{if_case}
+use Rattle.pv_law_step.proofs.WidthLemmas.{other-narrow}
+use Rattle.pv_law_step.specs.StartCases.{StartCase, no_epoch_left, no_room, begins}
+use Rattle.pv_protocol.specs.Records.{last_epoch, record_bytes, journal_bytes}
+use Rattle.pv_protocol.specs.Sound.{IsSetupInRange, IsHeldInRange, IsEntryInRange, IsSound}
+use Rattle.pv_protocol.specs.Start.{Started, starts, fresh, site_start}
+use Rattle.pv_protocol.specs.State.{Setup, Running}
+use Rattle.pv_protocol.specs.Width.{IsNarrow}
+
+pub start-case : (setup : Setup) (records : List Record) → StartCase setup records (site_start setup records)
+unfolding site_start
+start-case setup records =
+    if_case (StartCase setup records) (nat_le NEVER_GIVEN (last_epoch records + 1)) no_epoch_left
+    (λ left. if_case (StartCase setup records) (nat_lt setup.catalog.journal (journal_bytes records + record_bytes (epoch_begun (last_epoch records + 1))))
+    (no_room left) (begins left))
+
+module _ (setup : Setup) (me : ℕ) (records : List Record) (fine : IsSetupInRange setup) (here : me < setup.catalog.sites) (all : All IsRecordInRange records)
+    (narrow : IsNarrow setup.held_names setup.catalog records) where
+  -- The site with its new record and this memory is sound.
+  abbrev Sound : Running → Record → Type 0
+  Sound running new = IsSound (record { me = me; setup = setup; records = records ++ new ∷ []; running = running })
+
+  fresh-sound : nat_le NEVER_GIVEN (last_epoch records + 1) ≡ false
+      → nat_lt setup.catalog.journal (journal_bytes records + record_bytes (epoch_begun (last_epoch records + 1))) ≡ false
+      → Sound (fresh (last_epoch records + 1)) (epoch_begun (last_epoch records + 1))
+  fresh-sound left room =
+      let epoch = last_epoch records + 1 in
+      let below : last_epoch records + 1 < NEVER_GIVEN = leb-false NEVER_GIVEN (last_epoch records + 1) left in
+      record {
+        me = here;
+        setup = fine;
+        records = All-append IsRecordInRange records (epoch_begun (last_epoch records + 1) ∷ []) all
+            (All-cons IsRecordInRange (epoch_begun (last_epoch records + 1)) [] (omega arith, omega (arith, below)) (All-nil IsRecordInRange));
+        narrow = other-narrow setup.catalog setup.held_names records narrow (epoch_begun (last_epoch records + 1)) (λ txn writes same. cc);
+        room = omega (arith, journal-more records (epoch_begun (last_epoch records + 1)), ltb-false _ _ room);
+        running = record { epoch = below; next_txn = omega arith; next_grant = omega arith; grants = All-nil IsHeldInRange; entries = All-nil (IsEntryInRange setup.catalog) };
+      }
+
+  pub start-sound : (started : Started) → StartCase setup records started → (running : Running) (new : Record) → started ≡ starts running new → Sound running new
+  start-sound started (no_epoch_left h) running new same = absurd (let wrong : ⊥ = cc in wrong)
+  start-sound started (no_room h i) running new same = absurd (let wrong : ⊥ = cc in wrong)
+  start-sound started (begins left room) running new same =
+      let memory : fresh (last_epoch records + 1) ≡ running = cc in
+      let written : epoch_begun (last_epoch records + 1) ≡ new = cc in
+      subst (λ r. Sound r new) memory (subst (λ w. Sound (fresh (last_epoch records + 1)) w) written (fresh-sound left room))

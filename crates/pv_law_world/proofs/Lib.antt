@@ -1,0 +1,11 @@
+pub mod AnyRunRangeLemmas
+pub mod DisarmLemmas
+pub mod GrowthLemmas
+pub mod NumberLemmas
+pub mod ParticipantLemmas
+pub mod PumpLemmas
+pub mod RangeLemmas
+pub mod RunRangeLemmas
+pub mod ScheduleLemmas
+pub mod TransitionLemmas
+pub mod WeightLemmas

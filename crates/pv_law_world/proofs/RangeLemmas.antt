@@ -1,0 +1,243 @@
+-- Worlds stay in range.
+use Rattle.std.proofs.Common.{arith, ◌≡◌, ℕ, zero, suc, ◌+◌, ◌<◌, Bool, true, false, Some, None, Option, List, [], ◌∷◌, ◌++◌, length, refl, sym, ◌∙◌, subst}
+use Rattle.std.specs.Prelude.{get_or, set, slice_get, option_to_list, nat_lt, ◌&&◌, if◌then◌else◌, All}
+use Rattle.std.proofs.lemmas.List.{append-nil, length-set}
+use Rattle.std.proofs.lemmas.List.Elements.{All-append, All-map, All-nil, All-contains}
+use Rattle.std.proofs.lemmas.Option.{slice_get_within, get_or_from_slice_get}
+use Rattle.pv_base.proofs.Basics.{Some_inj}
+use Rattle.pv_format.specs.Message.{Envelope}
+use Rattle.pv_format.specs.Range.{IsEnvelopeInRange, IsRecordInRange}
+use Rattle.pv_format.specs.Record.{Record}
+use Rattle.pv_law_world.specs.Ranges.{IsSiteInRange, IsWorldInRange, IsEventInRange}
+use Rattle.pv_model.specs.Events.{Event}
+use Rattle.pv_protocol.specs.Arms.{Reached, waits, fires, reached, calls_of, is_kept, attempted}
+use Rattle.pv_protocol.specs.Attempt.{Attempt, Begun, settled, attempts, begun, given, delivered, lost, halted, opened, of_start}
+use Rattle.pv_protocol.specs.Here.{Here}
+use Rattle.pv_protocol.specs.Lines.{Line}
+use Rattle.pv_protocol.specs.Sound.{IsRunningInRange, IsSetupInRange, IsSound, IsInputInRange, IsSentInRange}
+use Rattle.pv_protocol.specs.Start.{Started, starts, too_long, no_epoch, site_start}
+use Rattle.pv_protocol.specs.State.{Setup, Running, Site, Input, submit, receive, tick}
+use Rattle.pv_protocol.specs.Step.{step_on, after_step}
+use Rattle.pv_protocol.specs.Width.{IsNarrow}
+use Rattle.pv_protocol.specs.World.{World, no_site, site_at, with_site, with_done, from_site}
+use Rattle.pv_protocol.specs.WorldStep.{ended, transition_of}
+
+-- what holds of one step
+abbrev pub SendsInRange : Type 0
+SendsInRange = (here : Here) (input : Input) → IsSound here → IsInputInRange here input → All (IsSentInRange here) (step_on here input).sends
+
+abbrev pub StaysSound : Type 0
+StaysSound = (here : Here) (input : Input) → IsSound here → IsInputInRange here input → IsSound (after_step here (step_on here input))
+
+no-some : {A : Type 0} {x : A} → None ≡ Some x → ⊥
+no-some is = cc
+
+-- A site that is down, with the records of one in range.
+pub down-in-range : {setup : Setup} {site : Site} → IsSiteInRange setup site → (down : Site) → down.records ≡ site.records → down.running ≡ None → IsSiteInRange setup down
+down-in-range {setup} {site} fine down records none = record {
+  records = rw records fine.records;
+  narrow = subst (IsNarrow setup.held_names setup.catalog) (sym records) fine.narrow;
+  room = rw records fine.room;
+  running = λ running is. absurd (no-some (sym none ∙ is));
+}
+
+-- A site's place in the list, put in range.
+put-in-range : (setup : Setup) (sites : List Site) (k : ℕ) (site : Site) → (k < length sites → IsSiteInRange setup site)
+    → ((n : ℕ) → n < length sites → IsSiteInRange setup (get_or sites n no_site))
+    → (n : ℕ) → n < length sites → IsSiteInRange setup (get_or (set sites k site) n no_site)
+put-in-range setup [] k site fine all n below = absurd (omega arith)
+put-in-range setup (first ∷ sites) zero site fine all zero below = fine (omega arith)
+put-in-range setup (first ∷ sites) zero site fine all (suc n) below = all (suc n) below
+put-in-range setup (first ∷ sites) (suc k) site fine all zero below = all zero below
+put-in-range setup (first ∷ sites) (suc k) site fine all (suc n) below =
+    put-in-range setup sites k site (λ within. fine (omega arith)) (λ m under. all (suc m) (omega arith)) n (omega arith)
+
+-- A site that is up is one of the list.
+up-within : (sites : List Site) (n : ℕ) (running : Running) → (get_or sites n no_site).running ≡ Some running → n < length sites
+up-within [] n running is = absurd (no-some is)
+up-within (first ∷ sites) zero running is = omega arith
+up-within (first ∷ sites) (suc n) running is = let rest : n < length sites = up-within sites n running is in omega arith
+
+-- What a site attempts leaves it in range, and sends what is in range.
+pub record IsAttemptInRange (setup : Setup) (site : Site) (n : ℕ) (attempt : Attempt) : Type 0 where
+  pub whole : (whole : Site) → whole.records ≡ site.records ++ option_to_list attempt.appended → whole.running ≡ attempt.running → IsSiteInRange setup whole
+  pub sends : All IsEnvelopeInRange (from_site n attempt.sends)
+
+-- What an event comes to before any write is in range.
+pub data IsBegunInRange (setup : Setup) : Begun → Type 0 where
+  settles : (lines : List Line) (after : World) → IsWorldInRange setup after → IsBegunInRange setup (settled lines after)
+  goes_on : (before : World) (n : ℕ) (attempt : Attempt) → IsWorldInRange setup before
+      → (n < length before.sites → IsSiteInRange setup (site_at before n) → IsAttemptInRange setup (site_at before n) n attempt)
+      → All IsEnvelopeInRange (from_site n attempt.sends) → IsBegunInRange setup (attempts before n attempt)
+
+module _ (setup : Setup) where
+  -- a site in range, put into a world in range
+  pub put-world : (world : World) (n : ℕ) (site : Site) → IsWorldInRange setup world
+      → (n < length world.sites → IsSiteInRange setup (site_at world n) → IsSiteInRange setup site) → IsWorldInRange setup (with_site world n site)
+  put-world world n site fine put = record {
+    count = length-set world.sites n site ∙ fine.count;
+    sites = λ m below.
+        put-in-range setup world.sites n site
+        (λ within. put within (fine.sites n (subst (λ (count : ℕ). n < count) fine.count within)))
+        (λ k under. fine.sites k (subst (λ (count : ℕ). k < count) fine.count under))
+        m (subst (λ (count : ℕ). m < count) (sym fine.count) below);
+    sent = fine.sent;
+  }
+
+  pub attempted-range : (before : World) (n : ℕ) (attempt : Attempt) → IsWorldInRange setup before
+      → (n < length before.sites → IsSiteInRange setup (site_at before n) → IsAttemptInRange setup (site_at before n) n attempt)
+      → All IsEnvelopeInRange (from_site n attempt.sends) → (left : Reached) → IsWorldInRange setup (attempted before n attempt left).1
+  attempted-range before n attempt fine may sends (waits arm) =
+      let put : IsWorldInRange setup (with_site before n (record { records = (site_at before n).records ++ option_to_list attempt.appended; arm = arm; running = attempt.running }))
+      = put-world before n _ fine (λ within site_fine. (may within site_fine).whole _ refl refl) in
+      record { count = put.count; sites = put.sites; sent = All-append IsEnvelopeInRange before.sent (from_site n attempt.sends) fine.sent sends }
+  attempted-range before n attempt fine may sends (fires arm) = left-over (nat_lt (attempt.syncs + 2) arm.call && is_kept arm.mode)
+    where
+      left-over : (kept : Bool) → IsWorldInRange setup
+          (with_site before n (record { records = (site_at before n).records ++ option_to_list (if kept then attempt.appended else None); arm = None; running = None }))
+      left-over true =
+          put-world before n _ fine (λ within site_fine.
+          down-in-range ((may within site_fine).whole (record { records = (site_at before n).records ++ option_to_list attempt.appended; arm = None; running = attempt.running }) refl refl)
+          _ refl refl)
+      left-over false = put-world before n _ fine (λ within site_fine. down-in-range site_fine _ (append-nil _) refl)
+
+  ended-range : (b : Begun) → IsBegunInRange setup b → IsWorldInRange setup (ended b).1
+  ended-range b (settles lines after fine) = fine
+  ended-range b (goes_on before n attempt fine may sends) =
+      attempted-range before n attempt fine may sends (reached (calls_of attempt) (site_at before n).arm)
+
+-- the running site of a world
+abbrev here_at : Setup → World → ℕ → Running → Here
+here_at setup world n running = record { me = n; setup = setup; records = (site_at world n).records; running = running }
+
+module _ (sends_stay : SendsInRange) (sound_stays : StaysSound) (setup : Setup) (setup_fine : IsSetupInRange setup) (world : World) (fine : IsWorldInRange setup world) where
+  -- a running site of a world in range
+  here-sound : (n : ℕ) (running : Running) → (site_at world n).running ≡ Some running → IsSound (here_at setup world n running)
+  here-sound n running is =
+      let within : n < setup.catalog.sites = subst (λ (count : ℕ). n < count) fine.count (up-within world.sites n running is) in
+      let site : IsSiteInRange setup (site_at world n) = fine.sites n within in
+      record {
+        me = within;
+        setup = setup_fine;
+        records = site.records;
+        narrow = site.narrow;
+        room = site.room;
+        running = site.running running is;
+      }
+
+  step-sends : (n : ℕ) (running : Running) (input : Input) → (site_at world n).running ≡ Some running → IsInputInRange (here_at setup world n running) input
+      → All IsEnvelopeInRange (from_site n (step_on (here_at setup world n running) input).sends)
+  step-sends n running input is good =
+      All-map IsEnvelopeInRange _ (step_on (here_at setup world n running) input).sends (sends_stay (here_at setup world n running) input (here-sound n running is) good)
+
+  step-whole : (n : ℕ) (running : Running) (input : Input) → (site_at world n).running ≡ Some running → IsInputInRange (here_at setup world n running) input
+      → (whole : Site) → whole.records ≡ (site_at world n).records ++ option_to_list (step_on (here_at setup world n running) input).appended
+      → whole.running ≡ Some (step_on (here_at setup world n running) input).running → IsSiteInRange setup whole
+  step-whole n running input is good whole records memory =
+      let here = here_at setup world n running in
+      let sound : IsSound (after_step here (step_on here input)) = sound_stays here input (here-sound n running is) good in
+      record {
+        records = rw records sound.records;
+        narrow = subst (IsNarrow setup.held_names setup.catalog) (sym records) sound.narrow;
+        room = rw records sound.room;
+        running = λ now was. subst (IsRunningInRange setup.catalog) (Some_inj (sym memory ∙ was)) sound.running;
+      }
+
+  given-range : (n : ℕ) (input : Input) → ((running : Running) → IsInputInRange (here_at setup world n running) input)
+      → (running : Option Running) → (site_at world n).running ≡ running → IsBegunInRange setup (given setup world n input running)
+  given-range n input good None is = settles _ world fine
+  given-range n input good (Some running) is =
+      goes_on world n _ fine
+      (λ within site_fine. record { whole = step-whole n running input is (good running); sends = step-sends n running input is (good running) })
+      (step-sends n running input is (good running))
+
+-- what holds of a start
+abbrev pub StartsSound : Type 0
+StartsSound =
+    (setup : Setup) (me : ℕ) (records : List Record) → IsSetupInRange setup → me < setup.catalog.sites → All IsRecordInRange records
+    → IsNarrow setup.held_names setup.catalog records → (running : Running) (new : Record) → site_start setup records ≡ starts running new
+    → IsSound (record { me = me; setup = setup; records = records ++ new ∷ []; running = running })
+
+module _ (sends_stay : SendsInRange) (sound_stays : StaysSound) (starts_sound : StartsSound) (setup : Setup) (setup_fine : IsSetupInRange setup)
+    (world : World) (fine : IsWorldInRange setup world) where
+  given-here : (before : World) → IsWorldInRange setup before → (n : ℕ) (input : Input)
+      → ((running : Running) → IsInputInRange (here_at setup before n running) input) → IsBegunInRange setup (given setup before n input (site_at before n).running)
+  given-here before before_fine n input good =
+      given-range sends_stay sound_stays setup setup_fine before before_fine n input good (site_at before n).running refl
+
+  done-fine : (number : ℕ) → IsWorldInRange setup (with_done world number)
+  done-fine number = record { count = fine.count; sites = fine.sites; sent = fine.sent }
+
+  delivered-range : (number : ℕ) (envelope : Option Envelope) → slice_get world.sent number ≡ envelope → IsBegunInRange setup (delivered setup world number envelope)
+  delivered-range number None is = settles _ world fine
+  delivered-range number (Some envelope) is =
+      given-here (with_done world number) (done-fine number) envelope.to (receive envelope.from envelope.message)
+      (λ running. All-contains IsEnvelopeInRange world.sent envelope fine.sent
+      (number, slice_get_within world.sent number envelope is, get_or_from_slice_get world.sent number envelope envelope is))
+
+  lost-range : (number : ℕ) (envelope : Option Envelope) → IsBegunInRange setup (lost world number envelope)
+  lost-range number None = settles _ world fine
+  lost-range number (Some envelope) = settles _ _ (done-fine number)
+
+  -- a site with other memory or another armed fault
+  changed-range : (n : ℕ) (site : Site) → (IsSiteInRange setup (site_at world n) → IsSiteInRange setup site) → IsWorldInRange setup (with_site world n site)
+  changed-range n site change = put-world setup world n site fine (λ within site_fine. change site_fine)
+
+  halted-range : (n : ℕ) (running : Option Running) → IsBegunInRange setup (halted world n running)
+  halted-range n None = settles _ world fine
+  halted-range n (Some running) = settles _ _ (changed-range n _ (λ site. down-in-range site _ refl refl))
+
+  started-range : (n : ℕ) (started : Started) → site_start setup (site_at world n).records ≡ started → n < length world.sites
+      → IsSiteInRange setup (site_at world n) → IsAttemptInRange setup (site_at world n) n (of_start n started)
+  started-range n (starts running new) is within site = record {
+    whole = λ whole records memory.
+        let sound : IsSound (record { me = n; setup = setup; records = (site_at world n).records ++ new ∷ []; running = running })
+        = starts_sound setup n (site_at world n).records setup_fine (subst (λ (count : ℕ). n < count) fine.count within) site.records site.narrow running new is in
+        record {
+          records = rw records sound.records;
+          narrow = subst (IsNarrow setup.held_names setup.catalog) (sym records) sound.narrow;
+          room = rw records sound.room;
+          running = λ now was. subst (IsRunningInRange setup.catalog) (Some_inj (sym memory ∙ was)) sound.running;
+        };
+    sends = All-nil IsEnvelopeInRange;
+  }
+  started-range n (too_long bytes) is within site = record {
+    whole = λ whole records memory. down-in-range site whole (records ∙ append-nil _) memory;
+    sends = All-nil IsEnvelopeInRange;
+  }
+  started-range n no_epoch is within site = record {
+    whole = λ whole records memory. down-in-range site whole (records ∙ append-nil _) memory;
+    sends = All-nil IsEnvelopeInRange;
+  }
+
+  start-silent : (n : ℕ) (started : Started) → All IsEnvelopeInRange (from_site n (of_start n started).sends)
+  start-silent n (starts running new) = All-nil IsEnvelopeInRange
+  start-silent n (too_long bytes) = All-nil IsEnvelopeInRange
+  start-silent n no_epoch = All-nil IsEnvelopeInRange
+
+  opened-range : (n : ℕ) (running : Option Running) → IsBegunInRange setup (opened setup world n running)
+  opened-range n (Some running) = settles _ world fine
+  opened-range n None =
+      goes_on world n _ fine (started-range n (site_start setup (site_at world n).records) refl) (start-silent n (site_start setup (site_at world n).records))
+
+  pub begun-range : (event : Event) → IsEventInRange setup.catalog event → IsBegunInRange setup (begun setup world event)
+  unfolding begun
+  begun-range (Event.submit n query text program) good = given-here world fine n (submit program) (λ running. good.1)
+  begun-range (Event.deliver number) good = delivered-range number (slice_get world.sent number) refl
+  begun-range (Event.pump most) good = settles _ world fine
+  begun-range (Event.lose number) good = lost-range number (slice_get world.sent number)
+  begun-range (Event.drop n) good = settles _ _ (record { count = fine.count; sites = fine.sites; sent = fine.sent })
+  begun-range (Event.tick n) good = given-here world fine n tick (λ running. tt)
+  begun-range (Event.stop n) good = halted-range n (site_at world n).running
+  begun-range (Event.start n) good = opened-range n (site_at world n).running
+  begun-range (Event.arm n call mode stops) good =
+      settles _ _ (changed-range n _ (λ site. record { records = site.records; narrow = site.narrow; room = site.room; running = site.running }))
+  begun-range (Event.mend n) good =
+      settles _ _ (changed-range n _ (λ site. record { records = site.records; narrow = site.narrow; room = site.room; running = site.running }))
+  begun-range Event.sent good = settles _ world fine
+  begun-range Event.report good = settles _ world fine
+  begun-range Event.total good = settles _ world fine
+
+  pub transition-range : (event : Event) → IsEventInRange setup.catalog event → IsWorldInRange setup (transition_of setup world event).world
+  unfolding transition_of
+  transition-range event good = ended-range setup (begun setup world event) (begun-range event good)

@@ -1,0 +1,8 @@
+use Rattle.std.specs.Prelude.{[]}
+use Rattle.pv_law_world.proofs.AnyRunRangeLemmas.{any-run-range}
+use Rattle.pv_law_world.proofs.ranges.any_runs_stay_in_range.Goals as goal
+
+pub returns : goal.returns
+returns c setup transitions setup_fine journal run good =
+    any-run-range c.sends_are_in_range.ensures c.steps_stay_sound.ensures c.starts_are_sound.ensures setup setup_fine journal
+    (c.starts_keep_width.ensures setup.held_names setup.catalog [] 1 (c.no_records_are_narrow.ensures setup.held_names setup.catalog)) transitions run good

@@ -1,8 +1,0 @@
-use Rattle.std.proofs.Common.{◌≡◌, List, IfOk, subst}
-use Rattle.pv_base.specs.Polyvalue.{Case}
-use Rattle.pv_poly.proofs.CasesAtLemmas.{beyond-none}
-use Rattle.pv_poly.proofs.tree.Tree.from_cases.Goals as goal
-
-pub returns : goal.returns
-returns g c =
-    subst (λ (cases : List (Case g.row.V.Denot)). IfOk c.from_cases_at.result (λ tree. tree ≡ cases)) (beyond-none c.args.cases.now) c.from_cases_at.ensures

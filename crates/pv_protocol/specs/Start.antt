@@ -1,0 +1,31 @@
+-- How a site starts: in the epoch after the last one, which it records first.
+use Rattle.std.specs.Prelude.{ℕ, ◌+◌, nat_lt, nat_le, List, [], if◌then◌else◌}
+use Rattle.pv_base.specs.declared.limits.TheConstants.{NEVER_GIVEN}
+use Rattle.pv_format.specs.Record.{Record, epoch_begun}
+use Rattle.pv_protocol.specs.Records.{last_epoch, record_bytes, journal_bytes}
+use Rattle.pv_protocol.specs.State.{Setup, Running}
+
+-- what a site makes of a start
+pub data Started : Type 0 where
+  -- it runs, and has recorded its epoch
+  starts : Running → Record → Started
+  -- the journal with the record would have this length, above its limit
+  too_long : (length : ℕ) → Started
+  -- no epoch is left
+  no_epoch : Started
+
+-- the memory of a site that has just started: no grants and no entries, and numbers from 0
+abbrev pub fresh : ℕ → Running
+fresh epoch = record { epoch = epoch; next_txn = 0; next_grant = 0; grants = []; entries = [] }
+
+-- the site starts in this epoch, if the journal has room for its record
+abbrev pub starting : Setup → List Record → ℕ → Started
+starting setup records epoch =
+    if nat_lt setup.catalog.journal (journal_bytes records + record_bytes (epoch_begun epoch))
+    then too_long (journal_bytes records + record_bytes (epoch_begun epoch))
+    else starts (fresh epoch) (epoch_begun epoch)
+
+-- A site with these records starts.
+unfoldable pub site_start : Setup → List Record → Started
+site_start setup records =
+    if nat_le NEVER_GIVEN (last_epoch records + 1) then no_epoch else starting setup records (last_epoch records + 1)

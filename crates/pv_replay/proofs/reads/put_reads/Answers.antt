@@ -1,0 +1,35 @@
+-- The count, and then one item after another.
+use Rattle.std.proofs.Common.{◌≡◌, ◌++◌, List, ℕ, All, get_or, length, refl, sym, ap, subst, ◌∙◌}
+use Rattle.pv_base.specs.BigEndian.{big_endian}
+use Rattle.pv_format.specs.PolyvalueSpelling.{SpellsPolyvalue}
+use Rattle.pv_law_fields.proofs.EntryLemmas.{entries_each, entries_spelled}
+use Rattle.pv_law_fields.proofs.ListLemmas.{writing_goes_on, writing_ends}
+use Rattle.pv_law_fields.proofs.PartLemmas.{appended_both}
+use Rattle.pv_law_fields.specs.Encoding.{SpellsEntry}
+use Rattle.pv_model.specs.Alternatives.{Read}
+use Rattle.pv_replay.proofs.reads.put_reads.Goals as goal
+
+abbrev Spells : Read → List ℕ → Type 0
+Spells = SpellsEntry (λ (entry : Read). SpellsPolyvalue entry.cases) (λ entry. entry.item)
+
+pub put_read-requires : goal.put_read-requires
+put_read-requires c =
+    let spelled = c.requires.2 in
+    let each = entries_each (λ (entry : Read). SpellsPolyvalue entry.cases) (λ entry. entry.item) 0 c.args.reads.now spelled.back spelled.second in
+    subst (λ (read : Read). (bytes : List ℕ) × SpellsPolyvalue read.cases bytes) (sym c.read-item.is)
+      (entries_spelled (λ (entry : Read). SpellsPolyvalue entry.cases) (λ entry. entry.item) c.args.reads.now spelled.back each c.loop-read.read-index c.read-item.result c.loop-read-test.true)
+
+pub loop-read-init : goal.loop-read-init
+loop-read-init c = λ bytes spelled. record { rest = bytes; spelled = spelled; same = refl }
+
+pub loop-read-preserved : goal.loop-read-preserved
+loop-read-preserved c = λ bytes spelled.
+    writing_goes_on Spells c.args.reads.now c.loop-read.read-index c.read-item.result c.u8.new.self bytes c.loop-read.put c.put_read.new.put
+      c.loop-read-test.true c.read-item.is (c.loop-read.invariant bytes spelled) c.in_ok-put_read.ensures
+
+pub returns : goal.returns
+returns c = λ fewest bytes spelled.
+    let each = entries_each (λ (entry : Read). SpellsPolyvalue entry.cases) (λ entry. entry.item) 0 c.args.reads.now spelled.back spelled.second in
+    appended_both c.args.put.now c.u8.new.self c.loop-read.put spelled.front spelled.back bytes spelled.whole
+      (c.in_ok-u8.ensures.written ∙ ap (λ front. c.args.put.now ++ front) (sym spelled.first.spelled.spelled))
+      (writing_ends Spells c.args.reads.now c.loop-read.read-index c.u8.new.self spelled.back c.loop-read.put c.loop-read-test.false (c.loop-read.invariant spelled.back each))

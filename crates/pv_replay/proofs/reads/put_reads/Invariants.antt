@@ -1,0 +1,13 @@
+-- The items so far were written.
+use Rattle.std.proofs.Common.{ℕ, List, drop}
+use Rattle.pv_format.specs.PolyvalueSpelling.{SpellsPolyvalue}
+use Rattle.pv_format.specs.Spelling.{SpellsEach}
+use Rattle.pv_law_fields.proofs.ListLemmas.{IsWriting}
+use Rattle.pv_law_fields.specs.Encoding.{SpellsEntry}
+use Rattle.pv_model.specs.Alternatives.{Read}
+use Rattle.pv_replay.proofs.reads.put_reads.Given as goal
+
+abbrev pub invariant-loop-read : goal.invariant-loop-read
+invariant-loop-read l =
+    (bytes : List ℕ) → SpellsEach (SpellsEntry (λ (entry : Read). SpellsPolyvalue entry.cases) (λ entry. entry.item)) l.reads bytes
+    → IsWriting (SpellsEntry (λ (entry : Read). SpellsPolyvalue entry.cases) (λ entry. entry.item)) (drop l.read-index l.reads) l.initial.put bytes l.put

@@ -1,0 +1,17 @@
+-- The items so far were read, the next one has to be after them, and each turn reads one.
+use Rattle.std.proofs.Common.{◌-◌, ◌≤◌, ◌<◌, ◌^◌, ℕ, length, vec_len}
+use Rattle.pv_format.specs.Layout.{polyvalue_then}
+use Rattle.pv_format.specs.PolyvalueSpelling.{SpellsPolyvalue}
+use Rattle.pv_law_fields.proofs.ListLemmas.{IsReadingEntries}
+use Rattle.pv_model.specs.Alternatives.{Read}
+use Rattle.pv_replay.proofs.reads.take_counted_reads.Given as goal
+
+abbrev pub invariant-reading : goal.invariant-reading
+invariant-reading l = record {
+  few : length l.reads.items ≤ l.count;
+  small : l.least ≤ 1024;
+  reading : IsReadingEntries (λ (entry : Read). SpellsPolyvalue entry.cases) (λ entry. entry.item) polyvalue_then l.reads.items l.count l.least l.initial.take l.take;
+}
+
+abbrev pub decreases-reading : goal.decreases-reading
+decreases-reading l = l.count - vec_len l.reads

@@ -1,0 +1,51 @@
+-- The kind, and then what the kind has.
+use Rattle.std.proofs.Common.{◌≡◌, ◌++◌, ℕ, List, sym, ap, subst, ◌∙◌}
+use Rattle.std.proofs.lemmas.Result.{on_ok_weaker}
+use Rattle.pv_base.specs.BigEndian.{big_endian}
+use Rattle.pv_format.specs.Record.{epoch_begun, prepared, outcome_known}
+use Rattle.pv_format.specs.RecordSpelling.{SpellsReads, SpellsRecord}
+use Rattle.pv_law_fields.proofs.PartLemmas.{appended_both}
+use Rattle.pv_model.specs.Alternatives.{Read}
+use Rattle.pv_replay.specs.Values.{record_of}
+use Rattle.pv_replay.specs.declared.record.Record.{Record}
+use Rattle.pv_replay.proofs.record.put_record.Goals as goal
+
+pub put_reads-requires : goal.put_reads-requires
+put_reads-requires c =
+    let spelled : SpellsRecord (prepared c.in-Prepared.txn c.in-Prepared.writes.items) c.requires.0
+          = subst (λ (value : Record). SpellsRecord (record_of value) c.requires.0) c.in-Prepared.is c.requires.1 in
+    (0, spelled.second.back, subst (λ (reads : List Read). SpellsReads 0 reads spelled.second.back) (sym c.deref.ensures.value) spelled.second.second)
+
+pub returns-in_ok-u8-in-Epoch : goal.returns-in_ok-u8-in-Epoch
+returns-in_ok-u8-in-Epoch c = λ bytes all.
+    let spelled : SpellsRecord (epoch_begun c.in-Epoch.epoch) bytes = subst (λ (value : Record). SpellsRecord (record_of value) bytes) c.in-Epoch.is all in
+    on_ok_weaker c.u32.result
+      (λ last.
+        appended_both c.args.put.now c.u8.new.self c.u32.new.self spelled.front spelled.back bytes spelled.whole
+          (c.in_ok-u8-in-Epoch.ensures.written ∙ ap (λ front. c.args.put.now ++ front) (sym spelled.first.spelled))
+          (last ∙ ap (λ back. c.u8.new.self ++ back) (sym spelled.second.spelled.spelled)))
+      c.u32.ensures.written
+
+pub returns-in_ok-put_txn-in-Prepared : goal.returns-in_ok-put_txn-in-Prepared
+returns-in_ok-put_txn-in-Prepared c = λ bytes all.
+    let spelled : SpellsRecord (prepared c.in-Prepared.txn c.in-Prepared.writes.items) bytes
+          = subst (λ (value : Record). SpellsRecord (record_of value) bytes) c.in-Prepared.is all in
+    on_ok_weaker c.put_reads.result
+      (λ last.
+        appended_both c.args.put.now c.u8-in-Prepared.new.self c.put_reads.new.put spelled.front spelled.back bytes spelled.whole
+          (c.in_ok-u8-in-Prepared.ensures.written ∙ ap (λ front. c.args.put.now ++ front) (sym spelled.first.spelled))
+          (appended_both c.u8-in-Prepared.new.self c.put_txn.new.put c.put_reads.new.put spelled.second.front spelled.second.back spelled.back spelled.second.whole
+            (c.in_ok-put_txn-in-Prepared.ensures spelled.second.front spelled.second.first) last))
+      (c.put_reads.ensures 0 spelled.second.back (subst (λ (reads : List Read). SpellsReads 0 reads spelled.second.back) (sym c.deref.ensures.value) spelled.second.second))
+
+pub returns-in_ok-put_txn-in-Outcome : goal.returns-in_ok-put_txn-in-Outcome
+returns-in_ok-put_txn-in-Outcome c = λ bytes all.
+    let spelled : SpellsRecord (outcome_known c.in-Outcome.txn c.in-Outcome.commits) bytes
+          = subst (λ (value : Record). SpellsRecord (record_of value) bytes) c.in-Outcome.is all in
+    on_ok_weaker c.put_truth.result
+      (λ last.
+        appended_both c.args.put.now c.u8-in-Outcome.new.self c.put_truth.new.put spelled.front spelled.back bytes spelled.whole
+          (c.in_ok-u8-in-Outcome.ensures.written ∙ ap (λ front. c.args.put.now ++ front) (sym spelled.first.spelled))
+          (appended_both c.u8-in-Outcome.new.self c.put_txn-in-Outcome.new.put c.put_truth.new.put spelled.second.front spelled.second.back spelled.back spelled.second.whole
+            (c.in_ok-put_txn-in-Outcome.ensures spelled.second.front spelled.second.first) last))
+      (c.put_truth.ensures spelled.second.back spelled.second.second)

@@ -1,0 +1,68 @@
+// Items with their polyvalues: their count, and for each the item and the polyvalue. The items are ascending.
+ghost use Rattle.std.specs.Prelude.{◌≡◌, ◌++◌, ◌≤◌, ℕ, List, length, IfOk, IfErr, OnOk};
+ghost use Rattle.pv_format.specs.Layout.{counted_layout, entries_layout, polyvalue_then};
+ghost use Rattle.pv_format.specs.PolyvalueSpelling.{SpellsPolyvalue};
+ghost use Rattle.pv_format.specs.RecordSpelling.{SpellsReads};
+ghost use Rattle.pv_format.specs.Spelling.{SpellsEntriesFrom};
+ghost use Rattle.pv_law_fields.specs.Decoding.{Passes, Stops};
+ghost use Rattle.pv_law_fields.specs.Encoding.{SpellsEntry};
+ghost use Rattle.pv_model.specs.Alternatives as model;
+ghost use Rattle.pv_replay.specs.Faults.{fault_of};
+
+use crate::PolyError;
+use crate::fields::{take_count, take_item};
+use crate::poly::{put_poly, take_poly};
+use pv_base::NoMemory;
+use pv_bytes::{Put, Take};
+use pv_poly::Read;
+use std::alloc::Global;
+
+/// Writes items with their polyvalues, which some bytes spell. Takes time in proportion to these bytes. After a refusal the `Put` holds a
+/// part of them, and is to be dropped.
+pub fn put_reads(put: &mut Put, reads: &[Read]) -> Result<(), NoMemory>
+    requires { (fewest : ℕ) × (bytes : List ℕ) × SpellsReads fewest reads.now bytes }
+    ensures { (fewest : ℕ) (bytes : List ℕ) → SpellsReads fewest reads.now bytes → OnOk result (put.new ≡ put.old ++ bytes) }
+{
+    put.u8(reads.len() as u8)?;
+    for read in reads {
+        put_read(put, read)?;
+    }
+    Ok(())
+}
+
+// Writes an item and its polyvalue.
+fn put_read(put: &mut Put, read: &Read) -> Result<(), NoMemory>
+    requires { (bytes : List ℕ) × SpellsPolyvalue read.now.cases bytes }
+    ensures { (bytes : List ℕ) → SpellsEntry (λ (entry : model.Read). SpellsPolyvalue entry.cases) (λ entry. entry.item) read.now bytes → OnOk result (put.new ≡ put.old ++ bytes) }
+{
+    put.u32(read.item.0)?;
+    put_poly(put, &read.value)
+}
+
+/// Reads items with their polyvalues, at least so many. The first fault in reading order is told. Takes time in proportion to the
+/// bytes that it reads. After a refusal the `Take` stands somewhere within them, and is to be dropped.
+pub fn take_reads(alloc: Global, take: &mut Take<'_>, fewest: u8) -> Result<Vec<Read>, PolyError>
+    ensures passes { IfOk result (λ reads. Passes (SpellsReads fewest reads.items) (counted_layout fewest polyvalue_then) take.old take.new) }
+    ensures stops { IfErr result (λ e. Stops (counted_layout fewest polyvalue_then) take.old (fault_of e)) }
+{
+    let count = take_count(take, fewest)?;
+    take_counted_reads(alloc, take, count)
+}
+
+// Reads so many items with their polyvalues.
+fn take_counted_reads(alloc: Global, take: &mut Take<'_>, count: u8) -> Result<Vec<Read>, PolyError>
+    ensures counted { IfOk result (λ reads. length reads.items ≡ count) }
+    ensures passes { IfOk result (λ reads. Passes (SpellsEntriesFrom (λ (read : model.Read). SpellsPolyvalue read.cases) (λ read. read.item) 0 reads.items)
+        (entries_layout count polyvalue_then 0) take.old take.new) }
+    ensures stops { IfErr result (λ e. Stops (entries_layout count polyvalue_then 0) take.old (fault_of e)) }
+{
+    let mut reads = Vec::new(alloc);
+    let mut least = 0;
+    'reading: while reads.len() < usize::from(count) {
+        let item = take_item(take, least)?;
+        let value = take_poly(alloc, take)?;
+        reads.push(Read { item, value })?;
+        least = item.0 + 1;
+    }
+    Ok(reads)
+}

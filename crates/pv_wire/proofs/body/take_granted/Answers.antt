@@ -1,0 +1,29 @@
+-- One part, and then the other.
+use Rattle.std.proofs.Common.{refl}
+use Rattle.std.proofs.lemmas.Result.{err_from_is_err_and}
+use Rattle.pv_format.specs.Layout.{counted_layout, grant_layout, polyvalue_then}
+use Rattle.pv_format.specs.RecordSpelling.{SpellsReads}
+use Rattle.pv_format.specs.Spelling.{SpellsGrant}
+use Rattle.pv_replay.specs.Faults.{fault_of}
+use Rattle.pv_law_fields.proofs.PartLemmas.{passes_both, stops_first, stops_second}
+use Rattle.pv_wire.proofs.body.take_granted.Goals as goal
+
+pub returns-in_err-grant-clause-stops : goal.returns-in_err-grant-clause-stops
+returns-in_err-grant-clause-stops c =
+    let p = err_from_is_err_and c.from_residual.result c.from_residual.ensures.1 in
+    rw (p.1, p.2) (stops_first grant_layout (counted_layout 1 polyvalue_then) c.args.take.now (fault_of c.in_err-grant.field-0.0) c.in_err-grant.ensures.stops)
+
+pub returns-in_err-values-clause-stops : goal.returns-in_err-values-clause-stops
+returns-in_err-values-clause-stops c =
+    let p = err_from_is_err_and c.from_residual-in_err-values.result c.from_residual-in_err-values.ensures.1 in
+    rw (p.1, p.2)
+    (stops_second (SpellsGrant c.in_ok-grant.grant) grant_layout (counted_layout 1 polyvalue_then) c.args.take.now c.take_grant.new.take (fault_of c.in_err-values.field-0.0)
+      c.in_ok-grant.ensures.passes c.in_err-values.ensures.stops)
+
+pub returns-clause-passes : goal.returns-clause-passes
+returns-clause-passes c = record {
+    kind_is = refl;
+    txn_is = refl;
+    passes = passes_both (SpellsGrant c.in_ok-grant.grant) (SpellsReads 1 c.in_ok-values.values.items) grant_layout (counted_layout 1 polyvalue_then) c.args.take.now c.take_grant.new.take c.take_reads.new.take
+      c.in_ok-grant.ensures.passes c.in_ok-values.ensures.passes;
+  }

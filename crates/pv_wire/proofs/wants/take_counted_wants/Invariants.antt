@@ -1,0 +1,17 @@
+-- The items so far were read, the next one has to be after them, and each turn wants one.
+use Rattle.std.proofs.Common.{◌-◌, ◌≤◌, ◌<◌, ◌^◌, ℕ, length, vec_len}
+use Rattle.pv_format.specs.Layout.{truth_layout}
+use Rattle.pv_law_fields.proofs.ListLemmas.{IsReadingEntries}
+use Rattle.pv_base.specs.Want.{Want}
+use Rattle.pv_format.specs.Spelling.{IsTruth}
+use Rattle.pv_wire.proofs.wants.take_counted_wants.Given as goal
+
+abbrev pub invariant-reading : goal.invariant-reading
+invariant-reading l = record {
+  few : length l.wants.items ≤ l.count;
+  small : l.least ≤ 1024;
+  reading : IsReadingEntries (λ (entry : Want). IsTruth entry.exclusive) (λ entry. entry.item) truth_layout l.wants.items l.count l.least l.initial.take l.take;
+}
+
+abbrev pub decreases-reading : goal.decreases-reading
+decreases-reading l = l.count - vec_len l.wants

@@ -1,0 +1,62 @@
+// Messages as bytes: the kind, the sites, the transaction, and what the kind has besides.
+ghost use Rattle.std.specs.Prelude.{◌≡◌, ◌++◌, ℕ, List, IfOk, OnOk};
+ghost use Rattle.pv_format.specs.MessageSpelling.{SpellsBody, SpellsEnvelope};
+ghost use Rattle.pv_wire.specs.Values.{envelope_of, message_of};
+
+use crate::fields::{put_cause, put_grant};
+use crate::message::{kind_of, txn_of};
+use crate::wants::put_wants;
+use crate::{Envelope, Message};
+use pv_base::NoMemory;
+use pv_bytes::Put;
+use pv_replay::{put_reads, put_truth, put_txn};
+use std::alloc::Global;
+
+/// The bytes of a message, which has to have a spelling: its sites, items, numbers and counts are in range, and its items ascend. Takes
+/// time in proportion to the bytes.
+pub fn encode(alloc: Global, envelope: &Envelope) -> Result<Vec<u8>, NoMemory>
+    requires { (bytes : List ℕ) × SpellsEnvelope (envelope_of envelope.now) bytes }
+    ensures { IfOk result (λ bytes. SpellsEnvelope (envelope_of envelope.now) bytes.items) }
+{
+    let mut put = Put::new(alloc);
+    put_envelope(&mut put, envelope)?;
+    Ok(put.done())
+}
+
+// Writes a message on its way.
+fn put_envelope(put: &mut Put, envelope: &Envelope) -> Result<(), NoMemory>
+    requires { (bytes : List ℕ) × SpellsEnvelope (envelope_of envelope.now) bytes }
+    ensures { (bytes : List ℕ) → SpellsEnvelope (envelope_of envelope.now) bytes → OnOk result (put.new ≡ put.old ++ bytes) }
+{
+    put.u8(kind_of(&envelope.message))?;
+    put.u8(envelope.from.0)?;
+    put.u8(envelope.to.0)?;
+    put_txn(put, txn_of(&envelope.message))?;
+    put_body(put, &envelope.message)
+}
+
+// Writes what a message has after its transaction.
+fn put_body(put: &mut Put, message: &Message) -> Result<(), NoMemory>
+    requires { (bytes : List ℕ) × SpellsBody (message_of message.now) bytes }
+    ensures { (bytes : List ℕ) → SpellsBody (message_of message.now) bytes → OnOk result (put.new ≡ put.old ++ bytes) }
+{
+    match message {
+        Message::Lock { wants, .. } => put_wants(put, wants),
+        Message::Granted { grant, values, .. } => {
+            put_grant(put, *grant)?;
+            put_reads(put, values)
+        }
+        Message::Denied { item, holder, .. } => {
+            put.u32(item.0)?;
+            put_txn(put, *holder)
+        }
+        Message::Prepare { grant, writes, .. } => {
+            put_grant(put, *grant)?;
+            put_reads(put, writes)
+        }
+        Message::Yes { .. } => Ok(()),
+        Message::No { cause, .. } => put_cause(put, *cause),
+        Message::Outcome { commits, .. } => put_truth(put, *commits),
+        Message::Ask { .. } => Ok(()),
+    }
+}

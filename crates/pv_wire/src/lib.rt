@@ -1,0 +1,16 @@
+//! The messages between sites as bytes, each with one spelling.
+#![tactic(auto)]
+
+mod body;
+mod decoding;
+mod encoding;
+mod error;
+mod fields;
+mod message;
+mod wants;
+
+pub use decoding::decode;
+pub use encoding::encode;
+pub use error::WireError;
+pub use message::{Envelope, Message, NoCause};
+pub use pv_poly::Read;
