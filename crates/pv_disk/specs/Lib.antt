@@ -1,12 +1,8 @@
-pub mod Calls
-pub mod Disk
-pub mod DiskModel
+pub mod DiskAnswers
 pub mod ListLaws
 pub mod ListLog
-pub mod Log
-pub mod LogModel
+pub mod LogAnswers
 pub mod MemDisk
 pub mod MemHistory
-pub mod MemLaws
 pub mod MemImage
-pub mod Size
+pub mod MemLaws

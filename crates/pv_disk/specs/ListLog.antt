@@ -1,7 +1,8 @@
 -- What a log in memory is, and what its calls make of it.
 use Rattle.std.specs.Prelude.{◌≡◌, ℕ, ◌+◌, ◌-◌, ◌^◌, ◌≤◌, ◌<◌, ◌==◌, min, Bool, false, not, is_none, MatchBool, if◌then◌else◌, List, [], ◌∷◌, ◌++◌, Option, Some, None, length, take, find}
-use Rattle.pv_disk.specs.Size.{Contents, size_of}
-use Rattle.pv_disk.specs.Calls.{LogCall, read_all, reserve, append}
+use Rattle.pv_base.specs.Fault.{one_more}
+use Rattle.pv_law_disk.specs.Size.{Contents, size_of}
+use Rattle.pv_law_disk.specs.Calls.{LogCall, read_all, reserve, append}
 use Rattle.pv_disk.specs.declared.list_log.AppendFail.{AppendFail}
 
 -- A log in memory: what it holds and how long it may be; which appends fail, how many there were, and how many calls failed; whether it
@@ -15,10 +16,6 @@ pub record ListState : Type 0 where
   pub is_down : Bool
   pub places : ℕ
   pub bytes : ℕ
-
--- One more, up to u64's greatest value.
-abbrev pub one_more : ℕ → ℕ
-one_more n = min (n + 1) (2 ^ 64 - 1)
 
 -- What is planned for the append with this number: the first entry decides.
 abbrev pub planned : List AppendFail → ℕ → Option AppendFail

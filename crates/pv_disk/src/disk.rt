@@ -1,8 +1,9 @@
 // A disk: bytes that reads give, and what a crash at any moment leaves of them.
 ghost use Rattle.std.specs.Prelude.{◌≡◌, ℕ, ◌+◌, ◌≤◌, ◌^◌, List, Some, length, take, drop, is_ok, IfOk, OnOk};
-ghost use Rattle.pv_disk.specs.Calls.{len, read, make_room, write, sync};
-ghost use Rattle.pv_disk.specs.DiskModel.{DiskModel};
-ghost use Rattle.pv_disk.specs.Disk.{Observes, Writes, Syncs, Reserves};
+ghost use Rattle.pv_law_disk.specs.Calls.{len, read, make_room, write, sync};
+ghost use Rattle.pv_law_disk.specs.DiskModel.{DiskModel};
+ghost use Rattle.pv_law_disk.specs.Disk.{Observes, Writes, Syncs};
+ghost use Rattle.pv_disk.specs.DiskAnswers.{Reserves};
 
 use crate::DiskError;
 use pv_base::Failed;

@@ -1,8 +1,9 @@
 // A disk in memory, whose calls fail where they are told to.
 ghost use Rattle.std.specs.Prelude.{◌≡◌, ◌≤◌, ◌+◌, ◌^◌, ℕ, List, Some, None, [], length, take, drop, is_ok, vec_len, IfOk, OnOk, OnErr};
-ghost use Rattle.pv_disk.specs.Calls.{len, read, make_room, write, sync};
-ghost use Rattle.pv_disk.specs.Disk.{overlaid, Observes, Writes, Syncs, Reserves};
-ghost use Rattle.pv_disk.specs.ListLog.{one_more};
+ghost use Rattle.pv_law_disk.specs.Calls.{len, read, make_room, write, sync};
+ghost use Rattle.pv_law_disk.specs.Disk.{overlaid, Observes, Writes, Syncs};
+ghost use Rattle.pv_disk.specs.DiskAnswers.{Reserves};
+ghost use Rattle.pv_base.specs.Fault.{one_more};
 ghost use Rattle.pv_disk.specs.MemImage.{settled_at};
 ghost use Rattle.pv_disk.specs.MemDisk.{MemState, MemGoes};
 ghost use Rattle.pv_disk.specs.MemLaws.{mem_model};

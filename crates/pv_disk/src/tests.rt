@@ -1,6 +1,6 @@
 // Each public call once, and what no clause says.
 ghost use Rattle.std.specs.Prelude.{◌≡◌, ◌<◌, ◌≤◌, ◌+◌, ◌^◌, ◌++◌, false, List, ℕ, None, length, IfOk, OnOk};
-ghost use Rattle.pv_disk.specs.Log.{Adds};
+ghost use Rattle.pv_law_disk.specs.Log.{Adds};
 
 use super::*;
 use pv_base::Mode;
@@ -8,7 +8,7 @@ use std::alloc::Global;
 use std::test::Fail;
 
 // An append with its room, over any log.
-#[tactic(auto, using(crate::proofs::LogLemmas::log_joins))]
+#[tactic(auto, using(pv_law_disk::proofs::LogLemmas::log_joins))]
 fn add<L: Log>(log: &mut L, content: &[u8]) -> Result<(), LogError>
     requires intact { L.model.is_intact log.old }
     requires up { L.model.is_down log.old ≡ false }

@@ -1,13 +1,13 @@
 -- What a crash in each of the two writes of an append leaves.
-use Rattle.std.proofs.Common.{◌≡◌, ◌≢◌, ◌⊎◌, inl, inr, ⊎_elim, ℕ, ◌+◌, ◌<◌, ◌≤◌, ◌^◌, List, [], ◌∷◌, ◌++◌, Some, Result, Ok, Err, OnOk, length, take, drop, get_or, arith, refl, sym, ◌∙◌, ap, subst, append_assoc, length-append}
-use Rattle.std.proofs.lemmas.List.{take_at, drop_at, take-append-drop, drop_more, drop-drop}
+use Rattle.std.proofs.Common.{◌≡◌, inl, inr, ℕ, ◌+◌, ◌<◌, ◌^◌, List, [], ◌∷◌, ◌++◌, Some, Result, Ok, Err, OnOk, length, take, drop, get_or, arith, refl, sym, ◌∙◌, ap, subst, append_assoc, length-append}
+use Rattle.std.proofs.lemmas.List.{take_at, drop_at, take-append-drop, drop_more}
 use Rattle.std.proofs.lemmas.List.Elements.{All-nil, All-cons, All-append}
 use Rattle.std.proofs.lemmas.Bool.{cases_eq}
 use Rattle.pv_base.specs.declared.failure.Failed.{Failed as Fault}
-use Rattle.pv_disk.specs.DiskModel.{DiskModel}
-use Rattle.pv_disk.specs.Disk.{overlaid, Torn, Only, LeavesOnly, LeftTorn, Observes, Writes, Syncs}
-use Rattle.pv_disk.specs.Size.{Contents}
-use Rattle.pv_disk.proofs.DiskLemmas.{LeavesOnly-trans, LeavesOnly-weaken}
+use Rattle.pv_law_disk.specs.DiskModel.{DiskModel}
+use Rattle.pv_law_disk.specs.Disk.{overlaid, Torn, Only, LeavesOnly, LeftTorn, Syncs}
+use Rattle.pv_law_disk.specs.Size.{Contents}
+use Rattle.pv_law_disk.proofs.DiskLemmas.{LeavesOnly-trans, LeavesOnly-weaken}
 use Rattle.pv_journal.proofs.LookLemmas.{still_left}
 use Rattle.pv_journal.specs.Format.{header, framed, record_of, records_of, IsJournal, end_of}
 use Rattle.pv_journal.specs.Appending.{StandsFor, IsReady, WritesRecord}

@@ -1,5 +1,4 @@
 mod AppendLemmas
 mod LogLemmas
 mod LookLemmas
-mod NumberLemmas
 mod ReadLemmas

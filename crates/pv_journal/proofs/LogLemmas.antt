@@ -1,16 +1,18 @@
 -- What an append does to the journal as a log.
-use Rattle.std.proofs.Common.{◌≡◌, ◌⊎◌, inl, inr, ⊎_elim, ℕ, ◌+◌, ◌-◌, ◌<◌, ◌≤◌, ◌^◌, Bool, true, false, List, [], ◌∷◌, ◌++◌, Option, Some, None, Result, Ok, Err, OnOk, length, arith, refl, sym, ◌∙◌, ap, subst, length-append}
+use Rattle.std.proofs.Common.{◌≡◌, inl, inr, ⊎_elim, ℕ, ◌+◌, ◌-◌, Bool, true, false, List, [], ◌∷◌, ◌++◌, Option, Some, None, Result, Ok, length, arith, refl, sym, ◌∙◌, ap, subst, length-append}
 use Rattle.std.specs.Prelude.{is_some, option_and_then, MatchBool}
-use Rattle.pv_base.specs.Fault.{Rose, HasCause}
+use Rattle.byteorder.specs.Endian.{big_bytes}
+use Rattle.pv_base.specs.BigEndian.{big_endian}
+use Rattle.pv_base.proofs.BigEndianLemmas.{bytes_high_first-big_endian}
 use Rattle.pv_base.specs.declared.failure.Failed.{Failed as Fault}
-use Rattle.pv_disk.specs.DiskModel.{DiskModel}
-use Rattle.pv_disk.specs.Disk as disk
-use Rattle.pv_disk.specs.Size.{Contents}
-use Rattle.pv_disk.specs.Log.{IsBeforeOrAfter, LeavesOnly, Adds, MayAdd, StaysUp, GoesDown}
+use Rattle.pv_law_disk.specs.DiskModel.{DiskModel}
+use Rattle.pv_law_disk.specs.Disk as disk
+use Rattle.pv_law_disk.specs.Size.{Contents}
+use Rattle.pv_law_disk.specs.Log.{IsBeforeOrAfter, LeavesOnly, Adds, MayAdd}
 use Rattle.pv_journal.specs.Format.{framed, record_of, records_of, IsJournal, IsNotOurs, end_of}
 use Rattle.pv_journal.specs.Contents.{contents_of}
 use Rattle.pv_journal.specs.OneAnswer.{contents_of-is, contents_of-journal, same_contents, not_both}
-use Rattle.pv_journal.specs.Journal.{IsIntact, contents_now, LeavesNow, LeavesSince, HasRoom}
+use Rattle.pv_journal.specs.Journal.{IsIntact, contents_now, HasRoom}
 use Rattle.pv_journal.specs.JournalModel.{journal_model, told_bytes, length-framed}
 use Rattle.pv_journal.specs.Appending.{StandsFor, IsReady, WritesRecord}
 use Rattle.pv_journal.specs.declared.journal.Journal.{Journal}
@@ -156,3 +158,7 @@ module _ {D : Type 0} (M : DiskModel D) (old new : Journal D) (content frame : L
 pub not_down : (b : Bool) (A B : Type 0) → b ≡ false → B → MatchBool b A B
 not_down true A B is has = cc
 not_down false A B is has = has
+
+-- What the kit writes of a number.
+pub written_four : (number : ℕ) → big_bytes 4 number ≡ big_endian 4 number
+written_four number = bytes_high_first-big_endian 4 number

@@ -1,17 +1,15 @@
 -- What stands at a place of a journal.
-use Rattle.std.proofs.Common.{◌≡◌, ◌≢◌, ◌⊎◌, inl, inr, ℕ, zero, suc, ◌+◌, ◌-◌, ◌^◌, ◌<◌, ◌≤◌, List, [], ◌∷◌, ◌++◌, length, min, take, drop, slice_index, refl, sym, ◌∙◌, ap, subst, arith, append_assoc, length-append, length-take, length-drop}
-use Rattle.std.specs.List.{flat_map}
-use Rattle.std.proofs.lemmas.List.{take-append-drop, take_at, drop_at, drop-drop, append-nil, take_all, take-take, nil_from_length, get_or-take}
+use Rattle.std.proofs.Common.{◌≡◌, ◌≢◌, inl, inr, ℕ, ◌+◌, ◌^◌, ◌<◌, ◌≤◌, List, [], ◌∷◌, ◌++◌, length, min, take, drop, slice_index, refl, sym, ◌∙◌, ap, arith, append_assoc, length-append, length-take, length-drop}
+use Rattle.std.proofs.lemmas.List.{take-append-drop, take_at, drop_at, drop-drop, append-nil, take-take, nil_from_length, get_or-take}
 use Rattle.std.proofs.lemmas.Bool.{cases_lt}
 use Rattle.std.proofs.lemmas.List.Concat.{flat_map-append}
 use Rattle.std.proofs.lemmas.List.Elements.{All-nil, All-cons, All-append}
 use Rattle.pv_base.specs.BigEndian.{big_endian, number_of}
 use Rattle.pv_base.proofs.BigEndianLemmas.{number_of-big_endian, length-big_endian}
-use Rattle.pv_disk.specs.Size.{Contents}
-use Rattle.pv_journal.specs.Format.{header, framed, record_of, records_of, AreShort, IsJournal, end_of, IsCut, EndsShort, HasNoHeader}
+use Rattle.pv_law_disk.specs.Size.{Contents}
+use Rattle.pv_journal.specs.Format.{header, framed, record_of, records_of, IsJournal, end_of, EndsShort, HasNoHeader}
 use Rattle.pv_journal.specs.Bodies.{frame_length, first_and_rest}
 use Rattle.pv_journal.specs.Reading.{ReadsTo, StandsAt, StandsCut}
-use Rattle.pv_journal.specs.declared.reading.Gate.{Gate}
 use Rattle.pv_journal.specs.declared.reading.Gate.TheVariants.{Closed, Open}
 
 -- The first byte, as it was read.

@@ -1,8 +1,8 @@
 -- What the four calls of an append do to the disk.
-use Rattle.std.specs.Prelude.{◌≡◌, ◌⊎◌, ℕ, ◌+◌, ◌^◌, ◌<◌, List, [], ◌∷◌, ◌++◌, Some, length, Result, OnOk}
-use Rattle.pv_disk.specs.DiskModel.{DiskModel}
-use Rattle.pv_disk.specs.Disk.{Only, LeavesOnly}
-use Rattle.pv_disk.specs.Size.{Contents}
+use Rattle.std.specs.Prelude.{◌≡◌, ◌⊎◌, ℕ, ◌^◌, ◌<◌, List, [], ◌∷◌, ◌++◌, Some, length, Result, OnOk}
+use Rattle.pv_law_disk.specs.DiskModel.{DiskModel}
+use Rattle.pv_law_disk.specs.Disk.{Only, LeavesOnly}
+use Rattle.pv_law_disk.specs.Size.{Contents}
 use Rattle.pv_journal.specs.Format.{framed, IsJournal, end_of}
 
 -- The bytes are a journal with these contents, or with one more.

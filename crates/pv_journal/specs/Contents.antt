@@ -1,17 +1,11 @@
 -- The contents of the journal that bytes are, if they are one.
-use Rattle.std.specs.Prelude.{◌≡◌, ◌≢◌, ◌⊎◌, ℕ, zero, suc, ◌+◌, ◌-◌, ◌^◌, ◌<◌, ◌≤◌, List, [], ◌∷◌, ◌++◌, Option, Some, None, length, take, drop, slice_index, All}
-use Rattle.std.specs.List.{flat_map}
-use Rattle.std.specs.Str.{bytes_eq}
-use Rattle.std.proofs.Common.{inl, inr, ⊎_elim, refl, sym, ◌∙◌, ap, subst, arith, append_assoc, length-append, length-take, length-drop}
-use Rattle.std.proofs.lemmas.List.{take-append-drop, take_at}
-use Rattle.std.proofs.lemmas.List.Elements.{All-nil, All-cons}
-use Rattle.std.proofs.lemmas.Bool.{cases_eq, cases_lt, cases_Bool, false≢true}
-use Rattle.std.proofs.lemmas.Slice.Eq.{bytes_eq-Decides}
-use Rattle.pv_base.specs.BigEndian.{big_endian, number_of}
-use Rattle.pv_base.proofs.BigEndianLemmas.{length-big_endian, number_of-big_endian}
-use Rattle.pv_disk.specs.Size.{Contents}
-use Rattle.pv_journal.specs.Format.{header, framed, records_of, AreShort, IsJournal, end_of, HasNoHeader, IsCut, EndsShort, IsNotOurs}
-use Rattle.pv_journal.specs.Bodies.{IsBody, IsCutBody, body_of}
+use Rattle.std.specs.Prelude.{◌≡◌, ◌≢◌, ◌⊎◌, ℕ, suc, ◌<◌, ◌≤◌, List, [], ◌∷◌, ◌++◌, Option, Some, None, length, take, slice_index}
+use Rattle.std.proofs.Common.{inl, inr, ⊎_elim, refl, sym, ◌∙◌, ap, subst, arith, length-append}
+use Rattle.std.proofs.lemmas.List.{take_at}
+use Rattle.std.proofs.lemmas.Bool.{cases_eq, cases_lt}
+use Rattle.pv_law_disk.specs.Size.{Contents}
+use Rattle.pv_journal.specs.Format.{header, IsJournal, end_of, IsNotOurs}
+use Rattle.pv_journal.specs.Bodies.{body_of}
 
 -- Where bytes first differ from what they are to begin with.
 record Differs (expected bytes : List ℕ) (place : ℕ) : Type 0 where

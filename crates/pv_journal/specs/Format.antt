@@ -1,8 +1,8 @@
 -- Which bytes are a journal, with which contents, and where it shows that others are none.
-use Rattle.std.specs.Prelude.{◌≡◌, ◌≢◌, ◌⊎◌, ℕ, ◌+◌, ◌^◌, ◌<◌, ◌≤◌, List, [], ◌∷◌, ◌++◌, length, take, slice_index, All, codes}
+use Rattle.std.specs.Prelude.{◌≡◌, ◌≢◌, ◌⊎◌, ℕ, ◌+◌, ◌^◌, ◌<◌, ◌≤◌, List, ◌∷◌, ◌++◌, length, take, slice_index, All, codes}
 use Rattle.std.specs.List.{flat_map}
 use Rattle.pv_base.specs.BigEndian.{big_endian}
-use Rattle.pv_disk.specs.Size.{Contents}
+use Rattle.pv_law_disk.specs.Size.{Contents}
 
 -- What a journal begins with.
 abbrev pub header : List ℕ

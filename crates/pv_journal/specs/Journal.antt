@@ -1,10 +1,9 @@
 -- A journal on a disk as a log.
-use Rattle.std.specs.Prelude.{◌≡◌, ◌≢◌, ◌⊎◌, ℕ, ◌+◌, ◌-◌, ◌^◌, ◌<◌, ◌≤◌, Bool, true, false, MatchBool, List, [], ◌∷◌, ◌++◌, Option, Some, None, length, option_and_then, vec_capacity}
-use Rattle.pv_base.specs.BigEndian.{big_endian}
-use Rattle.pv_disk.specs.Calls.{DiskCall, LogCall, Makes, OnlyReads, read_all, reserve, append, make_room, write, sync}
-use Rattle.pv_disk.specs.DiskModel.{DiskModel}
-use Rattle.pv_disk.specs.Disk.{Only}
-use Rattle.pv_disk.specs.Size.{Contents}
+use Rattle.std.specs.Prelude.{◌≡◌, ◌⊎◌, ℕ, ◌+◌, ◌-◌, ◌^◌, ◌≤◌, Bool, false, MatchBool, List, [], ◌∷◌, ◌++◌, Option, Some, option_and_then, vec_capacity}
+use Rattle.pv_law_disk.specs.Calls.{DiskCall, LogCall, Makes, OnlyReads, read_all, reserve, append, make_room, write, sync}
+use Rattle.pv_law_disk.specs.DiskModel.{DiskModel}
+use Rattle.pv_law_disk.specs.Disk.{Only}
+use Rattle.pv_law_disk.specs.Size.{Contents}
 use Rattle.pv_journal.specs.Format.{framed, IsJournal, end_of}
 use Rattle.pv_journal.specs.Contents.{contents_of}
 use Rattle.pv_journal.specs.declared.journal.Journal.{Journal}

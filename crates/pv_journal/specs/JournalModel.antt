@@ -1,16 +1,15 @@
 -- That a journal keeps the laws of a log.
-use Rattle.std.specs.Prelude.{◌≡◌, ℕ, ◌+◌, ◌^◌, ◌≤◌, Bool, false, List, [], ◌∷◌, ◌++◌, Option, Some, None, length, sum_by, option_and_then}
-use Rattle.std.specs.List.{flat_map}
-use Rattle.std.proofs.Common.{refl, sym, ◌∙◌, ap, subst, arith, length-append}
+use Rattle.std.specs.Prelude.{◌≡◌, ℕ, ◌+◌, false, List, [], ◌∷◌, Option, Some, None, length, option_and_then}
+use Rattle.std.proofs.Common.{refl, sym, ◌∙◌, ap, arith, length-append}
 use Rattle.std.proofs.lemmas.List.Sums.{sum_by-cons}
 use Rattle.pv_base.specs.BigEndian.{big_endian}
 use Rattle.pv_base.proofs.BigEndianLemmas.{length-big_endian}
-use Rattle.pv_disk.specs.DiskModel.{DiskModel}
-use Rattle.pv_disk.specs.LogModel.{LogModel}
-use Rattle.pv_disk.specs.Size.{Contents, size_of}
-use Rattle.pv_journal.specs.Format.{framed, record_of, records_of, IsJournal, end_of}
+use Rattle.pv_law_disk.specs.DiskModel.{DiskModel}
+use Rattle.pv_law_disk.specs.LogModel.{LogModel}
+use Rattle.pv_law_disk.specs.Size.{Contents, size_of}
+use Rattle.pv_journal.specs.Format.{framed, record_of, records_of, end_of}
 use Rattle.pv_journal.specs.Contents.{contents_of}
-use Rattle.pv_journal.specs.OneAnswer.{contents_of-is, contents_of-journal, same_contents}
+use Rattle.pv_journal.specs.OneAnswer.{contents_of-journal, same_contents}
 use Rattle.pv_journal.specs.Journal.{IsIntact, contents_now, LeavesNow, LeavesSince, HasRoom, JournalGoes}
 use Rattle.pv_journal.specs.declared.journal.Journal.{Journal}
 

@@ -1,13 +1,13 @@
 -- Bytes are one journal, or show at one place that they are none.
-use Rattle.std.specs.Prelude.{◌≡◌, ◌≢◌, ◌⊎◌, ℕ, zero, suc, ◌+◌, ◌-◌, ◌^◌, ◌<◌, ◌≤◌, List, [], ◌∷◌, ◌++◌, Option, Some, None, length, take, drop, slice_index, All}
-use Rattle.std.proofs.Common.{inl, inr, ⊎_elim, refl, sym, ◌∙◌, ap, subst, arith, append_assoc, length-append, length-take, get_or-take}
-use Rattle.std.proofs.lemmas.List.{append_cancel_left, take_at, take-append-le, get_or_append_left}
+use Rattle.std.specs.Prelude.{◌≡◌, ◌⊎◌, ℕ, ◌^◌, ◌<◌, List, [], ◌∷◌, ◌++◌, Option, Some, None, length, slice_index}
+use Rattle.std.proofs.Common.{inl, inr, refl, sym, ◌∙◌, ap, subst, arith, append_assoc, length-append, get_or-take}
+use Rattle.std.proofs.lemmas.List.{append_cancel_left, get_or_append_left}
 use Rattle.std.proofs.lemmas.List.Elements.{All-head, All-tail}
-use Rattle.std.proofs.lemmas.Bool.{cases_eq, cases_lt}
+use Rattle.std.proofs.lemmas.Bool.{cases_lt}
 use Rattle.pv_base.specs.Answer.{HasOneAnswer}
 use Rattle.pv_base.specs.BigEndian.{big_endian}
 use Rattle.pv_base.proofs.BigEndianLemmas.{big_endian-begins, append-same_length}
-use Rattle.pv_disk.specs.Size.{Contents}
+use Rattle.pv_law_disk.specs.Size.{Contents}
 use Rattle.pv_journal.specs.Format.{header, framed, records_of, AreShort, IsJournal, end_of, HasNoHeader, IsCut, EndsShort, IsNotOurs}
 use Rattle.pv_journal.specs.Contents.{journal_or_not, contents_of}
 

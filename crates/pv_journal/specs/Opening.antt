@@ -1,18 +1,17 @@
 -- What opening, looking at and making a journal do.
-use Rattle.std.specs.Prelude.{◌≡◌, ◌⊎◌, ℕ, ◌+◌, ◌^◌, ◌≤◌, Bool, true, false, List, [], ◌∷◌, ◌++◌, Option, Some, None, is_some, map, length, Result, Ok, Err, Vec}
+use Rattle.std.specs.Prelude.{◌≡◌, ◌⊎◌, ℕ, ◌≤◌, true, false, List, [], ◌∷◌, ◌++◌, Option, Some, None, is_some, map, Result, Ok, Err, Vec}
 use Rattle.std.specs.declared.alloc.Global.{Global}
 use Rattle.pv_base.specs.Fault.{Rose}
-use Rattle.pv_disk.specs.Calls.{DiskCall, OnlyReads, Makes, make_room, write, sync}
-use Rattle.pv_disk.specs.DiskModel.{DiskModel}
-use Rattle.pv_disk.specs.Disk.{Only, LeavesOnly}
-use Rattle.pv_disk.specs.Size.{Contents}
+use Rattle.pv_law_disk.specs.Calls.{DiskCall, OnlyReads, Makes, make_room, write, sync}
+use Rattle.pv_law_disk.specs.DiskModel.{DiskModel}
+use Rattle.pv_law_disk.specs.Disk.{Only, LeavesOnly}
+use Rattle.pv_law_disk.specs.Size.{Contents}
 use Rattle.pv_disk.specs.declared.disk_error.LookError.{LookError}
 use Rattle.pv_disk.specs.declared.disk_error.LookError.TheVariants.{Failed as LookFailed, NotOurs as LookNotOurs, NoMemory as LookNoMemory}
 use Rattle.pv_disk.specs.declared.disk_error.DiskError.{DiskError}
 use Rattle.pv_disk.specs.declared.disk_error.DiskError.TheVariants.{Failed as DiskFailed, NoMemory as DiskNoMemory}
 use Rattle.pv_journal.specs.Format.{header, IsNotOurs}
-use Rattle.pv_journal.specs.Contents.{contents_of}
-use Rattle.pv_journal.specs.Journal.{IsIntact, contents_now}
+use Rattle.pv_journal.specs.Journal.{IsIntact}
 use Rattle.pv_journal.specs.declared.journal.Journal.{Journal}
 use Rattle.pv_journal.specs.declared.open_log.OpenLog.{OpenLog}
 use Rattle.pv_journal.specs.declared.open_log.OpenLog.TheVariants.{Failed, NotOurs, NoMemory}

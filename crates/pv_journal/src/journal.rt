@@ -1,7 +1,7 @@
 // A journal on a disk, and how it is opened, looked at and made.
 ghost use Rattle.std.specs.Prelude.{◌≡◌, ◌⊎◌, ℕ, ◌+◌, ◌<◌, ◌≤◌, ◌^◌, [], List, Some, map, length, IfOk, IfErr, OnOk, IsErrOf};
 ghost use Rattle.pv_base.specs.Answer.{Answers};
-ghost use Rattle.pv_disk.specs.Size.{Contents};
+ghost use Rattle.pv_law_disk.specs.Size.{Contents};
 ghost use Rattle.pv_journal.specs.Format.{IsJournal, IsNotOurs};
 ghost use Rattle.pv_journal.specs.Reading.{LooksBy};
 ghost use Rattle.pv_journal.specs.Opening.{contents_in, place_in, Opens, Formats};

@@ -2,8 +2,8 @@
 ghost use Rattle.std.specs.Prelude.{◌≡◌, ℕ, ◌+◌, ◌≤◌, ◌^◌, ◌<◌, ◌++◌, ◌∷◌, [], List, Some, length, is_ok, is_some, vec_len, vec_capacity};
 ghost use Rattle.pv_base.specs.Fault.{HasCause};
 ghost use Rattle.pv_base.specs.BigEndian.{big_endian};
-ghost use Rattle.pv_disk.specs.Calls.{Makes};
-ghost use Rattle.pv_disk.specs.Size.{Contents};
+ghost use Rattle.pv_law_disk.specs.Calls.{Makes};
+ghost use Rattle.pv_law_disk.specs.Size.{Contents};
 ghost use Rattle.pv_journal.specs.Format.{framed};
 ghost use Rattle.pv_journal.specs.Journal.{frame_calls};
 ghost use Rattle.pv_journal.specs.Appending.{IsReady, WritesRecord};
@@ -109,7 +109,7 @@ fn make_frame(frame: &mut Vec<u8>, content: &[u8])
 }
 
 // A number in four bytes, the most significant first.
-#[tactic(auto, using(crate::proofs::NumberLemmas::written_four))]
+#[tactic(auto, using(crate::proofs::LogLemmas::written_four))]
 fn number_bytes(number: u32) -> [u8; 4]
     ensures { result ≡ big_endian 4 number }
 {

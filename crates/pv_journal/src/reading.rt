@@ -1,7 +1,7 @@
 // How a journal is read from a disk.
 ghost use Rattle.std.specs.Prelude.{◌≡◌, ◌≢◌, ◌⊎◌, ℕ, ◌+◌, ◌-◌, ◌<◌, ◌≤◌, ◌^◌, ◌++◌, [], List, Some, map, length, take, drop, slice_index, vec_len, IfOk, IfErr, IfSome, OnOk, IsErrOf};
 ghost use Rattle.pv_base.specs.BigEndian.{big_endian};
-ghost use Rattle.pv_disk.specs.Size.{Contents};
+ghost use Rattle.pv_law_disk.specs.Size.{Contents};
 ghost use Rattle.pv_journal.specs.Format.{header, IsJournal, IsNotOurs, HasNoHeader, end_of};
 ghost use Rattle.pv_journal.specs.Reading.{LooksBy, ReadsTo, StandsAt, StandsCut, EndsBefore, HoldsRecord};
 

@@ -1,5 +1,4 @@
-use Rattle.std.proofs.Common.{rules, arith, ◌≡◌, List, ℕ, inr, refl, sym, ◌∙◌, ap, subst, Some, drop, ◌++◌}
-use Rattle.pv_disk.specs.Disk.{Only}
+use Rattle.std.proofs.Common.{arith, ◌≡◌, List, ℕ, inr, refl, ◌∙◌, ap, Some, drop, ◌++◌}
 use Rattle.pv_journal.specs.Opening.{empty_journal}
 use Rattle.pv_journal.proofs.journal.format.Goals as goal
 

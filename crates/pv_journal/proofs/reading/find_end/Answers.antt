@@ -1,4 +1,4 @@
-use Rattle.std.proofs.Common.{rules, arith, ◌≡◌, inr, sym, ◌∙◌, subst, ap, drop, ◌+◌, ◌-◌, ◌++◌, ◌∷◌, []}
+use Rattle.std.proofs.Common.{rules, arith, inr, sym, ◌∙◌, subst, drop, ◌+◌, ◌-◌, ◌++◌, ◌∷◌, []}
 use Rattle.pv_journal.specs.Format.{EndsShort}
 use Rattle.pv_journal.specs.Reading.{ReadsTo, StandsAt, EndsBefore}
 use Rattle.pv_journal.specs.declared.reading.Gate.{Gate}

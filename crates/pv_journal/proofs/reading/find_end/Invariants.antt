@@ -1,5 +1,5 @@
-use Rattle.std.proofs.Common.{◌≡◌, ℕ, ◌-◌, ◌<◌, ◌≤◌, ◌^◌, List, Some}
-use Rattle.pv_disk.specs.Size.{Contents}
+use Rattle.std.proofs.Common.{◌≡◌, ℕ, ◌-◌, ◌<◌, ◌≤◌, List, Some}
+use Rattle.pv_law_disk.specs.Size.{Contents}
 use Rattle.pv_journal.specs.Reading.{Looks, ReadsTo}
 use Rattle.pv_journal.proofs.reading.find_end.Given as goal
 

@@ -1,4 +1,4 @@
-use Rattle.std.proofs.Common.{rules, arith, ◌≡◌, ◌≢◌, ℕ, ◌+◌, ◌-◌, List, length, take, drop, slice_index, sym, ◌∙◌, ap, length-take, length-drop}
+use Rattle.std.proofs.Common.{arith, ◌≡◌, ◌-◌, length, take, drop, ◌∙◌, ap, length-take, length-drop}
 use Rattle.pv_journal.proofs.ReadLemmas.{stands_closed, opened, after_gate, cut_early, cut_late, stands_open}
 use Rattle.pv_journal.proofs.reading.gate_at.Goals as goal
 

@@ -1,5 +1,5 @@
 use Rattle.std.proofs.Common.{sym, ap, ◌∙◌}
-use Rattle.pv_bytes.specs.Reading.{Rest, HasTaken}
+use Rattle.pv_bytes.specs.Reading.{Rest}
 use Rattle.pv_journal.proofs.ReadLemmas.{whole_number}
 use Rattle.pv_journal.proofs.reading.number_in.Goals as goal
 

@@ -1,10 +1,8 @@
-use Rattle.std.proofs.Common.{rules, arith, ◌≡◌, ℕ, List, Err, inr, sym, ◌∙◌, subst, ap, map, drop, length, ◌+◌, ◌-◌, ◌++◌, ◌∷◌, [], vec_len, Vec, Global, Option, ◌<◌, ◌^◌}
+use Rattle.std.proofs.Common.{rules, arith, ◌≡◌, ℕ, inr, sym, ◌∙◌, subst, ap, map, drop, length, ◌+◌, ◌-◌, ◌++◌, ◌∷◌, [], vec_len, Vec, Global, Option, ◌<◌, ◌^◌}
 use Rattle.std.specs.Prelude.{IfSome}
 use Rattle.std.proofs.lemmas.List.{map_push}
-use Rattle.pv_disk.specs.Size.{Contents}
-use Rattle.pv_disk.specs.declared.disk_error.LookError.TheVariants.{NoMemory}
-use Rattle.pv_journal.specs.Format.{IsJournal, EndsShort}
-use Rattle.pv_journal.specs.Reading.{ReadsTo, HoldsRecord}
+use Rattle.pv_journal.specs.Format.{EndsShort}
+use Rattle.pv_journal.specs.Reading.{HoldsRecord}
 use Rattle.pv_journal.proofs.LookLemmas.{looked_ok, looked_in_vain}
 use Rattle.pv_journal.proofs.ReadLemmas.{read_closed, read_cut, read_open}
 use Rattle.pv_journal.proofs.reading.read_contents.Goals as goal

@@ -1,5 +1,4 @@
-use Rattle.std.proofs.Common.{◌≡◌, ℕ, ◌-◌, ◌<◌, ◌≤◌, ◌^◌, List, Some, map}
-use Rattle.pv_disk.specs.Size.{Contents}
+use Rattle.std.proofs.Common.{◌≡◌, ℕ, ◌-◌, ◌<◌, List, Some, map}
 use Rattle.pv_journal.specs.Reading.{Looks, ReadsTo}
 use Rattle.pv_journal.proofs.reading.read_contents.Given as goal
 

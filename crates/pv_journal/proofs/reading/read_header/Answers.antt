@@ -1,4 +1,4 @@
-use Rattle.std.proofs.Common.{rules, arith, ◌≡◌, ◌≤◌, ◌≢◌, ◌<◌, min, take, length, slice_index, sym, ap, ◌∙◌, subst}
+use Rattle.std.proofs.Common.{rules, ◌≡◌, ◌≤◌, ◌≢◌, ◌<◌, min, take, length, slice_index, sym, subst}
 use Rattle.pv_journal.specs.Format.{header, HasNoHeader}
 use Rattle.pv_journal.proofs.ReadLemmas.{no_header, no_gate, begins}
 use Rattle.pv_journal.proofs.reading.read_header.Goals as goal

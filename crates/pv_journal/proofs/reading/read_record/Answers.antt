@@ -1,4 +1,4 @@
-use Rattle.std.proofs.Common.{rules, arith, ◌≡◌, ℕ, List, sym, ◌∙◌, subst, ap, take, drop, length, ◌+◌, ◌-◌, ◌++◌, ◌∷◌, vec_len}
+use Rattle.std.proofs.Common.{arith, ◌≡◌, ℕ, List, sym, ◌∙◌, subst, ap, take, drop, ◌-◌, ◌++◌, ◌∷◌}
 use Rattle.std.proofs.lemmas.List.{drop-drop}
 use Rattle.pv_journal.specs.Format.{framed}
 use Rattle.pv_journal.specs.Reading.{StandsAt, EndsBefore}

@@ -1,5 +1,5 @@
-use Rattle.std.proofs.Common.{rules, arith, ◌≡◌, Some, sym, ◌∙◌, ap, false}
-use Rattle.pv_disk.specs.Calls.{none}
+use Rattle.std.proofs.Common.{rules, ◌≡◌, sym, ◌∙◌, false}
+use Rattle.pv_law_disk.specs.Calls.{none}
 use Rattle.pv_journal.specs.OneAnswer.{contents_of-is}
 use Rattle.pv_journal.specs.JournalModel.{told_bytes}
 use Rattle.pv_journal.proofs.LogLemmas.{silent}

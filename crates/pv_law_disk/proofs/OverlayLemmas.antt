@@ -2,7 +2,7 @@
 use Rattle.std.proofs.Common.{◌≡◌, ◌⊎◌, inl, inr, ℕ, ◌+◌, ◌-◌, ◌<◌, ◌≤◌, max, min, List, [], ◌∷◌, ◌++◌, length, take, drop, replicate, get_or, arith, refl, sym, ◌∙◌, ap, length-append, length-take, length-drop, get_or-take, get_or-drop}
 use Rattle.std.proofs.lemmas.List.{ext_get_or, get_or_append_left, get_or-append_right, get_or-replicate, length-replicate, take_at, drop_at, take_all, drop_all, append-nil, take-append-drop, append_assoc}
 use Rattle.std.proofs.lemmas.Bool.{cases_lt}
-use Rattle.pv_disk.specs.Disk.{overlaid, Torn}
+use Rattle.pv_law_disk.specs.Disk.{overlaid, Torn}
 
 module _ (content : List ℕ) (place : ℕ) (bytes : List ℕ) (within : place ≤ length content) where
   front_size : length (take place content) ≡ place

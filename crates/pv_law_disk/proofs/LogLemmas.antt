@@ -1,9 +1,9 @@
 -- How the effects of calls on a log join.
 use Rattle.std.proofs.Common.{◌≡◌, inl, inr, ⊎_elim, ℕ, ◌+◌, length, List, Option, Some, refl, ◌∙◌, ap, arith, false}
 use Rattle.std.specs.Prelude.{is_some}
-use Rattle.pv_disk.specs.Size.{Contents}
-use Rattle.pv_disk.specs.LogModel.{LogModel}
-use Rattle.pv_disk.specs.Log.{IsBeforeOrAfter, LeavesOnly, Keeps, Adds, MayAdd}
+use Rattle.pv_law_disk.specs.Size.{Contents}
+use Rattle.pv_law_disk.specs.LogModel.{LogModel}
+use Rattle.pv_law_disk.specs.Log.{IsBeforeOrAfter, LeavesOnly, Keeps, Adds, MayAdd}
 
 module _ {W : Type 0} (M : LogModel W) where
   pub Keeps-refl : (log : W) → Keeps M log log

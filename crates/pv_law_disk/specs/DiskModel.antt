@@ -1,6 +1,6 @@
 -- What there is to say of a disk: what reads give, what a crash leaves, and for what it has room.
 use Rattle.std.specs.Prelude.{◌≡◌, ℕ, ◌≤◌, Bool, List, Option, Some}
-use Rattle.pv_disk.specs.Calls.{DiskCall}
+use Rattle.pv_law_disk.specs.Calls.{DiskCall}
 
 -- A disk as clauses see it, and the laws that each disk keeps.
 pub record DiskModel (W : Type 0) : Type 1 where

@@ -1,8 +1,8 @@
 -- How the effects of calls on a disk join.
 use Rattle.std.proofs.Common.{◌≡◌, ◌⊎◌, inl, inr, ⊎_elim, refl, Bool, true, false, ℕ, ◌≤◌, List, [], ◌∷◌, arith}
-use Rattle.pv_disk.specs.Calls.{Makes}
-use Rattle.pv_disk.specs.DiskModel.{DiskModel}
-use Rattle.pv_disk.specs.Disk.{LeavesOnly}
+use Rattle.pv_law_disk.specs.Calls.{Makes}
+use Rattle.pv_law_disk.specs.DiskModel.{DiskModel}
+use Rattle.pv_law_disk.specs.Disk.{LeavesOnly}
 
 module _ {W : Type 0} (M : DiskModel W) where
   -- What a crash leaves of no call is what it may leave now.

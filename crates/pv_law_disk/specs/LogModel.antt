@@ -1,7 +1,7 @@
 -- What there is to say of a log: what it holds, what a crash leaves of it, and whether it can go on.
 use Rattle.std.specs.Prelude.{◌≡◌, ℕ, ◌^◌, ◌≤◌, Bool, false, Option, Some}
-use Rattle.pv_disk.specs.Calls.{LogCall}
-use Rattle.pv_disk.specs.Size.{Contents, size_of}
+use Rattle.pv_law_disk.specs.Calls.{LogCall}
+use Rattle.pv_law_disk.specs.Size.{Contents, size_of}
 
 -- A log as clauses see it, and the laws that each log keeps.
 pub record LogModel (W : Type 0) : Type 1 where

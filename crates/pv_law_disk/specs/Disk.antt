@@ -1,10 +1,8 @@
 -- What the calls of a disk do, and what a crash at any moment of them leaves.
 use Rattle.std.specs.Prelude.{◌≡◌, ◌⊎◌, ℕ, ◌+◌, ◌≤◌, max, List, ◌++◌, Some, is_some, length, take, drop, Result, Ok, Err, OnOk}
-use Rattle.pv_base.specs.Fault.{HasCause, Rose}
+use Rattle.pv_base.specs.Fault.{HasCause}
 use Rattle.pv_base.specs.declared.failure.Failed.{Failed as Fault}
-use Rattle.pv_disk.specs.declared.disk_error.DiskError.{DiskError}
-use Rattle.pv_disk.specs.declared.disk_error.DiskError.TheVariants.{Failed, NoMemory}
-use Rattle.pv_disk.specs.DiskModel.{DiskModel}
+use Rattle.pv_law_disk.specs.DiskModel.{DiskModel}
 
 -- A content with these bytes at this place, in place of what stood there, and longer where they end past its end.
 abbrev pub overlaid : List ℕ → ℕ → List ℕ → List ℕ
@@ -64,9 +62,3 @@ module _ {W : Type 0} (M : DiskModel W) where
     pub room : M.room old ≤ M.room new
     pub writes : M.writes old ≤ M.writes new
     pub faults : M.faults old ≤ M.faults new
-
-  -- What making room for so many bytes in so many writes does, by its answer.
-  abbrev pub Reserves : {X : Type 0} → W → W → ℕ → ℕ → Result X DiskError → Type 0
-  Reserves old new bytes writes (Ok _) = MakesRoom old new × (M.content new ≡ M.content old) × (bytes ≤ M.room new) × (writes ≤ M.writes new)
-  Reserves old new bytes writes (Err Failed) = MakesRoom old new × Rose (M.faults old) (M.faults new)
-  Reserves old new bytes writes (Err NoMemory) = MakesRoom old new × (M.content new ≡ M.content old)

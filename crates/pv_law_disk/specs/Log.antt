@@ -1,10 +1,8 @@
 -- What the calls of a log do: what it holds afterwards, and what a crash at any moment of them leaves.
 use Rattle.std.specs.Prelude.{◌≡◌, ◌⊎◌, ℕ, ◌+◌, ◌<◌, ◌≤◌, true, false, List, [], ◌∷◌, ◌++◌, Option, Some, is_some, length, Result, Ok, Err}
 use Rattle.pv_base.specs.Fault.{Rose}
-use Rattle.pv_disk.specs.declared.log_error.LogError.{LogError}
-use Rattle.pv_disk.specs.declared.log_error.LogError.TheVariants.{Failed, Down, Full, NotOurs, NoMemory}
-use Rattle.pv_disk.specs.LogModel.{LogModel}
-use Rattle.pv_disk.specs.Size.{Contents}
+use Rattle.pv_law_disk.specs.LogModel.{LogModel}
+use Rattle.pv_law_disk.specs.Size.{Contents}
 
 -- A crash leaves the contents from before an append, or these with the new one.
 abbrev pub IsBeforeOrAfter : Contents → List ℕ → Option Contents → Type 0
@@ -65,29 +63,3 @@ module _ {W : Type 0} (M : LogModel W) where
   -- A record with a content of so many bytes stays within the limit.
   abbrev pub IsWithin : W → ℕ → Type 0
   IsWithin log content = M.size log + (5 + content) ≤ M.limit log
-
-  -- What a reading does, by its answer. That what it found isn't a log's is told by no log that tells its contents.
-  abbrev pub Reads : {X : Type 0} → W → W → Result X LogError → Type 0
-  Reads old new (Ok _) = StaysUp old new × Keeps old new
-  Reads old new (Err Failed) = GoesDown old new × Keeps old new
-  Reads old new (Err Down) = WasDown old new
-  Reads old new (Err (NotOurs _)) = StaysUp old new × Keeps old new × (is_some (M.contents old) ≡ false)
-  Reads old new (Err NoMemory) = StaysUp old new × Keeps old new
-  Reads old new (Err (Full _)) = ⊥
-
-  -- What making room for a content of so many bytes does, by its answer.
-  abbrev pub Reserves : {X : Type 0} → W → W → ℕ → Result X LogError → Type 0
-  Reserves old new content (Ok _) = StaysUp old new × Keeps old new × IsWithin old content × M.has_room new content
-  Reserves old new content (Err Failed) = GoesDown old new × Keeps old new × IsWithin old content
-  Reserves old new content (Err Down) = WasDown old new
-  Reserves old new content (Err (Full with_it)) =
-      (M.is_down old ≡ false) × (new ≡ old) × (with_it ≡ M.size old + (5 + content)) × (M.limit old < with_it)
-  Reserves old new content (Err NoMemory) = StaysUp old new × Keeps old new × IsWithin old content
-  Reserves old new content (Err (NotOurs _)) = ⊥
-
-  -- What an append of this content does, by its answer.
-  abbrev pub Appends : {X : Type 0} → W → W → List ℕ → Result X LogError → Type 0
-  Appends old new content (Ok _) = StaysUp old new × Adds old new content
-  Appends old new content (Err Failed) = GoesDown old new × MayAdd old new content
-  Appends old new content (Err Down) = WasDown old new
-  Appends old new content (Err _) = ⊥
