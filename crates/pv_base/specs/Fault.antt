@@ -1,13 +1,9 @@
 -- When a call on something outside may answer that it failed.
 use Rattle.std.specs.Prelude.{ℕ, ◌+◌, ◌-◌, ◌^◌, ◌≤◌, min, Result, OnErr}
 
--- One more, up to u64's greatest value.
-abbrev pub one_more : ℕ → ℕ
-one_more n = min (n + 1) (2 ^ 64 - 1)
-
 -- A count of faults rose. At u64's greatest value it stays, and counts as risen.
 abbrev pub Rose : ℕ → ℕ → Type 0
-Rose old new = one_more old ≤ new
+Rose old new = min (old + 1) (2 ^ 64 - 1) ≤ new
 
 -- An error is answered only where the count of faults rose, and the count never falls.
 abbrev pub HasCause : {X E : Type 0} → ℕ → ℕ → Result X E → Type 0

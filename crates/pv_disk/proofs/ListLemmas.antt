@@ -2,7 +2,7 @@
 use Rattle.std.proofs.Common.{◌≡◌, ◌⊎◌, inl, inr, ⊎_elim, ℕ, ◌+◌, ◌<◌, ◌≤◌, List, [], ◌∷◌, ◌++◌, Option, Some, map, length, take, get_or, arith, sym, ◌∙◌, ap, Vec, Global, length-append, refl, true, false}
 use Rattle.std.proofs.lemmas.List.{take_more, map-append, take-append-le, take_all}
 use Rattle.std.proofs.lemmas.Bool.{cases_lt}
-use Rattle.pv_base.specs.Fault.{one_more}
+use Rattle.pv_law_disk.specs.Count.{one_more}
 use Rattle.pv_law_disk.specs.Size.{Contents}
 use Rattle.pv_law_disk.specs.Log.{LeavesOnly, IsBeforeOrAfter, GoesDown, MayAdd}
 use Rattle.pv_disk.specs.ListLog.{ListState, WasHeld}

@@ -4,7 +4,7 @@ use Rattle.std.proofs.lemmas.List.{drop_at, drop-append-le, append-nil}
 use Rattle.pv_base.specs.declared.mode.Mode.{Mode}
 use Rattle.pv_base.specs.declared.mode.Mode.TheVariants.{Lost, Kept, Torn as TornAll}
 use Rattle.pv_law_disk.specs.Disk.{overlaid, Torn, Only, LeavesOnly, LeftTorn, Syncs, Writes}
-use Rattle.pv_base.specs.Fault.{one_more}
+use Rattle.pv_law_disk.specs.Count.{one_more}
 use Rattle.pv_base.specs.declared.failure.Failed.{Failed as Fault}
 use Rattle.pv_disk.specs.MemImage.{ImageState, Moment, Range, Reaches, MayLeave, MightHaveLeft, AreMade, IsMade, settled_at, written_at, filled, left_by, NotesMoment}
 use Rattle.pv_disk.specs.MemDisk.{MemState}

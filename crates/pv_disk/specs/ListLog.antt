@@ -1,6 +1,6 @@
 -- What a log in memory is, and what its calls make of it.
 use Rattle.std.specs.Prelude.{◌≡◌, ℕ, ◌+◌, ◌-◌, ◌^◌, ◌≤◌, ◌<◌, ◌==◌, min, Bool, false, not, is_none, MatchBool, if◌then◌else◌, List, [], ◌∷◌, ◌++◌, Option, Some, None, length, take, find}
-use Rattle.pv_base.specs.Fault.{one_more}
+use Rattle.pv_law_disk.specs.Count.{one_more}
 use Rattle.pv_law_disk.specs.Size.{Contents, size_of}
 use Rattle.pv_law_disk.specs.Calls.{LogCall, read_all, reserve, append}
 use Rattle.pv_disk.specs.declared.list_log.AppendFail.{AppendFail}

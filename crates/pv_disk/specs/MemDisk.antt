@@ -4,7 +4,7 @@ use Rattle.pv_base.specs.declared.mode.Mode.{Mode}
 use Rattle.pv_base.specs.declared.mode.Mode.TheVariants.{Lost, Kept, Torn}
 use Rattle.pv_law_disk.specs.Calls.{DiskCall, len, read, make_room, write, sync}
 use Rattle.pv_law_disk.specs.Disk.{overlaid}
-use Rattle.pv_base.specs.Fault.{one_more}
+use Rattle.pv_law_disk.specs.Count.{one_more}
 use Rattle.pv_disk.specs.MemImage.{ImageState, Moment, filled, settled_at, written_at, left_by}
 use Rattle.pv_disk.specs.declared.arms.Arm.{Arm}
 

@@ -3,7 +3,7 @@ ghost use Rattle.std.specs.Prelude.{◌≡◌, ◌≤◌, ◌+◌, ◌^◌, ℕ,
 ghost use Rattle.pv_law_disk.specs.Calls.{len, read, make_room, write, sync};
 ghost use Rattle.pv_law_disk.specs.Disk.{overlaid, Observes, Writes, Syncs};
 ghost use Rattle.pv_disk.specs.DiskAnswers.{Reserves};
-ghost use Rattle.pv_base.specs.Fault.{one_more};
+ghost use Rattle.pv_law_disk.specs.Count.{one_more};
 ghost use Rattle.pv_disk.specs.MemImage.{settled_at};
 ghost use Rattle.pv_disk.specs.MemDisk.{MemState, MemGoes};
 ghost use Rattle.pv_disk.specs.MemLaws.{mem_model};

@@ -1,6 +1,6 @@
 -- What a source and a sink in memory hold, and what their calls change.
 use Rattle.std.specs.Prelude.{ℕ, List, ◌++◌, drop}
-use Rattle.pv_base.specs.Fault.{one_more}
+use Rattle.pv_io.specs.Stream.{one_more}
 
 -- A source: the bytes that are left, the calls so far, the numbers of the calls that fail, and how many calls failed.
 pub record SourceState : Type 0 where

@@ -1,6 +1,5 @@
 -- What is known of the bytes that a source has left and of those that a sink holds.
-use Rattle.std.specs.Prelude.{◌≡◌, ℕ, List, Option, None, Some, Result, is_some, is_ok, take, if◌then◌else◌, ◌≤◌, length}
-use Rattle.pv_base.specs.Fault.{one_more}
+use Rattle.std.specs.Prelude.{◌≡◌, ℕ, ◌+◌, ◌-◌, ◌^◌, min, List, Option, None, Some, Result, is_some, is_ok, take, if◌then◌else◌, ◌≤◌, length}
 use Rattle.std.specs.Io.KnownBytes.{Appends, Consumes}
 
 -- Whether an object tells its bytes is fixed.
@@ -19,6 +18,10 @@ TakesAtMost old new n = (bs : List ℕ) × Consumes old new bs × (length bs ≤
 abbrev pub told_since : Option (List ℕ) → Option (List ℕ) → Option (List ℕ)
 told_since None now = None
 told_since (Some first) now = now
+
+-- One more, up to u64's greatest value.
+abbrev pub one_more : ℕ → ℕ
+one_more n = min (n + 1) (2 ^ 64 - 1)
 
 -- A count of faults rises by one with each call that fails, and with no other.
 abbrev pub CountsFaults : {X E : Type 0} → ℕ → ℕ → Result X E → Type 0

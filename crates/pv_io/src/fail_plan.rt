@@ -1,7 +1,6 @@
 // Which calls of an object in memory fail, and how many have.
 ghost use Rattle.std.specs.Prelude.{◌≡◌, ◌↔◌, ◌≤◌, Contains, IsErr};
-ghost use Rattle.pv_base.specs.Fault.{one_more};
-ghost use Rattle.pv_io.specs.Stream.{CountsFaults};
+ghost use Rattle.pv_io.specs.Stream.{CountsFaults, one_more};
 
 use pv_base::Failed;
 

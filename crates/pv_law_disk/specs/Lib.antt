@@ -1,4 +1,5 @@
 pub mod Calls
+pub mod Count
 pub mod Disk
 pub mod DiskModel
 pub mod Log
