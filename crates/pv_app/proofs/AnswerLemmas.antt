@@ -5,9 +5,9 @@ use Rattle.std.specs.Io.KnownBytes.{Appends}
 use Rattle.std.proofs.lemmas.List.{append-nil}
 use Rattle.pv_base.specs.declared.limits.TheConstants.{MAX_INPUT}
 use Rattle.pv_io.specs.Stream.{AppendsPrefix}
-use Rattle.pv_model.specs.Causes.{LineCause}
+use Rattle.pv_model.specs.LineCauses.{LineCause}
 use Rattle.pv_model.specs.Events.{Schedule}
-use Rattle.pv_script.specs.Form.{not_built}
+use Rattle.pv_script.specs.Runnable.{not_built}
 use Rattle.pv_model.specs.Schedule.{IsSchedule}
 use Rattle.pv_model.specs.Run.{output_of}
 use Rattle.pv_law_schedules.proofs.OneScheduleLemmas.{one_schedule, one_fault, no_fault}
@@ -34,12 +34,12 @@ no_refused_schedule input schedule number (Some cause) is built refused = no_fau
 no_refused_schedule input schedule number None is built refused = built_differs input number built refused.2
 
 -- An input is refused in one way.
-one_refusal : (input : List ℕ) (number other : ℕ) (cause told : Option LineCause) → IsRefusedAt input number cause → IsRefusedAt input other told
-    → fault_text number cause ≡ fault_text other told
-one_refusal input number other (Some cause) (Some told) a b =
-    let same = one_fault input number other cause told a b in λ i. fault_text (same.0 i) (Some (same.1 i))
+one_refusal : (input : List ℕ) (number other : ℕ) (cause reported : Option LineCause) → IsRefusedAt input number cause → IsRefusedAt input other reported
+    → fault_text number cause ≡ fault_text other reported
+one_refusal input number other (Some cause) (Some reported) a b =
+    let same = one_fault input number other cause reported a b in λ i. fault_text (same.0 i) (Some (same.1 i))
 one_refusal input number other (Some cause) None a b = absurd (no_fault input b.0 number cause b.1 a)
-one_refusal input number other None (Some told) a b = absurd (no_fault input a.0 other told a.1 b)
+one_refusal input number other None (Some reported) a b = absurd (no_fault input a.0 other reported a.1 b)
 one_refusal input number other None None a b =
     let same : number ≡ other = let both = sym a.2 ∙ b.2 in cc in ap (λ (n : ℕ). fault_text n None) same
 

@@ -4,7 +4,7 @@ use Rattle.std.specs.Prelude.{◌&&◌, ◌||◌, ◌==◌, IsTrue}
 use Rattle.std.proofs.lemmas.Bool.{cases_lt, eq-eqb, ne_eqb, false≢true}
 use Rattle.pv_base.specs.Catalog.{Item, Declared}
 use Rattle.pv_law_programs.proofs.RowLemmas.{has_once-same}
-use Rattle.pv_model.specs.Check.{reads, names}
+use Rattle.pv_model.specs.Check.{reads, names_item}
 use Rattle.pv_model.specs.Items.{lacks, has_once, has_items, has_all_items}
 use Rattle.pv_model.specs.Meaning.{Row, items_of_rows}
 use Rattle.pv_model.specs.Serial.{rows_from, declared_rows}
@@ -62,27 +62,27 @@ has_items-named rows (two op left right) has =
     both _ _ (has_items-named rows left (λ n is. has n (first (reads left n) (reads right n) is)))
     (has_items-named rows right (λ n is. has n (second (reads left n) (reads right n) is)))
 
-has_all_items-named : (rows : List Row) (p : Program) → ((n : ℕ) → IsTrue (names p n) → IsTrue (has_once rows n)) → IsTrue (has_all_items rows p)
+has_all_items-named : (rows : List Row) (p : Program) → ((n : ℕ) → IsTrue (names_item p n) → IsTrue (has_once rows n)) → IsTrue (has_all_items rows p)
 has_all_items-named rows end has = refl
 has_all_items-named rows (assign m e next) has =
-    both _ _ (both _ _ (has m (first (m == m) (reads e m || names next m) (eq-eqb m m refl)))
-    (has_items-named rows e (λ n is. has n (second (m == n) _ (first (reads e n) (names next n) is)))))
-    (has_all_items-named rows next (λ n is. has n (second (m == n) _ (second (reads e n) (names next n) is))))
+    both _ _ (both _ _ (has m (first (m == m) (reads e m || names_item next m) (eq-eqb m m refl)))
+    (has_items-named rows e (λ n is. has n (second (m == n) _ (first (reads e n) (names_item next n) is)))))
+    (has_all_items-named rows next (λ n is. has n (second (m == n) _ (second (reads e n) (names_item next n) is))))
 has_all_items-named rows (require e next) has =
-    both _ _ (has_items-named rows e (λ n is. has n (first (reads e n) (names next n) is)))
-    (has_all_items-named rows next (λ n is. has n (second (reads e n) (names next n) is)))
+    both _ _ (has_items-named rows e (λ n is. has n (first (reads e n) (names_item next n) is)))
+    (has_all_items-named rows next (λ n is. has n (second (reads e n) (names_item next n) is)))
 has_all_items-named rows (return e next) has =
-    both _ _ (has_items-named rows e (λ n is. has n (first (reads e n) (names next n) is)))
-    (has_all_items-named rows next (λ n is. has n (second (reads e n) (names next n) is)))
+    both _ _ (has_items-named rows e (λ n is. has n (first (reads e n) (names_item next n) is)))
+    (has_all_items-named rows next (λ n is. has n (second (reads e n) (names_item next n) is)))
 has_all_items-named rows (when e body next) has =
-    both _ _ (both _ _ (has_items-named rows e (λ n is. has n (first (reads e n) (names body n || names next n) is)))
-    (has_all_items-named rows body (λ n is. has n (second (reads e n) _ (first (names body n) (names next n) is)))))
-    (has_all_items-named rows next (λ n is. has n (second (reads e n) _ (second (names body n) (names next n) is))))
+    both _ _ (both _ _ (has_items-named rows e (λ n is. has n (first (reads e n) (names_item body n || names_item next n) is)))
+    (has_all_items-named rows body (λ n is. has n (second (reads e n) _ (first (names_item body n) (names_item next n) is)))))
+    (has_all_items-named rows next (λ n is. has n (second (reads e n) _ (second (names_item body n) (names_item next n) is))))
 has_all_items-named rows (when_else e body other next) has =
-    both _ _ (both _ _ (both _ _ (has_items-named rows e (λ n is. has n (first (reads e n) (names body n || (names other n || names next n)) is)))
-    (has_all_items-named rows body (λ n is. has n (second (reads e n) _ (first (names body n) (names other n || names next n) is)))))
-    (has_all_items-named rows other (λ n is. has n (second (reads e n) _ (second (names body n) _ (first (names other n) (names next n) is))))))
-    (has_all_items-named rows next (λ n is. has n (second (reads e n) _ (second (names body n) _ (second (names other n) (names next n) is)))))
+    both _ _ (both _ _ (both _ _ (has_items-named rows e (λ n is. has n (first (reads e n) (names_item body n || (names_item other n || names_item next n)) is)))
+    (has_all_items-named rows body (λ n is. has n (second (reads e n) _ (first (names_item body n) (names_item other n || names_item next n) is)))))
+    (has_all_items-named rows other (λ n is. has n (second (reads e n) _ (second (names_item body n) _ (first (names_item other n) (names_item next n) is))))))
+    (has_all_items-named rows next (λ n is. has n (second (reads e n) _ (second (names_item body n) _ (second (names_item other n) (names_item next n) is)))))
 
 -- Rows of the catalog's items have each item of a program that names only these.
 pub has_all_items-sound : (catalog : Declared) (rows : List Row) (p : Program) → items_of_rows rows ≡ items_of_rows (declared_rows catalog) → NamesOnly catalog p

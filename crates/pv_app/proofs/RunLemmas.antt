@@ -4,25 +4,25 @@ use Rattle.std.specs.Io.KnownBytes.{Appends}
 use Rattle.std.proofs.KnownBytes.{Appends-trans}
 use Rattle.std.proofs.lemmas.List.{drop-map}
 use Rattle.std.proofs.lemmas.Grind.{flat_map-append}
-use Rattle.pv_io.specs.Stream.{AppendsPrefix, TellsAlike}
+use Rattle.pv_io.specs.Stream.{AppendsPrefix, KnownAlike}
 use Rattle.pv_io.specs.declared.sink.Sink.{Ghosts}
 use Rattle.pv_model.specs.Events.{Schedule, Event, pump}
 use Rattle.pv_model.specs.Print.{line_text, text_of}
-use Rattle.pv_model.specs.Run.{OneSite, opening, after_commit, after, lines_of, txn_of, run, output_of}
+use Rattle.pv_model.specs.Run.{OneSite, opening, after_commit, after, event_lines, txn_numbered, run, output_of}
 use Rattle.pv_model.specs.Syntax.{Program}
 use Rattle.pv_script.specs.declared.schedule.Event as code
-use Rattle.pv_script.specs.View.{event_of}
-use Rattle.pv_app.specs.Ready.{IsReady, FitsCatalog}
+use Rattle.pv_script.specs.ScheduleView.{event_of}
+use Rattle.pv_app.specs.Ready.{IsEventReady, FitsCatalog}
 use Rattle.pv_app.proofs.OutputLemmas.{AppendsPrefix-front, AppendsPrefix-after}
 use Rattle.pv_app.proofs.ReadyLemmas.{sound-opening, sound-after}
 
 -- After `done` events, what is left to be printed ends where all that is to be printed ends, and the world is sound.
-pub record IsUnderWay {W : Type 0} (sink : Ghosts W) (first now : W) (schedule : Schedule) (world : OneSite) (done : ℕ) : Type 0 where
-  pub whole : (end : Option (List ℕ)) → Appends (sink.held now) end (text_of (run schedule.catalog world (drop done schedule.events))) → Appends (sink.held first) end (output_of schedule)
-  pub prefix : (end : Option (List ℕ)) → AppendsPrefix (sink.held now) end (text_of (run schedule.catalog world (drop done schedule.events))) → AppendsPrefix (sink.held first) end (output_of schedule)
-  pub told : TellsAlike (sink.held first) (sink.held now)
-  pub numbers : length world.order ≤ done
-  pub sound : FitsCatalog schedule.catalog world
+pub record IsUnderWay {W : Type 0} (sink : Ghosts W) (first now : W) (schedule : Schedule) (state : OneSite) (done : ℕ) : Type 0 where
+  pub whole : (end : Option (List ℕ)) → Appends (sink.held now) end (text_of (run schedule.catalog state (drop done schedule.events))) → Appends (sink.held first) end (output_of schedule)
+  pub prefix : (end : Option (List ℕ)) → AppendsPrefix (sink.held now) end (text_of (run schedule.catalog state (drop done schedule.events))) → AppendsPrefix (sink.held first) end (output_of schedule)
+  pub known : KnownAlike (sink.held first) (sink.held now)
+  pub numbers : length state.order ≤ done
+  pub sound : FitsCatalog schedule.catalog state
   pub counted : sink.faults first ≤ sink.faults now
 
 -- the events, as the definitions see them
@@ -48,47 +48,47 @@ All-next P (y ∷ ys) zero x rest all split = let same : y ≡ x = cc in subst P
 All-next P (y ∷ ys) (suc i) x rest all split = All-next P ys i x rest (λ k d below. all (suc k) d (omega (arith, below))) split
 
 -- no event has more than one transaction
-order-commit : (world : OneSite) (waiting : Option Program) → length (after_commit world waiting).order ≤ length world.order + 1
-order-commit world None = omega arith
-order-commit world (Some program) = omega (arith, length-append world.order (txn_of (length world.order) ∷ []))
+order-commit : (state : OneSite) (waiting : Option Program) → length (after_commit state waiting).order ≤ length state.order + 1
+order-commit state None = omega arith
+order-commit state (Some program) = omega (arith, length-append state.order (txn_numbered (length state.order) ∷ []))
 
-order-after : (world : OneSite) (event : Event) → length (after world event).order ≤ length world.order + 1
-order-after world (pump None) = order-commit world world.waiting
-order-after world _ = omega arith
+order-after : (state : OneSite) (event : Event) → length (after state event).order ≤ length state.order + 1
+order-after state (pump None) = order-commit state state.waiting
+order-after state _ = omega arith
 
 pub start : {W : Type 0} (sink : Ghosts W) (first : W) (schedule : Schedule) → IsUnderWay sink first first schedule (opening schedule.catalog) 0
 unfolding output_of
 start sink first schedule = record {
   whole = λ end p. p;
   prefix = λ end p. p;
-  told = refl;
+  known = refl;
   numbers = omega arith;
   sound = sound-opening schedule.catalog;
   counted = omega arith;
 }
 
-module _ {W : Type 0} (sink : Ghosts W) (first now next : W) (schedule : Schedule) (world : OneSite) (done : ℕ) (event : Event)
-    (way : IsUnderWay sink first now schedule world done) (split : drop done schedule.events ≡ event ∷ drop (suc done) schedule.events) where
+module _ {W : Type 0} (sink : Ghosts W) (first now next : W) (schedule : Schedule) (state : OneSite) (done : ℕ) (event : Event)
+    (way : IsUnderWay sink first now schedule state done) (split : drop done schedule.events ≡ event ∷ drop (suc done) schedule.events) where
   abbrev lines : List ℕ
-  lines = text_of (lines_of schedule.catalog world event)
+  lines = text_of (event_lines schedule.catalog state event)
 
   abbrev rest : List ℕ
-  rest = text_of (run schedule.catalog (after world event) (drop (suc done) schedule.events))
+  rest = text_of (run schedule.catalog (after state event) (drop (suc done) schedule.events))
 
-  left : text_of (run schedule.catalog world (drop done schedule.events)) ≡ lines ++ rest
+  left : text_of (run schedule.catalog state (drop done schedule.events)) ≡ lines ++ rest
   left =
-      ap (λ (events : List Event). text_of (run schedule.catalog world events)) split
-      ∙ flat_map-append line_text (lines_of schedule.catalog world event) (run schedule.catalog (after world event) (drop (suc done) schedule.events))
+      ap (λ (events : List Event). text_of (run schedule.catalog state events)) split
+      ∙ flat_map-append line_text (event_lines schedule.catalog state event) (run schedule.catalog (after state event) (drop (suc done) schedule.events))
 
   -- The event's lines are written, and the next event comes.
-  pub go_on : IsReady schedule.catalog event → Appends (sink.held now) (sink.held next) lines → TellsAlike (sink.held now) (sink.held next) → sink.faults now ≤ sink.faults next
-      → IsUnderWay sink first next schedule (after world event) (suc done)
-  go_on ready written told counted = record {
+  pub go_on : IsEventReady schedule.catalog event → Appends (sink.held now) (sink.held next) lines → KnownAlike (sink.held now) (sink.held next) → sink.faults now ≤ sink.faults next
+      → IsUnderWay sink first next schedule (after state event) (suc done)
+  go_on ready written known counted = record {
     whole = λ end p. way.whole end (subst (Appends (sink.held now) end) (sym left) (Appends-trans (sink.held now) (sink.held next) end lines rest written p));
     prefix = λ end p. way.prefix end (subst (AppendsPrefix (sink.held now) end) (sym left) (AppendsPrefix-after (sink.held now) (sink.held next) end lines rest written p));
-    told = told ∙ way.told;
-    numbers = omega (arith, order-after world event, way.numbers);
-    sound = sound-after schedule.catalog world event ready way.sound;
+    known = known ∙ way.known;
+    numbers = omega (arith, order-after state event, way.numbers);
+    sound = sound-after schedule.catalog state event ready way.sound;
     counted = omega (arith, way.counted);
   }
 

@@ -6,10 +6,10 @@ use Rattle.pv_app.specs.declared.status.Status.{Status}
 use Rattle.pv_app.specs.declared.status.Status.TheVariants.{Done, Usage, Malformed, ReadFault, WriteFault, TooLong, NoMemory}
 use Rattle.pv_app.specs.declared.run.RunEnd.{RunEnd}
 use Rattle.pv_app.specs.declared.run.RunEnd.TheVariants as end
-use Rattle.pv_model.specs.Causes.{LineCause}
+use Rattle.pv_model.specs.LineCauses.{LineCause}
 use Rattle.pv_model.specs.Events.{Schedule}
 use Rattle.pv_script.specs.CauseTexts.{refused_text}
-use Rattle.pv_script.specs.Form.{not_built}
+use Rattle.pv_script.specs.Runnable.{not_built}
 use Rattle.pv_model.specs.Print.{line_feed}
 use Rattle.pv_model.specs.Schedule.{IsSchedule, IsMalformedSchedule}
 use Rattle.pv_model.specs.Run.{output_of}

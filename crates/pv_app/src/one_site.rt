@@ -32,11 +32,11 @@ impl<'a> Model for OneSite<'a> {
 }
 
 impl<'a> OneSite<'a> {
-    ghost use Rattle.pv_model.specs.Run.{opening, after_commit, txn_of};
+    ghost use Rattle.pv_model.specs.Run.{opening, after_commit, txn_numbered};
 
     /// No transaction yet, and the declared values.
     pub fn new(alloc: Global, catalog: &Catalog) -> Result<OneSite<'a>, NoMemory>
-        ensures { IfOk result (λ world. world ≡ opening catalog.now) }
+        ensures { IfOk result (λ state. state ≡ opening catalog.now) }
     {
         Ok(OneSite {
             order: Vec::new(alloc),
@@ -69,7 +69,7 @@ impl<'a> OneSite<'a> {
     /// The transaction that comes next.
     pub fn next_txn(&self) -> TxnId
         requires { length self.now.order < NEVER_GIVEN }
-        ensures { result ≡ txn_of (length self.now.order) }
+        ensures { result ≡ txn_numbered (length self.now.order) }
     {
         TxnId {
             site: SiteId(0),

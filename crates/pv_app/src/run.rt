@@ -1,14 +1,14 @@
 // A run: each event's lines are written when the event is done.
 ghost use Rattle.std.specs.Prelude.{◌≡◌, ◌<◌, Some, All, IsTrue, length, vec_len, OnOk};
-ghost use Rattle.pv_app.specs.Ready.{IsReady, FitsCatalog};
-ghost use Rattle.pv_app.specs.View.{IsWriteFault};
-ghost use Rattle.pv_io.specs.SinkEffects.{Writes};
+ghost use Rattle.pv_app.specs.Ready.{IsEventReady, FitsCatalog};
+ghost use Rattle.pv_app.specs.RunEndView.{IsWriteFault};
+ghost use Rattle.pv_io.specs.SinkEffects.{WritesAll};
 ghost use Rattle.pv_model.specs.Items.{has_all_items};
 ghost use Rattle.pv_model.specs.Meaning.{exec};
 ghost use Rattle.pv_model.specs.Print as model;
 ghost use Rattle.pv_model.specs.Print.{line_text, text_of};
-ghost use Rattle.pv_model.specs.Run.{txn_of, after, after_commit, lines_of, commit_lines, report_lines, output_of};
-ghost use Rattle.pv_script.specs.View.{event_of, schedule_of};
+ghost use Rattle.pv_model.specs.Run.{txn_numbered, after, after_commit, event_lines, commit_lines, report_lines, output_of};
+ghost use Rattle.pv_script.specs.ScheduleView.{event_of, schedule_of};
 
 use crate::one_site::OneSite;
 use crate::print::{push_commit_line, push_report, push_txn_line};
@@ -51,13 +51,13 @@ impl From<NoMemory> for RunEnd {
 /// transaction to the parts of its program that run, times the items.
 pub fn run<W: Sink>(alloc: Global, schedule: &Schedule, sink: &mut W) -> Result<(), RunEnd>
     requires numbers { vec_len schedule.now.events < NEVER_GIVEN }
-    requires ready { All (IsReady schedule.now.catalog) (schedule_of schedule.now).events }
-    ensures { Writes W.Sink IsWriteFault sink.old sink.new (output_of (schedule_of schedule.now)) result }
+    requires ready { All (IsEventReady schedule.now.catalog) (schedule_of schedule.now).events }
+    ensures { WritesAll W.Sink IsWriteFault sink.old sink.new (output_of (schedule_of schedule.now)) result }
 {
-    let mut world = OneSite::new(alloc, &schedule.catalog)?;
+    let mut state = OneSite::new(alloc, &schedule.catalog)?;
     let mut text = Vec::new(alloc);
     for event in &schedule.events {
-        step(alloc, &schedule.catalog, &mut world, event, &mut text, sink)?;
+        step(alloc, &schedule.catalog, &mut state, event, &mut text, sink)?;
     }
     Ok(())
 }
@@ -66,20 +66,20 @@ pub fn run<W: Sink>(alloc: Global, schedule: &Schedule, sink: &mut W) -> Result<
 fn step<'a, W: Sink>(
     alloc: Global,
     catalog: &Catalog,
-    world: &mut OneSite<'a>,
+    state: &mut OneSite<'a>,
     event: &'a Event,
     text: &mut Vec<u8>,
     sink: &mut W,
 ) -> Result<(), RunEnd>
-    requires number { length world.old.order < NEVER_GIVEN }
-    requires sound { FitsCatalog catalog.now world.old }
-    ensures after { OnOk result (world.new ≡ after world.old (event_of event.now)) }
-    ensures writes { Writes W.Sink IsWriteFault sink.old sink.new (text_of (lines_of catalog.now world.old (event_of event.now))) result }
+    requires number { length state.old.order < NEVER_GIVEN }
+    requires sound { FitsCatalog catalog.now state.old }
+    ensures after { OnOk result (state.new ≡ after state.old (event_of event.now)) }
+    ensures writes { WritesAll W.Sink IsWriteFault sink.old sink.new (text_of (event_lines catalog.now state.old (event_of event.now))) result }
 {
     match event {
-        Event::Submit { program, .. } => submit(world, program, text, sink),
-        Event::Pump(None) => pump(alloc, catalog, world, text, sink),
-        Event::Report => report(catalog, world, text, sink),
+        Event::Submit { program, .. } => submit(state, program, text, sink),
+        Event::Pump(None) => pump(alloc, catalog, state, text, sink),
+        Event::Report => report(catalog, state, text, sink),
         // What can't be run so far changes nothing and prints nothing.
         _ => Ok(()),
     }
@@ -87,34 +87,34 @@ fn step<'a, W: Sink>(
 
 // A request: its messages wait for the pump.
 fn submit<'a, W: Sink>(
-    world: &mut OneSite<'a>,
+    state: &mut OneSite<'a>,
     program: &'a Program,
     text: &mut Vec<u8>,
     sink: &mut W,
 ) -> Result<(), RunEnd>
-    requires number { length world.old.order < NEVER_GIVEN }
-    ensures after { OnOk result (world.new ≡ record world.old { waiting = Some program.now }) }
-    ensures writes { Writes W.Sink IsWriteFault sink.old sink.new (line_text (model.txn (txn_of (length world.old.order)))) result }
+    requires number { length state.old.order < NEVER_GIVEN }
+    ensures after { OnOk result (state.new ≡ record state.old { waiting = Some program.now }) }
+    ensures writes { WritesAll W.Sink IsWriteFault sink.old sink.new (line_text (model.txn (txn_numbered (length state.old.order)))) result }
 {
-    world.request(program);
-    write_txn(world.next_txn(), text, sink)
+    state.request(program);
+    write_txn(state.next_txn(), text, sink)
 }
 
 // A pump: the transaction whose messages wait commits.
 fn pump<W: Sink>(
     alloc: Global,
     catalog: &Catalog,
-    world: &mut OneSite,
+    state: &mut OneSite,
     text: &mut Vec<u8>,
     sink: &mut W,
 ) -> Result<(), RunEnd>
-    requires number { length world.old.order < NEVER_GIVEN }
-    requires sound { FitsCatalog catalog.now world.old }
-    ensures after { OnOk result (world.new ≡ after_commit world.old world.old.waiting) }
-    ensures writes { Writes W.Sink IsWriteFault sink.old sink.new (text_of (commit_lines world.old world.old.waiting)) result }
+    requires number { length state.old.order < NEVER_GIVEN }
+    requires sound { FitsCatalog catalog.now state.old }
+    ensures after { OnOk result (state.new ≡ after_commit state.old state.old.waiting) }
+    ensures writes { WritesAll W.Sink IsWriteFault sink.old sink.new (text_of (commit_lines state.old state.old.waiting)) result }
 {
-    match world.waiting() {
-        Some(program) => commit(alloc, world, program, text, sink),
+    match state.waiting() {
+        Some(program) => commit(alloc, state, program, text, sink),
         None => Ok(()),
     }
 }
@@ -122,24 +122,24 @@ fn pump<W: Sink>(
 // Runs a program and commits it.
 fn commit<W: Sink>(
     alloc: Global,
-    world: &mut OneSite,
+    state: &mut OneSite,
     program: &Program,
     text: &mut Vec<u8>,
     sink: &mut W,
 ) -> Result<(), RunEnd>
-    requires number { length world.old.order < NEVER_GIVEN }
-    requires items { IsTrue (has_all_items world.old.rows program.now) }
-    ensures after { OnOk result (world.new ≡ after_commit world.old (Some program.now)) }
-    ensures writes { Writes W.Sink IsWriteFault sink.old sink.new (line_text (model.commit (txn_of (length world.old.order)) (exec program.now world.old.rows).reply)) result }
+    requires number { length state.old.order < NEVER_GIVEN }
+    requires items { IsTrue (has_all_items state.old.rows program.now) }
+    ensures after { OnOk result (state.new ≡ after_commit state.old (Some program.now)) }
+    ensures writes { WritesAll W.Sink IsWriteFault sink.old sink.new (line_text (model.commit (txn_numbered (length state.old.order)) (exec program.now state.old.rows).reply)) result }
 {
-    let txn = world.next_txn();
-    let reply = world.commit(alloc, program)?;
+    let txn = state.next_txn();
+    let reply = state.commit(alloc, program)?;
     write_commit(txn, reply, text, sink)
 }
 
 // The line of a request.
 fn write_txn<W: Sink>(txn: TxnId, text: &mut Vec<u8>, sink: &mut W) -> Result<(), RunEnd>
-    ensures { Writes W.Sink IsWriteFault sink.old sink.new (line_text (model.txn txn)) result }
+    ensures { WritesAll W.Sink IsWriteFault sink.old sink.new (line_text (model.txn txn)) result }
 {
     text.clear();
     push_txn_line(text, txn)?;
@@ -153,7 +153,7 @@ fn write_commit<W: Sink>(
     text: &mut Vec<u8>,
     sink: &mut W,
 ) -> Result<(), RunEnd>
-    ensures { Writes W.Sink IsWriteFault sink.old sink.new (line_text (model.commit txn reply)) result }
+    ensures { WritesAll W.Sink IsWriteFault sink.old sink.new (line_text (model.commit txn reply)) result }
 {
     text.clear();
     push_commit_line(text, txn, reply)?;
@@ -163,14 +163,14 @@ fn write_commit<W: Sink>(
 // The lines of a report, in one write.
 fn report<W: Sink>(
     catalog: &Catalog,
-    world: &OneSite,
+    state: &OneSite,
     text: &mut Vec<u8>,
     sink: &mut W,
 ) -> Result<(), RunEnd>
-    requires sound { FitsCatalog catalog.now world.now }
-    ensures { Writes W.Sink IsWriteFault sink.old sink.new (text_of (report_lines catalog.now world.now.order world.now.rows)) result }
+    requires sound { FitsCatalog catalog.now state.now }
+    ensures { WritesAll W.Sink IsWriteFault sink.old sink.new (text_of (report_lines catalog.now state.now.order state.now.rows)) result }
 {
     text.clear();
-    push_report(text, catalog, world.order(), world.rows())?;
+    push_report(text, catalog, state.order(), state.rows())?;
     Ok(write_all(sink, text)?)
 }

@@ -19,13 +19,9 @@ module _ {V F : Type 0} (IsValue : V → Type 0) (IsFault : F → Type 0) where
       pub refused : IfErr result (λ e. IfSome (fault_of e) IsFault)
       pub refuses : (fault : F) → IsFault fault → IfOk result (λ _. ⊥) × IfErr result (λ e. IfSome (fault_of e) (λ reported. reported ≡ fault))
 
-module _ {X E : Type 0} (cause : Option E) (memory : E) (result : Result X E) where
-  -- A call is refused for the cause that there is, and for no other. Out of memory may come in place of it.
+module _ {X E : Type 0} (cause : Option E) (no_memory : E) (result : Result X E) where
+  -- A call is refused for the cause that there is, and for no other. It asks for memory only where there is no cause.
   pub record Refuses : Type 0 where
     pub accepted : OnOk result (cause ≡ None)
-    pub refused : IfErr result (λ e. e ≢ memory → cause ≡ Some e)
-
-  -- The same, where memory is asked for only when no cause is left.
-  pub record RefusesFirst : Type 0 where
-    pub refuses : Refuses
-    pub last : result ≡ Err memory → cause ≡ None
+    pub refused : IfErr result (λ e. e ≢ no_memory → cause ≡ Some e)
+    pub memory : result ≡ Err no_memory → cause ≡ None

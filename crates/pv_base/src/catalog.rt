@@ -96,7 +96,7 @@ impl Model for Catalog {
 }
 
 impl Catalog {
-    ghost use Rattle.pv_base.specs.Answer.{RefusesFirst};
+    ghost use Rattle.pv_base.specs.Answer.{Refuses};
     ghost use Rattle.pv_base.specs.Catalog.{Item, place_of, refusal, with_item};
 
     /// A catalog without items, of 1 to [`MAX_SITES`] sites, whose journals may each have up to `journal` bytes, from
@@ -132,7 +132,7 @@ impl Catalog {
         ensures added { let item : Item = record { name = name.now; site = site.0; value = value } in
             OnOk result (self.new ≡ with_item self.old item) }
 
-        ensures refused { RefusesFirst (refusal self.old name.now site.0) CatalogError.NoMemory result }
+        ensures refused { Refuses (refusal self.old name.now site.0) CatalogError.NoMemory result }
         ensures unchanged { OnErr result (self.new ≡ self.old) }
     {
         if !is_name(name) {

@@ -7,7 +7,7 @@ use std::fmt;
 /// of memory may come in place of any.
 #[derive(Debug, Drop)]
 pub enum CaseError {
-    /// The cases name this many outcomes, more than [`HELD_NAMES`].
+    /// The cases name this many outcomes, more than [`crate::HELD_NAMES`].
     TooManyOutcomes(u32),
     /// One assignment meets both of the cases at these places. Of all such pairs this one has the least first place, and
     /// then the least second one.
@@ -25,7 +25,7 @@ pub enum CaseError {
 /// Why a polyvalue can't be made.
 #[derive(Clone, Copy, Debug, PartialEq, Eq)]
 pub enum NameError {
-    /// It would name this many outcomes, more than [`HELD_NAMES`].
+    /// It would name this many outcomes, more than [`crate::HELD_NAMES`].
     TooManyOutcomes(u32),
     /// There was no memory.
     NoMemory,

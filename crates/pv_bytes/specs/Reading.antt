@@ -12,7 +12,7 @@ pub record HasTaken (front : List ℕ) (old new : Rest) : Type 0 where
   pub bytes : old.left ≡ front ++ new.left
   pub place : new.place ≡ old.place + length front
 
--- Fewer bytes are left than so many, the place is told, and nothing was taken.
+-- Fewer bytes are left than so many, the place is the one where they begin, and nothing was taken.
 pub record IsShort (size : ℕ) (old new : Rest) (short : Short) : Type 0 where
   pub fewer : length old.left < size
   pub place : short.0 ≡ old.place

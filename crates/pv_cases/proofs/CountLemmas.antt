@@ -198,15 +198,6 @@ module _ {V : Type 0} where
             omega (arith, choice-count are differ both.0 us both.1 named, counts both.0 both.1, short);
       }
 
-  -- Where the sides are equal, the choice is that side, which names few.
-  pub same-few : {txn : TxnId} {new old aborted committed : List (Case V)} (limit : ℕ) → IsSettled (known txn false) old aborted → IsSettled (known txn true) new committed → IsCanonical aborted
-      → aborted ≡ committed → NamesAtMost limit aborted → (count : ℕ) → ChoiceNames txn old new count → count ≤ limit
-  same-few {txn} {aborted = aborted} {committed} limit first second f same few count chosen =
-      let is : chosen.cases ≡ aborted =
-      one-canonical chosen.cases aborted chosen.canonical f
-      (λ a. choice-settled first second chosen.cases chosen.choice a ∙ ap (λ (c : List (Case V)). value_at c a) (same-value (commits a txn) same)) in
-      omega (arith, few chosen.txns (subst (λ (c : List (Case V)). AreNames c chosen.txns) is chosen.named), chosen.counted)
-
   -- A sure value is a polyvalue.
   pub sure-polyvalue : (limit : ℕ) {items : List (Case V)} (value : V) → items ≡ record { when = []; value = value } ∷ [] → IsPolyvalue limit items
   sure-polyvalue limit value is =

@@ -1,5 +1,6 @@
 pub mod CanonicalFaultLemmas
 pub mod CaseFaultLemmas
+pub mod CaseSplitLemmas
 pub mod CountLemmas
 pub mod CountedLiterals
 pub mod DifferenceLemmas
@@ -7,14 +8,14 @@ pub mod GapLemmas
 pub mod JoinedLemmas
 pub mod LeastPairLemmas
 pub mod MeetingLemmas
+pub mod NameLimitLemmas
 pub mod OneAnswerLemmas
 pub mod OrderedNames
 pub mod OverlapLemmas
-pub mod PartingLemmas
 pub mod PlaceLemmas
 pub mod PolyvalueFacts
-pub mod SameCaseLemmas
 pub mod RefusedLemmas
+pub mod SameCaseLemmas
 pub mod SettledLemmas
 pub mod SomeFaultLemmas
 pub mod TxnTests

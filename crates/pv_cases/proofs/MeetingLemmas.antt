@@ -19,7 +19,7 @@ use Rattle.pv_cases.specs.Joining.{IsPairBefore, is_gap, value_met}
 
 -- The places ascend.
 
--- the numbers ascend, and begin at this one or behind it
+-- the numbers ascend, and begin at this one or after it
 abbrev pub Up : ℕ → List ℕ → Type 0
 Up from [] = Unit {0}
 Up from (p ∷ ps) = (from ≤ p) × Up (suc p) ps
@@ -93,7 +93,7 @@ met-at cases a p h =
     let met = place-met 0 cases a p h in
     subst (IsMetAt cases a) (let same : met.0 ≡ p = omega (arith, met.1.0) in same) met.1.1
 
--- The places hang only on the outcomes of the transactions that are named.
+-- The places depend only on the outcomes of the transactions that are named.
 
 meets-same : (when : List Literal) (a b : List TxnId)
     → AgreeOn (λ txn. list_any (λ literal. is_same_txn txn literal.txn) when) a b → meets when a ≡ meets when b
@@ -139,7 +139,7 @@ pair-places k (x ∷ y ∷ ps) p q (from, (later, up)) is =
       ordered = omega (arith, first, second, later);
     }
 
--- Any two places come with a pair that isn't behind them.
+-- Any two places come with a pair that doesn't come after them.
 pub two-places : (k : ℕ) (ps : List ℕ) → Up k ps → (x y : ℕ) → Contains ps x → Contains ps y → x < y
     → (p q : ℕ) × ((meeting_of ps ≡ pair p q) × IsPairBefore p q x y)
 two-places k [] up x y hx hy less = absurd (Contains-nil x hx)

@@ -22,7 +22,7 @@ use Rattle.pv_cases.proofs.TxnTests.{txn-total, ties}
 
 -- The order.
 
--- Each of an ascending list is before all that stand behind it.
+-- Each of an ascending list is before all that come after it.
 strictly-ascending : (txns : List TxnId) → IsStrictlySortedBy txn_cmp txns → Ascending txns
 strictly-ascending [] h = λ i j d before within. absurd (omega (arith, within))
 strictly-ascending (txn ∷ txns) h =

@@ -58,7 +58,7 @@ module _ {V : Type 0} where
         second_met = met-at cases comes.0 q two.second;
       }
 
-  -- Each overlap shows in the meetings by a pair that isn't behind it.
+  -- Each overlap shows in the meetings by a pair that doesn't come after it.
   pub overlap-shows : (cases : List (Case V)) (txns : List TxnId) → AreNames cases txns → (x y : ℕ) → Overlap cases x y
       → (p q : ℕ) × (Contains (meetings_of cases txns) (pair p q) × IsPairBefore p q x y)
   overlap-shows cases txns are x y o =

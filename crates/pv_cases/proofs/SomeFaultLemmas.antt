@@ -60,7 +60,7 @@ same-places p q x y same =
     let seconds : q ≡ y = Some_inj (ap (λ (m : Meeting). m.second) same) in
     inr (firsts, omega (arith, seconds))
 
--- The pair of the first meeting isn't behind those of the others.
+-- The pair of the first meeting doesn't come after those of the others.
 in-front : (p q : ℕ) (meetings : List Meeting) → ((x y : ℕ) → Contains meetings (pair x y) → IsPairBefore p q x y) → IsLeastPair (pair p q ∷ meetings) p q
 in-front p q meetings before = record {
   found = Contains-first (pair p q) meetings;
@@ -162,7 +162,7 @@ module _ {V : Type 0} where
 -- Lists are equal, or there is a first place where they differ.
 
 module _ {V : Type 0} {same : V → V → Bool} (laws : IsExact same) where
-  -- Two cases are told apart, as lists of one.
+  -- Equality of two cases is decided, as that of lists of one.
   case-equal : (case other : Case V) → (case ≡ other) ⊎ (case ≡ other → ⊥)
   case-equal case other =
       ⊎_elim (λ alike. inl (heads alike)) (λ apart. inr (λ e. apart (ap (λ (z : Case V). z ∷ []) e))) (cases-equal laws (case ∷ []) (other ∷ []))

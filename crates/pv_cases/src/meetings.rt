@@ -3,7 +3,7 @@ ghost use Rattle.std.specs.Prelude.{◌≡◌, ◌++◌, ◌<◌, ◌^◌, lengt
 ghost use Rattle.pv_base.specs.Assignment.{AreAscending, assignments};
 ghost use Rattle.pv_base.specs.Polyvalue.{AreNames};
 ghost use Rattle.pv_cases.specs.Meetings.{meeting_of, meetings_of};
-ghost use Rattle.pv_cases.specs.Partings.{allows, places_with, meetings_among};
+ghost use Rattle.pv_cases.specs.CaseSplits.{allows, places_with, meetings_among};
 
 use pv_base::{Case, Literal, NoMemory, TxnId};
 use std::alloc::Global;
@@ -57,15 +57,15 @@ fn push_meetings<V>(
         meetings.push(first_two(places))?;
         return Ok(());
     };
-    let aborted = parted(alloc, cases, places, *txn, false)?;
+    let aborted = places_with(alloc, cases, places, *txn, false)?;
     push_meetings(alloc, cases, &aborted, rest, meetings)?;
-    let committed = parted(alloc, cases, places, *txn, true)?;
+    let committed = places_with(alloc, cases, places, *txn, true)?;
     push_meetings(alloc, cases, &committed, rest, meetings)?;
     Ok(())
 }
 
 // Those of the places at which the case allows this outcome of the transaction.
-fn parted<V>(
+fn places_with<V>(
     alloc: Global,
     cases: &[Case<V>],
     places: &[u32],

@@ -54,7 +54,7 @@ fn are_few(cases: &[Case<i64>]) -> bool
 }
 
 // The cases, each with these literals and this value.
-fn listed(alloc: Global, cases: &[(&[Literal], i64)]) -> Result<Vec<Case<i64>>, NoMemory> {
+fn case_list(alloc: Global, cases: &[(&[Literal], i64)]) -> Result<Vec<Case<i64>>, NoMemory> {
     let mut list = Vec::new(alloc);
     for (when, value) in cases {
         list.push(case(alloc, when, *value)?)?;
@@ -76,7 +76,7 @@ fn transactions_are_put_in_order(rt: HostRuntime) -> Result<(), Fail> {
 #[test]
 fn names_are_pushed_as_they_stand(rt: HostRuntime) -> Result<(), Fail> {
     let alloc = rt.alloc();
-    let cases = listed(alloc, &[(&[aborts(0)], 50), (&[commits(0)], 60)])?;
+    let cases = case_list(alloc, &[(&[aborts(0)], 50), (&[commits(0)], 60)])?;
     let mut txns = Vec::new(alloc);
     txns.push(txn(3))?;
     push_names(&mut txns, &cases)?;
@@ -87,7 +87,7 @@ fn names_are_pushed_as_they_stand(rt: HostRuntime) -> Result<(), Fail> {
 #[test]
 fn each_outcome_has_its_first_two_cases(rt: HostRuntime) -> Result<(), Fail> {
     let alloc = rt.alloc();
-    let cases = listed(alloc, &[(&[aborts(0)], 1), (&[commits(0)], 2), (&[], 3)])?;
+    let cases = case_list(alloc, &[(&[aborts(0)], 1), (&[commits(0)], 2), (&[], 3)])?;
     assert!(rt; are_few(&cases));
     let txns = names_of(alloc, &cases)?;
     let found = meetings(alloc, &cases, &txns)?;
@@ -125,7 +125,7 @@ fn the_first_transaction_is_the_most_significant(rt: HostRuntime) -> Result<(), 
 #[test]
 fn cases_have_a_table(rt: HostRuntime) -> Result<(), Fail> {
     let alloc = rt.alloc();
-    let cases = listed(alloc, &[(&[commits(1)], 60), (&[aborts(1)], 50)])?;
+    let cases = case_list(alloc, &[(&[commits(1)], 60), (&[aborts(1)], 50)])?;
     assert!(rt; are_few(&cases));
     let table = table_of(alloc, &cases)?;
     assert_eq!(rt; table.txns.as_slice(), [txn(1)].as_slice());
@@ -139,8 +139,8 @@ fn cases_have_a_table(rt: HostRuntime) -> Result<(), Fail> {
 #[test]
 fn both_lists_name_each_transaction_once(rt: HostRuntime) -> Result<(), Fail> {
     let alloc = rt.alloc();
-    let cases = listed(alloc, &[(&[aborts(0)], 1), (&[commits(0)], 2)])?;
-    let others = listed(alloc, &[(&[aborts(1), aborts(0)], 1)])?;
+    let cases = case_list(alloc, &[(&[aborts(0)], 1), (&[commits(0)], 2)])?;
+    let others = case_list(alloc, &[(&[aborts(1), aborts(0)], 1)])?;
     let names = names_of(alloc, &cases)?;
     assert_eq!(rt; names.as_slice(), [txn(0)].as_slice());
     assert_eq!(rt; first_difference(&cases, &others), Some(0));

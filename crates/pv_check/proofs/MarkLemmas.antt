@@ -6,7 +6,7 @@ use Rattle.std.proofs.Math.Bool.{or_assoc, or_comm}
 use Rattle.std.proofs.lemmas.List.{length-set, length-replicate, get_or-set_same, get_or-set_other, get_or-replicate, get_or_past}
 use Rattle.pv_model.specs.Syntax.{Expr, number, item, minus, negation, two, Program, end, assign, require, return, when, when_else}
 use Rattle.pv_model.specs.ProgramLaws.{assigns}
-use Rattle.pv_model.specs.Check.{reads, names}
+use Rattle.pv_model.specs.Check.{reads, names_item}
 use Rattle.pv_check.specs.declared.marks.Mark.{Mark}
 use Rattle.pv_check.specs.declared.marks.Mark.TheVariants.{Unnamed, Shared, Exclusive}
 use Rattle.pv_check.specs.Marks.{is_named, is_exclusive, mark_at, read_of, with_read, with_assigned, marks_after_expr, marks_after, AreMarks}
@@ -23,7 +23,7 @@ or-true false = refl
 or-then : (x a b : Bool) {y z : Bool} → y ≡ (x || a) → z ≡ (y || b) → z ≡ (x || (a || b))
 or-then x a b h k = k ∙ ap (λ (t : Bool). t || b) h ∙ or_assoc x a b
 
--- As above, where the second test is told first.
+-- As above, where the second test is decided first.
 or-before : (x a b : Bool) {y z : Bool} → y ≡ (x || a) → z ≡ (y || b) → z ≡ (x || (b || a))
 or-before x a b h k = or-then x a b h k ∙ ap (λ (t : Bool). x || t) (or_comm a b)
 
@@ -119,29 +119,29 @@ exclusive-expr (two op left right) marks n within =
 -- A program is read.
 
 named-program : (program : Program) (marks : List Mark) (n : ℕ) → n < length marks
-    → is_named (mark_at (marks_after program marks) n) ≡ (is_named (mark_at marks n) || names program n)
+    → is_named (mark_at (marks_after program marks) n) ≡ (is_named (mark_at marks n) || names_item program n)
 named-program end marks n within = or-false (is_named (mark_at marks n))
 named-program (assign m e next) marks n within =
     let was = is_named (mark_at marks n) in
     let read = marks_after_expr e marks in
     let here : n < length read = omega (arith, within, length-expr e marks) in
-    or-right was (m == n) (reads e n) (names next n)
-    (or-then was ((m == n) || reads e n) (names next n)
+    or-right was (m == n) (reads e n) (names_item next n)
+    (or-then was ((m == n) || reads e n) (names_item next n)
     (or-before was (reads e n) (m == n) (named-expr e marks n within) (set-tested is_named read m n Exclusive here refl))
     (named-program next (with_assigned read m) n (omega (arith, within, length-assigned e m marks))))
 named-program (require e next) marks n within =
-    or-then (is_named (mark_at marks n)) (reads e n) (names next n) (named-expr e marks n within)
+    or-then (is_named (mark_at marks n)) (reads e n) (names_item next n) (named-expr e marks n within)
     (named-program next (marks_after_expr e marks) n (omega (arith, within, length-expr e marks)))
 named-program (return e next) marks n within =
-    or-then (is_named (mark_at marks n)) (reads e n) (names next n) (named-expr e marks n within)
+    or-then (is_named (mark_at marks n)) (reads e n) (names_item next n) (named-expr e marks n within)
     (named-program next (marks_after_expr e marks) n (omega (arith, within, length-expr e marks)))
 named-program (when e body next) marks n within =
     let was = is_named (mark_at marks n) in
     let read = marks_after_expr e marks in
     let here : n < length read = omega (arith, within, length-expr e marks) in
-    or-right was (reads e n) (names body n) (names next n)
-    (or-then was (reads e n || names body n) (names next n)
-    (or-then was (reads e n) (names body n) (named-expr e marks n within) (named-program body read n here))
+    or-right was (reads e n) (names_item body n) (names_item next n)
+    (or-then was (reads e n || names_item body n) (names_item next n)
+    (or-then was (reads e n) (names_item body n) (named-expr e marks n within) (named-program body read n here))
     (named-program next (marks_after body read) n (omega (arith, here, length-program body read))))
 named-program (when_else e body other next) marks n within =
     let was = is_named (mark_at marks n) in
@@ -149,11 +149,11 @@ named-program (when_else e body other next) marks n within =
     let here : n < length read = omega (arith, within, length-expr e marks) in
     let first = marks_after body read in
     let there : n < length first = omega (arith, here, length-program body read) in
-    or-then was (reads e n) (names body n || (names other n || names next n))
+    or-then was (reads e n) (names_item body n || (names_item other n || names_item next n))
     (named-expr e marks n within)
-    (or-right (is_named (mark_at read n)) (names body n) (names other n) (names next n)
-    (or-then (is_named (mark_at read n)) (names body n || names other n) (names next n)
-    (or-then (is_named (mark_at read n)) (names body n) (names other n) (named-program body read n here) (named-program other first n there))
+    (or-right (is_named (mark_at read n)) (names_item body n) (names_item other n) (names_item next n)
+    (or-then (is_named (mark_at read n)) (names_item body n || names_item other n) (names_item next n)
+    (or-then (is_named (mark_at read n)) (names_item body n) (names_item other n) (named-program body read n here) (named-program other first n there))
     (named-program next (marks_after other first) n (omega (arith, there, length-program other first)))))
 
 -- The test of an assigned item, behind an expression that is read.
@@ -209,16 +209,16 @@ length-marked : (program : Program) (count : ℕ) → length (marks_after progra
 length-marked program count = length-program program (replicate count Unnamed) ∙ length-replicate count Unnamed
 
 named-fresh : (program : Program) (count n : ℕ) → n < count
-    → is_named (mark_at (marks_after program (replicate count Unnamed)) n) ≡ names program n
+    → is_named (mark_at (marks_after program (replicate count Unnamed)) n) ≡ names_item program n
 named-fresh program count n within =
     named-program program (replicate count Unnamed) n (omega (arith, within, length-replicate count Unnamed))
-    ∙ ap (λ (mark : Mark). is_named mark || names program n) (unmarked count n)
+    ∙ ap (λ (mark : Mark). is_named mark || names_item program n) (unmarked count n)
 
-named-past : (program : Program) (count n : ℕ) → count ≤ n → (IsTrue (names program n) → n < count)
-    → is_named (mark_at (marks_after program (replicate count Unnamed)) n) ≡ names program n
+named-past : (program : Program) (count n : ℕ) → count ≤ n → (IsTrue (names_item program n) → n < count)
+    → is_named (mark_at (marks_after program (replicate count Unnamed)) n) ≡ names_item program n
 named-past program count n past known =
     ap is_named (get_or_past (marks_after program (replicate count Unnamed)) n Unnamed (omega (arith, past, length-marked program count)))
-    ∙ sym (false_from_ne_true (names program n) (λ is. absurd (omega (arith, past, known is))))
+    ∙ sym (false_from_ne_true (names_item program n) (λ is. absurd (omega (arith, past, known is))))
 
 exclusive-fresh : (program : Program) (count n : ℕ) → n < count
     → is_exclusive (mark_at (marks_after program (replicate count Unnamed)) n) ≡ assigns program n
@@ -227,7 +227,7 @@ exclusive-fresh program count n within =
     ∙ ap (λ (mark : Mark). is_exclusive mark || assigns program n) (unmarked count n)
 
 -- The marks that a program leaves are its marks, where the table has room for each item that it names.
-pub AreMarks-fresh : (program : Program) (count : ℕ) → ((n : ℕ) → IsTrue (names program n) → n < count)
+pub AreMarks-fresh : (program : Program) (count : ℕ) → ((n : ℕ) → IsTrue (names_item program n) → n < count)
     → AreMarks program (marks_after program (replicate count Unnamed))
 AreMarks-fresh program count known = record {
   named = λ n.

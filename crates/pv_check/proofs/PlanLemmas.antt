@@ -1,4 +1,4 @@
--- The wants of a program, told apart by their sites, are its plan.
+-- The wants of a program, split by their sites, are its plan.
 use Rattle.std.proofs.Common.{◌≡◌, ⊎_elim, ℕ, zero, suc, ◌<◌, true, List, [], ◌∷◌, ◌++◌, map, length, slice_get, get_or, Option, Some, None, refl, ap, subst, ◌∙◌, arith}
 use Rattle.std.specs.Prelude.{IsTrue}
 use Rattle.std.specs.List.{All, AllPairs, Any, Contains}
@@ -12,16 +12,16 @@ use Rattle.pv_base.specs.Want.{Want}
 use Rattle.pv_base.specs.Catalog.{Item}
 use Rattle.pv_model.specs.Syntax.{Program}
 use Rattle.pv_model.specs.ProgramLaws.{assigns}
-use Rattle.pv_model.specs.Check.{Part, names, IsWant, IsPart, IsPlan}
+use Rattle.pv_model.specs.Check.{Part, names_item, IsWant, IsPart, IsPlan}
 use Rattle.pv_base.proofs.ContainsLemmas.{Contains-filter}
-use Rattle.pv_check.specs.Wants.{AreWants, is_home, is_at, wants_at, with_part, parts_among}
+use Rattle.pv_check.specs.Wants.{AreWants, is_home_site, is_at, wants_at, with_part, parts_among}
 
-is_home-true : (home : Option ℕ) (site : ℕ) → is_home home site ≡ true → home ≡ Some site
-is_home-true None site h = absurd (false≢true h)
-is_home-true (Some home) site h = ap Some (eqb-true home site h)
+is_home_site-true : (home : Option ℕ) (site : ℕ) → is_home_site home site ≡ true → home ≡ Some site
+is_home_site-true None site h = absurd (false≢true h)
+is_home_site-true (Some home) site h = ap Some (eqb-true home site h)
 
-is_home-same : (home : Option ℕ) (site : ℕ) → home ≡ Some site → is_home home site ≡ true
-is_home-same home site h = ap (λ (o : Option ℕ). is_home o site) h ∙ eq-eqb site site refl
+is_home_site-same : (home : Option ℕ) (site : ℕ) → home ≡ Some site → is_home_site home site ≡ true
+is_home_site-same home site h = ap (λ (o : Option ℕ). is_home_site o site) h ∙ eq-eqb site site refl
 
 Any-from_Contains : {X : Type 0} (P : X → Type 0) (xs : List X) (x : X) → Contains xs x → P x → Any P xs
 Any-from_Contains P xs x (k, l, at) p = (k, x, l, at, p)
@@ -35,8 +35,8 @@ Any-kept P xs y (k, x, l, at, p) =
 wants-each : (program : Program) (items : List Item) (wants : List Want) (site : ℕ) → AreWants program wants
     → All (IsWant program items site) (wants_at items site wants)
 wants-each program items wants site are = λ k d within. record {
-  named = All-filter (is_at items site) (λ (want : Want). IsTrue (names program want.item)) wants are.named k d within;
-  home = is_home-true _ site (filter_passes (is_at items site) wants k d within);
+  named = All-filter (is_at items site) (λ (want : Want). IsTrue (names_item program want.item)) wants are.named k d within;
+  home = is_home_site-true _ site (filter_passes (is_at items site) wants k d within);
   exclusive = All-filter (is_at items site) (λ (want : Want). want.exclusive ≡ assigns program want.item) wants are.exclusive k d within;
 }
 
@@ -125,5 +125,5 @@ parts_among-plan program items wants sites known homes are = record {
       let place : n < length site_of = omega (arith, within, length-map items (λ (declared : Item). declared.site)) in
       let bound : get_or site_of n 0 < sites = All-map (λ (site : ℕ). site < sites) (λ (declared : Item). declared.site) items homes n 0 place in
       parts-whole items wants want (get_or site_of n 0) sites bound found
-      (is_home-same (slice_get site_of n) (get_or site_of n 0) (slice_get-get_or site_of n 0 place));
+      (is_home_site-same (slice_get site_of n) (get_or site_of n 0) (slice_get-get_or site_of n 0 place));
 }

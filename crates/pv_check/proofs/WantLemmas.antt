@@ -1,22 +1,22 @@
 -- The wants that marks stand for are the program's, and as many as the items that it names.
 use Rattle.std.proofs.Common.{◌≡◌, ⊎_elim, ℕ, zero, suc, ◌<◌, ◌≤◌, Bool, true, false, List, [], ◌∷◌, ◌++◌, map, length, cond, refl, sym, ap, subst, ◌∙◌, arith}
-use Rattle.std.specs.Prelude.{◌↔◌, IsTrue}
+use Rattle.std.specs.Prelude.{IsTrue}
 use Rattle.std.specs.List.{All, AllPairs, Contains}
-use Rattle.std.proofs.lemmas.Bool.{false≢true, false_from_ne_true, cases_lt}
+use Rattle.std.proofs.lemmas.Bool.{false≢true, cases_lt}
 use Rattle.std.proofs.lemmas.List.{length-map, get_or_past}
 use Rattle.std.proofs.lemmas.List.Elements.{All-nil, All-push, All-map, Contains-append_left, Contains-push}
 use Rattle.std.proofs.lemmas.List.Quantifiers.{all_pairs_push}
 use Rattle.pv_base.specs.Want.{Want}
 use Rattle.pv_model.specs.Syntax.{Program}
 use Rattle.pv_model.specs.ProgramLaws.{assigns}
-use Rattle.pv_model.specs.Check.{names, AreItems}
+use Rattle.pv_model.specs.Check.{names_item, AreItems}
 use Rattle.pv_base.proofs.MapLemmas.{Contains-map}
 use Rattle.pv_base.proofs.OrderLemmas.{pairs-map}
 use Rattle.pv_law_programs.proofs.ItemLemmas.{one_items}
 use Rattle.pv_check.specs.declared.marks.Mark.{Mark}
 use Rattle.pv_check.specs.declared.marks.Mark.TheVariants.{Unnamed}
 use Rattle.pv_check.specs.Marks.{is_named, mark_at, AreMarks}
-use Rattle.pv_check.specs.Wants.{AreWants, want_of, wants_among}
+use Rattle.pv_check.specs.Wants.{AreWants, marked_want, wants_among}
 
 -- One more at the end, where a test holds.
 
@@ -44,7 +44,7 @@ wants-below : (marks : List Mark) (n : ℕ) → All (λ (want : Want). want.item
 unfolding wants_among
 wants-below marks zero = All-nil _
 wants-below marks (suc n) =
-    All-tested (λ (want : Want). want.item < suc n) (is_named (mark_at marks n)) (wants_among marks n) (want_of marks n)
+    All-tested (λ (want : Want). want.item < suc n) (is_named (mark_at marks n)) (wants_among marks n) (marked_want marks n)
     (λ k d l. omega (arith, wants-below marks n k d l))
     (λ h. omega arith)
 
@@ -52,16 +52,16 @@ wants-ascending : (marks : List Mark) (n : ℕ) → AllPairs (λ (want later : W
 unfolding wants_among
 wants-ascending marks zero = λ i j d l within. absurd (omega (arith, within))
 wants-ascending marks (suc n) =
-    pairs-tested (λ (want later : Want). want.item < later.item) (is_named (mark_at marks n)) (wants_among marks n) (want_of marks n)
+    pairs-tested (λ (want later : Want). want.item < later.item) (is_named (mark_at marks n)) (wants_among marks n) (marked_want marks n)
     (wants-ascending marks n)
     (wants-below marks n)
 
 wants-named : (program : Program) (marks : List Mark) (n : ℕ) → AreMarks program marks
-    → All (λ (want : Want). IsTrue (names program want.item)) (wants_among marks n)
+    → All (λ (want : Want). IsTrue (names_item program want.item)) (wants_among marks n)
 unfolding wants_among
 wants-named program marks zero are = All-nil _
 wants-named program marks (suc n) are =
-    All-tested (λ (want : Want). IsTrue (names program want.item)) (is_named (mark_at marks n)) (wants_among marks n) (want_of marks n)
+    All-tested (λ (want : Want). IsTrue (names_item program want.item)) (is_named (mark_at marks n)) (wants_among marks n) (marked_want marks n)
     (wants-named program marks n are)
     (λ h. sym (are.named n) ∙ h)
 
@@ -70,28 +70,28 @@ wants-exclusive : (program : Program) (marks : List Mark) (n : ℕ) → AreMarks
 unfolding wants_among
 wants-exclusive program marks zero are = All-nil _
 wants-exclusive program marks (suc n) are =
-    All-tested (λ (want : Want). want.exclusive ≡ assigns program want.item) (is_named (mark_at marks n)) (wants_among marks n) (want_of marks n)
+    All-tested (λ (want : Want). want.exclusive ≡ assigns program want.item) (is_named (mark_at marks n)) (wants_among marks n) (marked_want marks n)
     (wants-exclusive program marks n are)
     (λ h. are.exclusive n (sym (are.named n) ∙ h))
 
-wants-last : (marks : List Mark) (m n : ℕ) → m ≡ n → is_named (mark_at marks m) ≡ true → Contains (wants_among marks (suc n)) (want_of marks m)
+wants-last : (marks : List Mark) (m n : ℕ) → m ≡ n → is_named (mark_at marks m) ≡ true → Contains (wants_among marks (suc n)) (marked_want marks m)
 unfolding wants_among
 wants-last marks m n same named =
-    subst (λ (n : ℕ). Contains (wants_among marks (suc n)) (want_of marks m)) same
-    (Contains-last (is_named (mark_at marks m)) (wants_among marks m) (want_of marks m) named)
+    subst (λ (n : ℕ). Contains (wants_among marks (suc n)) (marked_want marks m)) same
+    (Contains-last (is_named (mark_at marks m)) (wants_among marks m) (marked_want marks m) named)
 
-wants-whole : (marks : List Mark) (m n : ℕ) → m < n → is_named (mark_at marks m) ≡ true → Contains (wants_among marks n) (want_of marks m)
+wants-whole : (marks : List Mark) (m n : ℕ) → m < n → is_named (mark_at marks m) ≡ true → Contains (wants_among marks n) (marked_want marks m)
 unfolding wants_among
 wants-whole marks m zero within named = absurd (omega (arith, within))
 wants-whole marks m (suc n) within named =
     ⊎_elim
-    (λ before. Contains-tested (is_named (mark_at marks n)) (wants_among marks n) (want_of marks n) (want_of marks m)
+    (λ before. Contains-tested (is_named (mark_at marks n)) (wants_among marks n) (marked_want marks n) (marked_want marks m)
     (wants-whole marks m n before named))
     (λ behind. wants-last marks m n (omega (arith, within, behind)) named)
     (cases_lt m n)
 
 -- An item that is named has a mark.
-named-within : (program : Program) (marks : List Mark) (n : ℕ) → AreMarks program marks → IsTrue (names program n) → n < length marks
+named-within : (program : Program) (marks : List Mark) (n : ℕ) → AreMarks program marks → IsTrue (names_item program n) → n < length marks
 named-within program marks n are named =
     ⊎_elim
     (λ within. within)
@@ -116,7 +116,7 @@ AreWants-among program marks count all are = record {
 AreItems-wants : (program : Program) (wants : List Want) → AreWants program wants → AreItems program (map (λ (want : Want). want.item) wants)
 AreItems-wants program wants are = record {
   ascending = pairs-map (λ (n later : ℕ). n < later) (λ (want : Want). want.item) wants are.ascending;
-  each = All-map (λ (n : ℕ). IsTrue (names program n)) (λ (want : Want). want.item) wants are.named;
+  each = All-map (λ (n : ℕ). IsTrue (names_item program n)) (λ (want : Want). want.item) wants are.named;
   whole = λ n named.
       Contains-map (λ (want : Want). want.item) wants (record { item = n; exclusive = assigns program n })
       (are.whole n named);
@@ -131,21 +131,3 @@ length-wants program marks count items all are them =
     ∙ ap (λ (numbers : List ℕ). length numbers)
     (one_items program (map (λ (want : Want). want.item) wants) items
     (AreItems-wants program wants (AreWants-among program marks count all are)) them)
-
-some-none : (wants : List Want) (want : Want) → Contains wants want → length wants ≡ 0 → ⊥
-some-none wants want (k, l, at) none = absurd (omega (arith, l, none))
-
-wants-none : (program : Program) (wants : List Want) → AreWants program wants → ((n : ℕ) → names program n ≡ false) → length wants ≡ 0
-wants-none program [] are none = refl
-wants-none program (want ∷ wants) are none =
-    absurd (false≢true (sym (none want.item) ∙ are.named 0 want (omega arith)))
-
--- The wants are none exactly where the program names no item.
-pub no-wants : (program : Program) (marks : List Mark) (count : ℕ) → length marks ≤ count → AreMarks program marks
-    → length (wants_among marks count) ≡ 0 ↔ ((n : ℕ) → names program n ≡ false)
-no-wants program marks count all are =
-    let wants = wants_among marks count in
-    let wanted = AreWants-among program marks count all are in (
-      λ none n. false_from_ne_true (names program n) (λ named. some-none wants _ (wanted.whole n named) none),
-      wants-none program wants wanted,
-    )

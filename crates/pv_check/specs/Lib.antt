@@ -1,4 +1,4 @@
 pub mod Marks
 pub mod PlanView
-pub mod Refusal
+pub mod CheckRefusal
 pub mod Wants

@@ -2,7 +2,7 @@
 use Rattle.std.specs.Prelude.{◌≡◌, ℕ, Bool, true, false, List, slice_index_or, slice_set, IsTrue}
 use Rattle.pv_model.specs.Syntax.{Expr, number, item, minus, negation, two, Program, end, assign, require, return, when, when_else}
 use Rattle.pv_model.specs.ProgramLaws.{assigns}
-use Rattle.pv_model.specs.Check.{names}
+use Rattle.pv_model.specs.Check.{names_item}
 use Rattle.pv_check.specs.declared.marks.Mark.{Mark}
 use Rattle.pv_check.specs.declared.marks.Mark.TheVariants.{Unnamed, Shared, Exclusive}
 
@@ -56,5 +56,5 @@ marks_after (when_else e body other next) marks =
 
 -- The marks say of each item whether the program names it, and of one that it names whether it assigns it.
 pub record AreMarks (program : Program) (marks : List Mark) : Type 0 where
-  pub named : (n : ℕ) → is_named (mark_at marks n) ≡ names program n
-  pub exclusive : (n : ℕ) → IsTrue (names program n) → is_exclusive (mark_at marks n) ≡ assigns program n
+  pub named : (n : ℕ) → is_named (mark_at marks n) ≡ names_item program n
+  pub exclusive : (n : ℕ) → IsTrue (names_item program n) → is_exclusive (mark_at marks n) ≡ assigns program n

@@ -2,5 +2,5 @@
 use Rattle.pv_check.specs.declared.plan.Part.TheInside.{Inside}
 use Rattle.pv_model.specs.Check as model
 
-abbrev pub part_of : Inside → model.Part
-part_of inside = record { site = inside.site.0; wants = inside.wants.items }
+abbrev pub plan_part : Inside → model.Part
+plan_part inside = record { site = inside.site.0; wants = inside.wants.items }

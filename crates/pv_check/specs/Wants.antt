@@ -5,35 +5,35 @@ use Rattle.pv_base.specs.Want.{Want}
 use Rattle.pv_base.specs.Catalog.{Item}
 use Rattle.pv_model.specs.Syntax.{Program}
 use Rattle.pv_model.specs.ProgramLaws.{assigns}
-use Rattle.pv_model.specs.Check.{Part, names}
+use Rattle.pv_model.specs.Check.{Part, names_item}
 use Rattle.pv_check.specs.declared.marks.Mark.{Mark}
 use Rattle.pv_check.specs.Marks.{is_named, is_exclusive, mark_at}
 
 -- The wants are those of the program, in the order of the items, each item once.
 pub record AreWants (program : Program) (wants : List Want) : Type 0 where
   pub ascending : AllPairs (λ want later. want.item < later.item) wants
-  pub named : All (λ want. IsTrue (names program want.item)) wants
+  pub named : All (λ want. IsTrue (names_item program want.item)) wants
   pub exclusive : All (λ want. want.exclusive ≡ assigns program want.item) wants
-  pub whole : (n : ℕ) → IsTrue (names program n) → Contains wants (record { item = n; exclusive = assigns program n })
+  pub whole : (n : ℕ) → IsTrue (names_item program n) → Contains wants (record { item = n; exclusive = assigns program n })
 
 -- the want that the item's mark stands for
-abbrev pub want_of : List Mark → ℕ → Want
-want_of marks n = record { item = n; exclusive = is_exclusive (mark_at marks n) }
+abbrev pub marked_want : List Mark → ℕ → Want
+marked_want marks n = record { item = n; exclusive = is_exclusive (mark_at marks n) }
 
 -- the wants of the first items, so many
 unfoldable pub wants_among : List Mark → ℕ → List Want
 wants_among marks zero = []
 wants_among marks (suc n) =
-    if is_named (mark_at marks n) then wants_among marks n ++ want_of marks n ∷ [] else wants_among marks n
+    if is_named (mark_at marks n) then wants_among marks n ++ marked_want marks n ∷ [] else wants_among marks n
 
 -- The site is this home, if there is one.
-abbrev pub is_home : Option ℕ → ℕ → Bool
-is_home None site = false
-is_home (Some home) site = home == site
+abbrev pub is_home_site : Option ℕ → ℕ → Bool
+is_home_site None site = false
+is_home_site (Some home) site = home == site
 
 -- The want is of an item of the site.
 abbrev pub is_at : List Item → ℕ → Want → Bool
-is_at items site want = is_home (slice_get (map (λ declared. declared.site) items) want.item) site
+is_at items site want = is_home_site (slice_get (map (λ declared. declared.site) items) want.item) site
 
 -- the wants of items of the site
 abbrev pub wants_at : List Item → ℕ → List Want → List Want

@@ -1,10 +1,9 @@
 // Whether a program may run, and what it then wants of each site.
-ghost use Rattle.std.specs.Prelude.{◌≡◌, ◌≢◌, ◌<◌, ◌↔◌, ℕ, List, false, Err, Some, None, length, All, IsTrue, OnOk, IfOk, IfErr, IfSome};
-ghost use Rattle.pv_base.specs.Answer.{RefusesFirst};
+ghost use Rattle.std.specs.Prelude.{◌≡◌, ◌<◌, ℕ, List, Err, Some, None, length, All, IsTrue, IfOk};
+ghost use Rattle.pv_base.specs.Answer.{Refuses};
 ghost use Rattle.pv_model.specs.Syntax as model;
-ghost use Rattle.pv_model.specs.Check.{names, AreItems, IsPlan};
-ghost use Rattle.pv_model.specs.Plan.{plan_of};
-ghost use Rattle.pv_check.specs.Refusal.{refusal};
+ghost use Rattle.pv_model.specs.Check.{names_item, AreItems, IsPlan};
+ghost use Rattle.pv_check.specs.CheckRefusal.{check_refusal};
 ghost use Rattle.pv_check.specs.Wants.{AreWants, wants_at};
 
 use crate::marks::{ROOM, count_named, marks_of, wants_of};
@@ -35,16 +34,13 @@ pub fn check(
     catalog: &Catalog,
     query: bool,
 ) -> Result<Plan, CheckError>
-    requires { (n : ℕ) → IsTrue (names program.now n) → n < length catalog.now.items }
-    ensures plan { IfOk result (λ plan. IsPlan program.now catalog.now.items plan.parts.items) }
-
+    requires { (n : ℕ) → IsTrue (names_item program.now n) → n < length catalog.now.items }
     // There is one such plan: a law.
-    ensures computed { IfOk result (λ plan. plan.parts.items ≡ plan_of program.now catalog.now.items) }
+    ensures plan { IfOk result (λ plan. IsPlan program.now catalog.now.items plan.parts.items) }
 
     // Any list of the items that the program names is the same; that there is one is a law.
     ensures refused { (items : List ℕ) → AreItems program.now items →
-        RefusesFirst (refusal MAX_PROGRAM_ITEMS (length items) program.now query) CheckError.NoMemory result }
-    ensures no_item { result ≡ Err CheckError.NoItem ↔ ((n : ℕ) → names program.now n ≡ false) }
+        Refuses (check_refusal MAX_PROGRAM_ITEMS (length items) program.now query) CheckError.NoMemory result }
 {
     // The table of marks has room for each item of the catalog.
     prove!(catalog.len() as usize <= ROOM);
@@ -59,8 +55,7 @@ pub fn check(
 
 // Why a program is refused that names this many items.
 fn refusal(program: &Program, count: u32, query: bool) -> Option<CheckError>
-    ensures cause { result ≡ refusal MAX_PROGRAM_ITEMS count program.now query }
-    ensures no_item { result ≡ Some CheckError.NoItem ↔ (count ≡ 0) }
+    ensures { result ≡ check_refusal MAX_PROGRAM_ITEMS count program.now query }
 {
     if count == 0 {
         return Some(CheckError::NoItem);

@@ -1,7 +1,7 @@
 // Which items a program names and which it assigns, found in one reading of it.
-ghost use Rattle.std.specs.Prelude.{◌≡◌, ◌<◌, ◌↔◌, ℕ, List, false, length, IsTrue, IfOk};
+ghost use Rattle.std.specs.Prelude.{◌≡◌, ◌<◌, ℕ, List, length, IsTrue, IfOk};
 ghost use Rattle.pv_model.specs.Syntax as model;
-ghost use Rattle.pv_model.specs.Check.{names, AreItems};
+ghost use Rattle.pv_model.specs.Check.{names_item, AreItems};
 ghost use Rattle.pv_ast.specs.ExprView.{expr_of};
 ghost use Rattle.pv_ast.specs.ProgramView.{followed_by};
 ghost use Rattle.pv_check.specs.Wants.{AreWants};
@@ -45,7 +45,7 @@ pub(crate) type Marks = [Mark; ROOM];
 
 /// How the program uses each item.
 pub(crate) fn marks_of(program: &Program) -> Marks
-    requires { (n : ℕ) → IsTrue (names program.now n) → n < ROOM }
+    requires { (n : ℕ) → IsTrue (names_item program.now n) → n < ROOM }
     ensures { AreMarks program.now result }
 {
     let mut marks = [Mark::Unnamed; ROOM];
@@ -56,8 +56,7 @@ pub(crate) fn marks_of(program: &Program) -> Marks
 /// How many items the program names.
 #[tactic(auto, unfolding(crate::specs::Wants::wants_among))]
 pub(crate) fn count_named(marks: &Marks) -> u32
-    ensures count { (program : model.Program) → AreMarks program marks.now → (items : List ℕ) → AreItems program items → result ≡ length items }
-    ensures none { (program : model.Program) → AreMarks program marks.now → (result ≡ 0 ↔ ((n : ℕ) → names program n ≡ false)) }
+    ensures { (program : model.Program) → AreMarks program marks.now → (items : List ℕ) → AreItems program items → result ≡ length items }
 {
     let mut count = 0;
     for mark in marks {

@@ -21,9 +21,9 @@ impl Model for Part {
 
     ghost Value = { model.Part };
 
-    ghost use Rattle.pv_check.specs.PlanView.{part_of};
+    ghost use Rattle.pv_check.specs.PlanView.{plan_part};
 
-    ghost view = { part_of };
+    ghost view = { plan_part };
 }
 
 /// What a program wants of each site, known before the program runs.
@@ -41,7 +41,7 @@ pub struct Plan {
 pub enum CheckError {
     /// The program names no item: its plan would be empty.
     NoItem,
-    /// The program names this many items, more than [`MAX_PROGRAM_ITEMS`].
+    /// The program names this many items, more than [`pv_base::MAX_PROGRAM_ITEMS`].
     TooManyItems(u32),
     /// The program is a query, and an assignment stands in it, whether or not it would run.
     Assigns,

@@ -1,7 +1,7 @@
 // Worked programs and their plans, over a catalog whose item n is at site n % 3.
 ghost use Rattle.std.specs.Prelude.{◌≡◌, ◌<◌, ◌≤◌, ◌||◌, ◌==◌, ℕ, length, IsTrue, IfOk};
 ghost use Rattle.pv_model.specs.Syntax.{end};
-ghost use Rattle.pv_model.specs.Check.{reads, names};
+ghost use Rattle.pv_model.specs.Check.{reads, names_item};
 ghost use Rattle.pv_ast.specs.ExprView.{expr_of};
 ghost use Rattle.pv_ast.specs.ProgramView.{followed_by};
 
@@ -37,7 +37,7 @@ fn only(alloc: Global, stmt: Stmt) -> Result<Program, NoMemory>
 
 // `a := b`
 fn a_from_b(alloc: Global) -> Result<Program, NoMemory>
-    ensures { IfOk result (λ program. (n : ℕ) → IsTrue (names program n) → n < 17) }
+    ensures { IfOk result (λ program. (n : ℕ) → IsTrue (names_item program n) → n < 17) }
 {
     only(
         alloc,
@@ -50,7 +50,7 @@ fn a_from_b(alloc: Global) -> Result<Program, NoMemory>
 
 // `if 1 { if b { } } else { a := 1 }`
 fn a_in_else_b_in_test(alloc: Global) -> Result<Program, NoMemory>
-    ensures { IfOk result (λ program. (n : ℕ) → IsTrue (names program n) → n < 17) }
+    ensures { IfOk result (λ program. (n : ℕ) → IsTrue (names_item program n) → n < 17) }
 {
     let inner = Stmt::If {
         test: Expr::Item(B),
@@ -77,14 +77,14 @@ fn a_in_else_b_in_test(alloc: Global) -> Result<Program, NoMemory>
 
 // `require a`
 fn require_a(alloc: Global) -> Result<Program, NoMemory>
-    ensures { IfOk result (λ program. (n : ℕ) → IsTrue (names program n) → n < 17) }
+    ensures { IfOk result (λ program. (n : ℕ) → IsTrue (names_item program n) → n < 17) }
 {
     only(alloc, Stmt::Require(Expr::Item(A)))
 }
 
 // `return 1`
 fn return_1(alloc: Global) -> Result<Program, NoMemory>
-    ensures { IfOk result (λ program. (n : ℕ) → IsTrue (names program n) → n < 17) }
+    ensures { IfOk result (λ program. (n : ℕ) → IsTrue (names_item program n) → n < 17) }
 {
     only(alloc, Stmt::Return(Expr::Number(1)))
 }
@@ -93,7 +93,7 @@ fn return_1(alloc: Global) -> Result<Program, NoMemory>
 fn b_from_sum(alloc: Global, count: u32) -> Result<Program, NoMemory>
     requires some { 2 ≤ count }
     requires known { count ≤ 17 }
-    ensures { IfOk result (λ program. (n : ℕ) → IsTrue (names program n) → n < 17) }
+    ensures { IfOk result (λ program. (n : ℕ) → IsTrue (names_item program n) → n < 17) }
 {
     let value = sum(alloc, count)?;
     only(alloc, Stmt::Assign { item: B, value })
@@ -136,7 +136,7 @@ fn listed(alloc: Global, plan: &Plan) -> Result<Vec<(u8, u32, bool)>, NoMemory> 
 
 // why a program of these items is refused
 fn refusal(alloc: Global, program: &Program, catalog: &Catalog, query: bool) -> Option<CheckError>
-    requires known { (n : ℕ) → IsTrue (names program.now n) → n < 17 }
+    requires known { (n : ℕ) → IsTrue (names_item program.now n) → n < 17 }
     requires items { length catalog.now.items ≡ 17 }
 {
     check(alloc, program, catalog, query).err()

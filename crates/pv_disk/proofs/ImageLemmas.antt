@@ -1,12 +1,12 @@
 -- What one more write makes of the record of writes.
-use Rattle.std.proofs.Common.{◌≡◌, ℕ, ◌+◌, ◌-◌, ◌<◌, ◌≤◌, Bool, true, false, List, [], ◌∷◌, ◌++◌, length, map, take, drop, replicate, get_or, set, arith, refl, sym, ◌∙◌, ap, subst, length-append, length-take}
-use Rattle.std.proofs.lemmas.List.{map-append, take_more, take_all, set_at, take-append-drop}
+use Rattle.std.proofs.Common.{◌≡◌, ℕ, ◌+◌, ◌-◌, ◌≤◌, true, false, List, [], ◌∷◌, ◌++◌, length, map, take, drop, replicate, get_or, set, arith, refl, sym, ◌∙◌, ap, subst, length-take}
+use Rattle.std.proofs.lemmas.List.{map-append, take_more, take_all, set_at}
 use Rattle.pv_law_disk.specs.Disk.{overlaid}
-use Rattle.pv_disk.specs.MemImage.{Range, Moment, AllInside, filled, written_at}
+use Rattle.pv_disk.specs.MemImage.{Range, AllInside, filled, written_at}
 use Rattle.pv_disk.specs.MemHistory.{range_of, content_before, unsynced, moment_of, moments_of, Made, CanUndo, MarksLast}
 use Rattle.pv_disk.specs.declared.image.Write.{Write}
 use Rattle.pv_disk.proofs.FillLemmas.{filled-push, AllInside-split}
-use Rattle.pv_disk.proofs.HistoryLemmas.{unsynced-push, unsynced-mark, moments_of-push, content_before-push, CanUndo-push, CanUndo-pop, CanTakeBack, MarksLast-nil, MarksLast-push}
+use Rattle.pv_disk.proofs.HistoryLemmas.{unsynced-push, unsynced-mark, moments_of-push, content_before-push, CanUndo-push, CanUndo-pop, CanTakeBack, MarksLast-push}
 
 -- A write of these bytes that begins on this content.
 pub record Begins (write : Write) (content bytes : List ℕ) : Type 0 where

@@ -1,9 +1,10 @@
 -- How a copy of a list of contents grows.
 use Rattle.std.proofs.Common.{◌≡◌, ◌⊎◌, inl, inr, ⊎_elim, ℕ, ◌+◌, ◌<◌, ◌≤◌, List, [], ◌∷◌, ◌++◌, Option, Some, map, length, take, get_or, arith, sym, ◌∙◌, ap, Vec, Global, length-append, refl, true, false}
 use Rattle.std.proofs.lemmas.List.{take_more, map-append, take-append-le, take_all}
+use Rattle.std.proofs.lemmas.List.Sums.{sum_by-append, sum_by-cons}
 use Rattle.std.proofs.lemmas.Bool.{cases_lt}
-use Rattle.pv_law_disk.specs.Count.{one_more}
-use Rattle.pv_law_disk.specs.Size.{Contents}
+use Rattle.pv_base.specs.Fault.{risen}
+use Rattle.pv_law_disk.specs.Size.{Contents, size_of}
 use Rattle.pv_law_disk.specs.Log.{LeavesOnly, IsBeforeOrAfter, GoesDown, MayAdd}
 use Rattle.pv_disk.specs.ListLog.{ListState, WasHeld}
 use Rattle.pv_disk.specs.ListLaws.{list_model, held_now}
@@ -47,14 +48,19 @@ pushed_moments old new content was grown is =
       keeps = λ t left le held. (held.0, held.1, omega (arith, held.2, longer), held.3 ∙ ap Some (sym (front held.0 held.2)));
     }
 
+size_of-push : (contents : Contents) (content : List ℕ) → size_of (contents ++ content ∷ []) ≡ size_of contents + (5 + length content)
+size_of-push contents content =
+    omega (arith, sum_by-append (λ c. 5 + length c) contents (content ∷ []), sum_by-cons (λ c. 5 + length c) content [])
+
 -- An append that fails and keeps its content.
-pub kept_append : (old new : ListState) (content : List ℕ) → old.is_down ≡ false → new.is_down ≡ true → old.faults ≤ new.faults → new.faults ≡ one_more old.faults → new.limit ≡ old.limit
+pub kept_append : (old new : ListState) (content : List ℕ) → old.is_down ≡ false → new.is_down ≡ true → old.faults ≤ new.faults → new.faults ≡ risen old.faults → new.limit ≡ old.limit
     → new.contents ≡ old.contents ++ content ∷ [] → GoesDown list_model old new × MayAdd list_model old new content
 kept_append old new content up down rises counted limit grown = (
-  record { was_up = up; is_down = down; faults = rises; cause = omega (arith, counted) },
+  record { was_up = up; is_down = down; faults = rises; fault = omega (arith, counted) },
   record {
     contents = λ was is. let same : old.contents ≡ was = cc in inr (ap Some grown ∙ ap (λ (l : Contents). Some (l ++ content ∷ [])) same);
-    told = refl;
+    known = refl;
+    size = inr (ap size_of grown ∙ size_of-push old.contents content);
     limit = limit;
     any_moment = λ was is. pushed_moments old new content was grown is;
   },

@@ -4,11 +4,11 @@ use Rattle.std.proofs.lemmas.List.{drop_at, drop-append-le, append-nil}
 use Rattle.pv_base.specs.declared.mode.Mode.{Mode}
 use Rattle.pv_base.specs.declared.mode.Mode.TheVariants.{Lost, Kept, Torn as TornAll}
 use Rattle.pv_law_disk.specs.Disk.{overlaid, Torn, Only, LeavesOnly, LeftTorn, Syncs, Writes}
-use Rattle.pv_law_disk.specs.Count.{one_more}
+use Rattle.pv_base.specs.Fault.{risen}
 use Rattle.pv_base.specs.declared.failure.Failed.{Failed as Fault}
 use Rattle.pv_disk.specs.MemImage.{ImageState, Moment, Range, Reaches, MayLeave, MightHaveLeft, AreMade, IsMade, settled_at, written_at, filled, left_by, NotesMoment}
 use Rattle.pv_disk.specs.MemDisk.{MemState}
-use Rattle.pv_disk.specs.MemLaws.{LeftNow, LeftSince, mem_model, left_now}
+use Rattle.pv_disk.specs.MemLaws.{LeftNow, LeftSince, mem_model}
 use Rattle.pv_law_disk.proofs.DiskLemmas.{LeavesOnly-trans}
 use Rattle.pv_law_disk.proofs.OverlayLemmas.{Torn-overlaid, Torn-refl, length-overlaid}
 use Rattle.pv_disk.proofs.FillLemmas.{AreMade-Reaches, AreMade-inside, Reaches-filled, Reaches-synced, Reaches-push, Torn-filled}
@@ -135,11 +135,11 @@ module _ {X : Type 0} (old new : MemState) (made : IsMade old.image) (room : old
       record {
         observes = record {
           content = ap Some content;
-          told = refl;
+          known = refl;
           any_moment = settles old new (LeftNow old.image) made noted settled (λ none. content) (inl content) (λ left is. is);
           room = room;
           writes = free;
-          faults = (omega (arith, faults), tt);
+          fault = (omega (arith, faults), tt);
         };
         durable = λ held is left may.
             let same : old.image.content ≡ held = cc in
@@ -147,17 +147,17 @@ module _ {X : Type 0} (old new : MemState) (made : IsMade old.image) (room : old
       }
 
   pub sync_fired : (mode : Mode) (e : Fault) → new.image.content ≡ left_by mode old.image.now old.image.content → new.image.now ≡ settled_at new.image.content
-      → old.faults ≤ new.faults → new.faults ≡ one_more old.faults → Syncs mem_model {X = X} old new (Err e)
+      → old.faults ≤ new.faults → new.faults ≡ risen old.faults → Syncs mem_model {X = X} old new (Err e)
   sync_fired mode e content settled rises counted =
       record {
         observes = record {
           content = tt;
-          told = refl;
+          known = refl;
           any_moment = settles old new (LeftNow old.image) made noted settled (λ none. content ∙ left_by_none mode old.image made none)
               (subst (LeftNow old.image) (sym content) (left_by_sync mode old.image made)) (λ left is. is);
           room = room;
           writes = free;
-          faults = (rises, omega (arith, counted));
+          fault = (rises, omega (arith, counted));
         };
         durable = tt;
       }
@@ -168,17 +168,17 @@ module _ {X : Type 0} (old new : MemState) (place : ℕ) (bytes : List ℕ) (mad
       → new.image.past ≡ old.image.past ++ old.image.now ∷ [] → new.faults ≡ old.faults → Writes mem_model {X = X} old new place bytes (Ok x)
   write_done x content now past faults = record {
     content = λ was is. let same : old.image.content ≡ was = cc in ap Some content ∙ ap (λ (l : List ℕ). Some (overlaid l place bytes)) same;
-    told = refl;
+    known = refl;
     any_moment = writes old new place bytes made within content now past;
     room = room;
     writes = free;
-    faults = (omega (arith, faults), tt);
+    fault = (omega (arith, faults), tt);
   }
 
   -- The write was made, and then the crash of the mode.
   pub write_fired : (mid : MemState) (mode : Mode) (e : Fault) → mid.image.content ≡ overlaid old.image.content place bytes
       → mid.image.now ≡ written_at old.image.now place (length bytes) → mid.image.past ≡ old.image.past ++ old.image.now ∷ [] → IsMade mid.image → NotesMoment mid.image new.image
-      → new.image.content ≡ left_by mode mid.image.now mid.image.content → new.image.now ≡ settled_at new.image.content → old.faults ≤ new.faults → new.faults ≡ one_more old.faults
+      → new.image.content ≡ left_by mode mid.image.now mid.image.content → new.image.now ≡ settled_at new.image.content → old.faults ≤ new.faults → new.faults ≡ risen old.faults
       → Writes mem_model {X = X} old new place bytes (Err e)
   write_fired mid mode e content now past mid_made noted crashed settled rises counted =
       let P = LeftTorn mem_model old place (length bytes) in
@@ -191,9 +191,9 @@ module _ {X : Type 0} (old new : MemState) (place : ℕ) (bytes : List ℕ) (mad
       (λ left is. first.each left (inl is)) in
       record {
         content = tt;
-        told = refl;
+        known = refl;
         any_moment = LeavesOnly-trans mem_model old mid new P P P first second (λ left is. is) (λ left is. is);
         room = room;
         writes = free;
-        faults = (rises, omega (arith, counted));
+        fault = (rises, omega (arith, counted));
       }

@@ -1,6 +1,6 @@
 -- What a log in memory is, and what its calls make of it.
-use Rattle.std.specs.Prelude.{◌≡◌, ℕ, ◌+◌, ◌-◌, ◌^◌, ◌≤◌, ◌<◌, ◌==◌, min, Bool, false, not, is_none, MatchBool, if◌then◌else◌, List, [], ◌∷◌, ◌++◌, Option, Some, None, length, take, find}
-use Rattle.pv_law_disk.specs.Count.{one_more}
+use Rattle.std.specs.Prelude.{◌≡◌, ℕ, ◌+◌, ◌≤◌, ◌<◌, ◌==◌, Bool, false, not, is_none, MatchBool, if◌then◌else◌, List, [], ◌∷◌, ◌++◌, Option, Some, None, length, take, find}
+use Rattle.pv_base.specs.Fault.{risen}
 use Rattle.pv_law_disk.specs.Size.{Contents, size_of}
 use Rattle.pv_law_disk.specs.Calls.{LogCall, read_all, reserve, append}
 use Rattle.pv_disk.specs.declared.list_log.AppendFail.{AppendFail}
@@ -31,8 +31,8 @@ pub record AppendsToList (old : ListState) (content : List ℕ) (ok : Bool) (new
   pub succeeds : ok ≡ is_none (planned old.fails old.appends)
   pub becomes : new ≡ record old {
     contents = contents_after old.contents content (planned old.fails old.appends);
-    appends = one_more old.appends;
-    faults = if ok then old.faults else one_more old.faults;
+    appends = risen old.appends;
+    faults = if ok then old.faults else risen old.faults;
     is_down = not ok;
     places = new.places;
     bytes = new.bytes;

@@ -6,7 +6,7 @@ use Rattle.pv_disk.specs.declared.log_error.LogError.{LogError}
 use Rattle.pv_disk.specs.declared.log_error.LogError.TheVariants.{Failed, Down, Full, NotOurs, NoMemory}
 
 module _ {W : Type 0} (M : LogModel W) where
-  -- What a reading does, by its answer. That what it found isn't a log's is told by no log that tells its contents.
+  -- What a reading does, by its answer. That what it found isn't a log's is answered by no log whose contents are known.
   abbrev pub Reads : {X : Type 0} → W → W → Result X LogError → Type 0
   Reads old new (Ok _) = StaysUp M old new × Keeps M old new
   Reads old new (Err Failed) = GoesDown M old new × Keeps M old new

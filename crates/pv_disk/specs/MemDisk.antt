@@ -1,11 +1,10 @@
 -- What a disk in memory is, and what each call makes of it.
-use Rattle.std.specs.Prelude.{◌≡◌, ℕ, ◌+◌, ◌-◌, ◌≤◌, ◌==◌, nat_le, Bool, true, false, if◌then◌else◌, List, Option, Some, None, length, is_some, is_none}
+use Rattle.std.specs.Prelude.{◌≡◌, ℕ, ◌-◌, ◌==◌, nat_le, Bool, true, false, if◌then◌else◌, List, Option, Some, None, length}
 use Rattle.pv_base.specs.declared.mode.Mode.{Mode}
-use Rattle.pv_base.specs.declared.mode.Mode.TheVariants.{Lost, Kept, Torn}
 use Rattle.pv_law_disk.specs.Calls.{DiskCall, len, read, make_room, write, sync}
 use Rattle.pv_law_disk.specs.Disk.{overlaid}
-use Rattle.pv_law_disk.specs.Count.{one_more}
-use Rattle.pv_disk.specs.MemImage.{ImageState, Moment, filled, settled_at, written_at, left_by}
+use Rattle.pv_base.specs.Fault.{risen}
+use Rattle.pv_disk.specs.MemImage.{ImageState, Moment, settled_at, written_at, left_by}
 use Rattle.pv_disk.specs.declared.arms.Arm.{Arm}
 
 -- Which write or sync fires, and whether the last one that fired was a stop; how many reads come before one that fails; how many writes
@@ -37,7 +36,7 @@ fired_after (Some arm) fired = if nat_le arm.left 1 then Some arm.stop else fire
 
 -- After a write or a sync was called.
 abbrev pub counted : ArmsState → ArmsState
-counted arms = record arms { armed = armed_after arms.armed; fired = fired_after arms.armed arms.fired; calls = one_more arms.calls }
+counted arms = record arms { armed = armed_after arms.armed; fired = fired_after arms.armed arms.fired; calls = risen arms.calls }
 
 -- How many reads still come before one that fails, after one that didn't.
 abbrev pub fail_read_after : Option ℕ → Option ℕ
@@ -53,7 +52,7 @@ read_fails (Some n) = n == 0
 abbrev pub after_read : MemState → MemState
 after_read disk = record disk {
   arms = record disk.arms { fail_read = fail_read_after disk.arms.fail_read };
-  faults = if read_fails disk.arms.fail_read then one_more disk.faults else disk.faults;
+  faults = if read_fails disk.arms.fail_read then risen disk.faults else disk.faults;
 }
 
 -- A disk with this content, at this moment, with these arms and faults. What was before and what room there is isn't said.
@@ -67,7 +66,7 @@ pub record IsNow (content : List ℕ) (now : Moment) (arms : ArmsState) (faults 
 abbrev pub Changes : MemState → Option Mode → List ℕ → Moment → Moment → Bool → MemState → Type 0
 Changes old None content before after ok new = (ok ≡ true) × IsNow content after (counted old.arms) old.faults new
 Changes old (Some mode) content before after ok new =
-    (ok ≡ false) × IsNow (left_by mode before content) (settled_at (left_by mode before content)) (counted old.arms) (one_more old.faults) new
+    (ok ≡ false) × IsNow (left_by mode before content) (settled_at (left_by mode before content)) (counted old.arms) (risen old.faults) new
 
 -- What a call makes of a memory disk.
 abbrev pub MemGoes : MemState → DiskCall → Bool → MemState → Type 0

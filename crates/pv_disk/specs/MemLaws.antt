@@ -1,6 +1,6 @@
 -- A memory disk as a disk.
-use Rattle.std.specs.Prelude.{◌≡◌, ◌⊎◌, ℕ, ◌≤◌, ◌<◌, List, [], Some, length, drop}
-use Rattle.std.proofs.Common.{inl, inr, sym, ◌∙◌, ap, arith, subst}
+use Rattle.std.specs.Prelude.{◌≡◌, ◌⊎◌, ℕ, List, Some, length, drop}
+use Rattle.std.proofs.Common.{inl, inr, sym, arith, subst}
 use Rattle.std.proofs.lemmas.List.{drop_all}
 use Rattle.pv_law_disk.specs.DiskModel.{DiskModel}
 use Rattle.pv_disk.specs.MemImage.{ImageState, Moment, MayLeave, MightHaveLeft}

@@ -16,7 +16,7 @@ pub(crate) struct Arm {
     stop: bool,
 }
 
-/// Which calls of a memory disk fail, and how many of them changed it.
+/// Which calls of a memory disk fail, and how many writes and syncs were called.
 #[derive(Debug, Drop)]
 pub(crate) struct Arms {
     /// The write or sync that fires.
@@ -24,7 +24,7 @@ pub(crate) struct Arms {
     /// The kind of the last one that fired.
     fired: Option<bool>,
     /// How many reads come before one that fails.
-    fail_read: Option<u32>,
+    fail_read: Option<u64>,
     /// How many writes and syncs were called, up to u64's greatest value.
     calls: u64,
 }
@@ -71,7 +71,7 @@ impl Arms {
     }
 
     /// Lets a read fail, after `n` others.
-    pub(crate) fn fail_read(&mut self, n: u32)
+    pub(crate) fn fail_read(&mut self, n: u64)
         ensures { self.new ≡ record self.old { fail_read = Some n } }
     {
         self.fail_read = Some(n);

@@ -14,8 +14,8 @@ use pv_base::Failed;
 /// bytes stay. After a sync that succeeds a crash leaves what reads give. After a call that failed, reads give one of the
 /// contents that a crash might have left.
 ///
-/// A disk may tell what it holds, which is for the proof alone: whether it does is fixed when it is made. What is said of
-/// its content holds where it tells it; all else holds of every disk.
+/// What a disk holds may be known, which is for the proof alone: whether it is is fixed when the disk is made. What is said of
+/// its content holds where it is known; all else holds of every disk.
 pub trait Disk: Drop {
     /// The disk as the clauses below see it: what it holds, what a crash may leave of it, and for what it has room.
     ghost model: { DiskModel Self };

@@ -1,4 +1,4 @@
-// A log in memory, whose appends fail where they are told to.
+// A log in memory, whose appends fail where that is asked for.
 ghost use Rattle.std.specs.Prelude.{◌≡◌, ◌<◌, ◌≤◌, ◌+◌, ◌-◌, ◌^◌, ◌++◌, ◌∷◌, ℕ, Some, [], false, map, length, take, is_ok, IfOk, OnOk, IsTrue, vec_len, vec_capacity};
 ghost use Rattle.pv_law_disk.specs.Size.{Contents, size_of};
 ghost use Rattle.pv_law_disk.specs.Calls.{read_all, reserve, append};
@@ -21,7 +21,7 @@ pub struct AppendFail {
     pub kept: bool,
 }
 
-/// A log in memory. It tells what it holds. Its appends fail where they are told to, as if a disk under it had failed.
+/// A log in memory. What it holds is known. Its appends fail where that is asked for, as if a disk under it had failed.
 #[derive(Debug, Drop)]
 pub struct ListLog {
     /// What it holds.

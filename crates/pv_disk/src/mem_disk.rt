@@ -1,9 +1,9 @@
-// A disk in memory, whose calls fail where they are told to.
+// A disk in memory, whose calls fail where that is asked for.
 ghost use Rattle.std.specs.Prelude.{◌≡◌, ◌≤◌, ◌+◌, ◌^◌, ℕ, List, Some, None, [], length, take, drop, is_ok, vec_len, IfOk, OnOk, OnErr};
 ghost use Rattle.pv_law_disk.specs.Calls.{len, read, make_room, write, sync};
 ghost use Rattle.pv_law_disk.specs.Disk.{overlaid, Observes, Writes, Syncs};
 ghost use Rattle.pv_disk.specs.DiskAnswers.{Reserves};
-ghost use Rattle.pv_law_disk.specs.Count.{one_more};
+ghost use Rattle.pv_base.specs.Fault.{risen};
 ghost use Rattle.pv_disk.specs.MemImage.{settled_at};
 ghost use Rattle.pv_disk.specs.MemDisk.{MemState, MemGoes};
 ghost use Rattle.pv_disk.specs.MemLaws.{mem_model};
@@ -15,10 +15,11 @@ use pv_base::{Failed, Mode};
 use std::alloc::Global;
 use std::marker::Model;
 
-/// A disk in memory. It tells what it holds.
+/// A disk in memory. What it holds is known.
 ///
 /// A write costs its bytes. A sync costs nothing that grows with the disk or its writes, and wants no memory; a write or a
-/// sync that fires costs the bytes written since the last sync. For each write 32 bytes of its record are kept.
+/// sync that fires costs the bytes written since the last sync. The disk keeps a record of 32 bytes for each write that was ever made, and
+/// what the writes since the last sync wrote over.
 #[derive(Drop)]
 pub struct MemDisk {
     /// What it holds, and what a crash may leave.
@@ -64,7 +65,7 @@ impl MemDisk {
     }
 
     /// Lets the `k`-th write or sync from now on, counted from 1, fire in place of one armed before: it answers `Failed`,
-    /// which is counted, and leaves what the mode says, synced. It fires once. `stop` is what [`MemDisk::fired`] then tells.
+    /// which is counted, and leaves what the mode says, synced. It fires once. `stop` is what [`MemDisk::fired`] then answers.
     pub fn arm(&mut self, k: u32, mode: Mode, stop: bool)
         requires { 1 ≤ k }
         ensures { self.new ≡ record self.old { arms = record self.old.arms { armed = Some (record { left = k; mode = mode; stop = stop }); fired = None } } }
@@ -79,8 +80,9 @@ impl MemDisk {
         self.arms.mend();
     }
 
-    /// Lets the `n`-th call of `read_at` from now on, counted from 0, fail, in place of one told before.
-    pub fn fail_read(&mut self, n: u32)
+    /// Lets the `n`-th call of `read_at` from now on, counted from 0, answer `Failed`, which is counted; an earlier call of `fail_read` that
+    /// hasn't taken effect yet has none any more.
+    pub fn fail_read(&mut self, n: u64)
         ensures { self.new ≡ record self.old { arms = record self.old.arms { fail_read = Some n } } }
     {
         self.arms.fail_read(n);

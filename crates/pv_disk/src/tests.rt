@@ -76,8 +76,33 @@ fn each_mode_leaves_its_image(rt: HostRuntime) -> Result<(), Fail> {
     Ok(())
 }
 
+// What a sync leaves that fires in this mode, after a write of "XY" at 3 into "abcd".
+fn sync_fires(alloc: Global, mode: Mode) -> Result<Vec<u8>, Fail> {
+    let mut disk = MemDisk::of(alloc, b"abcd".to_vec(alloc)?);
+    disk.reserve(2, 1)?;
+    disk.write_at(3, b"XY")?;
+    disk.arm(1, mode, false);
+    match disk.sync() {
+        Ok(()) => Ok(Vec::new(alloc)),
+        Err(_) => held(alloc, &mut disk),
+    }
+}
+
 #[test]
-fn what_fired_is_told(rt: HostRuntime) -> Result<(), Fail> {
+fn a_sync_that_fires_leaves_the_same_images(rt: HostRuntime) -> Result<(), Fail> {
+    let alloc = rt.alloc();
+    for (mode, left) in [
+        (Mode::Lost, b"abcd".as_slice()),
+        (Mode::Kept, b"abcXY".as_slice()),
+        (Mode::Torn, b"abc\xa5\xa5".as_slice()),
+    ] {
+        assert_eq!(rt; sync_fires(alloc, mode)?.as_slice(), left);
+    }
+    Ok(())
+}
+
+#[test]
+fn each_arm_fires_once(rt: HostRuntime) -> Result<(), Fail> {
     let alloc = rt.alloc();
     let mut disk = MemDisk::new(alloc);
     disk.arm(2, Mode::Kept, false);

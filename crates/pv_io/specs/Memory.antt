@@ -1,6 +1,6 @@
 -- What a source and a sink in memory hold, and what their calls change.
 use Rattle.std.specs.Prelude.{ℕ, List, ◌++◌, drop}
-use Rattle.pv_io.specs.Stream.{one_more}
+use Rattle.pv_base.specs.Fault.{risen}
 
 -- A source: the bytes that are left, the calls so far, the numbers of the calls that fail, and how many calls failed.
 pub record SourceState : Type 0 where
@@ -18,16 +18,16 @@ pub record SinkState : Type 0 where
 
 -- The source after a call that failed.
 abbrev pub failed_source : SourceState → SourceState
-failed_source s = record s { calls = one_more s.calls; faults = one_more s.faults }
+failed_source s = record s { calls = risen s.calls; faults = risen s.faults }
 
 -- The source after a call that gave n bytes.
 abbrev pub read_source : SourceState → ℕ → SourceState
-read_source s n = record s { left = drop n s.left; calls = one_more s.calls }
+read_source s n = record s { left = drop n s.left; calls = risen s.calls }
 
 -- The sink after a call that failed.
 abbrev pub failed_sink : SinkState → SinkState
-failed_sink s = record s { calls = one_more s.calls; faults = one_more s.faults }
+failed_sink s = record s { calls = risen s.calls; faults = risen s.faults }
 
 -- The sink after a call that took these bytes.
 abbrev pub written_sink : SinkState → List ℕ → SinkState
-written_sink s bytes = record s { held = s.held ++ bytes; calls = one_more s.calls }
+written_sink s bytes = record s { held = s.held ++ bytes; calls = risen s.calls }

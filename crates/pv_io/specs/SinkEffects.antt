@@ -2,15 +2,15 @@
 use Rattle.std.specs.Prelude.{ℕ, ◌≤◌, List, Result, OnOk, OnErr, IfErr}
 use Rattle.std.specs.Io.KnownBytes.{Appends}
 use Rattle.pv_base.specs.Fault.{Rose}
-use Rattle.pv_io.specs.Stream.{AppendsPrefix, TellsAlike}
+use Rattle.pv_io.specs.Stream.{AppendsPrefix, KnownAlike}
 use Rattle.pv_io.specs.declared.sink.Sink.{Ghosts}
 
 module _ {W : Type 0} (sink : Ghosts W) where
-  -- The sink has taken the whole text, or after an error a beginning of it. An error that is a fault was counted. Whether the
-  -- sink tells its bytes stays, and its count of faults never falls.
-  pub record Writes {X E : Type 0} (IsFault : E → Type 0) (old new : W) (text : List ℕ) (result : Result X E) : Type 0 where
+  -- The sink has taken the whole text, or after an error a beginning of it. An error that is a fault was counted. Whether its
+  -- bytes are known stays, and its count of faults never falls.
+  pub record WritesAll {X E : Type 0} (IsFault : E → Type 0) (old new : W) (text : List ℕ) (result : Result X E) : Type 0 where
     pub written : OnOk result (Appends (sink.held old) (sink.held new) text)
     pub prefix : OnErr result (AppendsPrefix (sink.held old) (sink.held new) text)
-    pub told : TellsAlike (sink.held old) (sink.held new)
+    pub known : KnownAlike (sink.held old) (sink.held new)
     pub fault : IfErr result (λ e. IsFault e → Rose (sink.faults old) (sink.faults new))
     pub counted : sink.faults old ≤ sink.faults new

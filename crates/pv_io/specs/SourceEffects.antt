@@ -2,20 +2,20 @@
 use Rattle.std.specs.Prelude.{◌≡◌, ℕ, ◌+◌, ◌<◌, ◌≤◌, List, [], Some, Result, vec_len, length, IfOk, IsErrOf}
 use Rattle.std.specs.Global.{Vec}
 use Rattle.pv_base.specs.Fault.{Rose}
-use Rattle.pv_io.specs.Stream.{TakesAtMost, TellsAlike}
+use Rattle.pv_io.specs.Stream.{TakesAtMost, KnownAlike}
 use Rattle.pv_io.specs.declared.read_end.ReadEnd.{ReadEnd}
 use Rattle.pv_io.specs.declared.read_end.ReadEnd.TheVariants.{Failed, TooLong}
 use Rattle.pv_io.specs.declared.source.Source.{Ghosts}
 
 module _ {R : Type 0} (source : Ghosts R) where
-  -- All that the source had left was read, and is no longer than the limit. More bytes than that are too long, and a failure
-  -- was counted. However it ends, no more than one piece beyond the limit was taken. Whether the source tells its bytes
-  -- stays, and its count of faults never falls.
+  -- All that the source had left was read, and is no longer than the limit. `TooLong` is answered only where more than the
+  -- limit was left, and `Failed` only where the failure was counted. However it ends, no more than one piece beyond the limit
+  -- was taken. Whether the bytes that are left are known stays, and the count of faults never falls.
   pub record ReadsAll (limit : ℕ) (old new : R) (result : Result (Vec ℕ) ReadEnd) : Type 0 where
     pub whole : IfOk result (λ bytes. (text : List ℕ) → source.left old ≡ Some text → (bytes.items ≡ text) × (source.left new ≡ Some []))
     pub within : IfOk result (λ bytes. vec_len bytes ≤ limit)
     pub too_long : IsErrOf result TooLong → (text : List ℕ) → source.left old ≡ Some text → limit < length text
-    pub failed : IsErrOf result Failed → Rose (source.faults old) (source.faults new)
+    pub fault : IsErrOf result Failed → Rose (source.faults old) (source.faults new)
     pub taken : TakesAtMost (source.left old) (source.left new) (limit + 65536)
-    pub told : TellsAlike (source.left old) (source.left new)
+    pub known : KnownAlike (source.left old) (source.left new)
     pub counted : source.faults old ≤ source.faults new

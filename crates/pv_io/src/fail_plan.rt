@@ -1,6 +1,7 @@
 // Which calls of an object in memory fail, and how many have.
 ghost use Rattle.std.specs.Prelude.{◌≡◌, ◌↔◌, ◌≤◌, Contains, IsErr};
-ghost use Rattle.pv_io.specs.Stream.{CountsFaults, one_more};
+ghost use Rattle.pv_base.specs.Fault.{risen};
+ghost use Rattle.pv_io.specs.Stream.{CountsFaults};
 
 use pv_base::Failed;
 
@@ -34,7 +35,7 @@ impl FailPlan {
     pub(crate) fn begin_call(&mut self) -> Result<(), Failed>
         ensures fails { IsErr result ↔ Contains self.old.fails.items self.old.calls }
         ensures same { self.new.fails.items ≡ self.old.fails.items }
-        ensures calls { self.new.calls ≡ one_more self.old.calls }
+        ensures calls { self.new.calls ≡ risen self.old.calls }
         ensures faults { CountsFaults self.old.faults self.new.faults result }
         ensures never_falls { self.old.faults ≤ self.new.faults }
     {
@@ -50,7 +51,7 @@ impl FailPlan {
     pub(crate) fn fault(&mut self) -> Failed
         ensures same { self.new.fails.items ≡ self.old.fails.items }
         ensures calls { self.new.calls ≡ self.old.calls }
-        ensures faults { self.new.faults ≡ one_more self.old.faults }
+        ensures faults { self.new.faults ≡ risen self.old.faults }
         ensures never_falls { self.old.faults ≤ self.new.faults }
     {
         self.faults = self.faults.saturating_add(1);

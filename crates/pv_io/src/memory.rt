@@ -1,8 +1,8 @@
 // A source and a sink in memory, which fail at the calls that they are made to fail at.
 ghost use Rattle.std.specs.Prelude.{◌≡◌, ◌↔◌, ◌<◌, ◌≤◌, [], ◌++◌, Some, length, take, drop, min, Contains, IsErr, IfOk, OnOk, OnErr};
 ghost use Rattle.std.specs.Io.KnownBytes.{ReadConsumes, WriteAppends};
-ghost use Rattle.pv_base.specs.Fault.{HasCause};
-ghost use Rattle.pv_io.specs.Stream.{TellsAlike};
+ghost use Rattle.pv_base.specs.Fault.{FaultCounted};
+ghost use Rattle.pv_io.specs.Stream.{KnownAlike};
 ghost use Rattle.pv_io.specs.Memory.{SourceState, SinkState, read_source, failed_source, written_sink, failed_sink};
 
 use crate::fail_plan::FailPlan;
@@ -11,8 +11,8 @@ use pv_base::Failed;
 use std::alloc::Global;
 use std::marker::Model;
 
-/// A source in memory. It tells what it has left. Its calls of `read` are numbered from 0, and those that it was told
-/// to fail give nothing. The numbers and the count of faults end at u64's greatest value, and stay there.
+/// A source in memory. What it has left is known. Its calls of `read` are numbered from 0, and those that are planned to
+/// fail give nothing. The numbers and the count of faults end at u64's greatest value, and stay there.
 #[derive(Debug, Drop)]
 pub struct MemSource {
     /// All the bytes, also those that were read.
@@ -75,8 +75,8 @@ impl Source for MemSource {
     fn read(&mut self, into: &mut [u8]) -> Result<usize, Failed>
         ensures bound { IfOk result (λ n. n ≤ length into.new) }
         ensures bytes { ReadConsumes (Some self.old.left) (Some self.new.left) result into.new }
-        ensures told { TellsAlike (Some self.old.left) (Some self.new.left) }
-        ensures cause { HasCause self.old.faults self.new.faults result }
+        ensures known { KnownAlike (Some self.old.left) (Some self.new.left) }
+        ensures fault { FaultCounted self.old.faults self.new.faults result }
 
         ensures fails { IsErr result ↔ Contains self.old.fails self.old.calls }
         ensures failed { OnErr result (self.new ≡ failed_source self.old) }
@@ -107,7 +107,7 @@ fn copy_front(from: &[u8], into: &mut [u8]) -> usize
     count
 }
 
-/// A sink in memory. It tells what it holds. Its calls of `write` are numbered from 0, and those that it was told to
+/// A sink in memory. What it holds is known. Its calls of `write` are numbered from 0, and those that are planned to
 /// fail take nothing; so does a call that finds no memory. The numbers and the count of faults end at u64's greatest
 /// value, and stay there.
 #[derive(Debug, Drop)]
@@ -166,8 +166,8 @@ impl Sink for MemSink {
         ensures bound { IfOk result (λ n. n ≤ length bytes.now) }
         ensures some { IfOk result (λ n. 0 < length bytes.now → 0 < n) }
         ensures bytes { WriteAppends (Some self.old.held) (Some self.new.held) result bytes.now }
-        ensures told { TellsAlike (Some self.old.held) (Some self.new.held) }
-        ensures cause { HasCause self.old.faults self.new.faults result }
+        ensures known { KnownAlike (Some self.old.held) (Some self.new.held) }
+        ensures fault { FaultCounted self.old.faults self.new.faults result }
 
         ensures fails { Contains self.old.fails self.old.calls → IsErr result }
         // A write of nothing wants no memory.

@@ -1,14 +1,14 @@
 // Where input comes from.
 ghost use Rattle.std.specs.Prelude.{◌≡◌, ℕ, ◌+◌, ◌<◌, ◌≤◌, List, [], Option, Some, Result, length, vec_len, IfOk, IsErrOf};
 ghost use Rattle.std.specs.Io.KnownBytes.{ReadConsumes};
-ghost use Rattle.pv_base.specs.Fault.{HasCause, Rose};
-ghost use Rattle.pv_io.specs.Stream.{TellsAlike};
+ghost use Rattle.pv_base.specs.Fault.{FaultCounted, Rose};
+ghost use Rattle.pv_io.specs.Stream.{KnownAlike};
 
 use pv_base::Failed;
 
 /// Bytes that come from outside, each once.
 pub trait Source {
-    /// The bytes that are left to read, where the source tells them.
+    /// The bytes that are left to read, where they are known.
     ghost left: { Self → Option (List ℕ) };
 
     /// How many calls have failed. It never falls; at u64's greatest value it stays.
@@ -19,6 +19,6 @@ pub trait Source {
     fn read(&mut self, into: &mut [u8]) -> Result<usize, Failed>
         ensures bound { IfOk result (λ n. n ≤ length into.new) }
         ensures bytes { ReadConsumes (left self.old) (left self.new) result into.new }
-        ensures told { TellsAlike (left self.old) (left self.new) }
-        ensures cause { HasCause (faults self.old) (faults self.new) result };
+        ensures known { KnownAlike (left self.old) (left self.new) }
+        ensures fault { FaultCounted (faults self.old) (faults self.new) result };
 }

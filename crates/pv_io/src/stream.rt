@@ -2,16 +2,15 @@
 ghost use Rattle.std.specs.Prelude.{◌≡◌, ◌<◌, ◌≤◌, Some, length, IsSome, IfSome, IfOk};
 ghost use Rattle.std.specs.Option.{ForSome};
 ghost use Rattle.std.specs.Io.KnownBytes.{ReadConsumes, WriteAppends};
-ghost use Rattle.pv_base.specs.Fault.{HasCause};
-ghost use Rattle.pv_io.specs.Stream.{TellsAlike, CountsFaults, told_since};
+ghost use Rattle.pv_base.specs.Fault.{FaultCounted};
+ghost use Rattle.pv_io.specs.Stream.{KnownAlike, CountsFaults, known_since};
 
 use crate::{Sink, Source};
 use pv_base::Failed;
 use std::io::{Read, Write};
 use std::snapshot::Snapshot;
 
-/// A source over a reader. It tells the bytes that the reader has left where the reader told them when it was passed
-/// to `new`. Each error of the reader counts as a fault, also that of a call which a signal interrupted: it isn't made
+/// A source over a reader. What it has left is known where the reader's bytes were when it was passed to `new`. Each error of the reader counts as a fault, also that of a call which a signal interrupted: it isn't made
 /// again.
 #[derive(Drop)]
 pub struct StdSource<R: Read> {
@@ -21,7 +20,7 @@ pub struct StdSource<R: Read> {
     first: Snapshot<R>,
     /// How many calls have failed, up to u64's greatest value.
     faults: u64,
-    ghost tells: { ForSome (R.remaining first.value) (λ _. IsSome (R.remaining inner)) },
+    ghost known: { ForSome (R.remaining first.value) (λ _. IsSome (R.remaining inner)) },
 }
 
 impl<R: Read> StdSource<R> {
@@ -47,7 +46,7 @@ impl<R: Read> StdSource<R> {
 }
 
 impl<R: Read> Source for StdSource<R> {
-    ghost left = { λ s. told_since (R.remaining s.first.value) (R.remaining s.inner) };
+    ghost left = { λ s. known_since (R.remaining s.first.value) (R.remaining s.inner) };
 
     ghost faults = { λ s. s.faults };
 
@@ -55,9 +54,9 @@ impl<R: Read> Source for StdSource<R> {
         ensures bound { IfOk result (λ n. n ≤ length into.new) }
         ensures bytes { ReadConsumes (⟦<StdSource<R> as Source>⟧.left self.old)
             (⟦<StdSource<R> as Source>⟧.left self.new) result into.new }
-        ensures told { TellsAlike (⟦<StdSource<R> as Source>⟧.left self.old)
+        ensures known { KnownAlike (⟦<StdSource<R> as Source>⟧.left self.old)
             (⟦<StdSource<R> as Source>⟧.left self.new) }
-        ensures cause { HasCause (⟦<StdSource<R> as Source>⟧.faults self.old)
+        ensures fault { FaultCounted (⟦<StdSource<R> as Source>⟧.faults self.old)
             (⟦<StdSource<R> as Source>⟧.faults self.new) result }
         ensures counts { CountsFaults (⟦<StdSource<R> as Source>⟧.faults self.old)
             (⟦<StdSource<R> as Source>⟧.faults self.new) result }
@@ -72,8 +71,7 @@ impl<R: Read> Source for StdSource<R> {
     }
 }
 
-/// A sink over a writer. It tells the bytes that the writer holds where the writer told them when it was passed to
-/// `new`. Each error of the writer counts as a fault, also that of a call which a signal interrupted: it isn't made
+/// A sink over a writer. What it holds is known where the writer's bytes were when it was passed to `new`. Each error of the writer counts as a fault, also that of a call which a signal interrupted: it isn't made
 /// again. A write that takes nothing of a piece that has bytes counts as one too.
 ///
 /// The sink never flushes, so it is meant for a writer without a buffer of its own.
@@ -85,7 +83,7 @@ pub struct StdSink<W: Write> {
     first: Snapshot<W>,
     /// How many calls have failed, up to u64's greatest value.
     faults: u64,
-    ghost tells: { ForSome (W.contents first.value) (λ _. IsSome (W.contents inner)) },
+    ghost known: { ForSome (W.contents first.value) (λ _. IsSome (W.contents inner)) },
 }
 
 impl<W: Write> StdSink<W> {
@@ -111,7 +109,7 @@ impl<W: Write> StdSink<W> {
 }
 
 impl<W: Write> Sink for StdSink<W> {
-    ghost held = { λ s. told_since (W.contents s.first.value) (W.contents s.inner) };
+    ghost held = { λ s. known_since (W.contents s.first.value) (W.contents s.inner) };
 
     ghost faults = { λ s. s.faults };
 
@@ -120,9 +118,9 @@ impl<W: Write> Sink for StdSink<W> {
         ensures some { IfOk result (λ n. 0 < length bytes.now → 0 < n) }
         ensures bytes { WriteAppends (⟦<StdSink<W> as Sink>⟧.held self.old)
             (⟦<StdSink<W> as Sink>⟧.held self.new) result bytes.now }
-        ensures told { TellsAlike (⟦<StdSink<W> as Sink>⟧.held self.old)
+        ensures known { KnownAlike (⟦<StdSink<W> as Sink>⟧.held self.old)
             (⟦<StdSink<W> as Sink>⟧.held self.new) }
-        ensures cause { HasCause (⟦<StdSink<W> as Sink>⟧.faults self.old)
+        ensures fault { FaultCounted (⟦<StdSink<W> as Sink>⟧.faults self.old)
             (⟦<StdSink<W> as Sink>⟧.faults self.new) result }
         ensures counts { CountsFaults (⟦<StdSink<W> as Sink>⟧.faults self.old)
             (⟦<StdSink<W> as Sink>⟧.faults self.new) result }

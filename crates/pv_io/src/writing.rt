@@ -1,12 +1,12 @@
 // How all of a text is written.
-ghost use Rattle.pv_io.specs.SinkEffects.{Writes};
+ghost use Rattle.pv_io.specs.SinkEffects.{WritesAll};
 
 use crate::Sink;
 use pv_base::Failed;
 
 /// Writes all the bytes. After a failure the sink holds what it held and a beginning of `bytes`.
 pub fn write_all<W: Sink>(sink: &mut W, bytes: &[u8]) -> Result<(), Failed>
-    ensures { Writes W.Sink (λ _. Unit {0}) sink.old sink.new bytes.now result }
+    ensures { WritesAll W.Sink (λ _. Unit {0}) sink.old sink.new bytes.now result }
 {
     let mut written = 0;
     while written < bytes.len() {

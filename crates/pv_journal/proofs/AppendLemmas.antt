@@ -9,7 +9,7 @@ use Rattle.pv_law_disk.specs.Disk.{overlaid, Torn, Only, LeavesOnly, LeftTorn, S
 use Rattle.pv_law_disk.specs.Size.{Contents}
 use Rattle.pv_law_disk.proofs.DiskLemmas.{LeavesOnly-trans, LeavesOnly-weaken}
 use Rattle.pv_journal.proofs.LookLemmas.{still_left}
-use Rattle.pv_journal.specs.Format.{header, framed, record_of, records_of, IsJournal, end_of}
+use Rattle.pv_law_journal.specs.Format.{header, framed, record_of, records_of, IsJournal, end_of}
 use Rattle.pv_journal.specs.Appending.{StandsFor, IsReady, WritesRecord}
 use Rattle.pv_journal.proofs.ReadLemmas.{records_of-push}
 

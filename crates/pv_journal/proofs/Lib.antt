@@ -1,4 +1,5 @@
 mod AppendLemmas
+mod FormatLemmas
 mod LogLemmas
 mod LookLemmas
 mod ReadLemmas

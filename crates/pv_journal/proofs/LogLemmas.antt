@@ -9,14 +9,16 @@ use Rattle.pv_law_disk.specs.DiskModel.{DiskModel}
 use Rattle.pv_law_disk.specs.Disk as disk
 use Rattle.pv_law_disk.specs.Size.{Contents}
 use Rattle.pv_law_disk.specs.Log.{IsBeforeOrAfter, LeavesOnly, Adds, MayAdd}
-use Rattle.pv_journal.specs.Format.{framed, record_of, records_of, IsJournal, IsNotOurs, end_of}
-use Rattle.pv_journal.specs.Contents.{contents_of}
-use Rattle.pv_journal.specs.OneAnswer.{contents_of-is, contents_of-journal, same_contents, not_both}
+use Rattle.pv_law_journal.specs.Format.{framed, record_of, records_of, IsJournal, IsNotOurs, end_of}
+use Rattle.pv_law_journal.specs.Contents.{contents_of}
+use Rattle.pv_law_journal.proofs.ContentsLemmas.{contents_of-is, contents_of-journal}
+use Rattle.pv_law_journal.proofs.OneAnswer.{same_contents, not_both}
 use Rattle.pv_journal.specs.Journal.{IsIntact, contents_now, HasRoom}
-use Rattle.pv_journal.specs.JournalModel.{journal_model, told_bytes, length-framed}
+use Rattle.pv_law_journal.proofs.SizeLemmas.{known_bytes, length-framed}
+use Rattle.pv_journal.specs.JournalModel.{journal_model}
 use Rattle.pv_journal.specs.Appending.{StandsFor, IsReady, WritesRecord}
 use Rattle.pv_journal.specs.declared.journal.Journal.{Journal}
-use Rattle.pv_journal.proofs.LookLemmas.{still_left, told_before}
+use Rattle.pv_journal.proofs.LookLemmas.{still_left, known_before}
 use Rattle.pv_journal.proofs.ReadLemmas.{records_of-push, length-record_of}
 
 pub length-frame : (frame content : List ℕ) → frame ≡ framed content ++ 0 ∷ [] → length frame ≡ 5 + length content
@@ -36,7 +38,7 @@ before_or_after contents was content image left same (inl before) is = inl (is �
 before_or_after contents was content image left same (inr after) is =
     inr (is ∙ contents_of-is (contents ++ content ∷ []) image after ∙ ap (λ (c : Contents). Some (c ++ content ∷ [])) same)
 
--- Whether the contents are told is as whether the bytes are, where they are a journal.
+-- Whether the contents are known is as whether the bytes are, where they are a journal.
 told_alike : (old new : Option (List ℕ)) → is_some new ≡ is_some old → ((bytes : List ℕ) → old ≡ Some bytes → (contents : Contents) × (contents_of bytes ≡ Some contents))
     → ((bytes : List ℕ) → new ≡ Some bytes → (contents : Contents) × (contents_of bytes ≡ Some contents))
     → is_some (option_and_then contents_of new) ≡ is_some (option_and_then contents_of old)
@@ -49,16 +51,16 @@ module _ {D : Type 0} (M : DiskModel D) (old new : Journal D) (content frame : L
     (frame_is : frame ≡ framed content ++ 0 ∷ []) (alike : is_some (M.content new.disk) ≡ is_some (M.content old.disk)) (limit : new.limit ≡ old.limit) where
   -- The disk is ready for the record.
   pub is_ready : (bytes : List ℕ) → M.content old.disk ≡ Some bytes → (contents : Contents) × IsReady M old.disk (old.length - 1) frame contents content bytes
-  is_ready bytes told =
-      let rest = intact.at_rest up bytes told in (
+  is_ready bytes known =
+      let rest = intact.at_rest up bytes known in (
         rest.0,
         record {
-          told = told;
+          known = known;
           journal = rest.1;
           gate = omega (arith, rest.2);
           framed_is = frame_is;
           short = omega (arith, room.within, intact.limited);
-          durable = intact.durable up bytes told;
+          durable = intact.durable up bytes known;
         },
       )
 
@@ -70,9 +72,9 @@ module _ {D : Type 0} (M : DiskModel D) (old new : Journal D) (content frame : L
 
   told_ready : Told
   told_ready was is =
-      let told = told_bytes (M.content old.disk) was is in
-      let ready = is_ready told.0 told.1 in
-      (told.0, ready.0, same_contents ready.0 was told.0 ready.1.journal (contents_of-journal was told.0 told.2), ready.1)
+      let known = known_bytes (M.content old.disk) was is in
+      let ready = is_ready known.0 known.1 in
+      (known.0, ready.0, same_contents ready.0 was known.0 ready.1.journal (contents_of-journal was known.0 known.2), ready.1)
 
   moments : {X : Type 0} (result : Result X Fault) → Written X result → (was : Contents) → contents_now M old ≡ Some was → LeavesOnly (journal_model M) old new (IsBeforeOrAfter was content)
   moments result written was is =
@@ -86,10 +88,10 @@ module _ {D : Type 0} (M : DiskModel D) (old new : Journal D) (content frame : L
         keeps = λ t left le since. (since.0, leaves.keeps t since.0 le since.1, since.2);
       }
 
-  -- What is told after the calls is one of the two.
+  -- What is known after the calls is one of the two.
   now_stands : {X : Type 0} (result : Result X Fault) → Written X result → (bytes : List ℕ) → M.content new.disk ≡ Some bytes → (contents : Contents) × StandsFor contents content bytes × Told
   now_stands result written bytes now =
-      let before = told_before (M.content old.disk) (M.content new.disk) bytes alike now in
+      let before = known_before (M.content old.disk) (M.content new.disk) bytes alike now in
       let ready = is_ready before.0 before.1 in
       let leaves = (written ready.0 content before.0 ready.1).any_moment in
       (ready.0, still_left M old.disk new.disk (StandsFor ready.0 content) leaves bytes (M.is_left new.disk bytes now), told_ready)
@@ -101,18 +103,19 @@ module _ {D : Type 0} (M : DiskModel D) (old new : Journal D) (content frame : L
   contents_alike : {X : Type 0} (result : Result X Fault) → Written X result → is_some (contents_now M new) ≡ is_some (contents_now M old)
   contents_alike result written =
       told_alike (M.content old.disk) (M.content new.disk) alike
-      (λ bytes told. let rest = intact.at_rest up bytes told in (rest.0, contents_of-is rest.0 bytes rest.1))
+      (λ bytes known. let rest = intact.at_rest up bytes known in (rest.0, contents_of-is rest.0 bytes rest.1))
       (λ bytes now. let stands = now_stands result written bytes now in has_contents stands.0 bytes stands.1)
 
-  pub fails_to_add : {X : Type 0} (result : Result X Fault) → Written X result → MayAdd (journal_model M) old new content
-  fails_to_add result written = record {
+  pub fails_to_add : {X : Type 0} (result : Result X Fault) → Written X result → new.length ≡ old.length → MayAdd (journal_model M) old new content
+  fails_to_add result written same_length = record {
     contents = λ was is.
         let ready = told_ready was is in
-        let now = told_before (M.content new.disk) (M.content old.disk) ready.0 (sym alike) ready.3.told in
+        let now = known_before (M.content new.disk) (M.content old.disk) ready.0 (sym alike) ready.3.known in
         let leaves = (written ready.1 content ready.0 ready.3).any_moment in
         let stands = still_left M old.disk new.disk (StandsFor ready.1 content) leaves now.0 (M.is_left new.disk now.0 now.1) in
         before_or_after ready.1 was content now.0 (contents_now M new) ready.2 stands (ap (option_and_then contents_of) now.1);
-    told = contents_alike result written;
+    known = contents_alike result written;
+    size = inl same_length;
     limit = limit;
     any_moment = moments result written;
   }
@@ -123,7 +126,7 @@ module _ {D : Type 0} (M : DiskModel D) (old new : Journal D) (content frame : L
         let ready = told_ready was is in
         let done = (written ready.1 content ready.0 ready.3).done in
         ap (option_and_then contents_of) done.1 ∙ contents_of-is (ready.1 ++ content ∷ []) done.0 done.2 ∙ ap (λ (c : Contents). Some (c ++ content ∷ [])) ready.2;
-    told = contents_alike (Ok x) written;
+    known = contents_alike (Ok x) written;
     size = longer;
     limit = limit;
     any_moment = moments (Ok x) written;
@@ -136,7 +139,7 @@ module _ {D : Type 0} (M : DiskModel D) (old new : Journal D) (content frame : L
   now_at_rest : {X : Type 0} (x : X) → Written X (Ok x) → new.length ≡ old.length + (5 + length content) → (bytes : List ℕ) → M.content new.disk ≡ Some bytes
       → (contents : Contents) × IsJournal contents bytes × (new.length ≡ end_of contents + 1) × disk.Only bytes (M.may_leave new.disk)
   now_at_rest x written longer bytes now =
-      let before = told_before (M.content old.disk) (M.content new.disk) bytes alike now in
+      let before = known_before (M.content old.disk) (M.content new.disk) bytes alike now in
       let ready = is_ready before.0 before.1 in
       let done = (written ready.0 content before.0 ready.1).done in
       let same : done.0 ≡ bytes = cc in (

@@ -19,7 +19,7 @@ module _ {D : Type 0} (M : DiskModel D) where
 
   pub Looks-none : (disk : D) → Looks M disk disk
   Looks-none disk = record {
-    told = refl;
+    known = refl;
     any_moment = LeavesOnly-none M disk (M.may_leave disk) (λ left may. may);
     room = omega arith;
     writes = omega arith;
@@ -29,11 +29,11 @@ module _ {D : Type 0} (M : DiskModel D) where
 
   pub Looks-call : {X : Type 0} (old new : D) (call : DiskCall) (ok : Bool) (result : Result X Fault) → IsRead call → M.goes old call ok new → Observes M old new result → Looks M old new
   Looks-call old new call ok result is_read goes observes = record {
-    told = observes.told;
+    known = observes.known;
     any_moment = observes.any_moment;
     room = observes.room;
     writes = observes.writes;
-    faults = observes.faults.0;
+    faults = observes.fault.0;
     reads = one_more old call ok new none is_read goes;
   }
 
@@ -44,7 +44,7 @@ module _ {D : Type 0} (M : DiskModel D) where
 
   pub Looks-trans : (old mid new : D) → Looks M old mid → Looks M mid new → Looks M old new
   Looks-trans old mid new first second = record {
-    told = second.told ∙ first.told;
+    known = second.known ∙ first.known;
     any_moment =
         LeavesOnly-trans M old mid new (M.may_leave old) (M.may_leave mid) (M.may_leave old) first.any_moment second.any_moment (λ left may. may)
         (still_left old mid (M.may_leave old) first.any_moment);
@@ -85,7 +85,7 @@ module _ {D : Type 0} (M : DiskModel D) where
 
   pub looks_failed : {X : Type 0} (old new : D) (call : DiskCall) (e : Fault) → IsRead call → M.goes old call false new → Observes M {X = X} old new (Err e)
       → Looks M old new × Rose (M.faults old) (M.faults new)
-  looks_failed old new call e is_read goes observes = (Looks-call old new call false (Err e) is_read goes observes, observes.faults.1)
+  looks_failed old new call e is_read goes observes = (Looks-call old new call false (Err e) is_read goes observes, observes.fault.1)
 
   pub looks_none : (disk : D) → Looks M disk disk × (M.content disk ≡ M.content disk)
   looks_none disk = (Looks-none disk, refl)
@@ -100,18 +100,18 @@ pub ruleset looking = (looked_ok, looked_err, looked_in_vain, looks_ok, looks_fa
 -- What is said of each place that a reading tells, is said of the place in its error.
 pub place_told : {X : Type 0} (P : ℕ → Type 0) (result : Result X LookError) → ((place : ℕ) → IsErrOf result (NotOurs place) → P place)
     → IfErr result (λ e. IfSome (place_in e) P)
-place_told P (Ok x) told = tt
-place_told P (Err Failed) told = tt
-place_told P (Err (NotOurs place)) told = told place refl
-place_told P (Err NoMemory) told = tt
+place_told P (Ok x) known = tt
+place_told P (Err Failed) known = tt
+place_told P (Err (NotOurs place)) known = known place refl
+place_told P (Err NoMemory) known = tt
 
--- What is said of all bytes that are told, is said of these.
+-- What is said of all bytes that are known, is said of these.
 pub found_at : {X E : Type 0} (P : X → List ℕ → Type 0) (content : Option (List ℕ)) (bytes : List ℕ) (result : Result X E)
     → IfOk result (λ x. (held : List ℕ) → content ≡ Some held → P x held) → content ≡ Some bytes → IfOk result (λ x. P x bytes)
 found_at P content bytes (Ok x) found is = found bytes is
 found_at P content bytes (Err e) found is = tt
 
--- What is told now was told before, where that stays alike.
-pub told_before : {X : Type 0} (old new : Option X) (x : X) → is_some new ≡ is_some old → new ≡ Some x → (was : X) × (old ≡ Some was)
-told_before (Some was) new x alike is = (was, refl)
-told_before None new x alike is = absurd (let some : is_some new ≡ true = ap is_some is in cc)
+-- What is known now was known before, where that stays alike.
+pub known_before : {X : Type 0} (old new : Option X) (x : X) → is_some new ≡ is_some old → new ≡ Some x → (was : X) × (old ≡ Some was)
+known_before (Some was) new x alike is = (was, refl)
+known_before None new x alike is = absurd (let some : is_some new ≡ true = ap is_some is in cc)

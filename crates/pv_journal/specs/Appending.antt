@@ -3,7 +3,7 @@ use Rattle.std.specs.Prelude.{◌≡◌, ◌⊎◌, ℕ, ◌^◌, ◌<◌, List,
 use Rattle.pv_law_disk.specs.DiskModel.{DiskModel}
 use Rattle.pv_law_disk.specs.Disk.{Only, LeavesOnly}
 use Rattle.pv_law_disk.specs.Size.{Contents}
-use Rattle.pv_journal.specs.Format.{framed, IsJournal, end_of}
+use Rattle.pv_law_journal.specs.Format.{framed, IsJournal, end_of}
 
 -- The bytes are a journal with these contents, or with one more.
 abbrev pub StandsFor : Contents → List ℕ → List ℕ → Type 0
@@ -12,7 +12,7 @@ StandsFor contents content bytes = IsJournal contents bytes ⊎ IsJournal (conte
 module _ {D : Type 0} (M : DiskModel D) where
   -- The disk holds a journal with these contents, synced, whose closed gate stands at this place, and this is the frame of the content.
   pub record IsReady (disk : D) (end : ℕ) (frame : List ℕ) (contents : Contents) (content : List ℕ) (bytes : List ℕ) : Type 0 where
-    pub told : M.content disk ≡ Some bytes
+    pub known : M.content disk ≡ Some bytes
     pub journal : IsJournal contents bytes
     pub gate : end ≡ end_of contents
     pub framed_is : frame ≡ framed content ++ 0 ∷ []

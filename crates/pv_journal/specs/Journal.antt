@@ -4,8 +4,8 @@ use Rattle.pv_law_disk.specs.Calls.{DiskCall, LogCall, Makes, OnlyReads, read_al
 use Rattle.pv_law_disk.specs.DiskModel.{DiskModel}
 use Rattle.pv_law_disk.specs.Disk.{Only}
 use Rattle.pv_law_disk.specs.Size.{Contents}
-use Rattle.pv_journal.specs.Format.{framed, IsJournal, end_of}
-use Rattle.pv_journal.specs.Contents.{contents_of}
+use Rattle.pv_law_journal.specs.Format.{framed, IsJournal, end_of}
+use Rattle.pv_law_journal.specs.Contents.{contents_of}
 use Rattle.pv_journal.specs.declared.journal.Journal.{Journal}
 
 -- What an append at a closed gate asks of the disk, in this order: the frame after the gate, a sync, the gate, a sync.

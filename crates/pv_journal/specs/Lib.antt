@@ -1,10 +1,6 @@
 pub mod Appending
-pub mod Bodies
-pub mod Contents
-pub mod Format
 pub mod Journal
 pub mod Lending
 pub mod JournalModel
-pub mod OneAnswer
 pub mod Opening
 pub mod Reading

@@ -1,16 +1,16 @@
 -- What opening, looking at and making a journal do.
-use Rattle.std.specs.Prelude.{◌≡◌, ◌⊎◌, ℕ, ◌≤◌, true, false, List, [], ◌∷◌, ◌++◌, Option, Some, None, is_some, map, Result, Ok, Err, Vec}
+use Rattle.std.specs.Prelude.{◌≡◌, ◌⊎◌, ℕ, ◌≤◌, Bool, true, false, List, [], ◌∷◌, ◌++◌, Option, Some, None, is_some, map, Result, Ok, Err, Vec}
 use Rattle.std.specs.declared.alloc.Global.{Global}
 use Rattle.pv_base.specs.Fault.{Rose}
 use Rattle.pv_law_disk.specs.Calls.{DiskCall, OnlyReads, Makes, make_room, write, sync}
 use Rattle.pv_law_disk.specs.DiskModel.{DiskModel}
-use Rattle.pv_law_disk.specs.Disk.{Only, LeavesOnly}
+use Rattle.pv_law_disk.specs.Disk.{Only, LeavesOnly, LeftTorn}
 use Rattle.pv_law_disk.specs.Size.{Contents}
 use Rattle.pv_disk.specs.declared.disk_error.LookError.{LookError}
 use Rattle.pv_disk.specs.declared.disk_error.LookError.TheVariants.{Failed as LookFailed, NotOurs as LookNotOurs, NoMemory as LookNoMemory}
 use Rattle.pv_disk.specs.declared.disk_error.DiskError.{DiskError}
 use Rattle.pv_disk.specs.declared.disk_error.DiskError.TheVariants.{Failed as DiskFailed, NoMemory as DiskNoMemory}
-use Rattle.pv_journal.specs.Format.{header, IsNotOurs}
+use Rattle.pv_law_journal.specs.Format.{header, IsNotOurs}
 use Rattle.pv_journal.specs.Journal.{IsIntact}
 use Rattle.pv_journal.specs.declared.journal.Journal.{Journal}
 use Rattle.pv_journal.specs.declared.open_log.OpenLog.{OpenLog}
@@ -37,7 +37,7 @@ module _ {D : Type 0} (M : DiskModel D) where
 
   -- What an opening leaves of the disk: at each moment a crash leaves what it might have left before.
   pub record Opened (old new : D) : Type 0 where
-    pub told : is_some (M.content new) ≡ is_some (M.content old)
+    pub known : is_some (M.content new) ≡ is_some (M.content old)
     pub any_moment : LeavesOnly M old new (M.may_leave old)
     pub faults : M.faults old ≤ M.faults new
     pub calls : SyncsAndReads old new
@@ -55,10 +55,17 @@ module _ {D : Type 0} (M : DiskModel D) where
   abbrev pub format_calls : List DiskCall
   format_calls = make_room 9 1 ∷ write 0 empty_journal ∷ sync ∷ []
 
-  -- Making an empty journal on an empty disk, by its answer: it is there, and each crash from now on leaves it.
+  -- What making an empty journal leaves of the disk, whatever the answer: at each moment a crash leaves what it might have left before, torn in the nine bytes.
+  pub record Formatted (old new : D) (ok : Bool) : Type 0 where
+    pub known : is_some (M.content new) ≡ is_some (M.content old)
+    pub any_moment : LeavesOnly M old new (LeftTorn M old 0 9)
+    pub faults : M.faults old ≤ M.faults new
+    pub calls : Makes M.goes old format_calls ok new
+
+  -- Making an empty journal on an empty disk, by its answer: it is there, and each crash from now on leaves it; or the disk failed; or it is empty still, and so is
+  -- what a crash leaves, if it was.
   abbrev pub Formats : {X : Type 0} → D → D → Result X DiskError → Type 0
   Formats old new (Ok _) =
-      ((held : List ℕ) → M.content old ≡ Some held → (M.content new ≡ Some empty_journal) × Only empty_journal (M.may_leave new)) × (M.faults old ≤ M.faults new)
-      × Makes M.goes old format_calls true new
-  Formats old new (Err DiskFailed) = Rose (M.faults old) (M.faults new) × Makes M.goes old format_calls false new
-  Formats old new (Err DiskNoMemory) = (M.content new ≡ M.content old) × (M.faults old ≤ M.faults new) × Makes M.goes old format_calls false new
+      Formatted old new true × ((held : List ℕ) → M.content old ≡ Some held → (M.content new ≡ Some empty_journal) × Only empty_journal (M.may_leave new))
+  Formats old new (Err DiskFailed) = Formatted old new false × Rose (M.faults old) (M.faults new)
+  Formats old new (Err DiskNoMemory) = Formatted old new false × (M.content new ≡ M.content old) × LeavesOnly M old new (M.may_leave old)

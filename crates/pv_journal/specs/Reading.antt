@@ -8,14 +8,14 @@ use Rattle.pv_law_disk.specs.Disk.{LeavesOnly}
 use Rattle.pv_law_disk.specs.Size.{Contents}
 use Rattle.pv_disk.specs.declared.disk_error.LookError.{LookError}
 use Rattle.pv_disk.specs.declared.disk_error.LookError.TheVariants.{Failed, NotOurs, NoMemory}
-use Rattle.pv_journal.specs.Format.{header, framed, records_of, AreShort, IsCut}
+use Rattle.pv_law_journal.specs.Format.{header, framed, records_of, AreShort, IsCut}
 use Rattle.pv_journal.specs.declared.reading.Gate.{Gate}
 use Rattle.pv_journal.specs.declared.reading.Gate.TheVariants.{Closed, Open}
 
 module _ {D : Type 0} (M : DiskModel D) where
   -- Calls that only read left the disk so: a crash leaves what it might have left before.
   pub record Looks (old new : D) : Type 0 where
-    pub told : is_some (M.content new) ≡ is_some (M.content old)
+    pub known : is_some (M.content new) ≡ is_some (M.content old)
     pub any_moment : LeavesOnly M old new (M.may_leave old)
     pub room : M.room old ≤ M.room new
     pub writes : M.writes old ≤ M.writes new

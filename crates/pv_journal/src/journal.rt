@@ -2,12 +2,12 @@
 ghost use Rattle.std.specs.Prelude.{◌≡◌, ◌⊎◌, ℕ, ◌+◌, ◌<◌, ◌≤◌, ◌^◌, [], List, Some, map, length, IfOk, IfErr, OnOk, IsErrOf};
 ghost use Rattle.pv_base.specs.Answer.{Answers};
 ghost use Rattle.pv_law_disk.specs.Size.{Contents};
-ghost use Rattle.pv_journal.specs.Format.{IsJournal, IsNotOurs};
+ghost use Rattle.pv_law_journal.specs.Format.{IsJournal, IsNotOurs};
 ghost use Rattle.pv_journal.specs.Reading.{LooksBy};
 ghost use Rattle.pv_journal.specs.Opening.{contents_in, place_in, Opens, Formats};
 
 use crate::OpenLog;
-use crate::reading::{HEADER, find_end, read_contents};
+use crate::reading::{find_end, read_contents};
 use pv_base::{Failed, MAX_JOURNAL, MIN_JOURNAL};
 use pv_disk::{Disk, DiskError, LookError};
 use std::alloc::Global;
@@ -33,8 +33,8 @@ impl<D: Disk> Journal<D> {
     ghost use Rattle.pv_journal.specs.contracts.journal.Journal.{the_row};
     ghost use Rattle.pv_journal.specs.Lending.{with_disk};
 
-    /// Opens the journal on a disk, which may become `limit` bytes long, from 32 to 4,294,967,296. It begins with a sync
-    /// and then only reads, in time linear in the count of records. A journal that is longer than the limit is opened too.
+    /// Opens the journal on a disk. It may become `limit` bytes long, from 32 to 4,294,967,296; one that is longer already is opened too,
+    /// and takes no more records. The call begins with a sync and then only reads, two reads for each record, whatever its length.
     ///
     /// See [`OpenLog`] for the refusals, which hand the disk back.
     pub fn open(alloc: Global, disk: D, limit: u64) -> Result<Journal<D>, OpenLog<D>>
@@ -60,7 +60,8 @@ impl<D: Disk> Journal<D> {
         }
     }
 
-    /// The disk, to see it or to arm it. The calls of `Log` that come after need its content as it was.
+    /// The disk that the journal lies on, lent, so that a test can arm it or count its calls. Whoever writes to it breaks the journal: the
+    /// calls of `Log` that come after need its content as it was.
     pub fn disk(&mut self) -> &mut D
         ensures* lends { sem 𝓛 (Lends (the_row D.row) D.row self.entry result (with_disk self.old)) }
         ensures value { result.now ≡ self.old.disk }
@@ -78,6 +79,8 @@ impl<D: Disk> Journal<D> {
 
 /// Makes an empty journal on an empty disk: the header and a closed gate, synced.
 ///
+/// At each moment of the call a crash leaves what it might have left before, with any bytes at the first nine places, or at fewer.
+///
 /// - [`DiskError::Failed`]: the disk failed, and what it holds is as a crash in the write may leave it.
 /// - [`DiskError::NoMemory`]: there was no memory, and the disk is empty still.
 pub fn format<D: Disk>(disk: &mut D) -> Result<(), DiskError>
@@ -93,7 +96,7 @@ pub fn format<D: Disk>(disk: &mut D) -> Result<(), DiskError>
 /// The contents of the journal on a disk, the oldest first. It only reads, in time linear in the journal's bytes.
 ///
 /// - [`LookError::Failed`]: the disk failed, and counted the fault.
-/// - [`LookError::NotOurs`]: the disk holds no journal, which shows at that place, as [`OpenLog::NotOurs`] tells it.
+/// - [`LookError::NotOurs`]: the disk holds no journal, which shows at that place; it is the one of [`OpenLog::NotOurs`].
 /// - [`LookError::NoMemory`]: there was no memory.
 pub fn look<D: Disk>(alloc: Global, disk: &mut D) -> Result<Vec<Vec<u8>>, LookError>
     ensures answer { (bytes : List ℕ) → D.model.content disk.old ≡ Some bytes

@@ -1,10 +1,10 @@
 // A journal as a log.
 ghost use Rattle.std.specs.Prelude.{◌≡◌, ℕ, ◌+◌, ◌≤◌, ◌^◌, ◌<◌, ◌++◌, ◌∷◌, [], List, Some, length, is_ok, is_some, vec_len, vec_capacity};
-ghost use Rattle.pv_base.specs.Fault.{HasCause};
+ghost use Rattle.pv_base.specs.Fault.{FaultCounted};
 ghost use Rattle.pv_base.specs.BigEndian.{big_endian};
 ghost use Rattle.pv_law_disk.specs.Calls.{Makes};
 ghost use Rattle.pv_law_disk.specs.Size.{Contents};
-ghost use Rattle.pv_journal.specs.Format.{framed};
+ghost use Rattle.pv_law_journal.specs.Format.{framed};
 ghost use Rattle.pv_journal.specs.Journal.{frame_calls};
 ghost use Rattle.pv_journal.specs.Appending.{IsReady, WritesRecord};
 ghost use Rattle.pv_journal.specs.JournalModel.{journal_model};
@@ -84,9 +84,9 @@ fn write_record<D: Disk>(disk: &mut D, end: u64, frame: &[u8]) -> Result<(), Fai
     requires writes { 2 ≤ D.model.writes disk.old }
     ensures crash { (contents : Contents) (content bytes : List ℕ) → IsReady D.model disk.old end frame.now contents content bytes
         → WritesRecord D.model disk.old disk.new contents content result }
-    ensures told { is_some (D.model.content disk.new) ≡ is_some (D.model.content disk.old) }
+    ensures known { is_some (D.model.content disk.new) ≡ is_some (D.model.content disk.old) }
     ensures calls { Makes D.model.goes disk.old (frame_calls end frame.now) (is_ok result) disk.new }
-    ensures faults { HasCause (D.model.faults disk.old) (D.model.faults disk.new) result }
+    ensures fault { FaultCounted (D.model.faults disk.old) (D.model.faults disk.new) result }
 {
     disk.write_at(end + 1, frame)?;
     disk.sync()?;

@@ -2,7 +2,7 @@
 ghost use Rattle.std.specs.Prelude.{◌≡◌, ◌≢◌, ◌⊎◌, ℕ, ◌+◌, ◌-◌, ◌<◌, ◌≤◌, ◌^◌, ◌++◌, [], List, Some, map, length, take, drop, slice_index, vec_len, IfOk, IfErr, IfSome, OnOk, IsErrOf};
 ghost use Rattle.pv_base.specs.BigEndian.{big_endian};
 ghost use Rattle.pv_law_disk.specs.Size.{Contents};
-ghost use Rattle.pv_journal.specs.Format.{header, IsJournal, IsNotOurs, HasNoHeader, end_of};
+ghost use Rattle.pv_law_journal.specs.Format.{header, IsJournal, IsNotOurs, HasNoHeader, end_of};
 ghost use Rattle.pv_journal.specs.Reading.{LooksBy, ReadsTo, StandsAt, StandsCut, EndsBefore, HoldsRecord};
 
 use pv_bytes::Take;
@@ -10,7 +10,7 @@ use pv_disk::{Disk, LookError};
 use std::alloc::{AllocError, Global};
 
 /// What a journal begins with.
-pub(crate) const HEADER: [u8; 8] = *b"PVJRNL01";
+const HEADER: [u8; 8] = *b"PVJRNL01";
 
 /// What stands at a gate.
 #[derive(Clone, Copy)]
@@ -111,7 +111,7 @@ fn read_record<D: Disk>(
     size: u64,
     place: u64,
 ) -> Result<Option<Vec<u8>>, LookError>
-    requires told { (bytes : List ℕ) → D.model.content disk.old ≡ Some bytes → size ≡ length bytes }
+    requires known { (bytes : List ℕ) → D.model.content disk.old ≡ Some bytes → size ≡ length bytes }
     requires within { place < size }
     requires bounded { size ≤ 2 ^ 62 }
     ensures effect { LooksBy D.model disk.old disk.new result }
@@ -152,7 +152,7 @@ fn read_header<D: Disk>(alloc: Global, disk: &mut D, size: u64) -> Result<(), Lo
 /// - [`LookError::NotOurs`]: it is open, and its length, its content or the next gate is past the end. The place is its own.
 #[tactic(auto, using(crate::proofs::LookLemmas::looking))]
 fn gate_at<D: Disk>(disk: &mut D, size: u64, place: u64) -> Result<Gate, LookError>
-    requires told { (bytes : List ℕ) → D.model.content disk.old ≡ Some bytes → size ≡ length bytes }
+    requires known { (bytes : List ℕ) → D.model.content disk.old ≡ Some bytes → size ≡ length bytes }
     requires within { place < size }
     requires bounded { size ≤ 2 ^ 62 }
     ensures effect { LooksBy D.model disk.old disk.new result }

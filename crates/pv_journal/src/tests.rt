@@ -1,8 +1,8 @@
-// The worked journal, and what is told of others.
+// The worked journal, and what others are answered with.
 ghost use Rattle.std.specs.Prelude.{◌≡◌, ◌≤◌, ◌^◌, false, length, vec_len, IfOk};
 
 use super::*;
-use crate::tests::Told::{Holds, NotOurs};
+use crate::tests::Answer::{Holds, NotOurs};
 use pv_disk::{Disk, Log, LogError, LookError, MemDisk};
 use std::alloc::Global;
 use std::test::Fail;
@@ -14,15 +14,15 @@ const JOURNAL: [u8; 66] = *b"PVJRNL01\
     \x01\0\0\0\x0b\x03\0\0\0\0\x01\0\0\0\0\x01\
     \0";
 
-// What is told of bytes as a journal: so many records, or a place where it shows that they are none.
+// The answer to bytes as a journal: so many records, or a place where it shows that they are none.
 #[derive(Clone, Copy, Debug, PartialEq, Eq)]
-enum Told {
+enum Answer {
     Holds(usize),
     NotOurs(u64),
 }
 
-// What `look` and `Journal::open` tell, which is the same.
-fn told_of(alloc: Global, bytes: Vec<u8>) -> Result<Option<Told>, Fail>
+// What `look` and `Journal::open` answer, where that is the same.
+fn answer_of(alloc: Global, bytes: Vec<u8>) -> Result<Option<Answer>, Fail>
     requires { vec_len bytes ≤ 2 ^ 62 }
 {
     let mut disk = MemDisk::of(alloc, bytes);
@@ -37,7 +37,7 @@ fn told_of(alloc: Global, bytes: Vec<u8>) -> Result<Option<Told>, Fail>
     Ok(Some(looked))
 }
 
-fn opened_as(alloc: Global, disk: MemDisk) -> Result<Told, LogError> {
+fn opened_as(alloc: Global, disk: MemDisk) -> Result<Answer, LogError> {
     match Journal::open(alloc, disk, 66) {
         Ok(mut journal) => Ok(Holds(journal.read_all()?.len())),
         Err(OpenLog::NotOurs(_disk, place)) => Ok(NotOurs(place)),
@@ -46,10 +46,10 @@ fn opened_as(alloc: Global, disk: MemDisk) -> Result<Told, LogError> {
     }
 }
 
-// What is told at the numbers from the first to the second, without that one.
-type Row = (usize, usize, Told);
+// The answer at the numbers from the first to the second, without that one.
+type Row = (usize, usize, Answer);
 
-fn row_at(rows: &[Row], at: usize) -> Option<Told> {
+fn row_at(rows: &[Row], at: usize) -> Option<Answer> {
     let row = rows.iter().find(|row| row.0 <= at && at < row.1)?;
     Some(row.2)
 }
@@ -63,7 +63,7 @@ const PREFIXES: [Row; 4] = [
 ];
 
 #[test]
-fn each_prefix_is_told(rt: HostRuntime) -> Result<(), Fail> {
+fn each_prefix_is_answered(rt: HostRuntime) -> Result<(), Fail> {
     let alloc = rt.alloc();
     for count in 0..=66usize {
         let (front, _) = JOURNAL.split_at(count);
@@ -72,7 +72,7 @@ fn each_prefix_is_told(rt: HostRuntime) -> Result<(), Fail> {
         } else {
             row_at(&PREFIXES, count)
         };
-        assert_eq!(rt; told_of(alloc, front.to_vec(alloc)?)?, wanted);
+        assert_eq!(rt; answer_of(alloc, front.to_vec(alloc)?)?, wanted);
     }
     Ok(())
 }
@@ -139,7 +139,7 @@ const THIRD_LENGTHS: [Row; 6] = [
     (12, 256, NotOurs(49)),
 ];
 
-fn wanted_at(place: usize, byte: u8) -> Option<Told> {
+fn wanted_at(place: usize, byte: u8) -> Option<Answer> {
     match place {
         0..=7 => Some(NotOurs(place as u64)),
         12 => row_at(&FIRST_LENGTHS, byte as usize),
@@ -151,16 +151,29 @@ fn wanted_at(place: usize, byte: u8) -> Option<Told> {
 }
 
 #[test]
-fn each_changed_byte_is_told(rt: HostRuntime) -> Result<(), Fail> {
+fn each_changed_byte_is_answered(rt: HostRuntime) -> Result<(), Fail> {
     let alloc = rt.alloc();
     for place in 0..66usize {
         for turn in 1..=255u8 {
             let mut bytes = JOURNAL.to_vec(alloc)?;
             let byte = JOURNAL[place] ^ turn;
             bytes[place] = byte;
-            assert_eq!(rt; told_of(alloc, bytes)?, wanted_at(place, byte));
+            assert_eq!(rt; answer_of(alloc, bytes)?, wanted_at(place, byte));
         }
     }
+    Ok(())
+}
+
+#[test]
+fn other_bytes_show_where_they_are_no_journal(rt: HostRuntime) -> Result<(), Fail> {
+    let alloc = rt.alloc();
+    assert_eq!(rt; answer_of(alloc, Vec::new(alloc))?, Some(NotOurs(0)));
+    let mut second = JOURNAL.to_vec(alloc)?;
+    second[1] = 0;
+    assert_eq!(rt; answer_of(alloc, second)?, Some(NotOurs(1)));
+    let mut last = JOURNAL.to_vec(alloc)?;
+    last[65] = 1;
+    assert_eq!(rt; answer_of(alloc, last)?, Some(NotOurs(65)));
     Ok(())
 }
 
@@ -170,9 +183,15 @@ fn the_worked_journal_is_read(rt: HostRuntime) -> Result<(), Fail> {
     let mut disk = MemDisk::of(alloc, JOURNAL.to_vec(alloc)?);
     let contents = look(alloc, &mut disk)?;
     assert_eq!(rt; contents.len(), 3);
-    assert_eq!(rt; contents[0].as_slice(), &JOURNAL[13..18]);
-    assert_eq!(rt; contents[1].as_slice(), &JOURNAL[23..49]);
-    assert_eq!(rt; contents[2].as_slice(), &JOURNAL[54..65]);
+    assert_eq!(rt; contents[0].as_slice(), b"\x01\0\0\0\x01".as_slice());
+    assert_eq!(rt;
+        contents[1].as_slice(),
+        b"\x02\0\0\0\0\x01\0\0\0\0\x01\0\0\0\0\0\x01\0\0\0\0\0\0\0\0\x65".as_slice()
+    );
+    assert_eq!(rt;
+        contents[2].as_slice(),
+        b"\x03\0\0\0\0\x01\0\0\0\0\x01".as_slice()
+    );
     assert_eq!(rt; disk.calls(), 0);
 
     let Ok(mut journal) = Journal::open(alloc, disk, 66) else {

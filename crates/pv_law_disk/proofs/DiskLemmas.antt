@@ -1,5 +1,5 @@
 -- How the effects of calls on a disk join.
-use Rattle.std.proofs.Common.{◌≡◌, ◌⊎◌, inl, inr, ⊎_elim, refl, Bool, true, false, ℕ, ◌≤◌, List, [], ◌∷◌, arith}
+use Rattle.std.proofs.Common.{inl, inr, ⊎_elim, refl, Bool, true, false, ℕ, List, [], ◌∷◌, arith}
 use Rattle.pv_law_disk.specs.Calls.{Makes}
 use Rattle.pv_law_disk.specs.DiskModel.{DiskModel}
 use Rattle.pv_law_disk.specs.Disk.{LeavesOnly}

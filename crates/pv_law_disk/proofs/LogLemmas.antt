@@ -50,7 +50,7 @@ module _ {W : Type 0} (M : LogModel W) where
     pub Keeps-Adds : Adds M mid new content → Adds M old new content
     Keeps-Adds adds = record {
       contents = λ was is. adds.contents was (keeps.contents ∙ is);
-      told = adds.told ∙ ap is_some keeps.contents;
+      known = adds.known ∙ ap is_some keeps.contents;
       size = adds.size ∙ ap (λ n. n + (5 + length content)) keeps.size;
       limit = adds.limit ∙ keeps.limit;
       any_moment = any_moment_after adds.any_moment;
@@ -60,7 +60,8 @@ module _ {W : Type 0} (M : LogModel W) where
     pub Keeps-MayAdd : MayAdd M mid new content → MayAdd M old new content
     Keeps-MayAdd adds = record {
       contents = λ was is. adds.contents was (keeps.contents ∙ is);
-      told = adds.told ∙ ap is_some keeps.contents;
+      known = adds.known ∙ ap is_some keeps.contents;
+      size = ⊎_elim (λ same. inl (same ∙ keeps.size)) (λ longer. inr (longer ∙ ap (λ n. n + (5 + length content)) keeps.size)) adds.size;
       limit = adds.limit ∙ keeps.limit;
       any_moment = any_moment_after adds.any_moment;
     }

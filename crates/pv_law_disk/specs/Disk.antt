@@ -1,6 +1,6 @@
 -- What the calls of a disk do, and what a crash at any moment of them leaves.
-use Rattle.std.specs.Prelude.{◌≡◌, ◌⊎◌, ℕ, ◌+◌, ◌≤◌, max, List, ◌++◌, Some, is_some, length, take, drop, Result, Ok, Err, OnOk}
-use Rattle.pv_base.specs.Fault.{HasCause}
+use Rattle.std.specs.Prelude.{◌≡◌, ◌⊎◌, ℕ, ◌+◌, ◌≤◌, max, List, ◌++◌, Some, is_some, length, take, drop, Result, OnOk}
+use Rattle.pv_base.specs.Fault.{FaultCounted}
 use Rattle.pv_base.specs.declared.failure.Failed.{Failed as Fault}
 use Rattle.pv_law_disk.specs.DiskModel.{DiskModel}
 
@@ -35,20 +35,20 @@ module _ {W : Type 0} (M : DiskModel W) where
   -- A call that reads: the content stays. After a fault it is one of those that a crash might have left.
   pub record Observes {X : Type 0} (old new : W) (result : Result X Fault) : Type 0 where
     pub content : OnOk result (M.content new ≡ M.content old)
-    pub told : is_some (M.content new) ≡ is_some (M.content old)
+    pub known : is_some (M.content new) ≡ is_some (M.content old)
     pub any_moment : LeavesOnly old new (M.may_leave old)
     pub room : M.room old ≤ M.room new
     pub writes : M.writes old ≤ M.writes new
-    pub faults : HasCause (M.faults old) (M.faults new) result
+    pub fault : FaultCounted (M.faults old) (M.faults new) result
 
   -- A write: the content is the old one with these bytes. After a fault it is one of those that a crash might have left.
   pub record Writes {X : Type 0} (old new : W) (place : ℕ) (bytes : List ℕ) (result : Result X Fault) : Type 0 where
     pub content : OnOk result ((was : List ℕ) → M.content old ≡ Some was → M.content new ≡ Some (overlaid was place bytes))
-    pub told : is_some (M.content new) ≡ is_some (M.content old)
+    pub known : is_some (M.content new) ≡ is_some (M.content old)
     pub any_moment : LeavesOnly old new (LeftTorn old place (length bytes))
     pub room : M.room old ≤ M.room new + length bytes
     pub writes : M.writes old ≤ M.writes new + 1
-    pub faults : HasCause (M.faults old) (M.faults new) result
+    pub fault : FaultCounted (M.faults old) (M.faults new) result
 
   -- A sync: the content stays, and from now on a crash leaves it alone. A fault is as that of a read.
   pub record Syncs {X : Type 0} (old new : W) (result : Result X Fault) : Type 0 where
@@ -57,7 +57,7 @@ module _ {W : Type 0} (M : DiskModel W) where
 
   -- Making room changes room alone. A fault is as that of a read.
   pub record MakesRoom (old new : W) : Type 0 where
-    pub told : is_some (M.content new) ≡ is_some (M.content old)
+    pub known : is_some (M.content new) ≡ is_some (M.content old)
     pub any_moment : LeavesOnly old new (M.may_leave old)
     pub room : M.room old ≤ M.room new
     pub writes : M.writes old ≤ M.writes new

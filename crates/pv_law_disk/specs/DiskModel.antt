@@ -4,7 +4,7 @@ use Rattle.pv_law_disk.specs.Calls.{DiskCall}
 
 -- A disk as clauses see it, and the laws that each disk keeps.
 pub record DiskModel (W : Type 0) : Type 1 where
-  -- what reads give, where the disk tells it
+  -- what reads give, where it is known
   pub content : W → Option (List ℕ)
   -- what a crash at this moment may leave
   pub may_leave : W → List ℕ → Type 0

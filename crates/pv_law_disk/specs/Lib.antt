@@ -1,5 +1,4 @@
 pub mod Calls
-pub mod Count
 pub mod Disk
 pub mod DiskModel
 pub mod Log

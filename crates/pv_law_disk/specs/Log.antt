@@ -1,5 +1,5 @@
 -- What the calls of a log do: what it holds afterwards, and what a crash at any moment of them leaves.
-use Rattle.std.specs.Prelude.{◌≡◌, ◌⊎◌, ℕ, ◌+◌, ◌<◌, ◌≤◌, true, false, List, [], ◌∷◌, ◌++◌, Option, Some, is_some, length, Result, Ok, Err}
+use Rattle.std.specs.Prelude.{◌≡◌, ◌⊎◌, ℕ, ◌+◌, ◌≤◌, true, false, List, [], ◌∷◌, ◌++◌, Option, Some, is_some, length}
 use Rattle.pv_base.specs.Fault.{Rose}
 use Rattle.pv_law_disk.specs.LogModel.{LogModel}
 use Rattle.pv_law_disk.specs.Size.{Contents}
@@ -29,7 +29,7 @@ module _ {W : Type 0} (M : LogModel W) where
   -- The log holds one content more, and from now on each crash leaves it.
   pub record Adds (old new : W) (content : List ℕ) : Type 0 where
     pub contents : (was : Contents) → M.contents old ≡ Some was → M.contents new ≡ Some (was ++ content ∷ [])
-    pub told : is_some (M.contents new) ≡ is_some (M.contents old)
+    pub known : is_some (M.contents new) ≡ is_some (M.contents old)
     pub size : M.size new ≡ M.size old + (5 + length content)
     pub limit : M.limit new ≡ M.limit old
     pub any_moment : (was : Contents) → M.contents old ≡ Some was → LeavesOnly old new (IsBeforeOrAfter was content)
@@ -38,7 +38,8 @@ module _ {W : Type 0} (M : LogModel W) where
   -- The log holds what it held, or one content more, and so it is with what each crash leaves.
   pub record MayAdd (old new : W) (content : List ℕ) : Type 0 where
     pub contents : (was : Contents) → M.contents old ≡ Some was → IsBeforeOrAfter was content (M.contents new)
-    pub told : is_some (M.contents new) ≡ is_some (M.contents old)
+    pub known : is_some (M.contents new) ≡ is_some (M.contents old)
+    pub size : (M.size new ≡ M.size old) ⊎ (M.size new ≡ M.size old + (5 + length content))
     pub limit : M.limit new ≡ M.limit old
     pub any_moment : (was : Contents) → M.contents old ≡ Some was → LeavesOnly old new (IsBeforeOrAfter was content)
 
@@ -53,7 +54,7 @@ module _ {W : Type 0} (M : LogModel W) where
     pub was_up : M.is_down old ≡ false
     pub is_down : M.is_down new ≡ true
     pub faults : M.faults old ≤ M.faults new
-    pub cause : Rose (M.faults old) (M.faults new)
+    pub fault : Rose (M.faults old) (M.faults new)
 
   -- The log was down, and nothing changed.
   pub record WasDown (old new : W) : Type 0 where

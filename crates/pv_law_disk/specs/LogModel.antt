@@ -5,7 +5,7 @@ use Rattle.pv_law_disk.specs.Size.{Contents, size_of}
 
 -- A log as clauses see it, and the laws that each log keeps.
 pub record LogModel (W : Type 0) : Type 1 where
-  -- what the log holds, where it tells it
+  -- what the log holds, where it is known
   pub contents : W → Option Contents
   -- what a crash at this moment may leave: contents, or what can't be opened as a log (`None`)
   pub may_leave : W → Option Contents → Type 0

@@ -26,11 +26,11 @@ pub record PassesNumber (Is : List ℕ → Type 0) (size : ℕ) (allows : ℕ �
   pub later : (next : ℕ → Layout) (fault : Fault) → HasFault (next value) new.place new.left fault
       → HasFault (number_then size allows next) old.place old.left fault
 
--- The part wasn't read. What is told, unless it is want of memory, is the first fault of the bytes, whatever is to come after the part.
+-- The part wasn't read. Where there was memory, the fault is the first of the bytes, whatever is to come after the part.
 abbrev pub Stops : (Layout → Layout) → Rest → Option Fault → Type 0
-Stops layout old told = IfSome told (λ fault. (next : Layout) → HasFault (layout next) old.place old.left fault)
+Stops layout old found = IfSome found (λ fault. (next : Layout) → HasFault (layout next) old.place old.left fault)
 
--- The number wasn't read.
+-- The number wasn't read, likewise.
 abbrev pub StopsNumber : ℕ → (ℕ → Bool) → Rest → Option Fault → Type 0
-StopsNumber size allows old told =
-    IfSome told (λ fault. (next : ℕ → Layout) → HasFault (number_then size allows next) old.place old.left fault)
+StopsNumber size allows old found =
+    IfSome found (λ fault. (next : ℕ → Layout) → HasFault (number_then size allows next) old.place old.left fault)

@@ -1,22 +1,13 @@
 -- Whether cases of numbers are a polyvalue is decided: they are canonical where they are the canonical cases of their own values.
-use Rattle.std.proofs.Common.{◌≡◌, ◌⊎◌, ⊎_elim, ℕ, true, Some, List, length, inl, inr, sym, ap, subst, ◌∙◌, arith, rules}
+use Rattle.std.proofs.Common.{◌⊎◌, ⊎_elim, ℕ, Some, List, length, inl, inr, sym, ap, subst, ◌∙◌, arith}
 use Rattle.std.specs.Prelude.{ℤ, pos}
 use Rattle.std.specs.Option.{unwrap_or}
-use Rattle.std.specs.Ordering.{int_eq}
 use Rattle.std.proofs.lemmas.Bool.{cases_lt}
-use Rattle.std.proofs.lemmas.Cmp.{int_eq_equiv}
 use Rattle.pv_base.specs.Polyvalue.{Case, IsCanonical, IsPolyvalue, NamesAtMost}
 use Rattle.pv_model.specs.Alternatives.{number_at}
-use Rattle.pv_base.specs.Canonical.{IsExact}
-use Rattle.pv_law_polyvalues.proofs.ExistenceLemmas.{cases-equal, some-polyvalue}
+use Rattle.pv_law_polyvalues.proofs.ExistenceLemmas.{cases-equal, numbers-exact, some-polyvalue}
 use Rattle.pv_law_polyvalues.proofs.NameLemmas.{some-names, NamesAtMost-from}
 use Rattle.pv_law_polyvalues.proofs.PolyvalueLemmas.{canonical-complete, one-canonical, value_at-agree}
-
-int_eq-exact : (x y : ℤ) → int_eq x y ≡ true → x ≡ y
-int_eq-exact x y same = search rules
-
-numbers-exact : IsExact int_eq
-numbers-exact = record { exact = int_eq-exact; itself = int_eq_equiv.refl }
 
 canonical-or-not : (cases : List (Case ℤ)) → IsCanonical cases ⊎ (IsCanonical cases → ⊥)
 canonical-or-not cases =

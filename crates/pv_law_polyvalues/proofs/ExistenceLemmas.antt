@@ -2,7 +2,9 @@
 use Rattle.std.proofs.Common.{◌≡◌, ◌⊎◌, ⊎_elim, ℕ, Bool, true, false, Some, List, [], ◌∷◌, inl, inr, length, refl, sym, ap, subst, ◌∙◌, arith}
 use Rattle.std.specs.Prelude.{IsTrue, ◌++◌, if◌then◌else◌}
 use Rattle.std.specs.List.{Contains}
+use Rattle.std.specs.Ordering.{int_eq}
 use Rattle.std.proofs.lemmas.Bool.{false≢true}
+use Rattle.std.proofs.lemmas.Bool.Decides.{Decides-int_eq}
 use Rattle.std.proofs.lemmas.List.Elements.{Contains-append_left, Contains-append_right, Contains-append_cases}
 use Rattle.pv_base.specs.declared.literal.Literal.{Literal}
 use Rattle.pv_base.specs.declared.txn.TxnId.{TxnId}
@@ -16,6 +18,10 @@ use Rattle.pv_law_polyvalues.proofs.PolyvalueLemmas.{value_at-agree, value_at-te
 use Rattle.pv_law_polyvalues.proofs.AscendingLemmas.{Ascending, ascending-tail, ascending-first, some-ordered}
 use Rattle.pv_law_polyvalues.proofs.NameLemmas.{some-names, one-names, listed-named}
 use Rattle.pv_base.proofs.MapLemmas.{Contains-unmap}
+
+-- Numbers are compared exactly.
+pub numbers-exact : IsExact int_eq
+numbers-exact = record { exact = λ x y. (Decides-int_eq x y).0; itself = λ x. (Decides-int_eq x x).1 refl }
 
 -- Equality of cases is decided.
 

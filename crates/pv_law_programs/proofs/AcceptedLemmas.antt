@@ -7,9 +7,9 @@ use Rattle.std.proofs.lemmas.Bool.{le-leb}
 use Rattle.pv_base.specs.declared.limits.TheConstants.{MAX_DEPTH, MAX_LINE}
 use Rattle.pv_base.specs.Catalog.{Declared}
 use Rattle.pv_model.specs.Syntax.{Program}
-use Rattle.pv_model.specs.FirstFault.{without_numbers}
+use Rattle.pv_model.specs.FirstMisplaced.{without_numbers}
 use Rattle.pv_model.specs.Tokens.{Token, HasTokens}
-use Rattle.pv_model.specs.Grammar.{Placed}
+use Rattle.pv_model.specs.Grammar.{Nested}
 use Rattle.pv_model.specs.ProgramText.{without_nestings, item_in, IsProgramText}
 use Rattle.pv_law_programs.specs.Prediction.{Expected, may_end, at_start, step, placed, is_unknown, first_fault}
 use Rattle.pv_base.proofs.Basics.{never}
@@ -27,7 +27,7 @@ unfolding placed
 placed_end k = refl
 
 -- no token is nested too deep
-abbrev shallow : List Placed → Bool
+abbrev shallow : List Nested → Bool
 shallow ps = list_all (λ t. nat_le t.0 MAX_DEPTH) ps
 
 and_true : (a b : Bool) → a ≡ true → b ≡ true → (a && b) ≡ true
@@ -43,7 +43,7 @@ known_token item_of (Token.name word) u = known_name (item_of word) u
 known_token item_of t u = tt
 
 -- Tokens as they are placed from here walk to an end, all known, none nested too deep.
-record Placing (item_of : List ℕ → Option ℕ) (k : List Expected) (ts : List (ℕ × Token)) (ps : List Placed) : Type 0 where
+record Placing (item_of : List ℕ → Option ℕ) (k : List Expected) (ts : List (ℕ × Token)) (ps : List Nested) : Type 0 where
   pub same : without_numbers ts ≡ without_nestings ps
   pub low : IsTrue (shallow ps)
   pub known : AreKnown item_of ps
@@ -53,11 +53,11 @@ record Placing (item_of : List ℕ → Option ℕ) (k : List Expected) (ts : Lis
 
 placing : (item_of : List ℕ → Option ℕ) (behind : ℕ) {k : List Expected} {ts : List (ℕ × Token)} → Clean item_of behind k ts → Placing item_of k ts (placed k ts)
 placing item_of behind (ends k e) =
-    subst (λ (ps : List Placed). Placing item_of k [] ps) (sym (placed_end k))
+    subst (λ (ps : List Nested). Placing item_of k [] ps) (sym (placed_end k))
     (record { same = refl; low = refl; known = tt; last = k; walks = here k []; ended = e })
 placing item_of behind (goes k c t ts now s u d w) =
     let r = placing item_of behind w in
-    subst (λ (ps : List Placed). Placing item_of k ((c, t) ∷ ts) ps) (sym (placed_one k c t ts now s))
+    subst (λ (ps : List Nested). Placing item_of k ((c, t) ∷ ts) ps) (sym (placed_one k c t ts now s))
     (record {
       same = ap (λ (l : List Token). t ∷ l) r.same;
       low = and_true (nat_le now.0 MAX_DEPTH) (shallow (placed now.1 ts)) (le-leb now.0 MAX_DEPTH d) r.low;

@@ -2,7 +2,7 @@
 use Rattle.std.proofs.Common.{◌≡◌, ℕ, ℤ, pos, Bool, true, false, cond, List, Result, Ok, Err, refl, sym, ap, ◌∙◌, subst, inl, inr}
 use Rattle.std.specs.Prelude.{◌==◌, IsTrue, neg_ℤ, not}
 use Rattle.std.proofs.lemmas.Bool.{cases_Bool, eq-eqb, or_left, or_right}
-use Rattle.pv_model.specs.Check.{reads, names}
+use Rattle.pv_model.specs.Check.{reads, names_item}
 use Rattle.pv_model.specs.Syntax.{Expr, number, item, minus, negation, two, Program, end, assign, require, return, when, when_else}
 use Rattle.pv_base.specs.declared.reply.Decline.{Decline}
 use Rattle.pv_base.specs.declared.reply.Decline.TheVariants.{Require}
@@ -70,33 +70,33 @@ module _ (set : ℕ → Bool) where
   cond-alike true x y z w p q = p
   cond-alike false x y z w p q = q
 
-  run-alike : (program : Program) (rows others : List Row) → Covers (names program) → HaveSameValuesOf set rows others
+  run-alike : (program : Program) (rows others : List Row) → Covers (names_item program) → HaveSameValuesOf set rows others
       → AreAlike (course_of program rows) (course_of program others)
   run-alike end rows others covers same = same
   run-alike (assign n e next) rows others covers same =
       then_with-alike (value_of e rows) (value_of e others) _ _
-      (value_of-alike e rows others (λ m r. covers m (or_right (n == m) _ (or_left (reads e m) (names next m) r))) same)
-      (λ v. run-alike next (with_row rows n v) (with_row others n v) (λ m r. covers m (or_right (n == m) _ (or_right (reads e m) (names next m) r)))
+      (value_of-alike e rows others (λ m r. covers m (or_right (n == m) _ (or_left (reads e m) (names_item next m) r))) same)
+      (λ v. run-alike next (with_row rows n v) (with_row others n v) (λ m r. covers m (or_right (n == m) _ (or_right (reads e m) (names_item next m) r)))
       (with_row-alike rows others n v (covers n (or_left (n == n) _ (eq-eqb n n refl))) same))
   run-alike (require e next) rows others covers same =
-      then_with-alike (value_of e rows) (value_of e others) _ _ (value_of-alike e rows others (λ m r. covers m (or_left (reads e m) (names next m) r)) same)
-      (λ v. cond-alike (holds v) _ (refused Require) _ (refused Require) (run-alike next rows others (λ m r. covers m (or_right (reads e m) (names next m) r)) same) refl)
+      then_with-alike (value_of e rows) (value_of e others) _ _ (value_of-alike e rows others (λ m r. covers m (or_left (reads e m) (names_item next m) r)) same)
+      (λ v. cond-alike (holds v) _ (refused Require) _ (refused Require) (run-alike next rows others (λ m r. covers m (or_right (reads e m) (names_item next m) r)) same) refl)
   run-alike (return e next) rows others covers same =
-      then_with-alike (value_of e rows) (value_of e others) _ _ (value_of-alike e rows others (λ m r. covers m (or_left (reads e m) (names next m) r)) same)
+      then_with-alike (value_of e rows) (value_of e others) _ _ (value_of-alike e rows others (λ m r. covers m (or_left (reads e m) (names_item next m) r)) same)
       (λ v. (refl, same))
   run-alike (when e body next) rows others covers same =
       then_with-alike (value_of e rows) (value_of e others) _ _ (value_of-alike e rows others (λ m r. covers m (or_left (reads e m) _ r)) same)
       (λ v. then_run-alike _ _ (course_of next) (course_of next)
       (cond-alike (holds v) (course_of body rows) (ended rows) (course_of body others) (ended others)
-      (run-alike body rows others (λ m r. covers m (or_right (reads e m) _ (or_left (names body m) (names next m) r))) same) same)
-      (λ now then. run-alike next now then (λ m r. covers m (or_right (reads e m) _ (or_right (names body m) (names next m) r)))))
+      (run-alike body rows others (λ m r. covers m (or_right (reads e m) _ (or_left (names_item body m) (names_item next m) r))) same) same)
+      (λ now then. run-alike next now then (λ m r. covers m (or_right (reads e m) _ (or_right (names_item body m) (names_item next m) r)))))
   run-alike (when_else e body other next) rows others covers same =
       then_with-alike (value_of e rows) (value_of e others) _ _ (value_of-alike e rows others (λ m r. covers m (or_left (reads e m) _ r)) same)
       (λ v. then_run-alike _ _ (course_of next) (course_of next)
       (cond-alike (holds v) (course_of body rows) (course_of other rows) (course_of body others) (course_of other others)
-      (run-alike body rows others (λ m r. covers m (or_right (reads e m) _ (or_left (names body m) _ r))) same)
-      (run-alike other rows others (λ m r. covers m (or_right (reads e m) _ (or_right (names body m) _ (or_left (names other m) (names next m) r)))) same))
-      (λ now then. run-alike next now then (λ m r. covers m (or_right (reads e m) _ (or_right (names body m) _ (or_right (names other m) (names next m) r))))))
+      (run-alike body rows others (λ m r. covers m (or_right (reads e m) _ (or_left (names_item body m) _ r))) same)
+      (run-alike other rows others (λ m r. covers m (or_right (reads e m) _ (or_right (names_item body m) _ (or_left (names_item other m) (names_item next m) r)))) same))
+      (λ now then. run-alike next now then (λ m r. covers m (or_right (reads e m) _ (or_right (names_item body m) _ (or_right (names_item other m) (names_item next m) r))))))
 
   effect_of-alike : (rows others : List Row) (o p : Course) → HaveSameValuesOf set rows others → AreAlike o p
       → ((effect_of rows o).reply ≡ (effect_of others p).reply) × HaveSameValuesOf set (effect_of rows o).rows (effect_of others p).rows
@@ -110,7 +110,7 @@ module _ (set : ℕ → Bool) where
   effect_of-alike rows others (refused d) (returned w then) same a = absurd a
   effect_of-alike rows others (refused d) (refused e) same a = (ap (λ (x : Decline). Declined x) a, same)
 
-  pub own_rows_alone : (program : Program) (rows others : List Row) → Covers (names program) → HaveSameValuesOf set rows others
+  pub own_rows_alone : (program : Program) (rows others : List Row) → Covers (names_item program) → HaveSameValuesOf set rows others
       → ((exec program rows).reply ≡ (exec program others).reply) × HaveSameValuesOf set (exec program rows).rows (exec program others).rows
   unfolding exec
   own_rows_alone program rows others covers same =

@@ -7,7 +7,7 @@ use Rattle.std.proofs.lemmas.Option.{none-some}
 use Rattle.std.proofs.lemmas.List.{length-append}
 use Rattle.pv_base.specs.declared.limits.TheConstants.{MAX_DEPTH}
 use Rattle.pv_model.specs.Tokens.{Token, token_of, AreTokens, at_end, at_blank, at_token, at_stray}
-use Rattle.pv_model.specs.Grammar.{Placed}
+use Rattle.pv_model.specs.Grammar.{Nested}
 use Rattle.pv_model.specs.ProgramText.{Kind, malformed, unknown_name, too_deep, without_nestings}
 use Rattle.pv_law_programs.specs.Prediction.{Expected, may_end, step, is_unknown, first_fault}
 use Rattle.pv_base.proofs.Basics.{Some_inj, heads, tails}
@@ -20,17 +20,17 @@ Now = ℕ × List Expected
 
 module _ (item_of : List ℕ → Option ℕ) (behind : ℕ) where
   -- Tokens are at fault at once.
-  pub data Stops : List Expected → List (ℕ × Token) → Kind × ℕ → Type 0 where
-    ends_early : (k : List Expected) → may_end k ≡ false → Stops k [] (malformed, behind)
-    at_nothing : (k : List Expected) (c : ℕ) (t : Token) (ts : List (ℕ × Token)) → step k t ≡ None → Stops k ((c, t) ∷ ts) (malformed, c)
+  pub data StopsAt : List Expected → List (ℕ × Token) → Kind × ℕ → Type 0 where
+    ends_early : (k : List Expected) → may_end k ≡ false → StopsAt k [] (malformed, behind)
+    at_nothing : (k : List Expected) (c : ℕ) (t : Token) (ts : List (ℕ × Token)) → step k t ≡ None → StopsAt k ((c, t) ∷ ts) (malformed, c)
     at_unknown : (k : List Expected) (c : ℕ) (t : Token) (ts : List (ℕ × Token)) (now : ℕ × List Expected) → step k t ≡ Some now → is_unknown item_of t ≡ true
-        → Stops k ((c, t) ∷ ts) (unknown_name, c)
+        → StopsAt k ((c, t) ∷ ts) (unknown_name, c)
     at_deep : (k : List Expected) (c : ℕ) (t : Token) (ts : List (ℕ × Token)) (now : ℕ × List Expected) → step k t ≡ Some now → is_unknown item_of t ≡ false
-        → MAX_DEPTH < now.0 → Stops k ((c, t) ∷ ts) (too_deep, c)
+        → MAX_DEPTH < now.0 → StopsAt k ((c, t) ∷ ts) (too_deep, c)
 
   -- Tokens go on without a fault up to one.
   pub data Faulty : List Expected → List (ℕ × Token) → Kind × ℕ → Type 0 where
-    stops : (k : List Expected) (ts : List (ℕ × Token)) (f : Kind × ℕ) → Stops k ts f → Faulty k ts f
+    stops : (k : List Expected) (ts : List (ℕ × Token)) (f : Kind × ℕ) → StopsAt k ts f → Faulty k ts f
     goes_on : (k : List Expected) (c : ℕ) (t : Token) (ts : List (ℕ × Token)) (f : Kind × ℕ) (now : ℕ × List Expected) → step k t ≡ Some now
         → is_unknown item_of t ≡ false → now.0 ≤ MAX_DEPTH → Faulty now.1 ts f → Faulty k ((c, t) ∷ ts) f
 
@@ -48,9 +48,9 @@ module _ (item_of : List ℕ → Option ℕ) (behind : ℕ) where
   unfolding first_fault
   fault_at_token k t ts = refl
 
-  stops_at_end : (k : List Expected) (f : Kind × ℕ) (b : Bool) → may_end k ≡ b → cond b None (Some (malformed, behind)) ≡ Some f → Stops k [] f
+  stops_at_end : (k : List Expected) (f : Kind × ℕ) (b : Bool) → may_end k ≡ b → cond b None (Some (malformed, behind)) ≡ Some f → StopsAt k [] f
   stops_at_end k f true is e = absurd (none-some f e)
-  stops_at_end k f false is e = subst (λ (g : Kind × ℕ). Stops k [] g) (Some_inj e) (ends_early k is)
+  stops_at_end k f false is e = subst (λ (g : Kind × ℕ). StopsAt k [] g) (Some_inj e) (ends_early k is)
 
   faulty_below : (k : List Expected) (c : ℕ) (t : Token) (ts : List (ℕ × Token)) (f : Kind × ℕ) (now : Now) (b : Bool) → nat_lt MAX_DEPTH now.0 ≡ b → step k t ≡ Some now
       → is_unknown item_of t ≡ false → (first_fault item_of behind now.1 ts ≡ Some f → Faulty now.1 ts f)
@@ -113,11 +113,11 @@ module _ (item_of : List ℕ → Option ℕ) (behind : ℕ) where
 pub same_step : (k : List Expected) (t u : Token) → t ≡ u → step k t ≡ step k u
 same_step k t u e = ap (λ (x : Token). step k x) e
 
-pub walks_same : (ts : List Placed) (j more : List Expected) (d : ℕ) (now : Now) → now ≡ (d, more) → Walks more ts j [] → Walks now.1 ts j []
+pub walks_same : (ts : List Nested) (j more : List Expected) (d : ℕ) (now : Now) → now ≡ (d, more) → Walks more ts j [] → Walks now.1 ts j []
 walks_same ts j more d now e w = subst (λ (x : List Expected). Walks x ts j []) (sym (ap (λ (x : Now). x.1) e)) w
 
 -- What walks from here goes to one stack, and not past a token that can't go on.
-pub one_end : {k m j : List Expected} {ps qs : List Placed} → Walks k ps m [] → Walks k qs j [] → without_nestings ps ≡ without_nestings qs → m ≡ j
+pub one_end : {k m j : List Expected} {ps qs : List Nested} → Walks k ps m [] → Walks k qs j [] → without_nestings ps ≡ without_nestings qs → m ≡ j
 one_end (here k ts) (here k2 ts2) e = refl
 one_end (here k ts) (on k2 more2 j d2 t2 ts2 r2 s2 w2) e = absurd cc
 one_end (on k more j d t ts r s w) (here k2 ts2) e = absurd cc
@@ -127,7 +127,7 @@ one_end (on k more m d t ts r s w) (on k2 more2 j d2 t2 ts2 r2 s2 w2) e =
     let now : (d, more) ≡ (d2, more2) = Some_inj (sym s ∙ same_step k t t2 same ∙ s2) in
     one_end w (walks_same ts2 j more2 d2 (d, more) now w2) tail
 
-pub no_way : {k m j : List Expected} {ps qs : List Placed} (t : Token) (r : List Token) → Walks k ps m [] → Walks k qs j []
+pub no_way : {k m j : List Expected} {ps qs : List Nested} (t : Token) (r : List Token) → Walks k ps m [] → Walks k qs j []
     → without_nestings qs ≡ without_nestings ps ++ t ∷ r → step m t ≡ None → ⊥
 no_way t r (here k ts) (here k2 ts2) e n = absurd cc
 no_way t r (here k ts) (on k2 more2 j d2 t2 ts2 r2 s2 w2) e n =

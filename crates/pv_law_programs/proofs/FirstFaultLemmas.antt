@@ -1,7 +1,7 @@
 -- There is one first fault, and none in what is whole.
 use Rattle.std.proofs.Common.{◌≡◌, ℕ, List, [], ◌∷◌, ◌++◌, inl, inr, sym, ap, ◌∙◌, subst, append_assoc}
 use Rattle.std.proofs.lemmas.List.{append-nil, map-append}
-use Rattle.pv_model.specs.FirstFault.{MayBegin, IsMisplaced, IsFirstFault, without_numbers}
+use Rattle.pv_model.specs.FirstMisplaced.{MayBegin, IsMisplaced, IsFirstFault, without_numbers}
 
 -- xs with the element behind them is a beginning of ys
 abbrev IsBefore : {A : Type 0} → List A → A → List A → Type 0

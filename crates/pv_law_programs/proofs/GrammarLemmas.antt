@@ -7,7 +7,7 @@ use Rattle.pv_model.specs.Syntax.Op.{or, and, equal, unequal, less, at_most, gre
 use Rattle.pv_model.specs.Syntax.Expr.{number, item, minus, negation, two}
 use Rattle.pv_model.specs.Syntax.Program.{assign, require, return, when, when_else}
 use Rattle.pv_model.specs.Tokens.{Token}
-use Rattle.pv_model.specs.Grammar.{Placed, Chain, disjunction, conjunction, sum, product, Phrase, chain, negated, comparison, unary, joins, compares, is_min_or_max, side, Reads, chained, not, not_negated, compared, not_compared, negative, numeral, named, in_brackets, of_two, GoesOn, no_more, one_more, ReadsProgram, assigns, requires, returns, asks, asks_else, ReadsNext, last, next}
+use Rattle.pv_model.specs.Grammar.{Nested, Chain, disjunction, conjunction, sum, product, Phrase, chain, negated, comparison, unary, joins, compares, is_min_or_max, side, Reads, chained, not, not_negated, compared, not_compared, negative, numeral, named, in_brackets, of_two, GoesOn, no_more, one_more, ReadsProgram, assigns, requires, returns, asks, asks_else, ReadsNext, last, next}
 use Rattle.pv_model.specs.ProgramText.{without_nestings, AreProgram}
 use Rattle.pv_base.proofs.Basics.{never, Some_inj, heads, tails}
 
@@ -43,18 +43,18 @@ abbrev pub stops_at : Phrase → Op → Bool
 stops_at phrase op = nat_le (suc (level op)) (limit phrase)
 
 -- what follows doesn't go on this part
-abbrev pub Stops : Phrase → List Token → Type 0
-Stops phrase (Token.operator op ∷ ts) = IsTrue (stops_at phrase op)
-Stops phrase _ = Unit {0}
+abbrev pub EndsPhrase : Phrase → List Token → Type 0
+EndsPhrase phrase (Token.operator op ∷ ts) = IsTrue (stops_at phrase op)
+EndsPhrase phrase _ = Unit {0}
 
 -- what follows doesn't go on a program
-abbrev pub StopsProgram : List Token → Type 0
-StopsProgram (Token.operator op ∷ ts) = ⊥
-StopsProgram (Token.then_next ∷ ts) = ⊥
-StopsProgram (Token.otherwise ∷ ts) = ⊥
-StopsProgram _ = Unit {0}
+abbrev pub EndsProgram : List Token → Type 0
+EndsProgram (Token.operator op ∷ ts) = ⊥
+EndsProgram (Token.then_next ∷ ts) = ⊥
+EndsProgram (Token.otherwise ∷ ts) = ⊥
+EndsProgram _ = Unit {0}
 
-abbrev pub E : List Placed → List Token
+abbrev pub E : List Nested → List Token
 E ts = without_nestings ts
 
 abbrev pub tag : Token → ℕ
@@ -212,65 +212,65 @@ stop_of_sum rest h = absurd (never h)
 stop_of_sum lesser h = refl
 stop_of_sum larger h = refl
 
-Stops-side : (c : Chain) (ts : List Token) → Stops (chain c) ts → Stops (side c) ts
-Stops-side c [] h = tt
-Stops-side c (Token.name x ∷ ts) h = tt
-Stops-side c (Token.number x ∷ ts) h = tt
-Stops-side c (Token.operator op ∷ ts) h = stop_of_side c op h
-Stops-side c (Token.negates ∷ ts) h = tt
-Stops-side c (Token.asks ∷ ts) h = tt
-Stops-side c (Token.otherwise ∷ ts) h = tt
-Stops-side c (Token.requires ∷ ts) h = tt
-Stops-side c (Token.returns ∷ ts) h = tt
-Stops-side c (Token.becomes ∷ ts) h = tt
-Stops-side c (Token.opens ∷ ts) h = tt
-Stops-side c (Token.closes ∷ ts) h = tt
-Stops-side c (Token.opens_body ∷ ts) h = tt
-Stops-side c (Token.closes_body ∷ ts) h = tt
-Stops-side c (Token.then_next ∷ ts) h = tt
-Stops-side c (Token.parts ∷ ts) h = tt
-Stops-side c (Token.reserved ∷ ts) h = tt
-Stops-side c (Token.stray x ∷ ts) h = tt
+EndsPhrase-side : (c : Chain) (ts : List Token) → EndsPhrase (chain c) ts → EndsPhrase (side c) ts
+EndsPhrase-side c [] h = tt
+EndsPhrase-side c (Token.name x ∷ ts) h = tt
+EndsPhrase-side c (Token.number x ∷ ts) h = tt
+EndsPhrase-side c (Token.operator op ∷ ts) h = stop_of_side c op h
+EndsPhrase-side c (Token.negates ∷ ts) h = tt
+EndsPhrase-side c (Token.asks ∷ ts) h = tt
+EndsPhrase-side c (Token.otherwise ∷ ts) h = tt
+EndsPhrase-side c (Token.requires ∷ ts) h = tt
+EndsPhrase-side c (Token.returns ∷ ts) h = tt
+EndsPhrase-side c (Token.becomes ∷ ts) h = tt
+EndsPhrase-side c (Token.opens ∷ ts) h = tt
+EndsPhrase-side c (Token.closes ∷ ts) h = tt
+EndsPhrase-side c (Token.opens_body ∷ ts) h = tt
+EndsPhrase-side c (Token.closes_body ∷ ts) h = tt
+EndsPhrase-side c (Token.then_next ∷ ts) h = tt
+EndsPhrase-side c (Token.parts ∷ ts) h = tt
+EndsPhrase-side c (Token.reserved ∷ ts) h = tt
+EndsPhrase-side c (Token.stray x ∷ ts) h = tt
 
-pub Stops-sum : (ts : List Token) → Stops comparison ts → Stops (chain sum) ts
-Stops-sum [] h = tt
-Stops-sum (Token.name x ∷ ts) h = tt
-Stops-sum (Token.number x ∷ ts) h = tt
-Stops-sum (Token.operator op ∷ ts) h = stop_of_sum op h
-Stops-sum (Token.negates ∷ ts) h = tt
-Stops-sum (Token.asks ∷ ts) h = tt
-Stops-sum (Token.otherwise ∷ ts) h = tt
-Stops-sum (Token.requires ∷ ts) h = tt
-Stops-sum (Token.returns ∷ ts) h = tt
-Stops-sum (Token.becomes ∷ ts) h = tt
-Stops-sum (Token.opens ∷ ts) h = tt
-Stops-sum (Token.closes ∷ ts) h = tt
-Stops-sum (Token.opens_body ∷ ts) h = tt
-Stops-sum (Token.closes_body ∷ ts) h = tt
-Stops-sum (Token.then_next ∷ ts) h = tt
-Stops-sum (Token.parts ∷ ts) h = tt
-Stops-sum (Token.reserved ∷ ts) h = tt
-Stops-sum (Token.stray x ∷ ts) h = tt
+pub EndsPhrase-sum : (ts : List Token) → EndsPhrase comparison ts → EndsPhrase (chain sum) ts
+EndsPhrase-sum [] h = tt
+EndsPhrase-sum (Token.name x ∷ ts) h = tt
+EndsPhrase-sum (Token.number x ∷ ts) h = tt
+EndsPhrase-sum (Token.operator op ∷ ts) h = stop_of_sum op h
+EndsPhrase-sum (Token.negates ∷ ts) h = tt
+EndsPhrase-sum (Token.asks ∷ ts) h = tt
+EndsPhrase-sum (Token.otherwise ∷ ts) h = tt
+EndsPhrase-sum (Token.requires ∷ ts) h = tt
+EndsPhrase-sum (Token.returns ∷ ts) h = tt
+EndsPhrase-sum (Token.becomes ∷ ts) h = tt
+EndsPhrase-sum (Token.opens ∷ ts) h = tt
+EndsPhrase-sum (Token.closes ∷ ts) h = tt
+EndsPhrase-sum (Token.opens_body ∷ ts) h = tt
+EndsPhrase-sum (Token.closes_body ∷ ts) h = tt
+EndsPhrase-sum (Token.then_next ∷ ts) h = tt
+EndsPhrase-sum (Token.parts ∷ ts) h = tt
+EndsPhrase-sum (Token.reserved ∷ ts) h = tt
+EndsPhrase-sum (Token.stray x ∷ ts) h = tt
 
-Stops-expr : (ts : List Token) → StopsProgram ts → Stops (chain disjunction) ts
-Stops-expr [] h = tt
-Stops-expr (Token.name x ∷ ts) h = tt
-Stops-expr (Token.number x ∷ ts) h = tt
-Stops-expr (Token.operator op ∷ ts) h = absurd h
-Stops-expr (Token.negates ∷ ts) h = tt
-Stops-expr (Token.asks ∷ ts) h = tt
-Stops-expr (Token.otherwise ∷ ts) h = tt
-Stops-expr (Token.requires ∷ ts) h = tt
-Stops-expr (Token.returns ∷ ts) h = tt
-Stops-expr (Token.becomes ∷ ts) h = tt
-Stops-expr (Token.opens ∷ ts) h = tt
-Stops-expr (Token.closes ∷ ts) h = tt
-Stops-expr (Token.opens_body ∷ ts) h = tt
-Stops-expr (Token.closes_body ∷ ts) h = tt
-Stops-expr (Token.then_next ∷ ts) h = tt
-Stops-expr (Token.parts ∷ ts) h = tt
-Stops-expr (Token.reserved ∷ ts) h = tt
-Stops-expr (Token.stray x ∷ ts) h = tt
+EndsPhrase-expr : (ts : List Token) → EndsProgram ts → EndsPhrase (chain disjunction) ts
+EndsPhrase-expr [] h = tt
+EndsPhrase-expr (Token.name x ∷ ts) h = tt
+EndsPhrase-expr (Token.number x ∷ ts) h = tt
+EndsPhrase-expr (Token.operator op ∷ ts) h = absurd h
+EndsPhrase-expr (Token.negates ∷ ts) h = tt
+EndsPhrase-expr (Token.asks ∷ ts) h = tt
+EndsPhrase-expr (Token.otherwise ∷ ts) h = tt
+EndsPhrase-expr (Token.requires ∷ ts) h = tt
+EndsPhrase-expr (Token.returns ∷ ts) h = tt
+EndsPhrase-expr (Token.becomes ∷ ts) h = tt
+EndsPhrase-expr (Token.opens ∷ ts) h = tt
+EndsPhrase-expr (Token.closes ∷ ts) h = tt
+EndsPhrase-expr (Token.opens_body ∷ ts) h = tt
+EndsPhrase-expr (Token.closes_body ∷ ts) h = tt
+EndsPhrase-expr (Token.then_next ∷ ts) h = tt
+EndsPhrase-expr (Token.parts ∷ ts) h = tt
+EndsPhrase-expr (Token.reserved ∷ ts) h = tt
+EndsPhrase-expr (Token.stray x ∷ ts) h = tt
 
 pub sub_is_no_prefix : (op : Op) → Token.operator sub ≡ Token.operator op → IsTrue (is_min_or_max op) → ⊥
 sub_is_no_prefix op e h = let same : sub ≡ op = cc in never (subst (λ (o : Op). IsTrue (is_min_or_max o)) (sym same) h)
@@ -289,7 +289,7 @@ inner_side sum h = tt
 inner_side product h = tt
 
 module _ (item_of : List ℕ → Option ℕ) where
-  pub begins_with_no_not : {phrase : Phrase} {d : ℕ} {ts r : List Placed} {e : Expr} (xs : List Token) → Reads item_of phrase d ts r e → IsInner phrase → E ts ≡ Token.negates ∷ xs → ⊥
+  pub begins_with_no_not : {phrase : Phrase} {d : ℕ} {ts r : List Nested} {e : Expr} (xs : List Token) → Reads item_of phrase d ts r e → IsInner phrase → E ts ≡ Token.negates ∷ xs → ⊥
   begins_with_no_not xs (chained c d ts mid r left e p g) h eq = begins_with_no_not xs p (inner_side c h) eq
   begins_with_no_not xs (not d ts r e p) h eq = h
   begins_with_no_not xs (not_negated d ts r e p) h eq = absurd h
@@ -302,13 +302,13 @@ module _ (item_of : List ℕ → Option ℕ) where
   begins_with_no_not xs (of_two op d ts mid r left right m p q) h eq = differ eq refl
 
   -- A side stops where the chain behind it goes on or stops.
-  pub goes_on_stops : {c : Chain} {left e : Expr} {d : ℕ} {mid r : List Placed} → GoesOn item_of c left d mid r e → Stops (chain c) (E r) → Stops (side c) (E mid)
-  goes_on_stops (no_more c left d r) h = Stops-side c (E r) h
+  pub goes_on_stops : {c : Chain} {left e : Expr} {d : ℕ} {mid r : List Nested} → GoesOn item_of c left d mid r e → EndsPhrase (chain c) (E r) → EndsPhrase (side c) (E mid)
+  goes_on_stops (no_more c left d r) h = EndsPhrase-side c (E r) h
   goes_on_stops (one_more c op left right e d ts mid r j p g) h = joined_stops_side c op j
 
   mutual
-    one_expr : {phrase : Phrase} {d k : ℕ} {ts us r s : List Placed} {e f : Expr} → Reads item_of phrase d ts r e → Reads item_of phrase k us s f
-        → Stops phrase (E r) → Stops phrase (E s) → E ts ≡ E us → (e ≡ f) × (E r ≡ E s)
+    one_expr : {phrase : Phrase} {d k : ℕ} {ts us r s : List Nested} {e f : Expr} → Reads item_of phrase d ts r e → Reads item_of phrase k us s f
+        → EndsPhrase phrase (E r) → EndsPhrase phrase (E s) → E ts ≡ E us → (e ≡ f) × (E r ≡ E s)
     one_expr (chained c d ts mid r left e p g) (chained c2 d2 ts2 mid2 r2 left2 e2 p2 g2) h h2 eq =
         let first = one_expr p p2 (goes_on_stops g h) (goes_on_stops g2 h2) eq in one_chain g g2 h h2 first.0 first.1
     one_expr (not d ts r e p) (not d2 ts2 r2 e2 p2) h h2 eq =
@@ -320,13 +320,13 @@ module _ (item_of : List ℕ → Option ℕ) where
     one_expr (not_negated d ts r e p) (not_negated d2 ts2 r2 e2 p2) h h2 eq =
         one_expr p p2 h h2 eq
     one_expr (compared op d ts mid r left right c p q) (compared op2 d2 ts2 mid2 r2 left2 right2 c2 p2 q2) h h2 eq =
-        let first = one_expr p p2 (compared_stops_sum op c) (compared_stops_sum op2 c2) eq in let same : op ≡ op2 = operator_inj (heads first.1) in let second = one_expr q q2 (Stops-sum (E r) h) (Stops-sum (E r2) h2) (tails first.1) in ((λ i. two (same i) (first.0 i) (second.0 i)), second.1)
+        let first = one_expr p p2 (compared_stops_sum op c) (compared_stops_sum op2 c2) eq in let same : op ≡ op2 = operator_inj (heads first.1) in let second = one_expr q q2 (EndsPhrase-sum (E r) h) (EndsPhrase-sum (E r2) h2) (tails first.1) in ((λ i. two (same i) (first.0 i) (second.0 i)), second.1)
     one_expr (compared op d ts mid r left right c p q) (not_compared d2 ts2 r2 e2 p2) h h2 eq =
-        let first = one_expr p p2 (compared_stops_sum op c) (Stops-sum (E r2) h2) eq in absurd (compared_is_no_stop op c (subst (λ (l : List Token). Stops comparison l) (sym first.1) h2))
+        let first = one_expr p p2 (compared_stops_sum op c) (EndsPhrase-sum (E r2) h2) eq in absurd (compared_is_no_stop op c (subst (λ (l : List Token). EndsPhrase comparison l) (sym first.1) h2))
     one_expr (not_compared d ts r e p) (compared op2 d2 ts2 mid2 r2 left2 right2 c2 p2 q2) h h2 eq =
-        let first = one_expr p p2 (Stops-sum (E r) h) (compared_stops_sum op2 c2) eq in absurd (compared_is_no_stop op2 c2 (subst (λ (l : List Token). Stops comparison l) first.1 h))
+        let first = one_expr p p2 (EndsPhrase-sum (E r) h) (compared_stops_sum op2 c2) eq in absurd (compared_is_no_stop op2 c2 (subst (λ (l : List Token). EndsPhrase comparison l) first.1 h))
     one_expr (not_compared d ts r e p) (not_compared d2 ts2 r2 e2 p2) h h2 eq =
-        one_expr p p2 (Stops-sum (E r) h) (Stops-sum (E r2) h2) eq
+        one_expr p p2 (EndsPhrase-sum (E r) h) (EndsPhrase-sum (E r2) h2) eq
     one_expr (negative d ts r e p) (negative d2 ts2 r2 e2 p2) h h2 eq =
         let same = one_expr p p2 h h2 (tails eq) in (ap minus same.0, same.1)
     one_expr (negative d ts r e p) (numeral n2 d2 r2 l2) h h2 eq =
@@ -378,30 +378,30 @@ module _ (item_of : List ℕ → Option ℕ) where
     one_expr (of_two op d ts mid r left right m p q) (of_two op2 d2 ts2 mid2 r2 left2 right2 m2 p2 q2) h h2 eq =
         let same : op ≡ op2 = operator_inj (heads eq) in let first = one_expr p p2 tt tt (tails (tails eq)) in let second = one_expr q q2 tt tt (tails first.1) in ((λ i. two (same i) (first.0 i) (second.0 i)), tails second.1)
 
-    one_chain : {c : Chain} {left left2 e f : Expr} {d k : ℕ} {ts us r s : List Placed} → GoesOn item_of c left d ts r e → GoesOn item_of c left2 k us s f
-        → Stops (chain c) (E r) → Stops (chain c) (E s) → left ≡ left2 → E ts ≡ E us → (e ≡ f) × (E r ≡ E s)
+    one_chain : {c : Chain} {left left2 e f : Expr} {d k : ℕ} {ts us r s : List Nested} → GoesOn item_of c left d ts r e → GoesOn item_of c left2 k us s f
+        → EndsPhrase (chain c) (E r) → EndsPhrase (chain c) (E s) → left ≡ left2 → E ts ≡ E us → (e ≡ f) × (E r ≡ E s)
     one_chain (no_more c left d r) (no_more c2 left2 d2 r2) h h2 l eq = (l, eq)
     one_chain (no_more c left d r) (one_more c2 op2 left2 right2 e2 d2 ts2 mid2 r2 j2 p2 g2) h h2 l eq =
-        absurd (joined_is_no_stop c2 op2 j2 (subst (λ (x : List Token). Stops (chain c2) x) eq h))
+        absurd (joined_is_no_stop c2 op2 j2 (subst (λ (x : List Token). EndsPhrase (chain c2) x) eq h))
     one_chain (one_more c op left right e d ts mid r j p g) (no_more c2 left2 d2 r2) h h2 l eq =
-        absurd (joined_is_no_stop c op j (subst (λ (x : List Token). Stops (chain c) x) (sym eq) h2))
+        absurd (joined_is_no_stop c op j (subst (λ (x : List Token). EndsPhrase (chain c) x) (sym eq) h2))
     one_chain (one_more c op left right e d ts mid r j p g) (one_more c2 op2 left2 right2 e2 d2 ts2 mid2 r2 j2 p2 g2) h h2 l eq =
         let same : op ≡ op2 = operator_inj (heads eq) in
         let first = one_expr p p2 (goes_on_stops g h) (goes_on_stops g2 h2) (tails eq) in
         one_chain g g2 h h2 (λ i. two (same i) (l i) (first.0 i)) first.1
 
-  pub next_stops : {d : ℕ} {mid r : List Placed} {p : Program} → ReadsNext item_of d mid r p → StopsProgram (E r) → Stops (chain disjunction) (E mid)
-  next_stops (last d r) h = Stops-expr (E r) h
+  pub next_stops : {d : ℕ} {mid r : List Nested} {p : Program} → ReadsNext item_of d mid r p → EndsProgram (E r) → EndsPhrase (chain disjunction) (E mid)
+  next_stops (last d r) h = EndsPhrase-expr (E r) h
   next_stops (next d ts r p q) h = tt
 
   -- Behind a statement that stops there is no "else".
-  pub next_is_no_else : {d : ℕ} {mid r : List Placed} {p : Program} (xs : List Token) → ReadsNext item_of d mid r p → StopsProgram (E r) → E mid ≡ Token.otherwise ∷ xs → ⊥
-  next_is_no_else xs (last d r) h eq = subst (λ (l : List Token). StopsProgram l) eq h
+  pub next_is_no_else : {d : ℕ} {mid r : List Nested} {p : Program} (xs : List Token) → ReadsNext item_of d mid r p → EndsProgram (E r) → E mid ≡ Token.otherwise ∷ xs → ⊥
+  next_is_no_else xs (last d r) h eq = subst (λ (l : List Token). EndsProgram l) eq h
   next_is_no_else xs (next d ts r p q) h eq = differ eq refl
 
   mutual
-    one_read : {d k : ℕ} {ts us r s : List Placed} {p q : Program} → ReadsProgram item_of d ts r p → ReadsProgram item_of k us s q
-        → StopsProgram (E r) → StopsProgram (E s) → E ts ≡ E us → (p ≡ q) × (E r ≡ E s)
+    one_read : {d k : ℕ} {ts us r s : List Nested} {p q : Program} → ReadsProgram item_of d ts r p → ReadsProgram item_of k us s q
+        → EndsProgram (E r) → EndsProgram (E s) → E ts ≡ E us → (p ≡ q) × (E r ≡ E s)
     one_read (assigns word n d ts mid r e nx i x y) (assigns word2 n2 d2 ts2 mid2 r2 e2 nx2 i2 x2 y2) h h2 eq =
         let same : word ≡ word2 = name_inj (heads eq) in let n_same : n ≡ n2 = Some_inj (sym i ∙ ap item_of same ∙ i2) in let first = one_expr x x2 (next_stops y h) (next_stops y2 h2) (tails (tails eq)) in let second = one_next y y2 h h2 first.1 in ((λ j. assign (n_same j) (first.0 j) (second.0 j)), second.1)
     one_read (assigns word n d ts mid r e nx i x y) (requires d2 ts2 mid2 r2 e2 nx2 x2 y2) h h2 eq =
@@ -453,11 +453,11 @@ module _ (item_of : List ℕ → Option ℕ) where
     one_read (asks_else d ts inside second mid r test body other nx x b o y) (asks_else d2 ts2 inside2 second2 mid2 r2 test2 body2 other2 nx2 x2 b2 o2 y2) h h2 eq =
         let first = one_expr x x2 tt tt (tails eq) in let inner = one_read b b2 tt tt (tails first.1) in let outer = one_read o o2 tt tt (tails (tails (tails inner.1))) in let second = one_next y y2 h h2 (tails outer.1) in ((λ j. when_else (first.0 j) (inner.0 j) (outer.0 j) (second.0 j)), second.1)
 
-    one_next : {d k : ℕ} {ts us r s : List Placed} {p q : Program} → ReadsNext item_of d ts r p → ReadsNext item_of k us s q
-        → StopsProgram (E r) → StopsProgram (E s) → E ts ≡ E us → (p ≡ q) × (E r ≡ E s)
+    one_next : {d k : ℕ} {ts us r s : List Nested} {p q : Program} → ReadsNext item_of d ts r p → ReadsNext item_of k us s q
+        → EndsProgram (E r) → EndsProgram (E s) → E ts ≡ E us → (p ≡ q) × (E r ≡ E s)
     one_next (last d r) (last d2 r2) h h2 eq = (refl, eq)
-    one_next (last d r) (next d2 ts2 r2 p2 q2) h h2 eq = absurd (subst (λ (l : List Token). StopsProgram l) eq h)
-    one_next (next d ts r p q) (last d2 r2) h h2 eq = absurd (subst (λ (l : List Token). StopsProgram l) (sym eq) h2)
+    one_next (last d r) (next d2 ts2 r2 p2 q2) h h2 eq = absurd (subst (λ (l : List Token). EndsProgram l) eq h)
+    one_next (next d ts r p q) (last d2 r2) h h2 eq = absurd (subst (λ (l : List Token). EndsProgram l) (sym eq) h2)
     one_next (next d ts r p q) (next d2 ts2 r2 p2 q2) h h2 eq = one_read q q2 h h2 (tails eq)
 
   pub one_program : (tokens : List Token) (p q : Program) → AreProgram item_of tokens p → AreProgram item_of tokens q → p ≡ q

@@ -9,13 +9,13 @@ use Rattle.std.proofs.lemmas.List.Kept.{AllPairs-filter}
 use Rattle.pv_base.proofs.ContainsLemmas.{Contains-filter}
 use Rattle.pv_base.proofs.OrderLemmas.{one-ascending_by}
 use Rattle.pv_model.specs.Syntax.{Expr, number, item, minus, negation, two, Program, end, assign, require, return, when, when_else}
-use Rattle.pv_model.specs.Check.{reads, names, AreItems}
+use Rattle.pv_model.specs.Check.{reads, names_item, AreItems}
 
 pub one_items : (program : Program) (items others : List ℕ) → AreItems program items → AreItems program others → items ≡ others
 one_items program items others are them =
     one-ascending_by (λ (n : ℕ). n) items others are.ascending them.ascending
-    (λ n h. them.whole n (All-contains (λ (n : ℕ). IsTrue (names program n)) items n are.each h))
-    (λ n h. are.whole n (All-contains (λ (n : ℕ). IsTrue (names program n)) others n them.each h))
+    (λ n h. them.whole n (All-contains (λ (n : ℕ). IsTrue (names_item program n)) items n are.each h))
+    (λ n h. are.whole n (All-contains (λ (n : ℕ). IsTrue (names_item program n)) others n them.each h))
 
 -- Each program has such a list.
 
@@ -49,23 +49,23 @@ below-expr (negation e) n is = below-expr e n is
 below-expr (two op left right) n is =
     below-either (reads left n) (reads right n) n _ _ (below-expr left n) (below-expr right n) is
 
-below-program : (program : Program) (n : ℕ) → names program n ≡ true → n < above program
+below-program : (program : Program) (n : ℕ) → names_item program n ≡ true → n < above program
 below-program end n is = absurd (false≢true is)
 below-program (assign m e next) n is =
-    below-either (m == n) (reads e n || names next n) n (m + 1) _
+    below-either (m == n) (reads e n || names_item next n) n (m + 1) _
     (λ is. omega (arith, eqb-true m n is))
-    (below-either (reads e n) (names next n) n _ _ (below-expr e n) (below-program next n)) is
+    (below-either (reads e n) (names_item next n) n _ _ (below-expr e n) (below-program next n)) is
 below-program (require e next) n is =
-    below-either (reads e n) (names next n) n _ _ (below-expr e n) (below-program next n) is
+    below-either (reads e n) (names_item next n) n _ _ (below-expr e n) (below-program next n) is
 below-program (return e next) n is =
-    below-either (reads e n) (names next n) n _ _ (below-expr e n) (below-program next n) is
+    below-either (reads e n) (names_item next n) n _ _ (below-expr e n) (below-program next n) is
 below-program (when e body next) n is =
-    below-either (reads e n) (names body n || names next n) n _ _ (below-expr e n)
-    (below-either (names body n) (names next n) n _ _ (below-program body n) (below-program next n)) is
+    below-either (reads e n) (names_item body n || names_item next n) n _ _ (below-expr e n)
+    (below-either (names_item body n) (names_item next n) n _ _ (below-program body n) (below-program next n)) is
 below-program (when_else e body other next) n is =
-    below-either (reads e n) (names body n || (names other n || names next n)) n _ _ (below-expr e n)
-    (below-either (names body n) (names other n || names next n) n _ _ (below-program body n)
-    (below-either (names other n) (names next n) n _ _ (below-program other n) (below-program next n))) is
+    below-either (reads e n) (names_item body n || (names_item other n || names_item next n)) n _ _ (below-expr e n)
+    (below-either (names_item body n) (names_item other n || names_item next n) n _ _ (below-program body n)
+    (below-either (names_item other n) (names_item next n) n _ _ (below-program other n) (below-program next n))) is
 
 range-ascending : (count : ℕ) → AllPairs (λ n later. n < later) (range_with_len 0 count)
 range-ascending count = λ i j d before within.
@@ -78,10 +78,10 @@ range-whole count n within = (n, omega (arith, within, length-range_with_len 0 c
 pub some_items : (program : Program) → (items : List ℕ) × AreItems program items
 some_items program =
     let all = range_with_len 0 (above program) in (
-      filter (names program) all,
+      filter (names_item program) all,
       record {
-        ascending = AllPairs-filter (λ n later. n < later) (names program) all (range-ascending (above program));
-        each = filter_passes (names program) all;
-        whole = λ n named. Contains-filter (names program) all n named (range-whole (above program) n (below-program program n named));
+        ascending = AllPairs-filter (λ n later. n < later) (names_item program) all (range-ascending (above program));
+        each = filter_passes (names_item program) all;
+        whole = λ n named. Contains-filter (names_item program) all n named (range-whole (above program) n (below-program program n named));
       },
     )

@@ -5,22 +5,22 @@ use Rattle.std.proofs.lemmas.List.{append-nil, map-append}
 use Rattle.std.proofs.lemmas.Option.{none-some}
 use Rattle.pv_base.specs.declared.limits.TheConstants.{MAX_DEPTH, MAX_LINE}
 use Rattle.pv_base.specs.Catalog.{Declared}
-use Rattle.pv_model.specs.FirstFault.{MayBegin, without_numbers}
+use Rattle.pv_model.specs.FirstMisplaced.{MayBegin, without_numbers}
 use Rattle.pv_model.specs.Tokens.{Token, HasTokens}
-use Rattle.pv_model.specs.Grammar.{Placed, ReadsProgram}
-use Rattle.pv_model.specs.ProgramText.{Kind, malformed, unknown_name, too_deep, without_nestings, any_item, item_in, AreSomeProgram, NamesNoItem, ComesFirst, HasFault, IsRefused, at_fault}
+use Rattle.pv_model.specs.Grammar.{Nested, ReadsProgram}
+use Rattle.pv_model.specs.ProgramText.{Kind, malformed, unknown_name, too_deep, without_nestings, any_item, item_in, AreSomeProgram, NamesNoItem, ComesFirst, HasFaultAt, IsRefused, at_fault}
 use Rattle.pv_law_programs.specs.Prediction.{Expected, may_end, at_start, step, is_unknown, first_fault}
 use Rattle.pv_base.proofs.Basics.{never, heads, tails}
 use Rattle.pv_law_programs.proofs.Walks.{Walks, here, on}
 use Rattle.pv_law_programs.proofs.PredictionLemmas.{program-walks, walks-viable}
 use Rattle.pv_law_programs.proofs.TokenLemmas.{one_token_list}
-use Rattle.pv_law_programs.proofs.FaultLemmas.{Now, Stops, ends_early, at_nothing, at_unknown, at_deep, Faulty, stops, goes_on, faulty, one_end, no_way, same_step, walks_same, Columns, columns, from_column, before_end}
+use Rattle.pv_law_programs.proofs.FaultLemmas.{Now, StopsAt, ends_early, at_nothing, at_unknown, at_deep, Faulty, stops, goes_on, faulty, one_end, no_way, same_step, walks_same, Columns, columns, from_column, before_end}
 
 -- ---- every other fault stands behind the first, or at it and isn't ranked before it
 
 -- Tokens walk from here to somewhere.
 pub record Goes (k : List Expected) (ts : List Token) : Type 0 where
-  pub placed : List Placed
+  pub placed : List Nested
   pub same : ts ≡ without_nestings placed
   pub end : List Expected
   pub walks : Walks k placed end []
@@ -39,19 +39,19 @@ goes_nowhere k = record { placed = []; same = refl; end = k; walks = here k [] }
 goes_one : (k : List Expected) (t u : Token) (now : Now) → t ≡ u → step k t ≡ Some now → Goes k (u ∷ [])
 goes_one k t u now e s = subst (λ (x : Token). Goes k (x ∷ [])) e (goes_further k t [] now s (goes_nowhere now.1))
 
-next_of : {k j : List Expected} {n : ℕ} {t : Token} {ps : List Placed} → Walks k ((n, t) ∷ ps) j [] → (more : List Expected) × (step k t ≡ Some (n, more)) × Walks more ps j []
+next_of : {k j : List Expected} {n : ℕ} {t : Token} {ps : List Nested} → Walks k ((n, t) ∷ ps) j [] → (more : List Expected) × (step k t ≡ Some (n, more)) × Walks more ps j []
 next_of (on k more j d t ts r s w) = (more, s, w)
 
 module _ (item_of : List ℕ → Option ℕ) (behind : ℕ) where
   -- What stops at once stands at the first token.
-  first_column : {k : List Expected} {ts : List (ℕ × Token)} {f : Kind × ℕ} → Stops item_of behind k ts f → (x : ℕ × Token) (rest : List (ℕ × Token)) → ts ≡ x ∷ rest → f.1 ≡ x.0
+  first_column : {k : List Expected} {ts : List (ℕ × Token)} {f : Kind × ℕ} → StopsAt item_of behind k ts f → (x : ℕ × Token) (rest : List (ℕ × Token)) → ts ≡ x ∷ rest → f.1 ≡ x.0
   first_column (ends_early k n) x rest e = absurd cc
   first_column (at_nothing k c t ts s) x rest e = ap (λ (y : ℕ × Token). y.0) (heads e)
   first_column (at_unknown k c t ts now s u) x rest e = ap (λ (y : ℕ × Token). y.0) (heads e)
   first_column (at_deep k c t ts now s u d) x rest e = ap (λ (y : ℕ × Token). y.0) (heads e)
 
   later : (k : List Expected) (ts : List (ℕ × Token)) (f : Kind × ℕ) (y : ℕ × Token) (front rest : List (ℕ × Token)) (x : ℕ × Token) (from to : ℕ)
-      → Stops item_of behind k ts f → Columns from to ts → ts ≡ y ∷ (front ++ x ∷ rest) → f.1 < x.0
+      → StopsAt item_of behind k ts f → Columns from to ts → ts ≡ y ∷ (front ++ x ∷ rest) → f.1 < x.0
   later k [] f y front rest x from to s c e = absurd cc
   later k (t ∷ ts) f y front rest x from to s c e =
       let here_is : f.1 ≡ t.0 = first_column s t ts refl in
@@ -62,7 +62,7 @@ module _ (item_of : List ℕ → Option ℕ) (behind : ℕ) where
   place_of_both e = (ap (λ (y : ℕ × Token). y.0) (heads e), ap (λ (y : ℕ × Token). y.1) (heads e))
 
   -- another token that can't go on
-  stop_malformed : {k : List Expected} {ts : List (ℕ × Token)} {f : Kind × ℕ} (line : Token) (rest : List (ℕ × Token)) (place : ℕ) → Stops item_of behind k ts f
+  stop_malformed : {k : List Expected} {ts : List (ℕ × Token)} {f : Kind × ℕ} (line : Token) (rest : List (ℕ × Token)) (place : ℕ) → StopsAt item_of behind k ts f
       → ts ≡ (place, line) ∷ rest → (Goes k (line ∷ []) → ⊥) → ComesFirst f.0 f.1 malformed place
   stop_malformed line rest place (ends_early k n) e bad = absurd cc
   stop_malformed line rest place (at_nothing k c t ts s) e bad = inr ((place_of_both e).0, omega arith)
@@ -94,7 +94,7 @@ module _ (item_of : List ℕ → Option ℕ) (behind : ℕ) where
       let yes : is_unknown item_of (Token.name word) ≡ true = ap (λ (x : Option ℕ). option_map_or (λ i. false) x true) n in
       never (sym u ∙ ap (is_unknown item_of) e ∙ yes)
 
-  stop_unknown : {k : List Expected} {ts : List (ℕ × Token)} {f : Kind × ℕ} (word : List ℕ) (rest : List (ℕ × Token)) (place : ℕ) → Stops item_of behind k ts f
+  stop_unknown : {k : List Expected} {ts : List (ℕ × Token)} {f : Kind × ℕ} (word : List ℕ) (rest : List (ℕ × Token)) (place : ℕ) → StopsAt item_of behind k ts f
       → ts ≡ (place, Token.name word) ∷ rest → item_of word ≡ None → ComesFirst f.0 f.1 unknown_name place
   stop_unknown word rest place (ends_early k n) e none = absurd cc
   stop_unknown word rest place (at_nothing k c t ts s) e none = inr ((place_of_both e).0, omega arith)
@@ -115,7 +115,7 @@ module _ (item_of : List ℕ → Option ℕ) (behind : ℕ) where
       let same : Some now ≡ Some (n, more) = sym s ∙ same_step k t u e ∙ r in
       cc
 
-  stop_deep : {k more : List Expected} {ts : List (ℕ × Token)} {f : Kind × ℕ} (token : Token) (rest : List (ℕ × Token)) (place n : ℕ) → Stops item_of behind k ts f
+  stop_deep : {k more : List Expected} {ts : List (ℕ × Token)} {f : Kind × ℕ} (token : Token) (rest : List (ℕ × Token)) (place n : ℕ) → StopsAt item_of behind k ts f
       → ts ≡ (place, token) ∷ rest → step k token ≡ Some (n, more) → ComesFirst f.0 f.1 too_deep place
   stop_deep {more} token rest place n (ends_early k h) e r = absurd cc
   stop_deep {more} token rest place n (at_nothing k c t ts s) e r =
@@ -125,7 +125,7 @@ module _ (item_of : List ℕ → Option ℕ) (behind : ℕ) where
 
   first_deep : {k j : List Expected} {ts : List (ℕ × Token)} {f : Kind × ℕ} (from to : ℕ) → Faulty item_of behind k ts f → Columns from to ts
       → (front : List (ℕ × Token)) (token : Token) (rest : List (ℕ × Token)) (place : ℕ) → ts ≡ front ++ (place, token) ∷ rest
-      → (before : List Placed) (n : ℕ) (after : List Placed) → without_numbers front ≡ without_nestings before → Walks k (before ++ (n, token) ∷ after) j [] → MAX_DEPTH < n
+      → (before : List Nested) (n : ℕ) (after : List Nested) → without_numbers front ≡ without_nestings before → Walks k (before ++ (n, token) ∷ after) j [] → MAX_DEPTH < n
       → ComesFirst f.0 f.1 too_deep place
   first_deep from to (stops k ts f s) cs [] token rest place e [] n after same walks deep = stop_deep token rest place n s e (next_of walks).1
   first_deep from to (stops k ts f s) cs [] token rest place e (y ∷ before) n after same walks deep = absurd cc
@@ -151,11 +151,11 @@ record Reached (item_of : List ℕ → Option ℕ) (behind : ℕ) (k : List Expe
   pub front : List (ℕ × Token)
   pub rest : List (ℕ × Token)
   pub split : ts ≡ front ++ rest
-  pub before : List Placed
+  pub before : List Nested
   pub same : without_numbers front ≡ without_nestings before
   pub last : List Expected
   pub walks : Walks k before last []
-  pub stop : Stops item_of behind last rest f
+  pub stop : StopsAt item_of behind last rest f
 
 reached : (item_of : List ℕ → Option ℕ) (behind : ℕ) {k : List Expected} {ts : List (ℕ × Token)} {f : Kind × ℕ} → Faulty item_of behind k ts f → Reached item_of behind k ts f
 reached item_of behind (stops k ts f s) = record { front = []; rest = ts; split = refl; before = []; same = refl; last = k; walks = here k []; stop = s }
@@ -182,12 +182,12 @@ is_unnamed catalog text front c (Token.name word) ts has u =
     record { front = front; name = word; later = ts; has = has; none = no_item (item_in catalog word) u }
 is_unnamed catalog text front c t ts has u = absurd (never u)
 
-walks_append : {k m : List Expected} {ps : List Placed} (t : Token) (now : Now) → Walks k ps m [] → step m t ≡ Some now → Walks k (ps ++ (now.0, t) ∷ []) now.1 []
+walks_append : {k m : List Expected} {ps : List Nested} (t : Token) (now : Now) → Walks k ps m [] → step m t ≡ Some now → Walks k (ps ++ (now.0, t) ∷ []) now.1 []
 walks_append t now (here k ts) s = on k now.1 now.1 now.0 t [] [] s (here now.1 [])
 walks_append t now (on k more m d x ts r s0 w) s = on k more now.1 d x (ts ++ (now.0, t) ∷ []) [] s0 (walks_append t now w s)
 
 -- A front of what walks goes.
-goes_front : {k j : List Expected} {ps : List Placed} (xs r : List Token) → Walks k ps j [] → xs ++ r ≡ without_nestings ps → Goes k xs
+goes_front : {k j : List Expected} {ps : List Nested} (xs r : List Token) → Walks k ps j [] → xs ++ r ≡ without_nestings ps → Goes k xs
 goes_front [] r (here k ts) e = goes_nowhere k
 goes_front [] r (on k more j d t ts rest s w) e = goes_nowhere k
 goes_front (x ∷ xs) r (here k ts) e = absurd cc
@@ -202,7 +202,7 @@ may_begin xs g =
         v.1,
         record {
           placed = g.placed ++ v.0;
-          same = ap (λ (l : List Token). l ++ without_nestings v.0) g.same ∙ sym (map-append (λ (t : Placed). t.1) g.placed v.0);
+          same = ap (λ (l : List Token). l ++ without_nestings v.0) g.same ∙ sym (map-append (λ (t : Nested). t.1) g.placed v.0);
           reads = v.2;
         },
       ),
@@ -211,9 +211,9 @@ may_begin xs g =
 goes_begun : (xs : List Token) → MayBegin AreSomeProgram xs → Goes at_start xs
 goes_begun xs m = let a = m.1.1 in goes_front xs m.0 (program-walks any_item a.reads).1.1 a.same
 
-has_stop : (catalog : Declared) (text : List ℕ) (front : List (ℕ × Token)) (before : List Placed) (last : List Expected) {rest : List (ℕ × Token)} {f : Kind × ℕ}
-    → Stops (item_in catalog) (length text + 1) last rest f → HasTokens text (front ++ rest) → without_numbers front ≡ without_nestings before → Walks at_start before last []
-    → HasFault catalog text f.0 f.1
+has_stop : (catalog : Declared) (text : List ℕ) (front : List (ℕ × Token)) (before : List Nested) (last : List Expected) {rest : List (ℕ × Token)} {f : Kind × ℕ}
+    → StopsAt (item_in catalog) (length text + 1) last rest f → HasTokens text (front ++ rest) → without_numbers front ≡ without_nestings before → Walks at_start before last []
+    → HasFaultAt catalog text f.0 f.1
 has_stop catalog text front before last (ends_early k n) has same walks =
     let all : without_numbers (front ++ []) ≡ without_nestings before = ap without_numbers (append-nil front) ∙ same in (
       front ++ [],
@@ -256,19 +256,19 @@ has_stop catalog text front before last (at_deep k c t ts now s u d) has same wa
       nesting = now.0;
       after = v.0;
       same = same;
-      reads = subst (λ (l : List Placed). ReadsProgram any_item 0 l [] v.1) (append_assoc before ((now.0, t) ∷ []) v.0) v.2;
+      reads = subst (λ (l : List Nested). ReadsProgram any_item 0 l [] v.1) (append_assoc before ((now.0, t) ∷ []) v.0) v.2;
       deep = d;
     }
 
 has_fault : (catalog : Declared) (text : List ℕ) (ts : List (ℕ × Token)) (f : Kind × ℕ) → HasTokens text ts → Faulty (item_in catalog) (length text + 1) at_start ts f
-    → HasFault catalog text f.0 f.1
+    → HasFaultAt catalog text f.0 f.1
 has_fault catalog text ts f has w =
     let r = reached (item_in catalog) (length text + 1) w in
     has_stop catalog text r.front r.before r.last r.stop (subst (HasTokens text) r.split has) r.same r.walks
 
 -- the fault comes first
 comes_first : (catalog : Declared) (text : List ℕ) (ts : List (ℕ × Token)) (f : Kind × ℕ) → HasTokens text ts → Faulty (item_in catalog) (length text + 1) at_start ts f
-    → Columns 1 (length text + 1) ts → (other : Kind) (place : ℕ) → HasFault catalog text other place → ComesFirst f.0 f.1 other place
+    → Columns 1 (length text + 1) ts → (other : Kind) (place : ℕ) → HasFaultAt catalog text other place → ComesFirst f.0 f.1 other place
 comes_first catalog text ts f has w cs malformed place h =
     let tokens : h.0 ≡ ts = one_token_list h.1 has in
     elim h.2 [

@@ -13,7 +13,7 @@ use Rattle.std.proofs.lemmas.Fmt.{IsAscii-from_digits}
 use Rattle.std.proofs.lemmas.Str.Parse.{IsNumeralModel, numerals_by_weight, parse_digits, parse_signed_digits, parse_signed_minus}
 use Rattle.pv_model.specs.Meaning.{fits_i64}
 use Rattle.pv_base.specs.Name.{is_digit}
-use Rattle.pv_model.specs.Text.{number_of_digits, digits_of, number_of_signed, IsNumber, IsSigned}
+use Rattle.pv_model.specs.Text.{number_of_digits, digits_of, number_of_signed, IsDecimal, IsSignedDecimal}
 
 pub numerals : IsNumeralModel (λ ds. list_all is_digit ds ≡ true) number_of_digits
 numerals = numerals_by_weight _ (search rules) number_of_digits (search rules)
@@ -23,7 +23,7 @@ OkIff-same (Ok y) x to from is = (to is.0, is.1)
 OkIff-same (Err e) x to from is = λ q. is (from q)
 
 -- the number that digits spell, or no number where it doesn't fit
-pub number-parsed : {E : Type 0} → (word : List ℕ) (r : Result ℕ E) → IsTrue (list_all is_digit word) → ParsesUnsigned 64 10 word r → IfSome (result_ok r) (λ n. IsNumber word n) × IfNone (result_ok r) ((n : ℕ) → n < 2 ^ 64 → IsNumber word n → ⊥)
+pub number-parsed : {E : Type 0} → (word : List ℕ) (r : Result ℕ E) → IsTrue (list_all is_digit word) → ParsesUnsigned 64 10 word r → IfSome (result_ok r) (λ n. IsDecimal word n) × IfNone (result_ok r) ((n : ℕ) → n < 2 ^ 64 → IsDecimal word n → ⊥)
 number-parsed {E} word (Ok n) digits parsed =
     let is = parse_digits numerals {E = E} 64 word (Ok n) parsed digits in
     (record { some = is.0.0; digits = digits; value = is.1 }, tt)
@@ -54,7 +54,7 @@ signed-read [] r digits parsed =
 signed-read (c ∷ cs) r digits parsed = signed-cases c cs r (eqb c 45) refl digits parsed
 
 -- the number that a `-` and digits spell, or no number where it doesn't fit
-pub signed-parsed : {E : Type 0} (word : List ℕ) (r : Result ℤ E) → IsTrue (list_all is_digit (digits_of word)) → ParsesSigned w64 10 word r → IfSome (result_ok r) (λ z. IsSigned word z) × IfNone (result_ok r) ((z : ℤ) → IsTrue (fits_i64 z) → IsSigned word z → ⊥)
+pub signed-parsed : {E : Type 0} (word : List ℕ) (r : Result ℤ E) → IsTrue (list_all is_digit (digits_of word)) → ParsesSigned w64 10 word r → IfSome (result_ok r) (λ z. IsSignedDecimal word z) × IfNone (result_ok r) ((z : ℤ) → IsTrue (fits_i64 z) → IsSignedDecimal word z → ⊥)
 signed-parsed {E} word (Ok z) digits parsed =
     let is = signed-read {E = E} word (Ok z) digits parsed in
     (record { some = is.0.0; digits = digits; value = is.1 }, tt)

@@ -11,35 +11,35 @@ use Rattle.pv_base.proofs.ContainsLemmas.{Contains-first, Contains-behind, Conta
 use Rattle.pv_base.proofs.MapLemmas.{Contains-map, Contains-unmap}
 use Rattle.pv_base.proofs.OrderLemmas.{pairs-nil, pairs-tail, pairs-first, pairs-cons, pairs-map, one-ascending_by, same-key}
 use Rattle.pv_model.specs.Syntax.{Program}
-use Rattle.pv_model.specs.Check.{Part, names, IsAt, IsWant, IsPart, IsPlan}
-use Rattle.pv_model.specs.Plan.{want_of, wants_from, wants_of, with_site, sites_from, participants_of, part_of, plan_of}
+use Rattle.pv_model.specs.Check.{Part, names_item, IsAt, IsWant, IsPart, IsPlan}
+use Rattle.pv_model.specs.Plan.{want_of, wants_from, wants_of, with_participant, sites_from, participants_of, part_of, plan_of}
 
 -- The list with one more site.
 
-with_site-has : (site : ℕ) (sites : List ℕ) → Contains (with_site site sites) site
-with_site-has site [] = Contains-first site []
-with_site-has site (first ∷ rest) =
+with_participant-has : (site : ℕ) (sites : List ℕ) → Contains (with_participant site sites) site
+with_participant-has site [] = Contains-first site []
+with_participant-has site (first ∷ rest) =
     cond_both (site == first) (first ∷ rest) _ (λ (sites : List ℕ). Contains sites site)
     (λ same. subst (λ (n : ℕ). Contains (first ∷ rest) n) (sym (eqb-true site first same)) (Contains-first first rest))
     (λ other. cond_both (nat_lt site first) (site ∷ (first ∷ rest)) _ (λ (sites : List ℕ). Contains sites site)
     (λ before. Contains-first site (first ∷ rest))
-    (λ after. Contains-behind first (with_site site rest) site (with_site-has site rest)))
+    (λ after. Contains-behind first (with_participant site rest) site (with_participant-has site rest)))
 
-with_site-keeps : (site : ℕ) (sites : List ℕ) (other : ℕ) → Contains sites other → Contains (with_site site sites) other
-with_site-keeps site [] other h = absurd (Contains-nil other h)
-with_site-keeps site (first ∷ rest) other h =
+with_participant-keeps : (site : ℕ) (sites : List ℕ) (other : ℕ) → Contains sites other → Contains (with_participant site sites) other
+with_participant-keeps site [] other h = absurd (Contains-nil other h)
+with_participant-keeps site (first ∷ rest) other h =
     cond_both (site == first) (first ∷ rest) _ (λ (sites : List ℕ). Contains sites other)
     (λ same. h)
     (λ differ. cond_both (nat_lt site first) (site ∷ (first ∷ rest)) _ (λ (sites : List ℕ). Contains sites other)
     (λ before. Contains-behind site (first ∷ rest) other h)
     (λ after. ⊎_elim
-    (λ here. subst (λ (n : ℕ). Contains (first ∷ with_site site rest) n) here (Contains-first first (with_site site rest)))
-    (λ behind. Contains-behind first (with_site site rest) other (with_site-keeps site rest other behind))
+    (λ here. subst (λ (n : ℕ). Contains (first ∷ with_participant site rest) n) here (Contains-first first (with_participant site rest)))
+    (λ behind. Contains-behind first (with_participant site rest) other (with_participant-keeps site rest other behind))
     (Contains-cases first rest other h)))
 
-with_site-cases : (site : ℕ) (sites : List ℕ) (other : ℕ) → Contains (with_site site sites) other → (site ≡ other) ⊎ Contains sites other
-with_site-cases site [] other = λ h. Contains-cases site [] other h
-with_site-cases site (first ∷ rest) other =
+with_participant-cases : (site : ℕ) (sites : List ℕ) (other : ℕ) → Contains (with_participant site sites) other → (site ≡ other) ⊎ Contains sites other
+with_participant-cases site [] other = λ h. Contains-cases site [] other h
+with_participant-cases site (first ∷ rest) other =
     cond_both (site == first) (first ∷ rest) _ (λ (sites : List ℕ). Contains sites other → (site ≡ other) ⊎ Contains (first ∷ rest) other)
     (λ same h. inr h)
     (λ differ. cond_both (nat_lt site first) (site ∷ (first ∷ rest)) _ (λ (sites : List ℕ). Contains sites other → (site ≡ other) ⊎ Contains (first ∷ rest) other)
@@ -49,15 +49,15 @@ with_site-cases site (first ∷ rest) other =
     (λ behind. ⊎_elim
     (λ same. inl same)
     (λ inside. inr (Contains-behind first rest other inside))
-    (with_site-cases site rest other behind))
-    (Contains-cases first (with_site site rest) other h)))
+    (with_participant-cases site rest other behind))
+    (Contains-cases first (with_participant site rest) other h)))
 
-abbrev Ascends : List ℕ → Type 0
+abbrev pub Ascends : List ℕ → Type 0
 Ascends sites = AllPairs (λ site later. site < later) sites
 
-with_site-ascends : (site : ℕ) (sites : List ℕ) → Ascends sites → Ascends (with_site site sites)
-with_site-ascends site [] up = pairs-cons (λ site later. site < later) site [] (λ y h. absurd (Contains-nil y h)) up
-with_site-ascends site (first ∷ rest) up =
+with_participant-ascends : (site : ℕ) (sites : List ℕ) → Ascends sites → Ascends (with_participant site sites)
+with_participant-ascends site [] up = pairs-cons (λ site later. site < later) site [] (λ y h. absurd (Contains-nil y h)) up
+with_participant-ascends site (first ∷ rest) up =
     let below : (y : ℕ) → Contains rest y → first < y = pairs-first (λ site later. site < later) first rest up in
     cond_both (site == first) (first ∷ rest) _ Ascends
     (λ same. up)
@@ -68,45 +68,45 @@ with_site-ascends site (first ∷ rest) up =
     (λ behind. omega (arith, ltb-true site first before, below y behind))
     (Contains-cases first rest y h))
     up)
-    (λ after. pairs-cons (λ site later. site < later) first (with_site site rest)
+    (λ after. pairs-cons (λ site later. site < later) first (with_participant site rest)
     (λ y h. ⊎_elim
     (λ here. omega (arith, ltb-false site first after, eqb-false site first differ, here))
     (λ behind. below y behind)
-    (with_site-cases site rest y h))
-    (with_site-ascends site rest (pairs-tail (λ site later. site < later) first rest up))))
+    (with_participant-cases site rest y h))
+    (with_participant-ascends site rest (pairs-tail (λ site later. site < later) first rest up))))
 
 -- The participants.
 
-sites-ascend : (program : Program) (item : ℕ) (items : List Item) → Ascends (sites_from program item items)
+pub sites-ascend : (program : Program) (item : ℕ) (items : List Item) → Ascends (sites_from program item items)
 sites-ascend program item [] = pairs-nil (λ site later. site < later)
 sites-ascend program item (declared ∷ items) =
-    cond_both (names program item) _ _ Ascends
-    (λ named. with_site-ascends declared.site (sites_from program (item + 1) items) (sites-ascend program (item + 1) items))
+    cond_both (names_item program item) _ _ Ascends
+    (λ named. with_participant-ascends declared.site (sites_from program (item + 1) items) (sites-ascend program (item + 1) items))
     (λ unnamed. sites-ascend program (item + 1) items)
 
-sites-have : (program : Program) (item : ℕ) (items : List Item) (place site n : ℕ) → n ≡ item + place → IsAt items place site → IsTrue (names program n)
+pub sites-have : (program : Program) (item : ℕ) (items : List Item) (place site n : ℕ) → n ≡ item + place → IsAt items place site → IsTrue (names_item program n)
     → Contains (sites_from program item items) site
 sites-have program item [] place site n same at named = cc
 sites-have program item (declared ∷ items) zero site n same at named =
-    let here : names program item ≡ true = ap (λ (n : ℕ). names program n) (omega (arith, same)) ∙ named in
-    cond_both (names program item) _ _ (λ (sites : List ℕ). Contains sites site)
-    (λ is. subst (λ (n : ℕ). Contains (with_site declared.site (sites_from program (item + 1) items)) n) (Some_inj at)
-    (with_site-has declared.site (sites_from program (item + 1) items)))
+    let here : names_item program item ≡ true = ap (λ (n : ℕ). names_item program n) (omega (arith, same)) ∙ named in
+    cond_both (names_item program item) _ _ (λ (sites : List ℕ). Contains sites site)
+    (λ is. subst (λ (n : ℕ). Contains (with_participant declared.site (sites_from program (item + 1) items)) n) (Some_inj at)
+    (with_participant-has declared.site (sites_from program (item + 1) items)))
     (λ not. absurd (false≢true (sym not ∙ here)))
 sites-have program item (declared ∷ items) (suc place) site n same at named =
     let rest = sites-have program (item + 1) items place site n (omega (arith, same)) at named in
-    cond_both (names program item) _ _ (λ (sites : List ℕ). Contains sites site)
-    (λ is. with_site-keeps declared.site (sites_from program (item + 1) items) site rest)
+    cond_both (names_item program item) _ _ (λ (sites : List ℕ). Contains sites site)
+    (λ is. with_participant-keeps declared.site (sites_from program (item + 1) items) site rest)
     (λ not. rest)
 
 -- An item at the site that the program names, among items that are numbered from here on.
-record IsNamedAt (program : Program) (item : ℕ) (items : List Item) (site n : ℕ) : Type 0 where
-  place : ℕ
-  same : n ≡ item + place
-  at : IsAt items place site
-  named : IsTrue (names program n)
+pub record IsNamedAt (program : Program) (item : ℕ) (items : List Item) (site n : ℕ) : Type 0 where
+  pub place : ℕ
+  pub same : n ≡ item + place
+  pub at : IsAt items place site
+  pub named : IsTrue (names_item program n)
 
-named-here : (program : Program) (item : ℕ) (declared : Item) (items : List Item) (site : ℕ) → IsTrue (names program item) → declared.site ≡ site
+named-here : (program : Program) (item : ℕ) (declared : Item) (items : List Item) (site : ℕ) → IsTrue (names_item program item) → declared.site ≡ site
     → IsNamedAt program item (declared ∷ items) site item
 named-here program item declared items site named home =
     record { place = 0; same = omega arith; at = ap Some home; named = named }
@@ -116,35 +116,35 @@ named-later : (program : Program) (item : ℕ) (declared : Item) (items : List I
 named-later program item declared items site n is =
     record { place = suc is.place; same = omega (arith, is.same); at = is.at; named = is.named }
 
-sites-known : (program : Program) (item : ℕ) (items : List Item) (site : ℕ) → Contains (sites_from program item items) site
+pub sites-known : (program : Program) (item : ℕ) (items : List Item) (site : ℕ) → Contains (sites_from program item items) site
     → (n : ℕ) × IsNamedAt program item items site n
 sites-known program item [] site = λ h. absurd (Contains-nil site h)
 sites-known program item (declared ∷ items) site =
     let later : Contains (sites_from program (item + 1) items) site → (n : ℕ) × IsNamedAt program item (declared ∷ items) site n =
     λ h. let found = sites-known program (item + 1) items site h in (found.0, named-later program item declared items site found.0 found.1) in
-    cond_both (names program item) _ _ (λ (sites : List ℕ). Contains sites site → (n : ℕ) × IsNamedAt program item (declared ∷ items) site n)
+    cond_both (names_item program item) _ _ (λ (sites : List ℕ). Contains sites site → (n : ℕ) × IsNamedAt program item (declared ∷ items) site n)
     (λ named h. ⊎_elim
     (λ here. (item, named-here program item declared items site named here))
     later
-    (with_site-cases declared.site (sites_from program (item + 1) items) site h))
+    (with_participant-cases declared.site (sites_from program (item + 1) items) site h))
     (λ unnamed. later)
 
 -- The wants of a site.
 
-wants-have : (program : Program) (site item : ℕ) (items : List Item) (place n : ℕ) → n ≡ item + place → IsAt items place site → IsTrue (names program n)
+pub wants-have : (program : Program) (site item : ℕ) (items : List Item) (place n : ℕ) → n ≡ item + place → IsAt items place site → IsTrue (names_item program n)
     → Contains (wants_from program site item items) (want_of program n)
 wants-have program site item [] place n same at named = cc
 wants-have program site item (declared ∷ items) zero n same at named =
     let here : item ≡ n = omega (arith, same) in
-    let test : (declared.site == site && names program item) ≡ true =
-    and_from _ _ (eq-eqb declared.site site (Some_inj at)) (ap (λ (n : ℕ). names program n) here ∙ named) in
-    cond_both (declared.site == site && names program item) _ _ (λ (wants : List Want). Contains wants (want_of program n))
+    let test : (declared.site == site && names_item program item) ≡ true =
+    and_from _ _ (eq-eqb declared.site site (Some_inj at)) (ap (λ (n : ℕ). names_item program n) here ∙ named) in
+    cond_both (declared.site == site && names_item program item) _ _ (λ (wants : List Want). Contains wants (want_of program n))
     (λ is. subst (λ (n : ℕ). Contains (want_of program item ∷ wants_from program site (item + 1) items) (want_of program n)) here
     (Contains-first (want_of program item) (wants_from program site (item + 1) items)))
     (λ not. absurd (false≢true (sym not ∙ test)))
 wants-have program site item (declared ∷ items) (suc place) n same at named =
     let rest = wants-have program site (item + 1) items place n (omega (arith, same)) at named in
-    cond_both (declared.site == site && names program item) _ _ (λ (wants : List Want). Contains wants (want_of program n))
+    cond_both (declared.site == site && names_item program item) _ _ (λ (wants : List Want). Contains wants (want_of program n))
     (λ is. Contains-behind (want_of program item) (wants_from program site (item + 1) items) (want_of program n) rest)
     (λ not. rest)
 
@@ -154,10 +154,10 @@ wants-known program site item [] want = λ h. absurd (Contains-nil want h)
 wants-known program site item (declared ∷ items) want =
     let later : Contains (wants_from program site (item + 1) items) want → (n : ℕ) × (IsNamedAt program item (declared ∷ items) site n × (want_of program n ≡ want)) =
     λ h. let found = wants-known program site (item + 1) items want h in (found.0, (named-later program item declared items site found.0 found.1.0, found.1.1)) in
-    cond_both (declared.site == site && names program item) _ _
+    cond_both (declared.site == site && names_item program item) _ _
     (λ (wants : List Want). Contains wants want → (n : ℕ) × (IsNamedAt program item (declared ∷ items) site n × (want_of program n ≡ want)))
     (λ is h.
-    let both = and_parts (declared.site == site) (names program item) is in
+    let both = and_parts (declared.site == site) (names_item program item) is in
     ⊎_elim
     (λ here. (item, (named-here program item declared items site both.1 (eqb-true declared.site site both.0), here)))
     later
@@ -171,7 +171,7 @@ wants-ascend : (program : Program) (site item : ℕ) (items : List Item) → Asc
 wants-ascend program site item [] = pairs-nil (λ want later. want.item < later.item)
 wants-ascend program site item (declared ∷ items) =
     let rest = wants-ascend program site (item + 1) items in
-    cond_both (declared.site == site && names program item) _ _ Ascending
+    cond_both (declared.site == site && names_item program item) _ _ Ascending
     (λ is. pairs-cons (λ (want later : Want). want.item < later.item) (want_of program item) (wants_from program site (item + 1) items)
     (λ want h.
     let found = wants-known program site (item + 1) items want h in
@@ -185,7 +185,7 @@ wants-ascend program site item (declared ∷ items) =
 some-long : {X : Type 0} (xs : List X) (x : X) → Contains xs x → 0 < length xs
 some-long xs x (k, within, at) = omega (arith, within)
 
-wants-each : (program : Program) (items : List Item) (site : ℕ) → All (IsWant program items site) (wants_of program items site)
+pub wants-each : (program : Program) (items : List Item) (site : ℕ) → All (IsWant program items site) (wants_of program items site)
 wants-each program items site k d within =
     let wants = wants_of program items site in
     let found = wants-known program site 0 items _ (All-contains_itself wants k d within) in
@@ -208,7 +208,7 @@ part-is program items site h =
     }
 
 -- An item of the catalog is at a site.
-at-some : (items : List Item) (n : ℕ) → n < length items → (site : ℕ) × IsAt items n site
+pub at-some : (items : List Item) (n : ℕ) → n < length items → (site : ℕ) × IsAt items n site
 at-some [] n within = absurd (omega (arith, within))
 at-some (declared ∷ items) zero within = (declared.site, refl)
 at-some (declared ∷ items) (suc n) within = at-some items n (omega (arith, within))
@@ -221,7 +221,7 @@ at-within (declared ∷ items) (suc n) site at = omega (arith, at-within items n
 any-from : {X : Type 0} (P : X → Type 0) (xs : List X) (x : X) → Contains xs x → P x → Any P xs
 any-from P xs x (k, within, at) is = (k, x, within, at, is)
 
-pub some_plan : (program : Program) (items : List Item) → ((n : ℕ) → IsTrue (names program n) → n < length items)
+pub some_plan : (program : Program) (items : List Item) → ((n : ℕ) → IsTrue (names_item program n) → n < length items)
     → IsPlan program items (plan_of program items)
 unfolding plan_of
 some_plan program items known =
@@ -299,7 +299,7 @@ module _ (program : Program) (items : List Item) where
       (part-kept parts others are them) (part-kept others parts them are)
 
   -- The items of a program that has a plan are of the catalog.
-  plan-known : (parts : List Part) → IsPlan program items parts → (n : ℕ) → IsTrue (names program n) → n < length items
+  plan-known : (parts : List Part) → IsPlan program items parts → (n : ℕ) → IsTrue (names_item program n) → n < length items
   plan-known parts are n named =
       let any = are.whole n named in
       let part : Part = any.1 in

@@ -2,7 +2,7 @@
 use Rattle.std.proofs.Common.{◌≡◌, ℕ, List, refl, sym, ap, ◌∙◌, subst, inl, inr, arith}
 use Rattle.pv_base.specs.Catalog.{Declared}
 use Rattle.pv_model.specs.Syntax.{Program}
-use Rattle.pv_model.specs.FirstFault.{without_numbers}
+use Rattle.pv_model.specs.FirstMisplaced.{without_numbers}
 use Rattle.pv_model.specs.Tokens.{Token}
 use Rattle.pv_model.specs.ProgramText.{item_in, AreProgram, IsProgramText, Kind, malformed, unknown_name, too_deep, kind_rank, ComesFirst, Refusal, too_large, at_fault, IsRefused}
 use Rattle.pv_law_programs.proofs.TokenLemmas.{one_token_list}

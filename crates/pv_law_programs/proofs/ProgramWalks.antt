@@ -7,7 +7,7 @@ use Rattle.std.proofs.lemmas.Bool.{lt-ltb}
 use Rattle.pv_model.specs.Syntax.{Op, Expr, Program}
 use Rattle.pv_model.specs.Syntax.Op.{sub, lesser, larger}
 use Rattle.pv_model.specs.Tokens.{Token}
-use Rattle.pv_model.specs.Grammar.{Placed, Chain, disjunction, conjunction, sum, product, Phrase, chain, negated, comparison, unary, joins, compares, is_min_or_max, side, Reads, chained, not, not_negated, compared, not_compared, negative, numeral, named, in_brackets, of_two, GoesOn, no_more, one_more, ReadsProgram, assigns, requires, returns, asks, asks_else, ReadsNext, last, next}
+use Rattle.pv_model.specs.Grammar.{Nested, Chain, disjunction, conjunction, sum, product, Phrase, chain, negated, comparison, unary, joins, compares, is_min_or_max, side, Reads, chained, not, not_negated, compared, not_compared, negative, numeral, named, in_brackets, of_two, GoesOn, no_more, one_more, ReadsProgram, assigns, requires, returns, asks, asks_else, ReadsNext, last, next}
 use Rattle.pv_law_programs.specs.Prediction.{Punctuation, Symbol, Expected, is_optional, may_end, after_symbol, step, at_start}
 use Rattle.pv_base.proofs.Basics.{never}
 use Rattle.pv_law_programs.proofs.GrammarLemmas.{stops_at, joined_stops_side, joined_is_no_stop, compared_stops_sum, compared_is_no_stop, stop_of_side, stop_of_sum}
@@ -54,28 +54,28 @@ negated_begins d k t n more e = e
 
 -- ---- walks that begin with a token
 
-data Moves : List Expected → List Placed → List Expected → List Placed → Type 0 where
-  move : (k now more : List Expected) (d : ℕ) (t : Token) (ts behind : List Placed) → step k t ≡ Some (d, now) → Walks now ts more behind
+data Moves : List Expected → List Nested → List Expected → List Nested → Type 0 where
+  move : (k now more : List Expected) (d : ℕ) (t : Token) (ts behind : List Nested) → step k t ≡ Some (d, now) → Walks now ts more behind
       → Moves k ((d, t) ∷ ts) more behind
 
-walked : {k more : List Expected} {ts behind : List Placed} → Moves k ts more behind → Walks k ts more behind
+walked : {k more : List Expected} {ts behind : List Nested} → Moves k ts more behind → Walks k ts more behind
 walked (move k now more d t ts behind e w) = on k now more d t ts behind e w
 
-alike : {k other more : List Expected} {ts behind : List Placed} → TakesAlike k other → Moves k ts more behind → Moves other ts more behind
+alike : {k other more : List Expected} {ts behind : List Nested} → TakesAlike k other → Moves k ts more behind → Moves other ts more behind
 alike {other} a (move k now more d t ts behind e w) = move other now more d t ts behind (a t d now e) w
 
-both : {k now more : List Expected} {ts mid behind : List Placed} → Walks k ts now mid → Walks now mid more behind → Walks k ts more behind
+both : {k now more : List Expected} {ts mid behind : List Nested} → Walks k ts now mid → Walks now mid more behind → Walks k ts more behind
 both (here k ts) v = v
 both (on k now more d t ts behind e w) v = on k now _ d t ts _ e (both w v)
 
-further : {k now more : List Expected} {ts mid behind : List Placed} → Moves k ts now mid → Walks now mid more behind → Moves k ts more behind
+further : {k now more : List Expected} {ts mid behind : List Nested} → Moves k ts now mid → Walks now mid more behind → Moves k ts more behind
 further (move k now more d t ts behind e w) v = move k now _ d t ts _ e (both w v)
 
-moves : {k now more : List Expected} {d : ℕ} {t : Token} {ts behind : List Placed} → step k t ≡ Some (d, now) → Walks now ts more behind
+moves : {k now more : List Expected} {d : ℕ} {t : Token} {ts behind : List Nested} → step k t ≡ Some (d, now) → Walks now ts more behind
     → Moves k ((d, t) ∷ ts) more behind
 moves {k} {now} {more} {d} {t} {ts} {behind} e w = move k now more d t ts behind e w
 
-walks : {k now more : List Expected} {d : ℕ} {t : Token} {ts behind : List Placed} → step k t ≡ Some (d, now) → Walks now ts more behind
+walks : {k now more : List Expected} {d : ℕ} {t : Token} {ts behind : List Nested} → step k t ≡ Some (d, now) → Walks now ts more behind
     → Walks k ((d, t) ∷ ts) more behind
 walks {k} {now} {more} {d} {t} {ts} {behind} e w = on k now more d t ts behind e w
 
@@ -86,7 +86,7 @@ abbrev Passes : (Token → Bool) → List Expected → List Expected → Type 0
 Passes tokens left k = (may_end left ≡ may_end k) × ((t : Token) → IsTrue (tokens t) → step left t ≡ step k t)
 
 -- From what is expected before some tokens one comes to what is left before these things.
-abbrev Leads : (Token → Bool) → List Expected → List Expected → List Placed → List Placed → Type 0
+abbrev Leads : (Token → Bool) → List Expected → List Expected → List Nested → List Nested → Type 0
 Leads tokens before k ts behind = (left : List Expected) × (Passes tokens left k × Moves before ts left behind)
 
 -- the tokens that don't go on a part
@@ -152,7 +152,7 @@ prefix_takes _ d k h = absurd (never h)
 
 module _ (item_of : List ℕ → Option ℕ) where
   mutual
-    walk_expr : {p : Phrase} {d : ℕ} {ts behind : List Placed} {e : Expr} → Reads item_of p d ts behind e → (k : List Expected)
+    walk_expr : {p : Phrase} {d : ℕ} {ts behind : List Nested} {e : Expr} → Reads item_of p d ts behind e → (k : List Expected)
         → Leads (stops p) ((d, Symbol.phrase p) ∷ k) k ts behind
     walk_expr (chained c d ts mid behind left e p g) k =
         let x = walk_expr p ((d, Symbol.more c) ∷ k) in
@@ -191,7 +191,7 @@ module _ (item_of : List ℕ → Option ℕ) where
         let close_e = y.1.0.1 Token.closes refl ∙ takes d (Symbol.punctuation Punctuation.closes) k Token.closes k refl in
         (k, ((refl, λ t h. refl), moves (prefix_takes op d k m) (walks open_e (both (walked x.1.1) (walks comma_e (both (walked y.1.1) (walks close_e (here k behind))))))))
 
-    walk_chain : {c : Chain} {before e : Expr} {d : ℕ} {ts behind : List Placed} → GoesOn item_of c before d ts behind e → (k now : List Expected)
+    walk_chain : {c : Chain} {before e : Expr} {d : ℕ} {ts behind : List Nested} → GoesOn item_of c before d ts behind e → (k now : List Expected)
         → Passes (stops (side c)) now ((d, Symbol.more c) ∷ k) → (left : List Expected) × (Passes (stops (chain c)) left k × Walks now ts left behind)
     walk_chain (no_more c before d behind) k now passes =
         (now, ((passes.0, λ t h. passes.1 t (stops-side c t h) ∙ more_leaves c d k t h), here now behind))
@@ -203,7 +203,7 @@ module _ (item_of : List ℕ → Option ℕ) where
         (y.0, (y.1.0, walks e (both (walked x.1.1) y.1.1)))
 
   mutual
-    walk_program : {d : ℕ} {ts behind : List Placed} {p : Program} → ReadsProgram item_of d ts behind p → (k : List Expected)
+    walk_program : {d : ℕ} {ts behind : List Nested} {p : Program} → ReadsProgram item_of d ts behind p → (k : List Expected)
         → Leads stops_program ((d, Symbol.program) ∷ k) k ts behind
     walk_program (assigns word n d ts mid behind e nx i x y) k =
         let v = walk_expr x ((d, Symbol.next) ∷ k) in
@@ -245,7 +245,7 @@ module _ (item_of : List ℕ → Option ℕ) where
           ),
         )
 
-    walk_next : {d : ℕ} {ts behind : List Placed} {p : Program} → ReadsNext item_of d ts behind p → (k now : List Expected)
+    walk_next : {d : ℕ} {ts behind : List Nested} {p : Program} → ReadsNext item_of d ts behind p → (k now : List Expected)
         → Passes stops_statement now ((d, Symbol.next) ∷ k) → (left : List Expected) × (Passes stops_program left k × Walks now ts left behind)
     walk_next (last d behind) k now passes =
         (now, ((passes.0, λ t h. passes.1 t (stops-program t h) ∙ next_leaves d k t h), here now behind))
@@ -254,6 +254,6 @@ module _ (item_of : List ℕ → Option ℕ) where
         (x.0, (x.1.0, walks (passes.1 Token.then_next refl ∙ takes d Symbol.next k Token.then_next _ refl) (walked x.1.1)))
 
 -- The reader takes the tokens of a program, and they may end.
-pub program-walks : (item_of : List ℕ → Option ℕ) {ts : List Placed} {p : Program} → ReadsProgram item_of 0 ts [] p
+pub program-walks : (item_of : List ℕ → Option ℕ) {ts : List Nested} {p : Program} → ReadsProgram item_of 0 ts [] p
     → (k : List Expected) × (IsTrue (may_end k) × Walks at_start ts k [])
 program-walks item_of r = let x = walk_program item_of r [] in (x.0, (x.1.0.0, walked x.1.1))

@@ -16,6 +16,9 @@ lacks-items : (rows : List Row) (n : ℕ) → lacks rows n ≡ lacks_item (items
 lacks-items [] n = refl
 lacks-items (row ∷ rows) n = ap (λ (b : Bool). cond (row.item == n) false b) (lacks-items rows n)
 
+pub lacks-same : (rows others : List Row) (n : ℕ) → items_of_rows rows ≡ items_of_rows others → lacks rows n ≡ lacks others n
+lacks-same rows others n same = lacks-items rows n ∙ ap (λ (items : List ℕ). lacks_item items n) same ∙ sym (lacks-items others n)
+
 has_once-items : (rows : List Row) (n : ℕ) → has_once rows n ≡ has_item_once (items_of_rows rows) n
 has_once-items [] n = refl
 has_once-items (row ∷ rows) n = λ i. cond (row.item == n) (lacks-items rows n i) (has_once-items rows n i)

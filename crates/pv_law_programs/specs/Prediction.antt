@@ -6,7 +6,7 @@ use Rattle.std.specs.Option.{option_map_or}
 use Rattle.pv_model.specs.Syntax.{Op}
 use Rattle.pv_model.specs.Syntax.Op.{sub, lesser, larger}
 use Rattle.pv_model.specs.Tokens.{Token}
-use Rattle.pv_model.specs.Grammar.{Placed, Chain, disjunction, conjunction, sum, product, Phrase, chain, negated, comparison, unary, joins, compares, side}
+use Rattle.pv_model.specs.Grammar.{Nested, Chain, disjunction, conjunction, sum, product, Phrase, chain, negated, comparison, unary, joins, compares, side}
 use Rattle.pv_model.specs.ProgramText.{Kind, malformed, unknown_name, too_deep}
 
 -- the punctuation that has to come after other tokens
@@ -118,7 +118,7 @@ abbrev pub at_start : List Expected
 at_start = (0, program) ∷ []
 
 -- Tokens, as far as they can continue, with their nestings.
-unfoldable pub placed : List Expected → List (ℕ × Token) → List Placed
+unfoldable pub placed : List Expected → List (ℕ × Token) → List Nested
 placed expected [] = []
 placed expected (t ∷ ts) = option_map_or (λ now. (now.0, t.1) ∷ placed now.1 ts) (step expected t.1) []
 

@@ -1,6 +1,6 @@
 // Laws on what a program does to rows, and what it leaves alone.
 ghost use Rattle.std.specs.Prelude.{◌≡◌, ℕ, ℤ, Bool, false, List, IsTrue};
-ghost use Rattle.pv_model.specs.Check.{names};
+ghost use Rattle.pv_model.specs.Check.{names_item};
 ghost use Rattle.pv_base.specs.declared.reply.Decline.{Decline};
 ghost use Rattle.pv_base.specs.declared.reply.Reply.TheVariants.{Value, Declined};
 ghost use Rattle.pv_model.specs.Meaning.{Row, value_in, items_of_rows, exec};
@@ -39,7 +39,7 @@ pub fn order_of_rows_is_free()
 /// A program looks only at the rows of its own items. On rows that have the same values of the items of a set, which has all items
 /// that the program names, it gives the same reply, and each item of the set the same value.
 pub fn own_rows_alone()
-    ensures { (set : ℕ → Bool) (program : Program) (rows others : List Row) → ((n : ℕ) → IsTrue (names program n) → IsTrue (set n)) →
+    ensures { (set : ℕ → Bool) (program : Program) (rows others : List Row) → ((n : ℕ) → IsTrue (names_item program n) → IsTrue (set n)) →
         HaveSameValuesOf set rows others →
         ((exec program rows).reply ≡ (exec program others).reply) × HaveSameValuesOf set (exec program rows).rows (exec program others).rows }
 {}

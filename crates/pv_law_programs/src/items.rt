@@ -1,7 +1,7 @@
 // Laws on the items that a program names, and on its plan.
 ghost use Rattle.std.specs.Prelude.{◌≡◌, ◌<◌, ℕ, List, length, IsTrue};
 ghost use Rattle.pv_base.specs.Catalog.{Item};
-ghost use Rattle.pv_model.specs.Check.{Part, names, AreItems, IsPlan};
+ghost use Rattle.pv_model.specs.Check.{Part, names_item, AreItems, IsPlan};
 ghost use Rattle.pv_model.specs.Plan.{plan_of};
 ghost use Rattle.pv_model.specs.Syntax.{Program};
 
@@ -17,7 +17,7 @@ pub fn one_items()
 
 /// A program whose items are all of the catalog has a plan: the one that is computed from the catalog's items.
 pub fn some_plan()
-    ensures { (program : Program) (items : List Item) → ((n : ℕ) → IsTrue (names program n) → n < length items) →
+    ensures { (program : Program) (items : List Item) → ((n : ℕ) → IsTrue (names_item program n) → n < length items) →
         IsPlan program items (plan_of program items) }
 {}
 

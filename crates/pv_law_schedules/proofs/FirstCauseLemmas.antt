@@ -6,74 +6,74 @@ use Rattle.std.proofs.lemmas.Bool.{false≢true}
 use Rattle.pv_base.specs.declared.limits.TheConstants.{MAX_LINE, MAX_PROGRAM_ITEMS}
 use Rattle.pv_base.specs.Catalog.{place_of}
 use Rattle.pv_base.specs.Name.{is_name}
-use Rattle.pv_model.specs.Causes as causes
-use Rattle.pv_model.specs.Causes.{Before, or_default, LineCause, line_cause_rank, HasLineCause, IsFirstCause, mode_words}
-use Rattle.pv_model.specs.Check.{names, has_assignment, has_return}
+use Rattle.pv_model.specs.LineCauses as causes
+use Rattle.pv_model.specs.LineCauses.{Before, or_default, LineCause, line_cause_rank, HasLineCause, IsFirstCause, mode_words}
+use Rattle.pv_model.specs.Check.{names_item, has_assignment, has_return}
 use Rattle.pv_model.specs.LineForms.{fields_of, first_word, forms_of, form_of, has_good_number}
 use Rattle.pv_model.specs.Syntax.{Program}
 use Rattle.pv_model.specs.Text.{TextLine, is_text_byte}
 use Rattle.pv_law_programs.proofs.ItemLemmas.{some_items}
 use Rattle.pv_law_schedules.proofs.OneCauseLemmas.{says_more, plain_of, plain-cause}
-use Rattle.pv_law_schedules.proofs.SomeCauseLemmas.{Told, told-bool, told-and, told-or, told-not, told-nothing, told-empty, told-bytes, told-less, told-contains, told-mode, told-name, AtProgram, some-program, told-fault, told-program, told-no_items, NamesMany, told-many}
+use Rattle.pv_law_schedules.proofs.SomeCauseLemmas.{Decidable, decide-bool, decide-and, decide-or, decide-not, decide-nothing, decide-empty, decide-bytes, decide-less, decide-contains, decide-mode, decide-name, AtProgram, some-program, decide-fault, decide-program, decide-no_items, NamesMany, decide-many}
 
 -- Whether a line has a cause that says nothing more.
 
-begins : (word : List ℕ) (line : TextLine) → Told (first_word line ≡ word)
-begins word line = told-bytes (first_word line) word
+begins : (word : List ℕ) (line : TextLine) → Decidable (first_word line ≡ word)
+begins word line = decide-bytes (first_word line) word
 
 abbrev BeginsRequest : TextLine → (Program → Type 0) → Program → Type 0
 BeginsRequest line Q p = (first_word line ≡ codes "query") × Q p
 
-told-request : (before : Before) (line : TextLine) (Q : Program → Type 0) → ((p : Program) → Told (Q p)) → Told ((p : Program) × causes.HasProgram before line p × BeginsRequest line Q p)
-told-request before line Q told = told-program before line (BeginsRequest line Q) (λ p. told-and (begins (codes "query") line) (told p)) (some-program before line)
+decide-request : (before : Before) (line : TextLine) (Q : Program → Type 0) → ((p : Program) → Decidable (Q p)) → Decidable ((p : Program) × causes.HasProgram before line p × BeginsRequest line Q p)
+decide-request before line Q decide = decide-program before line (BeginsRequest line Q) (λ p. decide-and (begins (codes "query") line) (decide p)) (some-program before line)
 
-told-as : {P Q : Type 0} → (P → Q) → (Q → P) → Told P → Told Q
-told-as to from (inl p) = inl (to p)
-told-as to from (inr isnt) = inr (λ q. isnt (from q))
+decide-as : {P Q : Type 0} → (P → Q) → (Q → P) → Decidable P → Decidable Q
+decide-as to from (inl p) = inl (to p)
+decide-as to from (inr isnt) = inr (λ q. isnt (from q))
 
-told-cause : (before : Before) (line : TextLine) (c : LineCause) → says_more (line_cause_rank c) ≡ false → Told (HasLineCause before line c)
-told-cause before line causes.too_long e = told-less MAX_LINE (length line)
-told-cause before line causes.not_text e = told-bool (list_all is_text_byte line) false
-told-cause before line causes.sites_expected e = told-and (told-nothing before.sites) (told-not (begins (codes "sites") line))
-told-cause before line causes.unknown_word e = told-empty (forms_of (first_word line))
-told-cause before line causes.twice e =
-    told-or (told-and (begins (codes "sites") line) (told-not (told-nothing before.sites))) (told-and (begins (codes "journal") line) (told-not (told-nothing before.journal)))
-told-cause before line causes.too_late e = told-and (told-or (begins (codes "journal") line) (begins (codes "item") line)) (told-bool before.begun true)
-told-cause before line causes.wrong_count e = told-nothing (form_of line)
-told-cause before line causes.bad_number e = told-bool (list_all (has_good_number (or_default 0 before.sites)) (fields_of line)) false
-told-cause before line causes.bad_mode e = told-mode (λ w. Contains mode_words w → ⊥) (λ w. told-not (told-contains mode_words w)) line
-told-cause before line causes.bad_name e = told-name (λ w. is_name w ≡ false) (λ w. told-bool (is_name w) false) line
-told-cause before line causes.name_taken e = told-name (λ w. place_of w before.items ≡ None → ⊥) (λ w. told-not (told-nothing (place_of w before.items))) line
-told-cause before line causes.too_many_items e = told-and (begins (codes "item") line) (told-as (λ l. omega (arith, l)) (λ l. omega (arith, l)) (told-less 1023 (length before.items)))
-told-cause before line (causes.at_program kind column) e = absurd (false≢true (sym e))
-told-cause before line causes.names_no_item e =
-    told-program before line (λ p. (n : ℕ) → names p n ≡ false) (λ p. let some = some_items p in told-no_items p some.0 some.1) (some-program before line)
-told-cause before line (causes.too_many_names n) e = absurd (false≢true (sym e))
-told-cause before line causes.query_assigns e =
-    told-as (λ h. (h.0, h.1, h.2.0, h.2.1)) (λ h. (h.0, h.1, (h.2, h.3))) (told-request before line (λ p. has_assignment p ≡ true) (λ p. told-bool (has_assignment p) true))
-told-cause before line causes.no_return e =
-    told-as (λ h. (h.0, h.1, h.2.0, h.2.1)) (λ h. (h.0, h.1, (h.2, h.3))) (told-request before line (λ p. has_return p ≡ false) (λ p. told-bool (has_return p) false))
+decide-cause : (before : Before) (line : TextLine) (c : LineCause) → says_more (line_cause_rank c) ≡ false → Decidable (HasLineCause before line c)
+decide-cause before line causes.too_long e = decide-less MAX_LINE (length line)
+decide-cause before line causes.not_text e = decide-bool (list_all is_text_byte line) false
+decide-cause before line causes.sites_expected e = decide-and (decide-nothing before.sites) (decide-not (begins (codes "sites") line))
+decide-cause before line causes.unknown_word e = decide-empty (forms_of (first_word line))
+decide-cause before line causes.twice e =
+    decide-or (decide-and (begins (codes "sites") line) (decide-not (decide-nothing before.sites))) (decide-and (begins (codes "journal") line) (decide-not (decide-nothing before.journal)))
+decide-cause before line causes.too_late e = decide-and (decide-or (begins (codes "journal") line) (begins (codes "item") line)) (decide-bool before.begun true)
+decide-cause before line causes.wrong_count e = decide-nothing (form_of line)
+decide-cause before line causes.bad_number e = decide-bool (list_all (has_good_number (or_default 0 before.sites)) (fields_of line)) false
+decide-cause before line causes.bad_mode e = decide-mode (λ w. Contains mode_words w → ⊥) (λ w. decide-not (decide-contains mode_words w)) line
+decide-cause before line causes.bad_name e = decide-name (λ w. is_name w ≡ false) (λ w. decide-bool (is_name w) false) line
+decide-cause before line causes.name_taken e = decide-name (λ w. place_of w before.items ≡ None → ⊥) (λ w. decide-not (decide-nothing (place_of w before.items))) line
+decide-cause before line causes.too_many_items e = decide-and (begins (codes "item") line) (decide-as (λ l. omega (arith, l)) (λ l. omega (arith, l)) (decide-less 1023 (length before.items)))
+decide-cause before line (causes.at_program kind column) e = absurd (false≢true (sym e))
+decide-cause before line causes.names_no_item e =
+    decide-program before line (λ p. (n : ℕ) → names_item p n ≡ false) (λ p. let some = some_items p in decide-no_items p some.0 some.1) (some-program before line)
+decide-cause before line (causes.too_many_names n) e = absurd (false≢true (sym e))
+decide-cause before line causes.query_assigns e =
+    decide-as (λ h. (h.0, h.1, h.2.0, h.2.1)) (λ h. (h.0, h.1, (h.2, h.3))) (decide-request before line (λ p. has_assignment p ≡ true) (λ p. decide-bool (has_assignment p) true))
+decide-cause before line causes.no_return e =
+    decide-as (λ h. (h.0, h.1, h.2.0, h.2.1)) (λ h. (h.0, h.1, (h.2, h.3))) (decide-request before line (λ p. has_return p ≡ false) (λ p. decide-bool (has_return p) false))
 
 -- Whether a line has a cause of a rank.
 
 abbrev HasAt : Before → TextLine → ℕ → Type 0
 HasAt before line r = (c : LineCause) × HasLineCause before line c × (line_cause_rank c ≡ r)
 
-plain-at : (before : Before) (line : TextLine) (c : LineCause) → says_more (line_cause_rank c) ≡ false → Told (HasAt before line (line_cause_rank c))
+plain-at : (before : Before) (line : TextLine) (c : LineCause) → says_more (line_cause_rank c) ≡ false → Decidable (HasAt before line (line_cause_rank c))
 plain-at before line c plain =
     ⊎_elim (λ has. inl (c, has, refl))
     (λ none. inr (λ h.
     let same : h.0 ≡ c = plain-cause h.0 (ap says_more h.2 ∙ plain) ∙ ap plain_of h.2 ∙ sym (plain-cause c plain) in
     none (subst (HasLineCause before line) same h.1)))
-    (told-cause before line c plain)
+    (decide-cause before line c plain)
 
 no-fault-at : (before : Before) (line : TextLine) → (AtProgram before line → ⊥) → (c : LineCause) → HasLineCause before line c → line_cause_rank c ≡ 12 → ⊥
 no-fault-at before line none (causes.at_program kind column) has e = none (kind, column, has)
 no-fault-at before line none c has e = omega (arith, e)
 
-fault-at : (before : Before) (line : TextLine) → Told (HasAt before line 12)
+fault-at : (before : Before) (line : TextLine) → Decidable (HasAt before line 12)
 fault-at before line =
-    ⊎_elim (λ h. inl (causes.at_program h.0 h.1, h.2, refl)) (λ none. inr (λ h. no-fault-at before line none h.0 h.1 h.2)) (told-fault before line (some-program before line))
+    ⊎_elim (λ h. inl (causes.at_program h.0 h.1, h.2, refl)) (λ none. inr (λ h. no-fault-at before line none h.0 h.1 h.2)) (decide-fault before line (some-program before line))
 
 abbrev AtMany : Before → TextLine → Type 0
 AtMany before line = (p : Program) × causes.HasProgram before line p × NamesMany p
@@ -83,12 +83,12 @@ no-many-at before line none (causes.too_many_names n) has e =
     none (has.0, has.1, (has.2, has.3, subst (λ (m : ℕ). MAX_PROGRAM_ITEMS < m) has.4 has.5))
 no-many-at before line none c has e = omega (arith, e)
 
-many-at : (before : Before) (line : TextLine) → Told (HasAt before line 14)
+many-at : (before : Before) (line : TextLine) → Decidable (HasAt before line 14)
 many-at before line =
     ⊎_elim (λ h. inl (causes.too_many_names (length h.2.0), (h.0, h.1, h.2.0, h.2.1, refl, h.2.2), refl)) (λ none. inr (λ h. no-many-at before line none h.0 h.1 h.2))
-    (told-program before line NamesMany told-many (some-program before line))
+    (decide-program before line NamesMany decide-many (some-program before line))
 
--- The causes are told from the first to the last.
+-- The causes are decided from the first to the last.
 
 abbrev From : Before → TextLine → ℕ → Type 0
 From before line r = (c : LineCause) → HasLineCause before line c → r ≤ line_cause_rank c
@@ -96,7 +96,7 @@ From before line r = (c : LineCause) → HasLineCause before line c → r ≤ li
 abbrev pub SomeFirst : Before → TextLine → Type 0
 SomeFirst before line = ((c : LineCause) × IsFirstCause before line c) ⊎ ((c : LineCause) → HasLineCause before line c → ⊥)
 
-first-at : (before : Before) (line : TextLine) (r : ℕ) → Told (HasAt before line r) → (From before line (suc r) → SomeFirst before line) → From before line r → SomeFirst before line
+first-at : (before : Before) (line : TextLine) (r : ℕ) → Decidable (HasAt before line r) → (From before line (suc r) → SomeFirst before line) → From before line r → SomeFirst before line
 first-at before line r (inl h) next from = inl (h.0, record { has = h.1; first = λ other has. omega (arith, h.2, from other has) })
 first-at before line r (inr none) next from =
     next (λ c has. let low = from c has in let isnt : line_cause_rank c ≡ r → ⊥ = λ e. none (c, has, e) in above r (line_cause_rank c) low isnt)

@@ -8,12 +8,12 @@ use Rattle.std.proofs.lemmas.Bool.{false≢true, le-leb, lt-ltb}
 use Rattle.pv_base.specs.declared.limits.TheConstants.{MAX_ITEMS, MAX_PROGRAM_ITEMS}
 use Rattle.pv_base.specs.Catalog.{place_of}
 use Rattle.pv_base.specs.Name.{is_digit, is_name}
-use Rattle.pv_model.specs.Causes as causes
-use Rattle.pv_model.specs.Causes.{Before, or_default, declared_by, LineCause, BeginsWith, HasLineCause, HasProgram, mode_words}
-use Rattle.pv_model.specs.Check.{names, AreItems, has_assignment, has_return}
-use Rattle.pv_model.specs.LineForms.{Field, number, site, value, mode, name, program, first_of, first_word, forms_of, takes_program, arguments, form_of, fields_of, beside, are_digits, has_good_number}
+use Rattle.pv_model.specs.LineCauses as causes
+use Rattle.pv_model.specs.LineCauses.{Before, or_default, declared_by, LineCause, HasFirstWord, HasLineCause, HasProgram, mode_words}
+use Rattle.pv_model.specs.Check.{names_item, AreItems, has_assignment, has_return}
+use Rattle.pv_model.specs.LineForms.{Field, number, site, value, mode, name, program, leading_word, first_word, forms_of, takes_program, arguments, form_of, fields_of, beside, are_digits, has_good_number}
 use Rattle.pv_model.specs.ProgramText.{IsProgramText, at_fault}
-use Rattle.pv_model.specs.Schedule.{IsIn, IsSite}
+use Rattle.pv_model.specs.Schedule.{IsIn, IsDeclaredSite}
 use Rattle.pv_model.specs.Syntax.{Program}
 use Rattle.pv_model.specs.Text.{TextLine, words, IsText, number_of_digits}
 use Rattle.pv_base.proofs.ContainsLemmas.{Contains-nil, Contains-cases}
@@ -72,7 +72,7 @@ good-in sites least most w n is =
     let high : number_of_digits w ≤ most = omega (arith, is.0.value, is.2) in
     both_true (are_digits-of w is.0.some is.0.digits) (both_true (le-leb least (number_of_digits w) low) (le-leb (number_of_digits w) most high))
 
-pub good-site : (before : Before) (w : List ℕ) (n : ℕ) → IsSite before w n → has_good_number (or_default 0 before.sites) (site, w) ≡ true
+pub good-site : (before : Before) (w : List ℕ) (n : ℕ) → IsDeclaredSite before w n → has_good_number (or_default 0 before.sites) (site, w) ≡ true
 good-site before w n is =
     let low : number_of_digits w < or_default 0 before.sites = subst (λ (m : ℕ). m < or_default 0 before.sites) is.0.value is.1 in
     both_true (are_digits-of w is.0.some is.0.digits) (lt-ltb (number_of_digits w) (or_default 0 before.sites) low)
@@ -137,7 +137,7 @@ pub fits-plain : (before : Before) (line : TextLine) (n : ℕ) (word : List ℕ)
     → IsText line → before.sites ≡ Some n → is_declaring word ≡ false → takes_program word ≡ false → look word (length given) ≡ Some form
     → words line ≡ word ∷ given → Each (Suits before word) (beside form given) → Fits before line
 fits-plain before line n word form given text said isnt plain found is each =
-    fits-formed before line n word form given text said isnt (ap first_of is) (arguments-plain line word given plain is) found each
+    fits-formed before line n word form given text said isnt (ap leading_word is) (arguments-plain line word given plain is) found each
 
 -- A line that fits has no cause.
 
@@ -156,7 +156,7 @@ fits-program before line p fits has =
     let suits : Suits before (first_word line) (program, has.0) = Each-contains (Suits before (first_word line)) (fields_of line) (program, has.0) fits.each has.1 in
     subst (λ (q : Program). Runs q (first_word line)) (one_program_text (declared_by before) has.0 suits.0 p suits.1 has.2) suits.2
 
-pub first-item : (p : Program) (items : List ℕ) → AreItems p items → 0 < length items → ((n : ℕ) → names p n ≡ false) → ⊥
+pub first-item : (p : Program) (items : List ℕ) → AreItems p items → 0 < length items → ((n : ℕ) → names_item p n ≡ false) → ⊥
 first-item p [] are some none = omega (arith, some)
 first-item p (n ∷ items) are some none = false≢true (sym (none n) ∙ are.each 0 n (omega arith))
 

@@ -8,15 +8,15 @@ use Rattle.std.proofs.lemmas.Bool.{false≢true}
 use Rattle.pv_base.specs.declared.limits.TheConstants.{MAX_CALL, MAX_JOURNAL, MAX_PUMP, MAX_SITES, MIN_JOURNAL}
 use Rattle.pv_base.specs.declared.mode.Mode.{Mode}
 use Rattle.pv_base.specs.declared.mode.Mode.TheVariants.{Lost, Kept, Torn}
-use Rattle.pv_model.specs.Causes.{Before, or_default, LineCause, HasLineCause, mode_words}
+use Rattle.pv_model.specs.LineCauses.{Before, or_default, LineCause, HasLineCause, mode_words}
 use Rattle.pv_model.specs.Events as events
 use Rattle.pv_model.specs.Events.{Event}
 use Rattle.pv_model.specs.LineForms as fields
-use Rattle.pv_model.specs.LineForms.{Field, line_forms, first_of, first_word, takes_program, arguments, form_of, has_good_number}
+use Rattle.pv_model.specs.LineForms.{Field, line_forms, leading_word, first_word, takes_program, arguments, form_of, has_good_number}
 use Rattle.pv_model.specs.Meaning.{fits_i64}
-use Rattle.pv_model.specs.Schedule.{IsIn, IsSite, IsMode, IsOne, IsAlone, IsArm, IsRequest, request_word, IsEvent, DeclaresSites, DeclaresJournal, DeclaresItem, Declares}
+use Rattle.pv_model.specs.Schedule.{IsIn, IsDeclaredSite, IsMode, IsOne, IsAlone, IsArm, IsRequest, request_word, IsEvent, DeclaresSites, DeclaresJournal, DeclaresItem, Declares}
 use Rattle.pv_model.specs.Syntax.{Program}
-use Rattle.pv_model.specs.Text.{TextLine, IsText, IsSigned, digits_of}
+use Rattle.pv_model.specs.Text.{TextLine, IsText, IsSignedDecimal, digits_of}
 use Rattle.pv_base.proofs.ContainsLemmas.{Contains-first, Contains-behind}
 use Rattle.pv_law_schedules.proofs.LineFormLemmas.{Fits, look, is_declaring, are_digits-of, good-in, good-site, form-at, arguments-plain, look-known-line, none-some-sites, fits-formed, fits-plain, fits-no-cause}
 
@@ -38,7 +38,7 @@ fits-number before line n word least most m text said isnt plain found is =
 
 fits-site : (before : Before) (line : TextLine) (n : ℕ) (word : List ℕ) (m : ℕ) → IsText line → before.sites ≡ Some n
     → is_declaring word ≡ false → takes_program word ≡ false → look word 1 ≡ Some (fields.site ∷ [])
-    → IsOne word (λ w. IsSite before w m) line → Fits before line
+    → IsOne word (λ w. IsDeclaredSite before w m) line → Fits before line
 fits-site before line n word m text said isnt plain found is =
     fits-plain before line n word (fields.site ∷ []) (is.0 ∷ []) text said isnt plain found is.1 (good-site before is.0 m is.2, tt)
 
@@ -61,7 +61,7 @@ fits-request : (before : Before) (line : TextLine) (n : ℕ) (query : Bool) (m :
     → is_declaring (request_word query) ≡ false → look (request_word query) 2 ≡ Some (fields.site ∷ fields.program ∷ [])
     → IsRequest before m query text p line → Fits before line
 fits-request before line n query m text p short said isnt found is =
-    fits-formed before line n (request_word query) (fields.site ∷ fields.program ∷ []) (is.at ∷ text ∷ []) short said isnt (ap first_of is.first) is.given found
+    fits-formed before line n (request_word query) (fields.site ∷ fields.program ∷ []) (is.at ∷ text ∷ []) short said isnt (ap leading_word is.first) is.given found
     (good-site before is.at m is.place, ((p, is.is, record { items = is.may.items; are = is.may.are; some = is.may.some; few = is.may.few; answers = λ e. is.may.answers (request-query query e) }), tt))
 
 pub event-fits : (before : Before) (line : TextLine) (event : Event) → IsEvent before line event → Fits before line
@@ -96,7 +96,7 @@ fits-sites : (before after : Before) (line : TextLine) → DeclaresSites before 
 unfolding line_forms takes_program
 fits-sites before after line is =
     let word = codes "sites" in
-    let first : first_word line ≡ word = ap first_of is.is.1 in
+    let first : first_word line ≡ word = ap leading_word is.is.1 in
     let given : arguments line ≡ is.is.0 ∷ [] = arguments-plain line word (is.is.0 ∷ []) refl is.is.1 in
     let form : form_of line ≡ Some (fields.number 1 MAX_SITES ∷ []) = form-at line word (is.is.0 ∷ []) (Some (fields.number 1 MAX_SITES ∷ [])) first given refl in
     record {
@@ -115,7 +115,7 @@ fits-journal : (before after : Before) (line : TextLine) → DeclaresJournal bef
 unfolding line_forms takes_program
 fits-journal before after line is =
     let word = codes "journal" in
-    let first : first_word line ≡ word = ap first_of is.is.1 in
+    let first : first_word line ≡ word = ap leading_word is.is.1 in
     let given : arguments line ≡ is.is.0 ∷ [] = arguments-plain line word (is.is.0 ∷ []) refl is.is.1 in
     let form : form_of line ≡ Some (fields.number MIN_JOURNAL MAX_JOURNAL ∷ []) = form-at line word (is.is.0 ∷ []) (Some (fields.number MIN_JOURNAL MAX_JOURNAL ∷ [])) first given refl in
     record {
@@ -130,7 +130,7 @@ fits-journal before after line is =
       room = λ item. absurd (word-differs line word (codes "item") refl refl first item);
     }
 
-good-value : (sites : ℕ) (w : List ℕ) (z : ℤ) → IsSigned w z → fits_i64 z ≡ true → has_good_number sites (fields.value, w) ≡ true
+good-value : (sites : ℕ) (w : List ℕ) (z : ℤ) → IsSignedDecimal w z → fits_i64 z ≡ true → has_good_number sites (fields.value, w) ≡ true
 good-value sites w z is fits =
     both_true (are_digits-of (digits_of w) is.some is.digits) (subst (λ (y : ℤ). fits_i64 y ≡ true) is.value fits)
 
@@ -139,7 +139,7 @@ unfolding line_forms takes_program
 fits-item before after line is =
     let word = codes "item" in
     let words_given = is.item.name ∷ is.at ∷ is.number ∷ [] in
-    let first : first_word line ≡ word = ap first_of is.is in
+    let first : first_word line ≡ word = ap leading_word is.is in
     let given : arguments line ≡ words_given = arguments-plain line word words_given refl is.is in
     let form : form_of line ≡ Some (fields.name ∷ fields.site ∷ fields.value ∷ []) = form-at line word words_given (Some (fields.name ∷ fields.site ∷ fields.value ∷ [])) first given refl in
     record {

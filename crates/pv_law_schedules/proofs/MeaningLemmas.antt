@@ -7,12 +7,12 @@ use Rattle.pv_base.specs.declared.limits.TheConstants.{MAX_CALL}
 use Rattle.pv_base.specs.Name.{is_digit}
 use Rattle.pv_base.specs.declared.mode.Mode.{Mode}
 use Rattle.pv_base.specs.declared.mode.Mode.TheVariants.{Lost, Kept, Torn}
-use Rattle.pv_model.specs.Causes.{Before, or_default, mode_words}
+use Rattle.pv_model.specs.LineCauses.{Before, or_default, mode_words}
 use Rattle.pv_model.specs.LineForms as fields
-use Rattle.pv_model.specs.LineForms.{Field, line_forms, first_of, rest_of, first_word, forms_of, takes_program, program_text, site_and_text, arguments, form_of, fields_of, fields_in, beside, are_digits, has_good_number}
+use Rattle.pv_model.specs.LineForms.{Field, line_forms, leading_word, later_words, first_word, forms_of, takes_program, program_text, site_and_text, arguments, form_of, fields_of, fields_in, beside, are_digits, has_good_number}
 use Rattle.pv_model.specs.Meaning.{fits_i64}
-use Rattle.pv_model.specs.Schedule.{IsIn, IsSite, IsMode, IsOne, IsAlone, IsArm}
-use Rattle.pv_model.specs.Text.{TextLine, words, IsNumber, IsSigned, number_of_digits, digits_of, number_of_signed}
+use Rattle.pv_model.specs.Schedule.{IsIn, IsDeclaredSite, IsMode, IsOne, IsAlone, IsArm}
+use Rattle.pv_model.specs.Text.{TextLine, words, IsDecimal, IsSignedDecimal, number_of_digits, digits_of, number_of_signed}
 use Rattle.pv_base.proofs.ContainsLemmas.{Contains-nil, Contains-cases}
 use Rattle.pv_law_schedules.proofs.LineFormLemmas.{Each, Suits, Fits, look, form_of-look, arguments-plain}
 use Rattle.pv_base.proofs.Basics.{and-left, and-right}
@@ -28,7 +28,7 @@ digits-all : (w : List ℕ) → are_digits w ≡ true → list_all is_digit w �
 digits-all [] good = refl
 digits-all (b ∷ bs) good = good
 
-is-number : (w : List ℕ) → are_digits w ≡ true → IsNumber w (number_of_digits w)
+is-number : (w : List ℕ) → are_digits w ≡ true → IsDecimal w (number_of_digits w)
 is-number w good = record { some = digits-some w good; digits = digits-all w good; value = refl }
 
 in-good : (sites least most : ℕ) (w : List ℕ) → has_good_number sites (fields.number least most, w) ≡ true → IsIn least most w (number_of_digits w)
@@ -39,13 +39,13 @@ in-good sites least most w good =
       leb-true (number_of_digits w) most (and-right (nat_le least (number_of_digits w)) (nat_le (number_of_digits w) most) both),
     )
 
-pub site-good : (before : Before) (w : List ℕ) → has_good_number (or_default 0 before.sites) (fields.site, w) ≡ true → IsSite before w (number_of_digits w)
+pub site-good : (before : Before) (w : List ℕ) → has_good_number (or_default 0 before.sites) (fields.site, w) ≡ true → IsDeclaredSite before w (number_of_digits w)
 site-good before w good = (
   is-number w (and-left (are_digits w) (nat_lt (number_of_digits w) (or_default 0 before.sites)) good),
   ltb-true (number_of_digits w) (or_default 0 before.sites) (and-right (are_digits w) (nat_lt (number_of_digits w) (or_default 0 before.sites)) good),
 )
 
-pub value-good : (sites : ℕ) (w : List ℕ) → has_good_number sites (fields.value, w) ≡ true → IsSigned w (number_of_signed w) × (fits_i64 (number_of_signed w) ≡ true)
+pub value-good : (sites : ℕ) (w : List ℕ) → has_good_number sites (fields.value, w) ≡ true → IsSignedDecimal w (number_of_signed w) × (fits_i64 (number_of_signed w) ≡ true)
 value-good sites w good =
     let digits = and-left (are_digits (digits_of w)) (fits_i64 (number_of_signed w)) good in (
       record { some = digits-some (digits_of w) digits; digits = digits-all (digits_of w) digits; value = refl },
@@ -83,9 +83,9 @@ pub split-words : (line : TextLine) (word : List ℕ) → (word ≡ [] → ⊥) 
 split-words line word some plain first = go (words line) refl
   where
     go : (ws : List (List ℕ)) → words line ≡ ws → words line ≡ word ∷ arguments line
-    go [] e = absurd (some (sym first ∙ ap first_of e))
+    go [] e = absurd (some (sym first ∙ ap leading_word e))
     go (w ∷ more) e =
-        let same : w ≡ word = sym (ap first_of e) ∙ first in
+        let same : w ≡ word = sym (ap leading_word e) ∙ first in
         let given : words line ≡ word ∷ more = e ∙ ap (λ (x : List ℕ). x ∷ more) same in
         given ∙ ap (λ (ws : List (List ℕ)). word ∷ ws) (sym (arguments-plain line word more plain given))
 
@@ -130,7 +130,7 @@ one-number before line word least most plain first is =
     (number_of_digits one.0, (one.0, said, in-good (or_default 0 before.sites) least most one.0 suit.0))
 
 abbrev pub OneSite : Before → List ℕ → TextLine → Type 0
-OneSite before word line = (n : ℕ) × IsOne word (λ w. IsSite before w n) line
+OneSite before word line = (n : ℕ) × IsOne word (λ w. IsDeclaredSite before w n) line
 
 pub one-site : (before : Before) (line : TextLine) (word : List ℕ) → IsPlain word → first_word line ≡ word → Reads before line word (fields.site ∷ []) 1 → OneSite before word line
 one-site before line word plain first is =

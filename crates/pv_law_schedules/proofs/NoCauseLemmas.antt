@@ -9,11 +9,11 @@ use Rattle.std.proofs.lemmas.Slice.Eq.{bytes_eq-Decides}
 use Rattle.pv_base.specs.declared.limits.TheConstants.{MAX_ITEMS, MAX_LINE, MAX_PROGRAM_ITEMS}
 use Rattle.pv_base.specs.Catalog.{place_of}
 use Rattle.pv_base.specs.Name.{is_blank, is_name}
-use Rattle.pv_model.specs.Causes as causes
-use Rattle.pv_model.specs.Causes.{Before, or_default, declared_by, LineCause, HasLineCause, Has, HasProgram, mode_words}
+use Rattle.pv_model.specs.LineCauses as causes
+use Rattle.pv_model.specs.LineCauses.{Before, or_default, declared_by, LineCause, HasLineCause, Has, HasProgram, mode_words}
 use Rattle.pv_model.specs.Check.{AreItems, has_assignment, has_return}
 use Rattle.pv_model.specs.LineForms as fields
-use Rattle.pv_model.specs.LineForms.{Field, line_forms, first_word, forms_of, takes_program, after_blanks, after_word, before_blanks, program_text, site_and_text, rest_of, arguments, form_of, fields_of, fields_in, beside, has_good_number}
+use Rattle.pv_model.specs.LineForms.{Field, line_forms, first_word, forms_of, takes_program, after_blanks, after_word, before_blanks, program_text, site_and_text, later_words, arguments, form_of, fields_of, fields_in, beside, has_good_number}
 use Rattle.pv_model.specs.ProgramText.{Refusal, too_large, at_fault, IsRefused, IsProgramText}
 use Rattle.pv_model.specs.Syntax.{Program}
 use Rattle.pv_model.specs.Text.{TextLine, words, is_text_byte, IsText}
@@ -23,7 +23,7 @@ use Rattle.pv_law_programs.proofs.ItemLemmas.{some_items}
 use Rattle.pv_law_schedules.proofs.LineFormLemmas.{Each, Each-contains, Runs, Suits, Fits, look, form_of-look}
 use Rattle.pv_law_schedules.proofs.LineTextLemmas.{found-in, is_program, none-stands, one-text}
 use Rattle.pv_law_programs.proofs.SomeAnswer.{some_answer}
-use Rattle.pv_law_schedules.proofs.SomeCauseLemmas.{Told, told-nothing, told-bytes, told-less, told-contains, names-none}
+use Rattle.pv_law_schedules.proofs.SomeCauseLemmas.{Decidable, decide-nothing, decide-bytes, decide-less, decide-contains, names_item-none}
 
 pub isnt-true : (b : Bool) → (b ≡ true → ⊥) → b ≡ false
 isnt-true true isnt = absurd (isnt refl)
@@ -151,7 +151,7 @@ unfolding takes_program
 request-words word takes =
     ⊎_elim inl (λ isnt. ⊎_elim inr (λ other. absurd (neither (bytes_eq word (codes "submit")) (bytes_eq word (codes "query")) takes
     (λ e. isnt ((bytes_eq-Decides word (codes "submit")).0 e)) (λ e. other ((bytes_eq-Decides word (codes "query")).0 e))))
-    (told-bytes word (codes "query"))) (told-bytes word (codes "submit"))
+    (decide-bytes word (codes "query"))) (decide-bytes word (codes "submit"))
   where
     neither : (a b : Bool) → (a || b) ≡ true → (a ≡ true → ⊥) → (b ≡ true → ⊥) → ⊥
     neither true b e x y = x refl
@@ -185,14 +185,14 @@ second-text text (at ∷ word ∷ more) e = (at, refl)
 abbrev GivesText : TextLine → Type 0
 GivesText line = (at : List ℕ) × (arguments line ≡ at ∷ program_text line ∷ [])
 
-pub arguments-request : (line : TextLine) → takes_program (first_word line) ≡ true → arguments line ≡ site_and_text (program_text line) (rest_of (words line))
+pub arguments-request : (line : TextLine) → takes_program (first_word line) ≡ true → arguments line ≡ site_and_text (program_text line) (later_words (words line))
 unfolding arguments
 arguments-request line takes = rw takes refl
 
 gives-text : (line : TextLine) → takes_program (first_word line) ≡ true → 2 ≡ length (arguments line) → GivesText line
 gives-text line takes two =
     let is = arguments-request line takes in
-    let second = second-text (program_text line) (rest_of (words line)) (two ∙ ap (λ (ws : List (List ℕ)). length ws) is) in
+    let second = second-text (program_text line) (later_words (words line)) (two ∙ ap (λ (ws : List (List ℕ)). length ws) is) in
     (second.0, is ∙ second.1)
 
 -- the text that a line has, where it has a form
@@ -231,11 +231,11 @@ free-good before line free x c =
 
 free-text : (before : Before) (line : TextLine) → Free before line → IsText line
 free-text before line free = record {
-  short = short (told-less MAX_LINE (length line));
+  short = short (decide-less MAX_LINE (length line));
   bytes = isnt-false (list_all is_text_byte line) (free causes.not_text);
 }
   where
-    short : Told (MAX_LINE < length line) → length line ≤ MAX_LINE
+    short : Decidable (MAX_LINE < length line) → length line ≤ MAX_LINE
     short (inl long) = absurd (free causes.too_long long)
     short (inr isnt) = by (length line) isnt
       where
@@ -274,7 +274,7 @@ free-runs before line free p has =
     }
   where
     more : (items : List ℕ) → AreItems p items → 0 < length items
-    more [] are = absurd (free causes.names_no_item (p, has, names-none p are))
+    more [] are = absurd (free causes.names_no_item (p, has, names_item-none p are))
     more (n ∷ items) are = omega arith
 
     by : (n : ℕ) → (MAX_PROGRAM_ITEMS < n → ⊥) → n ≤ MAX_PROGRAM_ITEMS
@@ -284,9 +284,9 @@ free-suits : (before : Before) (line : TextLine) → Free before line → (x : F
 free-suits before line free (fields.number least most, w) c = free-good before line free (fields.number least most, w) c
 free-suits before line free (fields.site, w) c = free-good before line free (fields.site, w) c
 free-suits before line free (fields.value, w) c = free-good before line free (fields.value, w) c
-free-suits before line free (fields.mode, w) c = ⊎_elim (λ is. is) (λ isnt. absurd (free causes.bad_mode (w, c, isnt))) (told-contains mode_words w)
+free-suits before line free (fields.mode, w) c = ⊎_elim (λ is. is) (λ isnt. absurd (free causes.bad_mode (w, c, isnt))) (decide-contains mode_words w)
 free-suits before line free (fields.name, w) c =
-    (isnt-false (is_name w) (λ is. free causes.bad_name (w, c, is)), ⊎_elim (λ is. is) (λ isnt. absurd (free causes.name_taken (w, c, isnt))) (told-nothing (place_of w before.items)))
+    (isnt-false (is_name w) (λ is. free causes.bad_name (w, c, is)), ⊎_elim (λ is. is) (λ isnt. absurd (free causes.name_taken (w, c, isnt))) (decide-nothing (place_of w before.items)))
 free-suits before line free (fields.program, w) c =
     let some = free-program before line free w c in
     (some.0, some.1, free-runs before line free some.0 (w, c, some.1))
@@ -296,7 +296,7 @@ free-fits before line free =
     let form = free-form before line free in
     record {
       text = free-text before line free;
-      said = λ none. ⊎_elim (λ is. is) (λ isnt. absurd (free causes.sites_expected (none, isnt))) (told-bytes (first_word line) (codes "sites"));
+      said = λ none. ⊎_elim (λ is. is) (λ isnt. absurd (free causes.sites_expected (none, isnt))) (decide-bytes (first_word line) (codes "sites"));
       once = free causes.twice;
       early = free causes.too_late;
       form = form.0;

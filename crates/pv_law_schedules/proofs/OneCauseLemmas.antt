@@ -2,8 +2,8 @@
 use Rattle.std.proofs.Common.{◌≡◌, ℕ, Bool, false, List, length, refl, sym, ap, subst, ◌∙◌, arith}
 use Rattle.std.specs.Prelude.{◌||◌, ◌==◌, if◌then◌else◌}
 use Rattle.std.proofs.lemmas.Bool.{false≢true}
-use Rattle.pv_model.specs.Causes as causes
-use Rattle.pv_model.specs.Causes.{Before, declared_by, LineCause, line_cause_rank, HasLineCause, HasProgram, Has, IsFirstCause}
+use Rattle.pv_model.specs.LineCauses as causes
+use Rattle.pv_model.specs.LineCauses.{Before, declared_by, LineCause, line_cause_rank, HasLineCause, HasProgram, Has, IsFirstCause}
 use Rattle.pv_model.specs.Check.{AreItems}
 use Rattle.pv_model.specs.ProgramText.{Kind, at_fault, IsRefused, IsProgramText}
 use Rattle.pv_model.specs.Syntax.{Program}

@@ -6,10 +6,10 @@ use Rattle.std.proofs.lemmas.Bool.{false≢true}
 use Rattle.pv_base.specs.Catalog.{Item}
 use Rattle.pv_base.specs.declared.mode.Mode.{Mode}
 use Rattle.pv_base.specs.declared.mode.Mode.TheVariants.{Lost, Kept, Torn}
-use Rattle.pv_model.specs.Causes.{Before, declared_by}
+use Rattle.pv_model.specs.LineCauses.{Before, declared_by}
 use Rattle.pv_model.specs.Events as events
 use Rattle.pv_model.specs.Events.{Event}
-use Rattle.pv_model.specs.LineForms.{first_of, rest_of, first_word, takes_program}
+use Rattle.pv_model.specs.LineForms.{leading_word, later_words, first_word, takes_program}
 use Rattle.pv_model.specs.ProgramText.{IsProgramText}
 use Rattle.pv_model.specs.Schedule.{IsMode, IsOne, IsArm, IsRequest, request_word, Says, IsEvent, DeclaresSites, DeclaresJournal, DeclaresItem, Declares}
 use Rattle.pv_model.specs.Syntax.{Program}
@@ -28,28 +28,28 @@ most_of [] = None
 most_of (word ∷ more) = Some (number_of_digits word)
 
 abbrev second_of : List (List ℕ) → List ℕ
-second_of given = first_of (rest_of given)
+second_of given = leading_word (later_words given)
 
 abbrev third_of : List (List ℕ) → List ℕ
-third_of given = first_of (rest_of (rest_of given))
+third_of given = leading_word (later_words (later_words given))
 
 abbrev event_of : List ℕ → List (List ℕ) → Event
 event_of word given =
-    if bytes_eq word (codes "deliver") then events.deliver (number_of_digits (first_of given)) else
-    (if bytes_eq word (codes "lose") then events.lose (number_of_digits (first_of given)) else
+    if bytes_eq word (codes "deliver") then events.deliver (number_of_digits (leading_word given)) else
+    (if bytes_eq word (codes "lose") then events.lose (number_of_digits (leading_word given)) else
     (if bytes_eq word (codes "pump") then events.pump (most_of given) else
-    (if bytes_eq word (codes "drop") then events.drop (number_of_digits (first_of given)) else
-    (if bytes_eq word (codes "tick") then events.tick (number_of_digits (first_of given)) else
-    (if bytes_eq word (codes "stop") then events.stop (number_of_digits (first_of given)) else
-    (if bytes_eq word (codes "start") then events.start (number_of_digits (first_of given)) else
-    (if bytes_eq word (codes "mend") then events.mend (number_of_digits (first_of given)) else
-    (if bytes_eq word (codes "cut") then events.arm (number_of_digits (first_of given)) (number_of_digits (second_of given)) (mode_of (third_of given)) true else
-    (if bytes_eq word (codes "fail") then events.arm (number_of_digits (first_of given)) (number_of_digits (second_of given)) (mode_of (third_of given)) false else
+    (if bytes_eq word (codes "drop") then events.drop (number_of_digits (leading_word given)) else
+    (if bytes_eq word (codes "tick") then events.tick (number_of_digits (leading_word given)) else
+    (if bytes_eq word (codes "stop") then events.stop (number_of_digits (leading_word given)) else
+    (if bytes_eq word (codes "start") then events.start (number_of_digits (leading_word given)) else
+    (if bytes_eq word (codes "mend") then events.mend (number_of_digits (leading_word given)) else
+    (if bytes_eq word (codes "cut") then events.arm (number_of_digits (leading_word given)) (number_of_digits (second_of given)) (mode_of (third_of given)) true else
+    (if bytes_eq word (codes "fail") then events.arm (number_of_digits (leading_word given)) (number_of_digits (second_of given)) (mode_of (third_of given)) false else
     (if bytes_eq word (codes "sent") then events.sent else
     (if bytes_eq word (codes "report") then events.report else events.total)))))))))))
 
 abbrev line_event : List (List ℕ) → Event
-line_event said = event_of (first_of said) (rest_of said)
+line_event said = event_of (leading_word said) (later_words said)
 
 is_submit : Event → Bool
 is_submit (events.submit m query text p) = true
@@ -92,26 +92,26 @@ says-event before line events.total isnt is = sym (ap line_event is)
 -- Requests, by their first word.
 
 takes-one : (line : TextLine) (word : List ℕ) (Holds : List ℕ → Type 0) → IsOne word Holds line → takes_program (first_word line) ≡ takes_program word
-takes-one line word Holds is = ap (λ (ws : List (List ℕ)). takes_program (first_of ws)) is.1
+takes-one line word Holds is = ap (λ (ws : List (List ℕ)). takes_program (leading_word ws)) is.1
 
 takes-submit : (before : Before) (line : TextLine) (e : Event) → Says before line e → takes_program (first_word line) ≡ is_submit e
 unfolding is_submit takes_program
-takes-submit before line (events.submit m true text p) is = ap (λ (ws : List (List ℕ)). takes_program (first_of ws)) is.first
-takes-submit before line (events.submit m false text p) is = ap (λ (ws : List (List ℕ)). takes_program (first_of ws)) is.first
+takes-submit before line (events.submit m true text p) is = ap (λ (ws : List (List ℕ)). takes_program (leading_word ws)) is.first
+takes-submit before line (events.submit m false text p) is = ap (λ (ws : List (List ℕ)). takes_program (leading_word ws)) is.first
 takes-submit before line (events.deliver n) is = takes-one line (codes "deliver") _ is
 takes-submit before line (events.lose n) is = takes-one line (codes "lose") _ is
-takes-submit before line (events.pump None) is = ap (λ (ws : List (List ℕ)). takes_program (first_of ws)) is
+takes-submit before line (events.pump None) is = ap (λ (ws : List (List ℕ)). takes_program (leading_word ws)) is
 takes-submit before line (events.pump (Some n)) is = takes-one line (codes "pump") _ is
 takes-submit before line (events.drop n) is = takes-one line (codes "drop") _ is
 takes-submit before line (events.tick n) is = takes-one line (codes "tick") _ is
 takes-submit before line (events.stop n) is = takes-one line (codes "stop") _ is
 takes-submit before line (events.start n) is = takes-one line (codes "start") _ is
 takes-submit before line (events.mend n) is = takes-one line (codes "mend") _ is
-takes-submit before line (events.arm m call mode true) is = ap (λ (ws : List (List ℕ)). takes_program (first_of ws)) is.3
-takes-submit before line (events.arm m call mode false) is = ap (λ (ws : List (List ℕ)). takes_program (first_of ws)) is.3
-takes-submit before line events.sent is = ap (λ (ws : List (List ℕ)). takes_program (first_of ws)) is
-takes-submit before line events.report is = ap (λ (ws : List (List ℕ)). takes_program (first_of ws)) is
-takes-submit before line events.total is = ap (λ (ws : List (List ℕ)). takes_program (first_of ws)) is
+takes-submit before line (events.arm m call mode true) is = ap (λ (ws : List (List ℕ)). takes_program (leading_word ws)) is.3
+takes-submit before line (events.arm m call mode false) is = ap (λ (ws : List (List ℕ)). takes_program (leading_word ws)) is.3
+takes-submit before line events.sent is = ap (λ (ws : List (List ℕ)). takes_program (leading_word ws)) is
+takes-submit before line events.report is = ap (λ (ws : List (List ℕ)). takes_program (leading_word ws)) is
+takes-submit before line events.total is = ap (λ (ws : List (List ℕ)). takes_program (leading_word ws)) is
 
 abbrev query_word : List ℕ → Bool
 query_word word = bytes_eq word (codes "query")
@@ -123,10 +123,10 @@ query-of false = refl
 same-request : (before : Before) (line : TextLine) (m n : ℕ) (query other : Bool) (text letters : List ℕ) (p q : Program)
     → IsRequest before m query text p line → IsRequest before n other letters q line → events.submit m query text p ≡ events.submit n other letters q
 same-request before line m n query other text letters p q is also =
-    let word : request_word query ≡ request_word other = ap first_of (sym is.first ∙ also.first) in
+    let word : request_word query ≡ request_word other = ap leading_word (sym is.first ∙ also.first) in
     let kind : query ≡ other = sym (query-of query) ∙ ap query_word word ∙ query-of other in
     let given = sym is.given ∙ also.given in
-    let at : is.at ≡ also.at = ap first_of given in
+    let at : is.at ≡ also.at = ap leading_word given in
     let same : text ≡ letters = ap second_of given in
     let site : m ≡ n = is.place.0.value ∙ ap number_of_digits at ∙ sym also.place.0.value in
     let program : p ≡ q = one_program_text (declared_by before) letters p q (subst (λ (t : List ℕ). IsProgramText (declared_by before) t p) same is.is) also.is in
@@ -162,7 +162,7 @@ one-journal before line a b is also =
     is.same ∙ ap (λ (m : ℕ). record before { journal = Some m }) n ∙ sym also.same
 
 abbrev fourth_of : List (List ℕ) → List ℕ
-fourth_of given = first_of (rest_of (rest_of (rest_of given)))
+fourth_of given = leading_word (later_words (later_words (later_words given)))
 
 pub one-item : (before : Before) (line : TextLine) (a b : Before) → DeclaresItem before line a → DeclaresItem before line b → a ≡ b
 one-item before line a b is also =
@@ -174,7 +174,7 @@ one-item before line a b is also =
     is.same ∙ ap (λ (it : Item). record before { items = before.items ++ it ∷ [] }) item ∙ sym also.same
 
 journal-item : (before : Before) (line : TextLine) (a b : Before) → DeclaresJournal before line a → DeclaresItem before line b → ⊥
-journal-item before line a b is also = word-differs line (codes "journal") (codes "item") refl refl (ap first_of is.is.1) (ap first_of also.is)
+journal-item before line a b is also = word-differs line (codes "journal") (codes "item") refl refl (ap leading_word is.is.1) (ap leading_word also.is)
 
 pub one-declared : {before : Before} {line : TextLine} {a b : Before} → Declares before line a → Declares before line b → a ≡ b
 one-declared {before} {line} {a} {b} (inl x) (inl y) = one-sites before line a b x y
@@ -190,27 +190,27 @@ one-declared {before} {line} {a} {b} (inr (inr x)) (inr (inr y)) = one-item befo
 -- An event declares nothing.
 
 declaring-one : (line : TextLine) (word : List ℕ) (Holds : List ℕ → Type 0) → IsOne word Holds line → is_declaring (first_word line) ≡ is_declaring word
-declaring-one line word Holds is = ap (λ (ws : List (List ℕ)). is_declaring (first_of ws)) is.1
+declaring-one line word Holds is = ap (λ (ws : List (List ℕ)). is_declaring (leading_word ws)) is.1
 
 says-no-declaring : (before : Before) (line : TextLine) (e : Event) → Says before line e → is_declaring (first_word line) ≡ false
-says-no-declaring before line (events.submit m true text p) is = ap (λ (ws : List (List ℕ)). is_declaring (first_of ws)) is.first
-says-no-declaring before line (events.submit m false text p) is = ap (λ (ws : List (List ℕ)). is_declaring (first_of ws)) is.first
+says-no-declaring before line (events.submit m true text p) is = ap (λ (ws : List (List ℕ)). is_declaring (leading_word ws)) is.first
+says-no-declaring before line (events.submit m false text p) is = ap (λ (ws : List (List ℕ)). is_declaring (leading_word ws)) is.first
 says-no-declaring before line (events.deliver n) is = declaring-one line (codes "deliver") _ is
 says-no-declaring before line (events.lose n) is = declaring-one line (codes "lose") _ is
-says-no-declaring before line (events.pump None) is = ap (λ (ws : List (List ℕ)). is_declaring (first_of ws)) is
+says-no-declaring before line (events.pump None) is = ap (λ (ws : List (List ℕ)). is_declaring (leading_word ws)) is
 says-no-declaring before line (events.pump (Some n)) is = declaring-one line (codes "pump") _ is
 says-no-declaring before line (events.drop n) is = declaring-one line (codes "drop") _ is
 says-no-declaring before line (events.tick n) is = declaring-one line (codes "tick") _ is
 says-no-declaring before line (events.stop n) is = declaring-one line (codes "stop") _ is
 says-no-declaring before line (events.start n) is = declaring-one line (codes "start") _ is
 says-no-declaring before line (events.mend n) is = declaring-one line (codes "mend") _ is
-says-no-declaring before line (events.arm m call mode true) is = ap (λ (ws : List (List ℕ)). is_declaring (first_of ws)) is.3
-says-no-declaring before line (events.arm m call mode false) is = ap (λ (ws : List (List ℕ)). is_declaring (first_of ws)) is.3
-says-no-declaring before line events.sent is = ap (λ (ws : List (List ℕ)). is_declaring (first_of ws)) is
-says-no-declaring before line events.report is = ap (λ (ws : List (List ℕ)). is_declaring (first_of ws)) is
-says-no-declaring before line events.total is = ap (λ (ws : List (List ℕ)). is_declaring (first_of ws)) is
+says-no-declaring before line (events.arm m call mode true) is = ap (λ (ws : List (List ℕ)). is_declaring (leading_word ws)) is.3
+says-no-declaring before line (events.arm m call mode false) is = ap (λ (ws : List (List ℕ)). is_declaring (leading_word ws)) is.3
+says-no-declaring before line events.sent is = ap (λ (ws : List (List ℕ)). is_declaring (leading_word ws)) is
+says-no-declaring before line events.report is = ap (λ (ws : List (List ℕ)). is_declaring (leading_word ws)) is
+says-no-declaring before line events.total is = ap (λ (ws : List (List ℕ)). is_declaring (leading_word ws)) is
 
 pub not-both : {before : Before} {line : TextLine} {e : Event} {a : Before} → IsEvent before line e → Declares before line a → ⊥
 not-both {before} {line} {e} {a} is (inl x) = none-some-sites before.sites is.sites is.said x.first
-not-both {before} {line} {e} {a} is (inr (inl x)) = declares-journal (first_word line) (says-no-declaring before line e is.says) (ap first_of x.is.1)
-not-both {before} {line} {e} {a} is (inr (inr x)) = declares-item (first_word line) (says-no-declaring before line e is.says) (ap first_of x.is)
+not-both {before} {line} {e} {a} is (inr (inl x)) = declares-journal (first_word line) (says-no-declaring before line e is.says) (ap leading_word x.is.1)
+not-both {before} {line} {e} {a} is (inr (inr x)) = declares-item (first_word line) (says-no-declaring before line e is.says) (ap leading_word x.is)

@@ -1,8 +1,8 @@
 -- A text is one schedule at most, or has one first line at fault.
 use Rattle.std.proofs.Common.{◌≡◌, ◌⊎◌, ⊎_elim, ℕ, List, [], ◌∷◌, ◌++◌, inl, inr, refl, sym, ap, subst, ◌∙◌}
-use Rattle.pv_model.specs.Causes.{Before, at_first, declared_by, LineCause, HasLineCause, IsFirstCause}
+use Rattle.pv_model.specs.LineCauses.{Before, at_first, declared_by, LineCause, HasLineCause, IsFirstCause}
 use Rattle.pv_model.specs.Events.{Event, Schedule}
-use Rattle.pv_model.specs.FirstFault.{without_numbers}
+use Rattle.pv_model.specs.FirstMisplaced.{without_numbers}
 use Rattle.pv_model.specs.Schedule.{IsEvent, Declares, with_event, AreLines, none, declaration, event, IsSchedule, IsMalformedSchedule}
 use Rattle.pv_model.specs.Text.{TextLine, numbered}
 use Rattle.pv_law_schedules.proofs.LineFormLemmas.{none-some-sites}

@@ -7,12 +7,12 @@ use Rattle.std.proofs.lemmas.Bool.{false≢true, eqb-true}
 use Rattle.std.proofs.lemmas.Slice.Eq.{bytes_eq-Decides}
 use Rattle.pv_base.specs.declared.limits.TheConstants.{MAX_CALL, MAX_JOURNAL, MAX_PUMP, MAX_SITES, MIN_JOURNAL}
 use Rattle.pv_base.specs.Catalog.{Item}
-use Rattle.pv_model.specs.Causes.{Before, or_default, LineCause, IsFirstCause}
+use Rattle.pv_model.specs.LineCauses.{Before, or_default, LineCause, IsFirstCause}
 use Rattle.pv_model.specs.Events as events
 use Rattle.pv_model.specs.Events.{Event}
 use Rattle.pv_model.specs.LineForms as fields
-use Rattle.pv_model.specs.LineForms.{Field, line_forms, first_of, rest_of, first_word, forms_of, takes_program, arguments, form_of, beside}
-use Rattle.pv_model.specs.Schedule.{IsIn, IsSite, IsOne, request_word, Says, IsEvent, Declares}
+use Rattle.pv_model.specs.LineForms.{Field, line_forms, leading_word, later_words, first_word, forms_of, takes_program, arguments, form_of, beside}
+use Rattle.pv_model.specs.Schedule.{IsIn, IsDeclaredSite, IsOne, request_word, Says, IsEvent, Declares}
 use Rattle.pv_model.specs.Text.{TextLine, words, number_of_digits, number_of_signed}
 use Rattle.pv_law_schedules.proofs.FirstCauseLemmas.{some-first}
 use Rattle.pv_base.proofs.ContainsLemmas.{Contains-first, Contains-behind}
@@ -61,7 +61,7 @@ means-number before line word least most make plain isnt only says fits first =
     an-event before line word fits first isnt (make is.0) (says is.0 is.1)
 
 means-site : (before : Before) (line : TextLine) (word : List ℕ) (make : ℕ → Event) → IsPlain word → bytes_eq word (codes "sites") ≡ false
-    → HasOnly word 1 (fields.site ∷ []) → ((n : ℕ) → IsOne word (λ w. IsSite before w n) line → Says before line (make n)) → Handles before line word
+    → HasOnly word 1 (fields.site ∷ []) → ((n : ℕ) → IsOne word (λ w. IsDeclaredSite before w n) line → Says before line (make n)) → Handles before line word
 means-site before line word make plain isnt only says fits first =
     let is = one-site before line word plain first (reads-only before line word (fields.site ∷ []) 1 fits first only) in
     an-event before line word fits first isnt (make is.0) (says is.0 is.1)
@@ -147,10 +147,10 @@ pump-line before line fits first =
     an-event before line (codes "pump") fits first refl (events.pump (Some one.0)) one.1)
     (pump-form (length (arguments line)) fits.form at)
 
-words-begin : (line : TextLine) (word : List ℕ) → (word ≡ [] → ⊥) → first_word line ≡ word → words line ≡ word ∷ rest_of (words line)
+words-begin : (line : TextLine) (word : List ℕ) → (word ≡ [] → ⊥) → first_word line ≡ word → words line ≡ word ∷ later_words (words line)
 words-begin line word some first = go (words line) first
   where
-    go : (ws : List (List ℕ)) → first_of ws ≡ word → ws ≡ word ∷ rest_of ws
+    go : (ws : List (List ℕ)) → leading_word ws ≡ word → ws ≡ word ∷ later_words ws
     go [] e = absurd (some (sym e))
     go (w ∷ more) e = ap (λ (x : List ℕ). x ∷ more) e
 
@@ -164,7 +164,7 @@ request-line before line query some isnt only asks fits first =
     let runs = program.2 in
     an-event before line (request_word query) fits first isnt (events.submit (number_of_digits two.0) query two.1 program.0)
     (record {
-      more = rest_of (words line);
+      more = later_words (words line);
       first = words-begin line (request_word query) some first;
       at = two.0;
       given = is.args ∙ two.2;

@@ -1,9 +1,9 @@
 -- Each text is a schedule or is malformed.
 use Rattle.std.proofs.Common.{◌≡◌, ◌⊎◌, ⊎_elim, ℕ, ◌+◌, Some, List, [], ◌∷◌, ◌++◌, length, inl, inr, refl, sym, ap, subst, ◌∙◌}
-use Rattle.pv_model.specs.Causes as causes
-use Rattle.pv_model.specs.Causes.{Before, at_first, declared_by, LineCause, IsFirstCause}
+use Rattle.pv_model.specs.LineCauses as causes
+use Rattle.pv_model.specs.LineCauses.{Before, at_first, declared_by, LineCause, IsFirstCause}
 use Rattle.pv_model.specs.Events.{Event, Schedule}
-use Rattle.pv_model.specs.FirstFault.{without_numbers}
+use Rattle.pv_model.specs.FirstMisplaced.{without_numbers}
 use Rattle.pv_model.specs.Schedule.{IsEvent, Declares, with_event, AreLines, none, declaration, event, IsSchedule, IsMalformedSchedule}
 use Rattle.pv_model.specs.Text.{TextLine, lines, numbered}
 use Rattle.pv_law_schedules.proofs.SomeLineLemmas.{some_line}

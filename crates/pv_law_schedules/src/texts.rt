@@ -1,6 +1,6 @@
 // Laws on the texts of schedules: each is one schedule, or is malformed at one line for one cause.
 ghost use Rattle.std.specs.Prelude.{◌≡◌, ◌⊎◌, ℕ, List};
-ghost use Rattle.pv_model.specs.Causes.{LineCause};
+ghost use Rattle.pv_model.specs.LineCauses.{LineCause};
 ghost use Rattle.pv_model.specs.Events.{Schedule};
 ghost use Rattle.pv_model.specs.Schedule.{IsSchedule, IsMalformedSchedule};
 

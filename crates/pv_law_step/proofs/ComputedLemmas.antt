@@ -15,7 +15,7 @@ use Rattle.pv_format.specs.Record.{Record}
 use Rattle.pv_law_canonical.proofs.CanonicalLemmas as canonical
 use Rattle.pv_law_step.proofs.NameLists.{names-listed, names-ascend, undecided-ascend, listed-undecided}
 use Rattle.pv_law_step.proofs.OutcomeLemmas.{choice-alike}
-use Rattle.pv_law_step.proofs.ShownLemmas.{int-exact}
+use Rattle.pv_law_polyvalues.proofs.ExistenceLemmas.{numbers-exact}
 use Rattle.pv_law_polyvalues.proofs.PolyvalueLemmas.{value_at-agree}
 use Rattle.pv_model.specs.Alternatives.{Read, all_cases, rows_at}
 use Rattle.pv_base.specs.declared.reply.Decline.{Decline}
@@ -97,11 +97,11 @@ module _ (records : List Record) (entry : Entry) where
 
   pub new-canonical : (item : ℕ) → IsCanonical (new_value records entry item)
   unfolding new_value
-  new-canonical item = canonical.canonical-is int_eq int-exact (open_names records entry) (row_after records entry item) open-ascend
+  new-canonical item = canonical.canonical-is int_eq numbers-exact (open_names records entry) (row_after records entry item) open-ascend
 
   pub new-value : (item : ℕ) (a : List TxnId) → value_at (new_value records entry item) a ≡ Some (row_after records entry item a)
   unfolding new_value
-  new-value item a = canonical.value-is int_eq int-exact (open_names records entry) (row_after records entry item) open-ascend (row-depends item) a
+  new-value item a = canonical.value-is int_eq numbers-exact (open_names records entry) (row_after records entry item) open-ascend (row-depends item) a
 
   pub new-names : (item : ℕ) (t : TxnId) → IsTrue (names (new_value records entry item) t) → Contains (open_names records entry) t
   unfolding new_value

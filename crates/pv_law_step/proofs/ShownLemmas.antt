@@ -4,10 +4,9 @@ use Rattle.std.specs.Prelude.{IsTrue, is_none, if◌then◌else◌}
 use Rattle.std.specs.List.{Contains}
 use Rattle.std.specs.Option.{unwrap_or}
 use Rattle.std.specs.Ordering.{int_eq}
-use Rattle.std.proofs.lemmas.Bool.Decides.{Decides-int_eq}
 use Rattle.pv_base.specs.declared.txn.TxnId.{TxnId}
 use Rattle.pv_base.specs.Assignment.{AreAscending, commits}
-use Rattle.pv_base.specs.Canonical.{IsExact, IsFunctionOf}
+use Rattle.pv_base.specs.Canonical.{IsFunctionOf}
 use Rattle.pv_base.specs.Catalog.{Declared}
 use Rattle.pv_base.specs.Named.{with_txns, names_of}
 use Rattle.pv_base.specs.Polyvalue.{Case, IsCanonical, names, value_at}
@@ -16,13 +15,11 @@ use Rattle.pv_law_canonical.proofs.CanonicalLemmas as canonical
 use Rattle.pv_law_step.proofs.NameLists.{inserted, united, names-listed, names-ascend, undecided-ascend, undecided-is, listed-undecided}
 use Rattle.pv_law_step.proofs.OutcomeLemmas.{choice-alike, choice-known}
 use Rattle.pv_base.proofs.ContainsLemmas.{Contains-nil}
+use Rattle.pv_law_polyvalues.proofs.ExistenceLemmas.{numbers-exact}
 use Rattle.pv_law_polyvalues.proofs.PolyvalueLemmas.{value_at-agree}
 use Rattle.pv_model.specs.Alternatives.{number_at}
 use Rattle.pv_protocol.specs.Records.{known, is_undecided, undecided, choice}
 use Rattle.pv_protocol.specs.Shown.{written, written_or, value_after, newest, declared_value, item_within, names_of_choice, names_after_write, names_after, names_within, shown_within}
-
-pub int-exact : IsExact int_eq
-int-exact = record { exact = λ x y. (Decides-int_eq x y).0; itself = λ x. (Decides-int_eq x x).1 refl }
 
 pub if-same : {X : Type 0} (b : Bool) (x : X) → (if b then x else x) ≡ x
 if-same true x = refl
@@ -117,11 +114,11 @@ module _ (catalog : Declared) (records front : List Record) (item : ℕ) where
 
   pub shown-canonical : IsCanonical (shown_within catalog records front item)
   unfolding shown_within
-  shown-canonical = canonical.canonical-is int_eq int-exact (names_within records item [] front) (item_within catalog records front item) within-ascends
+  shown-canonical = canonical.canonical-is int_eq numbers-exact (names_within records item [] front) (item_within catalog records front item) within-ascends
 
   pub shown-value : (a : List TxnId) → value_at (shown_within catalog records front item) a ≡ Some (item_within catalog records front item a)
   unfolding shown_within
-  shown-value = canonical.value-is int_eq int-exact (names_within records item [] front) (item_within catalog records front item) within-ascends within-depends
+  shown-value = canonical.value-is int_eq numbers-exact (names_within records item [] front) (item_within catalog records front item) within-ascends within-depends
 
   pub shown-names : (t : TxnId) → IsTrue (names (shown_within catalog records front item) t) → Contains (names_within records item [] front) t
   unfolding shown_within

@@ -12,8 +12,8 @@ use Rattle.pv_format.specs.Range.{AreItemsInRange, AreWantsInRange}
 use Rattle.pv_law_step.proofs.Lists.{all-from, all-head, all-tail}
 use Rattle.pv_law_step.proofs.StepCases.{if_case}
 use Rattle.pv_base.proofs.ContainsLemmas.{Contains-first, Contains-behind, Contains-nil, Contains-cases}
-use Rattle.pv_model.specs.Check.{names}
-use Rattle.pv_model.specs.Plan.{want_of, wants_from, wants_of, with_site, sites_from, participants_of}
+use Rattle.pv_model.specs.Check.{names_item}
+use Rattle.pv_model.specs.Plan.{want_of, wants_from, wants_of, with_participant, sites_from, participants_of}
 use Rattle.pv_model.specs.Syntax.{Program}
 use Rattle.pv_protocol.specs.Coordinate.{exclusive_items}
 use Rattle.pv_protocol.specs.WellFormed.{CanRun}
@@ -67,7 +67,7 @@ module _ (program : Program) (site : ℕ) where
   record IsFrom (first count item : ℕ) : Type 0 where
     pub least : first ≤ item
     pub most : item < first + count
-    pub named : IsTrue (names program item)
+    pub named : IsTrue (names_item program item)
 
   abbrev wanted : ℕ → List Item → List ℕ
   wanted first items = map (λ (want : Want). want.item) (wants_from program site first items)
@@ -87,11 +87,11 @@ module _ (program : Program) (site : ℕ) where
   walk first [] = record { ascending = ascend-nil; each = λ n h. absurd (Contains-nil n h) }
   walk first (declared ∷ items) =
       let rest = walk (first + 1) items in
-      if_case (λ (wants : List Want). IsWalk first (suc (length items)) (map (λ (want : Want). want.item) wants)) (declared.site == site && names program first)
+      if_case (λ (wants : List Want). IsWalk first (suc (length items)) (map (λ (want : Want). want.item) wants)) (declared.site == site && names_item program first)
       (λ passes. record {
         ascending = ascend-cons first (wanted (first + 1) items) (λ m h. omega (arith, (rest.each m h).least)) rest.ascending;
         each = λ n h. ⊎_elim
-            (λ same. record { least = omega (arith, same); most = omega (arith, same); named = subst (λ m. IsTrue (names program m)) same (and_parts (declared.site == site) (names program first) passes).1 })
+            (λ same. record { least = omega (arith, same); most = omega (arith, same); named = subst (λ m. IsTrue (names_item program m)) same (and_parts (declared.site == site) (names_item program first) passes).1 })
             (λ behind. let from = rest.each n behind in record { least = omega (arith, from.least); most = omega (arith, from.most); named = from.named })
             (Contains-cases first (wanted (first + 1) items) n h);
       })
@@ -99,6 +99,9 @@ module _ (program : Program) (site : ℕ) where
         ascending = rest.ascending;
         each = λ n h. let from = rest.each n h in record { least = omega (arith, from.least); most = omega (arith, from.most); named = from.named };
       })
+
+  pub wants-ascend : (items : List Item) → Ascend (map (λ (want : Want). want.item) (wants_from program site 0 items))
+  wants-ascend items = (walk 0 items).ascending
 
   -- The wants are of items in range.
   pub wants-in-range : (catalog : Declared) → length catalog.items ≤ MAX_ITEMS → CanRun catalog program
@@ -118,7 +121,7 @@ module _ (program : Program) (site : ℕ) where
 
 -- Participants.
 
-with-site-cases : (site : ℕ) (rest : List ℕ) (s : ℕ) → Contains (with_site site rest) s → (site ≡ s) ⊎ Contains rest s
+with-site-cases : (site : ℕ) (rest : List ℕ) (s : ℕ) → Contains (with_participant site rest) s → (site ≡ s) ⊎ Contains rest s
 with-site-cases site [] s h = Contains-cases site [] s h
 with-site-cases site (first ∷ rest) s h =
     if_case (λ (sites : List ℕ). Contains sites s → (site ≡ s) ⊎ Contains (first ∷ rest) s) (site == first)
@@ -128,7 +131,7 @@ with-site-cases site (first ∷ rest) s h =
     (λ behind k. ⊎_elim
     (λ here. inr (subst (Contains (first ∷ rest)) here (Contains-first first rest)))
     (λ there. ⊎_elim (λ new. inl new) (λ old. inr (Contains-behind first rest s old)) (with-site-cases site rest s there))
-    (Contains-cases first (with_site site rest) s k)))
+    (Contains-cases first (with_participant site rest) s k)))
     h
 
 grown : (b : Bool) (wants : List Want) (want : Want) → 1 ≤ length wants → 1 ≤ length (if b then want ∷ wants else wants)
@@ -137,18 +140,18 @@ grown false wants want some = some
 
 module _ (program : Program) (P : ℕ → Type 0) (first : ℕ) (declared : Item) (items : List Item) (home : P declared.site) (s : ℕ)
     (later : Contains (sites_from program (first + 1) items) s → P s × (1 ≤ length (wants_from program s (first + 1) items))) where
-  own-want : names program first ≡ true → declared.site ≡ s → 1 ≤ length (wants_from program s first (declared ∷ items))
+  own-want : names_item program first ≡ true → declared.site ≡ s → 1 ≤ length (wants_from program s first (declared ∷ items))
   own-want named same =
       subst (λ b. 1 ≤ length (if b then want_of program first ∷ wants_from program s (first + 1) items else wants_from program s (first + 1) items))
-      (sym (and_from (declared.site == s) (names program first) (eq-eqb declared.site s same) named)) (omega arith)
+      (sym (and_from (declared.site == s) (names_item program first) (eq-eqb declared.site s same) named)) (omega arith)
 
   later-want : Contains (sites_from program (first + 1) items) s → P s × (1 ≤ length (wants_from program s first (declared ∷ items)))
   later-want h = (
     (later h).0,
-    grown (declared.site == s && names program first) (wants_from program s (first + 1) items) (want_of program first) (later h).1,
+    grown (declared.site == s && names_item program first) (wants_from program s (first + 1) items) (want_of program first) (later h).1,
   )
 
-  some-want : (b : Bool) → names program first ≡ b → Contains (if b then with_site declared.site (sites_from program (first + 1) items) else sites_from program (first + 1) items) s
+  some-want : (b : Bool) → names_item program first ≡ b → Contains (if b then with_participant declared.site (sites_from program (first + 1) items) else sites_from program (first + 1) items) s
       → P s × (1 ≤ length (wants_from program s first (declared ∷ items)))
   some-want true named h =
       ⊎_elim (λ same. (subst P same home, own-want named same)) later-want (with-site-cases declared.site (sites_from program (first + 1) items) s h)
@@ -161,7 +164,7 @@ participant-is program P first [] all s h = absurd (Contains-nil s h)
 participant-is program P first (declared ∷ items) all s h =
     some-want program P first declared items (all-head (λ (item : Item). P item.site) declared items all) s
     (participant-is program P (first + 1) items (all-tail (λ (item : Item). P item.site) declared items all) s)
-    (names program first) refl h
+    (names_item program first) refl h
 
 pub part-in-range : (catalog : Declared) (program : Program) → length catalog.items ≤ MAX_ITEMS → CanRun catalog program
     → (s : ℕ) → Contains (participants_of program catalog.items) s → All (λ (item : Item). item.site < catalog.sites) catalog.items

@@ -221,7 +221,7 @@ ended-possible b other (both_settle lines after left same) = record { left = lef
 ended-possible b other (both_attempt before n attempt) =
     reached-possible before n attempt (reached (calls_of attempt) (site_at before n).arm) refl
 
-transition-may : (setup : Setup) (world : World) (event : Event) → IsWellFormed setup.catalog event → MayFollow setup (disarmed world) (without_arms (transition_of setup world event))
+pub transition-may : (setup : Setup) (world : World) (event : Event) → IsWellFormed setup.catalog event → MayFollow setup (disarmed world) (without_arms (transition_of setup world event))
 unfolding transition_of
 transition-may setup world event well =
     let possible : IsPossible (begun setup (disarmed world) event) (ended (begun setup world event)).0 (ended (begun setup world event)).1 =

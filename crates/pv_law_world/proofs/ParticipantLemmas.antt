@@ -5,8 +5,8 @@ use Rattle.std.proofs.lemmas.Bool.Decides.{nat_tests}
 use Rattle.std.proofs.lemmas.List.Elements.{All-head, All-tail}
 use Rattle.pv_base.specs.Catalog.{Item, Declared}
 use Rattle.pv_law_world.specs.Pumps.{HasFewSites}
-use Rattle.pv_model.specs.Check.{names}
-use Rattle.pv_model.specs.Plan.{with_site, sites_from, participants_of}
+use Rattle.pv_model.specs.Check.{names_item}
+use Rattle.pv_model.specs.Plan.{with_participant, sites_from, participants_of}
 use Rattle.pv_model.specs.Syntax.{Program}
 
 -- The sites ascend, from this one on and below a bound.
@@ -19,21 +19,21 @@ if-case P true is isnt = is refl
 if-case P false is isnt = isnt refl
 
 module _ (bound : ℕ) where
-  with_site-ascends : (low site : ℕ) (sites : List ℕ) → low ≤ site → site < bound → Ascend bound low sites → Ascend bound low (with_site site sites)
-  with_site-ascends low site [] from below ascends = one_more low site [] from below (none (suc site))
-  with_site-ascends low site (first ∷ sites) from below (one_more low' first' sites' first_from first_below rest) =
+  with_participant-ascends : (low site : ℕ) (sites : List ℕ) → low ≤ site → site < bound → Ascend bound low sites → Ascend bound low (with_participant site sites)
+  with_participant-ascends low site [] from below ascends = one_more low site [] from below (none (suc site))
+  with_participant-ascends low site (first ∷ sites) from below (one_more low' first' sites' first_from first_below rest) =
       if-case (Ascend bound low) (site == first) (λ same. one_more low first sites first_from first_below rest)
       (λ other. if-case (Ascend bound low) (nat_lt site first)
       (λ before. one_more low site (first ∷ sites) from below (one_more (suc site) first sites (grind arith) first_below rest))
-      (λ after. one_more low first (with_site site sites) first_from first_below
-      (with_site-ascends (suc first) site sites (grind (arith, nat_tests)) below rest)))
+      (λ after. one_more low first (with_participant site sites) first_from first_below
+      (with_participant-ascends (suc first) site sites (grind (arith, nat_tests)) below rest)))
 
   sites-ascend : (program : Program) (n : ℕ) (items : List Item) → All (λ item. item.site < bound) items → Ascend bound 0 (sites_from program n items)
   sites-ascend program n [] homes = none 0
   sites-ascend program n (item ∷ items) homes =
       let rest : Ascend bound 0 (sites_from program (n + 1) items) = sites-ascend program (n + 1) items (All-tail (λ (i : Item). i.site < bound) item items homes) in
-      if-case (Ascend bound 0) (names program n)
-      (λ named. with_site-ascends 0 item.site (sites_from program (n + 1) items) (omega arith) (All-head (λ (i : Item). i.site < bound) item items homes) rest)
+      if-case (Ascend bound 0) (names_item program n)
+      (λ named. with_participant-ascends 0 item.site (sites_from program (n + 1) items) (omega arith) (All-head (λ (i : Item). i.site < bound) item items homes) rest)
       (λ unnamed. rest)
 
   ascending-few : (low : ℕ) (sites : List ℕ) → Ascend bound low sites → length sites ≤ bound - low

@@ -5,10 +5,10 @@ use Rattle.pv_base.specs.Catalog.{Declared}
 use Rattle.std.proofs.lemmas.List.Elements.{All-nil, All-cons, All-get_or}
 use Rattle.pv_law_programs.proofs.DeclaredItems.{declared-items}
 use Rattle.pv_law_world.proofs.NumeralLemmas.{small-numbers}
-use Rattle.pv_model.specs.Causes.{Before, or_default, declared_by, at_first}
-use Rattle.pv_model.specs.Check.{names}
+use Rattle.pv_model.specs.LineCauses.{Before, or_default, declared_by, at_first}
+use Rattle.pv_model.specs.Check.{names_item}
 use Rattle.pv_model.specs.Events.{Event, submit, deliver, pump, lose, drop, tick, stop, start, arm, mend, sent, report, total, Schedule}
-use Rattle.pv_model.specs.Schedule.{IsSite, Says, Declares, AreLines, none, declaration, event, with_event, IsSchedule}
+use Rattle.pv_model.specs.Schedule.{IsDeclaredSite, Says, Declares, AreLines, none, declaration, event, with_event, IsSchedule}
 use Rattle.pv_model.specs.Text.{TextLine}
 use Rattle.pv_protocol.specs.WellFormed.{IsWellFormed}
 
@@ -41,7 +41,7 @@ lines-last before last lines events (event first end line rest e es is are) =
     record { sites = rest_lasts.sites; items = rest_lasts.items }
 
 module _ (before last : Before) (count : ℕ) (said : before.sites ≡ Some count) (lasts : Lasts before last) where
-  site-well : (word : List ℕ) (n : ℕ) → IsSite before word n → n < or_default 0 last.sites
+  site-well : (word : List ℕ) (n : ℕ) → IsDeclaredSite before word n → n < or_default 0 last.sites
   site-well word n is = rw (lasts.sites count said) (subst (λ (sites : Option ℕ). n < or_default 0 sites) said is.1)
 
   says-well : (line : TextLine) (e : Event) → Says before line e → IsWellFormed (declared_by last) e
@@ -53,7 +53,7 @@ module _ (before last : Before) (count : ℕ) (said : before.sites ≡ Some coun
         are = says.may.are;
         some = says.may.some;
         few = says.may.few;
-        known = λ k d below. lt_of_lt_of_le (declared-items (declared_by before) text p says.is (get_or says.may.items k d) (All-get_or (λ m. IsTrue (names p m)) says.may.items k d below says.may.are.each)) lasts.items;
+        known = λ k d below. lt_of_lt_of_le (declared-items (declared_by before) text p says.is (get_or says.may.items k d) (All-get_or (λ m. IsTrue (names_item p m)) says.may.items k d below says.may.are.each)) lasts.items;
       };
       numbers = small-numbers (declared_by before) text p says.is;
     },

@@ -8,7 +8,7 @@ use Rattle.pv_base.specs.Catalog.{Item, Declared}
 use Rattle.pv_base.specs.declared.limits.TheConstants.{MAX_SITES, MAX_ITEMS, MIN_JOURNAL, MAX_JOURNAL, HELD_NAMES}
 use Rattle.pv_law_step.proofs.FitLemmas.{fits-from}
 use Rattle.pv_law_world.specs.Ranges.{with_limits}
-use Rattle.pv_model.specs.Causes.{Before, or_default, at_first}
+use Rattle.pv_model.specs.LineCauses.{Before, or_default, at_first}
 use Rattle.pv_model.specs.Events.{Event, Schedule}
 use Rattle.pv_model.specs.Schedule.{Declares, AreLines, none, declaration, event, with_event, IsSchedule}
 use Rattle.pv_model.specs.Text.{TextLine}

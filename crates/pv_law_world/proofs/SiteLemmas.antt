@@ -126,7 +126,7 @@ module _ (setup : Setup) (P : ℕ → List Record → Option Running → Type 0)
   come-holds b lines after (goes_on before n attempt holds new) (anywhere.by_attempt before' after' n' attempt' lines' ends) =
       end-holds before n attempt holds new lines after ends
 
-  transition-holds : (world : World) (event : Event) → Holds world → Holds (transition_of setup world event).world
+  pub transition-holds : (world : World) (event : Event) → Holds world → Holds (transition_of setup world event).world
   unfolding transition_of
   transition-holds world event holds = ended-holds (begun setup world event) (begun-keeps world holds event)
 
@@ -135,12 +135,12 @@ module _ (setup : Setup) (P : ℕ → List Record → Option Running → Type 0)
       subst (λ (site : Site). P n site.records site.running) (sym (site-disarmed world n))
       (holds n (subst (λ (count : ℕ). n < count) (length-map world.sites disarmed_site) below))
 
-  follow-holds : (world : World) (transition : Transition) → Holds world → MayFollow setup world transition → Holds transition.world
+  pub follow-holds : (world : World) (transition : Transition) → Holds world → MayFollow setup world transition → Holds transition.world
   follow-holds world transition holds follows =
       subst Holds (sym follows.after)
       (disarmed-holds follows.left (come-holds (begun setup world transition.event) transition.lines follows.left (begun-keeps world holds transition.event) follows.comes))
 
-  opening-holds : Holds (opening setup)
+  pub opening-holds : Holds (opening setup)
   opening-holds n below =
       subst (λ (site : Site). P n site.records site.running)
       (sym (get_or-replicate setup.catalog.sites n first_site no_site (subst (λ (count : ℕ). n < count) (length-replicate setup.catalog.sites first_site) below)))

@@ -10,5 +10,5 @@ abbrev pub AreEpochsRecorded : World → Type 0
 AreEpochsRecorded world = (n : ℕ) (running : Running) → (site_at world n).running ≡ Some running → running.epoch ≡ last_epoch (site_at world n).records
 
 -- What each site that is up has in memory stands in the order of transactions, one grant and one entry of each at most.
-abbrev pub AreInOrder : World → Type 0
-AreInOrder world = (n : ℕ) (running : Running) → (site_at world n).running ≡ Some running → IsInOrder running
+abbrev pub AreMemoriesInOrder : World → Type 0
+AreMemoriesInOrder world = (n : ℕ) (running : Running) → (site_at world n).running ≡ Some running → IsInOrder running

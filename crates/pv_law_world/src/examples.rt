@@ -3,7 +3,7 @@
 
 ghost use Rattle.std.specs.Prelude.{◌≡◌, [], ◌∷◌, ◌++◌, false, true, Some};
 ghost use Rattle.pv_base.specs.declared.mode.Mode.TheVariants.{Kept, Lost, Torn};
-ghost use Rattle.pv_law_world.specs.Lines.{either, lost_for_good, report_of, stopped_in_commit, sure, t, u, values};
+ghost use Rattle.pv_law_world.specs.Lines.{either, lost_for_good, report_lines, stopped_in_commit, sure, t, u, values};
 ghost use Rattle.pv_law_world.specs.Schedules.{alone, bank, fault_in_prepare, granted_anew, lock_lost, old_prepare, one_more, outcome_asked, outcome_unheard, pump_all, short_of_room, stop_in_commit, transfer, two_more, two_restarts};
 ghost use Rattle.pv_model.specs.Events.{report};
 ghost use Rattle.pv_base.specs.declared.reply.Reply.TheVariants.{Nothing};
@@ -16,32 +16,32 @@ ghost use Rattle.pv_protocol.specs.World.{opening};
 /// A transaction at one site commits.
 pub fn site_alone_commits()
     ensures { printed (alone 100) (one_more ∷ pump_all ∷ report ∷ []) ≡
-        Line.txn t ∷ Line.commit t (Nothing ∷ []) ∷ report_of (t ∷ []) (t ∷ []) [] (Line.item 0 (sure 101) ∷ []) }
+        Line.txn t ∷ Line.commit t (Nothing ∷ []) ∷ report_lines (t ∷ []) (t ∷ []) [] (Line.item 0 (sure 101) ∷ []) }
 {}
 
 /// A transfer between two sites commits when all is delivered.
 pub fn transfer_commits()
     ensures { printed bank (transfer ∷ pump_all ∷ report ∷ []) ≡
-        Line.txn t ∷ Line.commit t (Nothing ∷ []) ∷ report_of (t ∷ []) (t ∷ []) [] (values (sure 90) (sure 60)) }
+        Line.txn t ∷ Line.commit t (Nothing ∷ []) ∷ report_lines (t ∷ []) (t ∷ []) [] (values (sure 90) (sure 60)) }
 {}
 
 /// A participant that doesn't hear of the outcome shows both values when its grant ends.
 pub fn unheard_outcome_leaves_doubt()
     ensures { printed bank outcome_unheard ≡
-        Line.txn t ∷ Line.commit t (Nothing ∷ []) ∷ report_of (t ∷ []) (t ∷ []) [] (values (sure 90) (either 50 60)) }
+        Line.txn t ∷ Line.commit t (Nothing ∷ []) ∷ report_lines (t ∷ []) (t ∷ []) [] (values (sure 90) (either 50 60)) }
 {}
 
 /// Of two transactions that change one item, the second is refused for the first.
 pub fn conflict_refuses()
     ensures { printed (alone 5) (one_more ∷ two_more ∷ pump_all ∷ report ∷ []) ≡
         Line.txn t ∷ Line.txn u ∷ Line.refuse u (state.conflict 0 0 t) ∷ Line.commit t (Nothing ∷ []) ∷
-        report_of (t ∷ []) (t ∷ []) [] (Line.item 0 (sure 6) ∷ []) }
+        report_lines (t ∷ []) (t ∷ []) [] (Line.item 0 (sure 6) ∷ []) }
 {}
 
 /// A vote that is asked for under a grant that a restart took is no, also where the transaction has been granted its locks anew.
 pub fn restart_loses_grants()
     ensures { printed bank old_prepare ≡
-        Line.txn t ∷ Line.stopped 1 ∷ Line.started 1 2 ∷ Line.refuse t (state.grant_lost 1) ∷ report_of (t ∷ []) [] [] (values (sure 100) (sure 50)) }
+        Line.txn t ∷ Line.stopped 1 ∷ Line.started 1 2 ∷ Line.refuse t (state.grant_lost 1) ∷ report_lines (t ∷ []) [] [] (values (sure 100) (sure 50)) }
 {}
 
 /// A stop in the append of the commit record: the transaction has committed exactly where the third or fourth call stops the
@@ -64,21 +64,21 @@ pub fn stop_in_commit_record()
 /// A fault in the append of a promise: the site starts again with it where the gate was written and kept, and without it else.
 pub fn fault_in_promise()
     ensures kept { printed bank (fault_in_prepare Kept) ≡
-        Line.txn t ∷ Line.fault 1 ∷ Line.started 1 2 ∷ report_of (t ∷ []) [] (t ∷ []) (Line.item_locked 0 t ∷ Line.item 1 (either 50 60) ∷ []) }
+        Line.txn t ∷ Line.fault 1 ∷ Line.started 1 2 ∷ report_lines (t ∷ []) [] (t ∷ []) (Line.item_locked 0 t ∷ Line.item 1 (either 50 60) ∷ []) }
     ensures lost { printed bank (fault_in_prepare Lost) ≡
-        Line.txn t ∷ Line.fault 1 ∷ Line.started 1 2 ∷ report_of (t ∷ []) [] [] (Line.item_locked 0 t ∷ Line.item 1 (sure 50) ∷ []) }
+        Line.txn t ∷ Line.fault 1 ∷ Line.started 1 2 ∷ report_lines (t ∷ []) [] [] (Line.item_locked 0 t ∷ Line.item 1 (sure 50) ∷ []) }
 {}
 
 /// A coordinator gives up at its third tick, for the participant that didn't answer.
 pub fn silence_expires()
     ensures { printed bank lock_lost ≡
-        Line.txn t ∷ Line.refuse t (state.expired 1) ∷ report_of [] [] [] (values (sure 100) (sure 50)) }
+        Line.txn t ∷ Line.refuse t (state.expired 1) ∷ report_lines [] [] [] (values (sure 100) (sure 50)) }
 {}
 
 /// A coordinator without room for the commit record refuses, and then has no room for the outcome either.
 pub fn no_room_refuses()
     ensures { printed (short_of_room 64) (one_more ∷ pump_all ∷ report ∷ []) ≡
-        Line.txn t ∷ Line.refuse t (state.journal_full 0 66) ∷ Line.full 0 66 ∷ report_of (t ∷ []) [] [] (Line.item_locked 0 t ∷ []) }
+        Line.txn t ∷ Line.refuse t (state.journal_full 0 66) ∷ Line.full 0 66 ∷ report_lines (t ∷ []) [] [] (Line.item_locked 0 t ∷ []) }
 {}
 
 /// A site without room for its new epoch stays down.

@@ -25,7 +25,7 @@ pub use runs::{
 };
 pub use sites::{epochs_are_recorded, memories_are_in_order};
 pub use steps::{
-    down_sites_are_silent, numbers_rise, other_sites_stay, reports_change_nothing,
+    down_sites_are_silent, numbers_rise_in_transitions, other_sites_stay, reports_change_nothing,
     transition_adds_records,
 };
 pub use texts::lines_are_spelled;

@@ -1,6 +1,6 @@
 // Laws of each site in every world of a run.
 ghost use Rattle.std.specs.Prelude.{List, All};
-ghost use Rattle.pv_law_world.specs.Sites.{AreEpochsRecorded, AreInOrder};
+ghost use Rattle.pv_law_world.specs.Sites.{AreEpochsRecorded, AreMemoriesInOrder};
 ghost use Rattle.pv_model.specs.Events.{Event};
 ghost use Rattle.pv_protocol.specs.Anywhere.{IsRunWithFaults};
 ghost use Rattle.pv_protocol.specs.Run.{run, worlds_of};
@@ -18,7 +18,7 @@ pub fn epochs_are_recorded()
 
 /// What a site that is up has in memory stands in the order of transactions, in every world of a run, wherever sites stop.
 pub fn memories_are_in_order()
-    ensures run { (setup : Setup) (events : List Event) → All AreInOrder (worlds_of (opening setup) (run setup (opening setup) events)) }
+    ensures run { (setup : Setup) (events : List Event) → All AreMemoriesInOrder (worlds_of (opening setup) (run setup (opening setup) events)) }
     ensures faults { (setup : Setup) (transitions : List Transition) → IsRunWithFaults setup (opening setup) transitions →
-        All AreInOrder (worlds_of (opening setup) transitions) }
+        All AreMemoriesInOrder (worlds_of (opening setup) transitions) }
 {}

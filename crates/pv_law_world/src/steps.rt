@@ -39,7 +39,7 @@ pub fn down_sites_are_silent()
 {}
 
 /// The numbers that a site gives only rise while it is up, and a start begins the epoch after the last one.
-pub fn numbers_rise()
+pub fn numbers_rise_in_transitions()
     ensures up { (setup : Setup) (world : World) (event : Event) (n : ℕ) (before after : Running) → (site_at world n).running ≡ Some before →
         (site_at (transition_of setup world event).world n).running ≡ Some after → Rises before after }
     ensures start { (setup : Setup) (world : World) (event : Event) (n : ℕ) (after : Running) → (site_at world n).running ≡ None →

@@ -15,19 +15,19 @@ reads (negation e) n = reads e n
 reads (two op left right) n = reads left n || reads right n
 
 -- The program names the item, by an assignment or in an expression.
-abbrev pub names : Program → ℕ → Bool
-names end n = false
-names (assign m e next) n = (m == n) || (reads e n || names next n)
-names (require e next) n = reads e n || names next n
-names (return e next) n = reads e n || names next n
-names (when e body next) n = reads e n || (names body n || names next n)
-names (when_else e body other next) n = reads e n || (names body n || (names other n || names next n))
+abbrev pub names_item : Program → ℕ → Bool
+names_item end n = false
+names_item (assign m e next) n = (m == n) || (reads e n || names_item next n)
+names_item (require e next) n = reads e n || names_item next n
+names_item (return e next) n = reads e n || names_item next n
+names_item (when e body next) n = reads e n || (names_item body n || names_item next n)
+names_item (when_else e body other next) n = reads e n || (names_item body n || (names_item other n || names_item next n))
 
 -- The list is of the items that the program names, in their order, each once.
 pub record AreItems (program : Program) (items : List ℕ) : Type 0 where
   pub ascending : AllPairs (λ n later. n < later) items
-  pub each : All (λ n. IsTrue (names program n)) items
-  pub whole : (n : ℕ) → IsTrue (names program n) → Contains items n
+  pub each : All (λ n. IsTrue (names_item program n)) items
+  pub whole : (n : ℕ) → IsTrue (names_item program n) → Contains items n
 
 -- Some assignment stands in the program.
 abbrev pub has_assignment : Program → Bool
@@ -58,7 +58,7 @@ IsAt items n site = slice_get (map (λ declared. declared.site) items) n ≡ Som
 
 -- The want is of an item of the site that the program names, and exclusive exactly where some assignment names it.
 pub record IsWant (program : Program) (items : List Item) (site : ℕ) (want : Want) : Type 0 where
-  pub named : IsTrue (names program want.item)
+  pub named : IsTrue (names_item program want.item)
   pub home : IsAt items want.item site
   pub exclusive : want.exclusive ≡ assigns program want.item
 
@@ -72,4 +72,4 @@ pub record IsPart (program : Program) (items : List Item) (part : Part) : Type 0
 pub record IsPlan (program : Program) (items : List Item) (parts : List Part) : Type 0 where
   pub ascending : AllPairs (λ part later. part.site < later.site) parts
   pub each : All (IsPart program items) parts
-  pub whole : (n : ℕ) → IsTrue (names program n) → Any (λ part. Contains part.wants (record { item = n; exclusive = assigns program n })) parts
+  pub whole : (n : ℕ) → IsTrue (names_item program n) → Any (λ part. Contains part.wants (record { item = n; exclusive = assigns program n })) parts

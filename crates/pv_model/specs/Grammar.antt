@@ -7,8 +7,8 @@ use Rattle.pv_model.specs.Syntax.Program.{end, assign, require, return, when, wh
 use Rattle.pv_model.specs.Tokens.{Token}
 
 -- a token with its nesting, which is the number of `(`, `{`, unary `-` and `not` that are open around it
-abbrev pub Placed : Type 0
-Placed = ℕ × Token
+abbrev pub Nested : Type 0
+Nested = ℕ × Token
 
 -- the chains of sides, from the loosest: sides are joined by `or`; by `and`; by `+` and `-`; by `*`, `/` and `%`
 pub data Chain : Type 0 where
@@ -61,65 +61,65 @@ side product = unary
 module _ (item_of : List ℕ → Option ℕ) where
   mutual
     -- Tokens up to a rest are this phrase, whose tree is this; the number is the nesting of what stands at its outside.
-    pub data Reads : Phrase → ℕ → List Placed → List Placed → Expr → Type 0 where
+    pub data Reads : Phrase → ℕ → List Nested → List Nested → Expr → Type 0 where
       -- sides joined by operators, grouped to the left
-      chained : (c : Chain) (d : ℕ) (ts mid after : List Placed) (left e : Expr) → Reads (side c) d ts mid left → GoesOn c left d mid after e
+      chained : (c : Chain) (d : ℕ) (ts mid after : List Nested) (left e : Expr) → Reads (side c) d ts mid left → GoesOn c left d mid after e
           → Reads (chain c) d ts after e
       -- neg = "not" neg | comp
-      not : (d : ℕ) (ts after : List Placed) (e : Expr) → Reads negated (suc d) ts after e → Reads negated d ((d, Token.negates) ∷ ts) after (negation e)
-      not_negated : (d : ℕ) (ts after : List Placed) (e : Expr) → Reads comparison d ts after e → Reads negated d ts after e
+      not : (d : ℕ) (ts after : List Nested) (e : Expr) → Reads negated (suc d) ts after e → Reads negated d ((d, Token.negates) ∷ ts) after (negation e)
+      not_negated : (d : ℕ) (ts after : List Nested) (e : Expr) → Reads comparison d ts after e → Reads negated d ts after e
       -- comp = sum [ operator sum ]
-      compared : (op : Op) (d : ℕ) (ts mid after : List Placed) (left right : Expr) → IsTrue (compares op)
+      compared : (op : Op) (d : ℕ) (ts mid after : List Nested) (left right : Expr) → IsTrue (compares op)
           → Reads (chain sum) d ts ((d, Token.operator op) ∷ mid) left → Reads (chain sum) d mid after right → Reads comparison d ts after (two op left right)
-      not_compared : (d : ℕ) (ts after : List Placed) (e : Expr) → Reads (chain sum) d ts after e → Reads comparison d ts after e
+      not_compared : (d : ℕ) (ts after : List Nested) (e : Expr) → Reads (chain sum) d ts after e → Reads comparison d ts after e
       -- "-" unary
-      negative : (d : ℕ) (ts after : List Placed) (e : Expr) → Reads unary (suc d) ts after e → Reads unary d ((d, Token.operator sub) ∷ ts) after (minus e)
+      negative : (d : ℕ) (ts after : List Nested) (e : Expr) → Reads unary (suc d) ts after e → Reads unary d ((d, Token.operator sub) ∷ ts) after (minus e)
       -- a number, at most 9223372036854775807
-      numeral : (n d : ℕ) (after : List Placed) → n < 2 ^ 63 → Reads unary d ((d, Token.number n) ∷ after) after (number (pos n))
+      numeral : (n d : ℕ) (after : List Nested) → n < 2 ^ 63 → Reads unary d ((d, Token.number n) ∷ after) after (number (pos n))
       -- the name of an item
-      named : (word : List ℕ) (n d : ℕ) (after : List Placed) → item_of word ≡ Some n → Reads unary d ((d, Token.name word) ∷ after) after (item n)
+      named : (word : List ℕ) (n d : ℕ) (after : List Nested) → item_of word ≡ Some n → Reads unary d ((d, Token.name word) ∷ after) after (item n)
       -- "(" expr ")"
-      in_brackets : (d : ℕ) (ts after : List Placed) (e : Expr) → Reads (chain disjunction) (suc d) ts ((d, Token.closes) ∷ after) e
+      in_brackets : (d : ℕ) (ts after : List Nested) (e : Expr) → Reads (chain disjunction) (suc d) ts ((d, Token.closes) ∷ after) e
           → Reads unary d ((d, Token.opens) ∷ ts) after e
       -- ( "min" | "max" ) "(" expr "," expr ")"
-      of_two : (op : Op) (d : ℕ) (ts mid after : List Placed) (left right : Expr) → IsTrue (is_min_or_max op)
+      of_two : (op : Op) (d : ℕ) (ts mid after : List Nested) (left right : Expr) → IsTrue (is_min_or_max op)
           → Reads (chain disjunction) (suc d) ts ((suc d, Token.parts) ∷ mid) left → Reads (chain disjunction) (suc d) mid ((d, Token.closes) ∷ after) right
           → Reads unary d ((d, Token.operator op) ∷ (d, Token.opens) ∷ ts) after (two op left right)
 
     -- After `left` a chain goes on with no more sides, or with an operator and a side, which are grouped with `left` first.
-    pub data GoesOn : Chain → Expr → ℕ → List Placed → List Placed → Expr → Type 0 where
-      no_more : (c : Chain) (left : Expr) (d : ℕ) (after : List Placed) → GoesOn c left d after after left
-      one_more : (c : Chain) (op : Op) (left right e : Expr) (d : ℕ) (ts mid after : List Placed) → IsTrue (joins c op)
+    pub data GoesOn : Chain → Expr → ℕ → List Nested → List Nested → Expr → Type 0 where
+      no_more : (c : Chain) (left : Expr) (d : ℕ) (after : List Nested) → GoesOn c left d after after left
+      one_more : (c : Chain) (op : Op) (left right e : Expr) (d : ℕ) (ts mid after : List Nested) → IsTrue (joins c op)
           → Reads (side c) d ts mid right → GoesOn c (two op left right) d mid after e → GoesOn c left d ((d, Token.operator op) ∷ ts) after e
 
   -- expr
-  abbrev pub ReadsExpr : ℕ → List Placed → List Placed → Expr → Type 0
+  abbrev pub ReadsExpr : ℕ → List Nested → List Nested → Expr → Type 0
   ReadsExpr = Reads (chain disjunction)
 
   mutual
     -- Tokens up to a rest are this program, which has a statement at least.
-    pub data ReadsProgram : ℕ → List Placed → List Placed → Program → Type 0 where
+    pub data ReadsProgram : ℕ → List Nested → List Nested → Program → Type 0 where
       -- name ":=" expr
-      assigns : (word : List ℕ) (n d : ℕ) (ts mid after : List Placed) (e : Expr) (next : Program) → item_of word ≡ Some n
+      assigns : (word : List ℕ) (n d : ℕ) (ts mid after : List Nested) (e : Expr) (next : Program) → item_of word ≡ Some n
           → ReadsExpr d ts mid e → ReadsNext d mid after next → ReadsProgram d ((d, Token.name word) ∷ (d, Token.becomes) ∷ ts) after (assign n e next)
       -- "require" expr
-      requires : (d : ℕ) (ts mid after : List Placed) (e : Expr) (next : Program) → ReadsExpr d ts mid e → ReadsNext d mid after next
+      requires : (d : ℕ) (ts mid after : List Nested) (e : Expr) (next : Program) → ReadsExpr d ts mid e → ReadsNext d mid after next
           → ReadsProgram d ((d, Token.requires) ∷ ts) after (require e next)
       -- "return" expr
-      returns : (d : ℕ) (ts mid after : List Placed) (e : Expr) (next : Program) → ReadsExpr d ts mid e → ReadsNext d mid after next
+      returns : (d : ℕ) (ts mid after : List Nested) (e : Expr) (next : Program) → ReadsExpr d ts mid e → ReadsNext d mid after next
           → ReadsProgram d ((d, Token.returns) ∷ ts) after (return e next)
       -- "if" expr "{" program "}"
-      asks : (d : ℕ) (ts inside mid after : List Placed) (test : Expr) (body next : Program) → ReadsExpr d ts ((d, Token.opens_body) ∷ inside) test
+      asks : (d : ℕ) (ts inside mid after : List Nested) (test : Expr) (body next : Program) → ReadsExpr d ts ((d, Token.opens_body) ∷ inside) test
           → ReadsProgram (suc d) inside ((d, Token.closes_body) ∷ mid) body → ReadsNext d mid after next
           → ReadsProgram d ((d, Token.asks) ∷ ts) after (when test body next)
       -- "if" expr "{" program "}" "else" "{" program "}"
-      asks_else : (d : ℕ) (ts inside second mid after : List Placed) (test : Expr) (body other next : Program)
+      asks_else : (d : ℕ) (ts inside second mid after : List Nested) (test : Expr) (body other next : Program)
           → ReadsExpr d ts ((d, Token.opens_body) ∷ inside) test
           → ReadsProgram (suc d) inside ((d, Token.closes_body) ∷ (d, Token.otherwise) ∷ (d, Token.opens_body) ∷ second) body
           → ReadsProgram (suc d) second ((d, Token.closes_body) ∷ mid) other → ReadsNext d mid after next
           → ReadsProgram d ((d, Token.asks) ∷ ts) after (when_else test body other next)
 
     -- After a statement a program ends, or goes on with ";" and the statements after it.
-    pub data ReadsNext : ℕ → List Placed → List Placed → Program → Type 0 where
-      last : (d : ℕ) (after : List Placed) → ReadsNext d after after end
-      next : (d : ℕ) (ts after : List Placed) (p : Program) → ReadsProgram d ts after p → ReadsNext d ((d, Token.then_next) ∷ ts) after p
+    pub data ReadsNext : ℕ → List Nested → List Nested → Program → Type 0 where
+      last : (d : ℕ) (after : List Nested) → ReadsNext d after after end
+      next : (d : ℕ) (ts after : List Nested) (p : Program) → ReadsProgram d ts after p → ReadsNext d ((d, Token.then_next) ∷ ts) after p

@@ -1,9 +1,9 @@
 pub mod Alternatives
 pub mod PossibleAnswers
-pub mod Causes
+pub mod LineCauses
 pub mod Check
 pub mod Events
-pub mod FirstFault
+pub mod FirstMisplaced
 pub mod Grammar
 pub mod Items
 pub mod LineForms

@@ -30,12 +30,12 @@ line_forms =
     ∷ (codes "sent", []) ∷ (codes "report", []) ∷ (codes "total", []) ∷ []
 
 -- the first word of a line that counts
-abbrev pub first_of : List (List ℕ) → List ℕ
-first_of [] = []
-first_of (word ∷ more) = word
+abbrev pub leading_word : List (List ℕ) → List ℕ
+leading_word [] = []
+leading_word (word ∷ more) = word
 
 abbrev pub first_word : TextLine → List ℕ
-first_word line = first_of (words line)
+first_word line = leading_word (words line)
 
 -- the forms of lines with this first word
 abbrev pub forms_of : List ℕ → List (List Field)
@@ -69,13 +69,13 @@ abbrev pub site_and_text : List ℕ → List (List ℕ) → List (List ℕ)
 site_and_text text (at ∷ word ∷ more) = at ∷ text ∷ []
 site_and_text text words = words
 
-abbrev pub rest_of : List (List ℕ) → List (List ℕ)
-rest_of [] = []
-rest_of (word ∷ more) = more
+abbrev pub later_words : List (List ℕ) → List (List ℕ)
+later_words [] = []
+later_words (word ∷ more) = more
 
 -- What stands after the first word. A program counts as one word.
 unfoldable pub arguments : TextLine → List (List ℕ)
-arguments line = if takes_program (first_word line) then site_and_text (program_text line) (rest_of (words line)) else rest_of (words line)
+arguments line = if takes_program (first_word line) then site_and_text (program_text line) (later_words (words line)) else later_words (words line)
 
 -- the form that the line has, by the number of its words
 unfoldable pub form_of : TextLine → Option (List Field)

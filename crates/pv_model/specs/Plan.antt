@@ -2,7 +2,7 @@
 use Rattle.std.specs.Prelude.{ℕ, ◌+◌, ◌&&◌, ◌==◌, nat_lt, List, [], ◌∷◌, map, if◌then◌else◌}
 use Rattle.pv_base.specs.Catalog.{Item}
 use Rattle.pv_base.specs.Want.{Want}
-use Rattle.pv_model.specs.Check.{Part, names}
+use Rattle.pv_model.specs.Check.{Part, names_item}
 use Rattle.pv_model.specs.ProgramLaws.{assigns}
 use Rattle.pv_model.specs.Syntax.{Program}
 
@@ -14,7 +14,7 @@ want_of program item = record { item = item; exclusive = assigns program item }
 abbrev pub wants_from : Program → ℕ → ℕ → List Item → List Want
 wants_from program site item [] = []
 wants_from program site item (declared ∷ items) =
-    if declared.site == site && names program item
+    if declared.site == site && names_item program item
     then want_of program item ∷ wants_from program site (item + 1) items
     else wants_from program site (item + 1) items
 
@@ -23,18 +23,18 @@ abbrev pub wants_of : Program → List Item → ℕ → List Want
 wants_of program items site = wants_from program site 0 items
 
 -- the ascending list with one more site, unless it has the site
-abbrev pub with_site : ℕ → List ℕ → List ℕ
-with_site site [] = site ∷ []
-with_site site (first ∷ rest) =
+abbrev pub with_participant : ℕ → List ℕ → List ℕ
+with_participant site [] = site ∷ []
+with_participant site (first ∷ rest) =
     if site == first then first ∷ rest else
-    (if nat_lt site first then site ∷ (first ∷ rest) else first ∷ with_site site rest)
+    (if nat_lt site first then site ∷ (first ∷ rest) else first ∷ with_participant site rest)
 
 -- the sites of the items that the program names, among items that are numbered from here on
 abbrev pub sites_from : Program → ℕ → List Item → List ℕ
 sites_from program item [] = []
 sites_from program item (declared ∷ items) =
-    if names program item
-    then with_site declared.site (sites_from program (item + 1) items)
+    if names_item program item
+    then with_participant declared.site (sites_from program (item + 1) items)
     else sites_from program (item + 1) items
 
 -- the participants: the sites that own an item of the program, ascending

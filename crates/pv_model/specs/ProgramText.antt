@@ -4,9 +4,9 @@ use Rattle.pv_base.specs.declared.limits.TheConstants.{MAX_DEPTH, MAX_LINE}
 use Rattle.std.specs.List.{list_all}
 use Rattle.pv_base.specs.Catalog.{Declared, place_of}
 use Rattle.pv_model.specs.Syntax.{Program}
-use Rattle.pv_model.specs.FirstFault.{IsFirstFault, without_numbers}
+use Rattle.pv_model.specs.FirstMisplaced.{IsFirstFault, without_numbers}
 use Rattle.pv_model.specs.Tokens.{Token, HasTokens}
-use Rattle.pv_model.specs.Grammar.{Placed, ReadsProgram}
+use Rattle.pv_model.specs.Grammar.{Nested, ReadsProgram}
 
 -- the number of the item of this name
 abbrev pub item_in : Declared → List ℕ → Option ℕ
@@ -16,19 +16,19 @@ item_in catalog name = place_of name catalog.items
 abbrev pub any_item : List ℕ → Option ℕ
 any_item name = Some 0
 
--- placed tokens, without their nestings
-abbrev pub without_nestings : List Placed → List Token
+-- nested tokens, without their nestings
+abbrev pub without_nestings : List Nested → List Token
 without_nestings placed = map (λ t. t.1) placed
 
--- Placed tokens are a whole program.
-abbrev pub ArePlaced : (List ℕ → Option ℕ) → List Placed → Program → Type 0
-ArePlaced item_of placed program = ReadsProgram item_of 0 placed [] program
+-- Nested tokens are a whole program.
+abbrev pub AreNested : (List ℕ → Option ℕ) → List Nested → Program → Type 0
+AreNested item_of placed program = ReadsProgram item_of 0 placed [] program
 
 -- Tokens are this program, where their nestings are these.
 pub record AreProgram (item_of : List ℕ → Option ℕ) (tokens : List Token) (program : Program) : Type 0 where
-  pub placed : List Placed
+  pub placed : List Nested
   pub same : tokens ≡ without_nestings placed
-  pub reads : ArePlaced item_of placed program
+  pub reads : AreNested item_of placed program
 
 -- Tokens are some program, whatever its names.
 abbrev pub AreSomeProgram : List Token → Type 0
@@ -62,11 +62,11 @@ pub record IsTooDeep (text : List ℕ) (column : ℕ) : Type 0 where
   pub later : List (ℕ × Token)
   pub has : HasTokens text (front ++ (column, token) ∷ later)
   pub program : Program
-  pub before : List Placed
+  pub before : List Nested
   pub nesting : ℕ
-  pub after : List Placed
+  pub after : List Nested
   pub same : without_numbers front ≡ without_nestings before
-  pub reads : ArePlaced any_item (before ++ (nesting, token) ∷ after) program
+  pub reads : AreNested any_item (before ++ (nesting, token) ∷ after) program
   pub deep : MAX_DEPTH < nesting
 
 -- the kinds of faults, as they are ranked at one column
@@ -81,10 +81,10 @@ kind_rank unknown_name = 1
 kind_rank too_deep = 2
 
 -- A text has a fault of this kind at this column.
-abbrev pub HasFault : Declared → List ℕ → Kind → ℕ → Type 0
-HasFault catalog text malformed column = IsMalformedProgram text column
-HasFault catalog text unknown_name column = NamesNoItem catalog text column
-HasFault catalog text too_deep column = IsTooDeep text column
+abbrev pub HasFaultAt : Declared → List ℕ → Kind → ℕ → Type 0
+HasFaultAt catalog text malformed column = IsMalformedProgram text column
+HasFaultAt catalog text unknown_name column = NamesNoItem catalog text column
+HasFaultAt catalog text too_deep column = IsTooDeep text column
 
 -- A fault comes before another one, or both are one: it is further left, or at the same column and of no higher rank.
 abbrev pub ComesFirst : Kind → ℕ → Kind → ℕ → Type 0
@@ -92,8 +92,8 @@ ComesFirst kind column other place = (column < place) ⊎ ((column ≡ place) ×
 
 -- the fault that is answered: the leftmost, and at one column the first by rank
 pub record IsLeftmost (catalog : Declared) (text : List ℕ) (kind : Kind) (column : ℕ) : Type 0 where
-  pub has : HasFault catalog text kind column
-  pub first : (other : Kind) (place : ℕ) → HasFault catalog text other place → ComesFirst kind column other place
+  pub has : HasFaultAt catalog text kind column
+  pub first : (other : Kind) (place : ℕ) → HasFaultAt catalog text other place → ComesFirst kind column other place
 
 -- why a text is refused
 pub data Refusal : Type 0 where

@@ -21,20 +21,20 @@ abbrev pub opening : Declared → OneSite
 opening catalog = record { order = []; rows = declared_rows catalog; waiting = None }
 
 -- Site 0 numbers its transactions from 0 in its first epoch.
-abbrev pub txn_of : ℕ → TxnId
-txn_of number = record { site = record { 0 = 0 }; epoch = 1; number = number }
+abbrev pub txn_numbered : ℕ → TxnId
+txn_numbered number = record { site = record { 0 = 0 }; epoch = 1; number = number }
 
 -- the site after the messages of a request are delivered: it has committed
 abbrev pub after_commit : OneSite → Option Program → OneSite
-after_commit world None = world
-after_commit world (Some program) =
-    record { order = world.order ++ txn_of (length world.order) ∷ []; rows = (exec program world.rows).rows; waiting = None }
+after_commit state None = state
+after_commit state (Some program) =
+    record { order = state.order ++ txn_numbered (length state.order) ∷ []; rows = (exec program state.rows).rows; waiting = None }
 
 -- the site after an event
 abbrev pub after : OneSite → Event → OneSite
-after world (submit site query text program) = record world { waiting = Some program }
-after world (pump None) = after_commit world world.waiting
-after world _ = world
+after state (submit site query text program) = record state { waiting = Some program }
+after state (pump None) = after_commit state state.waiting
+after state _ = state
 
 -- one line for each item, in order of declaration
 abbrev pub item_lines : List Item → List Row → List Printed
@@ -47,20 +47,20 @@ report_lines catalog done rows = order done ∷ (committed done ∷ (open_ones [
 
 -- the line of a commit
 abbrev pub commit_lines : OneSite → Option Program → List Printed
-commit_lines world None = []
-commit_lines world (Some program) = commit (txn_of (length world.order)) (exec program world.rows).reply ∷ []
+commit_lines state None = []
+commit_lines state (Some program) = commit (txn_numbered (length state.order)) (exec program state.rows).reply ∷ []
 
 -- what an event prints
-abbrev pub lines_of : Declared → OneSite → Event → List Printed
-lines_of catalog world (submit site query text program) = txn (txn_of (length world.order)) ∷ []
-lines_of catalog world (pump None) = commit_lines world world.waiting
-lines_of catalog world report = report_lines catalog world.order world.rows
-lines_of catalog world _ = []
+abbrev pub event_lines : Declared → OneSite → Event → List Printed
+event_lines catalog state (submit site query text program) = txn (txn_numbered (length state.order)) ∷ []
+event_lines catalog state (pump None) = commit_lines state state.waiting
+event_lines catalog state report = report_lines catalog state.order state.rows
+event_lines catalog state _ = []
 
 -- what events print, one after another
 abbrev pub run : Declared → OneSite → List Event → List Printed
-run catalog world [] = []
-run catalog world (event ∷ events) = lines_of catalog world event ++ run catalog (after world event) events
+run catalog state [] = []
+run catalog state (event ∷ events) = event_lines catalog state event ++ run catalog (after state event) events
 
 -- What a run prints of a schedule that can be run so far. Any other event would change nothing and print nothing here.
 unfoldable pub output_of : Schedule → List ℕ
@@ -70,7 +70,7 @@ output_of schedule = text_of (run schedule.catalog (opening schedule.catalog) sc
 abbrev pub order_from : ℕ → Option Program → List Event → List Ordered
 order_from number waiting [] = []
 order_from number waiting (submit site query text program ∷ events) = order_from number (Some program) events
-order_from number (Some program) (pump None ∷ events) = record { txn = txn_of number; program = program } ∷ order_from (number + 1) None events
+order_from number (Some program) (pump None ∷ events) = record { txn = txn_numbered number; program = program } ∷ order_from (number + 1) None events
 order_from number waiting (event ∷ events) = order_from number waiting events
 
 -- the transactions that events commit
@@ -97,6 +97,6 @@ RepliesAgree schedule output =
     (before rest : List Event) (request : Event) (site : ℕ) (query : Bool) (text : List ℕ) (program : Program) → request ≡ submit site query text program
     → schedule.events ≡ before ++ request ∷ pump None ∷ rest →
     let done = order_of (before ++ request ∷ pump None ∷ []) in
-    let t = txn_of (length (order_of before)) in
+    let t = txn_numbered (length (order_of before)) in
     (reply : Reply) × (serial_reply (declared_rows schedule.catalog) done (txns done) t ≡ Some reply)
     × (more : List ℕ) × (output ≡ output_before schedule before ++ (text_of (txn t ∷ commit t reply ∷ []) ++ more))

@@ -5,23 +5,23 @@ use Rattle.pv_base.specs.Catalog.{Item, place_of}
 use Rattle.pv_base.specs.Name.{is_name}
 use Rattle.pv_base.specs.declared.mode.Mode.{Mode}
 use Rattle.pv_base.specs.declared.mode.Mode.TheVariants.{Lost, Kept, Torn}
-use Rattle.pv_model.specs.Causes.{Before, at_first, or_default, declared_by, LineCause, sites_expected, IsFirstCause}
+use Rattle.pv_model.specs.LineCauses.{Before, at_first, or_default, declared_by, LineCause, sites_expected, IsFirstCause}
 use Rattle.pv_model.specs.Check.{AreItems, has_assignment, has_return}
 use Rattle.pv_model.specs.Events.{Event, submit, deliver, pump, lose, drop, tick, stop, start, arm, mend, sent, report, total, Schedule}
-use Rattle.pv_model.specs.FirstFault.{without_numbers}
+use Rattle.pv_model.specs.FirstMisplaced.{without_numbers}
 use Rattle.pv_model.specs.LineForms.{arguments}
 use Rattle.pv_model.specs.Meaning.{fits_i64}
 use Rattle.pv_model.specs.ProgramText.{IsProgramText}
 use Rattle.pv_model.specs.Syntax.{Program}
-use Rattle.pv_model.specs.Text.{TextLine, IsText, IsNumber, IsSigned, lines, numbered, words}
+use Rattle.pv_model.specs.Text.{TextLine, IsText, IsDecimal, IsSignedDecimal, lines, numbered, words}
 
 -- The word spells a number in this range.
 abbrev pub IsIn : ℕ → ℕ → List ℕ → ℕ → Type 0
-IsIn least most word n = IsNumber word n × (least ≤ n) × (n ≤ most)
+IsIn least most word n = IsDecimal word n × (least ≤ n) × (n ≤ most)
 
 -- The word spells a site, where so many were said.
-abbrev pub IsSite : Before → List ℕ → ℕ → Type 0
-IsSite before word n = IsNumber word n × (n < or_default 0 before.sites)
+abbrev pub IsDeclaredSite : Before → List ℕ → ℕ → Type 0
+IsDeclaredSite before word n = IsDecimal word n × (n < or_default 0 before.sites)
 
 abbrev pub IsMode : List ℕ → Mode → Type 0
 IsMode word Lost = word ≡ codes "lost"
@@ -39,7 +39,7 @@ IsAlone word line = words line ≡ word ∷ []
 -- The line is a first word with a site, a number of a call and a mode.
 abbrev pub IsArm : Before → List ℕ → ℕ → ℕ → Mode → TextLine → Type 0
 IsArm before word site call mode line =
-    (at number left : List ℕ) × (words line ≡ word ∷ at ∷ number ∷ left ∷ []) × IsSite before at site × IsIn 1 MAX_CALL number call × IsMode left mode
+    (at number left : List ℕ) × (words line ≡ word ∷ at ∷ number ∷ left ∷ []) × IsDeclaredSite before at site × IsIn 1 MAX_CALL number call × IsMode left mode
 
 -- what a request is called
 abbrev pub request_word : Bool → List ℕ
@@ -60,7 +60,7 @@ pub record IsRequest (before : Before) (site : ℕ) (query : Bool) (text : List 
   pub first : words line ≡ request_word query ∷ more
   pub at : List ℕ
   pub given : arguments line ≡ at ∷ text ∷ []
-  pub place : IsSite before at site
+  pub place : IsDeclaredSite before at site
   pub is : IsProgramText (declared_by before) text p
   pub may : MayRun p query
 
@@ -71,11 +71,11 @@ Says before line (deliver n) = IsOne (codes "deliver") (λ word. IsIn 0 (2 ^ 64 
 Says before line (lose n) = IsOne (codes "lose") (λ word. IsIn 0 (2 ^ 64 - 1) word n) line
 Says before line (pump None) = IsAlone (codes "pump") line
 Says before line (pump (Some n)) = IsOne (codes "pump") (λ word. IsIn 1 MAX_PUMP word n) line
-Says before line (drop site) = IsOne (codes "drop") (λ word. IsSite before word site) line
-Says before line (tick site) = IsOne (codes "tick") (λ word. IsSite before word site) line
-Says before line (stop site) = IsOne (codes "stop") (λ word. IsSite before word site) line
-Says before line (start site) = IsOne (codes "start") (λ word. IsSite before word site) line
-Says before line (mend site) = IsOne (codes "mend") (λ word. IsSite before word site) line
+Says before line (drop site) = IsOne (codes "drop") (λ word. IsDeclaredSite before word site) line
+Says before line (tick site) = IsOne (codes "tick") (λ word. IsDeclaredSite before word site) line
+Says before line (stop site) = IsOne (codes "stop") (λ word. IsDeclaredSite before word site) line
+Says before line (start site) = IsOne (codes "start") (λ word. IsDeclaredSite before word site) line
+Says before line (mend site) = IsOne (codes "mend") (λ word. IsDeclaredSite before word site) line
 Says before line (arm site call mode true) = IsArm before (codes "cut") site call mode line
 Says before line (arm site call mode false) = IsArm before (codes "fail") site call mode line
 Says before line sent = IsAlone (codes "sent") line
@@ -122,8 +122,8 @@ pub record DeclaresItem (before : Before) (line : TextLine) (after : Before) : T
   pub at : List ℕ
   pub number : List ℕ
   pub is : words line ≡ codes "item" ∷ item.name ∷ at ∷ number ∷ []
-  pub place : IsSite before at item.site
-  pub worth : IsSigned number item.value
+  pub place : IsDeclaredSite before at item.site
+  pub worth : IsSignedDecimal number item.value
   pub fits : IsTrue (fits_i64 item.value)
   pub name : IsTrue (is_name item.name)
   pub free : place_of item.name before.items ≡ None

@@ -52,7 +52,7 @@ number_of_digits [] = 0
 number_of_digits (c ∷ cs) = (c - 48) * 10 ^ length cs + number_of_digits cs
 
 -- A number is one or more decimal digits. Leading zeros are allowed.
-pub record IsNumber (text : List ℕ) (n : ℕ) : Type 0 where
+pub record IsDecimal (text : List ℕ) (n : ℕ) : Type 0 where
   pub some : 0 < length text
   pub digits : IsTrue (list_all is_digit text)
   pub value : n ≡ number_of_digits text
@@ -67,7 +67,7 @@ number_of_signed [] = pos 0
 number_of_signed (c ∷ cs) = if c == 45 then neg_ℤ (pos (number_of_digits cs)) else pos (number_of_digits (c ∷ cs))
 
 -- A signed number may have one `-` before its digits.
-pub record IsSigned (text : List ℕ) (z : ℤ) : Type 0 where
+pub record IsSignedDecimal (text : List ℕ) (z : ℤ) : Type 0 where
   pub some : 0 < length (digits_of text)
   pub digits : IsTrue (list_all is_digit (digits_of text))
   pub value : z ≡ number_of_signed text

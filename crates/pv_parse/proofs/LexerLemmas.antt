@@ -11,7 +11,7 @@ use Rattle.pv_base.specs.declared.limits.TheConstants.{MAX_NAME}
 use Rattle.pv_base.specs.Name.{is_blank, is_lower, is_digit, continues_name}
 use Rattle.pv_model.specs.Text.{number_of_digits}
 use Rattle.pv_model.specs.Tokens.{Token, number, stray, is_name_word, is_digits, token_of, AreTokens, at_token, at_stray}
-use Rattle.pv_parse.specs.TokenView.{StartsWith, IsOther, listed}
+use Rattle.pv_parse.specs.TokenView.{StartsWith, IsOther, listed_token}
 use Rattle.pv_parse.proofs.TokenKinds.{word_at_lower, digits_at_digit, short_at_other, token_of-listed, no_token_at_other, token_of-digits, all_from_each, each_from_all, word_continues, word_short, word_from_each, digits_from_each, digits_all}
 
 cases_le : (a b : ℕ) → (a ≤ b) ⊎ (b < a)
@@ -116,13 +116,13 @@ other_front text longer other u begins split token =
 other_taken : (text : List ℕ) (size : ℕ) → IsOther (get_or text 0 0) → 1 ≤ size → IsOther (get_or (take size text) 0 0)
 other_taken text size begins some = subst IsOther (sym (get_or-take size text 0 0 some)) begins
 
-pub pair_starts : (text : List ℕ) (size : ℕ) (t : Token) → size ≡ min (length text) 2 → IsOther (get_or text 0 0) → 1 ≤ length text → listed (take size text) ≡ Some t → StartsWith text t size
+pub pair_starts : (text : List ℕ) (size : ℕ) (t : Token) → size ≡ min (length text) 2 → IsOther (get_or text 0 0) → 1 ≤ length text → listed_token (take size text) ≡ Some t → StartsWith text t size
 pair_starts text size t two begins some is =
     starts text size t (omega arith) (omega arith) (token_of-listed (take size text) t is)
     (λ longer other u split token. let short = other_front text longer other u begins split token in omega arith)
 
 -- Where the front of two bytes is no token, no token is longer than one byte.
-single_front : (text longer other : List ℕ) (u : Token) (size : ℕ) → size ≡ min (length text) 2 → IsOther (get_or text 0 0) → listed (take size text) ≡ None →
+single_front : (text longer other : List ℕ) (u : Token) (size : ℕ) → size ≡ min (length text) 2 → IsOther (get_or text 0 0) → listed_token (take size text) ≡ None →
     text ≡ longer ++ other → token_of longer ≡ Some u → length longer ≤ 1
 single_front text longer other u size two begins unlisted split token =
     let short = other_front text longer other u begins split token in
@@ -135,13 +135,13 @@ single_front text longer other u size two begins unlisted split token =
     (cases_le (length longer) 1)
 
 pub single_starts : (text : List ℕ) (size : ℕ) (t : Token) → size ≡ min (length text) 2 → IsOther (get_or text 0 0) → 1 ≤ length text →
-    listed (take size text) ≡ None → listed (take 1 text) ≡ Some t → StartsWith text t 1
+    listed_token (take size text) ≡ None → listed_token (take 1 text) ≡ Some t → StartsWith text t 1
 single_starts text size t two begins some unlisted is =
     starts text 1 t (omega arith) some (token_of-listed (take 1 text) t is)
     (λ longer other u split token. single_front text longer other u size two begins unlisted split token)
 
-no_front : (text longer other : List ℕ) (u : Token) (size : ℕ) → size ≡ min (length text) 2 → IsOther (get_or text 0 0) → listed (take size text) ≡ None →
-    listed (take 1 text) ≡ None → text ≡ longer ++ other → token_of longer ≡ Some u → ⊥
+no_front : (text longer other : List ℕ) (u : Token) (size : ℕ) → size ≡ min (length text) 2 → IsOther (get_or text 0 0) → listed_token (take size text) ≡ None →
+    listed_token (take 1 text) ≡ None → text ≡ longer ++ other → token_of longer ≡ Some u → ⊥
 no_front text longer other u size two begins unlisted single split token =
     let some = token_is_long longer u token in
     let short = single_front text longer other u size two begins unlisted split token in
@@ -154,7 +154,7 @@ none_unless None h = refl
 none_unless (Some u) h = absurd (h u refl)
 
 pub stray_starts : (text : List ℕ) (size : ℕ) → size ≡ min (length text) 2 → IsOther (get_or text 0 0) → is_blank (get_or text 0 0) ≡ false → 1 ≤ length text →
-    listed (take size text) ≡ None → listed (take 1 text) ≡ None → StartsWith text (stray (get_or text 0 0)) 1
+    listed_token (take size text) ≡ None → listed_token (take 1 text) ≡ None → StartsWith text (stray (get_or text 0 0)) 1
 stray_starts [] size two begins seen some unlisted single = absurd (omega arith)
 stray_starts (b ∷ bs) size two begins seen some unlisted single =
     record {

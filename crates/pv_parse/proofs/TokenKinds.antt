@@ -6,7 +6,6 @@ use Rattle.std.specs.Option.{option_map, option_map_or}
 use Rattle.std.specs.Str.{bytes_eq}
 use Rattle.std.proofs.lemmas.Option.{none-some}
 use Rattle.std.proofs.lemmas.Bool.{and_parts, and_from, and_left, or_cases, or_left, or_right, leb-true, lt-leb, le-leb, cases_Bool, both_ways, not_from_true, not_from_false}
-use Rattle.std.proofs.lemmas.Slice.Eq.{bytes_eq-Decides}
 use Rattle.pv_base.specs.declared.limits.TheConstants.{MAX_NAME}
 use Rattle.pv_base.specs.Name.{is_lower, is_digit, continues_name, is_spelled_as_name}
 use Rattle.pv_model.specs.Text.{number_of_digits}
@@ -14,7 +13,7 @@ use Rattle.pv_law_programs.proofs.NameLemmas.{found_all}
 use Rattle.pv_model.specs.Tokens.{Token, name, number, words_and_symbols, is_name_word, is_digits, name_or_number, token_of}
 use denote.Ref.{Bor}
 use Rattle.pv_parse.specs.declared.token.Token as code
-use Rattle.pv_parse.specs.TokenView.{IsOther, beside, listed}
+use Rattle.pv_parse.specs.TokenView.{IsOther, token_beside, listed_token}
 use Rattle.pv_parse.specs.TokenView.{token_of as token_view}
 
 named : (bytes : List ℕ) (t : Token) (P : Type 0) → (is_name_word bytes ≡ true → P) → (is_digits bytes ≡ true → P) → name_or_number bytes ≡ Some t → P
@@ -142,8 +141,8 @@ short_at_other (b ∷ bs) t other is =
     (or_cases (is_lower b) (is_digit b || nat_le (length (b ∷ bs)) 2) (all_tokens is_short_at_other (b ∷ bs) t other_listed (other_word (b ∷ bs)) (other_digits (b ∷ bs)) is))
 
 -- What is listed is a token.
-pub token_of-listed : (bytes : List ℕ) (t : Token) → listed bytes ≡ Some t → token_of bytes ≡ Some t
-unfolding token_of listed
+pub token_of-listed : (bytes : List ℕ) (t : Token) → listed_token bytes ≡ Some t → token_of bytes ≡ Some t
+unfolding token_of listed_token
 token_of-listed bytes t is = go (find (λ e. bytes_eq bytes e.0) words_and_symbols) is
   where
     go : (found : Option (List ℕ × Token)) → option_map (λ e. e.1) found ≡ Some t → option_map_or (λ e. Some e.1) found (name_or_number bytes) ≡ Some t
@@ -151,15 +150,15 @@ token_of-listed bytes t is = go (find (λ e. bytes_eq bytes e.0) words_and_symbo
     go None is = absurd (none-some t is)
 
 -- What isn't listed is a name, a number or no token.
-pub token_of-unlisted : (bytes : List ℕ) → listed bytes ≡ None → token_of bytes ≡ name_or_number bytes
-unfolding token_of listed
+pub token_of-unlisted : (bytes : List ℕ) → listed_token bytes ≡ None → token_of bytes ≡ name_or_number bytes
+unfolding token_of listed_token
 token_of-unlisted bytes is = go (find (λ e. bytes_eq bytes e.0) words_and_symbols) is
   where
     go : (found : Option (List ℕ × Token)) → option_map (λ e. e.1) found ≡ None → option_map_or (λ e. Some e.1) found (name_or_number bytes) ≡ name_or_number bytes
     go (Some entry) is = absurd (none-some entry.1 (sym is))
     go None is = refl
 
-pub token_of-name : (bytes : List ℕ) → is_name_word bytes ≡ true → listed bytes ≡ None → token_of bytes ≡ Some (name bytes)
+pub token_of-name : (bytes : List ℕ) → is_name_word bytes ≡ true → listed_token bytes ≡ None → token_of bytes ≡ Some (name bytes)
 token_of-name bytes word is =
     token_of-unlisted bytes is ∙ ap (λ (b : Bool). cond b (Some (name bytes)) (cond (is_digits bytes) (Some (number (number_of_digits bytes))) None)) word
 
@@ -173,7 +172,7 @@ unfolding is_digits
 no_digits_at_other [] other h = both_ways false refl h
 no_digits_at_other (b ∷ bs) other h = both_ways (is_digit b) other.no_digit ((and_parts (is_digit b) (list_all is_digit bs) h).0)
 
-pub no_token_at_other : (bytes : List ℕ) → IsOther (get_or bytes 0 0) → listed bytes ≡ None → token_of bytes ≡ None
+pub no_token_at_other : (bytes : List ℕ) → IsOther (get_or bytes 0 0) → listed_token bytes ≡ None → token_of bytes ≡ None
 no_token_at_other bytes other is = token_of-unlisted bytes is ∙ go (name_or_number bytes) refl
   where
     go : (t : Option Token) → name_or_number bytes ≡ t → t ≡ None
@@ -188,8 +187,8 @@ no_digits_listed : list_all (λ e. is_no_digits e.0) words_and_symbols ≡ true
 unfolding words_and_symbols is_digits is_no_digits
 no_digits_listed = refl
 
-digits_unlisted : (bytes : List ℕ) → is_digits bytes ≡ true → listed bytes ≡ None
-unfolding listed is_no_digits
+digits_unlisted : (bytes : List ℕ) → is_digits bytes ≡ true → listed_token bytes ≡ None
+unfolding listed_token is_no_digits
 digits_unlisted bytes digits = go (find (λ e. bytes_eq bytes e.0) words_and_symbols) refl
   where
     go : (found : Option (List ℕ × Token)) → find (λ e. bytes_eq bytes e.0) words_and_symbols ≡ found → option_map (λ e. e.1) found ≡ None
@@ -255,12 +254,12 @@ unfound None is same not_some = sym same
 unfound (Some token) is same not_some = absurd (not_some token refl)
 
 -- A table of the code gives what the same table as plain data gives.
-pub option_map-beside : (bytes : List ℕ) (table : List (Bor (List ℕ) × code.Token)) →
-    option_map token_view (beside bytes table)
+pub option_map-token_beside : (bytes : List ℕ) (table : List (Bor (List ℕ) × code.Token)) →
+    option_map token_view (token_beside bytes table)
     ≡ option_map (λ (e : List ℕ × Token). e.1) (find (λ (e : List ℕ × Token). bytes_eq bytes e.0) (map (λ (e : Bor (List ℕ) × code.Token). (e.0.now, token_view e.1)) table))
-unfolding beside
-option_map-beside bytes [] = refl
-option_map-beside bytes (e ∷ table) = go (bytes_eq bytes e.0.now) (option_map-beside bytes table)
+unfolding token_beside
+option_map-token_beside bytes [] = refl
+option_map-token_beside bytes (e ∷ table) = go (bytes_eq bytes e.0.now) (option_map-token_beside bytes table)
   where
     go : (b : Bool) →
         option_map token_view (option_map (λ (f : Bor (List ℕ) × code.Token). f.1) (find (λ (f : Bor (List ℕ) × code.Token). bytes_eq bytes f.0.now) table))

@@ -2,7 +2,7 @@
 use Rattle.std.specs.Prelude.{map, All}
 use Rattle.pv_parse.specs.declared.cursor.Cursor.TheInside.{Inside}
 use Rattle.pv_parse.specs.TokenView.{located_of, HasDigits}
-use Rattle.pv_parse.specs.Reading.{Columned}
+use Rattle.pv_parse.specs.ReadingSteps.{Columned}
 
 abbrev pub left_of : Inside → Columned
 left_of inside = map located_of inside.rest.now

@@ -1,5 +1,5 @@
 pub mod TokenView
-pub mod Reading
+pub mod ReadingSteps
 pub mod Words
 pub mod CursorView
 pub mod ChainView

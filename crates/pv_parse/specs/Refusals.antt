@@ -6,7 +6,7 @@ use Rattle.pv_model.specs.ProgramText.{malformed, unknown_name, too_deep, item_i
 use Rattle.pv_law_programs.specs.Prediction.{at_start, placed}
 use Rattle.pv_parse.specs.declared.error.ParseError.{ParseError}
 use Rattle.pv_parse.specs.declared.error.ParseError.TheVariants.{TooLarge, Malformed, UnknownName, TooDeep, NoMemory}
-use Rattle.pv_parse.specs.Reading.{Columned, Source, fault_in, IsErrorFor}
+use Rattle.pv_parse.specs.ReadingSteps.{Columned, Context, fault_in, IsErrorFor}
 
 -- `NoMemory` refuses no text.
 abbrev pub refusal_of : ParseError → Option Refusal
@@ -17,10 +17,10 @@ refusal_of (TooDeep column) = Some (at_fault too_deep column)
 refusal_of NoMemory = None
 
 -- All tokens are the program, and none of them is at fault.
-pub record ReadsAll (source : Source) (tokens : Columned) (program : model.Program) : Type 0 where
-  pub reads : ReadsProgram (item_in source.catalog) 0 (placed at_start tokens) [] program
-  pub faultless : fault_in source at_start tokens ≡ None
+pub record IsWholeProgram (context : Context) (tokens : Columned) (program : model.Program) : Type 0 where
+  pub reads : ReadsProgram (item_in context.catalog) 0 (placed at_start tokens) [] program
+  pub faultless : fault_in context at_start tokens ≡ None
 
 -- The error names the first fault of all tokens.
-abbrev pub Faults : Source → Columned → ParseError → Type 0
-Faults source tokens error = IsErrorFor (fault_in source at_start tokens) error
+abbrev pub IsFirstError : Context → Columned → ParseError → Type 0
+IsFirstError context tokens error = IsErrorFor (fault_in context at_start tokens) error

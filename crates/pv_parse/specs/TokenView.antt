@@ -41,12 +41,12 @@ HasDigits (Number digits) = IsTrue (model.is_digits digits.now)
 HasDigits _ = Unit {0}
 
 -- the token beside the first text of a table that bytes are
-unfoldable pub beside : List ℕ → List (Bor (List ℕ) × Token) → Option Token
-beside bytes table = option_map (λ entry. entry.1) (find (λ entry. bytes_eq bytes entry.0.now) table)
+unfoldable pub token_beside : List ℕ → List (Bor (List ℕ) × Token) → Option Token
+token_beside bytes table = option_map (λ entry. entry.1) (find (λ entry. bytes_eq bytes entry.0.now) table)
 
 -- the token that bytes are, if they are a word or symbol that stands for itself
-unfoldable pub listed : List ℕ → Option model.Token
-listed bytes = option_map (λ entry. entry.1) (find (λ entry. bytes_eq bytes entry.0) model.words_and_symbols)
+unfoldable pub listed_token : List ℕ → Option model.Token
+listed_token bytes = option_map (λ entry. entry.1) (find (λ entry. bytes_eq bytes entry.0) model.words_and_symbols)
 
 -- Bytes begin with this token, which is this long, or with a stray byte: whatever tokens are after it, it stands before them.
 pub record StartsWith (bytes : List ℕ) (token : model.Token) (size : ℕ) : Type 0 where

@@ -6,7 +6,7 @@ use Rattle.pv_parse.specs.declared.error.ParseError.{ParseError}
 use Rattle.pv_parse.specs.declared.error.ParseError.TheVariants.{TooDeep}
 use Rattle.pv_parse.specs.declared.cursor.Word.{Word}
 use Rattle.pv_parse.specs.declared.cursor.Word.TheVariants.{Not, Else, Next}
-use Rattle.pv_parse.specs.Reading.{Columned, PassesToken, rest_of}
+use Rattle.pv_parse.specs.ReadingSteps.{Columned, PassesToken, rest_of}
 
 -- the token that a word is
 abbrev pub token_of_word : Word → Token
@@ -31,7 +31,7 @@ TakesWord word d before after true = PassesToken (token_of_word word) d before a
 TakesWord word d before after false = IsTrue (has_no_word word before) × (after ≡ before)
 
 -- The word is next, and nested too deeply.
-pub record StopsTooDeep (word : Word) (d : ℕ) (before : Columned) (error : ParseError) : Type 0 where
+pub record FailsTooDeep (word : Word) (d : ℕ) (before : Columned) (error : ParseError) : Type 0 where
   pub column : ℕ
   pub next : before ≡ (column, token_of_word word) ∷ rest_of before
   pub is : error ≡ TooDeep column

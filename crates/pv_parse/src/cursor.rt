@@ -2,8 +2,8 @@
 ghost use Rattle.std.specs.Prelude.{◌≡◌, ◌≢◌, ℕ, ◌≤◌, ◌<◌, [], ◌∷◌, map, All, IfErr, IfNone, IfOk, IfSome, OnOk};
 ghost use Rattle.pv_model.specs.Tokens as text;
 ghost use Rattle.pv_parse.specs.TokenView.{located_of, token_of, HasDigits};
-ghost use Rattle.pv_parse.specs.Words.{is_word, TakesWord, StopsTooDeep};
-ghost use Rattle.pv_parse.specs.Reading.{rest_of};
+ghost use Rattle.pv_parse.specs.Words.{is_word, TakesWord, FailsTooDeep};
+ghost use Rattle.pv_parse.specs.ReadingSteps.{rest_of};
 
 use crate::ParseError;
 use crate::token::{Located, Token};
@@ -28,7 +28,7 @@ pub(crate) struct Cursor<'a> {
 }
 
 impl<'a> Model for Cursor<'a> {
-    ghost use Rattle.pv_parse.specs.Reading.{Columned};
+    ghost use Rattle.pv_parse.specs.ReadingSteps.{Columned};
     ghost use Rattle.pv_parse.specs.CursorView.{left_of, have_digits};
 
     ghost Value = { Columned };
@@ -77,7 +77,7 @@ impl<'a> Cursor<'a> {
     /// Passes the word, if it is next, and answers whether it was.
     pub(crate) fn take(&mut self, word: Word, depth: u32) -> Result<bool, ParseError>
         ensures taken { IfOk result (TakesWord word depth self.old self.new) }
-        ensures deep { IfErr result (StopsTooDeep word depth self.old) }
+        ensures deep { IfErr result (FailsTooDeep word depth self.old) }
     {
         let Some(next) = self.first() else {
             return Ok(false);

@@ -8,7 +8,7 @@ ghost use Rattle.pv_model.specs.Tokens as text;
 ghost use Rattle.pv_ast.specs.ExprView.{expr_of};
 ghost use Rattle.pv_ast.specs.OpView.{op_of};
 ghost use Rattle.pv_parse.specs.ChainView.{chain_of};
-ghost use Rattle.pv_parse.specs.Reading.{is_minus, rest_of, IsNext, ReadsPhrase, Stops};
+ghost use Rattle.pv_parse.specs.ReadingSteps.{is_minus, rest_of, IsNext, ReadsPhrase, FailsWith};
 
 use crate::ParseError;
 use crate::cursor::{Cursor, Word};
@@ -30,7 +30,7 @@ impl<'a> Parser<'a> {
     ) -> Result<Expr, ParseError>
         requires { depth ≤ MAX_DEPTH + 1 }
         ensures read { IfOk result (λ e. ReadsPhrase self.now (grammar.chain (chain_of chain)) depth tokens.old tokens.new (expr_of e)) }
-        ensures stops { IfErr result (Stops self.now (depth, expected.phrase (grammar.chain (chain_of chain))) tokens.old) }
+        ensures stops { IfErr result (FailsWith self.now (depth, expected.phrase (grammar.chain (chain_of chain))) tokens.old) }
     {
         let mut left = self.side(tokens, chain, depth)?;
         while let Some(op) = self.joining(tokens, chain, depth)? {
@@ -45,7 +45,7 @@ impl<'a> Parser<'a> {
     fn side(&self, tokens: &mut Cursor, chain: Chain, depth: u32) -> Result<Expr, ParseError>
         requires { depth ≤ MAX_DEPTH + 1 }
         ensures read { IfOk result (λ e. ReadsPhrase self.now (grammar.side (chain_of chain)) depth tokens.old tokens.new (expr_of e)) }
-        ensures stops { IfErr result (Stops self.now (depth, expected.phrase (grammar.side (chain_of chain))) tokens.old) }
+        ensures stops { IfErr result (FailsWith self.now (depth, expected.phrase (grammar.side (chain_of chain))) tokens.old) }
     {
         match chain {
             Chain::Disjunction => self.chain(tokens, Chain::Conjunction, depth),
@@ -60,7 +60,7 @@ impl<'a> Parser<'a> {
     fn negated(&self, tokens: &mut Cursor, depth: u32) -> Result<Expr, ParseError>
         requires { depth ≤ MAX_DEPTH + 1 }
         ensures read { IfOk result (λ e. ReadsPhrase self.now grammar.negated depth tokens.old tokens.new (expr_of e)) }
-        ensures stops { IfErr result (Stops self.now (depth, expected.phrase grammar.negated) tokens.old) }
+        ensures stops { IfErr result (FailsWith self.now (depth, expected.phrase grammar.negated) tokens.old) }
     {
         if !tokens.take(Word::Not, depth)? {
             return self.comparison(tokens, depth);
@@ -74,7 +74,7 @@ impl<'a> Parser<'a> {
     fn comparison(&self, tokens: &mut Cursor, depth: u32) -> Result<Expr, ParseError>
         requires { depth ≤ MAX_DEPTH + 1 }
         ensures read { IfOk result (λ e. ReadsPhrase self.now grammar.comparison depth tokens.old tokens.new (expr_of e)) }
-        ensures stops { IfErr result (Stops self.now (depth, expected.phrase grammar.comparison) tokens.old) }
+        ensures stops { IfErr result (FailsWith self.now (depth, expected.phrase grammar.comparison) tokens.old) }
     {
         let left = self.chain(tokens, Chain::Sum, depth)?;
         let Some(op) = self.comparing(tokens, depth)? else {
@@ -90,7 +90,7 @@ impl<'a> Parser<'a> {
     fn unary(&self, tokens: &mut Cursor, depth: u32) -> Result<Expr, ParseError>
         requires { depth ≤ MAX_DEPTH + 1 }
         ensures read { IfOk result (λ e. ReadsPhrase self.now grammar.unary depth tokens.old tokens.new (expr_of e)) }
-        ensures stops { IfErr result (Stops self.now (depth, expected.phrase grammar.unary) tokens.old) }
+        ensures stops { IfErr result (FailsWith self.now (depth, expected.phrase grammar.unary) tokens.old) }
     {
         let Some(next) = tokens.first() else {
             return Err(self.malformed(tokens));
@@ -116,7 +116,7 @@ impl<'a> Parser<'a> {
         requires digits { IsTrue (text.is_digits digits.now) }
         requires next { tokens.now ≡ (column, text.Token.number (number_of_digits digits.now)) ∷ rest_of tokens.now }
         ensures read { IfOk result (λ e. ReadsPhrase self.now grammar.unary depth tokens.old tokens.new (expr_of e)) }
-        ensures stops { IfErr result (Stops self.now (depth, expected.phrase grammar.unary) tokens.old) }
+        ensures stops { IfErr result (FailsWith self.now (depth, expected.phrase grammar.unary) tokens.old) }
     {
         let Some(number) = number_of(digits) else {
             return Err(ParseError::Malformed(column));
@@ -135,7 +135,7 @@ impl<'a> Parser<'a> {
     ) -> Result<Expr, ParseError>
         requires next { tokens.now ≡ (column, text.Token.name word.now) ∷ rest_of tokens.now }
         ensures read { IfOk result (λ e. ReadsPhrase self.now grammar.unary depth tokens.old tokens.new (expr_of e)) }
-        ensures stops { IfErr result (Stops self.now (depth, expected.phrase grammar.unary) tokens.old) }
+        ensures stops { IfErr result (FailsWith self.now (depth, expected.phrase grammar.unary) tokens.old) }
     {
         let item = self.named(tokens, column, word, depth)?;
         Ok(Expr::Item(item))
@@ -147,7 +147,7 @@ impl<'a> Parser<'a> {
         requires depth { depth ≤ MAX_DEPTH + 1 }
         requires next { IsNext self.now (text.Token.operator (op_of op)) tokens.now }
         ensures read { IfOk result (λ e. ReadsPhrase self.now grammar.unary depth tokens.old tokens.new (expr_of e)) }
-        ensures stops { IfErr result (Stops self.now (depth, expected.phrase grammar.unary) tokens.old) }
+        ensures stops { IfErr result (FailsWith self.now (depth, expected.phrase grammar.unary) tokens.old) }
     {
         if is_min_or_max(op) {
             return self.of_two(tokens, op, depth);
@@ -164,7 +164,7 @@ impl<'a> Parser<'a> {
         requires depth { depth ≤ MAX_DEPTH + 1 }
         requires next { IsNext self.now (text.Token.operator model.sub) tokens.now }
         ensures read { IfOk result (λ e. ReadsPhrase self.now grammar.unary depth tokens.old tokens.new (expr_of e)) }
-        ensures stops { IfErr result (Stops self.now (depth, expected.phrase grammar.unary) tokens.old) }
+        ensures stops { IfErr result (FailsWith self.now (depth, expected.phrase grammar.unary) tokens.old) }
     {
         tokens.pass(depth)?;
         let operand = self.unary(tokens, depth + 1)?;
@@ -177,7 +177,7 @@ impl<'a> Parser<'a> {
         requires depth { depth ≤ MAX_DEPTH + 1 }
         requires next { IsNext self.now text.Token.opens tokens.now }
         ensures read { IfOk result (λ e. ReadsPhrase self.now grammar.unary depth tokens.old tokens.new (expr_of e)) }
-        ensures stops { IfErr result (Stops self.now (depth, expected.phrase grammar.unary) tokens.old) }
+        ensures stops { IfErr result (FailsWith self.now (depth, expected.phrase grammar.unary) tokens.old) }
     {
         tokens.pass(depth)?;
         let inner = self.chain(tokens, Chain::Disjunction, depth + 1)?;
@@ -192,7 +192,7 @@ impl<'a> Parser<'a> {
         requires prefix { IsTrue (grammar.is_min_or_max (op_of op)) }
         requires next { IsNext self.now (text.Token.operator (op_of op)) tokens.now }
         ensures read { IfOk result (λ e. ReadsPhrase self.now grammar.unary depth tokens.old tokens.new (expr_of e)) }
-        ensures stops { IfErr result (Stops self.now (depth, expected.phrase grammar.unary) tokens.old) }
+        ensures stops { IfErr result (FailsWith self.now (depth, expected.phrase grammar.unary) tokens.old) }
     {
         tokens.pass(depth)?;
         self.expect(tokens, Punctuation::Open, depth)?;

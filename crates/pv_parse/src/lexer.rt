@@ -3,7 +3,7 @@ ghost use Rattle.std.specs.Prelude.{◌≡◌, ℕ, ◌+◌, ◌<◌, ◌≤◌,
 ghost use Rattle.std.specs.Option.{option_map};
 ghost use Rattle.pv_base.specs.Name.{is_blank, is_lower, is_digit, continues_name};
 ghost use Rattle.pv_model.specs.Tokens as model;
-ghost use Rattle.pv_parse.specs.TokenView.{token_of, HasDigits, IsOther, StartsWith, beside, listed};
+ghost use Rattle.pv_parse.specs.TokenView.{token_of, HasDigits, IsOther, StartsWith, token_beside, listed_token};
 
 use crate::token::Token;
 use pv_ast::Op;
@@ -88,7 +88,7 @@ fn word_token<'a>(word: &'a [u8]) -> Token<'a>
     ensures token { model.token_of word.now ≡ Some (token_of result) }
     ensures digits { HasDigits result }
 {
-    match listed(word) {
+    match listed_token(word) {
         Some(token) => token,
         None => Token::Name(word),
     }
@@ -130,29 +130,29 @@ fn first_symbol<'a>(text: &'a [u8]) -> (Token<'a>, usize)
 {
     let size = text.len().min(2);
     let (two, _) = text.split_at(size);
-    if let Some(token) = listed(two) {
+    if let Some(token) = listed_token(two) {
         return (token, size);
     }
     let (one, _) = text.split_at(1);
-    match listed(one) {
+    match listed_token(one) {
         Some(token) => (token, 1),
         None => (Token::Stray(text[0]), 1),
     }
 }
 
 // The token that bytes are, if they are a word or symbol that stands for itself.
-#[tactic(auto, unfolding(crate::specs::TokenView::beside))]
-fn listed<'a>(bytes: &[u8]) -> Option<Token<'a>>
-    ensures token { option_map token_of result ≡ listed bytes.now }
+#[tactic(auto, unfolding(crate::specs::TokenView::token_beside))]
+fn listed_token<'a>(bytes: &[u8]) -> Option<Token<'a>>
+    ensures token { option_map token_of result ≡ listed_token bytes.now }
     ensures digits { IfSome result HasDigits }
 {
-    listed_in(bytes, &WORDS_AND_SYMBOLS)
+    token_in(bytes, &WORDS_AND_SYMBOLS)
 }
 
 // The token beside the first text of a table that bytes are.
-#[tactic(auto, unfolding(crate::specs::TokenView::beside))]
-fn listed_in<'a>(bytes: &[u8], table: &[(&[u8], Token<'a>)]) -> Option<Token<'a>>
-    ensures { result ≡ beside bytes.now table.now }
+#[tactic(auto, unfolding(crate::specs::TokenView::token_beside))]
+fn token_in<'a>(bytes: &[u8], table: &[(&[u8], Token<'a>)]) -> Option<Token<'a>>
+    ensures { result ≡ token_beside bytes.now table.now }
 {
     table
         .iter()

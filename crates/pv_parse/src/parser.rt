@@ -7,7 +7,7 @@ ghost use Rattle.pv_model.specs.Tokens as model;
 ghost use Rattle.pv_ast.specs.OpView.{op_of};
 ghost use Rattle.pv_parse.specs.ChainView.{chain_of, punctuation_of, token_of_punctuation};
 ghost use Rattle.pv_parse.specs.TokenView.{token_of};
-ghost use Rattle.pv_parse.specs.Reading.{column_of, has_no_operator, rest_of, IsNext, Stops, TakesOperator, PassesPunctuation};
+ghost use Rattle.pv_parse.specs.ReadingSteps.{next_column, has_no_operator, rest_of, IsNext, FailsWith, TakesOperator, PassesPunctuation};
 
 use crate::ParseError;
 use crate::cursor::Cursor;
@@ -59,10 +59,10 @@ pub(crate) struct Parser<'a> {
 }
 
 impl<'a> Model for Parser<'a> {
-    ghost use Rattle.pv_parse.specs.Reading.{Source};
+    ghost use Rattle.pv_parse.specs.ReadingSteps.{Context};
     ghost use Rattle.pv_parse.specs.ParserView.{source_of};
 
-    ghost Value = { Source };
+    ghost Value = { Context };
 
     ghost view = { source_of };
 }
@@ -70,7 +70,7 @@ impl<'a> Model for Parser<'a> {
 impl<'a> Parser<'a> {
     /// The fault where no token that may come is next.
     pub(crate) fn malformed(&self, tokens: &Cursor) -> ParseError
-        ensures { result ≡ ParseError.Malformed (column_of self.now tokens.now) }
+        ensures { result ≡ ParseError.Malformed (next_column self.now tokens.now) }
     {
         match tokens.first() {
             Some(next) => ParseError::Malformed(next.column),
@@ -86,7 +86,7 @@ impl<'a> Parser<'a> {
         depth: u32,
     ) -> Result<(), ParseError>
         ensures passed { OnOk result (PassesPunctuation self.now (punctuation_of expected) (token_of_punctuation expected) depth tokens.old tokens.new) }
-        ensures stops { IfErr result (Stops self.now (depth, punctuation (punctuation_of expected)) tokens.old) }
+        ensures stops { IfErr result (FailsWith self.now (depth, punctuation (punctuation_of expected)) tokens.old) }
     {
         let Some(next) = tokens.first() else {
             return Err(self.malformed(tokens));
@@ -106,7 +106,7 @@ impl<'a> Parser<'a> {
         depth: u32,
     ) -> Result<Option<Op>, ParseError>
         ensures taken { IfOk result (TakesOperator self.now (more (chain_of chain)) (joins (chain_of chain)) depth tokens.old tokens.new) }
-        ensures stops { IfErr result (Stops self.now (depth, more (chain_of chain)) tokens.old) }
+        ensures stops { IfErr result (FailsWith self.now (depth, more (chain_of chain)) tokens.old) }
     {
         let Some(op) = self.next_operator(tokens) else {
             return Ok(None);
@@ -125,7 +125,7 @@ impl<'a> Parser<'a> {
         depth: u32,
     ) -> Result<Option<Op>, ParseError>
         ensures taken { IfOk result (TakesOperator self.now comparing compares depth tokens.old tokens.new) }
-        ensures stops { IfErr result (Stops self.now (depth, comparing) tokens.old) }
+        ensures stops { IfErr result (FailsWith self.now (depth, comparing) tokens.old) }
     {
         let Some(op) = self.next_operator(tokens) else {
             return Ok(None);

@@ -2,7 +2,7 @@
 ghost use Rattle.std.specs.Prelude.{◌≡◌, ◌≢◌, ◌≤◌, Err, Some, length, IfErr, IfOk, IfSome};
 ghost use Rattle.pv_base.specs.Answer.{Answers};
 ghost use Rattle.pv_model.specs.ProgramText.{IsProgramText, IsRefused};
-ghost use Rattle.pv_parse.specs.Refusals.{refusal_of, ReadsAll, Faults};
+ghost use Rattle.pv_parse.specs.Refusals.{refusal_of, IsWholeProgram, IsFirstError};
 
 use crate::ParseError;
 use crate::cursor::Cursor;
@@ -45,8 +45,8 @@ pub fn parse(alloc: Global, text: &[u8], catalog: &Catalog) -> Result<Program, P
 impl<'a> Parser<'a> {
     // The program that all of the tokens are.
     fn all(&self, tokens: &mut Cursor) -> Result<Program, ParseError>
-        ensures read { IfOk result (ReadsAll self.now tokens.old) }
-        ensures faults { IfErr result (Faults self.now tokens.old) }
+        ensures read { IfOk result (IsWholeProgram self.now tokens.old) }
+        ensures faults { IfErr result (IsFirstError self.now tokens.old) }
     {
         let program = self.program(tokens, 0)?;
         if let Some(next) = tokens.first() {

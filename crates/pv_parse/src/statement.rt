@@ -2,7 +2,7 @@
 ghost use Rattle.std.specs.Prelude.{◌≡◌, ◌+◌, ◌≤◌, ◌∷◌, IfErr, IfOk};
 ghost use Rattle.pv_law_programs.specs.Prediction as expected;
 ghost use Rattle.pv_model.specs.Tokens as text;
-ghost use Rattle.pv_parse.specs.Reading.{rest_of, IsNext, Stops};
+ghost use Rattle.pv_parse.specs.ReadingSteps.{rest_of, IsNext, FailsWith};
 ghost use Rattle.pv_parse.specs.ReadingPrograms.{ReadsBody, ReadsStmt, ReadsWhole, StopsBraced};
 
 use crate::ParseError;
@@ -18,7 +18,7 @@ impl<'a> Parser<'a> {
     pub(crate) fn program(&self, tokens: &mut Cursor, depth: u32) -> Result<Program, ParseError>
         requires { depth ≤ MAX_DEPTH + 1 }
         ensures read { IfOk result (ReadsWhole self.now depth tokens.old tokens.new) }
-        ensures stops { IfErr result (Stops self.now (depth, expected.program) tokens.old) }
+        ensures stops { IfErr result (FailsWith self.now (depth, expected.program) tokens.old) }
     {
         let mut stmts = Vec::new(self.alloc);
         loop {
@@ -35,7 +35,7 @@ impl<'a> Parser<'a> {
     fn stmt(&self, tokens: &mut Cursor, depth: u32) -> Result<Stmt, ParseError>
         requires { depth ≤ MAX_DEPTH + 1 }
         ensures read { IfOk result (ReadsStmt self.now depth tokens.old tokens.new) }
-        ensures stops { IfErr result (Stops self.now (depth, expected.program) tokens.old) }
+        ensures stops { IfErr result (FailsWith self.now (depth, expected.program) tokens.old) }
     {
         let Some(next) = tokens.first() else {
             return Err(self.malformed(tokens));
@@ -61,7 +61,7 @@ impl<'a> Parser<'a> {
         requires depth { depth ≤ MAX_DEPTH + 1 }
         requires next { tokens.now ≡ (column, text.Token.name word.now) ∷ rest_of tokens.now }
         ensures read { IfOk result (ReadsStmt self.now depth tokens.old tokens.new) }
-        ensures stops { IfErr result (Stops self.now (depth, expected.program) tokens.old) }
+        ensures stops { IfErr result (FailsWith self.now (depth, expected.program) tokens.old) }
     {
         let item = self.named(tokens, column, word, depth)?;
         self.expect(tokens, Punctuation::Becomes, depth)?;
@@ -74,7 +74,7 @@ impl<'a> Parser<'a> {
         requires depth { depth ≤ MAX_DEPTH + 1 }
         requires next { IsNext self.now text.Token.requires tokens.now }
         ensures read { IfOk result (ReadsStmt self.now depth tokens.old tokens.new) }
-        ensures stops { IfErr result (Stops self.now (depth, expected.program) tokens.old) }
+        ensures stops { IfErr result (FailsWith self.now (depth, expected.program) tokens.old) }
     {
         tokens.pass(depth)?;
         let test = self.chain(tokens, Chain::Disjunction, depth)?;
@@ -86,7 +86,7 @@ impl<'a> Parser<'a> {
         requires depth { depth ≤ MAX_DEPTH + 1 }
         requires next { IsNext self.now text.Token.returns tokens.now }
         ensures read { IfOk result (ReadsStmt self.now depth tokens.old tokens.new) }
-        ensures stops { IfErr result (Stops self.now (depth, expected.program) tokens.old) }
+        ensures stops { IfErr result (FailsWith self.now (depth, expected.program) tokens.old) }
     {
         tokens.pass(depth)?;
         let value = self.chain(tokens, Chain::Disjunction, depth)?;
@@ -99,7 +99,7 @@ impl<'a> Parser<'a> {
         requires depth { depth ≤ MAX_DEPTH + 1 }
         requires next { IsNext self.now text.Token.asks tokens.now }
         ensures read { IfOk result (ReadsStmt self.now depth tokens.old tokens.new) }
-        ensures stops { IfErr result (Stops self.now (depth, expected.program) tokens.old) }
+        ensures stops { IfErr result (FailsWith self.now (depth, expected.program) tokens.old) }
     {
         tokens.pass(depth)?;
         let test = self.chain(tokens, Chain::Disjunction, depth)?;

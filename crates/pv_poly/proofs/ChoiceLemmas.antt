@@ -10,7 +10,7 @@ use Rattle.pv_base.specs.Polyvalue.IsCanonical.{tested}
 use Rattle.pv_base.proofs.AssignmentLemmas.{precedes-trans, order-of-two}
 use Rattle.pv_law_polyvalues.proofs.PolyvalueLemmas.{behind-unnamed, value_at-tested, names-tested}
 use Rattle.pv_cases.proofs.SettledLemmas.{NamesKept, side-settled, test-settled, unnamed-settled}
-use Rattle.pv_poly.specs.From.{NamesFrom, IsFirst, IsFirstOf, IsSide, before, first_of}
+use Rattle.pv_poly.specs.From.{NamesFrom, IsFirst, IsFirstOf, IsSide, before, first_before}
 use Rattle.pv_poly.specs.TreeView.{AreSides}
 use Rattle.pv_poly.proofs.TopOfTree.{IsTested}
 use Rattle.pv_poly.proofs.TestLemmas.{test-named, test-aborted, test-committed, test-from}
@@ -95,14 +95,14 @@ module _ {V : Type 0} where
       before-is (precedes t txn) txn t aborted committed refl first (from-later u t committed second is) (inl named)
 
   first-is : (txn : TxnId) (aborted committed : List (Case V)) (top other : Option TxnId) → IsFirst aborted top → IsFirst committed other
-      → IsFirstOf txn aborted committed (first_of txn top other)
+      → IsFirstOf txn aborted committed (first_before txn top other)
   first-is txn aborted committed None None top other = (nothing-from txn aborted top, nothing-from txn committed other)
   first-is txn aborted committed None (Some u) top other = before-is (precedes u txn) txn u aborted committed refl (nothing-from u aborted top) other.1 (inr other.0)
   first-is txn aborted committed (Some t) None top other = before-is (precedes t txn) txn t aborted committed refl top.1 (nothing-from t committed other) (inl top.0)
   first-is txn aborted committed (Some t) (Some u) top other = earlier-is (precedes u t) txn t u aborted committed refl top.1 top.0 other.1 other.0
 
   pub at-first : (txn : TxnId) (aborted committed : List (Case V)) (top other : Option TxnId) {found found' : Option TxnId} → IsFirst aborted top → IsFirst committed other
-      → found ≡ first_of txn top other → found ≡ found' → IsFirstOf txn aborted committed found'
+      → found ≡ first_before txn top other → found ≡ found' → IsFirstOf txn aborted committed found'
   at-first txn aborted committed top other first second is found =
       subst (λ (o : Option TxnId). IsFirstOf txn aborted committed o) (sym is ∙ found) (first-is txn aborted committed top other first second)
 

@@ -11,7 +11,7 @@ use Rattle.pv_base.proofs.ContainsLemmas.{Contains-cases, Contains-first, Contai
 use Rattle.pv_base.proofs.MapLemmas.{map-same}
 use Rattle.pv_law_polyvalues.proofs.PolyvalueLemmas.{value_at-tested, behind-unnamed, names-tested}
 use Rattle.pv_law_polyvalues.proofs.TableLemmas.{values-before, values-skip, values-tested, one-values}
-use Rattle.pv_cases.proofs.PartingLemmas.{first-before}
+use Rattle.pv_cases.proofs.CaseSplitLemmas.{first-before}
 use Rattle.pv_poly.proofs.TopOfTree.{IsTested}
 
 -- what is before the first is before all
@@ -24,7 +24,7 @@ first-and-rest txn first rest before up u within =
     (Contains-cases first rest u within)
 
 module _ {V : Type 0} where
-  -- The values of the cases stand behind what the list held.
+  -- The values of the cases come after what the list held.
   abbrev pub AreAdded : List (Case V) → List TxnId → List V → List V → Type 0
   AreAdded cases txns old new = (added : List V) × (new ≡ old ++ added) × AreValues cases txns added
 
@@ -78,17 +78,17 @@ module _ {V : Type 0} where
       (values-tested txn rest aborted committed xs ys behind behind-too (first-before is up) are them
       ∙ map-same _ _ (assignments (txn ∷ rest)) (λ a _. value_at-tested txn aborted committed a ∙ sym (choice a)))
 
-  -- A side that names only what is in the rest names only what is behind the first.
+  -- A side that names only what is in the rest names only what comes after the first.
   pub rest-behind : (cases : List (Case V)) (txn : TxnId) (txns rest : List TxnId) → txns ≡ txn ∷ rest → Ascending txns →
       ((u : TxnId) → IsTrue (names cases u) → Contains rest u) → NamesOnlyAfter txn cases
   rest-behind cases txn txns rest is up within u named = ascending-first txn rest (subst Ascending is up) u (within u named)
 
   -- What a test names is the first transaction, or stands in the rest.
-  pub names-listed : (cases aborted committed : List (Case V)) (txn : TxnId) (txns rest : List TxnId) → txns ≡ txn ∷ rest →
+  pub table-names : (cases aborted committed : List (Case V)) (txn : TxnId) (txns rest : List TxnId) → txns ≡ txn ∷ rest →
       ((u : TxnId) → IsTrue (names aborted u) → Contains rest u) → ((u : TxnId) → IsTrue (names committed u) → Contains rest u) →
       ((u : TxnId) → IsTrue (names cases u) → (txn ≡ u) ⊎ (IsTrue (names aborted u) ⊎ IsTrue (names committed u))) →
       (u : TxnId) → IsTrue (names cases u) → Contains txns u
-  names-listed cases aborted committed txn txns rest is within within-too all u named =
+  table-names cases aborted committed txn txns rest is within within-too all u named =
       subst (λ us. Contains us u) (sym is)
       (⊎_elim
       (λ same. subst (λ t. Contains (txn ∷ rest) t) same (Contains-first txn rest))

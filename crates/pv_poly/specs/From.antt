@@ -13,11 +13,11 @@ abbrev pub earlier : TxnId → TxnId → TxnId
 earlier top other = if precedes other top then other else top
 
 -- the earlier of the two, if there is one and it comes before the transaction
-abbrev pub first_of : TxnId → Option TxnId → Option TxnId → Option TxnId
-first_of txn None None = None
-first_of txn None (Some other) = before txn other
-first_of txn (Some top) None = before txn top
-first_of txn (Some top) (Some other) = before txn (earlier top other)
+abbrev pub first_before : TxnId → Option TxnId → Option TxnId → Option TxnId
+first_before txn None None = None
+first_before txn None (Some other) = before txn other
+first_before txn (Some top) None = before txn top
+first_before txn (Some top) (Some other) = before txn (earlier top other)
 
 module _ {V : Type 0} where
   -- The cases name only this transaction and later ones.

@@ -1,7 +1,7 @@
 // Trees after an outcome is known, and trees that choose by an outcome.
 ghost use Rattle.std.specs.Prelude.{◌≡◌, ◌⊎◌, false, true, IsTrue, IfOk};
 ghost use Rattle.pv_base.specs.Polyvalue.{names, AreOutcomes, IsCanonical, IsChoice, IsSettled};
-ghost use Rattle.pv_poly.specs.From.{NamesFrom, IsFirst, IsSide, before, earlier, first_of};
+ghost use Rattle.pv_poly.specs.From.{NamesFrom, IsFirst, IsSide, before, earlier, first_before};
 ghost use Rattle.pv_base.specs.declared.txn.TxnId.{TxnId};
 
 use crate::tree::{Node, Tree};
@@ -51,7 +51,7 @@ impl<V: Exact> Tree<V> {
             (txn ≡ named) ⊎ (IsTrue (names aborted.now named) ⊎ IsTrue (names committed.now named))) }
         ensures canonical { IfOk result IsCanonical }
     {
-        match first_of(txn, aborted.top(), committed.top()) {
+        match first_before(txn, aborted.top(), committed.top()) {
             None => {
                 let aborted = aborted.copy(alloc)?;
                 let committed = committed.copy(alloc)?;
@@ -100,8 +100,8 @@ impl<V: Exact> Tree<V> {
 }
 
 // The earlier of the two, if there is one and it comes before `txn`.
-fn first_of(txn: TxnId, top: Option<TxnId>, other: Option<TxnId>) -> Option<TxnId>
-    ensures { result ≡ first_of txn top other }
+fn first_before(txn: TxnId, top: Option<TxnId>, other: Option<TxnId>) -> Option<TxnId>
+    ensures { result ≡ first_before txn top other }
 {
     match (top, other) {
         (Some(top), Some(other)) => before(txn, earlier(top, other)),

@@ -12,10 +12,6 @@ mod tree;
 pub use laws::equal_polyvalues_are_one;
 pub use poly::Poly;
 pub use pv_base::{Case, CaseError, NameError};
-pub use pv_cases::{
-    no_canonical_fault, no_join_fault, one_canonical_fault, one_join_fault, ordered, push_names,
-    some_canonical_fault, some_join_fault,
-};
 pub use read::Read;
 
 #[cfg(test)]

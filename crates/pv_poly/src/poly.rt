@@ -1,5 +1,5 @@
 // Polyvalues, and what is done with them.
-ghost use Rattle.std.specs.Prelude.{◌≡◌, ◌≢◌, ◌<◌, ◌≤◌, ◌*◌, ◌^◌, ◌⊎◌, [], ◌∷◌, ◌++◌, ℕ, Some, Err, List, IsTrue, length, map, IfOk, IfErr};
+ghost use Rattle.std.specs.Prelude.{◌≡◌, ◌≢◌, ◌<◌, ◌≤◌, ◌*◌, ◌^◌, ◌⊎◌, [], ◌∷◌, ◌++◌, ℕ, Some, Err, List, IsTrue, length, map, IfOk, IfErr, IfSome};
 ghost use Rattle.std.specs.List.{Contains, sum};
 ghost use Rattle.pv_base.specs.Answer.{Answers};
 ghost use Rattle.pv_base.specs.Assignment.{AreAscending, assignments};
@@ -9,6 +9,7 @@ ghost use Rattle.pv_base.specs.Polyvalue.{value_at, names, AreNames, AreOutcomes
 ghost use Rattle.pv_base.specs.declared.txn.TxnId.{TxnId};
 ghost use Rattle.pv_base.specs.declared.limits.TheConstants.{HELD_NAMES};
 ghost use Rattle.pv_cases.specs.JoinedCases.{IsJoined, IsKept};
+ghost use Rattle.pv_cases.specs.NameLimits.{count_of, IsChosen, ChoiceNamesTooMany};
 
 use crate::tree::Tree;
 use pv_base::{Case, CaseError, Exact, HELD_NAMES, Literal, NameError, NoMemory, TxnId};
@@ -77,15 +78,25 @@ impl<V: Exact> Poly<V> {
         new: &Poly<V>,
         old: &Poly<V>,
     ) -> Result<Poly<V>, NameError>
-        ensures choice { IfOk result (IsChoice txn old.now new.now) }
-        ensures polyvalue { IfOk result (IsPolyvalue HELD_NAMES) }
-
-        // It is refused exactly where it would name too many. Besides, only memory can fail.
-        ensures refused { (count : ℕ) → ChoiceNames txn old.now new.now count →
-            IfErr result (λ e. e ≢ NameError.NoMemory → (e ≡ NameError.TooManyOutcomes count) × (HELD_NAMES < count)) }
-        ensures refuses { (count : ℕ) → ChoiceNames txn old.now new.now count → HELD_NAMES < count →
-            (result ≡ Err (NameError.TooManyOutcomes count)) ⊎ (result ≡ Err NameError.NoMemory) }
+        ensures answer { Answers (IsChosen HELD_NAMES txn old.now new.now) (ChoiceNamesTooMany HELD_NAMES txn old.now new.now) (λ poly. poly) count_of result }
     {
+        // Reading the cases shows the proof that both are canonical.
+        let _ = &new.cases;
+        let _ = &old.cases;
+        let tree = Poly::chosen(alloc, txn, new, old)?;
+        Ok(Poly {
+            cases: tree.cases(alloc)?,
+        })
+    }
+
+    // The tree of that polyvalue.
+    fn chosen(alloc: Global, txn: TxnId, new: &Poly<V>, old: &Poly<V>) -> Result<Tree<V>, NameError>
+        ensures given { IfOk result (IsChosen HELD_NAMES txn old.now new.now) }
+        ensures refused { IfErr result (λ e. IfSome (count_of e) (ChoiceNamesTooMany HELD_NAMES txn old.now new.now)) }
+    {
+        // Reading the cases shows the proof that both are canonical.
+        let _ = &new.cases;
+        let _ = &old.cases;
         let aborted = old.settled_tree(
             alloc,
             &[Literal {
@@ -95,18 +106,13 @@ impl<V: Exact> Poly<V> {
         )?;
         let committed = new.settled_tree(alloc, &[Literal { txn, commits: true }])?;
         if aborted.same(&committed) {
-            return Ok(Poly {
-                cases: aborted.cases(alloc)?,
-            });
+            return Ok(aborted);
         }
         let count = count_of_sides(alloc, &aborted, &committed)? + 1;
         if count > HELD_NAMES {
             return Err(NameError::TooManyOutcomes(count));
         }
-        let tree = Tree::choose(alloc, txn, &aborted, &committed)?;
-        Ok(Poly {
-            cases: tree.cases(alloc)?,
-        })
+        Ok(Tree::choose(alloc, txn, &aborted, &committed)?)
     }
 
     /// The value where exactly the transactions of `yes` commit. Takes time in proportion to the literals, times the length of `yes`.

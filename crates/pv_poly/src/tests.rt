@@ -3,8 +3,9 @@
 ghost use Rattle.std.specs.Prelude.{◌≡◌, ◌<◌, ◌^◌, true, length, map};
 ghost use Rattle.std.specs.List.{sum};
 
-use crate::{Poly, Read, ordered};
+use crate::{Poly, Read};
 use pv_base::{Case, CaseError, ItemId, Literal, NameError, NoMemory, SiteId, TxnId};
+use pv_cases::ordered;
 use std::alloc::Global;
 use std::process::Abort;
 use std::test::Fail;
@@ -55,7 +56,7 @@ fn are_few(cases: &[Case<i64>]) -> bool
 }
 
 // The cases, each with these literals and this value.
-fn listed(alloc: Global, cases: &[(&[Literal], i64)]) -> Result<Vec<Case<i64>>, NoMemory> {
+fn case_list(alloc: Global, cases: &[(&[Literal], i64)]) -> Result<Vec<Case<i64>>, NoMemory> {
     let mut list = Vec::new(alloc);
     for (when, value) in cases {
         list.push(case(alloc, when, *value)?)?;
@@ -68,7 +69,7 @@ fn from_cases(
     alloc: Global,
     cases: &[(&[Literal], i64)],
 ) -> Result<Poly<i64>, CaseError> {
-    let cases = listed(alloc, cases)?;
+    let cases = case_list(alloc, cases)?;
     assert!(rt; are_few(&cases));
     Poly::from_cases(alloc, cases)
 }
@@ -78,7 +79,7 @@ fn join(
     alloc: Global,
     cases: &[(&[Literal], i64)],
 ) -> Result<Poly<i64>, CaseError> {
-    let cases = listed(alloc, cases)?;
+    let cases = case_list(alloc, cases)?;
     assert!(rt; are_few(&cases));
     Poly::join(alloc, cases)
 }

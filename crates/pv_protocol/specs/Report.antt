@@ -13,8 +13,8 @@ use Rattle.pv_protocol.specs.State.{Setup, Running, Placed}
 use Rattle.pv_protocol.specs.World.{World, site_at}
 
 -- the transactions of an order
-abbrev pub txns_of : List Placed → List TxnId
-txns_of order = map (λ placed. placed.txn) order
+abbrev pub txns_in_order : List Placed → List TxnId
+txns_in_order order = map (λ placed. placed.txn) order
 
 -- How an item can be read: with these cases, or not, since a transaction holds it or its site is down.
 pub data Reading : Type 0 where
@@ -60,9 +60,9 @@ item_lines n (reading ∷ more) = item_line n reading ∷ item_lines (n + 1) mor
 -- the order, the committed and the open transactions in that order, and each item
 unfoldable pub report_of : Setup → World → List Line
 report_of setup world =
-    Line.order (txns_of world.order)
-    ∷ (Line.committed (txns_of (filter (λ placed. is_committed world placed.txn) world.order))
-    ∷ (Line.open_ones (txns_of (filter (is_open world) world.order)) ∷ (item_lines 0 (readings setup world) ++ Line.end ∷ [])))
+    Line.order (txns_in_order world.order)
+    ∷ (Line.committed (txns_in_order (filter (λ placed. is_committed world placed.txn) world.order))
+    ∷ (Line.open_ones (txns_in_order (filter (is_open world) world.order)) ∷ (item_lines 0 (readings setup world) ++ Line.end ∷ [])))
 
 -- the sums of the values, unless they name more outcomes together than a polyvalue may
 abbrev pub total_within : ℕ → List (List (Case ℤ)) → List TxnId → Line

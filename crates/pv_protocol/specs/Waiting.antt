@@ -3,7 +3,7 @@ use Rattle.std.specs.Prelude.{◌≡◌, ℕ, ◌+◌, ◌≤◌, Bool, false, �
 use Rattle.pv_base.specs.Catalog.{Declared}
 use Rattle.pv_base.specs.declared.limits.TheConstants.{TICKS}
 use Rattle.pv_base.specs.declared.txn.TxnId.{TxnId}
-use Rattle.pv_model.specs.Check.{names, IsAt}
+use Rattle.pv_model.specs.Check.{names_item, IsAt}
 use Rattle.pv_model.specs.Events.{Event}
 use Rattle.pv_model.specs.Syntax.{Program}
 use Rattle.pv_protocol.specs.Committed.{home_of, entry_of}
@@ -38,7 +38,7 @@ pub record HasWaited (first : World) (transitions : List Transition) (txn : TxnI
 -- The site owns an item of the program.
 pub record IsParticipant (catalog : Declared) (program : Program) (n : ℕ) : Type 0 where
   pub item : ℕ
-  pub named : IsTrue (names program item)
+  pub named : IsTrue (names_item program item)
   pub home : IsAt catalog.items item n
 
 -- The site gave what the stage waits for: its grant, or its vote.

@@ -13,9 +13,9 @@ use Rattle.pv_base.specs.Polyvalue.{Case, names, AreNames}
 use Rattle.pv_model.specs.PossibleAnswers.{sum_at, sums}
 use Rattle.pv_base.proofs.MapLemmas.{Contains-map, Contains-unmap}
 use Rattle.pv_law_polyvalues.proofs.TableLemmas.{chosen-is-assignment, value_at-chosen}
-use Rattle.pv_query.proofs.OutcomeLemmas.{together}
+use Rattle.pv_query.specs.AllSums.{together}
 use Rattle.pv_query.proofs.RepeatLemmas.{Contains-repeats, Contains-from-repeats}
-use Rattle.pv_query.proofs.SumLemmas.{numbers-exact}
+use Rattle.pv_law_polyvalues.proofs.ExistenceLemmas.{numbers-exact}
 
 -- Two lists of cases name together what either names.
 names-either : (cases others : List (Case ℤ)) (txn : TxnId)
@@ -38,7 +38,7 @@ pub every-sum : (values : List (List (Case ℤ))) (txns : List TxnId) → AreNam
     → (a : List TxnId) → Contains (sums values txns) (sum_at values a)
 every-sum values txns are a =
     let chosen = filter (λ txn. commits a txn) txns in
-    Contains-repeats int_eq numbers-exact (map (sum_at values) (assignments txns)) (sum_at values a)
+    Contains-repeats int_eq numbers-exact.exact (map (sum_at values) (assignments txns)) (sum_at values a)
     (subst (Contains (map (sum_at values) (assignments txns))) (sum_at-chosen values txns are.whole a)
     (Contains-map (sum_at values) (assignments txns) chosen (chosen-is-assignment a txns)))
 

@@ -1,3 +1,4 @@
+pub mod AllSumLemmas
 pub mod RepeatLemmas
 pub mod AnswerLemmas
 pub mod SumLemmas

@@ -1,7 +1,7 @@
 -- The outcomes that several values name together.
 use Rattle.std.proofs.Common.{◌≡◌, ⊎_elim, ℕ, suc, ◌+◌, ◌*◌, ◌<◌, ◌≤◌, List, [], ◌∷◌, length, get_or, take, drop, sym, ap, subst, ◌∙◌, arith}
 use Rattle.std.specs.Prelude.{All, ◌++◌, IsTrue}
-use Rattle.std.specs.List.{Contains, flat_map, list_any}
+use Rattle.std.specs.List.{Contains, list_any}
 use Rattle.std.proofs.Math.Nat.{mul-suc}
 use Rattle.std.proofs.lemmas.Bool.{or_cases, false≢true}
 use Rattle.std.proofs.lemmas.List.{append_assoc, append-nil, at_drop_more, drop_all, take_more, length-append}
@@ -11,6 +11,7 @@ use Rattle.pv_base.specs.declared.literal.Literal.{Literal}
 use Rattle.pv_base.specs.declared.txn.TxnId.{TxnId}
 use Rattle.pv_base.specs.Assignment.{is_same_txn}
 use Rattle.pv_base.specs.Polyvalue.{Case, names, AreNames, IsPolyvalue}
+use Rattle.pv_query.specs.AllSums.{together}
 use Rattle.pv_cases.specs.Names.{txns_of}
 use Rattle.pv_cases.proofs.OrderedNames.{txns_of-append}
 use Rattle.pv_law_polyvalues.proofs.NameLemmas.{some-names, listed-named}
@@ -26,10 +27,6 @@ All-take-next P xs i x within is holds before =
     (All-append P (take i xs) (get_or xs i x ∷ []) before (All-cons P (get_or xs i x) [] (subst P is holds) (All-nil P)))
 
 module _ {V : Type 0} where
-  -- the cases of all the values, one after another
-  abbrev pub together : List (List (Case V)) → List (Case V)
-  together values = flat_map (λ cases. cases) values
-
   -- One more value is read.
   pub outcomes-next : (values : List (List (Case V))) (whole txns more : List TxnId) (i : ℕ) (value cases : List (Case V)) → i < length values → value ≡ get_or values i value
       → cases ≡ value → whole ≡ (txns ++ txns_of (together (drop i values))) → more ≡ (txns ++ txns_of cases)

@@ -68,7 +68,7 @@ module _ {V : Type 0} where
   filter-joined p q r [] is = refl
   filter-joined p q r (x ∷ xs) is = joined-by p q r x xs (q x) (is x) refl (filter-joined p q r xs is)
 
-  -- What is left to come of values, behind those that are kept.
+  -- What is left to come of values, after those that are kept.
 
   -- No kept value is the same as this one.
   abbrev is_new : (V → V → Bool) → List V → V → Bool

@@ -1,8 +1,7 @@
 -- Sums under way: how a value is added to them, and how far from 0 they are.
-use Rattle.std.proofs.Common.{◌≡◌, ℕ, zero, suc, ◌+◌, ◌^◌, ◌<◌, ◌≤◌, Bool, true, false, List, [], ◌∷◌, length, get_or, take, replicate, refl, sym, ap, ap₂, subst, ◌∙◌, arith, rules, set, SFits, to_z, of_z, w64, below_more, get_or-set_same, get_or-set_other}
+use Rattle.std.proofs.Common.{◌≡◌, ℕ, zero, suc, ◌+◌, ◌^◌, ◌<◌, ◌≤◌, Bool, true, false, List, [], ◌∷◌, length, get_or, take, replicate, refl, sym, ap, ap₂, subst, ◌∙◌, arith, set, SFits, to_z, of_z, w64, below_more, get_or-set_same, get_or-set_other}
 use Rattle.std.specs.Prelude.{ℤ, pos, ◌+ℤ◌, map, All, Option, Some, None, ◌++◌, if◌then◌else◌, unwrap_or}
 use Rattle.std.specs.Int.{w128}
-use Rattle.std.specs.Ordering.{int_eq}
 use Rattle.std.proofs.Math.IntN.{+ℤ_assoc, +ℤ_idl, +ℤ_idr}
 use Rattle.std.proofs.lemmas.Int.{ints, to_z-of_z}
 use Rattle.std.proofs.lemmas.List.{take_more, length-map}
@@ -198,9 +197,6 @@ whole-place sure n first second =
     let low = second.low in
     let high = second.high in
     omega (arith, ints)
-
-pub numbers-exact : (x y : ℤ) → int_eq x y ≡ true → x ≡ y
-numbers-exact x y same = search rules
 
 -- An element of a list is the same whatever stands for those past its end.
 pub element-itself : (numbers : List ℤ) (i : ℕ) (d : ℤ) → i < length numbers → get_or numbers i d ≡ get_or numbers i (get_or numbers i d)

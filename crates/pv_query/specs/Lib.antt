@@ -1,2 +1,3 @@
+pub mod AllSums
 pub mod Repeats
 pub mod Sums

@@ -2,11 +2,15 @@
 ghost use Rattle.std.specs.Prelude.{◌≡◌, ◌≢◌, ◌<◌, ◌≤◌, ◌+◌, ◌*◌, ◌^◌, ◌⊎◌, ℕ, pos, List, Err, All, IsTrue, map, length, IfOk, IfErr, OnOk};
 ghost use Rattle.std.specs.List.{AllPairs, Contains, flat_map};
 ghost use Rattle.std.specs.Ordering.{int_eq};
+ghost use Rattle.pv_base.specs.Answer.{Answers};
 ghost use Rattle.pv_base.specs.Assignment.{AreAscending, assignments};
 ghost use Rattle.pv_base.specs.Polyvalue.{AreNames, IsPolyvalue};
+ghost use Rattle.pv_base.specs.declared.limits.TheConstants.{HELD_NAMES, MAX_ITEMS};
 ghost use Rattle.pv_base.specs.declared.txn.TxnId.{TxnId};
+ghost use Rattle.pv_cases.specs.NameLimits.{NameTooMany};
 ghost use Rattle.pv_model.specs.Alternatives.{number_at};
 ghost use Rattle.pv_model.specs.PossibleAnswers.{sum_at, sums, without_repeats};
+ghost use Rattle.pv_query.specs.AllSums.{count_of, together, AreAllSums};
 ghost use Rattle.pv_query.specs.Sums.{added, totals, IsWithin, AreWithin};
 
 use crate::repeats::push_new;
@@ -57,19 +61,13 @@ impl From<NoMemory> for SumError {
 /// the assignments, times the different sums.
 pub fn sums(alloc: Global, values: &[Poly<i64>]) -> Result<Vec<i128>, SumError>
     requires { length values.now ≤ MAX_ITEMS }
-    ensures sums { (txns : List TxnId) → AreNames (flat_map (λ cases. cases) values.now) txns → IfOk result (λ found. found.items ≡ sums values.now txns) }
+    ensures answer { Answers (AreAllSums HELD_NAMES values.now) (NameTooMany HELD_NAMES (together values.now)) (λ found. found.items) count_of result }
 
     ensures distinct { IfOk result (λ found. AllPairs (λ sum later. sum ≢ later) found.items) }
 
     // They are the sums at all assignments: no sum is left out, and each is the sum at some assignment.
     ensures every { (assignment : List TxnId) → IfOk result (λ found. Contains found.items (sum_at values.now assignment)) }
     ensures each { IfOk result (λ found. All (λ sum. (assignment : List TxnId) × (sum_at values.now assignment ≡ sum)) found.items) }
-
-    // It is refused exactly where the values name too many outcomes. Besides, only memory can fail.
-    ensures refused { (txns : List TxnId) → AreNames (flat_map (λ cases. cases) values.now) txns →
-        IfErr result (λ e. e ≢ SumError.NoMemory → (e ≡ SumError.OutcomeLimit (length txns)) × (HELD_NAMES < length txns)) }
-    ensures refuses { (txns : List TxnId) → AreNames (flat_map (λ cases. cases) values.now) txns → HELD_NAMES < length txns →
-        (result ≡ Err (SumError.OutcomeLimit (length txns))) ⊎ (result ≡ Err SumError.NoMemory) }
 {
     let txns = outcomes(alloc, values)?;
     let count = txns.len() as u32;
@@ -81,7 +79,7 @@ pub fn sums(alloc: Global, values: &[Poly<i64>]) -> Result<Vec<i128>, SumError>
 
 // The outcomes that the values name together, ascending.
 fn outcomes(alloc: Global, values: &[Poly<i64>]) -> Result<Vec<TxnId>, NoMemory>
-    ensures names { IfOk result (λ txns. AreNames (flat_map (λ cases. cases) values.now) txns.items) }
+    ensures names { IfOk result (λ txns. AreNames (together values.now) txns.items) }
     ensures few { IfOk result (λ txns. length txns.items ≤ HELD_NAMES * length values.now) }
     ensures polyvalues { OnOk result (All (IsPolyvalue HELD_NAMES) values.now) }
 {

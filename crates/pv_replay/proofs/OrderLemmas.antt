@@ -1,13 +1,16 @@
 -- Canonical cases stand in the order of the leaves of a decision tree.
-use Rattle.std.proofs.Common.{◌≡◌, ℕ, zero, suc, ◌<◌, ◌-◌, ◌==◌, ℤ, Bool, true, false, ◌&&◌, ◌||◌, List, [], ◌∷◌, ◌++◌, length, get_or, eq-eqb, refl, sym, ap, ◌∙◌, arith}
+use Rattle.std.proofs.Common.{◌≡◌, ℕ, zero, suc, ◌+◌, ◌<◌, ◌-◌, ◌==◌, ◌≤◌, ℤ, Bool, true, false, ◌&&◌, ◌||◌, List, [], ◌∷◌, ◌++◌, length, drop, get_or, nat_le, All, eq-eqb, refl, sym, ap, ◌∙◌, arith}
 use Rattle.std.specs.Bool.{beq}
 use Rattle.std.specs.List.{list_all, list_any}
-use Rattle.std.proofs.lemmas.List.{get_or_default}
+use Rattle.std.proofs.lemmas.Bool.Decides.{nat_tests}
+use Rattle.std.proofs.lemmas.List.Elements.{All-head, All-tail}
 use Rattle.pv_base.specs.Assignment.{is_same_txn, precedes}
-use Rattle.pv_base.specs.Polyvalue.{Case, names, under, IsCanonical, sure, tested}
+use Rattle.pv_base.specs.Polyvalue.{Case, names, under, IsCanonical, IsPolyvalue, sure, tested}
+use Rattle.pv_base.specs.declared.limits.TheConstants.{HELD_NAMES}
 use Rattle.pv_base.specs.declared.literal.Literal.{Literal}
 use Rattle.pv_base.specs.declared.txn.TxnId.{TxnId}
-use Rattle.pv_replay.specs.Order.{are_in_order, ascends, stands_before}
+use Rattle.pv_law_format.proofs.CaseCount.{polyvalue-few}
+use Rattle.pv_replay.specs.Order.{are_in_order, ascends, looks_canonical, stands_before}
 
 beq_self : (b : Bool) → beq b b ≡ true
 beq_self true = refl
@@ -71,28 +74,48 @@ canonical_order cases (sure value) = refl
 canonical_order cases (tested txn front back front_is back_is front_later back_later differ) =
     order_both txn front back (order_under txn false front ∙ canonical_order front front_is) (order_under txn true back ∙ canonical_order back back_is)
 
--- In such an order each case stands before the next one.
-pub order_at : (cases : List (Case ℤ)) (k : ℕ) (d : Case ℤ) → are_in_order cases ≡ true → suc k < length cases
-    → stands_before (get_or cases k d).when (get_or cases (suc k) d).when ≡ true
-order_at [] k d order inside = absurd (omega arith)
-order_at (case ∷ []) k d order inside = absurd (omega arith)
-order_at (case ∷ next ∷ cases) zero d order inside = left_true (stands_before case.when next.when) (are_in_order (next ∷ cases)) order
-order_at (case ∷ next ∷ cases) (suc k) d order inside =
-    order_at (next ∷ cases) k d (right_true (stands_before case.when next.when) (are_in_order (next ∷ cases)) order) (omega arith)
+-- Cases from a place on are in order, by the first two of them and the rest.
+order_from : (cases : List (Case ℤ)) (k : ℕ) (left right : Case ℤ) → suc k < length cases → left ≡ get_or cases k left → right ≡ get_or cases (suc k) right
+    → are_in_order (drop k cases) ≡ (stands_before left.when right.when && are_in_order (drop (suc k) cases))
+order_from [] k left right inside left_is right_is = absurd (omega arith)
+order_from (case ∷ []) k left right inside left_is right_is = absurd (omega arith)
+order_from (case ∷ next ∷ cases) zero left right inside left_is right_is =
+    λ i. stands_before ((sym left_is) i).when ((sym right_is) i).when && are_in_order (next ∷ cases)
+order_from (case ∷ next ∷ cases) (suc k) left right inside left_is right_is = order_from (next ∷ cases) k left right (omega arith) left_is right_is
 
--- Conditions of neighbours that don't stand so aren't those of cases in order.
-pub order_broken : (cases : List (Case ℤ)) (place : ℕ) (left right : Case ℤ) (first second : List Literal) → 0 < place → place < length cases
-    → left ≡ get_or cases (place - 1) left → right ≡ get_or cases place right → first ≡ left.when → second ≡ right.when
-    → stands_before first second ≡ false → are_in_order cases ≡ true → ⊥
-order_broken cases place left right first second some inside left_is right_is first_is second_is broken order =
+order_step : (cases : List (Case ℤ)) (place : ℕ) (left right : Case ℤ) → 0 < place → place < length cases → left ≡ get_or cases (place - 1) left
+    → right ≡ get_or cases place right → are_in_order (drop (place - 1) cases) ≡ (stands_before left.when right.when && are_in_order (drop place cases))
+order_step cases place left right some inside left_is right_is =
     let next : suc (place - 1) ≡ place = omega arith in
-    let stands = order_at cases (place - 1) left order (omega arith) in
-    let left_when : first ≡ (get_or cases (place - 1) left).when = first_is ∙ ap (λ (case : Case ℤ). case.when) left_is in
-    let right_when : second ≡ (get_or cases (suc (place - 1)) left).when =
-    second_is ∙ ap (λ (case : Case ℤ). case.when) (right_is ∙ get_or_default cases place right left inside)
-    ∙ ap (λ n. (get_or cases n left).when) (sym next) in
-    let both : stands_before first second ≡ true = (λ i. stands_before (left_when i) (right_when i)) ∙ stands in
-    cc
+    order_from cases (place - 1) left right (omega arith) left_is (right_is ∙ ap (λ n. get_or cases n right) (sym next))
+    ∙ ap (λ n. stands_before left.when right.when && are_in_order (drop n cases)) next
+
+module _ (cases : List (Case ℤ)) (place : ℕ) (left right : Case ℤ) (first second : List Literal) (some : 0 < place) (inside : place < length cases)
+    (left_is : left ≡ get_or cases (place - 1) left) (right_is : right ≡ get_or cases place right) (first_is : first ≡ left.when) (second_is : second ≡ right.when)
+    (sofar : are_in_order (drop (place - 1) cases) ≡ are_in_order cases) where
+  step_by : (stands : Bool) → stands ≡ stands_before first second → are_in_order cases ≡ (stands && are_in_order (drop place cases))
+  step_by stands is =
+      sym sofar ∙ order_step cases place left right some inside left_is right_is
+      ∙ (λ i. stands_before ((sym first_is) i) ((sym second_is) i) && are_in_order (drop place cases)) ∙ ap (λ b. b && are_in_order (drop place cases)) (sym is)
+
+  -- One case doesn't stand before the next one.
+  pub order_breaks : (stands : Bool) → stands ≡ stands_before first second → stands ≡ false → false ≡ are_in_order cases
+  order_breaks stands is wrong = sym (step_by stands is ∙ ap (λ b. b && are_in_order (drop place cases)) wrong)
+
+  -- It does, so all depends on those from the next one on.
+  pub order_goes_on : (stands : Bool) → stands ≡ stands_before first second → stands ≡ true → are_in_order (drop ((place + 1) - 1) cases) ≡ are_in_order cases
+  order_goes_on stands is holds =
+      let same : (place + 1) - 1 ≡ place = omega arith in
+      ap (λ n. are_in_order (drop n cases)) same ∙ sym (step_by stands is ∙ ap (λ b. b && are_in_order (drop place cases)) holds)
+
+-- Less than two cases are in order.
+pub order_end : (cases : List (Case ℤ)) (k : ℕ) → length cases ≤ suc k → are_in_order (drop k cases) ≡ true
+order_end [] zero short = refl
+order_end [] (suc k) short = refl
+order_end (case ∷ []) zero short = refl
+order_end (case ∷ []) (suc k) short = order_end [] k (omega arith)
+order_end (case ∷ next ∷ cases) zero short = absurd (omega arith)
+order_end (case ∷ next ∷ cases) (suc k) short = order_end (next ∷ cases) k (omega arith)
 
 module _ (txn : TxnId) (outcome : Bool) where
   -- A condition with an earlier transaction in front still ascends.
@@ -129,3 +152,22 @@ canonical_ascend cases (sure value) = refl
 canonical_ascend cases (tested txn front back front_is back_is front_later back_later differ) =
     all_append (under txn false front) (under txn true back)
     (all_ascend_under txn false front front_later (canonical_ascend front front_is)) (all_ascend_under txn true back back_later (canonical_ascend back back_is))
+
+all_few : (cases : List (Case ℤ)) → All (λ (case : Case ℤ). length case.when ≤ HELD_NAMES) cases → list_all (λ (case : Case ℤ). nat_le (length case.when) HELD_NAMES) cases ≡ true
+all_few [] few = refl
+all_few (case ∷ cases) few =
+    let here : length case.when ≤ HELD_NAMES = All-head (λ (other : Case ℤ). length other.when ≤ HELD_NAMES) case cases few in
+    both_true (nat_le (length case.when) HELD_NAMES) (list_all (λ (other : Case ℤ). nat_le (length other.when) HELD_NAMES) cases)
+    (grind (arith, nat_tests)) (all_few cases (All-tail (λ (other : Case ℤ). length other.when ≤ HELD_NAMES) case cases few))
+
+-- A polyvalue's cases look like one's.
+pub polyvalue_looks : (cases : List (Case ℤ)) → IsPolyvalue HELD_NAMES cases → looks_canonical cases ≡ true
+polyvalue_looks cases is =
+    let few = polyvalue-few HELD_NAMES cases is in
+    let count : length cases ≤ 256 = omega (arith, few.count) in
+    both_true (nat_le (length cases) 256 && list_all (λ (case : Case ℤ). nat_le (length case.when) HELD_NAMES) cases && list_all (λ (case : Case ℤ). ascends case.when) cases)
+    (are_in_order cases)
+    (both_true (nat_le (length cases) 256 && list_all (λ (case : Case ℤ). nat_le (length case.when) HELD_NAMES) cases) (list_all (λ (case : Case ℤ). ascends case.when) cases)
+    (both_true (nat_le (length cases) 256) (list_all (λ (case : Case ℤ). nat_le (length case.when) HELD_NAMES) cases) (grind (arith, nat_tests)) (all_few cases few.literals))
+    (canonical_ascend cases is.canonical))
+    (canonical_order cases is.canonical)

@@ -1,5 +1,5 @@
 -- What is told of cases that are refused.
-use Rattle.std.proofs.Common.{◌≡◌, ℕ, ℤ, List, Option, Some, None, IfSome, MatchOption, sym, subst, refl}
+use Rattle.std.proofs.Common.{◌≡◌, ℤ, List, Option, Some, None, IfSome, MatchOption, sym, subst}
 use Rattle.pv_base.specs.CaseFaults.{CaseFault, IsCanonicalFault}
 use Rattle.pv_base.specs.declared.limits.TheConstants.{HELD_NAMES}
 use Rattle.pv_base.specs.Polyvalue.{Case, IsPolyvalue}

@@ -1,8 +1,10 @@
 -- The order in which a decision tree has its leaves.
-use Rattle.std.specs.Prelude.{ℤ, Bool, true, false, not, ◌&&◌, List, [], ◌∷◌, if◌then◌else◌}
+use Rattle.std.specs.Prelude.{ℤ, Bool, true, false, not, ◌&&◌, nat_le, List, [], ◌∷◌, length, if◌then◌else◌}
 use Rattle.std.specs.Bool.{beq}
+use Rattle.std.specs.List.{list_all}
 use Rattle.pv_base.specs.Assignment.{is_same_txn, precedes}
 use Rattle.pv_base.specs.Polyvalue.{Case}
+use Rattle.pv_base.specs.declared.limits.TheConstants.{HELD_NAMES}
 use Rattle.pv_base.specs.declared.literal.Literal.{Literal}
 
 -- The conditions are the same up to a transaction that doesn't commit in the first one, and commits in the second.
@@ -24,3 +26,8 @@ abbrev pub ascends : List Literal → Bool
 ascends [] = true
 ascends (literal ∷ []) = true
 ascends (literal ∷ next ∷ literals) = precedes literal.txn next.txn && ascends (next ∷ literals)
+
+-- Cases look like the leaves of a decision tree: they are few, with few literals each, whose transactions ascend, and they are in order.
+abbrev pub looks_canonical : List (Case ℤ) → Bool
+looks_canonical cases =
+    nat_le (length cases) 256 && list_all (λ case. nat_le (length case.when) HELD_NAMES) cases && list_all (λ case. ascends case.when) cases && are_in_order cases

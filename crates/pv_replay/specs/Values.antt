@@ -14,7 +14,7 @@ record_of (Epoch epoch) = epoch_begun epoch
 record_of (Prepared txn writes) = prepared txn writes.items
 record_of (Outcome txn commits) = outcome_known txn commits
 
--- The index of the content that the error tells, unless it is want of memory.
+-- The index of the content that is no record; none where there was no memory.
 abbrev pub index_of : ReplayError → Option ℕ
 index_of (BadRecord index) = Some index
 index_of NoMemory = None

@@ -11,14 +11,14 @@ use pv_bytes::{Put, Take};
 
 /// Writes a truth value.
 pub fn put_truth(put: &mut Put, truth: bool) -> Result<(), NoMemory>
-    ensures { (bytes : List ℕ) → IsTruth truth bytes → OnOk result (put.new ≡ put.old ++ bytes) }
+    ensures { (bytes : List ℕ) → IsTruth truth bytes → OnOk result (put.new.bytes ≡ put.old.bytes ++ bytes) }
 {
     put.u8(u8::from(truth))
 }
 
 /// Writes a transaction.
 pub fn put_txn(put: &mut Put, txn: TxnId) -> Result<(), NoMemory>
-    ensures { (bytes : List ℕ) → SpellsTxn txn bytes → OnOk result (put.new ≡ put.old ++ bytes) }
+    ensures { (bytes : List ℕ) → SpellsTxn txn bytes → OnOk result (put.new.bytes ≡ put.old.bytes ++ bytes) }
 {
     put.u8(txn.site.0)?;
     put.u32(txn.epoch)?;

@@ -1,9 +1,8 @@
-// What can be told of cases before they are put together: canonical ones are the leaves of a decision tree, from left to right.
-ghost use Rattle.std.specs.Prelude.{◌≡◌, ◌≤◌, true, length, All, IsTrue};
+// A quick test of cases before they are put together: canonical ones are the leaves of a decision tree, from left to right.
+ghost use Rattle.std.specs.Prelude.{◌≡◌, nat_le, length};
 ghost use Rattle.std.specs.List.{list_all};
-ghost use Rattle.pv_base.specs.Polyvalue.{IsPolyvalue};
 ghost use Rattle.pv_base.specs.declared.limits.TheConstants.{HELD_NAMES};
-ghost use Rattle.pv_replay.specs.Order.{are_in_order, ascends, stands_before};
+ghost use Rattle.pv_replay.specs.Order.{are_in_order, ascends, looks_canonical, stands_before};
 
 use pv_base::{Case, HELD_NAMES, Literal};
 
@@ -14,7 +13,7 @@ const MAX_CASES: usize = 256;
 /// transactions are few and ascend, and each case stands before the next one. Takes time in proportion to the cases, where these are many no more
 /// than it takes to count them. So many cases are never put together, or their transactions sorted, only to be refused.
 pub fn look_canonical(cases: &[Case<i64>]) -> bool
-    ensures { IsPolyvalue HELD_NAMES cases.now → result ≡ true }
+    ensures { result ≡ looks_canonical cases.now }
 {
     if cases.len() > MAX_CASES {
         return false;
@@ -30,14 +29,11 @@ pub fn look_canonical(cases: &[Case<i64>]) -> bool
 
 // Whether each case has no more literals than a polyvalue may name transactions.
 fn have_few_literals(cases: &[Case<i64>]) -> bool
-    ensures { All (λ case. length case.when ≤ HELD_NAMES) cases.now → result ≡ true }
+    ensures { result ≡ list_all (λ case. nat_le (length case.when) HELD_NAMES) cases.now }
 {
-    for case in cases {
-        if case.when.len() > HELD_NAMES as usize {
-            return false;
-        }
-    }
-    true
+    cases
+        .iter()
+        .all(|case| case.when.len() <= HELD_NAMES as usize)
 }
 
 // Whether each condition's transactions ascend.
@@ -62,7 +58,7 @@ fn ascends(when: &[Literal]) -> bool
 
 // Whether each case stands before the next one.
 fn are_in_order(cases: &[Case<i64>]) -> bool
-    ensures { IsTrue (are_in_order cases.now) → result ≡ true }
+    ensures { result ≡ are_in_order cases.now }
 {
     for place in 1..cases.len() {
         let left = &cases[place - 1];

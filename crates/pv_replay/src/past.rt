@@ -22,14 +22,14 @@ pub struct Past {
     pub records: Vec<Record>,
 }
 
-/// The records that these contents spell, in order. Where some content is no record, the first such one is told. Takes time in proportion to
-/// the bytes.
+/// The records that these contents spell, in order. Where some content is no record, the answer is the first such one. Takes time in
+/// proportion to the bytes.
 pub fn replay(alloc: Global, contents: &[Vec<u8>]) -> Result<Past, ReplayError>
     ensures answer { Answers (λ records. SpellRecords records (contents_of contents.now)) (IsFirstBadContent (contents_of contents.now))
         (λ past. records_of past.records.items) index_of result }
     ensures epoch { IfOk result (λ past. past.epoch ≡ last_epoch (records_of past.records.items)) }
 {
-    tell_bytes(contents);
+    contents_are_bytes(contents);
     let mut epoch = 0;
     let mut records = Vec::new(alloc);
     for content in contents {
@@ -44,26 +44,28 @@ pub fn replay(alloc: Global, contents: &[Vec<u8>]) -> Result<Past, ReplayError>
     Ok(Past { epoch, records })
 }
 
-// Says that contents are bytes, so that there is exactly one answer to them. That is known of each content when it is a slice, and of all by
-// going through them. It computes nothing.
-fn tell_bytes(contents: &[Vec<u8>])
+// Shows that each item of each content is below 256, without which a content may have neither a record nor a fault. It computes nothing. The
+// loop can't be spared: the toolchain knows the items of a slice to be in range, but of those of a `Vec` in a slice it knows nothing until
+// they are seen as a slice too. That has to be known of all contents before the first is read, since the contract says that they have
+// exactly one answer also where the call ends early, for want of memory or at a content that is no record.
+fn contents_are_bytes(contents: &[Vec<u8>])
     ensures { All AreBytes (contents_of contents.now) }
 {
     for content in contents {
-        tell_bytes_of(content);
+        content_is_bytes(content);
     }
 }
 
-// Says that a content is bytes. It computes nothing.
-fn tell_bytes_of(content: &[u8])
+// Shows that each item of a content is below 256. It computes nothing.
+fn content_is_bytes(content: &[u8])
     ensures { AreBytes content.now }
 {}
 
 // The greater of this epoch and the record's, if it has one.
-fn later_epoch(epoch: u32, record: &Record) -> u32
-    ensures { result ≡ max epoch (last_epoch (record_of record.now ∷ [])) }
+fn later_epoch(epoch: u32, value: &Record) -> u32
+    ensures { result ≡ max epoch (last_epoch (record_of value.now ∷ [])) }
 {
-    match record {
+    match value {
         Record::Epoch(number) => epoch.max(*number),
         _ => epoch,
     }

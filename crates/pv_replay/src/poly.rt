@@ -16,14 +16,15 @@ use crate::fields::{put_truth, put_txn, take_truth, take_txn};
 use crate::order::look_canonical;
 use pv_base::{Case, CaseError, Literal, NoMemory};
 use pv_bytes::{Put, Take};
-use pv_poly::{Poly, no_canonical_fault};
+use pv_cases::no_canonical_fault;
+use pv_poly::Poly;
 use std::alloc::Global;
 
 /// Writes a polyvalue that some bytes spell. Takes time in proportion to these bytes. After a refusal the `Put` holds a part of them, and is to
 /// be dropped.
 pub fn put_poly(put: &mut Put, value: &Poly<i64>) -> Result<(), NoMemory>
     requires { (bytes : List ℕ) × SpellsPolyvalue value.now bytes }
-    ensures { (bytes : List ℕ) → SpellsPolyvalue value.now bytes → OnOk result (put.new ≡ put.old ++ bytes) }
+    ensures { (bytes : List ℕ) → SpellsPolyvalue value.now bytes → OnOk result (put.new.bytes ≡ put.old.bytes ++ bytes) }
 {
     let cases = value.cases();
     put.u16(cases.len() as u16)?;
@@ -33,7 +34,7 @@ pub fn put_poly(put: &mut Put, value: &Poly<i64>) -> Result<(), NoMemory>
 // Writes the cases, one after another.
 fn put_cases(put: &mut Put, cases: &[Case<i64>]) -> Result<(), NoMemory>
     requires { All (λ case. length case.when < 256) cases.now }
-    ensures { (bytes : List ℕ) → SpellsEach SpellsCase cases.now bytes → OnOk result (put.new ≡ put.old ++ bytes) }
+    ensures { (bytes : List ℕ) → SpellsEach SpellsCase cases.now bytes → OnOk result (put.new.bytes ≡ put.old.bytes ++ bytes) }
 {
     for case in cases {
         put_case(put, case)?;
@@ -44,7 +45,7 @@ fn put_cases(put: &mut Put, cases: &[Case<i64>]) -> Result<(), NoMemory>
 // Writes a case.
 fn put_case(put: &mut Put, case: &Case<i64>) -> Result<(), NoMemory>
     requires { length case.now.when < 256 }
-    ensures { (bytes : List ℕ) → SpellsCase case.now bytes → OnOk result (put.new ≡ put.old ++ bytes) }
+    ensures { (bytes : List ℕ) → SpellsCase case.now bytes → OnOk result (put.new.bytes ≡ put.old.bytes ++ bytes) }
 {
     put.u8(case.when.len() as u8)?;
     put_literals(put, &case.when)?;
@@ -53,7 +54,7 @@ fn put_case(put: &mut Put, case: &Case<i64>) -> Result<(), NoMemory>
 
 // Writes the literals, one after another.
 fn put_literals(put: &mut Put, when: &[Literal]) -> Result<(), NoMemory>
-    ensures { (bytes : List ℕ) → SpellsEach SpellsLiteral when.now bytes → OnOk result (put.new ≡ put.old ++ bytes) }
+    ensures { (bytes : List ℕ) → SpellsEach SpellsLiteral when.now bytes → OnOk result (put.new.bytes ≡ put.old.bytes ++ bytes) }
 {
     for literal in when {
         put_literal(put, *literal)?;
@@ -63,13 +64,13 @@ fn put_literals(put: &mut Put, when: &[Literal]) -> Result<(), NoMemory>
 
 // Writes a literal.
 fn put_literal(put: &mut Put, literal: Literal) -> Result<(), NoMemory>
-    ensures { (bytes : List ℕ) → SpellsLiteral literal bytes → OnOk result (put.new ≡ put.old ++ bytes) }
+    ensures { (bytes : List ℕ) → SpellsLiteral literal bytes → OnOk result (put.new.bytes ≡ put.old.bytes ++ bytes) }
 {
     put_truth(put, literal.commits)?;
     put_txn(put, literal.txn)
 }
 
-/// Reads a polyvalue. The first fault in reading order is told: a field that isn't whole, or isn't in its range; or, where all of the
+/// Reads a polyvalue. A refusal is the first fault in reading order: a field that isn't whole, or isn't in its range; or, where all of the
 /// fields are read, that they are no polyvalue in canonical form. Takes time in proportion to the bytes that it reads. After a refusal the `Take`
 /// stands somewhere within them, and is to be dropped.
 pub fn take_poly(alloc: Global, take: &mut Take<'_>) -> Result<Poly<i64>, PolyError>
@@ -78,7 +79,7 @@ pub fn take_poly(alloc: Global, take: &mut Take<'_>) -> Result<Poly<i64>, PolyEr
     ensures passes { IfOk result (λ poly. Passes (SpellsPolyvalue poly) polyvalue_then take.old take.new) }
     ensures stops { IfErr result (λ e. Stops polyvalue_then take.old (fault_of e)) }
 {
-    // That what is left is bytes is known by this call: every list of bytes has one answer.
+    // Only bytes have exactly one answer, as the contract says. That what is left is bytes, `place` promises, and nothing else shows it here.
     let _ = take.place();
     read_poly(alloc, take)
 }
@@ -100,7 +101,7 @@ fn read_poly(alloc: Global, take: &mut Take<'_>) -> Result<Poly<i64>, PolyError>
     }
 }
 
-// What is told of the polyvalue at this place, where its cases are refused for this cause.
+// The refusal of the polyvalue at this place, where its cases are refused for this cause.
 fn refusal(cause: &CaseError, place: usize) -> PolyError
     ensures { MatchOption (case_fault_of cause.now) (result ≡ PolyError.NoMemory) (λ _. result ≡ PolyError.BadPoly place) }
 {
@@ -130,7 +131,7 @@ fn take_counted_cases(
     ensures stops { IfErr result (λ e. Stops (repeated count case_layout) take.old (fault_of e)) }
 {
     let mut cases = Vec::new(alloc);
-    'reading: while cases.len() < usize::from(count) {
+    while cases.len() < usize::from(count) {
         cases.push(take_case(alloc, take)?)?;
     }
     Ok(cases)
@@ -154,7 +155,7 @@ fn take_literals(alloc: Global, take: &mut Take<'_>, count: u8) -> Result<Vec<Li
     ensures stops { IfErr result (λ e. Stops (repeated count literal_layout) take.old (fault_of e)) }
 {
     let mut when = Vec::new(alloc);
-    'reading: while when.len() < usize::from(count) {
+    while when.len() < usize::from(count) {
         when.push(take_literal(take)?)?;
     }
     Ok(when)

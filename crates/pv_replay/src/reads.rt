@@ -21,7 +21,7 @@ use std::alloc::Global;
 /// part of them, and is to be dropped.
 pub fn put_reads(put: &mut Put, reads: &[Read]) -> Result<(), NoMemory>
     requires { (fewest : ℕ) × (bytes : List ℕ) × SpellsReads fewest reads.now bytes }
-    ensures { (fewest : ℕ) (bytes : List ℕ) → SpellsReads fewest reads.now bytes → OnOk result (put.new ≡ put.old ++ bytes) }
+    ensures { (fewest : ℕ) (bytes : List ℕ) → SpellsReads fewest reads.now bytes → OnOk result (put.new.bytes ≡ put.old.bytes ++ bytes) }
 {
     put.u8(reads.len() as u8)?;
     for read in reads {
@@ -33,13 +33,13 @@ pub fn put_reads(put: &mut Put, reads: &[Read]) -> Result<(), NoMemory>
 // Writes an item and its polyvalue.
 fn put_read(put: &mut Put, read: &Read) -> Result<(), NoMemory>
     requires { (bytes : List ℕ) × SpellsPolyvalue read.now.cases bytes }
-    ensures { (bytes : List ℕ) → SpellsEntry (λ (entry : model.Read). SpellsPolyvalue entry.cases) (λ entry. entry.item) read.now bytes → OnOk result (put.new ≡ put.old ++ bytes) }
+    ensures { (bytes : List ℕ) → SpellsEntry (λ (entry : model.Read). SpellsPolyvalue entry.cases) (λ entry. entry.item) read.now bytes → OnOk result (put.new.bytes ≡ put.old.bytes ++ bytes) }
 {
     put.u32(read.item.0)?;
     put_poly(put, &read.value)
 }
 
-/// Reads items with their polyvalues, at least so many. The first fault in reading order is told. Takes time in proportion to the
+/// Reads items with their polyvalues, at least so many. A refusal is the first fault in reading order. Takes time in proportion to the
 /// bytes that it reads. After a refusal the `Take` stands somewhere within them, and is to be dropped.
 pub fn take_reads(alloc: Global, take: &mut Take<'_>, fewest: u8) -> Result<Vec<Read>, PolyError>
     ensures passes { IfOk result (λ reads. Passes (SpellsReads fewest reads.items) (counted_layout fewest polyvalue_then) take.old take.new) }
@@ -58,7 +58,7 @@ fn take_counted_reads(alloc: Global, take: &mut Take<'_>, count: u8) -> Result<V
 {
     let mut reads = Vec::new(alloc);
     let mut least = 0;
-    'reading: while reads.len() < usize::from(count) {
+    while reads.len() < usize::from(count) {
         let item = take_item(take, least)?;
         let value = take_poly(alloc, take)?;
         reads.push(Read { item, value })?;

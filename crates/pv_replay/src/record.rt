@@ -51,7 +51,7 @@ pub fn encode_record(alloc: Global, value: &Record) -> Result<Vec<u8>, NoMemory>
 // Writes a record.
 fn put_record(put: &mut Put, value: &Record) -> Result<(), NoMemory>
     requires { (bytes : List ℕ) × SpellsRecord (record_of value.now) bytes }
-    ensures { (bytes : List ℕ) → SpellsRecord (record_of value.now) bytes → OnOk result (put.new ≡ put.old ++ bytes) }
+    ensures { (bytes : List ℕ) → SpellsRecord (record_of value.now) bytes → OnOk result (put.new.bytes ≡ put.old.bytes ++ bytes) }
 {
     match value {
         Record::Epoch(epoch) => {

@@ -172,7 +172,7 @@ fn poly_again(alloc: Global, bytes: &[u8]) -> Result<Option<Vec<u8>>, NoMemory> 
     }
 }
 
-// What is said of bytes that begin with no polyvalue.
+// The refusal of bytes that begin with no polyvalue.
 fn refusal(alloc: Global, hex: &str) -> Result<Option<PolyError>, AllocFailed<u8>> {
     let bytes = bytes_of(alloc, hex)?;
     let mut take = Take::new(&bytes);
@@ -180,7 +180,26 @@ fn refusal(alloc: Global, hex: &str) -> Result<Option<PolyError>, AllocFailed<u8
 }
 
 #[test]
-fn the_first_fault_is_told(rt: HostRuntime) -> Result<(), Fail> {
+fn a_sure_value_is_the_end_of_its_promise(rt: HostRuntime) -> Result<(), Fail> {
+    let alloc = rt.alloc();
+    let promise = bytes_of(
+        alloc,
+        "02 00 00000001 00000000 01 00000000 0001 00 0000000000000065",
+    )?;
+    assert_eq!(rt; promise.len(), 26);
+    let last = &promise[15..];
+    let mut take = Take::new(last);
+    let value = take_poly(alloc, &mut take)?;
+    let sure = Poly::sure(alloc, 101i64)?;
+    assert!(rt;
+        format!(in alloc; "{sure:?}")?.as_str() == format!(in alloc; "{value:?}")?.as_str()
+    );
+    assert!(rt; poly_again(alloc, last)?.is_some_and(|written| written.as_slice() == last));
+    Ok(())
+}
+
+#[test]
+fn the_first_fault_is_answered(rt: HostRuntime) -> Result<(), Fail> {
     let alloc = rt.alloc();
     for (hex, error) in [
         ("", PolyError::Short(0)),
@@ -221,11 +240,12 @@ fn the_first_fault_is_told(rt: HostRuntime) -> Result<(), Fail> {
     Ok(())
 }
 
-// As many cases as a count can tell: eight that ask for the outcome of one transaction each, and then cases that are always met.
-fn many_cases(alloc: Global) -> Result<Vec<u8>, NoMemory> {
+// So many cases: eight that ask for the outcome of one transaction each, and then cases that are always met. They name eight transactions, and
+// each overlaps each other one.
+fn many_cases(alloc: Global, count: u16) -> Result<Vec<u8>, NoMemory> {
     let mut put = Put::new(alloc);
-    put.u16(65_535)?;
-    for number in 0..65_535u32 {
+    put.u16(count)?;
+    for number in 0..u32::from(count) {
         if number < 8 {
             put.u8(1)?;
             put.u8(1)?;
@@ -240,14 +260,27 @@ fn many_cases(alloc: Global) -> Result<Vec<u8>, NoMemory> {
     Ok(put.done())
 }
 
+// Whether so many cases are refused, each of twenty times. `bench/cases` times the two tests that follow.
+fn are_refused(alloc: Global, count: u16) -> Result<bool, NoMemory> {
+    let bytes = many_cases(alloc, count)?;
+    for _ in 0..20 {
+        let mut take = Take::new(&bytes);
+        if take_poly(alloc, &mut take).err() != Some(PolyError::BadPoly(0)) {
+            return Ok(false);
+        }
+    }
+    Ok(true)
+}
+
 #[test]
-fn many_cases_that_overlap_are_refused(rt: HostRuntime) -> Result<(), Fail> {
-    let alloc = rt.alloc();
-    let bytes = many_cases(alloc)?;
-    let mut take = Take::new(&bytes);
-    assert_eq!(rt;
-        take_poly(alloc, &mut take).err(),
-        Some(PolyError::BadPoly(0))
-    );
+fn refuses_6_553_cases(rt: HostRuntime) -> Result<(), Fail> {
+    assert!(rt; are_refused(rt.alloc(), 6_553)?);
+    Ok(())
+}
+
+// As many as a count can say.
+#[test]
+fn refuses_65_535_cases(rt: HostRuntime) -> Result<(), Fail> {
+    assert!(rt; are_refused(rt.alloc(), 65_535)?);
     Ok(())
 }

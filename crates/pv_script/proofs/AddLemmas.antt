@@ -9,9 +9,9 @@ use Rattle.pv_base.specs.Name.{is_name}
 use Rattle.pv_base.specs.Catalog.{Declared, place_of, refusal, refusal_of_taken, refusal_of_new}
 use Rattle.pv_base.specs.declared.catalog.CatalogError.{CatalogError}
 use Rattle.pv_base.specs.declared.catalog.CatalogError.TheVariants.{BadName, NameTaken, NoSite, TooMany, NoMemory}
-use Rattle.pv_model.specs.Causes.{Before}
+use Rattle.pv_model.specs.LineCauses.{Before}
 use Rattle.pv_model.specs.LineForms.{Field, site, value, name, has_good_number}
-use Rattle.pv_script.specs.Faults.{texts, fault_of_catalog, IsFieldFault, IsLineFault}
+use Rattle.pv_script.specs.LineFaults.{texts, fault_of_catalog, IsFieldFault, IsLineFault}
 use Rattle.pv_script.specs.declared.schedule.LineCause.TheVariants.{WrongCount, BadNumber}
 use Rattle.pv_script.proofs.HeadLemmas.{IsItemLine, IsLineFault-bad_name, IsLineFault-taken, IsLineFault-full}
 
@@ -32,18 +32,18 @@ why-new : (catalog : Declared) (word : List ℕ) (n : ℕ) (e : CatalogError) �
 why-new catalog word n e named free is = go (nat_le catalog.sites n) refl (nat_le MAX_ITEMS (length catalog.items)) refl is
   where
     go : (a : Bool) → nat_le catalog.sites n ≡ a → (b : Bool) → nat_le MAX_ITEMS (length catalog.items) ≡ b → cond a (Some NoSite) (cond b (Some TooMany) None) ≡ Some e → Why catalog word n e
-    go true no_site b room told = subst (Why catalog word n) (same_error NoSite e told) (away (leb-true catalog.sites n no_site))
-    go false some_site true many told = subst (Why catalog word n) (same_error TooMany e told) (full named free (leb-true MAX_ITEMS (length catalog.items) many))
-    go false some_site false few told = absurd (no_error e told)
+    go true no_site b room reported = subst (Why catalog word n) (same_error NoSite e reported) (away (leb-true catalog.sites n no_site))
+    go false some_site true many reported = subst (Why catalog word n) (same_error TooMany e reported) (full named free (leb-true MAX_ITEMS (length catalog.items) many))
+    go false some_site false few reported = absurd (no_error e reported)
 
 why : (catalog : Declared) (word : List ℕ) (n : ℕ) (e : CatalogError) → refusal catalog word n ≡ Some e → Why catalog word n e
 why catalog word n e is = go (is_name word) refl (place_of word catalog.items) refl is
   where
     go : (b : Bool) → is_name word ≡ b → (place : Option ℕ) → place_of word catalog.items ≡ place
         → cond b (option_map_or refusal_of_taken place (refusal_of_new catalog n)) (Some BadName) ≡ Some e → Why catalog word n e
-    go false unnamed place at told = subst (Why catalog word n) (same_error BadName e told) (bad unnamed)
-    go true named (Some k) at told = subst (Why catalog word n) (same_error (NameTaken (record { 0 = k })) e told) (taken k named at)
-    go true named None at told = why-new catalog word n e named at told
+    go false unnamed place at reported = subst (Why catalog word n) (same_error BadName e reported) (bad unnamed)
+    go true named (Some k) at reported = subst (Why catalog word n) (same_error (NameTaken (record { 0 = k })) e reported) (taken k named at)
+    go true named None at reported = why-new catalog word n e named at reported
 
 some_place : (k : ℕ) (place : Option ℕ) → place ≡ Some k → place ≡ None → ⊥
 some_place k place is none = cc

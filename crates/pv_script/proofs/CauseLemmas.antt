@@ -5,13 +5,13 @@ use Rattle.std.specs.List.{list_all, Contains}
 use Rattle.std.proofs.lemmas.Option.{none-some}
 use Rattle.std.proofs.lemmas.Bool.{both_ways}
 use Rattle.pv_base.specs.declared.limits.TheConstants.{MAX_LINE}
-use Rattle.pv_model.specs.Causes as model
-use Rattle.pv_model.specs.Causes.{Before, too_long, not_text, sites_expected, unknown_word, twice, too_late, wrong_count, bad_number, bad_mode, bad_name, name_taken, too_many_items, at_program, names_no_item, too_many_names, query_assigns, line_cause_rank, HasLineCause, or_default}
-use Rattle.pv_model.specs.LineForms.{Field, mode, first_of, first_word, forms_of, takes_program, site_and_text, program_text, arguments, form_of, fields_in, fields_of, has_good_number}
+use Rattle.pv_model.specs.LineCauses as model
+use Rattle.pv_model.specs.LineCauses.{Before, too_long, not_text, sites_expected, unknown_word, twice, too_late, wrong_count, bad_number, bad_mode, bad_name, name_taken, too_many_items, at_program, names_no_item, too_many_names, query_assigns, line_cause_rank, HasLineCause, or_default}
+use Rattle.pv_model.specs.LineForms.{Field, mode, leading_word, first_word, forms_of, takes_program, site_and_text, program_text, arguments, form_of, fields_in, fields_of, has_good_number}
 use Rattle.pv_model.specs.ProgramText.{Kind}
 use Rattle.pv_model.specs.Text.{TextLine, is_text_byte, IsText, words}
-use Rattle.pv_script.specs.ScriptErrors.{cause_of}
-use Rattle.pv_script.specs.Faults.{form_among, IsFieldFault, IsLineFault}
+use Rattle.pv_script.specs.ScriptErrors.{line_cause_of}
+use Rattle.pv_script.specs.LineFaults.{form_among, IsFieldFault, IsLineFault}
 use Rattle.pv_script.specs.Said.{IsHead}
 use Rattle.pv_script.specs.declared.fault.Fault.TheVariants.{At}
 use Rattle.pv_script.specs.declared.schedule.LineCause.{LineCause}
@@ -89,20 +89,20 @@ module _ (before : Before) (line : TextLine) where
   none16 none refuted query_assigns has = absurd (refuted has)
   none16 none refuted cause has = let more = none cause has in omega arith
 
--- ---- what is told first
+-- ---- what is reported first
 
-pub told : (before : Before) (line : TextLine) (cause : LineCause) (is : model.LineCause) → cause_of cause ≡ Some is → HasLineCause before line is
+pub reported : (before : Before) (line : TextLine) (cause : LineCause) (is : model.LineCause) → line_cause_of cause ≡ Some is → HasLineCause before line is
     → NoneBefore before line (line_cause_rank is) → IsLineFault before line (At cause)
-told before line cause is same has none = (is, same, record { has = has; first = none })
+reported before line cause is same has none = (is, same, record { has = has; first = none })
 
 pub IsLineFault-long : (before : Before) (line : TextLine) → MAX_LINE < length line → IsLineFault before line (At TooLong)
-IsLineFault-long before line long = told before line TooLong too_long refl long (none0 before line)
+IsLineFault-long before line long = reported before line TooLong too_long refl long (none0 before line)
 
 none-long : (before : Before) (line : TextLine) → length line ≤ MAX_LINE → NoneBefore before line 1
 none-long before line short = none1 before line (λ has. absurd (omega arith))
 
 pub IsLineFault-bytes : (before : Before) (line : TextLine) → length line ≤ MAX_LINE → list_all is_text_byte line ≡ false → IsLineFault before line (At NotText)
-IsLineFault-bytes before line short bytes = told before line NotText not_text refl bytes (none-long before line short)
+IsLineFault-bytes before line short bytes = reported before line NotText not_text refl bytes (none-long before line short)
 
 pub none-text : (before : Before) (line : TextLine) → IsText line → NoneBefore before line 2
 none-text before line is = none2 before line (none-long before line is.short) (λ bytes. both_ways (list_all is_text_byte line) bytes is.bytes)
@@ -113,12 +113,12 @@ none-said before line sites is said = none3 before line (none-text before line i
 
 pub IsLineFault-unknown : (before : Before) (line : TextLine) (sites : ℕ) → IsText line → before.sites ≡ Some sites → forms_of (first_word line) ≡ []
     → IsLineFault before line (At UnknownWord)
-IsLineFault-unknown before line sites is said unknown = told before line UnknownWord unknown_word refl unknown (none-said before line sites is said)
+IsLineFault-unknown before line sites is said unknown = reported before line UnknownWord unknown_word refl unknown (none-said before line sites is said)
 
 -- ---- the words of a line
 
 pub first-line : (line word : List ℕ) (args : List (List ℕ)) → words line ≡ word ∷ args → first_word line ≡ word
-first-line line word args are = ap first_of are
+first-line line word args are = ap leading_word are
 
 pub arguments-line : (line word : List ℕ) (args : List (List ℕ)) → words line ≡ word ∷ args → takes_program word ≡ false → arguments line ≡ args
 unfolding arguments
@@ -158,14 +158,14 @@ none-known before line word args head known =
 pub IsLineFault-fields : (before : Before) (line : TextLine) (word : List ℕ) (args given : List (List ℕ)) (cause : LineCause) → words line ≡ word ∷ args
     → arguments line ≡ given → NoneBefore before line 6 → IsFieldFault (or_default 0 before.sites) (forms_of word) given cause → IsLineFault before line (At cause)
 IsLineFault-fields before line word args given WrongCount are same none fault =
-    told before line WrongCount wrong_count refl (form_of-line line word args given are same ∙ fault) none
+    reported before line WrongCount wrong_count refl (form_of-line line word args given are same ∙ fault) none
 IsLineFault-fields before line word args given BadNumber are same none fault =
-    told before line BadNumber bad_number refl
+    reported before line BadNumber bad_number refl
     (ap (list_all (has_good_number (or_default 0 before.sites))) (fields_of-line line word args given are same) ∙ fault.1)
     (none7 before line none (λ no_form. fault.0 (sym (form_of-line line word args given are same) ∙ no_form)))
 IsLineFault-fields before line word args given BadMode are same none fault =
     let fields = fields_of-line line word args given are same in
-    told before line BadMode bad_mode refl
+    reported before line BadMode bad_mode refl
     (fault.2, subst (λ (fs : List (Field × List ℕ)). Contains fs (mode, fault.2)) (sym fields) fault.3, fault.4)
     (none8 before line (none7 before line none (λ no_form. fault.0 (sym (form_of-line line word args given are same) ∙ no_form)))
     (λ bad. both_ways (list_all (has_good_number (or_default 0 before.sites)) (fields_of line)) bad (ap (list_all (has_good_number (or_default 0 before.sites))) fields ∙ fault.1)))

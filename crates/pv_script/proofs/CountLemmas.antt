@@ -5,7 +5,7 @@ use Rattle.std.specs.Str.Lines.{strip_carriage_return}
 use Rattle.std.proofs.lemmas.List.{length-map}
 use Rattle.std.proofs.lemmas.List.FromFn.{length-enumerate_from}
 use Rattle.std.proofs.lemmas.List.Filters.{length-filter_both}
-use Rattle.pv_model.specs.Causes.{Before}
+use Rattle.pv_model.specs.LineCauses.{Before}
 use Rattle.pv_model.specs.Events as model
 use Rattle.pv_model.specs.Schedule.{AreLines, none, declaration, event, IsSchedule, significant}
 use Rattle.pv_model.specs.Text.{TextLine, lines, numbered, is_significant, parts_that_are_lines}

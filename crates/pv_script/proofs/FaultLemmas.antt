@@ -1,15 +1,15 @@
 -- Lines taken one by one: what they say so far, and the first one at fault.
 use Rattle.std.proofs.Common.{◌≡◌, ℕ, List, [], ◌∷◌, ◌++◌, ◌+◌, length, map, inl, inr, IfSome, refl, sym, ap, subst}
 use Rattle.pv_base.specs.Catalog.{Declared}
-use Rattle.pv_model.specs.Causes.{Before, at_first, LineCause, sites_expected, IsFirstCause}
+use Rattle.pv_model.specs.LineCauses.{Before, at_first, LineCause, sites_expected, IsFirstCause}
 use Rattle.pv_model.specs.Events as model
-use Rattle.pv_model.specs.FirstFault.{without_numbers}
+use Rattle.pv_model.specs.FirstMisplaced.{without_numbers}
 use Rattle.pv_model.specs.Schedule.{Declares, IsEvent, with_event, AreLines, none, declaration, event, IsAtFault, IsMalformedSchedule}
 use Rattle.pv_model.specs.Text.{TextLine, lines, numbered}
 use Rattle.pv_script.specs.ScriptErrors.{IsMalformedAt, refused_line}
-use Rattle.pv_script.specs.Faults.{error_at, IsErrorAt, IsLineFault}
-use Rattle.pv_script.specs.Takes.{Takes, declared, happened}
-use Rattle.pv_script.specs.View.{event_of}
+use Rattle.pv_script.specs.LineFaults.{error_at, IsErrorAt, IsLineFault}
+use Rattle.pv_script.specs.TakesLine.{TakesLine, declared, happened}
+use Rattle.pv_script.specs.ScheduleView.{event_of}
 use Rattle.pv_script.specs.declared.fault.Fault.{Fault}
 use Rattle.pv_script.specs.declared.fault.Fault.TheVariants.{At, NoMemory}
 use Rattle.pv_script.specs.declared.schedule.Event.{Event}
@@ -64,7 +64,7 @@ fault-event before e k line left number cause says is = record {
 
 -- What is first at fault behind a line is so from the line on.
 pub fault-takes : (before after : Before) (catalog : Declared) (old new : List Event) (k : ℕ) (line : TextLine) (left : List (ℕ × TextLine)) (number : ℕ) (cause : LineCause)
-    → Takes before line after catalog old new → IsAtFaultFrom after left number cause → IsAtFaultFrom before ((k, line) ∷ left) number cause
+    → TakesLine before line after catalog old new → IsAtFaultFrom after left number cause → IsAtFaultFrom before ((k, line) ∷ left) number cause
 fault-takes before after catalog old new k line left number cause (declared declares same) is = fault-declares before after k line left number cause declares is
 fault-takes before after catalog old new k line left number cause (happened e says then plan more) is =
     fault-event before (event_of e) k line left number cause says (subst (λ (b : Before). IsAtFaultFrom b left number cause) then is)
@@ -75,7 +75,7 @@ map-snoc (x ∷ old) e more = ap (λ (es : List model.Event). event_of x ∷ es)
 
 -- Whatever is read behind a line is read from the line on.
 pub lines-takes : (before after : Before) (catalog : Declared) (old new : List Event) (line : TextLine) (left whole : List TextLine) (more : List model.Event) (last : Before)
-    → Takes before line after catalog old new
+    → TakesLine before line after catalog old new
     → ((more : List model.Event) (last : Before) → AreLines before (line ∷ left) more last → AreLines at_first whole (map event_of old ++ more) last)
     → AreLines after left more last → AreLines at_first whole (map event_of new ++ more) last
 lines-takes before after catalog old new line left whole more last (declared declares same) so are =
@@ -90,19 +90,19 @@ lines-takes before after catalog old new line left whole more last (happened e s
 
 pub refuses-first : (text : List ℕ) (number : ℕ) (line : TextLine) (rest : List (ℕ × TextLine)) (fault : Fault) → numbered text ≡ (number, line) ∷ rest
     → IsLineFault at_first line fault → IfSome (refused_line (error_at number fault)) (IsMalformedAt text)
-refuses-first text number line rest (At told) split fault =
+refuses-first text number line rest (At reported) split fault =
     (fault.0, fault.1, inl (fault-whole text number fault.0 (subst (λ (all : List (ℕ × TextLine)). IsAtFaultFrom at_first all number fault.0) (sym split) (fault-here at_first number line rest fault.0 fault.2))))
 refuses-first text number line rest NoMemory split fault = tt
 
 pub error-fault : (before : Before) (number : ℕ) (line : TextLine) (fault : Fault) → IsLineFault before line fault → IsErrorAt before number line (error_at number fault)
-error-fault before number line (At told) fault = (refl, fault)
+error-fault before number line (At reported) fault = (refl, fault)
 error-fault before number line NoMemory fault = tt
 
 -- An error of a line of the text refuses the text.
 pub refuses-line : (text : List ℕ) (before : Before) (number : ℕ) (line : TextLine) (rest : List (ℕ × TextLine)) (e : ScriptError)
     → ((n : ℕ) (cause : LineCause) → IsAtFaultFrom before ((number, line) ∷ rest) n cause → IsAtFault text n cause)
     → IsErrorAt before number line e → IfSome (refused_line e) (IsMalformedAt text)
-refuses-line text before number line rest (error.Malformed place told) so is =
+refuses-line text before number line rest (error.Malformed place reported) so is =
     let at = so number is.1.0 (fault-here before number line rest is.1.0 is.1.2) in
     (is.1.0, is.1.1, inl (subst (λ (n : ℕ). IsAtFault text n is.1.0) (sym is.0) at))
 refuses-line text before number line rest error.NoMemory so is = tt

@@ -5,12 +5,12 @@ use Rattle.std.specs.List.{list_all, Contains}
 use Rattle.std.proofs.lemmas.Bool.{and_from, and_left, and_right, le-leb}
 use Rattle.pv_base.specs.declared.limits.TheConstants.{MAX_CALL, MAX_PUMP}
 use Rattle.pv_base.specs.Name.{is_digit}
-use Rattle.pv_model.specs.Causes.{mode_words}
+use Rattle.pv_model.specs.LineCauses.{mode_words}
 use Rattle.pv_model.specs.LineForms.{Field, number, site, value, mode, are_digits, has_good_number}
 use Rattle.pv_model.specs.Meaning.{fits_i64}
 use Rattle.pv_model.specs.Schedule.{IsIn}
-use Rattle.pv_model.specs.Text.{number_of_digits, digits_of, number_of_signed, IsNumber, IsSigned}
-use Rattle.pv_script.specs.Faults.{texts, IsFieldFault}
+use Rattle.pv_model.specs.Text.{number_of_digits, digits_of, number_of_signed, IsDecimal, IsSignedDecimal}
+use Rattle.pv_script.specs.LineFaults.{texts, IsFieldFault}
 use Rattle.pv_script.specs.declared.schedule.LineCause.TheVariants.{BadNumber, BadMode}
 
 are_digits-some : (word : List ℕ) → 0 < length word → IsTrue (list_all is_digit word) → are_digits word ≡ true
@@ -25,13 +25,13 @@ good-number sites least most n word is =
     and_from (are_digits word) (nat_le least (number_of_digits word) && nat_le (number_of_digits word) most) (are_digits-some word is.0.some is.0.digits)
     (and_from (nat_le least (number_of_digits word)) (nat_le (number_of_digits word) most) (le-leb least (number_of_digits word) (rw same at is.1)) (le-leb (number_of_digits word) most (rw same at is.2)))
 
-pub good-site : (sites n : ℕ) (word : List ℕ) → IsNumber word n → n < sites → has_good_number sites (site, word) ≡ true
+pub good-site : (sites n : ℕ) (word : List ℕ) → IsDecimal word n → n < sites → has_good_number sites (site, word) ≡ true
 good-site sites n word is below =
     let same = is.value in
     and_from (are_digits word) (nat_lt (number_of_digits word) sites) (are_digits-some word is.some is.digits)
     (le-leb (suc (number_of_digits word)) sites (omega arith))
 
-pub good-value : (sites : ℕ) (z : ℤ) (word : List ℕ) → IsSigned word z → IsTrue (fits_i64 z) → has_good_number sites (value, word) ≡ true
+pub good-value : (sites : ℕ) (z : ℤ) (word : List ℕ) → IsSignedDecimal word z → IsTrue (fits_i64 z) → has_good_number sites (value, word) ≡ true
 good-value sites z word is fits =
     and_from (are_digits (digits_of word)) (fits_i64 (number_of_signed word)) (are_digits-some (digits_of word) is.some is.digits)
     (ap fits_i64 (sym is.value) ∙ fits)
@@ -69,7 +69,7 @@ pub bad-call : (sites : ℕ) (at call left : List ℕ) → has_good_number sites
 bad-call sites at call left bad =
     (λ none. cc, and_right (has_good_number sites (site, at)) _ (and_left (has_good_number sites (number 1 MAX_CALL, call)) true bad))
 
-pub bad-mode : (sites n k : ℕ) (at call left : List ℕ) → IsNumber at n → n < sites → IsIn 1 MAX_CALL call k → (Contains mode_words left → ⊥)
+pub bad-mode : (sites n k : ℕ) (at call left : List ℕ) → IsDecimal at n → n < sites → IsIn 1 MAX_CALL call k → (Contains mode_words left → ⊥)
     → IsFieldFault sites ArmForms (at ∷ call ∷ left ∷ []) BadMode
 bad-mode sites n k at call left is below within bad =
     (λ none. cc, and_from (has_good_number sites (site, at)) _ (good-site sites n at is below) (and_from (has_good_number sites (number 1 MAX_CALL, call)) true (good-number sites 1 MAX_CALL k call within) refl), left, (2, omega arith, refl), bad)
@@ -85,7 +85,7 @@ pub bad-call-at : (sites : ℕ) (args : List (Bor (List ℕ))) (d : Bor (List �
 bad-call-at sites args d some few bad = rw (texts-three args d d d some few) (bad-call sites (get_or args 0 d).now (get_or args 1 d).now (get_or args 2 d).now bad)
 
 pub bad-mode-at : (sites n k : ℕ) (args : List (Bor (List ℕ))) (d : Bor (List ℕ)) → 3 ≤ length args → length args < 4
-    → IsNumber (get_or args 0 d).now n → n < sites → IsIn 1 MAX_CALL (get_or args 1 d).now k → (Contains mode_words (get_or args 2 d).now → ⊥)
+    → IsDecimal (get_or args 0 d).now n → n < sites → IsIn 1 MAX_CALL (get_or args 1 d).now k → (Contains mode_words (get_or args 2 d).now → ⊥)
     → IsFieldFault sites ArmForms (texts args) BadMode
 bad-mode-at sites n k args d some few is below within bad =
     rw (texts-three args d d d some few) (bad-mode sites n k (get_or args 0 d).now (get_or args 1 d).now (get_or args 2 d).now is below within bad)

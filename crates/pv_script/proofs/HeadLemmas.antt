@@ -8,18 +8,18 @@ use Rattle.std.proofs.lemmas.Slice.Eq.{bytes_eq-Decides}
 use Rattle.pv_base.specs.declared.limits.TheConstants.{MAX_ITEMS, MAX_JOURNAL, MAX_SITES, MIN_JOURNAL}
 use Rattle.pv_base.specs.Name.{is_name}
 use Rattle.pv_base.specs.Catalog.{place_of}
-use Rattle.pv_model.specs.Causes.{Before, at_first, sites_expected, twice, too_late, bad_name, name_taken, too_many_items, BeginsWith, IsSaid, or_default, Has}
+use Rattle.pv_model.specs.LineCauses.{Before, at_first, sites_expected, twice, too_late, bad_name, name_taken, too_many_items, HasFirstWord, IsSaid, or_default, Has}
 use Rattle.pv_model.specs.LineForms.{Field, number, site, value, mode, name, first_word, forms_of, form_of, fields_of, fields_in, has_good_number}
-use Rattle.pv_model.specs.Text.{TextLine, IsText, words, IsNumber, IsSigned}
+use Rattle.pv_model.specs.Text.{TextLine, IsText, words, IsDecimal, IsSignedDecimal}
 use Rattle.pv_model.specs.Meaning.{fits_i64}
-use Rattle.pv_script.specs.Faults.{form_among, IsFieldFault, IsLineFault}
+use Rattle.pv_script.specs.LineFaults.{form_among, IsFieldFault, IsLineFault}
 use Rattle.pv_script.specs.Keywords.{command_word, command_forms}
 use Rattle.pv_script.specs.Said.{IsHead}
 use Rattle.pv_script.specs.declared.keyword.Command as code
 use Rattle.pv_script.specs.declared.fault.Fault.TheVariants.{At}
 use Rattle.pv_script.specs.declared.schedule.LineCause.{LineCause}
 use Rattle.pv_script.specs.declared.schedule.LineCause.TheVariants.{SitesExpected, Twice, TooLate, BadName, NameTaken, TooManyItems}
-use Rattle.pv_script.proofs.CauseLemmas.{NoneBefore, none3, none4, none5, none6, none7, none8, none9, none10, none11, none-text, none-known, told, first-line, arguments-line, form_of-line, fields_of-line, IsLineFault-fields}
+use Rattle.pv_script.proofs.CauseLemmas.{NoneBefore, none3, none4, none5, none6, none7, none8, none9, none10, none11, none-text, none-known, reported, first-line, arguments-line, form_of-line, fields_of-line, IsLineFault-fields}
 use Rattle.pv_script.proofs.KeywordLemmas.{forms-command, plain-command, command-no_sites, command-no_journal, command-no_item, forms-sites, forms-journal, forms-item, plain-sites, plain-journal, plain-item}
 use Rattle.pv_script.proofs.FieldLemmas.{good-site, good-value}
 
@@ -31,7 +31,7 @@ some_forms forms form more is none = cc
 pub differs : (word other : List ℕ) → bytes_eq word other ≡ false → word ≡ other → ⊥
 differs word other refuted same = both_ways (bytes_eq word other) refuted ((bytes_eq-Decides word other).1 same)
 
-pub begins : (line word other : List ℕ) (args : List (List ℕ)) → words line ≡ word ∷ args → (word ≡ other → ⊥) → BeginsWith other line → ⊥
+pub begins : (line word other : List ℕ) (args : List (List ℕ)) → words line ≡ word ∷ args → (word ≡ other → ⊥) → HasFirstWord other line → ⊥
 begins line word other args are refuted is = refuted (sym (first-line line word args are) ∙ is)
 
 -- ---- commands
@@ -59,8 +59,8 @@ none-command before line command args head =
     let none = none-known before line (command_word command) args head (known-command command) in
     none6 before line
     (none5 before line none
-    (⊎_elim (λ (p : BeginsWith (codes "sites") line × IsSaid before.sites). begins line (command_word command) (codes "sites") args head.words (command-no_sites command) p.0)
-    (λ (p : BeginsWith (codes "journal") line × IsSaid before.journal). begins line (command_word command) (codes "journal") args head.words (command-no_journal command) p.0)))
+    (⊎_elim (λ (p : HasFirstWord (codes "sites") line × IsSaid before.sites). begins line (command_word command) (codes "sites") args head.words (command-no_sites command) p.0)
+    (λ (p : HasFirstWord (codes "journal") line × IsSaid before.journal). begins line (command_word command) (codes "journal") args head.words (command-no_journal command) p.0)))
     (λ late. ⊎_elim (begins line (command_word command) (codes "journal") args head.words (command-no_journal command)) (begins line (command_word command) (codes "item") args head.words (command-no_item command)) late.0)
 
 pub IsLineFault-command : (before : Before) (line : TextLine) (sites : ℕ) (command : code.Command) (args : List (List ℕ)) (cause : LineCause)
@@ -75,7 +75,7 @@ IsLineFault-command before line sites command args cause head said fault =
 -- ---- the first line
 
 pub IsLineFault-no_sites : (line : TextLine) → IsText line → (first_word line ≡ codes "sites" → ⊥) → IsLineFault at_first line (At SitesExpected)
-IsLineFault-no_sites line is refuted = told at_first line SitesExpected sites_expected refl (refl, refuted) (none-text at_first line is)
+IsLineFault-no_sites line is refuted = reported at_first line SitesExpected sites_expected refl (refl, refuted) (none-text at_first line is)
 
 none-first : (line : TextLine) (args : List (List ℕ)) → IsText line → words line ≡ codes "sites" ∷ args → NoneBefore at_first line 6
 none-first line args is are =
@@ -84,7 +84,7 @@ none-first line args is are =
     (none4 at_first line
     (none3 at_first line (none-text at_first line is) (λ has. has.1 (first-line line (codes "sites") args are)))
     (λ unknown. some_forms (forms_of (codes "sites")) (number 1 MAX_SITES ∷ []) [] forms-sites (ap forms_of (sym (first-line line (codes "sites") args are)) ∙ unknown)))
-    (⊎_elim (λ (p : BeginsWith (codes "sites") line × IsSaid at_first.sites). p.1 refl) (λ (p : BeginsWith (codes "journal") line × IsSaid at_first.journal). p.1 refl)))
+    (⊎_elim (λ (p : HasFirstWord (codes "sites") line × IsSaid at_first.sites). p.1 refl) (λ (p : HasFirstWord (codes "journal") line × IsSaid at_first.journal). p.1 refl)))
     (λ late. let begun : false ≡ true = late.1 in cc)
 
 pub IsLineFault-sites : (line : TextLine) (args : List (List ℕ)) (cause : LineCause) → IsText line → words line ≡ codes "sites" ∷ args
@@ -97,7 +97,7 @@ IsLineFault-sites line args cause is are fault =
 
 pub IsLineFault-twice_sites : (before : Before) (line : TextLine) (args : List (List ℕ)) → IsHead before line (codes "sites") args → IsLineFault before line (At Twice)
 IsLineFault-twice_sites before line args head =
-    told before line Twice twice refl
+    reported before line Twice twice refl
     (inl (first-line line (codes "sites") args head.words, λ none. let said = head.said in let refuted : None ≡ Some head.sites = sym none ∙ said in cc))
     (none-known before line (codes "sites") args head (some_forms (forms_of (codes "sites")) (number 1 MAX_SITES ∷ []) [] forms-sites))
 
@@ -110,18 +110,18 @@ none-journal before line args head =
 pub IsLineFault-twice_journal : (before : Before) (line : TextLine) (args : List (List ℕ)) → IsHead before line (codes "journal") args
     → before.journal ≢ None → IsLineFault before line (At Twice)
 IsLineFault-twice_journal before line args head said =
-    told before line Twice twice refl (inr (first-line line (codes "journal") args head.words, said)) (none-journal before line args head)
+    reported before line Twice twice refl (inr (first-line line (codes "journal") args head.words, said)) (none-journal before line args head)
 
 none-once : (before : Before) (line : TextLine) (args : List (List ℕ)) → IsHead before line (codes "journal") args → before.journal ≡ None → NoneBefore before line 5
 none-once before line args head once =
     none5 before line (none-journal before line args head)
-    (⊎_elim (λ (p : BeginsWith (codes "sites") line × IsSaid before.sites). begins line (codes "journal") (codes "sites") args head.words (differs (codes "journal") (codes "sites") refl) p.0)
-    (λ (p : BeginsWith (codes "journal") line × IsSaid before.journal). p.1 once))
+    (⊎_elim (λ (p : HasFirstWord (codes "sites") line × IsSaid before.sites). begins line (codes "journal") (codes "sites") args head.words (differs (codes "journal") (codes "sites") refl) p.0)
+    (λ (p : HasFirstWord (codes "journal") line × IsSaid before.journal). p.1 once))
 
 pub IsLineFault-late_journal : (before : Before) (line : TextLine) (args : List (List ℕ)) → IsHead before line (codes "journal") args
     → before.journal ≡ None → before.begun ≡ true → IsLineFault before line (At TooLate)
 IsLineFault-late_journal before line args head once late =
-    told before line TooLate too_late refl (inl (first-line line (codes "journal") args head.words), late) (none-once before line args head once)
+    reported before line TooLate too_late refl (inl (first-line line (codes "journal") args head.words), late) (none-once before line args head once)
 
 pub IsLineFault-journal : (before : Before) (line : TextLine) (args : List (List ℕ)) (cause : LineCause) → IsHead before line (codes "journal") args
     → before.journal ≡ None → before.begun ≡ false → IsFieldFault (or_default 0 before.sites) ((number MIN_JOURNAL MAX_JOURNAL ∷ []) ∷ []) args cause
@@ -138,13 +138,13 @@ none-item : (before : Before) (line : TextLine) (args : List (List ℕ)) → IsH
 none-item before line args head =
     none5 before line
     (none-known before line (codes "item") args head (some_forms (forms_of (codes "item")) (name ∷ site ∷ value ∷ []) [] forms-item))
-    (⊎_elim (λ (p : BeginsWith (codes "sites") line × IsSaid before.sites). begins line (codes "item") (codes "sites") args head.words (differs (codes "item") (codes "sites") refl) p.0)
-    (λ (p : BeginsWith (codes "journal") line × IsSaid before.journal). begins line (codes "item") (codes "journal") args head.words (differs (codes "item") (codes "journal") refl) p.0))
+    (⊎_elim (λ (p : HasFirstWord (codes "sites") line × IsSaid before.sites). begins line (codes "item") (codes "sites") args head.words (differs (codes "item") (codes "sites") refl) p.0)
+    (λ (p : HasFirstWord (codes "journal") line × IsSaid before.journal). begins line (codes "item") (codes "journal") args head.words (differs (codes "item") (codes "journal") refl) p.0))
 
 pub IsLineFault-late_item : (before : Before) (line : TextLine) (args : List (List ℕ)) → IsHead before line (codes "item") args
     → before.begun ≡ true → IsLineFault before line (At TooLate)
 IsLineFault-late_item before line args head late =
-    told before line TooLate too_late refl (inr (first-line line (codes "item") args head.words), late) (none-item before line args head)
+    reported before line TooLate too_late refl (inr (first-line line (codes "item") args head.words), late) (none-item before line args head)
 
 none-early : (before : Before) (line : TextLine) (args : List (List ℕ)) → IsHead before line (codes "item") args → before.begun ≡ false → NoneBefore before line 6
 none-early before line args head early = none6 before line (none-item before line args head) (λ late. both_ways before.begun early late.1)
@@ -160,10 +160,10 @@ pub record IsItemLine (before : Before) (line : TextLine) (word at digits : List
   pub head : IsHead before line (codes "item") (word ∷ at ∷ digits ∷ [])
   pub early : before.begun ≡ false
   pub n : ℕ
-  pub site : IsNumber at n
+  pub site : IsDecimal at n
   pub below : n < or_default 0 before.sites
   pub z : ℤ
-  pub value : IsSigned digits z
+  pub value : IsSignedDecimal digits z
   pub fits : IsTrue (fits_i64 z)
 
 item-form : (line word at digits : List ℕ) → words line ≡ codes "item" ∷ word ∷ at ∷ digits ∷ [] → form_of line ≡ Some (name ∷ site ∷ value ∷ [])
@@ -240,7 +240,7 @@ none-numbers before line word at digits is =
 pub IsLineFault-bad_name : (before : Before) (line word at digits : List ℕ) → IsItemLine before line word at digits → is_name word ≡ false
     → IsLineFault before line (At BadName)
 IsLineFault-bad_name before line word at digits is refuted =
-    told before line BadName bad_name refl (word, item-has_name line word at digits is.head.words, refuted) (none-numbers before line word at digits is)
+    reported before line BadName bad_name refl (word, item-has_name line word at digits is.head.words, refuted) (none-numbers before line word at digits is)
 
 none-named : (before : Before) (line word at digits : List ℕ) → IsItemLine before line word at digits → is_name word ≡ true → NoneBefore before line 10
 none-named before line word at digits is named =
@@ -250,11 +250,11 @@ none-named before line word at digits is named =
 pub IsLineFault-taken : (before : Before) (line word at digits : List ℕ) → IsItemLine before line word at digits → is_name word ≡ true
     → place_of word before.items ≢ None → IsLineFault before line (At NameTaken)
 IsLineFault-taken before line word at digits is named taken =
-    told before line NameTaken name_taken refl (word, item-has_name line word at digits is.head.words, taken) (none-named before line word at digits is named)
+    reported before line NameTaken name_taken refl (word, item-has_name line word at digits is.head.words, taken) (none-named before line word at digits is named)
 
 pub IsLineFault-full : (before : Before) (line word at digits : List ℕ) → IsItemLine before line word at digits → is_name word ≡ true
     → place_of word before.items ≡ None → MAX_ITEMS ≤ length before.items → IsLineFault before line (At TooManyItems)
 IsLineFault-full before line word at digits is named free full =
-    told before line TooManyItems too_many_items refl (first-line line (codes "item") (word ∷ at ∷ digits ∷ []) is.head.words, full)
+    reported before line TooManyItems too_many_items refl (first-line line (codes "item") (word ∷ at ∷ digits ∷ []) is.head.words, full)
     (none11 before line (none-named before line word at digits is named)
     (λ has. has.2 (ap (λ (w : List ℕ). place_of w before.items) (sym (item-name line word at digits has.0 is.head.words has.1)) ∙ free)))

@@ -9,7 +9,7 @@ use Rattle.std.proofs.lemmas.Bool.{and_parts, both_ways}
 use Rattle.std.proofs.lemmas.Slice.Eq.{bytes_eq-Decides}
 use Rattle.pv_base.specs.declared.limits.TheConstants.{MAX_JOURNAL, MAX_SITES, MIN_JOURNAL}
 use Rattle.pv_model.specs.LineForms.{Field, number, site, value, name, program, line_forms, forms_of, takes_program}
-use Rattle.pv_script.specs.Keywords.{spelled, listed, command_word, command_forms}
+use Rattle.pv_script.specs.Keywords.{spelled, keyword_beside, command_word, command_forms}
 use Rattle.pv_script.specs.declared.keyword.Keyword.{Keyword}
 use Rattle.pv_script.specs.declared.keyword.Command as code
 use Rattle.pv_script.specs.declared.keyword.Command.TheVariants.{Deliver, Pump, Lose, Drop, Tick, Stop, Start, Cut, Fail, Mend, Sent, Report, Total}
@@ -132,8 +132,8 @@ takes-query = refl
 -- ---- words that are none
 
 -- Bytes that aren't in a table are none of its words.
-unlisted : (bytes : List ℕ) (table : List (Bor (List ℕ) × Keyword)) → listed bytes table ≡ None → list_any (λ entry. bytes_eq bytes entry.0.now) table ≡ false
-unfolding listed
+unlisted : (bytes : List ℕ) (table : List (Bor (List ℕ) × Keyword)) → keyword_beside bytes table ≡ None → list_any (λ entry. bytes_eq bytes entry.0.now) table ≡ false
+unfolding keyword_beside
 unlisted bytes [] none = refl
 unlisted bytes (e ∷ table) none = go (bytes_eq bytes e.0.now) (unlisted bytes table) none
   where
@@ -157,15 +157,15 @@ no_forms bytes table (form ∷ forms) all none = go (bytes_eq bytes form.0) refl
     go false other more = more
 
 pub unlisted-forms : (bytes : List ℕ) (table : List (Bor (List ℕ) × Keyword)) → list_all (λ form. list_any (λ entry. bytes_eq form.0 entry.0.now) table) line_forms ≡ true
-    → listed bytes table ≡ None → forms_of bytes ≡ []
+    → keyword_beside bytes table ≡ None → forms_of bytes ≡ []
 unlisted-forms bytes table all none = no_forms bytes table line_forms all (unlisted bytes table none)
 
 -- Bytes are spelled as the keyword beside them, where each of the table is.
-pub listed-spelled : (bytes : List ℕ) (table : List (Bor (List ℕ) × Keyword)) (keyword : Keyword)
-    → list_all (λ entry. bytes_eq entry.0.now (spelled entry.1)) table ≡ true → listed bytes table ≡ Some keyword → bytes ≡ spelled keyword
-unfolding listed
-listed-spelled bytes [] keyword all found = absurd (none-some keyword found)
-listed-spelled bytes (e ∷ table) keyword all found = go (bytes_eq bytes e.0.now) refl (listed-spelled bytes table keyword parts.1) found
+pub keyword_beside-spelled : (bytes : List ℕ) (table : List (Bor (List ℕ) × Keyword)) (keyword : Keyword)
+    → list_all (λ entry. bytes_eq entry.0.now (spelled entry.1)) table ≡ true → keyword_beside bytes table ≡ Some keyword → bytes ≡ spelled keyword
+unfolding keyword_beside
+keyword_beside-spelled bytes [] keyword all found = absurd (none-some keyword found)
+keyword_beside-spelled bytes (e ∷ table) keyword all found = go (bytes_eq bytes e.0.now) refl (keyword_beside-spelled bytes table keyword parts.1) found
   where
     parts : (bytes_eq e.0.now (spelled e.1) ≡ true) × (list_all (λ entry. bytes_eq entry.0.now (spelled entry.1)) table ≡ true)
     parts = and_parts (bytes_eq e.0.now (spelled e.1)) (list_all (λ entry. bytes_eq entry.0.now (spelled entry.1)) table) all
@@ -182,7 +182,7 @@ listed-spelled bytes (e ∷ table) keyword all found = go (bytes_eq bytes e.0.no
 -- ---- whatever the answer
 
 pub keyword-answer : (bytes : List ℕ) (table : List (Bor (List ℕ) × Keyword)) (found : Option Keyword) → list_all (λ form. list_any (λ entry. bytes_eq form.0 entry.0.now) table) line_forms ≡ true
-    → list_all (λ entry. bytes_eq entry.0.now (spelled entry.1)) table ≡ true → found ≡ listed bytes table
+    → list_all (λ entry. bytes_eq entry.0.now (spelled entry.1)) table ≡ true → found ≡ keyword_beside bytes table
     → MatchOption found (forms_of bytes ≡ []) (λ keyword. bytes ≡ spelled keyword)
 keyword-answer bytes table None all each is = unlisted-forms bytes table all (sym is)
-keyword-answer bytes table (Some keyword) all each is = listed-spelled bytes table keyword each (sym is)
+keyword-answer bytes table (Some keyword) all each is = keyword_beside-spelled bytes table keyword each (sym is)

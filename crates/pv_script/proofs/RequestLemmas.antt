@@ -4,28 +4,29 @@ use Rattle.std.specs.Prelude.{codes, nat_lt, IfSome, if◌then◌else◌}
 use Rattle.std.specs.List.{list_all, Contains}
 use Rattle.std.proofs.lemmas.Bool.{both_ways, and_from, ltb-true, ltb-false}
 use Rattle.pv_base.specs.declared.limits.TheConstants.{MAX_LINE, MAX_PROGRAM_ITEMS}
-use Rattle.pv_check.specs.Refusal.{refusal, refusal_of_query, first_cause}
+use Rattle.pv_check.specs.CheckRefusal.{check_refusal, refusal_of_query, first_cause}
 use Rattle.pv_check.specs.declared.plan.CheckError.{CheckError}
 use Rattle.pv_check.specs.declared.plan.CheckError.TheVariants as check
 use Rattle.pv_parse.specs.declared.error.ParseError.{ParseError}
 use Rattle.pv_parse.specs.declared.error.ParseError.TheVariants as parse
 use Rattle.pv_parse.specs.Refusals.{refusal_of}
-use Rattle.pv_model.specs.Causes.{Before, declared_by, at_program, names_no_item, too_many_names, query_assigns, no_return, HasProgram, BeginsWith, IsSaid, or_default, Has}
-use Rattle.pv_model.specs.Check.{names, AreItems, has_assignment, has_return}
+use Rattle.pv_model.specs.LineCauses.{Before, declared_by, at_program, names_no_item, too_many_names, query_assigns, no_return, HasProgram, HasFirstWord, IsSaid, or_default, Has}
+use Rattle.pv_model.specs.Check.{names_item, AreItems, has_assignment, has_return}
 use Rattle.pv_model.specs.LineForms.{Field, site, mode, name, program, forms_of, arguments, takes_program, site_and_text, program_text, form_of, fields_of, fields_in, has_good_number}
 use Rattle.pv_model.specs.ProgramText.{malformed, unknown_name, too_deep, IsProgramText, at_fault, IsRefused}
 use Rattle.pv_model.specs.Schedule.{request_word, IsRequest}
 use Rattle.pv_model.specs.Syntax.{Program}
-use Rattle.pv_model.specs.Text.{TextLine, IsNumber}
+use Rattle.pv_model.specs.Text.{TextLine, IsDecimal}
 use Rattle.pv_law_programs.proofs.ItemLemmas.{one_items}
+use Rattle.pv_law_schedules.proofs.SomeCauseLemmas.{names_item-none}
 use Rattle.pv_law_programs.proofs.NoRefusalLemmas.{no_refusal}
 use Rattle.pv_law_programs.proofs.ProgramTextLemmas.{one_program_text}
-use Rattle.pv_script.specs.Faults.{texts, form_among, fault_of_parse, fault_of_check, IsFieldFault, IsLineFault}
+use Rattle.pv_script.specs.LineFaults.{texts, form_among, fault_of_parse, fault_of_check, IsFieldFault, IsLineFault}
 use Rattle.pv_script.specs.Said.{IsHead}
 use Rattle.pv_script.specs.declared.fault.Fault.TheVariants.{At}
 use Rattle.pv_script.specs.declared.schedule.LineCause.{LineCause}
 use Rattle.pv_script.specs.declared.schedule.LineCause.TheVariants.{WrongCount, BadNumber, ProgramColumn, UnknownName, TooDeep, NamesNoItem, TooManyNames, QueryAssigns, NoReturn}
-use Rattle.pv_script.proofs.CauseLemmas.{NoneBefore, none5, none6, none7, none8, none9, none10, none11, none12, none13, none14, none15, none16, none-known, told, first-line, arguments-request, form_of-line, fields_of-line, IsLineFault-fields}
+use Rattle.pv_script.proofs.CauseLemmas.{NoneBefore, none5, none6, none7, none8, none9, none10, none11, none12, none13, none14, none15, none16, none-known, reported, first-line, arguments-request, form_of-line, fields_of-line, IsLineFault-fields}
 use Rattle.pv_script.proofs.KeywordLemmas.{forms-submit, forms-query, takes-submit, takes-query}
 use Rattle.pv_script.proofs.HeadLemmas.{some_forms, differs, begins, contains-cons, no_field, is_mode, is_name_field}
 use Rattle.pv_script.proofs.FieldLemmas.{good-site}
@@ -49,19 +50,19 @@ why-query m p query e some small is = go query refl (has_assignment p) refl (has
   where
     go : (q : Bool) → query ≡ q → (a : Bool) → has_assignment p ≡ a → (r : Bool) → has_return p ≡ r
         → cond q (cond a (Some check.Assigns) (cond r None (Some check.NoReturn))) None ≡ Some e → Why m p query e
-    go false other a assigns r returns told = absurd (no_error e told)
-    go true asks true assigns r returns told = subst (Why m p query) (same_error check.Assigns e told) (assigning some small asks assigns)
-    go true asks false pure true returns told = absurd (no_error e told)
-    go true asks false pure false quiet told = subst (Why m p query) (same_error check.NoReturn e told) (silent some small asks pure quiet)
+    go false other a assigns r returns reported = absurd (no_error e reported)
+    go true asks true assigns r returns reported = subst (Why m p query) (same_error check.Assigns e reported) (assigning some small asks assigns)
+    go true asks false pure true returns reported = absurd (no_error e reported)
+    go true asks false pure false quiet reported = subst (Why m p query) (same_error check.NoReturn e reported) (silent some small asks pure quiet)
 
-why : (m : ℕ) (p : Program) (query : Bool) (e : CheckError) → refusal MAX_PROGRAM_ITEMS m p query ≡ Some e → Why m p query e
+why : (m : ℕ) (p : Program) (query : Bool) (e : CheckError) → check_refusal MAX_PROGRAM_ITEMS m p query ≡ Some e → Why m p query e
 why zero p query e is = subst (Why zero p query) (same_error check.NoItem e is) (none refl)
 why (suc m) p query e is = go (nat_lt MAX_PROGRAM_ITEMS (suc m)) refl is
   where
     go : (b : Bool) → nat_lt MAX_PROGRAM_ITEMS (suc m) ≡ b
         → first_cause (cond b (Some (check.TooManyItems (suc m))) None) (if query then refusal_of_query p else None) ≡ Some e → Why (suc m) p query e
-    go true large told = subst (Why (suc m) p query) (same_error (check.TooManyItems (suc m)) e told) (many (ltb-true MAX_PROGRAM_ITEMS (suc m) large))
-    go false small told = why-query (suc m) p query e (omega arith) (ltb-false MAX_PROGRAM_ITEMS (suc m) small) told
+    go true large reported = subst (Why (suc m) p query) (same_error (check.TooManyItems (suc m)) e reported) (many (ltb-true MAX_PROGRAM_ITEMS (suc m) large))
+    go false small reported = why-query (suc m) p query e (omega arith) (ltb-false MAX_PROGRAM_ITEMS (suc m) small) reported
 
 some_none : (e : CheckError) → Some e ≡ None → ⊥
 some_none e is = cc
@@ -71,21 +72,26 @@ answers-query p query is asks = go query asks (has_assignment p) refl (has_retur
   where
     go : (q : Bool) → q ≡ true → (a : Bool) → has_assignment p ≡ a → (r : Bool) → has_return p ≡ r
         → cond q (cond a (Some check.Assigns) (cond r None (Some check.NoReturn))) None ≡ None → (has_assignment p ≡ false) × (has_return p ≡ true)
-    go false other a assigns r returns told = absurd (both_ways false refl other)
-    go true yes_it true assigns r returns told = absurd (some_none check.Assigns told)
-    go true yes_it false pure true returns told = (pure, returns)
-    go true yes_it false pure false quiet told = absurd (some_none check.NoReturn told)
+    go false other a assigns r returns reported = absurd (both_ways false refl other)
+    go true yes_it true assigns r returns reported = absurd (some_none check.Assigns reported)
+    go true yes_it false pure true returns reported = (pure, returns)
+    go true yes_it false pure false quiet reported = absurd (some_none check.NoReturn reported)
 
 -- where it may run
-why_not : (m : ℕ) (p : Program) (query : Bool) → refusal MAX_PROGRAM_ITEMS m p query ≡ None → (0 < m) × (m ≤ MAX_PROGRAM_ITEMS) × (query ≡ true → (has_assignment p ≡ false) × (has_return p ≡ true))
+why_not : (m : ℕ) (p : Program) (query : Bool) → check_refusal MAX_PROGRAM_ITEMS m p query ≡ None → (0 < m) × (m ≤ MAX_PROGRAM_ITEMS) × (query ≡ true → (has_assignment p ≡ false) × (has_return p ≡ true))
 why_not zero p query is = absurd (some_none check.NoItem is)
 why_not (suc m) p query is = go (nat_lt MAX_PROGRAM_ITEMS (suc m)) refl is
   where
     go : (b : Bool) → nat_lt MAX_PROGRAM_ITEMS (suc m) ≡ b
         → first_cause (cond b (Some (check.TooManyItems (suc m))) None) (if query then refusal_of_query p else None) ≡ None
         → (0 < suc m) × (suc m ≤ MAX_PROGRAM_ITEMS) × (query ≡ true → (has_assignment p ≡ false) × (has_return p ≡ true))
-    go true large told = absurd (some_none (check.TooManyItems (suc m)) told)
-    go false small told = (omega arith, ltb-false MAX_PROGRAM_ITEMS (suc m) small, answers-query p query told)
+    go true large reported = absurd (some_none (check.TooManyItems (suc m)) reported)
+    go false small reported = (omega arith, ltb-false MAX_PROGRAM_ITEMS (suc m) small, answers-query p query reported)
+
+-- where no item is named
+names_item-no_items : (p : Program) (items : List ℕ) → AreItems p items → length items ≡ 0 → (n : ℕ) → names_item p n ≡ false
+names_item-no_items p [] are empty = names_item-none p are
+names_item-no_items p (m ∷ items) are empty = absurd (omega (arith, empty))
 
 -- ---- lines
 
@@ -117,8 +123,8 @@ none-request before line query args head =
     let none = none-known before line (request_word query) args head (some_forms (forms_of (request_word query)) (site ∷ program ∷ []) [] (request-forms query)) in
     none6 before line
     (none5 before line none
-    (⊎_elim (λ (p : BeginsWith (codes "sites") line × IsSaid before.sites). begins line (request_word query) (codes "sites") args head.words (request-no_sites query) p.0)
-    (λ (p : BeginsWith (codes "journal") line × IsSaid before.journal). begins line (request_word query) (codes "journal") args head.words (request-no_journal query) p.0)))
+    (⊎_elim (λ (p : HasFirstWord (codes "sites") line × IsSaid before.sites). begins line (request_word query) (codes "sites") args head.words (request-no_sites query) p.0)
+    (λ (p : HasFirstWord (codes "journal") line × IsSaid before.journal). begins line (request_word query) (codes "journal") args head.words (request-no_journal query) p.0)))
     (λ late. ⊎_elim (begins line (request_word query) (codes "journal") args head.words (request-no_journal query)) (begins line (request_word query) (codes "item") args head.words (request-no_item query)) late.0)
 
 request-fault : (before : Before) (line : TextLine) (query : Bool) (args given : List (List ℕ)) (cause : LineCause) → IsHead before line (request_word query) args
@@ -158,11 +164,11 @@ IsLineFault-away before line query args d head some wrong =
 pub record IsRequestLine (before : Before) (line : TextLine) (query : Bool) (args : List (List ℕ)) (at text : List ℕ) (n : ℕ) : Type 0 where
   pub head : IsHead before line (request_word query) args
   pub given : arguments line ≡ at ∷ text ∷ []
-  pub site : IsNumber at n
+  pub site : IsDecimal at n
   pub below : n < or_default 0 before.sites
 
 pub request-line : (before : Before) (line : TextLine) (query : Bool) (args : List (Bor (List ℕ))) (d : Bor (List ℕ)) (text : List ℕ) (n sites : ℕ)
-    → IsHead before line (request_word query) (texts args) → 2 ≤ length args → text ≡ program_text line → IsNumber (get_or args 0 d).now n → n < sites
+    → IsHead before line (request_word query) (texts args) → 2 ≤ length args → text ≡ program_text line → IsDecimal (get_or args 0 d).now n → n < sites
     → sites ≡ or_default 0 before.sites → IsRequestLine before line query (texts args) (get_or args 0 d).now text n
 request-line before line query args d text n sites head some same number_is below count =
     record {
@@ -233,9 +239,9 @@ module _ (before : Before) (line : TextLine) (query : Bool) (args : List (List �
 
   pub IsLineFault-parse : (error : ParseError) → length text ≤ MAX_LINE → IfSome (refusal_of error) (IsRefused (declared_by before) text) → IsLineFault before line (fault_of_parse error)
   IsLineFault-parse (parse.TooLarge m) short refused = absurd (let same = refused.0 in let large = refused.1 in omega arith)
-  IsLineFault-parse (parse.Malformed column) short refused = told before line (ProgramColumn column) (at_program malformed column) refl (text, has_text, refused) none-fields
-  IsLineFault-parse (parse.UnknownName column) short refused = told before line (UnknownName column) (at_program unknown_name column) refl (text, has_text, refused) none-fields
-  IsLineFault-parse (parse.TooDeep column) short refused = told before line (TooDeep column) (at_program too_deep column) refl (text, has_text, refused) none-fields
+  IsLineFault-parse (parse.Malformed column) short refused = reported before line (ProgramColumn column) (at_program malformed column) refl (text, has_text, refused) none-fields
+  IsLineFault-parse (parse.UnknownName column) short refused = reported before line (UnknownName column) (at_program unknown_name column) refl (text, has_text, refused) none-fields
+  IsLineFault-parse (parse.TooDeep column) short refused = reported before line (TooDeep column) (at_program too_deep column) refl (text, has_text, refused) none-fields
   IsLineFault-parse parse.NoMemory short refused = tt
 
   module _ (p : Program) (program_is : IsProgramText (declared_by before) text p) where
@@ -258,7 +264,7 @@ module _ (before : Before) (line : TextLine) (query : Bool) (args : List (List �
         none14 before line none-program
         (λ has.
         let same = only_program has.0 has.1 in
-        both_ways (names p (get_or items 0 0)) (ap (λ (q : Program). names q (get_or items 0 0)) same ∙ has.2 (get_or items 0 0)) (are.each 0 0 some))
+        both_ways (names_item p (get_or items 0 0)) (ap (λ (q : Program). names_item q (get_or items 0 0)) same ∙ has.2 (get_or items 0 0)) (are.each 0 0 some))
 
     none-few_names : (items : List ℕ) → AreItems p items → 0 < length items → length items ≤ MAX_PROGRAM_ITEMS → NoneBefore before line 15
     none-few_names items are some small =
@@ -271,31 +277,31 @@ module _ (before : Before) (line : TextLine) (query : Bool) (args : List (List �
         let large = has.5 in
         omega arith)
 
-    fault-why : (items : List ℕ) → AreItems p items → (e : CheckError) → (e ≡ check.NoItem → (m : ℕ) → names p m ≡ false) → Why (length items) p query e → IsLineFault before line (fault_of_check e)
-    fault-why items are check.NoItem unnamed (none empty) = told before line NamesNoItem names_no_item refl (p, has_program, unnamed refl) none-program
-    fault-why items are (check.TooManyItems m) unnamed (many large) =
-        told before line (TooManyNames (length items)) (too_many_names (length items)) refl (p, has_program, items, are, refl, large) (none-some_name items are (omega arith))
-    fault-why items are check.Assigns unnamed (assigning some small asks assigns) =
-        told before line QueryAssigns query_assigns refl
+    fault-why : (items : List ℕ) → AreItems p items → (e : CheckError) → Why (length items) p query e → IsLineFault before line (fault_of_check e)
+    fault-why items are check.NoItem (none empty) = reported before line NamesNoItem names_no_item refl (p, has_program, names_item-no_items p items are empty) none-program
+    fault-why items are (check.TooManyItems m) (many large) =
+        reported before line (TooManyNames (length items)) (too_many_names (length items)) refl (p, has_program, items, are, refl, large) (none-some_name items are (omega arith))
+    fault-why items are check.Assigns (assigning some small asks assigns) =
+        reported before line QueryAssigns query_assigns refl
         (p, has_program, first-line line (request_word query) args is.head.words ∙ ap request_word asks, assigns)
         (none-few_names items are some small)
-    fault-why items are check.NoReturn unnamed (silent some small asks pure quiet) =
-        told before line NoReturn no_return refl
+    fault-why items are check.NoReturn (silent some small asks pure quiet) =
+        reported before line NoReturn no_return refl
         (p, has_program, first-line line (request_word query) args is.head.words ∙ ap request_word asks, quiet)
         (none16 before line (none-few_names items are some small)
         (λ has. both_ways (has_assignment p) pure (ap has_assignment (only_program has.0 has.1) ∙ has.3)))
-    fault-why items are check.NoMemory unnamed never = elim never [ ]
+    fault-why items are check.NoMemory never = elim never [ ]
 
-    pub IsLineFault-check : (items : List ℕ) → AreItems p items → (e : CheckError) → (e ≡ check.NoItem → (m : ℕ) → names p m ≡ false)
-        → (e ≢ check.NoMemory → refusal MAX_PROGRAM_ITEMS (length items) p query ≡ Some e) → IsLineFault before line (fault_of_check e)
-    IsLineFault-check items are check.NoItem unnamed cause = fault-why items are check.NoItem unnamed (why (length items) p query check.NoItem (cause (λ e. cc)))
-    IsLineFault-check items are (check.TooManyItems m) unnamed cause =
-        fault-why items are (check.TooManyItems m) unnamed (why (length items) p query (check.TooManyItems m) (cause (λ e. cc)))
-    IsLineFault-check items are check.Assigns unnamed cause = fault-why items are check.Assigns unnamed (why (length items) p query check.Assigns (cause (λ e. cc)))
-    IsLineFault-check items are check.NoReturn unnamed cause = fault-why items are check.NoReturn unnamed (why (length items) p query check.NoReturn (cause (λ e. cc)))
-    IsLineFault-check items are check.NoMemory unnamed cause = tt
+    pub IsLineFault-check : (items : List ℕ) → AreItems p items → (e : CheckError)
+        → (e ≢ check.NoMemory → check_refusal MAX_PROGRAM_ITEMS (length items) p query ≡ Some e) → IsLineFault before line (fault_of_check e)
+    IsLineFault-check items are check.NoItem cause = fault-why items are check.NoItem (why (length items) p query check.NoItem (cause (λ e. cc)))
+    IsLineFault-check items are (check.TooManyItems m) cause =
+        fault-why items are (check.TooManyItems m) (why (length items) p query (check.TooManyItems m) (cause (λ e. cc)))
+    IsLineFault-check items are check.Assigns cause = fault-why items are check.Assigns (why (length items) p query check.Assigns (cause (λ e. cc)))
+    IsLineFault-check items are check.NoReturn cause = fault-why items are check.NoReturn (why (length items) p query check.NoReturn (cause (λ e. cc)))
+    IsLineFault-check items are check.NoMemory cause = tt
 
-    pub IsRequest-read : (items : List ℕ) → AreItems p items → refusal MAX_PROGRAM_ITEMS (length items) p query ≡ None → IsRequest before n query text p line
+    pub IsRequest-read : (items : List ℕ) → AreItems p items → check_refusal MAX_PROGRAM_ITEMS (length items) p query ≡ None → IsRequest before n query text p line
     IsRequest-read items are accepted =
         let may = why_not (length items) p query accepted in
         record {

@@ -8,10 +8,10 @@ use Rattle.std.proofs.lemmas.List.{take_all}
 use Rattle.std.proofs.lemmas.Slice.Eq.{bytes_eq-Decides}
 use Rattle.pv_base.specs.declared.limits.TheConstants.{MAX_SITES}
 use Rattle.pv_model.specs.Schedule.{IsIn}
-use Rattle.pv_model.specs.Causes.{Before, at_first}
-use Rattle.pv_model.specs.LineForms.{number, line_forms, forms_of, first_of}
+use Rattle.pv_model.specs.LineCauses.{Before, at_first}
+use Rattle.pv_model.specs.LineForms.{number, line_forms, forms_of, leading_word}
 use Rattle.pv_model.specs.Text.{TextLine, IsText, words}
-use Rattle.pv_script.specs.Faults.{texts, IsFieldFault, IsLineFault}
+use Rattle.pv_script.specs.LineFaults.{texts, IsFieldFault, IsLineFault}
 use Rattle.pv_script.specs.declared.fault.Fault.TheVariants.{At}
 use Rattle.pv_script.specs.declared.schedule.LineCause.{LineCause}
 use Rattle.pv_script.specs.declared.schedule.LineCause.TheVariants.{SitesExpected, UnknownWord}
@@ -19,12 +19,12 @@ use Rattle.pv_script.specs.Said.{IsHead}
 use Rattle.pv_script.proofs.CauseLemmas.{IsLineFault-unknown}
 use Rattle.pv_script.proofs.HeadLemmas.{IsLineFault-no_sites, IsLineFault-sites}
 
-pub unknown-nil : (args : List (Bor (List ℕ))) → length args < 1 → forms_of (first_of (texts args)) ≡ []
+pub unknown-nil : (args : List (Bor (List ℕ))) → length args < 1 → forms_of (leading_word (texts args)) ≡ []
 unfolding line_forms
 unknown-nil [] few = refl
 unknown-nil (a ∷ args) few = absurd (omega arith)
 
-pub first-nil : (args : List (Bor (List ℕ))) → length args < 1 → first_of (texts args) ≡ codes "sites" → ⊥
+pub first-nil : (args : List (Bor (List ℕ))) → length args < 1 → leading_word (texts args) ≡ codes "sites" → ⊥
 first-nil [] few is = cc
 first-nil (a ∷ args) few is = absurd (omega arith)
 
@@ -38,9 +38,9 @@ texts-split [] d some = absurd (omega arith)
 texts-split (a ∷ args) d some = ap (λ (more : List (Bor (List ℕ))). a.now ∷ texts more) (sym (take_all (length (a ∷ args) - 1) args (omega arith)))
 
 pub first-differs : (args : List (Bor (List ℕ))) (d : Bor (List ℕ)) (other : List ℕ) (r : Bool) → 1 ≤ length args
-    → r ≡ not (bytes_eq (get_or args 0 d).now other) → other ≡ codes "sites" → r ≡ true → first_of (texts args) ≡ codes "sites" → ⊥
+    → r ≡ not (bytes_eq (get_or args 0 d).now other) → other ≡ codes "sites" → r ≡ true → leading_word (texts args) ≡ codes "sites" → ⊥
 first-differs args d other r some is same differs first =
-    let word : (get_or args 0 d).now ≡ other = sym (ap first_of (texts-some args d some)) ∙ first ∙ sym same in
+    let word : (get_or args 0 d).now ≡ other = sym (ap leading_word (texts-some args d some)) ∙ first ∙ sym same in
     both_ways r (is ∙ ap not ((bytes_eq-Decides (get_or args 0 d).now other).1 word)) differs
 
 not_false : (b : Bool) → not b ≡ false → b ≡ true
@@ -67,8 +67,8 @@ pub none-said : (said : Option ℕ) (r : Bool) → r ≡ is_some said → r ≡ 
 none-said None r is refuted = refl
 none-said (Some n) r is refuted = absurd (both_ways r refuted is)
 
-pub sites-expected : (line : TextLine) (spelled : List (List ℕ)) → IsText line → spelled ≡ words line → (first_of spelled ≡ codes "sites" → ⊥) → IsLineFault at_first line (At SitesExpected)
-sites-expected line spelled is same refuted = IsLineFault-no_sites line is (λ first. refuted (ap first_of same ∙ first))
+pub sites-expected : (line : TextLine) (spelled : List (List ℕ)) → IsText line → spelled ≡ words line → (leading_word spelled ≡ codes "sites" → ⊥) → IsLineFault at_first line (At SitesExpected)
+sites-expected line spelled is same refuted = IsLineFault-no_sites line is (λ first. refuted (ap leading_word same ∙ first))
 
 pub sites-fault : (line : TextLine) (spelled args : List (List ℕ)) (result : Result ℕ LineCause) → IsText line → spelled ≡ words line → spelled ≡ codes "sites" ∷ args
     → IfErr result (IsFieldFault 0 ((number 1 MAX_SITES ∷ []) ∷ []) args) → IfErr result (λ cause. IsLineFault at_first line (At cause))
@@ -81,8 +81,8 @@ head-of before line items words_now word args sites is same deref are said =
     record { text = is; sites = sites; said = said; words = sym same ∙ ap texts (sym deref) ∙ are }
 
 pub unknown-fault : (before : Before) (line : TextLine) (items words_now : List (Bor (List ℕ))) (sites : ℕ) (cause : LineCause) → IsText line
-    → texts items ≡ words line → words_now ≡ items → before.sites ≡ Some sites → (cause ≡ UnknownWord) × (forms_of (first_of (texts words_now)) ≡ [])
+    → texts items ≡ words line → words_now ≡ items → before.sites ≡ Some sites → (cause ≡ UnknownWord) × (forms_of (leading_word (texts words_now)) ≡ [])
     → IsLineFault before line (At cause)
 unknown-fault before line items words_now sites cause is same deref said unknown =
-    subst (λ (told : LineCause). IsLineFault before line (At told)) (sym unknown.0)
-    (IsLineFault-unknown before line sites is said (ap (λ (ws : List (List ℕ)). forms_of (first_of ws)) (sym same ∙ ap texts (sym deref)) ∙ unknown.1))
+    subst (λ (reported : LineCause). IsLineFault before line (At reported)) (sym unknown.0)
+    (IsLineFault-unknown before line sites is said (ap (λ (ws : List (List ℕ)). forms_of (leading_word ws)) (sym same ∙ ap texts (sym deref)) ∙ unknown.1))

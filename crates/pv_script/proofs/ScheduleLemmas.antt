@@ -2,17 +2,17 @@
 use Rattle.std.proofs.Common.{◌≡◌, ℕ, zero, suc, false, Some, None, List, [], ◌∷◌, ◌++◌, All, refl, sym, ap, ◌∙◌, subst, arith, ⊎_elim, inl, inr}
 use Rattle.std.proofs.lemmas.Bool.{both_ways}
 use Rattle.pv_base.specs.Catalog.{Item, Declared}
-use Rattle.pv_model.specs.Causes.{Before, at_first, LineCause, declared_by}
+use Rattle.pv_model.specs.LineCauses.{Before, at_first, LineCause, declared_by}
 use Rattle.pv_model.specs.Check.{IsPlan}
 use Rattle.pv_model.specs.Events as model
-use Rattle.pv_model.specs.FirstFault.{without_numbers}
+use Rattle.pv_model.specs.FirstMisplaced.{without_numbers}
 use Rattle.pv_model.specs.Schedule.{Declares, DeclaresSites, DeclaresJournal, DeclaresItem, AreLines, none, declaration, significant, IsSchedule, IsAtFault}
 use Rattle.pv_model.specs.Text.{TextLine, numbered}
 use Rattle.pv_base.specs.Answer.{HasOneAnswer}
 use Rattle.pv_script.specs.ScriptErrors.{RefusedLine, IsMalformedAt}
 use Rattle.pv_script.specs.Said.{before_of, IsLimited}
-use Rattle.pv_script.specs.Takes.{Takes, declared, happened}
-use Rattle.pv_script.specs.View.{HasPlan}
+use Rattle.pv_script.specs.TakesLine.{TakesLine, declared, happened}
+use Rattle.pv_script.specs.ScheduleView.{HasPlan}
 use Rattle.pv_script.specs.declared.said.Said.{Said}
 use Rattle.pv_script.specs.declared.schedule.Event.{Event}
 use Rattle.pv_script.specs.declared.schedule.Event.TheVariants.{Submit, Deliver, Pump, Lose, Drop, Tick, Stop, Start, Arm, Mend, Sent, Report, Total}
@@ -68,7 +68,7 @@ early before after line sites said =
     (⊎_elim (λ (is : DeclaresJournal before line after). is.early) (λ (is : DeclaresItem before line after). is.early))
 
 pub plans-takes : (before after : Before) (line : TextLine) (catalog now : Declared) (old new : List Event) (sites : ℕ) → before.sites ≡ Some sites
-    → before.items ≡ catalog.items → after.items ≡ now.items → (before.begun ≡ false → old ≡ []) → All (HasPlan catalog) old → Takes before line after now old new
+    → before.items ≡ catalog.items → after.items ≡ now.items → (before.begun ≡ false → old ≡ []) → All (HasPlan catalog) old → TakesLine before line after now old new
     → All (HasPlan now) new
 plans-takes before after line catalog now old new sites said same same_now begun plans (declared declares kept) =
     subst (λ (es : List Event). All (HasPlan now) es) (sym (kept ∙ begun (early before after line sites said declares))) (λ k d below. absurd (omega arith))
@@ -78,7 +78,7 @@ plans-takes before after line catalog now old new sites said same same_now begun
     (All-one_more (HasPlan now) old e (λ k d below. HasPlan-items _ catalog now items (plans k d below)) plan)
 
 pub begun-takes : (before after : Before) (line : TextLine) (now : Declared) (old new : List Event) (sites : ℕ) → before.sites ≡ Some sites
-    → (before.begun ≡ false → old ≡ []) → Takes before line after now old new → after.begun ≡ false → new ≡ []
+    → (before.begun ≡ false → old ≡ []) → TakesLine before line after now old new → after.begun ≡ false → new ≡ []
 begun-takes before after line now old new sites said begun (declared declares kept) quiet = kept ∙ begun (early before after line sites said declares)
 begun-takes before after line now old new sites said begun (happened e says then plan appended) quiet =
     absurd (both_ways after.begun quiet (ap (λ (b : Before). b.begun) then))

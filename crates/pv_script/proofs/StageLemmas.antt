@@ -1,16 +1,16 @@
--- Which lines may come next, as the words tell.
+-- Which lines may come next, as the words say.
 use Rattle.std.proofs.Common.{◌≡◌, ℕ, zero, suc, ◌+◌, ◌*◌, ◌-◌, ◌^◌, ◌<◌, ◌≤◌, Bool, true, false, Some, None, List, [], ◌∷◌, length, take, get_or, cond, Bor, eqb, refl, sym, ap, ◌∙◌, arith}
 use Rattle.std.specs.Prelude.{nat_le, ◌&&◌}
 use Rattle.std.specs.List.{list_all}
 use Rattle.std.proofs.lemmas.Bool.{eq-eqb, ne_eqb, leb-true, leb-false}
 use Rattle.std.proofs.Math.Nat.{pow-succ', mul-le-mul_right}
-use Rattle.pv_script.specs.Form as model
-use Rattle.pv_model.specs.LineForms.{first_of, takes_program}
+use Rattle.pv_script.specs.Runnable as model
+use Rattle.pv_model.specs.LineForms.{leading_word, takes_program}
 use Rattle.pv_model.specs.Text.{TextLine, number_of_digits, words}
-use Rattle.pv_script.specs.Faults.{texts}
+use Rattle.pv_script.specs.LineFaults.{texts}
 use Rattle.pv_script.specs.Stages.{stage_after_word}
 
-pub behind-nil : (args : List (Bor (List ℕ))) → length args < 1 → None ≡ stage_after_word (first_of (texts args))
+pub behind-nil : (args : List (Bor (List ℕ))) → length args < 1 → None ≡ stage_after_word (leading_word (texts args))
 unfolding takes_program
 behind-nil [] few = refl
 behind-nil (a ∷ args) few = absurd (omega arith)
@@ -19,7 +19,7 @@ pub stage-sites : (line : TextLine) (spelled : List (List ℕ)) → spelled ≡ 
 unfolding model.stage_after
 stage-sites line spelled same = rw same refl
 
-pub stage-any : (line : TextLine) (spelled : List (List ℕ)) → spelled ≡ words line → model.stage_after model.any_next line ≡ stage_after_word (first_of spelled)
+pub stage-any : (line : TextLine) (spelled : List (List ℕ)) → spelled ≡ words line → model.stage_after model.any_next line ≡ stage_after_word (leading_word spelled)
 unfolding model.stage_after
 stage-any line spelled same = rw same refl
 

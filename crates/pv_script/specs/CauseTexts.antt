@@ -1,9 +1,9 @@
 -- How a refused line and its cause are printed.
 use Rattle.std.specs.Prelude.{ℕ, List, ◌++◌, codes, Option, Some, None}
 use Rattle.std.specs.Fmt.{decimal}
-use Rattle.pv_model.specs.Causes.{LineCause, too_long, not_text, sites_expected, unknown_word, twice, too_late, wrong_count, bad_number, bad_mode, bad_name, name_taken, too_many_items, at_program, names_no_item, too_many_names, query_assigns, no_return}
+use Rattle.pv_model.specs.LineCauses.{LineCause, too_long, not_text, sites_expected, unknown_word, twice, too_late, wrong_count, bad_number, bad_mode, bad_name, name_taken, too_many_items, at_program, names_no_item, too_many_names, query_assigns, no_return}
 use Rattle.pv_model.specs.ProgramText.{malformed, unknown_name, too_deep}
-use Rattle.pv_script.specs.ScriptErrors.{cause_of}
+use Rattle.pv_script.specs.ScriptErrors.{line_cause_of}
 use Rattle.pv_script.specs.declared.schedule.ScriptError.{ScriptError}
 use Rattle.pv_script.specs.declared.schedule.ScriptError.TheVariants.{Malformed, NoMemory}
 
@@ -40,5 +40,5 @@ refused_text number cause = codes "line " ++ (decimal number ++ (codes ": " ++ r
 
 -- why a text wasn't read, as it is printed
 abbrev pub error_text : ScriptError → List ℕ
-error_text (Malformed line reported) = refused_text line (cause_of reported)
+error_text (Malformed line reported) = refused_text line (line_cause_of reported)
 error_text NoMemory = codes "no memory"

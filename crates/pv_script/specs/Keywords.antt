@@ -50,5 +50,5 @@ spelled Query = codes "query"
 spelled (Command command) = command_word command
 
 -- the keyword beside the first word of a table that bytes are
-unfoldable pub listed : List ℕ → List (Bor (List ℕ) × code.Keyword) → Option code.Keyword
-listed bytes table = option_map (λ entry. entry.1) (find (λ entry. bytes_eq bytes entry.0.now) table)
+unfoldable pub keyword_beside : List ℕ → List (Bor (List ℕ) × code.Keyword) → Option code.Keyword
+keyword_beside bytes table = option_map (λ entry. entry.1) (find (λ entry. bytes_eq bytes entry.0.now) table)

@@ -1,10 +1,10 @@
 pub mod LinesLeft
 pub mod ScriptErrors
 pub mod CauseTexts
-pub mod View
-pub mod Faults
+pub mod ScheduleView
+pub mod LineFaults
 pub mod Keywords
 pub mod Said
 pub mod Stages
-pub mod Takes
-pub mod Form
+pub mod TakesLine
+pub mod Runnable

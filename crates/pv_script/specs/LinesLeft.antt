@@ -8,5 +8,5 @@ pub record LinesLeft : Type 0 where
   pub after_last : ℕ
 
 -- what is left of a text of which nothing is read
-abbrev pub lines_of : List ℕ → LinesLeft
-lines_of text = record { numbered = numbered text; after_last = length (lines text) + 1 }
+abbrev pub unread : List ℕ → LinesLeft
+unread text = record { numbered = numbered text; after_last = length (lines text) + 1 }

@@ -1,7 +1,7 @@
 -- What the lines so far said, as plain data, and what the words of one line say.
 use Rattle.std.specs.Prelude.{◌≡◌, ℕ, Bool, true, false, Option, Some, None, List, [], ◌∷◌, codes}
 use Rattle.pv_base.specs.declared.limits.TheConstants.{MAX_JOURNAL, MAX_PUMP}
-use Rattle.pv_model.specs.Causes.{Before, or_default}
+use Rattle.pv_model.specs.LineCauses.{Before, or_default}
 use Rattle.pv_model.specs.Events.{Event}
 use Rattle.pv_model.specs.Schedule.{IsIn, Says}
 use Rattle.pv_model.specs.Text.{TextLine, IsText, words}

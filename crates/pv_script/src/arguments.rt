@@ -3,11 +3,11 @@ ghost use Rattle.std.specs.Prelude.{◌≡◌, ℕ, ◌-◌, ◌^◌, ◌<◌, L
 ghost use Rattle.pv_base.specs.Catalog.{Declared};
 ghost use Rattle.pv_model.specs.LineForms as field;
 ghost use Rattle.pv_model.specs.Schedule.{IsIn};
-ghost use Rattle.pv_model.specs.Text.{IsNumber};
-ghost use Rattle.pv_script.specs.Faults.{texts, IsFieldFault};
+ghost use Rattle.pv_model.specs.Text.{IsDecimal};
+ghost use Rattle.pv_script.specs.LineFaults.{texts, IsFieldFault};
 ghost use Rattle.pv_script.specs.Keywords.{command_forms, command_word};
 ghost use Rattle.pv_script.specs.Said.{IsMost, WordsSay, arm_word};
-ghost use Rattle.pv_script.specs.View.{event_of, HasPlan};
+ghost use Rattle.pv_script.specs.ScheduleView.{event_of, HasPlan};
 
 use crate::fields::{mode_of, number_in, site_in};
 use crate::keyword::Command;
@@ -148,7 +148,7 @@ fn number_alone(args: &[&[u8]], least: u64, most: u64) -> Result<u64, LineCause>
 
 // A site, alone.
 fn site_alone(args: &[&[u8]], sites: u8) -> Result<SiteId, LineCause>
-    ensures site { IfOk result (λ site. (word : List ℕ) × (texts args.now ≡ word ∷ []) × IsNumber word site.0 × (site.0 < sites)) }
+    ensures site { IfOk result (λ site. (word : List ℕ) × (texts args.now ≡ word ∷ []) × IsDecimal word site.0 × (site.0 < sites)) }
     ensures fault { IfErr result (IsFieldFault sites ((field.site ∷ []) ∷ []) (texts args.now)) }
 {
     let [word] = args else {

@@ -17,7 +17,7 @@ pub enum Fault {
 }
 
 impl Fault {
-    ghost use Rattle.pv_script.specs.Faults.{error_at};
+    ghost use Rattle.pv_script.specs.LineFaults.{error_at};
 
     /// The refusal of the line of this number.
     pub fn at(self, line: u32) -> ScriptError
@@ -41,7 +41,7 @@ impl From<LineCause> for Fault {
 }
 
 impl From<CatalogError> for Fault {
-    ghost use Rattle.pv_script.specs.Faults.{fault_of_catalog};
+    ghost use Rattle.pv_script.specs.LineFaults.{fault_of_catalog};
 
     ghost from_gives = { λ error f. f ≡ fault_of_catalog error };
 
@@ -58,7 +58,7 @@ impl From<CatalogError> for Fault {
 }
 
 impl From<ParseError> for Fault {
-    ghost use Rattle.pv_script.specs.Faults.{fault_of_parse};
+    ghost use Rattle.pv_script.specs.LineFaults.{fault_of_parse};
 
     ghost from_gives = { λ error f. f ≡ fault_of_parse error };
 
@@ -75,7 +75,7 @@ impl From<ParseError> for Fault {
 }
 
 impl From<CheckError> for Fault {
-    ghost use Rattle.pv_script.specs.Faults.{fault_of_check};
+    ghost use Rattle.pv_script.specs.LineFaults.{fault_of_check};
 
     ghost from_gives = { λ error f. f ≡ fault_of_check error };
 

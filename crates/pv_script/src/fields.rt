@@ -1,12 +1,12 @@
 // What single words after the first one of a line spell.
 ghost use Rattle.std.specs.Prelude.{◌≡◌, ℕ, ◌<◌, false, IfSome, IfNone, IsTrue};
 ghost use Rattle.std.specs.List.{Contains};
-ghost use Rattle.pv_model.specs.Causes.{mode_words};
+ghost use Rattle.pv_model.specs.LineCauses.{mode_words};
 ghost use Rattle.pv_model.specs.LineForms as field;
 ghost use Rattle.pv_model.specs.LineForms.{has_good_number};
 ghost use Rattle.pv_model.specs.Meaning.{fits_i64};
 ghost use Rattle.pv_model.specs.Schedule.{IsIn, IsMode};
-ghost use Rattle.pv_model.specs.Text.{IsNumber, IsSigned};
+ghost use Rattle.pv_model.specs.Text.{IsDecimal, IsSignedDecimal};
 
 use crate::words::{number_of, signed_of};
 use pv_base::{Mode, SiteId};
@@ -25,7 +25,7 @@ pub fn number_in(word: &[u8], least: u64, most: u64) -> Option<u64>
 
 /// The site that a word spells, of so many.
 pub fn site_in(word: &[u8], sites: u8) -> Option<SiteId>
-    ensures site { IfSome result (λ site. IsNumber word.now site.0 × site.0 < sites) }
+    ensures site { IfSome result (λ site. IsDecimal word.now site.0 × site.0 < sites) }
     ensures none { IfNone result (has_good_number sites (field.site, word.now) ≡ false) }
 {
     let n = number_of(word)?;
@@ -37,7 +37,7 @@ pub fn site_in(word: &[u8], sites: u8) -> Option<SiteId>
 
 /// The value of an item that a word spells.
 pub fn value_in(word: &[u8]) -> Option<i64>
-    ensures value { IfSome result (λ z. IsSigned word.now z × IsTrue (fits_i64 z)) }
+    ensures value { IfSome result (λ z. IsSignedDecimal word.now z × IsTrue (fits_i64 z)) }
     ensures none { (sites : ℕ) → IfNone result (has_good_number sites (field.value, word.now) ≡ false) }
 {
     signed_of(word)

@@ -1,7 +1,7 @@
 // The words that lines begin with.
 ghost use Rattle.std.specs.Prelude.{◌≡◌, [], MatchOption};
 ghost use Rattle.pv_model.specs.LineForms.{forms_of};
-ghost use Rattle.pv_script.specs.Keywords.{spelled, listed};
+ghost use Rattle.pv_script.specs.Keywords.{spelled, keyword_beside};
 
 /// A word that a line begins with.
 #[derive(Clone, Copy, Debug, PartialEq, Eq)]
@@ -77,13 +77,13 @@ const KEYWORDS: [(&[u8], Keyword); 18] = [
 pub fn keyword_of(word: &[u8]) -> Option<Keyword>
     ensures { MatchOption result (forms_of word.now ≡ []) (λ keyword. word.now ≡ spelled keyword) }
 {
-    listed_in(word, &KEYWORDS)
+    keyword_in(word, &KEYWORDS)
 }
 
 // The keyword beside a word in a table.
-#[tactic(auto, unfolding(crate::specs::Keywords::listed))]
-fn listed_in(word: &[u8], table: &[(&[u8], Keyword)]) -> Option<Keyword>
-    ensures { result ≡ listed word.now table.now }
+#[tactic(auto, unfolding(crate::specs::Keywords::keyword_beside))]
+fn keyword_in(word: &[u8], table: &[(&[u8], Keyword)]) -> Option<Keyword>
+    ensures { result ≡ keyword_beside word.now table.now }
 {
     table
         .iter()

@@ -1,14 +1,14 @@
 // How a schedule is read.
 ghost use Rattle.std.specs.Prelude.{◌≡◌, ◌≤◌, ℕ, List, ◌∷◌, All, length, vec_len, IfOk, IfErr, IfSome, OnOk};
 ghost use Rattle.pv_base.specs.Answer.{Answers};
-ghost use Rattle.pv_model.specs.Causes as model;
+ghost use Rattle.pv_model.specs.LineCauses as model;
 ghost use Rattle.pv_model.specs.Schedule.{Declares, IsSchedule};
 ghost use Rattle.pv_script.specs.ScriptErrors.{IsMalformedAt, refused_line};
-ghost use Rattle.pv_script.specs.Faults.{IsErrorAt};
-ghost use Rattle.pv_script.specs.LinesLeft.{lines_of};
+ghost use Rattle.pv_script.specs.LineFaults.{IsErrorAt};
+ghost use Rattle.pv_script.specs.LinesLeft.{unread};
 ghost use Rattle.pv_script.specs.Said.{before_of, IsLimited};
-ghost use Rattle.pv_script.specs.Takes.{Takes};
-ghost use Rattle.pv_script.specs.View.{schedule_of, HasPlan};
+ghost use Rattle.pv_script.specs.TakesLine.{TakesLine};
+ghost use Rattle.pv_script.specs.ScheduleView.{schedule_of, HasPlan};
 
 use crate::lines::{Lines, MAX_SCHEDULE, SignificantLine};
 use crate::said::Said;
@@ -50,7 +50,7 @@ fn read_first(alloc: Global, lines: &mut Lines) -> Result<Said, ScriptError>
     ensures declares { IfOk result (λ said. (number : ℕ) × (line : List ℕ)
         × (lines.old.numbered ≡ (number, line) ∷ lines.new.numbered) × Declares model.at_first line (before_of said)) }
     ensures limited { IfOk result IsLimited }
-    ensures fault { (text : List ℕ) → IfErr result (λ error. lines.old ≡ lines_of text → IfSome (refused_line error) (IsMalformedAt text)) }
+    ensures fault { (text : List ℕ) → IfErr result (λ error. lines.old ≡ unread text → IfSome (refused_line error) (IsMalformedAt text)) }
 {
     let Some(line) = lines.next() else {
         return Err(ScriptError::Malformed {
@@ -72,7 +72,7 @@ fn read_line(
     line: SignificantLine,
 ) -> Result<(), ScriptError>
     requires { IsLimited said.old }
-    ensures takes { OnOk result (Takes (before_of said.old) line.entry.text.now (before_of said.new) said.new.catalog events.old.items events.new.items) }
+    ensures takes { OnOk result (TakesLine (before_of said.old) line.entry.text.now (before_of said.new) said.new.catalog events.old.items events.new.items) }
     ensures limited { OnOk result (IsLimited said.new) }
     ensures fault { IfErr result (IsErrorAt (before_of said.old) line.entry.number line.entry.text.now) }
 {

@@ -1,16 +1,16 @@
 // What the lines of a schedule said so far, and what one more line says.
 ghost use Rattle.std.specs.Prelude.{◌≡◌, ℕ, List, [], ◌∷◌, MatchOption, IfOk, IfErr, IfSome, OnOk, codes};
-ghost use Rattle.pv_model.specs.Causes as model;
-ghost use Rattle.pv_model.specs.LineForms.{forms_of, first_of};
+ghost use Rattle.pv_model.specs.LineCauses as model;
+ghost use Rattle.pv_model.specs.LineForms.{forms_of, leading_word};
 ghost use Rattle.pv_model.specs.Schedule.{Declares, DeclaresJournal, DeclaresItem, IsEvent, IsIn, Says, with_event, request_word};
 ghost use Rattle.pv_model.specs.Text as written;
 ghost use Rattle.pv_model.specs.Text.{IsText};
 ghost use Rattle.pv_script.specs.declared.fault.Fault.TheVariants.{At};
 ghost use Rattle.pv_script.specs.declared.schedule.LineCause.TheVariants.{UnknownWord};
-ghost use Rattle.pv_script.specs.Faults.{texts, IsLineFault};
+ghost use Rattle.pv_script.specs.LineFaults.{texts, IsLineFault};
 ghost use Rattle.pv_script.specs.Keywords.{spelled};
 ghost use Rattle.pv_script.specs.Said.{before_of, IsLimited, IsHead};
-ghost use Rattle.pv_script.specs.View.{event_of, HasPlan};
+ghost use Rattle.pv_script.specs.ScheduleView.{event_of, HasPlan};
 
 use crate::arguments::{count_in, event_in, limit_in};
 use crate::fault::Fault;
@@ -198,7 +198,7 @@ fn sites_in(words: &[&[u8]]) -> Result<u8, LineCause>
 // The first of the words, if a line may begin with it, and the words after it.
 fn split<'a, 'b>(words: &'b [&'a [u8]]) -> Result<(Keyword, &'b [&'a [u8]]), LineCause>
     ensures words { IfOk result (λ found. texts words.now ≡ spelled found.0 ∷ texts found.1.now) }
-    ensures unknown { IfErr result (λ cause. (cause ≡ UnknownWord) × (forms_of (first_of (texts words.now)) ≡ [])) }
+    ensures unknown { IfErr result (λ cause. (cause ≡ UnknownWord) × (forms_of (leading_word (texts words.now)) ≡ [])) }
 {
     let [first, args @ ..] = words else {
         return Err(LineCause::UnknownWord);

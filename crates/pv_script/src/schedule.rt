@@ -1,7 +1,7 @@
 // What a schedule says, and why a text is none.
 ghost use Rattle.std.specs.Prelude.{◌≡◌, Some};
 ghost use Rattle.pv_script.specs.CauseTexts.{error_text, reason_text};
-ghost use Rattle.pv_script.specs.ScriptErrors.{cause_of};
+ghost use Rattle.pv_script.specs.ScriptErrors.{line_cause_of};
 
 use pv_ast::Program;
 use pv_base::{Catalog, Mode, SiteId};
@@ -132,7 +132,7 @@ pub enum ScriptError {
 }
 
 impl fmt::Display for LineCause {
-    ghost output = { λ cause. Some (reason_text (cause_of cause)) };
+    ghost output = { λ cause. Some (reason_text (line_cause_of cause)) };
 
     #[tactic(auto, unfolding(crate::specs::CauseTexts::cause_text))]
     fn fmt<W: fmt::Write>(&self, f: &mut fmt::Formatter<W>) -> fmt::Result {

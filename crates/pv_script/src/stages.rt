@@ -2,11 +2,11 @@
 ghost use Rattle.std.specs.Prelude.{◌≡◌, ◌==◌, ◌≤◌, ℕ, nat_le, List, length, IfOk};
 ghost use Rattle.std.specs.List.{list_all};
 ghost use Rattle.std.specs.Option.{option_map};
-ghost use Rattle.pv_script.specs.Form as model;
-ghost use Rattle.pv_model.specs.LineForms.{first_of, takes_program};
+ghost use Rattle.pv_script.specs.Runnable as model;
+ghost use Rattle.pv_model.specs.LineForms.{leading_word, takes_program};
 ghost use Rattle.pv_model.specs.Text as written;
 ghost use Rattle.pv_model.specs.Text.{number_of_digits};
-ghost use Rattle.pv_script.specs.Faults.{texts};
+ghost use Rattle.pv_script.specs.LineFaults.{texts};
 ghost use Rattle.pv_script.specs.Stages.{stage_of, stage_after_word};
 
 use crate::lines::{Lines, MAX_SCHEDULE};
@@ -16,7 +16,7 @@ use std::alloc::Global;
 
 // What may come next.
 #[derive(Clone, Copy, Debug, PartialEq, Eq)]
-enum Stage {
+enum ScheduleStage {
     // The count of sites.
     Sites,
     // An item, a request or a report, or the end.
@@ -32,7 +32,7 @@ pub fn not_built(alloc: Global, text: &[u8]) -> Result<Option<u32>, NoMemory>
     ensures { IfOk result (λ number. number ≡ model.not_built text.now) }
 {
     let mut lines = Lines::new(text);
-    let mut stage = Stage::Sites;
+    let mut stage = ScheduleStage::Sites;
     while let Some(line) = lines.next() {
         match stage_after(alloc, stage, line.text)? {
             Some(next) => stage = next,
@@ -40,13 +40,17 @@ pub fn not_built(alloc: Global, text: &[u8]) -> Result<Option<u32>, NoMemory>
         }
     }
     match stage {
-        Stage::Any => Ok(None),
-        Stage::Sites | Stage::Pump => Ok(Some(lines.after_last())),
+        ScheduleStage::Any => Ok(None),
+        ScheduleStage::Sites | ScheduleStage::Pump => Ok(Some(lines.after_last())),
     }
 }
 
 // What may come after a line, if the line can be run.
-fn stage_after(alloc: Global, stage: Stage, line: &[u8]) -> Result<Option<Stage>, NoMemory>
+fn stage_after(
+    alloc: Global,
+    stage: ScheduleStage,
+    line: &[u8],
+) -> Result<Option<ScheduleStage>, NoMemory>
     ensures { IfOk result (λ next. option_map stage_of next ≡ model.stage_after (stage_of stage) line.now) }
 {
     let words = words_of(alloc, line)?;
@@ -54,19 +58,19 @@ fn stage_after(alloc: Global, stage: Stage, line: &[u8]) -> Result<Option<Stage>
 }
 
 // What may come after a line of these words.
-fn next(stage: Stage, words: &[&[u8]]) -> Option<Stage>
+fn next(stage: ScheduleStage, words: &[&[u8]]) -> Option<ScheduleStage>
     ensures { (line : List ℕ) → texts words.now ≡ written.words line → option_map stage_of result ≡ model.stage_after (stage_of stage) line }
 {
     match stage {
-        Stage::Sites => is_one_site(words).then_some(Stage::Any),
-        Stage::Any => after_any(words),
-        Stage::Pump => is_pump(words).then_some(Stage::Any),
+        ScheduleStage::Sites => is_one_site(words).then_some(ScheduleStage::Any),
+        ScheduleStage::Any => after_any(words),
+        ScheduleStage::Pump => is_pump(words).then_some(ScheduleStage::Any),
     }
 }
 
 // What may come after a line of these words, where any line may come.
-fn after_any(words: &[&[u8]]) -> Option<Stage>
-    ensures { option_map stage_of result ≡ stage_after_word (first_of (texts words.now)) }
+fn after_any(words: &[&[u8]]) -> Option<ScheduleStage>
+    ensures { option_map stage_of result ≡ stage_after_word (leading_word (texts words.now)) }
 {
     let [first, ..] = words else {
         return None;
@@ -75,14 +79,14 @@ fn after_any(words: &[&[u8]]) -> Option<Stage>
 }
 
 // What may come after a line of this first word, where any line may come.
-fn stage_after_word(word: &[u8]) -> Option<Stage>
+fn stage_after_word(word: &[u8]) -> Option<ScheduleStage>
     ensures { option_map stage_of result ≡ stage_after_word word.now }
 {
     if is_free(word) {
-        return Some(Stage::Any);
+        return Some(ScheduleStage::Any);
     }
     if takes_program(word) {
-        return Some(Stage::Pump);
+        return Some(ScheduleStage::Pump);
     }
     None
 }

@@ -3,7 +3,7 @@ ghost use Rattle.std.specs.Prelude.{◌≡◌, ℕ, ℤ, ◌^◌, ◌<◌, map, 
 ghost use Rattle.std.specs.List.{list_all};
 ghost use Rattle.pv_model.specs.Meaning.{fits_i64};
 ghost use Rattle.pv_base.specs.Name.{is_digit};
-ghost use Rattle.pv_model.specs.Text.{words, digits_of, is_text_byte, IsNumber, IsSigned};
+ghost use Rattle.pv_model.specs.Text.{words, digits_of, is_text_byte, IsDecimal, IsSignedDecimal};
 
 use pv_base::is_blank;
 use std::alloc::{AllocError, Global};
@@ -27,8 +27,8 @@ pub fn words_of<'a>(alloc: Global, line: &'a [u8]) -> Result<Vec<&'a [u8]>, Allo
 
 /// The number below 2^64 that a word spells.
 pub fn number_of(word: &[u8]) -> Option<u64>
-    ensures number { IfSome result (λ n. IsNumber word.now n) }
-    ensures none { IfNone result ((n : ℕ) → n < 2 ^ 64 → IsNumber word.now n → ⊥) }
+    ensures number { IfSome result (λ n. IsDecimal word.now n) }
+    ensures none { IfNone result ((n : ℕ) → n < 2 ^ 64 → IsDecimal word.now n → ⊥) }
 {
     // `parse` would take a `+` too.
     if !are_digits(word) {
@@ -39,8 +39,8 @@ pub fn number_of(word: &[u8]) -> Option<u64>
 
 /// The signed number of 64 bits that a word spells.
 pub fn signed_of(word: &[u8]) -> Option<i64>
-    ensures number { IfSome result (λ z. IsSigned word.now z) }
-    ensures none { IfNone result ((z : ℤ) → IsTrue (fits_i64 z) → IsSigned word.now z → ⊥) }
+    ensures number { IfSome result (λ z. IsSignedDecimal word.now z) }
+    ensures none { IfNone result ((z : ℤ) → IsTrue (fits_i64 z) → IsSignedDecimal word.now z → ⊥) }
 {
     if !are_digits(without_minus(word)) {
         return None;

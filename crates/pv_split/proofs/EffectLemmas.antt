@@ -56,7 +56,7 @@ rows-in-columns (read ∷ reads) txns place within =
     (get_or-map (number_at read.cases) (assignments txns) place [] (pos 0) (omega (arith, within, length-assignments txns)))
     (rows-in-columns reads txns place within)
 
--- Whether rows have each item of a program once hangs on their items alone.
+-- Whether rows have each item of a program once depends on their items alone.
 
 lacks-alike : (rows others : List Row) (n : ℕ) → items_of_rows rows ≡ items_of_rows others → lacks rows n ≡ lacks others n
 lacks-alike [] [] n same = refl

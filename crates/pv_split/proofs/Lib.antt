@@ -1,4 +1,5 @@
 pub mod OutcomeLemmas
 pub mod EffectLemmas
 pub mod WriteLemmas
+pub mod SplitLemmas
 pub mod LawLemmas

@@ -1,4 +1,4 @@
--- What reads name together, read by read, and that rows hang only on these outcomes.
+-- What reads name together, read by read, and that rows depend only on these outcomes.
 use Rattle.std.proofs.Common.{◌≡◌, ℕ, ℤ, ◌+◌, ◌<◌, ◌≤◌, Bool, ◌||◌, List, [], ◌∷◌, ◌++◌, map, take, get_or, length, IsTrue, refl, sym, ap, ◌∙◌, filter}
 use Rattle.std.specs.List.{Contains}
 use Rattle.std.proofs.lemmas.Bool.{or_left, or_right}
@@ -21,9 +21,9 @@ use Rattle.pv_cases.proofs.OrderedNames.{txns_of-append}
 
 -- The transactions of reads.
 
-txns-more : (reads : List Read) (i : ℕ) (d : Read) → i < length reads
+reads-more : (reads : List Read) (i : ℕ) (d : Read) → i < length reads
     → txns_of (all_cases (take (i + 1) reads)) ≡ txns_of (all_cases (take i reads)) ++ txns_of (get_or reads i d).cases
-txns-more reads i d within =
+reads-more reads i d within =
     let before = all_cases (take i reads) in
     let read = get_or reads i d in
     ap (λ (some : List Read). txns_of (all_cases some)) (take_more reads i d within)
@@ -31,30 +31,30 @@ txns-more reads i d within =
     ∙ txns_of-append before (read.cases ++ [])
     ∙ ap (λ (cases : List (Case ℤ)). txns_of before ++ txns_of cases) (append-nil read.cases)
 
--- The transactions of one more read are put behind the others.
-pub txns-next : (reads : List Read) (i : ℕ) (read : Read) (cases : List (Case ℤ)) (txns more : List TxnId) → i < length reads → read ≡ get_or reads i read
+-- The transactions of one more read are appended.
+pub reads-next : (reads : List Read) (i : ℕ) (read : Read) (cases : List (Case ℤ)) (txns more : List TxnId) → i < length reads → read ≡ get_or reads i read
     → cases ≡ read.cases → txns ≡ txns_of (all_cases (take i reads)) → more ≡ txns ++ txns_of cases → more ≡ txns_of (all_cases (take (i + 1) reads))
-txns-next reads i read cases txns more within is same before behind =
+reads-next reads i read cases txns more within is same before behind =
     behind
     ∙ ap (λ (some : List TxnId). some ++ txns_of cases) before
     ∙ ap (λ (these : List (Case ℤ)). txns_of (all_cases (take i reads)) ++ txns_of these) (same ∙ ap (λ (r : Read). r.cases) is)
-    ∙ sym (txns-more reads i read within)
+    ∙ sym (reads-more reads i read within)
 
 -- These are the transactions of all reads.
-pub txns-end : (reads : List Read) (i : ℕ) (txns : List TxnId) → length reads ≤ i → txns ≡ txns_of (all_cases (take i reads)) → txns_of (all_cases reads) ≡ txns
-txns-end reads i txns past all = sym (all ∙ ap (λ (some : List Read). txns_of (all_cases some)) (take_all i reads past))
+pub reads-end : (reads : List Read) (i : ℕ) (txns : List TxnId) → length reads ≤ i → txns ≡ txns_of (all_cases (take i reads)) → txns_of (all_cases reads) ≡ txns
+reads-end reads i txns past all = sym (all ∙ ap (λ (some : List Read). txns_of (all_cases some)) (take_all i reads past))
 
 -- Two lists of what is named have one length.
 pub same_count : (reads : List Read) (txns us : List TxnId) → AreNames (all_cases reads) txns → AreNames (all_cases reads) us → length txns ≡ length us
 same_count reads txns us are them = ap length (one-names (all_cases reads) (all_cases reads) txns us (λ t. refl) are them)
 
--- What hangs only on some outcomes.
+-- What depends only on some outcomes.
 
 -- the assignment of these transactions that agrees with this one
 abbrev pub chosen : List TxnId → List TxnId → List TxnId
 chosen txns a = filter (λ t. commits a t) txns
 
--- What two functions have at the assignments of some transactions they have everywhere, where they hang only on these.
+-- What two functions have at the assignments of some transactions they have everywhere, where they depend only on these.
 pub everywhere : {Y : Type 0} (f g : List TxnId → Y) (txns : List TxnId) → map f (assignments txns) ≡ map g (assignments txns)
     → ((a : List TxnId) → f (chosen txns a) ≡ f a) → ((a : List TxnId) → g (chosen txns a) ≡ g a) → (a : List TxnId) → f a ≡ g a
 everywhere f g txns same first second a =

@@ -7,14 +7,13 @@ use Rattle.std.proofs.lemmas.List.{get_or-map, length-map, map-append, append-ni
 use Rattle.std.proofs.lemmas.List.Elements.{All-append, filter-append}
 use Rattle.pv_base.specs.declared.txn.TxnId.{TxnId}
 use Rattle.pv_base.specs.Assignment.{assignments}
-use Rattle.pv_base.specs.Polyvalue.{Case, value_at, names, AreValues, IsPolyvalue}
+use Rattle.pv_base.specs.Polyvalue.{Case, value_at, names, AreValues}
 use Rattle.pv_model.specs.Alternatives.{Read, all_cases, number_at, rows_at, assigned}
 use Rattle.pv_base.specs.declared.reply.Reply.{Reply}
 use Rattle.pv_model.specs.Meaning.{Row, Effect, exec}
 use Rattle.pv_model.specs.ProgramLaws.{assigns}
 use Rattle.pv_model.specs.Syntax.{Program}
 use Rattle.pv_base.proofs.MapLemmas.{map-map}
-use Rattle.pv_law_polyvalues.proofs.NameLemmas.{NamesAtMost-within}
 use Rattle.pv_law_programs.proofs.ProgramLemmas.{items_stay}
 use Rattle.pv_law_polyvalues.proofs.TableLemmas.{value_at-chosen}
 use Rattle.pv_split.specs.Columns.{effects_at, value_in_row, values_in_row}
@@ -145,11 +144,6 @@ over_both_ok (Err e) P Q R go h more = tt
 -- The write names only the transactions.
 abbrev pub NamesOnly : List TxnId → Read → Type 0
 NamesOnly txns write = (txn : TxnId) → IsTrue (names write.cases txn) → Contains txns txn
-
--- A polyvalue that names only a few transactions is one of so few names.
-pub IsPolyvalue-within : {V : Type 0} (limit few : ℕ) (cases : List (Case V)) (txns : List TxnId) → ((txn : TxnId) → IsTrue (names cases txn) → Contains txns txn)
-    → length txns ≤ few → IsPolyvalue limit cases → IsPolyvalue few cases
-IsPolyvalue-within limit few cases txns named short is = record { canonical = is.canonical; few = NamesAtMost-within few cases txns named short }
 
 -- Where all of some and one more are such, all are.
 pub All-more : {X : Type 0} (P : X → Type 0) (some all : List X) (one : X) → All P some → P one → all ≡ some ++ one ∷ [] → All P all

@@ -47,7 +47,7 @@ pub(crate) fn columns_of(
 }
 
 /// What is read at the assignment at this place.
-pub(crate) fn rows_at(alloc: Global, columns: &[Column], place: usize) -> Result<Vec<Row>, NoMemory>
+pub(crate) fn rows_in(alloc: Global, columns: &[Column], place: usize) -> Result<Vec<Row>, NoMemory>
     requires { All (λ column. place < length column.values) columns.now }
     ensures { IfOk result (λ rows. rows.items ≡ map (row_at place) columns.now) }
 {

@@ -5,7 +5,7 @@ ghost use Rattle.pv_model.specs.Alternatives.{rows_at};
 ghost use Rattle.pv_model.specs.Items.{has_all_items};
 ghost use Rattle.pv_split.specs.Columns.{effects_at};
 
-use crate::columns::{columns_of, rows_at};
+use crate::columns::{columns_of, rows_in};
 use pv_ast::{Effect, Program, exec};
 use pv_base::{NoMemory, READ_NAMES, TxnId};
 use pv_poly::Read;
@@ -26,7 +26,7 @@ pub(crate) fn effects_of(
     let columns = columns_of(alloc, reads, txns)?;
     let mut effects = Vec::new(alloc);
     for place in 0..1usize << txns.len() {
-        let rows = rows_at(alloc, &columns, place)?;
+        let rows = rows_in(alloc, &columns, place)?;
         effects.push(exec(alloc, program, &rows)?)?;
     }
     Ok(effects)

@@ -1,10 +1,12 @@
 // A program over polyvalues is computed for each alternative of what it reads, and what comes out is joined.
-ghost use Rattle.std.specs.Prelude.{◌≡◌, ◌≢◌, ◌<◌, ◌⊎◌, ℕ, List, [], All, Err, length, IsTrue, IfOk, IfErr};
+ghost use Rattle.std.specs.Prelude.{◌<◌, [], IsTrue};
 ghost use Rattle.std.specs.List.{AllPairs};
-ghost use Rattle.pv_base.specs.Polyvalue.{names, AreNames, IsPolyvalue};
-ghost use Rattle.pv_base.specs.declared.txn.TxnId.{TxnId};
-ghost use Rattle.pv_model.specs.Alternatives.{all_cases, rows_at, IsSplit};
+ghost use Rattle.pv_base.specs.Answer.{Answers};
+ghost use Rattle.pv_base.specs.declared.limits.TheConstants.{READ_NAMES};
+ghost use Rattle.pv_cases.specs.NameLimits.{NameTooMany};
+ghost use Rattle.pv_model.specs.Alternatives.{all_cases, rows_at};
 ghost use Rattle.pv_model.specs.Items.{has_all_items};
+ghost use Rattle.pv_split.specs.Splitting.{count_of, IsJoinedSplit};
 
 use crate::effects::effects_of;
 use crate::outcomes::outcomes_of;
@@ -65,19 +67,7 @@ impl From<NoMemory> for SplitError {
 pub fn split(alloc: Global, program: &Program, reads: &[Read]) -> Result<Joined, SplitError>
     requires ascending { AllPairs (λ read later. read.item < later.item) reads.now }
     requires items { IsTrue (has_all_items (rows_at reads.now []) program.now) }
-    ensures split { IfOk result (λ joined. IsSplit program.now reads.now joined.writes.items joined.reply) }
-    ensures writes { IfOk result (λ joined. All (λ write. IsPolyvalue READ_NAMES write.cases) joined.writes.items) }
-    ensures reply { IfOk result (λ joined. IsPolyvalue READ_NAMES joined.reply) }
-
-    // It names nothing that the reads don't name.
-    ensures named_by_writes { IfOk result (λ joined. All (λ write. (txn : TxnId) → IsTrue (names write.cases txn) → IsTrue (names (all_cases reads.now) txn)) joined.writes.items) }
-    ensures named_by_reply { IfOk result (λ joined. (txn : TxnId) → IsTrue (names joined.reply txn) → IsTrue (names (all_cases reads.now) txn)) }
-
-    // It is refused exactly where the reads name too many outcomes. Besides, only memory can fail.
-    ensures refused { (txns : List TxnId) → AreNames (all_cases reads.now) txns →
-        IfErr result (λ e. e ≢ SplitError.NoMemory → (e ≡ SplitError.OutcomeLimit (length txns)) × (READ_NAMES < length txns)) }
-    ensures refuses { (txns : List TxnId) → AreNames (all_cases reads.now) txns → READ_NAMES < length txns →
-        (result ≡ Err (SplitError.OutcomeLimit (length txns))) ⊎ (result ≡ Err SplitError.NoMemory) }
+    ensures answer { Answers (IsJoinedSplit READ_NAMES program.now reads.now) (NameTooMany READ_NAMES (all_cases reads.now)) (λ joined. (joined.writes.items, joined.reply)) count_of result }
 {
     let txns = outcomes_of(alloc, reads)?;
     let effects = effects_of(alloc, program, reads, &txns)?;

@@ -1,8 +1,10 @@
 // The outcomes that reads name together.
-ghost use Rattle.std.specs.Prelude.{◌≡◌, ◌≢◌, ◌<◌, ◌≤◌, ◌⊎◌, List, Err, length, IfOk, IfErr, OnOk};
+ghost use Rattle.std.specs.Prelude.{◌≡◌, ◌<◌, ◌≤◌, length, IfOk, IfErr, IfSome, OnOk};
 ghost use Rattle.pv_base.specs.Polyvalue.{AreNames};
-ghost use Rattle.pv_base.specs.declared.txn.TxnId.{TxnId};
+ghost use Rattle.pv_base.specs.declared.limits.TheConstants.{READ_NAMES};
+ghost use Rattle.pv_cases.specs.NameLimits.{NameTooMany};
 ghost use Rattle.pv_model.specs.Alternatives.{all_cases};
+ghost use Rattle.pv_split.specs.Splitting.{count_of};
 
 use crate::SplitError;
 use pv_base::{NoMemory, READ_NAMES, TxnId};
@@ -15,12 +17,7 @@ use std::alloc::Global;
 pub(crate) fn outcomes_of(alloc: Global, reads: &[Read]) -> Result<Vec<TxnId>, SplitError>
     ensures names { IfOk result (λ txns. AreNames (all_cases reads.now) txns.items) }
     ensures few { IfOk result (λ txns. length txns.items ≤ READ_NAMES) }
-
-    // It is refused exactly where they are too many. Besides, only memory can fail.
-    ensures refused { (txns : List TxnId) → AreNames (all_cases reads.now) txns →
-        IfErr result (λ e. e ≢ SplitError.NoMemory → (e ≡ SplitError.OutcomeLimit (length txns)) × (READ_NAMES < length txns)) }
-    ensures refuses { (txns : List TxnId) → AreNames (all_cases reads.now) txns → READ_NAMES < length txns →
-        (result ≡ Err (SplitError.OutcomeLimit (length txns))) ⊎ (result ≡ Err SplitError.NoMemory) }
+    ensures refused { IfErr result (λ e. IfSome (count_of e) (NameTooMany READ_NAMES (all_cases reads.now))) }
 {
     limited(named_in(alloc, reads)?)
 }
@@ -40,9 +37,7 @@ fn named_in(alloc: Global, reads: &[Read]) -> Result<Vec<TxnId>, NoMemory>
 fn limited(txns: Vec<TxnId>) -> Result<Vec<TxnId>, SplitError>
     ensures same { IfOk result (λ kept. kept.items ≡ txns.items) }
     ensures few { OnOk result (length txns.items ≤ READ_NAMES) }
-    ensures refused { IfErr result (λ e. e ≢ SplitError.NoMemory → (e ≡ SplitError.OutcomeLimit (length txns.items)) × (READ_NAMES < length txns.items)) }
-    ensures refuses { READ_NAMES < length txns.items →
-        (result ≡ Err (SplitError.OutcomeLimit (length txns.items))) ⊎ (result ≡ Err SplitError.NoMemory) }
+    ensures refused { IfErr result (λ e. IfSome (count_of e) (λ count. (length txns.items ≡ count) × (READ_NAMES < count))) }
 {
     let Ok(count) = u32::try_from(txns.len()) else {
         return Err(SplitError::NoMemory);

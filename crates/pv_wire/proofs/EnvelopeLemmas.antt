@@ -35,7 +35,7 @@ empty [] fewer = refl
 empty (byte ∷ bytes) fewer = absurd (omega arith)
 
 module _ (bytes : List ℕ) (all : AreBytes bytes) where
-  -- An error that tells the first fault, or want of memory, is an answer.
+  -- An error that reports the first fault, or out of memory, is an answer.
   pub refused : (e : WireError) → IfSome (fault_of e) (EnvelopeFault bytes)
       → Answers (λ envelope. SpellsEnvelope envelope bytes) (EnvelopeFault bytes) envelope_of fault_of (Err e)
   refused e faulty = answered (λ envelope. SpellsEnvelope envelope bytes) (EnvelopeFault bytes) (one-envelope-answer bytes all) envelope_of fault_of (Err e) tt faulty

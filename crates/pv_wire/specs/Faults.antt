@@ -1,4 +1,4 @@
--- What the errors tell.
+-- The faults that errors stand for.
 use Rattle.std.specs.Prelude.{Option, Some, None}
 use Rattle.pv_format.specs.FirstFault.{Fault, bad_kind, short, extra, bad_field, bad_poly}
 use Rattle.pv_replay.specs.declared.error.PolyError.{PolyError}
@@ -6,7 +6,7 @@ use Rattle.pv_replay.specs.declared.error.PolyError.TheVariants as part
 use Rattle.pv_wire.specs.declared.error.WireError.{WireError}
 use Rattle.pv_wire.specs.declared.error.WireError.TheVariants.{BadKind, Short, Extra, BadField, BadPoly, NoMemory}
 
--- The fault that the error tells, unless it is want of memory.
+-- The fault that the error stands for; none where there was no memory.
 abbrev pub fault_of : WireError → Option Fault
 fault_of (BadKind byte) = Some (bad_kind byte)
 fault_of (Short place) = Some (short place)

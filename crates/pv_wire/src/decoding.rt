@@ -18,13 +18,13 @@ use std::alloc::Global;
 /// The message that the bytes spell, or their first fault in reading order. Room is made for what has been read, never by a count alone. Takes
 /// time in proportion to the bytes.
 pub fn decode(alloc: Global, bytes: &[u8]) -> Result<Envelope, WireError>
-    ensures { Answers (λ envelope. SpellsEnvelope envelope bytes.now) (EnvelopeFault bytes.now) envelope_of fault_of result }
+    ensures answer { Answers (λ envelope. SpellsEnvelope envelope bytes.now) (EnvelopeFault bytes.now) envelope_of fault_of result }
 {
     let mut take = Take::new(bytes);
     let Ok(kind) = take.u8() else {
         return Err(WireError::Short(0));
     };
-    if kind < 1 || kind > 8 {
+    if !is_kind(kind) {
         return Err(WireError::BadKind(kind));
     }
     let envelope = take_envelope(alloc, &mut take, kind)?;
@@ -32,6 +32,13 @@ pub fn decode(alloc: Global, bytes: &[u8]) -> Result<Envelope, WireError>
         return Err(WireError::Extra(take.place()));
     }
     Ok(envelope)
+}
+
+// Whether the byte is a kind of message.
+fn is_kind(byte: u8) -> bool
+    ensures { result ≡ is_kind byte }
+{
+    (1..=8).contains(&byte)
 }
 
 // Reads what stands in a message of this kind after the kind.

@@ -30,7 +30,7 @@ pub fn encode(alloc: Global, envelope: &Envelope) -> Result<Vec<u8>, NoMemory>
 // Writes a message on its way.
 fn put_envelope(put: &mut Put, envelope: &Envelope) -> Result<(), NoMemory>
     requires { (bytes : List ℕ) × SpellsEnvelope (envelope_of envelope.now) bytes }
-    ensures { (bytes : List ℕ) → SpellsEnvelope (envelope_of envelope.now) bytes → OnOk result (put.new ≡ put.old ++ bytes) }
+    ensures { (bytes : List ℕ) → SpellsEnvelope (envelope_of envelope.now) bytes → OnOk result (put.new.bytes ≡ put.old.bytes ++ bytes) }
 {
     put.u8(kind_of(&envelope.message))?;
     put.u8(envelope.from.0)?;
@@ -42,7 +42,7 @@ fn put_envelope(put: &mut Put, envelope: &Envelope) -> Result<(), NoMemory>
 // Writes what a message has after its transaction.
 fn put_body(put: &mut Put, message: &Message) -> Result<(), NoMemory>
     requires { (bytes : List ℕ) × SpellsBody (message_of message.now) bytes }
-    ensures { (bytes : List ℕ) → SpellsBody (message_of message.now) bytes → OnOk result (put.new ≡ put.old ++ bytes) }
+    ensures { (bytes : List ℕ) → SpellsBody (message_of message.now) bytes → OnOk result (put.new.bytes ≡ put.old.bytes ++ bytes) }
 {
     match message {
         Message::Lock { wants, .. } => put_wants(put, wants),

@@ -14,7 +14,7 @@ use pv_replay::PolyError;
 
 /// Writes a grant.
 pub fn put_grant(put: &mut Put, grant: GrantId) -> Result<(), NoMemory>
-    ensures { (bytes : List ℕ) → SpellsGrant grant bytes → OnOk result (put.new ≡ put.old ++ bytes) }
+    ensures { (bytes : List ℕ) → SpellsGrant grant bytes → OnOk result (put.new.bytes ≡ put.old.bytes ++ bytes) }
 {
     put.u32(grant.epoch)?;
     put.u32(grant.number)
@@ -22,7 +22,7 @@ pub fn put_grant(put: &mut Put, grant: GrantId) -> Result<(), NoMemory>
 
 /// Writes why a participant won't promise.
 pub fn put_cause(put: &mut Put, cause: NoCause) -> Result<(), NoMemory>
-    ensures { (bytes : List ℕ) → SpellsNoCause (cause_of cause) bytes → OnOk result (put.new ≡ put.old ++ bytes) }
+    ensures { (bytes : List ℕ) → SpellsNoCause (cause_of cause) bytes → OnOk result (put.new.bytes ≡ put.old.bytes ++ bytes) }
 {
     match cause {
         NoCause::GrantLost => put.u8(1),

@@ -18,7 +18,7 @@ pub struct Envelope {
     pub message: Message,
 }
 
-/// What one site has to tell another about a transaction.
+/// What one site says to another about a transaction.
 #[derive(Debug, Drop)]
 pub enum Message {
     /// The coordinator asks for locks on items of the receiver.
@@ -67,7 +67,7 @@ pub enum Message {
         /// Why.
         cause: NoCause,
     },
-    /// The coordinator tells the outcome.
+    /// The coordinator says what the outcome is.
     Outcome {
         /// The transaction.
         txn: TxnId,

@@ -131,14 +131,14 @@ fn a_changed_byte_makes_another_message_or_none(rt: HostRuntime) -> Result<(), F
     Ok(())
 }
 
-// What is said of bytes that are no message.
+// The refusal of bytes that are no message.
 fn refusal(alloc: Global, hex: &str) -> Result<Option<WireError>, AllocFailed<u8>> {
     let bytes = bytes_of(alloc, hex)?;
     Ok(decode(alloc, &bytes).err())
 }
 
 #[test]
-fn the_first_fault_is_told(rt: HostRuntime) -> Result<(), Fail> {
+fn the_first_fault_is_answered(rt: HostRuntime) -> Result<(), Fail> {
     let alloc = rt.alloc();
     for (hex, error) in [
         ("", WireError::Short(0)),

@@ -16,7 +16,7 @@ use std::alloc::Global;
 /// Writes wants, which some bytes spell.
 pub fn put_wants(put: &mut Put, wants: &[Want]) -> Result<(), NoMemory>
     requires { length wants.now ≤ 16 }
-    ensures { (fewest : ℕ) (bytes : List ℕ) → SpellsWants fewest wants.now bytes → OnOk result (put.new ≡ put.old ++ bytes) }
+    ensures { (fewest : ℕ) (bytes : List ℕ) → SpellsWants fewest wants.now bytes → OnOk result (put.new.bytes ≡ put.old.bytes ++ bytes) }
 {
     put.u8(wants.len() as u8)?;
     for want in wants {
@@ -27,7 +27,7 @@ pub fn put_wants(put: &mut Put, wants: &[Want]) -> Result<(), NoMemory>
 
 // Writes a want.
 fn put_want(put: &mut Put, want: Want) -> Result<(), NoMemory>
-    ensures { (bytes : List ℕ) → SpellsEntry (λ (entry : model.Want). IsTruth entry.exclusive) (λ entry. entry.item) want bytes → OnOk result (put.new ≡ put.old ++ bytes) }
+    ensures { (bytes : List ℕ) → SpellsEntry (λ (entry : model.Want). IsTruth entry.exclusive) (λ entry. entry.item) want bytes → OnOk result (put.new.bytes ≡ put.old.bytes ++ bytes) }
 {
     put.u32(want.item.0)?;
     put_truth(put, want.exclusive)
@@ -51,7 +51,7 @@ fn take_counted_wants(alloc: Global, take: &mut Take<'_>, count: u8) -> Result<V
 {
     let mut wants = Vec::new(alloc);
     let mut least = 0;
-    'reading: while wants.len() < usize::from(count) {
+    while wants.len() < usize::from(count) {
         let item = take_item(take, least)?;
         let exclusive = take_truth(take)?;
         wants.push(Want { item, exclusive })?;

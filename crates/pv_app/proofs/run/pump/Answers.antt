@@ -7,4 +7,4 @@ pub commit-requires-clause-items : goal.commit-requires-clause-items
 commit-requires-clause-items g c =
     let program = c.in-Some.program.now in
     let sound = c.requires.sound in
-    has_all_items-sound c.args.catalog.now c.args.world.now.rows program sound.rows (sound.waiting program (sym c.in-Some.ensures))
+    has_all_items-sound c.args.catalog.now c.args.state.now.rows program sound.rows (sound.waiting program (sym c.in-Some.ensures))

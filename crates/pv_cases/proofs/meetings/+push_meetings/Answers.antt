@@ -1,6 +1,6 @@
--- The meetings of both outcomes of the first transaction are behind one another.
+-- The meetings where the first transaction aborts come first, then those where it commits.
 use Rattle.std.proofs.Common.{rules, ◌∙◌, arith}
-use Rattle.pv_cases.proofs.PartingLemmas.{ascending-rest, push-none, push-first, still-there}
+use Rattle.pv_cases.proofs.CaseSplitLemmas.{ascending-rest, push-none, push-first, still-there}
 use Rattle.pv_cases.proofs.meetings.+push_meetings.Goals as goal
 
 pub returns-in_default : goal.returns-in_default

@@ -1,4 +1,4 @@
--- The assignment of the transactions left at the place left, behind those found so far, is the one sought.
+-- The assignment of the transactions left at the place left, after those found so far, is the one sought.
 use Rattle.std.proofs.Common.{◌≡◌, ◌<◌, ◌^◌, ◌++◌, List, Some, length}
 use Rattle.std.specs.Prelude.{slice_get}
 use Rattle.pv_base.specs.Assignment.{assignments}

@@ -2,8 +2,8 @@
 use Rattle.std.proofs.Common.{◌≡◌, ℕ, ◌<◌, List, ◌++◌, ◌∷◌, [], length, sym, ap, subst, ◌∙◌, arith}
 use Rattle.std.specs.List.{All, range_with_len}
 use Rattle.pv_cases.specs.declared.meetings.Meeting.{Meeting}
-use Rattle.pv_cases.specs.Partings.{meetings_among}
-use Rattle.pv_cases.proofs.PartingLemmas.{range-more, all-there, meetings-all}
+use Rattle.pv_cases.specs.CaseSplits.{meetings_among}
+use Rattle.pv_cases.proofs.CaseSplitLemmas.{range-more, all-there, meetings-all}
 use Rattle.pv_cases.proofs.meetings.meetings.Goals as goal
 
 pub loop-place-preserved : goal.loop-place-preserved

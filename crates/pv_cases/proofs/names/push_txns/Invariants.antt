@@ -1,4 +1,4 @@
--- The transactions so far are behind what the list held.
+-- The transactions so far come after what the list held.
 use Rattle.std.proofs.Common.{◌≡◌, ◌++◌, map, take}
 use Rattle.pv_base.specs.declared.literal.Literal.{Literal}
 use Rattle.pv_cases.proofs.names.push_txns.Given as goal

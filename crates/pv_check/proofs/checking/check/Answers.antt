@@ -1,7 +1,6 @@
--- The parts are a plan, since the wants are the program's, and so they are the one that is computed.
+-- The parts are a plan, since the wants are the program's.
 use Rattle.std.proofs.Common.{List, sym, subst}
 use Rattle.pv_base.specs.Want.{Want}
-use Rattle.pv_law_programs.proofs.PlanLemmas.{one_plan}
 use Rattle.pv_check.specs.Wants.{AreWants}
 use Rattle.pv_check.proofs.checking.check.Goals as goal
 
@@ -11,6 +10,3 @@ returns-clause-plan c =
     c.in_ok-parts.ensures program
     (subst (λ (wants : List Want). AreWants program wants) (sym c.deref.ensures.value)
     (c.in_ok-wants.ensures program c.marks_of-marks.ensures))
-
-pub returns-clause-computed : goal.returns-clause-computed
-returns-clause-computed c = one_plan c.args.program.now c.args.catalog.now.items _ (returns-clause-plan c)

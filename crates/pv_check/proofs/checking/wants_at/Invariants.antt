@@ -1,4 +1,4 @@
--- The wants so far are told apart.
+-- The wants so far are split.
 use Rattle.std.proofs.Common.{◌≡◌, take}
 use Rattle.pv_check.specs.Wants.{wants_at}
 use Rattle.pv_check.proofs.checking.wants_at.Given as goal

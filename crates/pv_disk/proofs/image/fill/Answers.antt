@@ -1,4 +1,4 @@
-use Rattle.std.proofs.Common.{rules, arith, ◌≡◌, ◌∙◌, sym, ap, length, subst, ◌++◌, ◌∷◌, [], true, false, replicate, map}
+use Rattle.std.proofs.Common.{rules, ◌≡◌, ◌∙◌, sym, ap, length, subst, ◌++◌, ◌∷◌, [], true, false, map}
 use Rattle.pv_disk.specs.MemImage.{AllInside}
 use Rattle.pv_disk.specs.MemHistory.{range_of, unsynced}
 use Rattle.pv_disk.proofs.FillLemmas.{length-fill}

@@ -1,4 +1,4 @@
-use Rattle.std.proofs.Common.{◌≡◌, ◌≤◌, [], map, length}
+use Rattle.std.proofs.Common.{◌≡◌, [], map, length}
 use Rattle.pv_disk.specs.MemImage.{AllInside, filled}
 use Rattle.pv_disk.specs.MemHistory.{range_of, unsynced}
 use Rattle.pv_disk.proofs.image.fill.Given as goal

@@ -1,7 +1,7 @@
-use Rattle.std.proofs.Common.{rules, arith, ◌≡◌, ◌∙◌, sym, ap, length, subst, ◌++◌, ◌∷◌, [], true, false}
+use Rattle.std.proofs.Common.{rules, arith, ◌≡◌, ◌∙◌, sym, ap, length, ◌++◌, ◌∷◌, [], true, false}
 use Rattle.pv_disk.specs.MemHistory.{unsynced, content_before}
 use Rattle.pv_disk.proofs.ImageLemmas.{can_take_back, before_newest, none_to_take_back, before_none}
-use Rattle.pv_disk.proofs.HistoryLemmas.{CanTakeBack, made_longer}
+use Rattle.pv_disk.proofs.HistoryLemmas.{made_longer}
 use Rattle.pv_disk.proofs.image.take_back.Goals as goal
 
 pub returns-then-write-clause-content : goal.returns-then-write-clause-content

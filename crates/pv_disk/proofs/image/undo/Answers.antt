@@ -1,4 +1,4 @@
-use Rattle.std.proofs.Common.{rules, arith, List, ℕ, ◌≡◌, ◌+◌, ◌-◌, take, drop, ◌∙◌, ap, length}
+use Rattle.std.proofs.Common.{rules, List, ℕ, ◌≡◌, ◌-◌, take, drop, ◌∙◌, ap, length}
 use Rattle.std.proofs.lemmas.List.{with_items_is}
 use Rattle.pv_law_disk.specs.Disk.{overlaid}
 use Rattle.pv_disk.specs.MemHistory.{overwritten}

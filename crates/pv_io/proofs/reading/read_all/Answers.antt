@@ -9,7 +9,7 @@ loop-piece-init g c = record {
   room = c.in_ok-piece.ensures;
   within = omega (arith, c.new-bytes.ensures.len);
   consumed = Consumes-none _ _ c.new-bytes.ensures.items;
-  told = search rules;
+  known = search rules;
   counted = search rules;
 }
 
@@ -24,10 +24,10 @@ returns-then-count-eq0 g c =
       whole = whole;
       within = before.within;
       too_long = search rules;
-      failed = search rules;
+      fault = search rules;
       taken = search (rules, before, read);
-      told = read.told ∙ before.told;
-      counted = omega (arith, before.counted, read.cause.0);
+      known = read.known ∙ before.known;
+      counted = omega (arith, before.counted, read.fault.0);
     }
 
 pub loop-piece-preserved : goal.loop-piece-preserved
@@ -45,8 +45,8 @@ loop-piece-preserved g c =
       room = before.room;
       within = omega (arith, extended.len);
       consumed = Consumes-grown _ _ _ _ _ _ before.consumed read.bytes.0 grown;
-      told = read.told ∙ before.told;
-      counted = omega (arith, read.cause.0);
+      known = read.known ∙ before.known;
+      counted = omega (arith, read.fault.0);
     }
 
 -- The read that passed the limit took one piece more.
@@ -61,10 +61,10 @@ returns-then-count-limit g c =
       too_long = λ _ text is.
           let both = long_text _ _ _ _ _ before.consumed read.bytes.0 text is in
           omega (arith, both, read.bound, size, c.loop-piece.bytes.ok.0);
-      failed = search rules;
+      fault = search rules;
       taken = taken_twice _ _ _ _ _ before.consumed read.bytes.0 (omega (arith, before.within, before.room, read.bound, size, c.deref_mut.ensures.len, c.loop-piece.bytes.ok.0));
-      told = read.told ∙ before.told;
-      counted = omega (arith, before.counted, read.cause.0);
+      known = read.known ∙ before.known;
+      counted = omega (arith, before.counted, read.fault.0);
     }
 
 -- So did the read for whose bytes there was no memory.
@@ -77,8 +77,8 @@ returns-in_err-extend_from_slice g c =
       whole = search rules;
       within = search rules;
       too_long = search rules;
-      failed = search rules;
+      fault = search rules;
       taken = taken_twice _ _ _ _ _ before.consumed read.bytes.0 (omega (arith, before.within, before.room, read.bound, size, c.deref_mut.ensures.len, c.loop-piece.bytes.ok.0));
-      told = read.told ∙ before.told;
-      counted = omega (arith, before.counted, read.cause.0);
+      known = read.known ∙ before.known;
+      counted = omega (arith, before.counted, read.fault.0);
     }

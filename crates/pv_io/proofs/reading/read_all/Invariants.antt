@@ -1,7 +1,7 @@
 -- The bytes read so far stood at the front of the text and are no more than the limit; each turn leaves less room.
 use Rattle.std.proofs.Common.{◌≡◌, ◌-◌, ◌≤◌, vec_len}
 use Rattle.std.specs.Io.KnownBytes.{Consumes}
-use Rattle.pv_io.specs.Stream.{TellsAlike}
+use Rattle.pv_io.specs.Stream.{KnownAlike}
 use Rattle.pv_io.proofs.reading.read_all.Given as goal
 
 abbrev pub invariant-loop-piece : goal.invariant-loop-piece
@@ -9,7 +9,7 @@ invariant-loop-piece g l = record {
   room : vec_len l.piece ≡ 65536;
   within : vec_len l.bytes ≤ l.limit;
   consumed : Consumes (g.R.Source.left l.initial.source) (g.R.Source.left l.source) l.bytes.items;
-  told : TellsAlike (g.R.Source.left l.initial.source) (g.R.Source.left l.source);
+  known : KnownAlike (g.R.Source.left l.initial.source) (g.R.Source.left l.source);
   counted : g.R.Source.faults l.initial.source ≤ g.R.Source.faults l.source;
 }
 

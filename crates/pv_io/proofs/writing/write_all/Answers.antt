@@ -19,6 +19,6 @@ loop-written-preserved g c =
     record {
       within = omega (arith, now.bound);
       appended = subst (Appends (held c.args.sink.now) (held c.write.new.self)) both appended;
-      told = now.told ∙ before.told;
-      counted = omega (arith, now.cause.0);
+      known = now.known ∙ before.known;
+      counted = omega (arith, now.fault.0);
     }

@@ -1,5 +1,5 @@
 use Rattle.std.proofs.Common.{rules, arith, inr, sym, ◌∙◌, subst, drop, ◌+◌, ◌-◌, ◌++◌, ◌∷◌, []}
-use Rattle.pv_journal.specs.Format.{EndsShort}
+use Rattle.pv_law_journal.specs.Format.{EndsShort}
 use Rattle.pv_journal.specs.Reading.{ReadsTo, StandsAt, EndsBefore}
 use Rattle.pv_journal.specs.declared.reading.Gate.{Gate}
 use Rattle.pv_journal.specs.declared.reading.Gate.TheVariants.{Open}
@@ -8,7 +8,7 @@ use Rattle.pv_journal.proofs.ReadLemmas.{read_closed, read_cut, read_open}
 use Rattle.pv_journal.proofs.reading.find_end.Goals as goal
 
 pub returns-in_err-gate_at-clause-not_ours : goal.returns-in_err-gate_at-clause-not_ours
-returns-in_err-gate_at-clause-not_ours g c place told bytes is =
+returns-in_err-gate_at-clause-not_ours g c place known bytes is =
     let cut = c.gate_at.ensures.not_ours place (search rules) bytes (c.loop-count.invariant.1 ∙ is) in
     let to = c.loop-count.invariant.2 bytes is in
     inr (to.0, subst (EndsShort to.0 bytes) (sym cut.0) (read_cut to.0 bytes c.loop-count.place to.1 cut.1))

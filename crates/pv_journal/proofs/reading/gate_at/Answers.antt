@@ -7,24 +7,24 @@ returns-then-gate-ne1-clause-stands g c bytes is =
     let rest = drop c.args.place bytes in
     let read = c.in_ok-read_from.ensures.bytes bytes is in
     let one : length c.read_from.new.into ≡ 1 =
-    omega (arith, ap length read, length-take 1 rest, length-drop c.args.place bytes, c.requires.told bytes is) in
+    omega (arith, ap length read, length-take 1 rest, length-drop c.args.place bytes, c.requires.known bytes is) in
     stands_closed rest c.read_from.new.into read one c.if-gate-ne1.true
 
 pub returns-then-left-lt5-clause-not_ours : goal.returns-then-left-lt5-clause-not_ours
-returns-then-left-lt5-clause-not_ours g c at told bytes is =
+returns-then-left-lt5-clause-not_ours g c at known bytes is =
     let rest = drop c.args.place bytes in
     let read = c.in_ok-read_from.ensures.bytes bytes is in
-    let left : length rest ≡ c.args.size - c.args.place = omega (arith, length-drop c.args.place bytes, c.requires.told bytes is) in
+    let left : length rest ≡ c.args.size - c.args.place = omega (arith, length-drop c.args.place bytes, c.requires.known bytes is) in
     let one : length c.read_from.new.into ≡ 1 = omega (arith, ap length read, length-take 1 rest, left) in
     let more = opened rest c.read_from.new.into read one c.if-gate-ne1.false in
     let same : at ≡ c.args.place = cc in
     (same, cut_early rest more.0 more.1 (omega (arith, left)))
 
 pub returns-then-from-left-clause-not_ours : goal.returns-then-from-left-clause-not_ours
-returns-then-from-left-clause-not_ours g c at told bytes is =
+returns-then-from-left-clause-not_ours g c at known bytes is =
     let rest = drop c.args.place bytes in
     let read = c.in_ok-read_from.ensures.bytes bytes is in
-    let left : length rest ≡ c.args.size - c.args.place = omega (arith, length-drop c.args.place bytes, c.requires.told bytes is) in
+    let left : length rest ≡ c.args.size - c.args.place = omega (arith, length-drop c.args.place bytes, c.requires.known bytes is) in
     let one : length c.read_from.new.into ≡ 1 = omega (arith, ap length read, length-take 1 rest, left) in
     let more = opened rest c.read_from.new.into read one c.if-gate-ne1.false in
     let number = c.in_ok-read_from-2.ensures.bytes bytes (c.in_ok-read_from.ensures.effect.1 ∙ is) ∙ ap (take 4) (after_gate bytes more.0 c.args.place 1 more.1) in
@@ -35,7 +35,7 @@ pub returns-clause-stands : goal.returns-clause-stands
 returns-clause-stands g c bytes is =
     let rest = drop c.args.place bytes in
     let read = c.in_ok-read_from.ensures.bytes bytes is in
-    let left : length rest ≡ c.args.size - c.args.place = omega (arith, length-drop c.args.place bytes, c.requires.told bytes is) in
+    let left : length rest ≡ c.args.size - c.args.place = omega (arith, length-drop c.args.place bytes, c.requires.known bytes is) in
     let one : length c.read_from.new.into ≡ 1 = omega (arith, ap length read, length-take 1 rest, left) in
     let more = opened rest c.read_from.new.into read one c.if-gate-ne1.false in
     let number = c.in_ok-read_from-2.ensures.bytes bytes (c.in_ok-read_from.ensures.effect.1 ∙ is) ∙ ap (take 4) (after_gate bytes more.0 c.args.place 1 more.1) in

@@ -1,14 +1,14 @@
 use Rattle.std.proofs.Common.{rules, arith, ◌≡◌, ℕ, inr, sym, ◌∙◌, subst, ap, map, drop, length, ◌+◌, ◌-◌, ◌++◌, ◌∷◌, [], vec_len, Vec, Global, Option, ◌<◌, ◌^◌}
 use Rattle.std.specs.Prelude.{IfSome}
 use Rattle.std.proofs.lemmas.List.{map_push}
-use Rattle.pv_journal.specs.Format.{EndsShort}
+use Rattle.pv_law_journal.specs.Format.{EndsShort}
 use Rattle.pv_journal.specs.Reading.{HoldsRecord}
 use Rattle.pv_journal.proofs.LookLemmas.{looked_ok, looked_in_vain}
 use Rattle.pv_journal.proofs.ReadLemmas.{read_closed, read_cut, read_open}
 use Rattle.pv_journal.proofs.reading.read_contents.Goals as goal
 
 pub returns-in_err-content-clause-not_ours : goal.returns-in_err-content-clause-not_ours
-returns-in_err-content-clause-not_ours g c place told bytes is =
+returns-in_err-content-clause-not_ours g c place known bytes is =
     let cut = c.read_record.ensures.not_ours place (search rules) bytes (c.loop-all.invariant.1 ∙ is) in
     let all = map (λ (it : Vec ℕ Global). it.items) c.loop-all.all.items in
     inr (all, subst (EndsShort all bytes) (sym cut.0) (read_cut all bytes c.loop-all.place (c.loop-all.invariant.2 bytes is) cut.1))

@@ -1,10 +1,10 @@
 use Rattle.std.proofs.Common.{rules, ◌≡◌, ◌≤◌, ◌≢◌, ◌<◌, min, take, length, slice_index, sym, subst}
-use Rattle.pv_journal.specs.Format.{header, HasNoHeader}
+use Rattle.pv_law_journal.specs.Format.{header, HasNoHeader}
 use Rattle.pv_journal.proofs.ReadLemmas.{no_header, no_gate, begins}
 use Rattle.pv_journal.proofs.reading.read_header.Goals as goal
 
 pub returns-then-place-lt8-clause-not_ours : goal.returns-then-place-lt8-clause-not_ours
-returns-then-place-lt8-clause-not_ours g c place told bytes is =
+returns-then-place-lt8-clause-not_ours g c place known bytes is =
     let front = c.in_ok-front.front.items in
     let at = c.agreement-place.result in
     let size : c.args.size ≡ length bytes = c.requires bytes is in
@@ -16,7 +16,7 @@ returns-then-place-lt8-clause-not_ours g c place told bytes is =
     subst (HasNoHeader bytes) (sym here) (no_header bytes front c.args.size at size read reached c.if-place-lt8.true same differ)
 
 pub returns-then-size-le8-clause-not_ours : goal.returns-then-size-le8-clause-not_ours
-returns-then-size-le8-clause-not_ours g c place told bytes is =
+returns-then-size-le8-clause-not_ours g c place known bytes is =
     let front = c.in_ok-front.front.items in
     let size : c.args.size ≡ length bytes = c.requires bytes is in
     let read : front ≡ take (min c.args.size 8) bytes = search rules in

@@ -1,5 +1,5 @@
 -- What all tokens are or are at fault for, the text is or is refused for.
-use Rattle.std.proofs.Common.{rules, ℕ, ◌≡◌, ◌≤◌, length, List, Err, Result, IfErr, IfSome, refl, sym, subst}
+use Rattle.std.proofs.Common.{rules, ℕ, ◌≡◌, ◌≤◌, length, List, Err, Result, IfSome, refl, sym, subst}
 use Rattle.std.proofs.lemmas.Result.{err_from_is_err_and}
 use Rattle.pv_base.proofs.AnswerLemmas.{answered}
 use Rattle.pv_base.specs.declared.limits.TheConstants.{MAX_LINE}
@@ -16,9 +16,9 @@ use Rattle.pv_parse.proofs.parsing.parse.Goals as goal
 -- A refusal that the text has is the answer.
 refused-so : (catalog : Declared) (text : List ℕ) (result : Result Program ParseError) (error : ParseError) → result ≡ Err error → IfSome (refusal_of error) (IsRefused catalog text)
     → Answers (IsProgramText catalog text) (IsRefused catalog text) (λ p. p) refusal_of result
-refused-so catalog text result error is told =
+refused-so catalog text result error is reported =
     subst (λ r. Answers (IsProgramText catalog text) (IsRefused catalog text) (λ p. p) refusal_of r) (sym is)
-    (answered (IsProgramText catalog text) (IsRefused catalog text) (one catalog text) (λ p. p) refusal_of (Err error) tt told)
+    (answered (IsProgramText catalog text) (IsRefused catalog text) (one catalog text) (λ p. p) refusal_of (Err error) tt reported)
 
 pub returns-then-text-gt-MAX_LINE-clause-answer : goal.returns-then-text-gt-MAX_LINE-clause-answer
 returns-then-text-gt-MAX_LINE-clause-answer c =

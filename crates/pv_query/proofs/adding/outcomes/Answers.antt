@@ -5,8 +5,9 @@ use Rattle.std.proofs.lemmas.List.{take_all}
 use Rattle.pv_base.specs.Polyvalue.{IsPolyvalue}
 use Rattle.pv_base.specs.declared.limits.TheConstants.{HELD_NAMES}
 use Rattle.pv_cases.specs.Names.{txns_of}
+use Rattle.pv_query.specs.AllSums.{together}
 use Rattle.pv_cases.proofs.OrderedNames.{AreNames-ordered}
-use Rattle.pv_query.proofs.OutcomeLemmas.{together, outcomes-next, outcomes-end, All-take-next, few-together}
+use Rattle.pv_query.proofs.OutcomeLemmas.{outcomes-next, outcomes-end, All-take-next, few-together}
 use Rattle.pv_query.proofs.adding.outcomes.Goals as goal
 
 pub loop-value-preserved : goal.loop-value-preserved

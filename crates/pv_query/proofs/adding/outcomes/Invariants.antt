@@ -4,7 +4,7 @@ use Rattle.std.specs.Prelude.{◌++◌, All}
 use Rattle.pv_base.specs.Polyvalue.{IsPolyvalue}
 use Rattle.pv_base.specs.declared.limits.TheConstants.{HELD_NAMES}
 use Rattle.pv_cases.specs.Names.{txns_of}
-use Rattle.pv_query.proofs.OutcomeLemmas.{together}
+use Rattle.pv_query.specs.AllSums.{together}
 use Rattle.pv_query.proofs.adding.outcomes.Given as goal
 
 abbrev pub invariant-loop-value : goal.invariant-loop-value

@@ -18,11 +18,11 @@ returns c = λ bytes spelled.
     let value : ℤ = c.case.inside.value in
     on_ok_weaker c.i64.result
     (λ last.
-    appended_both c.args.put.now c.u8.new.self c.i64.new.self inside.front inside.back bytes inside.whole
-    (c.in_ok-u8.ensures.written ∙ ap (λ n. c.args.put.now ++ big_endian 1 n) count ∙ ap (λ front. c.args.put.now ++ front) (sym inside.first.spelled))
-    (appended_both c.u8.new.self c.put_literals.new.put c.i64.new.self inside.second.front inside.second.back inside.back inside.second.whole
+    appended_both c.args.put.now.bytes c.u8.new.self.bytes c.i64.new.self.bytes inside.front inside.back bytes inside.whole
+    (c.in_ok-u8.ensures.written ∙ ap (λ n. c.args.put.now.bytes ++ big_endian 1 n) count ∙ ap (λ front. c.args.put.now.bytes ++ front) (sym inside.first.spelled))
+    (appended_both c.u8.new.self.bytes c.put_literals.new.put.bytes c.i64.new.self.bytes inside.second.front inside.second.back inside.back inside.second.whole
     (c.in_ok-put_literals.ensures inside.second.front
     (subst (λ when. SpellsEach SpellsLiteral when inside.second.front) (sym c.deref.ensures.value) inside.second.first))
-    (last ∙ ap (λ z. c.put_literals.new.put ++ big_endian 8 (twos_complement z)) (to_z-of_z w64 value inside.second.second.fits)
-    ∙ ap (λ back. c.put_literals.new.put ++ back) (sym inside.second.second.spelled))))
+    (last ∙ ap (λ z. c.put_literals.new.put.bytes ++ big_endian 8 (twos_complement z)) (to_z-of_z w64 value inside.second.second.fits)
+    ∙ ap (λ back. c.put_literals.new.put.bytes ++ back) (sym inside.second.second.spelled))))
     c.i64.ensures.written

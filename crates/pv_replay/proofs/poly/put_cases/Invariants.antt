@@ -7,4 +7,4 @@ use Rattle.pv_replay.proofs.poly.put_cases.Given as goal
 
 abbrev pub invariant-loop-case : goal.invariant-loop-case
 invariant-loop-case l =
-    (bytes : List ℕ) → SpellsEach SpellsCase l.cases bytes → IsWriting SpellsCase (drop l.case-index l.cases) l.initial.put bytes l.put
+    (bytes : List ℕ) → SpellsEach SpellsCase l.cases bytes → IsWriting SpellsCase (drop l.case-index l.cases) l.initial.put.bytes bytes l.put.bytes

@@ -10,10 +10,10 @@ loop-literal-init c = λ bytes spelled. record { rest = bytes; spelled = spelled
 
 pub loop-literal-preserved : goal.loop-literal-preserved
 loop-literal-preserved c = λ bytes spelled.
-    writing_goes_on SpellsLiteral c.args.when.now c.loop-literal.literal-index _ c.args.put.now bytes c.loop-literal.put c.put_literal.new.put
+    writing_goes_on SpellsLiteral c.args.when.now c.loop-literal.literal-index _ c.args.put.now.bytes bytes c.loop-literal.put.bytes c.put_literal.new.put.bytes
     c.loop-literal-test.true (get_or_default c.args.when.now c.loop-literal.literal-index _ _ c.loop-literal-test.true)
     (c.loop-literal.invariant bytes spelled) c.in_ok-put_literal.ensures
 
 pub returns : goal.returns
 returns c = λ bytes spelled.
-    writing_ends SpellsLiteral c.args.when.now c.loop-literal.literal-index c.args.put.now bytes c.loop-literal.put c.loop-literal-test.false (c.loop-literal.invariant bytes spelled)
+    writing_ends SpellsLiteral c.args.when.now c.loop-literal.literal-index c.args.put.now.bytes bytes c.loop-literal.put.bytes c.loop-literal-test.false (c.loop-literal.invariant bytes spelled)

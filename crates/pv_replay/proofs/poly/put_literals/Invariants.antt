@@ -7,4 +7,4 @@ use Rattle.pv_replay.proofs.poly.put_literals.Given as goal
 
 abbrev pub invariant-loop-literal : goal.invariant-loop-literal
 invariant-loop-literal l =
-    (bytes : List ℕ) → SpellsEach SpellsLiteral l.when bytes → IsWriting SpellsLiteral (drop l.literal-index l.when) l.initial.put bytes l.put
+    (bytes : List ℕ) → SpellsEach SpellsLiteral l.when bytes → IsWriting SpellsLiteral (drop l.literal-index l.when) l.initial.put.bytes bytes l.put.bytes

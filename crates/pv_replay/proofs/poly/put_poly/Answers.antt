@@ -17,8 +17,8 @@ put_cases-requires c =
 pub returns : goal.returns
 returns c = λ bytes spelled.
     on_ok_weaker c.put_cases.result
-    (appended_both c.args.put.now c.u16.new.self c.put_cases.new.put spelled.spelled.front spelled.spelled.back bytes spelled.spelled.whole
-    (c.in_ok-u16.ensures.written ∙ ap (λ (cases : List (Case ℤ)). c.args.put.now ++ big_endian 2 (length cases)) c.cases-cases.ensures.cases
-    ∙ ap (λ front. c.args.put.now ++ front) (sym spelled.spelled.first.spelled)))
+    (appended_both c.args.put.now.bytes c.u16.new.self.bytes c.put_cases.new.put.bytes spelled.spelled.front spelled.spelled.back bytes spelled.spelled.whole
+    (c.in_ok-u16.ensures.written ∙ ap (λ (cases : List (Case ℤ)). c.args.put.now.bytes ++ big_endian 2 (length cases)) c.cases-cases.ensures.cases
+    ∙ ap (λ front. c.args.put.now.bytes ++ front) (sym spelled.spelled.first.spelled)))
     (c.put_cases.ensures spelled.spelled.back
     (subst (λ cases. SpellsEach SpellsCase cases spelled.spelled.back) (sym c.cases-cases.ensures.cases) spelled.spelled.second))

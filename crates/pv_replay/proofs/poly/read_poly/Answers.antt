@@ -7,6 +7,7 @@ use Rattle.pv_replay.specs.declared.error.PolyError.TheVariants.{BadPoly, NoMemo
 use Rattle.pv_base.specs.CaseFaults.{fault_of as case_fault_of}
 use Rattle.pv_replay.specs.Faults.{fault_of}
 use Rattle.pv_law_fields.proofs.PolyvalueLemmas.{passes_poly, stops_poly, stops_cases, counted_literals}
+use Rattle.pv_replay.proofs.OrderLemmas.{polyvalue_looks}
 use Rattle.pv_replay.proofs.RefusalLemmas.{refused_poly}
 use Rattle.pv_replay.proofs.poly.read_poly.Goals as goal
 
@@ -20,7 +21,7 @@ returns-then-not-look_canonical-clause-stops c =
     rw c.place-place.ensures.place
     (stops_poly c.in_ok-cases.cases.items c.args.take.now c.take_cases.new.take c.in_ok-cases.ensures.passes.taken
     (λ poly.
-    let order = c.look_canonical.ensures (subst (IsPolyvalue HELD_NAMES) (sym c.deref.ensures.value) poly) in
+    let order = c.look_canonical.ensures ∙ polyvalue_looks c.deref.result.now (subst (IsPolyvalue HELD_NAMES) (sym c.deref.ensures.value) poly) in
     let is : c.look_canonical.result ≡ false = c.if-not-look_canonical.true in
     let both : false ≡ true = sym is ∙ order in
     cc))

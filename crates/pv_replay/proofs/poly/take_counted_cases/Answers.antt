@@ -7,31 +7,31 @@ use Rattle.pv_replay.specs.Faults.{fault_of}
 use Rattle.pv_law_fields.proofs.ListLemmas.{reading_starts, reading_goes_on, reading_stops, reading_ends}
 use Rattle.pv_replay.proofs.poly.take_counted_cases.Goals as goal
 
-pub reading-init : goal.reading-init
-reading-init c =
+pub loop-alloc-init : goal.loop-alloc-init
+loop-alloc-init c =
     rw c.new-cases.ensures.items record { few = omega arith; reading = reading_starts SpellsCase case_layout c.args.count c.args.take.now }
 
-pub reading-preserved : goal.reading-preserved
-reading-preserved c =
-    let some : length c.reading.cases.items < c.args.count = omega arith in
+pub loop-alloc-preserved : goal.loop-alloc-preserved
+loop-alloc-preserved c =
+    let some : length c.loop-alloc.cases.items < c.args.count = omega arith in
     rw c.in_ok-push.ensures.items
     record {
-      few = let more = length-append c.reading.cases.items (c.in_ok-take_case.field-0 ∷ []) in omega arith;
-      reading = reading_goes_on SpellsCase case_layout c.reading.cases.items c.in_ok-take_case.field-0 c.args.count c.args.take.now c.reading.take c.take_case.new.take some
-          c.reading.invariant.reading c.in_ok-take_case.ensures.passes;
+      few = let more = length-append c.loop-alloc.cases.items (c.in_ok-take_case.field-0 ∷ []) in omega arith;
+      reading = reading_goes_on SpellsCase case_layout c.loop-alloc.cases.items c.in_ok-take_case.field-0 c.args.count c.args.take.now c.loop-alloc.take c.take_case.new.take some
+          c.loop-alloc.invariant.reading c.in_ok-take_case.ensures.passes;
     }
 
 pub returns-in_err-take_case-clause-stops : goal.returns-in_err-take_case-clause-stops
 returns-in_err-take_case-clause-stops c =
     let p = err_from_is_err_and c.from_residual.result c.from_residual.ensures.1 in
-    let some : length c.reading.cases.items < c.args.count = omega arith in
+    let some : length c.loop-alloc.cases.items < c.args.count = omega arith in
     rw (p.1, p.2)
-    (reading_stops SpellsCase case_layout c.reading.cases.items c.args.count c.args.take.now c.reading.take (fault_of c.in_err-take_case.field-0.0) some
-    c.reading.invariant.reading c.in_err-take_case.ensures.stops)
+    (reading_stops SpellsCase case_layout c.loop-alloc.cases.items c.args.count c.args.take.now c.loop-alloc.take (fault_of c.in_err-take_case.field-0.0) some
+    c.loop-alloc.invariant.reading c.in_err-take_case.ensures.stops)
 
 pub returns-clause-counted : goal.returns-clause-counted
 returns-clause-counted c = omega arith
 
 pub returns-clause-passes : goal.returns-clause-passes
 returns-clause-passes c =
-    reading_ends SpellsCase case_layout c.reading.cases.items c.args.count c.args.take.now c.reading.take (omega arith) c.reading.invariant.reading
+    reading_ends SpellsCase case_layout c.loop-alloc.cases.items c.args.count c.args.take.now c.loop-alloc.take (omega arith) c.loop-alloc.invariant.reading

@@ -5,11 +5,11 @@ use Rattle.pv_format.specs.PolyvalueSpelling.{SpellsCase}
 use Rattle.pv_law_fields.proofs.ListLemmas.{IsReading}
 use Rattle.pv_replay.proofs.poly.take_counted_cases.Given as goal
 
-abbrev pub invariant-reading : goal.invariant-reading
-invariant-reading l = record {
+abbrev pub invariant-loop-alloc : goal.invariant-loop-alloc
+invariant-loop-alloc l = record {
   few : length l.cases.items ≤ l.count;
   reading : IsReading SpellsCase case_layout l.cases.items l.count l.initial.take l.take;
 }
 
-abbrev pub decreases-reading : goal.decreases-reading
-decreases-reading l = l.count - vec_len l.cases
+abbrev pub decreases-loop-alloc : goal.decreases-loop-alloc
+decreases-loop-alloc l = l.count - vec_len l.cases

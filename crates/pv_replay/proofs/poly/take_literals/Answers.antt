@@ -7,31 +7,31 @@ use Rattle.pv_replay.specs.Faults.{fault_of}
 use Rattle.pv_law_fields.proofs.ListLemmas.{reading_starts, reading_goes_on, reading_stops, reading_ends}
 use Rattle.pv_replay.proofs.poly.take_literals.Goals as goal
 
-pub reading-init : goal.reading-init
-reading-init c =
+pub loop-when-init : goal.loop-when-init
+loop-when-init c =
     rw c.new-when.ensures.items record { few = omega arith; reading = reading_starts SpellsLiteral literal_layout c.args.count c.args.take.now }
 
-pub reading-preserved : goal.reading-preserved
-reading-preserved c =
-    let some : length c.reading.when.items < c.args.count = omega arith in
+pub loop-when-preserved : goal.loop-when-preserved
+loop-when-preserved c =
+    let some : length c.loop-when.when.items < c.args.count = omega arith in
     rw c.in_ok-push.ensures.items
     record {
-      few = let more = length-append c.reading.when.items (c.in_ok-take_literal.field-0 ∷ []) in omega arith;
-      reading = reading_goes_on SpellsLiteral literal_layout c.reading.when.items c.in_ok-take_literal.field-0 c.args.count c.args.take.now c.reading.take c.take_literal.new.take some
-          c.reading.invariant.reading c.in_ok-take_literal.ensures.passes;
+      few = let more = length-append c.loop-when.when.items (c.in_ok-take_literal.field-0 ∷ []) in omega arith;
+      reading = reading_goes_on SpellsLiteral literal_layout c.loop-when.when.items c.in_ok-take_literal.field-0 c.args.count c.args.take.now c.loop-when.take c.take_literal.new.take some
+          c.loop-when.invariant.reading c.in_ok-take_literal.ensures.passes;
     }
 
 pub returns-in_err-take_literal-clause-stops : goal.returns-in_err-take_literal-clause-stops
 returns-in_err-take_literal-clause-stops c =
     let p = err_from_is_err_and c.from_residual.result c.from_residual.ensures.1 in
-    let some : length c.reading.when.items < c.args.count = omega arith in
+    let some : length c.loop-when.when.items < c.args.count = omega arith in
     rw (p.1, p.2)
-    (reading_stops SpellsLiteral literal_layout c.reading.when.items c.args.count c.args.take.now c.reading.take (fault_of c.in_err-take_literal.field-0.0) some
-    c.reading.invariant.reading c.in_err-take_literal.ensures.stops)
+    (reading_stops SpellsLiteral literal_layout c.loop-when.when.items c.args.count c.args.take.now c.loop-when.take (fault_of c.in_err-take_literal.field-0.0) some
+    c.loop-when.invariant.reading c.in_err-take_literal.ensures.stops)
 
 pub returns-clause-counted : goal.returns-clause-counted
 returns-clause-counted c = omega arith
 
 pub returns-clause-passes : goal.returns-clause-passes
 returns-clause-passes c =
-    reading_ends SpellsLiteral literal_layout c.reading.when.items c.args.count c.args.take.now c.reading.take (omega arith) c.reading.invariant.reading
+    reading_ends SpellsLiteral literal_layout c.loop-when.when.items c.args.count c.args.take.now c.loop-when.take (omega arith) c.loop-when.invariant.reading

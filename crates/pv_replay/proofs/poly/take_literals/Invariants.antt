@@ -5,11 +5,11 @@ use Rattle.pv_format.specs.PolyvalueSpelling.{SpellsLiteral}
 use Rattle.pv_law_fields.proofs.ListLemmas.{IsReading}
 use Rattle.pv_replay.proofs.poly.take_literals.Given as goal
 
-abbrev pub invariant-reading : goal.invariant-reading
-invariant-reading l = record {
+abbrev pub invariant-loop-when : goal.invariant-loop-when
+invariant-loop-when l = record {
   few : length l.when.items ≤ l.count;
   reading : IsReading SpellsLiteral literal_layout l.when.items l.count l.initial.take l.take;
 }
 
-abbrev pub decreases-reading : goal.decreases-reading
-decreases-reading l = l.count - vec_len l.when
+abbrev pub decreases-loop-when : goal.decreases-loop-when
+decreases-loop-when l = l.count - vec_len l.when

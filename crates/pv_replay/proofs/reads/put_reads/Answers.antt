@@ -23,12 +23,12 @@ loop-read-init c = λ bytes spelled. record { rest = bytes; spelled = spelled; s
 
 pub loop-read-preserved : goal.loop-read-preserved
 loop-read-preserved c = λ bytes spelled.
-    writing_goes_on Spells c.args.reads.now c.loop-read.read-index c.read-item.result c.u8.new.self bytes c.loop-read.put c.put_read.new.put
+    writing_goes_on Spells c.args.reads.now c.loop-read.read-index c.read-item.result c.u8.new.self.bytes bytes c.loop-read.put.bytes c.put_read.new.put.bytes
     c.loop-read-test.true c.read-item.is (c.loop-read.invariant bytes spelled) c.in_ok-put_read.ensures
 
 pub returns : goal.returns
 returns c = λ fewest bytes spelled.
     let each = entries_each (λ (entry : Read). SpellsPolyvalue entry.cases) (λ entry. entry.item) 0 c.args.reads.now spelled.back spelled.second in
-    appended_both c.args.put.now c.u8.new.self c.loop-read.put spelled.front spelled.back bytes spelled.whole
-    (c.in_ok-u8.ensures.written ∙ ap (λ front. c.args.put.now ++ front) (sym spelled.first.spelled.spelled))
-    (writing_ends Spells c.args.reads.now c.loop-read.read-index c.u8.new.self spelled.back c.loop-read.put c.loop-read-test.false (c.loop-read.invariant spelled.back each))
+    appended_both c.args.put.now.bytes c.u8.new.self.bytes c.loop-read.put.bytes spelled.front spelled.back bytes spelled.whole
+    (c.in_ok-u8.ensures.written ∙ ap (λ front. c.args.put.now.bytes ++ front) (sym spelled.first.spelled.spelled))
+    (writing_ends Spells c.args.reads.now c.loop-read.read-index c.u8.new.self.bytes spelled.back c.loop-read.put.bytes c.loop-read-test.false (c.loop-read.invariant spelled.back each))

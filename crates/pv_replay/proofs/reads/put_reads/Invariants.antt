@@ -10,4 +10,4 @@ use Rattle.pv_replay.proofs.reads.put_reads.Given as goal
 abbrev pub invariant-loop-read : goal.invariant-loop-read
 invariant-loop-read l =
     (bytes : List ℕ) → SpellsEach (SpellsEntry (λ (entry : Read). SpellsPolyvalue entry.cases) (λ entry. entry.item)) l.reads bytes
-    → IsWriting (SpellsEntry (λ (entry : Read). SpellsPolyvalue entry.cases) (λ entry. entry.item)) (drop l.read-index l.reads) l.initial.put bytes l.put
+    → IsWriting (SpellsEntry (λ (entry : Read). SpellsPolyvalue entry.cases) (λ entry. entry.item)) (drop l.read-index l.reads) l.initial.put.bytes bytes l.put.bytes

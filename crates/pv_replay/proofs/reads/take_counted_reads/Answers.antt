@@ -9,40 +9,40 @@ use Rattle.pv_replay.specs.Faults.{fault_of}
 use Rattle.pv_law_fields.proofs.ListLemmas.{entries_start, entries_go_on, entries_stop, entries_stop_at_item, entries_end}
 use Rattle.pv_replay.proofs.reads.take_counted_reads.Goals as goal
 
-pub reading-init : goal.reading-init
-reading-init c =
+pub loop-alloc-init : goal.loop-alloc-init
+loop-alloc-init c =
     rw c.new-reads.ensures.items
     record { few = omega arith; small = omega arith; reading = entries_start (λ (entry : Read). SpellsPolyvalue entry.cases) (λ entry. entry.item) polyvalue_then c.args.count c.args.take.now }
 
-pub reading-preserved : goal.reading-preserved
-reading-preserved c =
-    let some : length c.reading.reads.items < c.args.count = omega arith in
+pub loop-alloc-preserved : goal.loop-alloc-preserved
+loop-alloc-preserved c =
+    let some : length c.loop-alloc.reads.items < c.args.count = omega arith in
     let read : Read = record { item = c.in_ok-item.item.0; cases = c.in_ok-value.value } in
     let allowed = c.in_ok-item.ensures.passes.taken.is.allowed in
     rw c.in_ok-push.ensures.items
     record {
-      few = let more = length-append c.reading.reads.items (read ∷ []) in omega arith;
+      few = let more = length-append c.loop-alloc.reads.items (read ∷ []) in omega arith;
       small = grind (arith, nat_tests);
-      reading = entries_go_on (λ (entry : Read). SpellsPolyvalue entry.cases) (λ entry. entry.item) polyvalue_then c.reading.reads.items read c.args.count c.reading.least c.args.take.now c.reading.take
-          c.take_item.new.take c.take_poly.new.take some c.reading.invariant.reading c.in_ok-item.ensures.passes c.in_ok-value.ensures.passes;
+      reading = entries_go_on (λ (entry : Read). SpellsPolyvalue entry.cases) (λ entry. entry.item) polyvalue_then c.loop-alloc.reads.items read c.args.count c.loop-alloc.least c.args.take.now c.loop-alloc.take
+          c.take_item.new.take c.take_poly.new.take some c.loop-alloc.invariant.reading c.in_ok-item.ensures.passes c.in_ok-value.ensures.passes;
     }
 
 pub returns-in_err-item-clause-stops : goal.returns-in_err-item-clause-stops
 returns-in_err-item-clause-stops c =
     let p = err_from_is_err_and c.from_residual.result c.from_residual.ensures.1 in
-    let some : length c.reading.reads.items < c.args.count = omega arith in
+    let some : length c.loop-alloc.reads.items < c.args.count = omega arith in
     rw (p.1, p.2)
-    (entries_stop_at_item (λ (entry : Read). SpellsPolyvalue entry.cases) (λ entry. entry.item) polyvalue_then c.reading.reads.items c.args.count c.reading.least c.args.take.now c.reading.take
-    (fault_of c.in_err-item.field-0.0) some c.reading.invariant.reading c.in_err-item.ensures.stops)
+    (entries_stop_at_item (λ (entry : Read). SpellsPolyvalue entry.cases) (λ entry. entry.item) polyvalue_then c.loop-alloc.reads.items c.args.count c.loop-alloc.least c.args.take.now c.loop-alloc.take
+    (fault_of c.in_err-item.field-0.0) some c.loop-alloc.invariant.reading c.in_err-item.ensures.stops)
 
 pub returns-in_err-value-clause-stops : goal.returns-in_err-value-clause-stops
 returns-in_err-value-clause-stops c =
     let p = err_from_is_err_and c.from_residual-in_err-value.result c.from_residual-in_err-value.ensures.1 in
-    let some : length c.reading.reads.items < c.args.count = omega arith in
+    let some : length c.loop-alloc.reads.items < c.args.count = omega arith in
     rw (p.1, p.2)
-    (entries_stop (λ (entry : Read). SpellsPolyvalue entry.cases) (λ entry. entry.item) polyvalue_then c.reading.reads.items c.in_ok-item.item.0 c.args.count c.reading.least c.args.take.now c.reading.take
-    c.take_item.new.take (fault_of c.in_err-value.field-0.0) some c.reading.invariant.reading c.in_ok-item.ensures.passes c.in_err-value.ensures.stops)
+    (entries_stop (λ (entry : Read). SpellsPolyvalue entry.cases) (λ entry. entry.item) polyvalue_then c.loop-alloc.reads.items c.in_ok-item.item.0 c.args.count c.loop-alloc.least c.args.take.now c.loop-alloc.take
+    c.take_item.new.take (fault_of c.in_err-value.field-0.0) some c.loop-alloc.invariant.reading c.in_ok-item.ensures.passes c.in_err-value.ensures.stops)
 
 pub returns-clause-passes : goal.returns-clause-passes
 returns-clause-passes c =
-    entries_end (λ (entry : Read). SpellsPolyvalue entry.cases) (λ entry. entry.item) polyvalue_then c.reading.reads.items c.args.count c.reading.least c.args.take.now c.reading.take (omega arith) c.reading.invariant.reading
+    entries_end (λ (entry : Read). SpellsPolyvalue entry.cases) (λ entry. entry.item) polyvalue_then c.loop-alloc.reads.items c.args.count c.loop-alloc.least c.args.take.now c.loop-alloc.take (omega arith) c.loop-alloc.invariant.reading

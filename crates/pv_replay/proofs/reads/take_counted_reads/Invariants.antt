@@ -6,12 +6,12 @@ use Rattle.pv_law_fields.proofs.ListLemmas.{IsReadingEntries}
 use Rattle.pv_model.specs.Alternatives.{Read}
 use Rattle.pv_replay.proofs.reads.take_counted_reads.Given as goal
 
-abbrev pub invariant-reading : goal.invariant-reading
-invariant-reading l = record {
+abbrev pub invariant-loop-alloc : goal.invariant-loop-alloc
+invariant-loop-alloc l = record {
   few : length l.reads.items ≤ l.count;
   small : l.least ≤ 1024;
   reading : IsReadingEntries (λ (entry : Read). SpellsPolyvalue entry.cases) (λ entry. entry.item) polyvalue_then l.reads.items l.count l.least l.initial.take l.take;
 }
 
-abbrev pub decreases-reading : goal.decreases-reading
-decreases-reading l = l.count - vec_len l.reads
+abbrev pub decreases-loop-alloc : goal.decreases-loop-alloc
+decreases-loop-alloc l = l.count - vec_len l.reads

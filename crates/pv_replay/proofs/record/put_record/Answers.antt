@@ -20,9 +20,9 @@ returns-in_ok-u8-in-Epoch c = λ bytes all.
     let spelled : SpellsRecord (epoch_begun c.in-Epoch.epoch) bytes = subst (λ (value : Record). SpellsRecord (record_of value) bytes) c.in-Epoch.is all in
     on_ok_weaker c.u32.result
     (λ last.
-    appended_both c.args.put.now c.u8.new.self c.u32.new.self spelled.front spelled.back bytes spelled.whole
-    (c.in_ok-u8-in-Epoch.ensures.written ∙ ap (λ front. c.args.put.now ++ front) (sym spelled.first.spelled))
-    (last ∙ ap (λ back. c.u8.new.self ++ back) (sym spelled.second.spelled.spelled)))
+    appended_both c.args.put.now.bytes c.u8.new.self.bytes c.u32.new.self.bytes spelled.front spelled.back bytes spelled.whole
+    (c.in_ok-u8-in-Epoch.ensures.written ∙ ap (λ front. c.args.put.now.bytes ++ front) (sym spelled.first.spelled))
+    (last ∙ ap (λ back. c.u8.new.self.bytes ++ back) (sym spelled.second.spelled.spelled)))
     c.u32.ensures.written
 
 pub returns-in_ok-put_txn-in-Prepared : goal.returns-in_ok-put_txn-in-Prepared
@@ -31,9 +31,9 @@ returns-in_ok-put_txn-in-Prepared c = λ bytes all.
     = subst (λ (value : Record). SpellsRecord (record_of value) bytes) c.in-Prepared.is all in
     on_ok_weaker c.put_reads.result
     (λ last.
-    appended_both c.args.put.now c.u8-in-Prepared.new.self c.put_reads.new.put spelled.front spelled.back bytes spelled.whole
-    (c.in_ok-u8-in-Prepared.ensures.written ∙ ap (λ front. c.args.put.now ++ front) (sym spelled.first.spelled))
-    (appended_both c.u8-in-Prepared.new.self c.put_txn.new.put c.put_reads.new.put spelled.second.front spelled.second.back spelled.back spelled.second.whole
+    appended_both c.args.put.now.bytes c.u8-in-Prepared.new.self.bytes c.put_reads.new.put.bytes spelled.front spelled.back bytes spelled.whole
+    (c.in_ok-u8-in-Prepared.ensures.written ∙ ap (λ front. c.args.put.now.bytes ++ front) (sym spelled.first.spelled))
+    (appended_both c.u8-in-Prepared.new.self.bytes c.put_txn.new.put.bytes c.put_reads.new.put.bytes spelled.second.front spelled.second.back spelled.back spelled.second.whole
     (c.in_ok-put_txn-in-Prepared.ensures spelled.second.front spelled.second.first) last))
     (c.put_reads.ensures 0 spelled.second.back (subst (λ (reads : List Read). SpellsReads 0 reads spelled.second.back) (sym c.deref.ensures.value) spelled.second.second))
 
@@ -43,8 +43,8 @@ returns-in_ok-put_txn-in-Outcome c = λ bytes all.
     = subst (λ (value : Record). SpellsRecord (record_of value) bytes) c.in-Outcome.is all in
     on_ok_weaker c.put_truth.result
     (λ last.
-    appended_both c.args.put.now c.u8-in-Outcome.new.self c.put_truth.new.put spelled.front spelled.back bytes spelled.whole
-    (c.in_ok-u8-in-Outcome.ensures.written ∙ ap (λ front. c.args.put.now ++ front) (sym spelled.first.spelled))
-    (appended_both c.u8-in-Outcome.new.self c.put_txn-in-Outcome.new.put c.put_truth.new.put spelled.second.front spelled.second.back spelled.back spelled.second.whole
+    appended_both c.args.put.now.bytes c.u8-in-Outcome.new.self.bytes c.put_truth.new.put.bytes spelled.front spelled.back bytes spelled.whole
+    (c.in_ok-u8-in-Outcome.ensures.written ∙ ap (λ front. c.args.put.now.bytes ++ front) (sym spelled.first.spelled))
+    (appended_both c.u8-in-Outcome.new.self.bytes c.put_txn-in-Outcome.new.put.bytes c.put_truth.new.put.bytes spelled.second.front spelled.second.back spelled.back spelled.second.whole
     (c.in_ok-put_txn-in-Outcome.ensures spelled.second.front spelled.second.first) last))
     (c.put_truth.ensures spelled.second.back spelled.second.second)

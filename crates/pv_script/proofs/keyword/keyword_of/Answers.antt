@@ -6,4 +6,4 @@ use Rattle.pv_script.proofs.keyword.keyword_of.Goals as goal
 
 pub returns : goal.returns
 unfolding line_forms
-returns c = keyword-answer c.args.word.now _ c.listed_in.result refl refl c.listed_in.ensures
+returns c = keyword-answer c.args.word.now _ c.keyword_in.result refl refl c.keyword_in.ensures

@@ -1,6 +1,6 @@
 -- The first line has to be the count of sites, and there has to be one.
 use Rattle.std.proofs.Common.{ap, sym, ◌∙◌, refl}
-use Rattle.pv_model.specs.Causes.{sites_expected}
+use Rattle.pv_model.specs.LineCauses.{sites_expected}
 use Rattle.pv_script.specs.LinesLeft.{LinesLeft}
 use Rattle.pv_script.proofs.FaultLemmas.{refuses-first, lacks-sites}
 use Rattle.pv_script.proofs.read.read_first.Goals as goal

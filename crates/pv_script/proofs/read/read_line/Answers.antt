@@ -1,5 +1,5 @@
 -- An event is the last of the events.
-use Rattle.pv_script.specs.Takes.{happened}
+use Rattle.pv_script.specs.TakesLine.{happened}
 use Rattle.pv_script.proofs.read.read_line.Goals as goal
 
 pub returns-in_ok-push-in-Ok-Some-clause-takes : goal.returns-in_ok-push-in-Ok-Some-clause-takes

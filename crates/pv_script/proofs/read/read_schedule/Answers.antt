@@ -2,7 +2,7 @@
 use Rattle.std.proofs.Common.{ℕ, List, Err, IfSome, sym, ap, ◌∙◌, refl, subst, map, arith}
 use Rattle.std.proofs.lemmas.List.{length-map}
 use Rattle.std.proofs.lemmas.Result.{err_from_is_err_and}
-use Rattle.pv_model.specs.FirstFault.{without_numbers}
+use Rattle.pv_model.specs.FirstMisplaced.{without_numbers}
 use Rattle.pv_model.specs.Schedule.{AreLines, significant, IsSchedule}
 use Rattle.pv_model.specs.Text.{TextLine}
 use Rattle.pv_base.specs.Answer.{Answers}
@@ -11,7 +11,7 @@ use Rattle.pv_script.specs.ScriptErrors.{IsMalformedAt, refused_line}
 use Rattle.pv_script.specs.declared.schedule.ScriptError.{ScriptError}
 use Rattle.pv_script.specs.LinesLeft.{LinesLeft}
 use Rattle.pv_script.specs.Said.{before_of}
-use Rattle.pv_script.specs.View.{event_of, schedule_of}
+use Rattle.pv_script.specs.ScheduleView.{event_of, schedule_of}
 use Rattle.pv_script.proofs.CountLemmas.{few-events}
 use Rattle.pv_script.proofs.FaultLemmas.{IsAtFaultFrom, fault-takes, lines-takes, refuses-line}
 use Rattle.pv_script.proofs.ScheduleLemmas.{lines-first, fault-first, plans-takes, begun-takes, IsSchedule-read, one}

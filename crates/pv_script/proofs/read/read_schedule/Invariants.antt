@@ -1,11 +1,11 @@
 -- What is read from what is left is read from all behind the events so far, and what is at fault there is so in the text.
 use Rattle.std.proofs.Common.{◌≡◌, ℕ, false, List, [], ◌++◌, length, map, All}
-use Rattle.pv_model.specs.Causes.{Before, at_first, LineCause}
+use Rattle.pv_model.specs.LineCauses.{Before, at_first, LineCause}
 use Rattle.pv_model.specs.Events as model
-use Rattle.pv_model.specs.FirstFault.{without_numbers}
+use Rattle.pv_model.specs.FirstMisplaced.{without_numbers}
 use Rattle.pv_model.specs.Schedule.{AreLines, significant, IsAtFault}
 use Rattle.pv_script.specs.Said.{before_of, IsLimited}
-use Rattle.pv_script.specs.View.{event_of, HasPlan}
+use Rattle.pv_script.specs.ScheduleView.{event_of, HasPlan}
 use Rattle.pv_script.proofs.FaultLemmas.{IsAtFaultFrom}
 use Rattle.pv_script.proofs.read.read_schedule.Given as goal
 

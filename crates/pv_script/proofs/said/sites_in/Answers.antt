@@ -1,6 +1,6 @@
 -- The first line begins with `sites`.
 use Rattle.std.proofs.Common.{[], length, take, drop, ◌-◌}
-use Rattle.pv_script.specs.Faults.{texts}
+use Rattle.pv_script.specs.LineFaults.{texts}
 use Rattle.pv_script.proofs.SaidLemmas.{first-nil, first-differs, first-same, sites-count, sites-expected, sites-fault}
 use Rattle.pv_script.proofs.said.sites_in.Goals as goal
 

@@ -1,16 +1,16 @@
--- The words of the line tell.
+-- The words of the line decide.
 use Rattle.std.proofs.Common.{◌≡◌, Bool, Option, Some, None, cond, true, false, sym, ap, ◌∙◌}
 use Rattle.std.specs.Bool.{then_some}
 use Rattle.std.specs.Option.{option_map}
-use Rattle.pv_script.specs.Form as model
-use Rattle.pv_script.specs.Faults.{texts}
+use Rattle.pv_script.specs.Runnable as model
+use Rattle.pv_script.specs.LineFaults.{texts}
 use Rattle.pv_script.specs.Stages.{stage_of}
-use Rattle.pv_script.specs.declared.stages.Stage.{Stage}
-use Rattle.pv_script.specs.declared.stages.Stage.TheVariants.{Any}
+use Rattle.pv_script.specs.declared.stages.ScheduleStage.{ScheduleStage}
+use Rattle.pv_script.specs.declared.stages.ScheduleStage.TheVariants.{Any}
 use Rattle.pv_script.proofs.StageLemmas.{stage-sites, stage-any, stage-pump}
 use Rattle.pv_script.proofs.stages.next.Goals as goal
 
-any-if : (found : Option Stage) (b may : Bool) → found ≡ then_some b Any → b ≡ may → option_map stage_of found ≡ cond may (Some model.any_next) None
+any-if : (found : Option ScheduleStage) (b may : Bool) → found ≡ then_some b Any → b ≡ may → option_map stage_of found ≡ cond may (Some model.any_next) None
 any-if found true may is same = ap (option_map stage_of) is ∙ ap (λ (x : Bool). cond x (Some model.any_next) None) same
 any-if found false may is same = ap (option_map stage_of) is ∙ ap (λ (x : Bool). cond x (Some model.any_next) None) same
 

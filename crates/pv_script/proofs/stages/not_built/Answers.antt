@@ -1,6 +1,6 @@
 -- Nothing is read yet.
 use Rattle.std.proofs.Common.{ap}
-use Rattle.pv_script.specs.Form as model
+use Rattle.pv_script.specs.Runnable as model
 use Rattle.pv_script.specs.LinesLeft.{LinesLeft}
 use Rattle.pv_script.proofs.stages.not_built.Goals as goal
 

@@ -1,6 +1,6 @@
 -- What is left has the first line that can't be run.
 use Rattle.std.proofs.Common.{◌≡◌, length}
-use Rattle.pv_script.specs.Form as model
+use Rattle.pv_script.specs.Runnable as model
 use Rattle.pv_script.specs.Stages.{stage_of}
 use Rattle.pv_script.proofs.stages.not_built.Given as goal
 

@@ -4,8 +4,8 @@ use Rattle.std.proofs.lemmas.Nat.{one_shl}
 use Rattle.pv_split.proofs.EffectLemmas.{columns-long, runs-at, effects-next, effects-end}
 use Rattle.pv_split.proofs.effects.effects_of.Goals as goal
 
-pub rows_at-requires : goal.rows_at-requires
-rows_at-requires c =
+pub rows_in-requires : goal.rows_in-requires
+rows_in-requires c =
     columns-long c.args.reads.now c.args.txns.now c.loop-place.place c.deref.result.now
     (omega (arith, c.loop-place-test.true, one_shl (length c.args.txns.now) 64 (omega (arith, c.requires.few)))) (c.deref.ensures.value ∙ c.in_ok-columns.ensures)
 

@@ -2,16 +2,16 @@
 use Rattle.std.proofs.Common.{ap, ◌∙◌}
 use Rattle.pv_model.specs.Alternatives.{Read, all_cases}
 use Rattle.pv_cases.proofs.OrderedNames.{AreNames-ordered}
-use Rattle.pv_split.proofs.OutcomeLemmas.{txns-next, txns-end}
+use Rattle.pv_split.proofs.OutcomeLemmas.{reads-next, reads-end}
 use Rattle.pv_split.proofs.outcomes.named_in.Goals as goal
 
 pub loop-read-preserved : goal.loop-read-preserved
 loop-read-preserved c =
-    txns-next c.args.reads.now c.loop-read.read-index c.read-item.result c.cases.result.now c.loop-read.txns.items c.push_names.new.txns.items
+    reads-next c.args.reads.now c.loop-read.read-index c.read-item.result c.cases.result.now c.loop-read.txns.items c.push_names.new.txns.items
     c.loop-read-test.true c.read-item.is (c.cases.ensures.cases ∙ ap (λ (read : Read). read.cases) c.read.view_is) c.loop-read.invariant c.in_ok-push_names.ensures.names
 
 pub returns : goal.returns
 returns c =
     AreNames-ordered (all_cases c.args.reads.now) c.loop-read.txns.items c.ordered.result.items
-    (txns-end c.args.reads.now c.loop-read.read-index c.loop-read.txns.items c.loop-read-test.false c.loop-read.invariant)
+    (reads-end c.args.reads.now c.loop-read.read-index c.loop-read.txns.items c.loop-read-test.false c.loop-read.invariant)
     c.ordered.ensures.ascending c.ordered.ensures.same

@@ -10,7 +10,6 @@ use Rattle.pv_wire.specs.Values.{envelope_of}
 use Rattle.pv_wire.specs.declared.error.WireError.TheVariants.{BadKind, Short, Extra}
 use Rattle.pv_wire.proofs.EnvelopeLemmas.{refused, accepted, no_kind, no_such_kind, no_envelope, more_bytes, whole_envelope}
 use Rattle.pv_wire.proofs.decoding.decode.Goals as goal
-use Rattle.pv_wire.proofs.decoding.decode.Goals.{then-kind-lt1-via-then-kind-lt1, then-kind-lt1-via-else-kind-lt1+then-kind-gt8}
 
 bytes_are : (bytes : List ℕ) → ((i : ℕ) → Fits w8 (get_or bytes i 0)) → AreBytes bytes
 bytes_are bytes fits = All-from_get_or (λ byte. byte < 256) bytes 0 (λ i inside. (fits i).fits)
@@ -25,33 +24,43 @@ none_left (byte ∷ left) b is test = absurd (grind (arith, nat_tests))
 
 pub returns-in_default : goal.returns-in_default
 returns-in_default c =
-    refused c.args.bytes.now (bytes_are c.args.bytes.now c.type_inv.bytes) (Short 0)
-    (no_kind c.args.bytes.now (bytes_are c.args.bytes.now c.type_inv.bytes) c.new-take.result c.new-take.ensures c.u8.new.self c.in_default.field-0 c.in_default.ensures.short)
+    record {
+      answer = refused c.args.bytes.now (bytes_are c.args.bytes.now c.type_inv.bytes) (Short 0)
+          (no_kind c.args.bytes.now (bytes_are c.args.bytes.now c.type_inv.bytes) c.new-take.result c.new-take.ensures c.u8.new.self c.in_default.field-0 c.in_default.ensures.short);
+    }
 
-pub returns-then-kind-lt1 : goal.returns-then-kind-lt1
-returns-then-kind-lt1 c =
-    refused c.args.bytes.now (bytes_are c.args.bytes.now c.type_inv.bytes) (BadKind c.in-Ok.kind)
-    (no_such_kind c.args.bytes.now (bytes_are c.args.bytes.now c.type_inv.bytes) c.new-take.result c.new-take.ensures c.in-Ok.kind c.u8.new.self c.in-Ok.ensures.taken (omega arith)
-    (elim c.then-kind-lt1.branch [ then-kind-lt1-via-then-kind-lt1 w ↦ grind (arith, nat_tests) | then-kind-lt1-via-else-kind-lt1+then-kind-gt8 w ↦ grind (arith, nat_tests) ]))
+pub returns-then-not-is_kind : goal.returns-then-not-is_kind
+returns-then-not-is_kind c =
+    record {
+      answer = refused c.args.bytes.now (bytes_are c.args.bytes.now c.type_inv.bytes) (BadKind c.in-Ok.kind)
+          (no_such_kind c.args.bytes.now (bytes_are c.args.bytes.now c.type_inv.bytes) c.new-take.result c.new-take.ensures c.in-Ok.kind c.u8.new.self c.in-Ok.ensures.taken (omega arith)
+          (sym c.is_kind.ensures ∙ c.if-not-is_kind.true));
+    }
 
 pub returns-in_err-envelope : goal.returns-in_err-envelope
 returns-in_err-envelope c =
     let p = err_from_is_err_and c.from_residual.result c.from_residual.ensures.1 in
     rw (p.1, p.2)
-    (no_envelope c.args.bytes.now (bytes_are c.args.bytes.now c.type_inv.bytes) c.new-take.result c.new-take.ensures c.in-Ok.kind c.u8.new.self c.in-Ok.ensures.taken (omega arith)
-    (grind (arith, nat_tests)) c.in_err-envelope.field-0.0 c.in_err-envelope.ensures.stops)
+    record {
+      answer = (no_envelope c.args.bytes.now (bytes_are c.args.bytes.now c.type_inv.bytes) c.new-take.result c.new-take.ensures c.in-Ok.kind c.u8.new.self c.in-Ok.ensures.taken (omega arith)
+          (sym c.is_kind.ensures ∙ c.if-not-is_kind.false) c.in_err-envelope.field-0.0 c.in_err-envelope.ensures.stops);
+    }
 
 pub returns-then-not-is_empty : goal.returns-then-not-is_empty
 returns-then-not-is_empty c =
     let some = some_left c.left.result.now c.is_empty.result c.is_empty.ensures c.if-not-is_empty.true in
-    refused c.args.bytes.now (bytes_are c.args.bytes.now c.type_inv.bytes) (Extra c.place.result)
-    (subst (λ place. EnvelopeFault c.args.bytes.now (extra place)) (sym c.place.ensures.place)
-    (more_bytes c.args.bytes.now (bytes_are c.args.bytes.now c.type_inv.bytes) c.new-take.result c.new-take.ensures c.in-Ok.kind c.u8.new.self c.in-Ok.ensures.taken (omega arith)
-    (grind (arith, nat_tests)) (envelope_of c.in_ok-envelope.envelope) c.take_envelope.new.take c.in_ok-envelope.ensures.passes (subst (λ left. left ≢ []) c.left.ensures some)))
+    record {
+      answer = refused c.args.bytes.now (bytes_are c.args.bytes.now c.type_inv.bytes) (Extra c.place.result)
+          (subst (λ place. EnvelopeFault c.args.bytes.now (extra place)) (sym c.place.ensures.place)
+          (more_bytes c.args.bytes.now (bytes_are c.args.bytes.now c.type_inv.bytes) c.new-take.result c.new-take.ensures c.in-Ok.kind c.u8.new.self c.in-Ok.ensures.taken (omega arith)
+          (sym c.is_kind.ensures ∙ c.if-not-is_kind.false) (envelope_of c.in_ok-envelope.envelope) c.take_envelope.new.take c.in_ok-envelope.ensures.passes (subst (λ left. left ≢ []) c.left.ensures some)));
+    }
 
 pub returns : goal.returns
 returns c =
     let none = none_left c.left.result.now c.is_empty.result c.is_empty.ensures c.if-not-is_empty.false in
-    accepted c.args.bytes.now (bytes_are c.args.bytes.now c.type_inv.bytes) c.in_ok-envelope.envelope
-    (whole_envelope c.args.bytes.now (bytes_are c.args.bytes.now c.type_inv.bytes) c.new-take.result c.new-take.ensures c.in-Ok.kind c.u8.new.self c.in-Ok.ensures.taken (omega arith)
-    (grind (arith, nat_tests)) (envelope_of c.in_ok-envelope.envelope) c.take_envelope.new.take c.in_ok-envelope.ensures.passes (sym c.left.ensures ∙ none))
+    record {
+      answer = accepted c.args.bytes.now (bytes_are c.args.bytes.now c.type_inv.bytes) c.in_ok-envelope.envelope
+          (whole_envelope c.args.bytes.now (bytes_are c.args.bytes.now c.type_inv.bytes) c.new-take.result c.new-take.ensures c.in-Ok.kind c.u8.new.self c.in-Ok.ensures.taken (omega arith)
+          (sym c.is_kind.ensures ∙ c.if-not-is_kind.false) (envelope_of c.in_ok-envelope.envelope) c.take_envelope.new.take c.in_ok-envelope.ensures.passes (sym c.left.ensures ∙ none));
+    }

@@ -37,7 +37,7 @@ returns-in_ok-put_grant-in-Granted c = λ bytes all.
     let spelled : SpellsBody (granted c.in-Granted.txn c.in-Granted.grant c.in-Granted.values.items) bytes
     = subst (λ (message : Message). SpellsBody (message_of message) bytes) c.in-Granted.is all in
     on_ok_weaker c.put_reads.result
-    (appended_both c.args.put.now c.put_grant.new.put c.put_reads.new.put spelled.front spelled.back bytes spelled.whole
+    (appended_both c.args.put.now.bytes c.put_grant.new.put.bytes c.put_reads.new.put.bytes spelled.front spelled.back bytes spelled.whole
     (c.in_ok-put_grant-in-Granted.ensures spelled.front spelled.first))
     (c.put_reads.ensures 1 spelled.back (subst (λ (reads : List Read). SpellsReads 1 reads spelled.back) (sym c.deref-in-Granted.ensures.value) spelled.second))
 
@@ -52,7 +52,7 @@ returns-in_ok-put_grant-in-Prepare c = λ bytes all.
     let spelled : SpellsBody (prepare c.in-Prepare.txn c.in-Prepare.grant c.in-Prepare.writes.items) bytes
     = subst (λ (message : Message). SpellsBody (message_of message) bytes) c.in-Prepare.is all in
     on_ok_weaker c.put_reads-in-Prepare.result
-    (appended_both c.args.put.now c.put_grant-in-Prepare.new.put c.put_reads-in-Prepare.new.put spelled.front spelled.back bytes spelled.whole
+    (appended_both c.args.put.now.bytes c.put_grant-in-Prepare.new.put.bytes c.put_reads-in-Prepare.new.put.bytes spelled.front spelled.back bytes spelled.whole
     (c.in_ok-put_grant-in-Prepare.ensures spelled.front spelled.first))
     (c.put_reads-in-Prepare.ensures 0 spelled.back (subst (λ (reads : List Read). SpellsReads 0 reads spelled.back) (sym c.deref-in-Prepare.ensures.value) spelled.second))
 
@@ -61,8 +61,8 @@ returns-in_ok-u32-in-Denied c = λ bytes all.
     let spelled : SpellsBody (denied c.in-Denied.txn c.in-Denied.item.0 c.in-Denied.holder) bytes
     = subst (λ (message : Message). SpellsBody (message_of message) bytes) c.in-Denied.is all in
     on_ok_weaker c.put_txn.result
-    (appended_both c.args.put.now c.u32.new.self c.put_txn.new.put spelled.front spelled.back bytes spelled.whole
-    (c.in_ok-u32-in-Denied.ensures.written ∙ ap (λ front. c.args.put.now ++ front) (sym spelled.first.spelled.spelled)))
+    (appended_both c.args.put.now.bytes c.u32.new.self.bytes c.put_txn.new.put.bytes spelled.front spelled.back bytes spelled.whole
+    (c.in_ok-u32-in-Denied.ensures.written ∙ ap (λ front. c.args.put.now.bytes ++ front) (sym spelled.first.spelled.spelled)))
     (c.put_txn.ensures spelled.back spelled.second)
 
 pub returns-in-Outcome : goal.returns-in-Outcome

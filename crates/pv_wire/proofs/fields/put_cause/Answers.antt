@@ -11,14 +11,14 @@ use Rattle.pv_wire.proofs.fields.put_cause.Goals as goal
 pub returns-in-GrantLost : goal.returns-in-GrantLost
 returns-in-GrantLost c = λ bytes all.
     let spelled : SpellsNoCause grant_lost bytes = subst (λ (cause : NoCause). SpellsNoCause (cause_of cause) bytes) c.in-GrantLost.is all in
-    on_ok_weaker c.u8.result (λ last. last ∙ ap (λ front. c.args.put.now ++ front) (sym spelled.spelled)) c.u8.ensures.written
+    on_ok_weaker c.u8.result (λ last. last ∙ ap (λ front. c.args.put.now.bytes ++ front) (sym spelled.spelled)) c.u8.ensures.written
 
 pub returns-in_ok-u8-in-JournalFull : goal.returns-in_ok-u8-in-JournalFull
 returns-in_ok-u8-in-JournalFull c = λ bytes all.
     let spelled : SpellsNoCause (journal_full c.in-JournalFull.length) bytes = subst (λ (cause : NoCause). SpellsNoCause (cause_of cause) bytes) c.in-JournalFull.is all in
     on_ok_weaker c.u64.result
     (λ last.
-    appended_both c.args.put.now c.u8-in-JournalFull.new.self c.u64.new.self spelled.front spelled.back bytes spelled.whole
-    (c.in_ok-u8-in-JournalFull.ensures.written ∙ ap (λ front. c.args.put.now ++ front) (sym spelled.first.spelled))
-    (last ∙ ap (λ back. c.u8-in-JournalFull.new.self ++ back) (sym spelled.second.spelled)))
+    appended_both c.args.put.now.bytes c.u8-in-JournalFull.new.self.bytes c.u64.new.self.bytes spelled.front spelled.back bytes spelled.whole
+    (c.in_ok-u8-in-JournalFull.ensures.written ∙ ap (λ front. c.args.put.now.bytes ++ front) (sym spelled.first.spelled))
+    (last ∙ ap (λ back. c.u8-in-JournalFull.new.self.bytes ++ back) (sym spelled.second.spelled)))
     c.u64.ensures.written

@@ -16,12 +16,12 @@ loop-want-init c = λ bytes spelled. record { rest = bytes; spelled = spelled; s
 
 pub loop-want-preserved : goal.loop-want-preserved
 loop-want-preserved c = λ bytes spelled.
-    writing_goes_on Spells c.args.wants.now c.loop-want.want-index c.want-item.result c.u8.new.self bytes c.loop-want.put c.put_want.new.put
+    writing_goes_on Spells c.args.wants.now c.loop-want.want-index c.want-item.result c.u8.new.self.bytes bytes c.loop-want.put.bytes c.put_want.new.put.bytes
     c.loop-want-test.true c.want-item.is (c.loop-want.invariant bytes spelled) c.in_ok-put_want.ensures
 
 pub returns : goal.returns
 returns c = λ fewest bytes spelled.
     let each = entries_each (λ (entry : Want). IsTruth entry.exclusive) (λ entry. entry.item) 0 c.args.wants.now spelled.back spelled.second in
-    appended_both c.args.put.now c.u8.new.self c.loop-want.put spelled.front spelled.back bytes spelled.whole
-    (c.in_ok-u8.ensures.written ∙ ap (λ front. c.args.put.now ++ front) (sym spelled.first.spelled.spelled))
-    (writing_ends Spells c.args.wants.now c.loop-want.want-index c.u8.new.self spelled.back c.loop-want.put c.loop-want-test.false (c.loop-want.invariant spelled.back each))
+    appended_both c.args.put.now.bytes c.u8.new.self.bytes c.loop-want.put.bytes spelled.front spelled.back bytes spelled.whole
+    (c.in_ok-u8.ensures.written ∙ ap (λ front. c.args.put.now.bytes ++ front) (sym spelled.first.spelled.spelled))
+    (writing_ends Spells c.args.wants.now c.loop-want.want-index c.u8.new.self.bytes spelled.back c.loop-want.put.bytes c.loop-want-test.false (c.loop-want.invariant spelled.back each))

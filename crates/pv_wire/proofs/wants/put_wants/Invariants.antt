@@ -9,4 +9,4 @@ use Rattle.pv_wire.proofs.wants.put_wants.Given as goal
 abbrev pub invariant-loop-want : goal.invariant-loop-want
 invariant-loop-want l =
     (bytes : List ℕ) → SpellsEach (SpellsEntry (λ (entry : Want). IsTruth entry.exclusive) (λ entry. entry.item)) l.wants bytes
-    → IsWriting (SpellsEntry (λ (entry : Want). IsTruth entry.exclusive) (λ entry. entry.item)) (drop l.want-index l.wants) l.initial.put bytes l.put
+    → IsWriting (SpellsEntry (λ (entry : Want). IsTruth entry.exclusive) (λ entry. entry.item)) (drop l.want-index l.wants) l.initial.put.bytes bytes l.put.bytes

@@ -1,4 +1,4 @@
-use Rattle.std.proofs.Common.{rules, arith, ◌≡◌, ◌≤◌, refl, ◌++◌, ◌∷◌, [], ap, sym, ◌∙◌, length, false}
+use Rattle.std.proofs.Common.{rules, arith, ◌≡◌, ◌≤◌, ◌++◌, ◌∷◌, [], ap, length, false}
 use Rattle.pv_disk.specs.declared.image.Write.{Write}
 use Rattle.pv_disk.proofs.ImageLemmas.{Begins, can_undo_more, now_more, past_more}
 use Rattle.pv_disk.proofs.HistoryLemmas.{made_all}

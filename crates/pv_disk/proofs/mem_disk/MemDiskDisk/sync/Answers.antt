@@ -1,4 +1,4 @@
-use Rattle.std.proofs.Common.{rules, arith, refl}
+use Rattle.std.proofs.Common.{rules, refl}
 use Rattle.pv_disk.specs.MemDisk.{MemState}
 use Rattle.pv_disk.proofs.MemLemmas.{sync_done, sync_fired}
 use Rattle.pv_disk.proofs.mem_disk.MemDiskDisk.sync.Goals as goal

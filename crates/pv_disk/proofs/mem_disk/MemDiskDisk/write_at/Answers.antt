@@ -1,4 +1,4 @@
-use Rattle.std.proofs.Common.{rules, arith, refl, ◌≤◌, ◌+◌, length, sym, ap, ◌∙◌, subst}
+use Rattle.std.proofs.Common.{rules, arith, refl, ◌≤◌, length}
 use Rattle.pv_disk.specs.MemDisk.{MemState}
 use Rattle.pv_disk.proofs.MemLemmas.{write_done, write_fired}
 use Rattle.pv_disk.proofs.mem_disk.MemDiskDisk.write_at.Goals as goal

@@ -1,4 +1,4 @@
--- Where the call was told to fail, its number is in the list.
+-- Where the call was planned to fail, its number is in the list.
 use Rattle.std.proofs.Common.{refl}
 use Rattle.std.proofs.lemmas.Result.{err_from_is_err_and}
 use Rattle.pv_io.proofs.memory.MemSinkSink.write.Goals as goal

@@ -23,9 +23,9 @@ returns-in-Err-clause-effect g c =
     let old = c.args.self.now in
     let new : Journal g.row.D.Denot = record { disk = c.write_record.new.disk; frame = c.make_frame.new.frame; length = old.length; limit = old.limit; down = true } in
     let frame_is = c.deref.ensures.value ∙ c.make_frame.ensures in (
-      record { was_up = c.if-self.false; is_down = refl; faults = c.write_record.ensures.faults.0; cause = c.in-Err.ensures.faults.1 },
-      fails_to_add M old new c.args.content.now c.deref.result.now c.requires.intact c.if-self.false (c.requires.room c.if-self.false) frame_is c.write_record.ensures.told refl
-          c.write_record.result c.write_record.ensures.crash,
+      record { was_up = c.if-self.false; is_down = refl; faults = c.write_record.ensures.fault.0; fault = c.in-Err.ensures.fault.1 },
+      fails_to_add M old new c.args.content.now c.deref.result.now c.requires.intact c.if-self.false (c.requires.room c.if-self.false) frame_is c.write_record.ensures.known refl
+          c.write_record.result c.write_record.ensures.crash refl,
     )
 
 pub returns-in-Err-clause-goes : goal.returns-in-Err-clause-goes
@@ -41,8 +41,8 @@ returns-in-Ok-clause-effect g c =
     let new : Journal g.row.D.Denot =
     record { disk = c.write_record.new.disk; frame = c.make_frame.new.frame; length = old.length + (5 + length c.args.content.now); limit = old.limit; down = old.down } in
     let frame_is = c.deref.ensures.value ∙ c.make_frame.ensures in (
-      record { was_up = c.if-self.false; is_up = c.if-self.false; faults = c.write_record.ensures.faults.0 },
-      adds M old new c.args.content.now c.deref.result.now c.requires.intact c.if-self.false (c.requires.room c.if-self.false) frame_is c.write_record.ensures.told refl
+      record { was_up = c.if-self.false; is_up = c.if-self.false; faults = c.write_record.ensures.fault.0 },
+      adds M old new c.args.content.now c.deref.result.now c.requires.intact c.if-self.false (c.requires.room c.if-self.false) frame_is c.write_record.ensures.known refl
           tt c.in-Ok.ensures.crash refl,
     )
 
@@ -53,7 +53,7 @@ returns-in-Ok-clause-intact g c =
     let new : Journal g.row.D.Denot =
     record { disk = c.write_record.new.disk; frame = c.make_frame.new.frame; length = old.length + (5 + length c.args.content.now); limit = old.limit; down = old.down } in
     let frame_is = c.deref.ensures.value ∙ c.make_frame.ensures in
-    still_intact M old new c.args.content.now c.deref.result.now c.requires.intact c.if-self.false (c.requires.room c.if-self.false) frame_is c.write_record.ensures.told refl
+    still_intact M old new c.args.content.now c.deref.result.now c.requires.intact c.if-self.false (c.requires.room c.if-self.false) frame_is c.write_record.ensures.known refl
     tt c.in-Ok.ensures.crash refl
 
 pub returns-in-Ok-clause-goes : goal.returns-in-Ok-clause-goes

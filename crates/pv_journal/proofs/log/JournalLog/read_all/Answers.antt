@@ -1,7 +1,7 @@
 use Rattle.std.proofs.Common.{rules, ◌≡◌, sym, ◌∙◌, false}
 use Rattle.pv_law_disk.specs.Calls.{none}
-use Rattle.pv_journal.specs.OneAnswer.{contents_of-is}
-use Rattle.pv_journal.specs.JournalModel.{told_bytes}
+use Rattle.pv_law_journal.proofs.ContentsLemmas.{contents_of-is}
+use Rattle.pv_law_journal.proofs.SizeLemmas.{known_bytes}
 use Rattle.pv_journal.proofs.LogLemmas.{silent}
 use Rattle.pv_journal.proofs.log.JournalLog.read_all.Goals as goal
 
@@ -10,9 +10,9 @@ returns-then-self-clause-goes g c = none
 
 pub returns-in-Ok-clause-contents : goal.returns-in-Ok-clause-contents
 returns-in-Ok-clause-contents g c held is =
-    let told = told_bytes (g.D.Disk.model.content c.args.self.now.disk) held is in
-    let journal = c.in-Ok.ensures.found told.0 told.1 in
-    let same = sym (contents_of-is _ told.0 journal) ∙ told.2 in
+    let known = known_bytes (g.D.Disk.model.content c.args.self.now.disk) held is in
+    let journal = c.in-Ok.ensures.found known.0 known.1 in
+    let same = sym (contents_of-is _ known.0 journal) ∙ known.2 in
     cc
 
 pub returns-in-Err-NotOurs-clause-effect : goal.returns-in-Err-NotOurs-clause-effect
@@ -21,5 +21,5 @@ returns-in-Err-NotOurs-clause-effect g c =
       search rules,
       search rules,
       silent (g.D.Disk.model.content c.args.self.now.disk) c.in-Err-NotOurs.place
-          (λ bytes told. let rest = c.requires.at_rest up bytes told in (rest.0, rest.1)) (λ bytes told. c.read_contents.ensures.not_ours c.in-Err-NotOurs.place (search rules) bytes told),
+          (λ bytes known. let rest = c.requires.at_rest up bytes known in (rest.0, rest.1)) (λ bytes known. c.read_contents.ensures.not_ours c.in-Err-NotOurs.place (search rules) bytes known),
     )

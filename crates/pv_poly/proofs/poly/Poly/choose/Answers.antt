@@ -1,62 +1,54 @@
-use Rattle.std.proofs.Common.{◌+◌, ◌≤◌, ℕ, sym, ap, ◌∙◌, subst, List, Err, inl, arith}
-use Rattle.std.proofs.lemmas.Bool.{false≢true}
-use Rattle.pv_base.specs.Polyvalue.{Case, IsPolyvalue}
-use Rattle.pv_base.specs.declared.faults.NameError.TheVariants.{TooManyOutcomes}
-use Rattle.pv_cases.proofs.CountLemmas.{choice-unsettled, chosen-polyvalue, refused-count, same-choice, same-few, settled-unnamed}
+-- What is given is the choice, and what is reported is its count.
+use Rattle.std.proofs.Common.{◌≡◌, Bool, List, Result, Ok, Err, IfSome, sym, subst, rules}
+use Rattle.std.proofs.lemmas.Result.{err_from_is_err_and}
+use Rattle.pv_base.specs.Answer.{Answers}
+use Rattle.pv_base.specs.Canonical.{IsExact}
+use Rattle.pv_base.specs.Polyvalue.{Case, IsCanonical}
+use Rattle.pv_base.specs.declared.faults.NameError.{NameError}
+use Rattle.pv_base.specs.declared.faults.NameError.TheVariants.{NoMemory}
+use Rattle.pv_base.specs.declared.limits.TheConstants.{HELD_NAMES}
+use Rattle.pv_base.specs.declared.txn.TxnId.{TxnId}
+use Rattle.pv_base.proofs.AnswerLemmas.{answered}
+use Rattle.pv_cases.specs.NameLimits.{count_of, IsChosen, ChoiceNamesTooMany}
+use Rattle.pv_cases.proofs.NameLimitLemmas.{one-chosen}
+use Rattle.pv_cases.proofs.RefusedLemmas.{refused-so}
 use Rattle.pv_poly.proofs.poly.Poly.choose.Goals as goal
 
-pub returns-then-same-clause-refuses : goal.returns-then-same-clause-refuses
-returns-then-same-clause-refuses g c count chosen many =
-    let few = same-few 8 c.in_ok-aborted.ensures.settled c.in_ok-committed.ensures.settled c.in_ok-aborted.ensures.canonical (c.same.ensures.equal c.if-same.true)
-    c.in_ok-aborted.ensures.few count chosen in
-    absurd (omega (arith, few, many))
+module _ {V : Type 0} {same : V → V → Bool} (laws : IsExact same) (txn : TxnId) (aborted committed : List (Case V)) (first : IsCanonical aborted) (second : IsCanonical committed) where
+  refused-choice : (result : Result (List (Case V)) NameError) (error : NameError) → result ≡ Err error → IfSome (count_of error) (ChoiceNamesTooMany HELD_NAMES txn aborted committed)
+      → Answers (IsChosen HELD_NAMES txn aborted committed) (ChoiceNamesTooMany HELD_NAMES txn aborted committed) (λ poly. poly) count_of result
+  refused-choice =
+      refused-so (IsChosen HELD_NAMES txn aborted committed) (ChoiceNamesTooMany HELD_NAMES txn aborted committed)
+      (one-chosen HELD_NAMES laws txn aborted committed first second) (λ poly. poly) count_of
 
-pub returns-then-count-gt-HELD_NAMES-clause-refused : goal.returns-then-count-gt-HELD_NAMES-clause-refused
-returns-then-count-gt-HELD_NAMES-clause-refused g c count chosen other =
-    let e = refused-count c.in_ok-aborted.ensures.settled c.in_ok-committed.ensures.settled c.in_ok-aborted.ensures.canonical c.in_ok-committed.ensures.canonical
-    (λ same. false≢true (sym c.if-same.false ∙ c.same.ensures.unequal same)) c.in_ok-count.field-0 c.in_ok-count.ensures.count count chosen in
-    (ap TooManyOutcomes e, omega (arith, e, c.if-count-gt-HELD_NAMES.true))
+  given-choice : (poly : List (Case V)) → IsChosen HELD_NAMES txn aborted committed poly
+      → Answers (IsChosen HELD_NAMES txn aborted committed) (ChoiceNamesTooMany HELD_NAMES txn aborted committed) (λ poly. poly) count_of (Ok poly)
+  given-choice poly is =
+      answered (IsChosen HELD_NAMES txn aborted committed) (ChoiceNamesTooMany HELD_NAMES txn aborted committed)
+      (one-chosen HELD_NAMES laws txn aborted committed first second) (λ poly. poly) count_of (Ok poly) is tt
 
-pub returns-then-count-gt-HELD_NAMES-clause-refuses : goal.returns-then-count-gt-HELD_NAMES-clause-refuses
-returns-then-count-gt-HELD_NAMES-clause-refuses g c count chosen many =
-    let e = refused-count c.in_ok-aborted.ensures.settled c.in_ok-committed.ensures.settled c.in_ok-aborted.ensures.canonical c.in_ok-committed.ensures.canonical
-    (λ same. false≢true (sym c.if-same.false ∙ c.same.ensures.unequal same)) c.in_ok-count.field-0 c.in_ok-count.ensures.count count chosen in
-    inl (ap (λ (n : ℕ). Err (TooManyOutcomes n)) e)
+pub returns-in_err-tree : goal.returns-in_err-tree
+returns-in_err-tree g c =
+    let laws : IsExact g.V.PartialEq.eq = record { exact = g.met.V.Exact.exact; itself = g.met.V.Eq.laws.refl } in
+    let is = err_from_is_err_and c.from_residual.result c.from_residual.ensures.1 in
+    record {
+      answer = refused-choice laws c.args.txn c.args.old.now c.args.new.now (subst IsCanonical c.old.view_is c.old.invariant.canonical) (subst IsCanonical c.new.view_is c.new.invariant.canonical)
+          c.from_residual.result c.in_err-tree.field-0.0 (search (rules, is)) c.in_err-tree.ensures.refused;
+    }
 
-pub invariant_of-result-2 : goal.invariant_of-result-2
-invariant_of-result-2 g c =
-    let short : c.in_ok-count.field-0 + 1 ≤ 8 = omega (arith, c.if-count-gt-HELD_NAMES.false) in
-    subst (λ (l : List (Case _)). IsPolyvalue 8 l) (sym c.in_ok-cases-2.ensures)
-    (chosen-polyvalue 8 c.in_ok-aborted.ensures.settled c.in_ok-committed.ensures.settled c.in_ok-aborted.ensures.canonical c.in_ok-committed.ensures.canonical
-    (λ same. false≢true (sym c.if-same.false ∙ c.same.ensures.unequal same)) c.in_ok-count.field-0 c.in_ok-count.ensures.count
-    short c.in_ok-tree.ensures.canonical c.in_ok-tree.ensures.choice)
+pub returns-in_err-cases : goal.returns-in_err-cases
+returns-in_err-cases g c =
+    let laws : IsExact g.V.PartialEq.eq = record { exact = g.met.V.Exact.exact; itself = g.met.V.Eq.laws.refl } in
+    let is = err_from_is_err_and c.from_residual-in_err-cases.result c.from_residual-in_err-cases.ensures.1 in
+    record {
+      answer = refused-choice laws c.args.txn c.args.old.now c.args.new.now (subst IsCanonical c.old.view_is c.old.invariant.canonical) (subst IsCanonical c.new.view_is c.new.invariant.canonical)
+          c.from_residual-in_err-cases.result NoMemory (search (rules, is)) tt;
+    }
 
-pub returns-clause-polyvalue : goal.returns-clause-polyvalue
-returns-clause-polyvalue g c =
-    let short : c.in_ok-count.field-0 + 1 ≤ 8 = omega (arith, c.if-count-gt-HELD_NAMES.false) in
-    subst (λ (l : List (Case _)). IsPolyvalue 8 l) (sym c.in_ok-cases-2.ensures)
-    (chosen-polyvalue 8 c.in_ok-aborted.ensures.settled c.in_ok-committed.ensures.settled c.in_ok-aborted.ensures.canonical c.in_ok-committed.ensures.canonical
-    (λ same. false≢true (sym c.if-same.false ∙ c.same.ensures.unequal same)) c.in_ok-count.field-0 c.in_ok-count.ensures.count
-    short c.in_ok-tree.ensures.canonical c.in_ok-tree.ensures.choice)
-
-pub returns-clause-refuses : goal.returns-clause-refuses
-returns-clause-refuses g c count chosen many =
-    let e = refused-count c.in_ok-aborted.ensures.settled c.in_ok-committed.ensures.settled c.in_ok-aborted.ensures.canonical c.in_ok-committed.ensures.canonical
-    (λ same. false≢true (sym c.if-same.false ∙ c.same.ensures.unequal same)) c.in_ok-count.field-0 c.in_ok-count.ensures.count count chosen in
-    absurd (omega (arith, e, many, c.if-count-gt-HELD_NAMES.false))
-
-pub returns-then-same-clause-choice : goal.returns-then-same-clause-choice
-returns-then-same-clause-choice g c =
-    choice-unsettled c.in_ok-aborted.ensures.settled c.in_ok-committed.ensures.settled c.in_ok-aborted.aborted c.in_ok-cases.field-0.items c.in_ok-cases.ensures
-    (same-choice c.args.txn (c.same.ensures.equal c.if-same.true))
-
-pub choose-requires-clause-aborted_unnamed : goal.choose-requires-clause-aborted_unnamed
-choose-requires-clause-aborted_unnamed g c = settled-unnamed c.in_ok-aborted.ensures.settled
-
-pub choose-requires-clause-committed_unnamed : goal.choose-requires-clause-committed_unnamed
-choose-requires-clause-committed_unnamed g c = settled-unnamed c.in_ok-committed.ensures.settled
-
-pub returns-clause-choice : goal.returns-clause-choice
-returns-clause-choice g c =
-    choice-unsettled c.in_ok-aborted.ensures.settled c.in_ok-committed.ensures.settled c.in_ok-tree.tree c.in_ok-cases-2.field-0.items c.in_ok-cases-2.ensures
-    c.in_ok-tree.ensures.choice
+pub returns : goal.returns
+returns g c =
+    let laws : IsExact g.V.PartialEq.eq = record { exact = g.met.V.Exact.exact; itself = g.met.V.Eq.laws.refl } in
+    record {
+      answer = given-choice laws c.args.txn c.args.old.now c.args.new.now (subst IsCanonical c.old.view_is c.old.invariant.canonical) (subst IsCanonical c.new.view_is c.new.invariant.canonical)
+          c.in_ok-cases.field-0.items (subst (IsChosen HELD_NAMES c.args.txn c.args.old.now c.args.new.now) (sym c.in_ok-cases.ensures) c.in_ok-tree.ensures.given);
+    }

@@ -4,8 +4,8 @@ use Rattle.std.specs.List.{Contains}
 use Rattle.std.proofs.lemmas.Result.{IfOk-weaker}
 use Rattle.pv_base.specs.declared.txn.TxnId.{TxnId}
 use Rattle.pv_base.specs.Polyvalue.{names, IsCanonical, sure, IsChoice, AreValues}
-use Rattle.pv_cases.proofs.PartingLemmas.{ascending-rest}
-use Rattle.pv_poly.proofs.TableSteps.{values-choice, rest-behind, names-listed, half}
+use Rattle.pv_cases.proofs.CaseSplitLemmas.{ascending-rest}
+use Rattle.pv_poly.proofs.TableSteps.{values-choice, rest-behind, table-names, half}
 use Rattle.pv_poly.proofs.tree.Tree.+from_table.Goals as goal
 
 pub returns-in_default-clause-canonical : goal.returns-in_default-clause-canonical
@@ -66,5 +66,5 @@ returns-clause-names g t c =
     let aborted = c.in_ok-aborted.aborted in
     let committed = c.in_ok-committed.committed in
     IfOk-weaker c.test.result _ (λ tree. (txn : TxnId) → IsTrue (names tree txn) → Contains txns txn)
-    (λ tree all. names-listed tree aborted committed first txns c.in-Some.rest.now c.in-Some.ensures.cases.0 c.in_ok-aborted.ensures.names c.in_ok-committed.ensures.names all)
+    (λ tree all. table-names tree aborted committed first txns c.in-Some.rest.now c.in-Some.ensures.cases.0 c.in_ok-aborted.ensures.names c.in_ok-committed.ensures.names all)
     c.test.ensures.names

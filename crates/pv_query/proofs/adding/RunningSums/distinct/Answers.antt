@@ -1,11 +1,12 @@
--- One sum after another is put behind the others, unless it is there.
+-- One sum after another is appended, unless it is there.
 use Rattle.std.proofs.Common.{◌^◌, get_or, sym, subst}
 use Rattle.std.specs.Prelude.{pos, ◌+ℤ◌, All}
 use Rattle.std.specs.Ordering.{int_eq}
+use Rattle.pv_law_polyvalues.proofs.ExistenceLemmas.{numbers-exact}
 use Rattle.pv_model.specs.PossibleAnswers.{without_repeats}
 use Rattle.pv_query.specs.Sums.{totals, IsWithin}
 use Rattle.pv_query.proofs.RepeatLemmas.{left-start, left-step, left-end}
-use Rattle.pv_query.proofs.SumLemmas.{numbers-exact, whole-place, element-itself}
+use Rattle.pv_query.proofs.SumLemmas.{whole-place, element-itself}
 use Rattle.pv_query.proofs.adding.RunningSums.distinct.Goals as goal
 
 pub loop-sum-init : goal.loop-sum-init
@@ -18,7 +19,7 @@ loop-sum-preserved c =
     let items = c.deref-sum-items.result.now in
     let i = c.loop-sum.sum-index in
     let each = subst (All (IsWithin (2 ^ 100))) (sym c.deref-sum-items.ensures.value) c.requires.room.each in
-    left-step int_eq numbers-exact (λ z. c.args.self.now.sure +ℤ z) (without_repeats int_eq (totals c.args.self.now))
+    left-step int_eq numbers-exact.exact (λ z. c.args.self.now.sure +ℤ z) (without_repeats int_eq (totals c.args.self.now))
     c.loop-sum.found.items c.push_new.new.values.items items i (get_or items i (pos 0))
     _ c.loop-sum-test.true (element-itself items i (pos 0) c.loop-sum-test.true)
     (whole-place c.args.self.now.sure (get_or items i (pos 0)) c.requires.room.sure (each i (pos 0) c.loop-sum-test.true)) c.loop-sum.invariant c.in_ok-push_new.ensures

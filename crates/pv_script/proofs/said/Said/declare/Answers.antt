@@ -1,7 +1,7 @@
 -- An item comes before all events, has three words behind its first, good numbers, a new name and room.
 use Rattle.std.proofs.Common.{[], refl, subst, get_or, List, ℕ, codes}
 use Rattle.std.proofs.lemmas.Result.{err_from_is_err_and}
-use Rattle.pv_script.specs.Faults.{texts}
+use Rattle.pv_script.specs.LineFaults.{texts}
 use Rattle.pv_script.specs.declared.schedule.LineCause.TheVariants.{WrongCount, BadNumber}
 use Rattle.pv_script.specs.Said.{before_of, IsHead}
 use Rattle.pv_script.proofs.FieldLemmas.{texts-three}
@@ -48,4 +48,4 @@ returns-in_err-add-clause-fault c = λ line head.
       value = c.in-Some-value_in.ensures.value.0;
       fits = c.in-Some-value_in.ensures.value.1;
     })
-    refl (rw c.sites.ensures.count at c.in-Some.ensures.site.1) c.in_err-add.ensures.refused.refuses.refused)
+    refl (rw c.sites.ensures.count at c.in-Some.ensures.site.1) c.in_err-add.ensures.refused.refused)

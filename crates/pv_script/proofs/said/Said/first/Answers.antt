@@ -1,6 +1,6 @@
 -- A fault of the line's bytes is one of the line.
 use Rattle.std.proofs.lemmas.Result.{err_from_is_err_and}
-use Rattle.pv_model.specs.Causes.{at_first}
+use Rattle.pv_model.specs.LineCauses.{at_first}
 use Rattle.pv_script.proofs.said.Said.first.Goals as goal
 
 pub returns-in_err-words-clause-fault : goal.returns-in_err-words-clause-fault

@@ -1,6 +1,6 @@
 -- The limit is said once, before all events.
 use Rattle.std.proofs.lemmas.Result.{err_from_is_err_and}
-use Rattle.pv_script.specs.Faults.{texts}
+use Rattle.pv_script.specs.LineFaults.{texts}
 use Rattle.pv_script.specs.Said.{before_of}
 use Rattle.pv_script.proofs.HeadLemmas.{IsLineFault-twice_journal, IsLineFault-late_journal, IsLineFault-journal}
 use Rattle.pv_script.proofs.SaidLemmas.{some-said, none-said}

@@ -1,7 +1,7 @@
 -- A fault of a part of the line is one of the line.
 use Rattle.std.proofs.Common.{refl, sym}
 use Rattle.std.proofs.lemmas.Result.{err_from_is_err_and}
-use Rattle.pv_script.specs.Faults.{texts}
+use Rattle.pv_script.specs.LineFaults.{texts}
 use Rattle.pv_script.specs.Said.{before_of}
 use Rattle.pv_script.proofs.HeadLemmas.{IsLineFault-twice_sites, IsLineFault-command}
 use Rattle.pv_script.proofs.SaidLemmas.{head-of, unknown-fault}

@@ -1,13 +1,13 @@
 -- A request has a site, and a program that may run.
-use Rattle.std.proofs.Common.{◌≡◌, ◌∙◌, sym, ap, [], Err, IfSome, get_or, arith, subst}
+use Rattle.std.proofs.Common.{◌≡◌, sym, [], IfSome, get_or, arith, subst}
 use Rattle.std.proofs.lemmas.Result.{err_from_is_err_and}
 use Rattle.pv_base.specs.Catalog.{Declared}
-use Rattle.pv_model.specs.Causes.{declared_by}
+use Rattle.pv_model.specs.LineCauses.{declared_by}
 use Rattle.pv_model.specs.ProgramText.{IsProgramText, IsRefused}
 use Rattle.pv_parse.specs.Refusals.{refusal_of}
 use Rattle.pv_law_programs.proofs.DeclaredItems.{declared-items}
 use Rattle.pv_law_programs.proofs.ItemLemmas.{some_items}
-use Rattle.pv_script.specs.Faults.{texts}
+use Rattle.pv_script.specs.LineFaults.{texts}
 use Rattle.pv_script.specs.Said.{before_of, IsLimited}
 use Rattle.pv_script.specs.declared.said.Said.{Said}
 use Rattle.pv_script.proofs.RequestLemmas.{IsLineFault-short, IsLineFault-away, request-line, IsLineFault-parse, IsLineFault-check, IsRequest-read}
@@ -46,7 +46,7 @@ returns-in_err-plan-clause-fault c =
     (IsLineFault-check (before_of c.args.self.now) c.args.line.now c.args.query (texts c.args.args.now) (get_or c.args.args.now 0 (record { ref_ptr = (0, 0); now = [] })).now c.program_text-text.result.now c.in-Some.site.0
     (request-line (before_of c.args.self.now) c.args.line.now c.args.query c.args.args.now (record { ref_ptr = (0, 0); now = [] }) c.program_text-text.result.now c.in-Some.site.0 c.sites.result c.requires.head c.in-len2-up.len_at_least c.program_text-text.ensures.text c.in-Some.ensures.site.0 c.in-Some.ensures.site.1 c.sites.ensures.count)
     c.in_ok-program.program (subst (λ (catalog : Declared). IsProgramText catalog c.program_text-text.result.now c.in_ok-program.program) (sym (limited c.args.self.now c.requires.limited)) c.in_ok-program.ensures.answer.given)
-    items.0 items.1 c.in_err-plan.field-0.0 (λ same. c.check.ensures.no_item.0 (c.in_err-plan.was ∙ ap Err same)) (c.in_err-plan.ensures.refused items.0 items.1).refuses.refused)
+    items.0 items.1 c.in_err-plan.field-0.0 (c.in_err-plan.ensures.refused items.0 items.1).refused)
 
 pub returns-clause-event : goal.returns-clause-event
 returns-clause-event c =
@@ -55,4 +55,4 @@ returns-clause-event c =
     (IsRequest-read (before_of c.args.self.now) c.args.line.now c.args.query (texts c.args.args.now) (get_or c.args.args.now 0 (record { ref_ptr = (0, 0); now = [] })).now c.program_text-text.result.now c.in-Some.site.0
     (request-line (before_of c.args.self.now) c.args.line.now c.args.query c.args.args.now (record { ref_ptr = (0, 0); now = [] }) c.program_text-text.result.now c.in-Some.site.0 c.sites.result c.requires.head c.in-len2-up.len_at_least c.program_text-text.ensures.text c.in-Some.ensures.site.0 c.in-Some.ensures.site.1 c.sites.ensures.count)
     c.in_ok-program.program (subst (λ (catalog : Declared). IsProgramText catalog c.program_text-text.result.now c.in_ok-program.program) (sym (limited c.args.self.now c.requires.limited)) c.in_ok-program.ensures.answer.given)
-    items.0 items.1 (c.in_ok-plan.ensures.refused items.0 items.1).refuses.accepted)
+    items.0 items.1 (c.in_ok-plan.ensures.refused items.0 items.1).accepted)

@@ -1,0 +1,5 @@
+pub mod Bodies
+pub mod ContentsLemmas
+mod Decided
+pub mod OneAnswer
+pub mod SizeLemmas
