@@ -1,0 +1,13 @@
+pub mod AgreementLemmas
+pub mod AnswerLemmas
+pub mod CurrentSteps
+pub mod GroundLemmas
+pub mod Lists
+pub mod OpeningLemmas
+pub mod PlaceLemmas
+pub mod ReadLemmas
+pub mod RunLemmas
+pub mod SequenceSteps
+pub mod SupportSteps
+pub mod ValueSteps
+pub mod WriteLemmas

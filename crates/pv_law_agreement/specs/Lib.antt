@@ -1,0 +1,9 @@
+pub mod Falls
+pub mod Grounds
+pub mod Orderly
+pub mod Places
+pub mod Promises
+pub mod Sequence
+pub mod Serialized
+pub mod Supported
+pub mod Values

@@ -1,0 +1,11 @@
+pub mod EventActs
+pub mod FoundLemmas
+pub mod LockActs
+pub mod OutcomeActs
+pub mod RunActs
+pub mod StepActs
+pub mod VoteActs
+pub mod WorldLemmas
+pub mod ExampleLemmas
+pub mod PremiseLemmas
+pub mod ReplayLemmas

@@ -1,0 +1,4 @@
+pub mod Corners
+pub mod Eventful
+pub mod Reached
+pub mod Replays

@@ -1,0 +1,4 @@
+pub mod DecidedLemmas
+pub mod LiveLemmas
+pub mod OpenLemmas
+pub mod OutcomeLemmas

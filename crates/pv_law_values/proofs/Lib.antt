@@ -1,0 +1,4 @@
+pub mod ChoiceLemmas
+pub mod NewestLemmas
+pub mod SerialLemmas
+pub mod SupportLemmas

@@ -1,0 +1,5 @@
+pub mod Cut
+pub mod Fixed
+pub mod Heeds
+pub mod Newest
+pub mod Unassigned
