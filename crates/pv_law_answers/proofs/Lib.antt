@@ -1,0 +1,11 @@
+pub mod AnswerLemmas
+pub mod AskerLemmas
+pub mod BeginNotes
+pub mod GrantNumbers
+pub mod LineLemmas
+pub mod NoteLemmas
+pub mod OrderLemmas
+pub mod RefusalNotes
+pub mod ReportLemmas
+pub mod RunLemmas
+pub mod TxnNumbers

@@ -1,0 +1,12 @@
+-- Acts lead to every world of a run.
+use Rattle.pv_law_answers.proofs.RunLemmas.{settling-keeps}
+use Rattle.pv_law_answers.proofs.runs.settling_keeps_values.Goals as goal
+use Rattle.pv_law_events.proofs.RunActs.{any-run-reached, run-reached}
+use Rattle.pv_protocol.specs.Run.{run}
+use Rattle.pv_protocol.specs.World.{opening}
+
+pub returns-clause-run : goal.returns-clause-run
+returns-clause-run c = λ setup events well. settling-keeps setup (run setup (opening setup) events) (run-reached setup events well)
+
+pub returns-clause-faults : goal.returns-clause-faults
+returns-clause-faults c = λ setup transitions faults. settling-keeps setup transitions (any-run-reached setup transitions faults)

@@ -1,0 +1,16 @@
+pub mod AskedLemmas
+pub mod BeginLemmas
+pub mod CommitLemmas
+pub mod DoubtfulLemmas
+pub mod EndLemmas
+pub mod FoundLists
+pub mod GoesLemmas
+pub mod GoingLemmas
+pub mod GoneLemmas
+pub mod GrantSteps
+pub mod LockSteps
+pub mod RunLemmas
+pub mod TestLemmas
+pub mod UndelayedLemmas
+pub mod VoteSteps
+pub mod WidthLemmas

@@ -1,0 +1,5 @@
+pub mod Asked
+pub mod Doubtful
+pub mod Narrow
+pub mod Undelayed
+pub mod Undisturbed

@@ -1,0 +1,4 @@
+pub mod CauseLemmas
+pub mod JoinLemmas
+pub mod OutLemmas
+pub mod WidthNames
