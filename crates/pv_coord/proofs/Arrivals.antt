@@ -1,0 +1,47 @@
+-- What a grant is to its transaction, by what is tested of it.
+use Rattle.std.proofs.Common.{◌≡◌, Bool, true, false, Some, None, Option, IsTrue, refl, sym, ap, subst, ◌∙◌}
+use Rattle.std.specs.Prelude.{not, ◌||◌, if◌then◌else◌}
+use Rattle.std.proofs.lemmas.Bool.{false≢true}
+use Rattle.pv_coord.specs.Answers.{Arrival, ignored, waits, last, arrival, arrival_at, CanApply}
+use Rattle.pv_coord.specs.Coordinator.{Coordinator, Grants, locking_work, awaits, CanTake}
+use Rattle.pv_coord.specs.Work.{Work, is_unawaited, is_grant_ignored, has_all_grants, with_grant, asked_of}
+use Rattle.pv_protocol.specs.Coordinate.{reads_of, are_values_of}
+
+-- the arrival by the two tests
+abbrev arrival_by : Bool → Bool → Work → Grants → Arrival
+arrival_by unfit whole work grants =
+    if unfit then ignored else
+    (if whole then last (reads_of (with_grant work grants.taken).entry) work.entry.program grants else waits grants)
+
+pub ignored-at : (work : Work) (grants : Grants) → is_grant_ignored work grants.taken ≡ true → ignored ≡ arrival_at work grants
+ignored-at work grants unfit = sym (ap (λ (b : Bool). arrival_by b (has_all_grants (with_grant work grants.taken)) work grants) unfit)
+
+pub waits-at : (work : Work) (grants : Grants) → is_grant_ignored work grants.taken ≡ false → has_all_grants (with_grant work grants.taken) ≡ false
+    → waits grants ≡ arrival_at work grants
+waits-at work grants fit part =
+    sym (ap (λ (b : Bool). arrival_by b (has_all_grants (with_grant work grants.taken)) work grants) fit ∙ ap (λ (b : Bool). arrival_by false b work grants) part)
+
+pub last-at : (work : Work) (grants : Grants) → is_grant_ignored work grants.taken ≡ false → has_all_grants (with_grant work grants.taken) ≡ true
+    → last (reads_of (with_grant work grants.taken).entry) work.entry.program grants ≡ arrival_at work grants
+last-at work grants fit whole =
+    sym (ap (λ (b : Bool). arrival_by b (has_all_grants (with_grant work grants.taken)) work grants) fit ∙ ap (λ (b : Bool). arrival_by false b work grants) whole)
+
+fit-awaited : (a b : Bool) → (a || b) ≡ false → not a ≡ true
+fit-awaited true b is = absurd (false≢true (sym is))
+fit-awaited false b is = refl
+
+apply-by : (coord : Coordinator) (work : Work) (grants : Grants) (unfit whole : Bool) → (unfit ≡ false → CanTake coord grants) → CanApply coord (arrival_by unfit whole work grants)
+apply-by coord work grants true whole may = tt
+apply-by coord work grants false true may = may refl
+apply-by coord work grants false false may = may refl
+
+apply-held : (coord : Coordinator) (grants : Grants) (held : Option Work) → locking_work coord grants.txn ≡ held → CanApply coord (arrival held grants)
+apply-held coord grants None is = tt
+apply-held coord grants (Some work) is =
+    apply-by coord work grants (is_grant_ignored work grants.taken) (has_all_grants (with_grant work grants.taken))
+    (λ fit. subst (λ (held : Option Work). IsTrue (awaits held grants.taken.site)) (sym is)
+    (fit-awaited (is_unawaited work grants.taken.site) (not (are_values_of (asked_of work grants.taken.site) grants.taken.values)) fit))
+
+-- The change of an answer may be applied.
+pub can-apply : (coord : Coordinator) (grants : Grants) → CanApply coord (arrival (locking_work coord grants.txn) grants)
+can-apply coord grants = apply-held coord grants (locking_work coord grants.txn) refl

@@ -1,0 +1,9 @@
+mod Ageing
+mod Arrivals
+mod Changed
+mod Expiries
+mod Found
+mod Kept
+mod KeyedLemmas
+mod RoomLemmas
+mod TakenLemmas
