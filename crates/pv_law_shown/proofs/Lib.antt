@@ -1,0 +1,2 @@
+pub mod RecordsMore
+pub mod ShownMore

@@ -1,0 +1,11 @@
+mod HistorySteps
+mod MapFacts
+mod HeldLemmas
+mod PromiseLemmas
+mod NoteLemmas
+mod WriteLemmas
+mod SettlingLemmas
+mod MentionLemmas
+mod PlanLemmas
+mod LoadLemmas
+mod WideLemmas

@@ -1,0 +1,6 @@
+-- The values so far are copied.
+use Rattle.std.proofs.Common.{◌≡◌, take}
+use Rattle.pv_store.proofs.load.copy_values.Given as goal
+
+abbrev pub invariant-loop-value : goal.invariant-loop-value
+invariant-loop-value l = l.copy.items ≡ take l.value-index l.values

@@ -1,0 +1,12 @@
+-- The item stands at the transactions so far, and nothing is lost.
+use Rattle.std.proofs.Common.{◌≡◌, ℕ, true, take}
+use Rattle.std.specs.Prelude.{All}
+use Rattle.pv_base.specs.declared.txn.TxnId.{TxnId}
+use Rattle.pv_store.specs.Kept.{has_place}
+use Rattle.pv_store.proofs.places.place_at.Given as goal
+
+abbrev pub invariant-loop-txn : goal.invariant-loop-txn
+invariant-loop-txn l = record {
+  more : (other : TxnId) (there : ℕ) → has_place l.initial.dependents other there ≡ true → has_place l.dependents other there ≡ true;
+  placed : All (λ txn. has_place l.dependents txn l.item.0 ≡ true) (take l.txn-index l.txns);
+}

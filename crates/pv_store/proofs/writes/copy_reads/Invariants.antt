@@ -1,0 +1,6 @@
+-- The reads so far are copied.
+use Rattle.std.proofs.Common.{◌≡◌, take}
+use Rattle.pv_store.proofs.writes.copy_reads.Given as goal
+
+abbrev pub invariant-loop-read : goal.invariant-loop-read
+invariant-loop-read l = l.copy.items ≡ take l.read-index l.reads
