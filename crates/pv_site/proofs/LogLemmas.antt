@@ -1,0 +1,106 @@
+-- What a reservation and then an append come to, and what the log then holds.
+use Rattle.std.proofs.Common.{◌≡◌, inl, ℕ, false, List, [], ◌∷◌, ◌++◌, Option, Some, None, Err, is_some, refl, sym, subst, arith, ◌∙◌, ap}
+use Rattle.std.specs.Option.{option_to_list}
+use Rattle.std.proofs.lemmas.Bool.{true≢false}
+use Rattle.std.proofs.lemmas.List.{append-nil}
+use Rattle.pv_format.specs.Contents.{SpellRecords}
+use Rattle.pv_format.specs.Record.{Record}
+use Rattle.pv_format.specs.RecordSpelling.{SpellsRecord}
+use Rattle.pv_law_disk.specs.Log.{Keeps, Adds, MayAdd, StaysUp, GoesDown}
+use Rattle.pv_law_disk.specs.LogModel.{LogModel}
+use Rattle.pv_law_disk.specs.Size.{Contents}
+use Rattle.pv_law_disk.proofs.LogLemmas.{settled_since, Keeps-refl}
+use Rattle.pv_law_format.proofs.LengthLemmas.{record-length}
+use Rattle.pv_law_step.proofs.JournalLemmas.{journal-more}
+use Rattle.pv_site.specs.OnLog.{HoldsRecords, Logs}
+use Rattle.pv_site.specs.Room.{MakesRoomFor, Writes}
+use Rattle.pv_site.specs.declared.error.StepError.{StepError}
+use Rattle.pv_site.specs.declared.error.StepError.TheVariants.{Fault, Down, NoMemory}
+
+module _ {W : Type 0} (M : LogModel W) where
+  -- A reservation that fails: nothing is added.
+  pub keeping_may_add : (old new : W) (content : List ℕ) → M.is_intact old → M.is_down old ≡ false → Keeps M old new → MayAdd M old new content
+  keeping_may_add old new content intact up kept = record {
+    contents = λ was is. inl (kept.contents ∙ is);
+    known = ap is_some kept.contents;
+    size = inl kept.size;
+    limit = kept.limit;
+    any_moment = λ was is. record {
+      later = kept.later;
+      each = λ left since. inl (settled_since M old was left intact is (kept.crash (M.moment old) left (omega arith) since) up);
+      before = λ t left le since. inl (kept.crash t left le since);
+      keeps = λ t left le since. kept.keeps t left le since;
+    };
+  }
+
+  -- A log that stays up, and then stays up or goes down.
+  pub StaysUp-trans : (old mid new : W) → StaysUp M old mid → StaysUp M mid new → StaysUp M old new
+  StaysUp-trans old mid new first second = record { was_up = first.was_up; is_up = second.is_up; faults = omega (arith, first.faults, second.faults) }
+
+  pub StaysUp-GoesDown : (old mid new : W) → StaysUp M old mid → GoesDown M mid new → GoesDown M old new
+  StaysUp-GoesDown old mid new first second = record {
+    was_up = first.was_up;
+    is_down = second.is_down;
+    faults = omega (arith, first.faults, second.faults);
+    fault = omega (arith, first.faults, second.fault);
+  }
+
+pub ruleset record_joins = (StaysUp-trans, StaysUp-GoesDown, keeping_may_add)
+
+module _ {W : Type 0} (M : LogModel W) (old new : W) where
+  -- Where no room was made nothing is written.
+  pub unmade : (entry : Record) → M.is_intact old → M.is_down old ≡ false → (error : StepError) → MakesRoomFor M old new entry (Err error) → Writes M old new entry (Err error)
+  unmade entry intact up Fault made = (made.3, made.0, (made.2.0, made.2.1, keeping_may_add M old new made.2.0 intact up made.1))
+  unmade entry intact up Down made = made
+  unmade entry intact up NoMemory made = made
+
+  -- The log holds the records that it held.
+  pub holds-kept : (records : List Record) → StaysUp M old new → Keeps M old new → HoldsRecords M old records → HoldsRecords M new records
+  holds-kept records up kept holds = record {
+    up = up.is_up;
+    size = kept.size ∙ holds.size;
+    held = λ contents is. holds.held contents (sym kept.contents ∙ is);
+  }
+
+  spelled-more : (records : List Record) (contents : Contents) (more : Record) (content : List ℕ) → SpellRecords records contents → SpellsRecord more content
+      → SpellRecords (records ++ more ∷ []) (contents ++ content ∷ [])
+  spelled-more [] [] more content spelled one = (one, tt)
+  spelled-more [] (first ∷ contents) more content spelled one = absurd spelled
+  spelled-more (first ∷ records) [] more content spelled one = absurd spelled
+  spelled-more (first ∷ records) (other ∷ contents) more content spelled one = (spelled.0, spelled-more records contents more content spelled.1 one)
+
+  held-more : (was : Option Contents) → M.contents old ≡ was → (records : List Record) (more : Record) (content : List ℕ) → Adds M old new content
+      → HoldsRecords M old records → SpellsRecord more content
+      → (contents : Contents) → M.contents new ≡ Some contents → SpellRecords (records ++ more ∷ []) contents
+  held-more (Some was) is records more content adds holds spelled contents now =
+      let same : contents ≡ was ++ content ∷ [] = let both : Some contents ≡ Some (was ++ content ∷ []) = sym now ∙ adds.contents was is in cc in
+      subst (SpellRecords (records ++ more ∷ [])) (sym same) (spelled-more records was more content (holds.held was is) spelled)
+  held-more None is records more content adds holds spelled contents now =
+      absurd (true≢false (sym (ap is_some now) ∙ (adds.known ∙ ap is_some is)))
+
+  -- The log holds one record more.
+  pub holds-more : (records : List Record) (more : Record) (content : List ℕ) → StaysUp M old new → Adds M old new content → SpellsRecord more content
+      → HoldsRecords M old records → HoldsRecords M new (records ++ more ∷ [])
+  holds-more records more content up adds spelled holds = record {
+    up = up.is_up;
+    size = omega (arith, adds.size, holds.size, journal-more records more, record-length more content spelled);
+    held = held-more (M.contents old) refl records more content adds holds spelled;
+  }
+
+  -- The log holds the records after a step.
+  pub holds-after : (records : List Record) (appended : Option Record) → Logs M old new appended → HoldsRecords M old records
+      → HoldsRecords M new (records ++ option_to_list appended)
+  holds-after records None same holds =
+      subst (λ log. HoldsRecords M log (records ++ [])) (sym same) (subst (HoldsRecords M old) (sym (append-nil records)) holds)
+  holds-after records (Some more) logged holds = holds-more records more logged.1.0 logged.0 logged.1.2 logged.1.1 holds
+
+  -- Its limit is what it was.
+  pub limit-after : (appended : Option Record) → Logs M old new appended → M.limit new ≡ M.limit old
+  limit-after None same = ap M.limit same
+  limit-after (Some more) logged = logged.1.2.limit
+
+-- The length of a record's bytes.
+pub ruleset record_lengths = (record-length)
+
+-- An untouched log.
+pub ruleset keeps_itself = (Keeps-refl)

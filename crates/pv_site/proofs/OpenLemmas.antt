@@ -1,0 +1,225 @@
+-- What a site starts from: its records, and that they are in range and narrow.
+use Rattle.std.proofs.Common.{◌≡◌, refl, sym, subst, ap, ◌∙◌, ⊎_elim, ℕ, zero, suc, ◌+◌, ◌<◌, ◌≤◌, Bool, true, false, List, [], ◌∷◌, ◌++◌, length, map, Option, Some, None, arith}
+use Rattle.std.specs.Prelude.{All, IsTrue, slice_get, nat_lt, ◌==◌, if◌then◌else◌, max, min, is_some, ◌^◌, ◌-◌, sum_by}
+use Rattle.std.specs.List.{Contains}
+use Rattle.std.specs.Option.{option_or}
+use Rattle.std.proofs.lemmas.Bool.{false≢true, ltb-false}
+use Rattle.std.proofs.lemmas.List.{append_assoc, append-nil}
+use Rattle.std.proofs.lemmas.List.Sums.{sum_by-cons}
+use Rattle.pv_base.proofs.ContainsLemmas.{Contains-first, Contains-behind, Contains-nil, Contains-cases}
+use Rattle.pv_base.specs.Catalog.{Declared, Item}
+use Rattle.pv_base.specs.declared.limits.TheConstants.{HELD_NAMES}
+use Rattle.pv_base.specs.declared.txn.TxnId.{TxnId}
+use Rattle.pv_format.specs.Contents as format
+use Rattle.pv_format.specs.Contents.{SpellRecords}
+use Rattle.pv_format.specs.Range.{IsRecordInRange}
+use Rattle.pv_format.specs.RecordSpelling.{SpellsRecord}
+use Rattle.std.proofs.lemmas.Bool.Decides.{nat_tests}
+use Rattle.pv_format.specs.Record.{Record, epoch_begun, prepared, outcome_known}
+use Rattle.pv_law_disk.specs.Size.{Contents, size_of}
+use Rattle.pv_law_disk.specs.LogModel.{LogModel}
+use Rattle.pv_law_format.proofs.LengthLemmas.{record-length}
+use Rattle.pv_law_format.proofs.RangeLemmas.{record-from, record-spelled}
+use Rattle.pv_law_step.proofs.Lists.{all-from, OfSome}
+use Rattle.std.proofs.lemmas.List.Elements.{All-contains}
+use Rattle.std.specs.Int.{w64}
+use Rattle.std.specs.Int.RustNames.{FitsSigned}
+use Rattle.pv_model.specs.Alternatives.{Read}
+use Rattle.pv_protocol.specs.Lock.{is_home, is_of_site}
+use Rattle.pv_protocol.specs.Outcome.{items_from}
+use Rattle.pv_protocol.specs.Records.{last_epoch, journal_bytes, record_bytes}
+use Rattle.pv_protocol.specs.Shown.{shown_within}
+use Rattle.pv_protocol.specs.Width.{IsNarrow}
+use Rattle.pv_base.specs.declared.txn.SiteId.{SiteId}
+use Rattle.pv_coord.specs.Coordinator.{Coordinator}
+use Rattle.pv_coord.specs.Work.{txn_of}
+use Rattle.pv_locks.specs.LockTable.{LockTable}
+use Rattle.pv_protocol.specs.Keyed.{AreInOrder}
+use Rattle.pv_protocol.specs.Start.{just_started}
+use Rattle.pv_site.specs.Parts.{here_of, running_of, AreTied, IsWorkOf}
+use Rattle.pv_site.specs.SiteState.{setup_of}
+use Rattle.pv_site.specs.declared.parts.Parts.{Parts}
+use Rattle.pv_store.specs.Kept.{Kept}
+use Rattle.pv_store.specs.Refusals.{first_too_many, first_too_many_after, if_too_many, names_count, site_items, too_many_in, width}
+
+-- The last epoch is the same by both definitions.
+pub epochs-same : (records : List Record) → format.last_epoch records ≡ last_epoch records
+epochs-same [] = refl
+epochs-same (epoch_begun epoch ∷ records) = ap (max epoch) (epochs-same records)
+epochs-same (prepared txn writes ∷ records) = epochs-same records
+epochs-same (outcome_known txn commits ∷ records) = epochs-same records
+
+sizes : (records : List Record) (contents : Contents) → SpellRecords records contents
+    → sum_by (λ (content : List ℕ). 5 + length content) contents ≡ sum_by record_bytes records
+sizes [] [] spelled = refl
+sizes [] (content ∷ contents) spelled = absurd spelled
+sizes (first ∷ records) [] spelled = absurd spelled
+sizes (first ∷ records) (content ∷ contents) spelled =
+    omega (arith, sizes records contents spelled.1, record-length first content spelled.0, sum_by-cons (λ (content : List ℕ). 5 + length content) content contents, sum_by-cons record_bytes first records)
+
+-- A log of records is as long as the records make it.
+pub size-journal : (records : List Record) (contents : Contents) → SpellRecords records contents → size_of contents ≡ journal_bytes records
+unfolding journal_bytes
+size-journal records contents spelled = omega (arith, sizes records contents spelled)
+
+-- Records that are spelled are in range.
+pub records-in-range : (records : List Record) (contents : Contents) → SpellRecords records contents → (one : Record) → Contains records one → IsRecordInRange one
+records-in-range [] contents spelled one there = absurd (Contains-nil one there)
+records-in-range (first ∷ records) [] spelled one there = absurd spelled
+records-in-range (first ∷ records) (content ∷ contents) spelled one there =
+    ⊎_elim (λ same. subst IsRecordInRange same (record-from first content spelled.0)) (λ behind. records-in-range records contents spelled.1 one behind)
+    (Contains-cases first records one there)
+
+-- An item of the site is listed.
+listed : (site first : ℕ) (items : List Item) (k : ℕ) → IsTrue (is_of_site site (slice_get items k)) → Contains (items_from site first items) (first + k)
+listed site first [] k home = absurd (false≢true home)
+listed site first (declared ∷ items) zero home =
+    subst (λ (test : Bool). Contains (if test then first ∷ items_from site (first + 1) items else items_from site (first + 1) items) (first + 0)) (sym home)
+    (subst (λ n. Contains (first ∷ items_from site (first + 1) items) n) (omega arith) (Contains-first first (items_from site (first + 1) items)))
+listed site first (declared ∷ items) (suc k) home =
+    by (declared.site == site) (subst (λ n. Contains (items_from site (first + 1) items) n) (omega arith) (listed site (first + 1) items k home))
+  where
+    by : (test : Bool) → Contains (items_from site (first + 1) items) (first + suc k)
+        → Contains (if test then first ∷ items_from site (first + 1) items else items_from site (first + 1) items) (first + suc k)
+    by true h = Contains-behind first (items_from site (first + 1) items) (first + suc k) h
+    by false h = h
+
+pub home-listed : (catalog : Declared) (site item : ℕ) → IsTrue (is_home catalog site item) → Contains (site_items catalog site) item
+home-listed catalog site item home = subst (λ n. Contains (site_items catalog site) n) (omega arith) (listed site 0 catalog.items item home)
+
+-- Where neither is, nothing is.
+none-both : {X : Type 0} (one other : Option X) → option_or one other ≡ None → (one ≡ None) × (other ≡ None)
+none-both None other none = (refl, none)
+none-both (Some x) other none = absurd (let wrong : ⊥ = cc in wrong)
+
+few-by : (count : ℕ) (b : Bool) → nat_lt HELD_NAMES count ≡ b → (if b then Some count else None) ≡ None → count ≤ HELD_NAMES
+few-by count true is none = absurd (let wrong : ⊥ = cc in wrong)
+few-by count false is none = ltb-false HELD_NAMES count is
+
+few : (count : ℕ) → if_too_many count ≡ None → count ≤ HELD_NAMES
+few count none = few-by count (nat_lt HELD_NAMES count) refl none
+
+module _ (catalog : Declared) (records : List Record) where
+  -- No item that is looked at names too many outcomes.
+  pub few-at : (front : List Record) (items : List ℕ) → first_too_many catalog records front items ≡ None → (item : ℕ) → Contains items item
+      → names_count (shown_within catalog records front item) ≤ HELD_NAMES
+  few-at front [] none item there = absurd (Contains-nil item there)
+  few-at front (first ∷ items) none item there =
+      let both = none-both (if_too_many (width catalog records front first)) (first_too_many catalog records front items) none in
+      ⊎_elim (λ same. subst (λ n. names_count (shown_within catalog records front n) ≤ HELD_NAMES) same (few (width catalog records front first) both.0))
+      (λ behind. few-at front items both.1 item behind) (Contains-cases first items item there)
+
+  module _ (items : List ℕ) (txn : TxnId) (writes : List Read) where
+    none-behind : (before : List Record) (first : Record) (rest : List Record) → first_too_many_after catalog records items before (first ∷ rest) ≡ None
+        → first_too_many_after catalog records items (before ++ first ∷ []) rest ≡ None
+    none-behind before (epoch_begun epoch) rest none = none
+    none-behind before (prepared other written) rest none =
+        (none-both (first_too_many catalog records (before ++ prepared other written ∷ []) items)
+        (first_too_many_after catalog records items (before ++ prepared other written ∷ []) rest) none).1
+    none-behind before (outcome_known other commits) rest none = none
+
+    -- After no prepared record an item names too many outcomes.
+    none-after : (before rest front back : List Record) → first_too_many_after catalog records items before rest ≡ None → rest ≡ front ++ prepared txn writes ∷ back
+        → first_too_many catalog records ((before ++ front) ++ prepared txn writes ∷ []) items ≡ None
+    none-after before [] [] back none is = absurd (let wrong : ⊥ = cc in wrong)
+    none-after before [] (f ∷ front) back none is = absurd (let wrong : ⊥ = cc in wrong)
+    none-after before (first ∷ rest) [] back none is =
+        let same : first ≡ prepared txn writes = cc in
+        let at : first_too_many_after catalog records items before (prepared txn writes ∷ rest) ≡ None =
+        subst (λ (r : Record). first_too_many_after catalog records items before (r ∷ rest) ≡ None) same none in
+        subst (λ (all : List Record). first_too_many catalog records (all ++ prepared txn writes ∷ []) items ≡ None) (sym (append-nil before))
+        (none-both (first_too_many catalog records (before ++ prepared txn writes ∷ []) items)
+        (first_too_many_after catalog records items (before ++ prepared txn writes ∷ []) rest) at).0
+    none-after before (first ∷ rest) (f ∷ front) back none is =
+        let same : first ≡ f = cc in
+        let behind : rest ≡ front ++ prepared txn writes ∷ back = cc in
+        subst (λ (all : List Record). first_too_many catalog records (all ++ prepared txn writes ∷ []) items ≡ None)
+        (append_assoc before (first ∷ []) front ∙ ap (λ (r : Record). before ++ (r ∷ front)) same)
+        (none-after (before ++ first ∷ []) rest front back (none-behind before first rest none) behind)
+
+-- Records that a store takes are narrow.
+pub narrow-taken : (catalog : Declared) (site : ℕ) (records : List Record) → too_many_in catalog site records ≡ None → IsNarrow HELD_NAMES catalog site records
+unfolding too_many_in
+narrow-taken catalog site records none = record {
+  few = λ before after txn writes item home is.
+      few-at catalog records (before ++ prepared txn writes ∷ []) (site_items catalog site)
+      (none-after catalog records (site_items catalog site) txn writes [] records before after none is) item (home-listed catalog site item home);
+}
+
+-- A log whose length isn't that of what was read doesn't tell what it holds.
+module _ {W : Type 0} (M : LogModel W) (log : W) (intact : M.is_intact log) (up : M.is_down log ≡ false) where
+  untold-by : (was : Option Contents) → M.contents log ≡ was → (contents : Contents) → ((held : Contents) → M.contents log ≡ Some held → contents ≡ held)
+      → (min (size_of contents) (2 ^ 64 - 1) ≡ M.size log → ⊥) → is_some was ≡ false
+  untold-by None is contents read other = refl
+  untold-by (Some held) is contents read other =
+      absurd (other (
+      let bound = M.is_bounded log intact in
+      let size = M.size_is log held intact up is in
+      let same : size_of contents ≡ size_of held = ap size_of (read held is) in
+      omega (arith, bound, size, same)))
+
+  pub untold : (contents : Contents) → ((held : Contents) → M.contents log ≡ Some held → contents ≡ held)
+      → (min (size_of contents) (2 ^ 64 - 1) ≡ M.size log → ⊥) → is_some (M.contents log) ≡ false
+  untold contents read other = untold-by (M.contents log) refl contents read other
+
+  -- Else it is as long as what was read.
+  pub read-size : (contents : Contents) → min (size_of contents) (2 ^ 64 - 1) ≡ M.size log → M.size log ≡ size_of contents
+  read-size contents is = omega (arith, is, M.is_bounded log intact)
+
+-- An epoch that may be recorded has a spelling.
+pub epoch-spelled : (epoch : ℕ) → 1 ≤ epoch → epoch < 2 ^ 32 → (bytes : List ℕ) × SpellsRecord (epoch_begun epoch) bytes
+epoch-spelled epoch least most = record-spelled (epoch_begun epoch) (least, most)
+
+-- What is true below a place and there is true up to it.
+up-to : (P : ℕ → Type 0) (n : ℕ) → ((i : ℕ) → i < n → P i) → P n → (i : ℕ) → i < n + 1 → P i
+up-to P n below here i within = by (nat_lt i n) refl where
+  by : (b : Bool) → nat_lt i n ≡ b → P i
+  by true is = below i (grind (arith, nat_tests, is))
+  by false is = let same : i ≡ n = omega (arith, within, ltb-false i n is) in subst P (sym same) here
+
+-- A site that has just begun, with a catalog, locks, a coordinator and a store that are made of these.
+module _ (me : SiteId) (epoch : ℕ) (declared : Declared) (kept : Kept) (parts : Parts) where
+  pub record HaveBegun : Type 0 where
+    pub me_is : parts.me ≡ me
+    pub catalog : parts.catalog ≡ declared
+    pub locks : parts.locks ≡ record { epoch = epoch; next = 0; grants = []; room = record { grants = 0; wants = 0 } }
+    pub coord : parts.coord.contents ≡ record { site = me.0; epoch = epoch; next = 0; entries = [] }
+    pub records : parts.store.records ≡ kept.records ++ epoch_begun epoch ∷ []
+    pub store_site : parts.store.site ≡ me.0
+    pub store_catalog : parts.store.catalog ≡ declared
+
+  pub begun-here : HaveBegun
+      → here_of parts ≡ record { me = me.0; setup = setup_of declared; records = kept.records ++ epoch_begun epoch ∷ []; running = just_started epoch }
+  begun-here begun =
+      ap (λ (m : SiteId). record { me = m.0; setup = setup_of parts.catalog; records = parts.store.records; running = running_of parts.locks parts.coord.contents }) begun.me_is
+      ∙ (ap (λ (c : Declared). record { me = me.0; setup = setup_of c; records = parts.store.records; running = running_of parts.locks parts.coord.contents }) begun.catalog
+      ∙ (ap (λ (rs : List Record). record { me = me.0; setup = setup_of declared; records = rs; running = running_of parts.locks parts.coord.contents }) begun.records
+      ∙ (ap (λ (l : LockTable). record { me = me.0; setup = setup_of declared; records = kept.records ++ epoch_begun epoch ∷ []; running = running_of l parts.coord.contents }) begun.locks
+      ∙ ap (λ (c : Coordinator). record {
+        me = me.0;
+        setup = setup_of declared;
+        records = kept.records ++ epoch_begun epoch ∷ [];
+        running = running_of (record { epoch = epoch; next = 0; grants = []; room = record { grants = 0; wants = 0 } }) c;
+      }) begun.coord)))
+
+  pub begun-tied : HaveBegun → AreTied parts
+  begun-tied begun =
+      let entries : parts.coord.contents.entries ≡ [] = ap (λ (c : Coordinator). c.entries) begun.coord in
+      record {
+        store_site = begun.store_site ∙ sym (ap (λ (m : SiteId). m.0) begun.me_is);
+        store_catalog = begun.store_catalog ∙ sym begun.catalog;
+        coord_site = ap (λ (c : Coordinator). c.site) begun.coord ∙ sym (ap (λ (m : SiteId). m.0) begun.me_is);
+        epochs = ap (λ (c : Coordinator). c.epoch) begun.coord ∙ sym (ap (λ (l : LockTable). l.epoch) begun.locks);
+        order = subst (AreInOrder txn_of) (sym entries) (λ i j d before within. absurd (omega (arith, within)));
+        works = subst (All (IsWorkOf parts.catalog parts.store.records)) (sym entries) (λ k d within. absurd (omega (arith, within)));
+      }
+
+-- The values of all items have 64 bits where each has.
+pub values-all : (items : List Item) → ((i : ℕ) → i < length items → OfSome (FitsSigned w64) (slice_get (map (λ (item : Item). item.value) items) i))
+    → All (λ (item : Item). FitsSigned w64 item.value) items
+values-all [] each = λ k d within. absurd (omega (arith, within))
+values-all (first ∷ items) each =
+    all-from (λ (item : Item). FitsSigned w64 item.value) (first ∷ items)
+    (λ item there. ⊎_elim (λ same. subst (λ (item : Item). FitsSigned w64 item.value) same (each 0 (omega arith)))
+    (λ behind. All-contains (λ (item : Item). FitsSigned w64 item.value) items item (values-all items (λ i within. each (suc i) (omega (arith, within)))) behind)
+    (Contains-cases first items item there))

@@ -1,0 +1,17 @@
+pub mod Answer
+pub mod Asked
+pub mod Inputs
+pub mod LastVote
+pub mod Lending
+pub mod LockPoint
+pub mod OnLog
+pub mod Opens
+pub mod Parts
+pub mod Refusals
+pub mod Room
+pub mod Shares
+pub mod SiteState
+pub mod SiteView
+pub mod Steps
+pub mod Values
+pub mod Written

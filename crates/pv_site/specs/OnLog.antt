@@ -1,0 +1,51 @@
+-- What a step makes of a site's parts and of its log.
+use Rattle.std.specs.Prelude.{◌≡◌, ℕ, false, List, Option, Some, None, Result, Ok, Err}
+use Rattle.pv_format.specs.Contents.{SpellRecords}
+use Rattle.pv_format.specs.Record.{Record}
+use Rattle.pv_format.specs.RecordSpelling.{SpellsRecord}
+use Rattle.pv_law_disk.specs.Log.{Keeps, Adds, MayAdd, StaysUp, GoesDown}
+use Rattle.pv_law_disk.specs.LogModel.{LogModel}
+use Rattle.pv_law_disk.specs.Size.{Contents}
+use Rattle.pv_protocol.specs.Records.{journal_bytes}
+use Rattle.pv_protocol.specs.State as model
+use Rattle.pv_site.specs.Answer.{IsAnswer}
+use Rattle.pv_site.specs.Parts.{AreKept, AreSound, HaveStepped}
+use Rattle.pv_site.specs.declared.error.StepError.{StepError}
+use Rattle.pv_site.specs.declared.error.StepError.TheVariants.{Fault, Down, NoMemory}
+use Rattle.pv_site.specs.declared.input.Step.{Step}
+use Rattle.pv_site.specs.declared.parts.Parts.{Parts}
+
+module _ {W : Type 0} (M : LogModel W) where
+  -- The log isn't down, is as long as the records make it, and holds them, where it tells what it holds.
+  pub record HoldsRecords (log : W) (records : List Record) : Type 0 where
+    pub up : M.is_down log ≡ false
+    pub size : M.size log ≡ journal_bytes records
+    pub held : (contents : Contents) → M.contents log ≡ Some contents → SpellRecords records contents
+
+  -- The log is as the site left it, and the parts are sound: a step can begin.
+  pub record AreReady (log : W) (parts : Parts) : Type 0 where
+    pub intact : M.is_intact log
+    pub limit : M.limit log ≡ parts.catalog.journal
+    pub holds : HoldsRecords log parts.store.records
+    pub sound : AreSound parts
+
+  -- What a step leaves of the log: it is untouched, or it holds the step's record.
+  abbrev pub Logs : W → W → Option Record → Type 0
+  Logs old new None = new ≡ old
+  Logs old new (Some appended) = StaysUp M old new × ((content : List ℕ) × SpellsRecord appended content × Adds M old new content)
+
+  -- The step was to append this record, and the log failed: it holds the record, or it doesn't.
+  pub record Fails (old new : W) (step : model.Step) : Type 0 where
+    pub appended : Record
+    pub content : List ℕ
+    pub is : step.appended ≡ Some appended
+    pub spelled : SpellsRecord appended content
+    pub down : GoesDown M old new
+    pub log : MayAdd M old new content
+
+  -- A step that may append, by its answer.
+  abbrev pub StepsOnLog : W → W → Parts → Parts → model.Step → Result Step StepError → Type 0
+  StepsOnLog log_old log_new old new step (Ok answer) = HaveStepped old new step × IsAnswer answer step × Logs log_old log_new step.appended
+  StepsOnLog log_old log_new old new step (Err Fault) = AreKept old new × Fails log_old log_new step
+  StepsOnLog log_old log_new old new step (Err NoMemory) = AreKept old new × StaysUp M log_old log_new × Keeps M log_old log_new
+  StepsOnLog log_old log_new old new step (Err Down) = ⊥

@@ -1,0 +1,84 @@
+// Why a site made no step.
+use pv_base::NoMemory;
+use pv_disk::Log;
+use std::alloc::{AllocError, AllocFailed};
+use std::error::Error;
+use std::fmt;
+
+/// Why a site made no step.
+#[derive(Clone, Copy, Debug, PartialEq, Eq, Hash)]
+pub enum StepError {
+    /// The log failed, which was counted. The site is down until it is opened again; its log holds the step's record, or it doesn't,
+    /// and nothing was sent.
+    Fault,
+    /// The site is down, since an earlier step was answered with [`StepError::Fault`]. Nothing changes.
+    Down,
+    /// There was no memory. The site is as if the input hadn't come.
+    NoMemory,
+}
+
+impl fmt::Display for StepError {
+    fn fmt<W: fmt::Write>(&self, f: &mut fmt::Formatter<W>) -> fmt::Result {
+        f.write_str(match self {
+            StepError::Fault => "the log failed",
+            StepError::Down => "the site is down",
+            StepError::NoMemory => "no memory",
+        })
+    }
+}
+
+impl Error for StepError {}
+
+impl From<NoMemory> for StepError {
+    ghost use Rattle.std.specs.Prelude.{◌≡◌};
+    ghost use Rattle.pv_site.specs.declared.error.StepError.TheVariants as error;
+
+    ghost from_gives = { λ _ e. e ≡ error.NoMemory };
+
+    fn from(_: NoMemory) -> Self {
+        StepError::NoMemory
+    }
+}
+
+impl From<AllocError> for StepError {
+    ghost use Rattle.std.specs.Prelude.{◌≡◌};
+    ghost use Rattle.pv_site.specs.declared.error.StepError.TheVariants as error;
+
+    ghost from_gives = { λ _ e. e ≡ error.NoMemory };
+
+    fn from(_: AllocError) -> Self {
+        StepError::NoMemory
+    }
+}
+
+impl<T: Drop> From<AllocFailed<T>> for StepError {
+    ghost use Rattle.std.specs.Prelude.{◌≡◌};
+    ghost use Rattle.pv_site.specs.declared.error.StepError.TheVariants as error;
+
+    ghost from_gives = { λ _ e. e ≡ error.NoMemory };
+
+    fn from(_: AllocFailed<T>) -> Self {
+        StepError::NoMemory
+    }
+}
+
+/// Why a site wasn't opened. The log comes back in each case. The causes are tested in the order of [`Site::open`](crate::Site::open).
+#[derive(Drop)]
+pub enum OpenError<L: Log> {
+    /// The log failed, which was counted. It holds the record of the new epoch, or it doesn't.
+    Failed(L),
+    /// The log would have this length with the record of the new epoch, above its limit.
+    Full(L, u64),
+    /// No epoch is left: the last one is at least 4,294,967,294.
+    EpochsSpent(L),
+    /// The content with this index, from 0, is no record, and those before it are.
+    BadRecord(L, u64),
+    /// With its records the value of an item would name this many outcomes, more than [`HELD_NAMES`](pv_base::HELD_NAMES). It is counted after the
+    /// first prepared record with which there is such an item, for the least one, where all outcomes are known that any record tells.
+    TooManyOutcomes(L, u32),
+    /// What was read isn't the log's: the log said so of this place, or what was read has this length and the log has another. It never comes
+    /// from a log that tells what it holds.
+    NotOurs(L, u64),
+    /// There was no memory.
+    NoMemory(L),
+}
