@@ -90,7 +90,7 @@ pub enum NoCause {
     JournalFull(u64),
 }
 
-// The number of the message's kind.
+/// The number of the message's kind, from 1 to 8.
 pub fn kind_of(message: &Message) -> u8
     ensures { result ≡ kind_of (message_of message.now) }
 {
@@ -106,7 +106,7 @@ pub fn kind_of(message: &Message) -> u8
     }
 }
 
-// The transaction that the message is about.
+/// The transaction that the message is about.
 pub fn txn_of(message: &Message) -> TxnId
     ensures { result ≡ txn_of (message_of message.now) }
 {
