@@ -34,6 +34,12 @@ pub const MIN_JOURNAL: u64 = 32;
 /// The greatest limit that a journal may have, in bytes. It is the limit where none is declared.
 pub const MAX_JOURNAL: u64 = 4_294_967_296;
 
+/// The greatest length of a disk and of a log, in bytes: 2 to the 62nd power.
+pub const MAX_LENGTH: u64 = 4_611_686_018_427_387_904;
+
+/// The greatest place at which a write to a disk may end: 2 to the 40th power. Every journal ends before it.
+pub const MAX_WRITE_END: u64 = 1_099_511_627_776;
+
 /// The greatest total of encoded message bytes in a run.
 pub const MAX_SENT: u64 = 268_435_456;
 

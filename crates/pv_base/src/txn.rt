@@ -1,5 +1,5 @@
 // Sites and transactions, and how a transaction is printed.
-ghost use Rattle.std.specs.Prelude.{◌≡◌, ◌++◌, IfOk, OnOk};
+ghost use Rattle.std.specs.Prelude.{◌≡◌, ◌++◌, length, take, IfOk, OnOk, OnErr};
 ghost use Rattle.pv_base.specs.Txn.{txn_text};
 
 use crate::NoMemory;
@@ -30,10 +30,23 @@ pub fn print_txn(alloc: Global, txn: TxnId) -> Result<Vec<u8>, NoMemory>
     Ok(text)
 }
 
-/// Puts the transaction, as [`print_txn`] prints it, after what the buffer holds. After an error nothing is promised
-/// of what the buffer holds.
+/// Puts the transaction, as [`print_txn`] prints it, after what the buffer holds. After an error the buffer is as it was.
 pub fn push_txn(text: &mut Vec<u8>, txn: TxnId) -> Result<(), NoMemory>
-    ensures { OnOk result (text.new.items ≡ text.old.items ++ txn_text txn) }
+    ensures text { OnOk result (text.new.items ≡ text.old.items ++ txn_text txn) }
+    ensures unchanged { OnErr result (text.new.items ≡ text.old.items) }
+{
+    let before = text.len();
+    let pushed = push_parts(text, txn);
+    if pushed.is_err() {
+        text.truncate(before);
+    }
+    pushed
+}
+
+// Appends the transaction, or some of its bytes where the memory runs out.
+fn push_parts(text: &mut Vec<u8>, txn: TxnId) -> Result<(), NoMemory>
+    ensures text { OnOk result (text.new.items ≡ text.old.items ++ txn_text txn) }
+    ensures kept { take (length text.old.items) text.new.items ≡ text.old.items }
 {
     let mut digits = Buffer::new();
     text.extend_from_slice(digits.format(txn.site.0).as_bytes())?;
