@@ -1,7 +1,8 @@
 -- A log in memory as a log.
-use Rattle.std.specs.Prelude.{◌≡◌, ℕ, ◌^◌, ◌≤◌, Option, Some, length}
+use Rattle.std.specs.Prelude.{◌≡◌, ℕ, ◌≤◌, Option, Some, length}
 use Rattle.std.proofs.Common.{sym, ◌∙◌, ap, arith}
 use Rattle.std.proofs.lemmas.List.{take_all}
+use Rattle.pv_base.specs.declared.limits.TheConstants.{MAX_LENGTH}
 use Rattle.pv_law_disk.specs.Size.{Contents, size_of}
 use Rattle.pv_law_disk.specs.LogModel.{LogModel}
 use Rattle.pv_disk.specs.ListLog.{ListState, WasHeld, HasPlace, ListGoes}
@@ -27,7 +28,7 @@ list_model = record {
   size = λ log. size_of log.contents;
   limit = λ log. log.limit;
   has_room = HasPlace;
-  is_intact = λ log. size_of log.contents ≤ 2 ^ 62;
+  is_intact = λ log. size_of log.contents ≤ MAX_LENGTH;
   goes = ListGoes;
   counts_now = was_held;
   only_now = held_now;

@@ -1,5 +1,6 @@
 // A disk: bytes that reads give, and what a crash at any moment leaves of them.
-ghost use Rattle.std.specs.Prelude.{◌≡◌, ℕ, ◌+◌, ◌≤◌, ◌^◌, List, Some, length, take, drop, is_ok, IfOk, OnOk};
+ghost use Rattle.std.specs.Prelude.{◌≡◌, ℕ, ◌+◌, ◌≤◌, List, Some, length, take, drop, is_ok, IfOk, OnOk};
+ghost use Rattle.pv_base.specs.declared.limits.TheConstants.{MAX_LENGTH, MAX_WRITE_END};
 ghost use Rattle.pv_law_disk.specs.Calls.{len, read, make_room, write, sync};
 ghost use Rattle.pv_law_disk.specs.DiskModel.{DiskModel};
 ghost use Rattle.pv_law_disk.specs.Disk.{Observes, Writes, Syncs};
@@ -23,7 +24,7 @@ pub trait Disk: Drop {
     /// The length in bytes, at most 2^62.
     fn len(&mut self) -> Result<u64, Failed>
         ensures len { IfOk result (λ n. (held : List ℕ) → model.content self.old ≡ Some held → n ≡ length held) }
-        ensures bound { IfOk result (λ n. n ≤ 2 ^ 62) }
+        ensures bound { IfOk result (λ n. n ≤ MAX_LENGTH) }
         ensures effect { Observes model self.old self.new result }
         ensures goes { model.goes self.old len (is_ok result) self.new };
 
@@ -45,7 +46,7 @@ pub trait Disk: Drop {
     /// Writes these bytes at a place that is at most the length, in room that `reserve` made. They end at 2^40 at most.
     fn write_at(&mut self, place: u64, bytes: &[u8]) -> Result<(), Failed>
         requires within { (held : List ℕ) → model.content self.old ≡ Some held → place ≤ length held }
-        requires end { place + length bytes.now ≤ 2 ^ 40 }
+        requires end { place + length bytes.now ≤ MAX_WRITE_END }
         requires room { length bytes.now ≤ model.room self.old }
         requires writes { 1 ≤ model.writes self.old }
         ensures effect { Writes model self.old self.new place bytes.now result }

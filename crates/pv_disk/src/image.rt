@@ -1,5 +1,6 @@
 // What a memory disk holds, with a record of its writes, from which follows what each sync and each crash leaves.
-ghost use Rattle.std.specs.Prelude.{◌≡◌, ◌≤◌, ◌+◌, ◌-◌, ◌^◌, ◌++◌, ◌∷◌, [], ℕ, min, length, map, take, drop, replicate, vec_len, vec_capacity, IfOk, OnOk, OnErr};
+ghost use Rattle.std.specs.Prelude.{◌≡◌, ◌≤◌, ◌+◌, ◌-◌, ◌++◌, ◌∷◌, [], ℕ, min, length, map, take, drop, replicate, vec_len, vec_capacity, IfOk, OnOk, OnErr};
+ghost use Rattle.pv_base.specs.declared.limits.TheConstants.{MAX_LENGTH};
 ghost use Rattle.pv_law_disk.specs.Disk.{overlaid};
 ghost use Rattle.pv_disk.specs.MemImage.{ImageState, IsMade, AllInside, filled, settled_at, written_at, left_by, NotesMoment};
 ghost use Rattle.pv_disk.specs.MemHistory.{range_of, content_before, unsynced, overwritten, Made, CanUndo, MarksLast};
@@ -50,13 +51,13 @@ impl Model for Image {
       writes = vec_capacity s.writes - vec_len s.writes;
     } };
 
-    ghost invariant = { λ s. CanUndo (unsynced [] s.writes.items) s.kept.items s.bytes.items × (vec_len s.bytes ≤ 2 ^ 62) };
+    ghost invariant = { λ s. CanUndo (unsynced [] s.writes.items) s.kept.items s.bytes.items × (vec_len s.bytes ≤ MAX_LENGTH) };
 }
 
 impl Image {
     /// These bytes, synced.
     pub(crate) fn new(alloc: Global, bytes: Vec<u8>) -> Self
-        requires { vec_len bytes ≤ 2 ^ 62 }
+        requires { vec_len bytes ≤ MAX_LENGTH }
         ensures content { result.content ≡ bytes.items }
         ensures now { result.now ≡ settled_at bytes.items }
         ensures past { result.past ≡ [] }
@@ -71,7 +72,7 @@ impl Image {
     /// What reads give.
     pub(crate) fn bytes(&self) -> &[u8]
         ensures content { result.now ≡ self.now.content }
-        ensures bound { length self.now.content ≤ 2 ^ 62 }
+        ensures bound { length self.now.content ≤ MAX_LENGTH }
     {
         &self.bytes
     }
@@ -92,7 +93,7 @@ impl Image {
     /// Writes, in room that was made.
     pub(crate) fn write(&mut self, place: usize, bytes: &[u8])
         requires within { place ≤ length self.old.content }
-        requires end { place + length bytes.now ≤ 2 ^ 62 }
+        requires end { place + length bytes.now ≤ MAX_LENGTH }
         requires room { length bytes.now ≤ self.old.room }
         requires writes { 1 ≤ self.old.writes }
         ensures content { self.new.content ≡ overlaid self.old.content place bytes.now }

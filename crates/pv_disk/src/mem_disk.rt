@@ -1,5 +1,6 @@
 // A disk in memory, whose calls fail where that is asked for.
-ghost use Rattle.std.specs.Prelude.{◌≡◌, ◌≤◌, ◌+◌, ◌^◌, ℕ, List, Some, None, [], length, take, drop, is_ok, vec_len, IfOk, OnOk, OnErr};
+ghost use Rattle.std.specs.Prelude.{◌≡◌, ◌≤◌, ◌+◌, ℕ, List, Some, None, [], length, take, drop, is_ok, vec_len, IfOk, OnOk, OnErr};
+ghost use Rattle.pv_base.specs.declared.limits.TheConstants.{MAX_LENGTH};
 ghost use Rattle.pv_law_disk.specs.Calls.{len, read, make_room, write, sync};
 ghost use Rattle.pv_law_disk.specs.Disk.{overlaid, Observes, Writes, Syncs};
 ghost use Rattle.pv_disk.specs.DiskAnswers.{Reserves};
@@ -51,7 +52,7 @@ impl MemDisk {
 
     /// A disk that holds these bytes, of which there are at most 2^62, synced. No call fails.
     pub fn of(alloc: Global, bytes: Vec<u8>) -> Self
-        requires { vec_len bytes ≤ 2 ^ 62 }
+        requires { vec_len bytes ≤ MAX_LENGTH }
         ensures content { result.image.content ≡ bytes.items }
         ensures now { result.image.now ≡ settled_at bytes.items }
         ensures arms { result.arms ≡ record { armed = None; fired = None; fail_read = None; calls = 0 } }

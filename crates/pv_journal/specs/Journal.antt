@@ -1,5 +1,6 @@
 -- A journal on a disk as a log.
 use Rattle.std.specs.Prelude.{◌≡◌, ◌⊎◌, ℕ, ◌+◌, ◌-◌, ◌^◌, ◌≤◌, Bool, false, MatchBool, List, [], ◌∷◌, ◌++◌, Option, Some, option_and_then, vec_capacity}
+use Rattle.pv_base.specs.declared.limits.TheConstants.{MAX_LENGTH}
 use Rattle.pv_law_disk.specs.Calls.{DiskCall, LogCall, Makes, OnlyReads, read_all, reserve, append, make_room, write, sync}
 use Rattle.pv_law_disk.specs.DiskModel.{DiskModel}
 use Rattle.pv_law_disk.specs.Disk.{Only}
@@ -20,7 +21,7 @@ module _ {D : Type 0} (M : DiskModel D) where
   -- While the journal isn't down, its disk is a journal of that length up to its closed gate, all of it synced.
   pub record IsIntact (journal : Journal D) : Type 0 where
     pub starts : 9 ≤ journal.length
-    pub bounded : journal.length ≤ 2 ^ 62
+    pub bounded : journal.length ≤ MAX_LENGTH
     pub limited : journal.limit ≤ 2 ^ 32
     pub at_rest : journal.down ≡ false → (bytes : List ℕ) → M.content journal.disk ≡ Some bytes
         → (contents : Contents) × IsJournal contents bytes × (journal.length ≡ end_of contents + 1)

@@ -1,5 +1,6 @@
 // A journal as a log.
 ghost use Rattle.std.specs.Prelude.{◌≡◌, ℕ, ◌+◌, ◌≤◌, ◌^◌, ◌<◌, ◌++◌, ◌∷◌, [], List, Some, length, is_ok, is_some, vec_len, vec_capacity};
+ghost use Rattle.pv_base.specs.declared.limits.TheConstants.{MAX_WRITE_END};
 ghost use Rattle.pv_base.specs.Fault.{FaultCounted};
 ghost use Rattle.pv_base.specs.BigEndian.{big_endian};
 ghost use Rattle.pv_law_disk.specs.Calls.{Makes};
@@ -79,7 +80,7 @@ impl<D: Disk> Log for Journal<D> {
 // of its own once that is synced: a crash in either leaves it closed, or all of the record after it.
 fn write_record<D: Disk>(disk: &mut D, end: u64, frame: &[u8]) -> Result<(), Failed>
     requires within { (bytes : List ℕ) → D.model.content disk.old ≡ Some bytes → end + 1 ≤ length bytes }
-    requires short { end + 1 + length frame.now ≤ 2 ^ 40 }
+    requires short { end + 1 + length frame.now ≤ MAX_WRITE_END }
     requires room { 1 + length frame.now ≤ D.model.room disk.old }
     requires writes { 2 ≤ D.model.writes disk.old }
     ensures crash { (contents : Contents) (content bytes : List ℕ) → IsReady D.model disk.old end frame.now contents content bytes

@@ -1,5 +1,6 @@
 // How a journal is read from a disk.
 ghost use Rattle.std.specs.Prelude.{◌≡◌, ◌≢◌, ◌⊎◌, ℕ, ◌+◌, ◌-◌, ◌<◌, ◌≤◌, ◌^◌, ◌++◌, [], List, Some, map, length, take, drop, slice_index, vec_len, IfOk, IfErr, IfSome, OnOk, IsErrOf};
+ghost use Rattle.pv_base.specs.declared.limits.TheConstants.{MAX_LENGTH};
 ghost use Rattle.pv_base.specs.BigEndian.{big_endian};
 ghost use Rattle.pv_law_disk.specs.Size.{Contents};
 ghost use Rattle.pv_law_journal.specs.Format.{header, IsJournal, IsNotOurs, HasNoHeader, end_of};
@@ -26,7 +27,7 @@ pub(crate) enum Gate {
 fn size_of_disk<D: Disk>(disk: &mut D) -> Result<u64, LookError>
     ensures effect { LooksBy D.model disk.old disk.new result }
     ensures size { IfOk result (λ size. (bytes : List ℕ) → D.model.content disk.old ≡ Some bytes → size ≡ length bytes) }
-    ensures bounded { IfOk result (λ size. size ≤ 2 ^ 62) }
+    ensures bounded { IfOk result (λ size. size ≤ MAX_LENGTH) }
     ensures not_ours { (at : ℕ) → IsErrOf result (LookError.NotOurs at) → ⊥ }
 {
     match disk.len() {
@@ -62,7 +63,7 @@ pub(crate) fn find_end<D: Disk>(alloc: Global, disk: &mut D) -> Result<u64, Look
     ensures not_ours { (place : ℕ) → IsErrOf result (LookError.NotOurs place)
         → (bytes : List ℕ) → D.model.content disk.old ≡ Some bytes → IsNotOurs bytes place }
     ensures starts { IfOk result (λ end. 8 ≤ end) }
-    ensures bounded { IfOk result (λ end. end + 1 ≤ 2 ^ 62) }
+    ensures bounded { IfOk result (λ end. end + 1 ≤ MAX_LENGTH) }
 {
     let size = size_of_disk(disk)?;
     read_header(alloc, disk, size)?;
@@ -113,7 +114,7 @@ fn read_record<D: Disk>(
 ) -> Result<Option<Vec<u8>>, LookError>
     requires known { (bytes : List ℕ) → D.model.content disk.old ≡ Some bytes → size ≡ length bytes }
     requires within { place < size }
-    requires bounded { size ≤ 2 ^ 62 }
+    requires bounded { size ≤ MAX_LENGTH }
     ensures effect { LooksBy D.model disk.old disk.new result }
     ensures stands { IfOk result (λ found. (bytes : List ℕ) → D.model.content disk.old ≡ Some bytes → HoldsRecord (drop place bytes) found) }
     ensures ends { IfOk result (λ found. IfSome found (λ content. (vec_len content + 5 < size - place) × (vec_len content < 2 ^ 32))) }
@@ -154,7 +155,7 @@ fn read_header<D: Disk>(alloc: Global, disk: &mut D, size: u64) -> Result<(), Lo
 fn gate_at<D: Disk>(disk: &mut D, size: u64, place: u64) -> Result<Gate, LookError>
     requires known { (bytes : List ℕ) → D.model.content disk.old ≡ Some bytes → size ≡ length bytes }
     requires within { place < size }
-    requires bounded { size ≤ 2 ^ 62 }
+    requires bounded { size ≤ MAX_LENGTH }
     ensures effect { LooksBy D.model disk.old disk.new result }
     ensures stands { IfOk result (λ gate. (bytes : List ℕ) → D.model.content disk.old ≡ Some bytes → StandsAt (drop place bytes) gate) }
     ensures ends { IfOk result (λ gate. EndsBefore gate (size - place)) }

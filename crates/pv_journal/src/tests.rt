@@ -1,5 +1,6 @@
 // The worked journal, and what others are answered with.
 ghost use Rattle.std.specs.Prelude.{◌≡◌, ◌≤◌, ◌^◌, false, length, vec_len, IfOk};
+ghost use Rattle.pv_base.specs.declared.limits.TheConstants.{MAX_LENGTH};
 
 use super::*;
 use crate::tests::Answer::{Holds, NotOurs};
@@ -23,7 +24,7 @@ enum Answer {
 
 // What `look` and `Journal::open` answer, where that is the same.
 fn answer_of(alloc: Global, bytes: Vec<u8>) -> Result<Option<Answer>, Fail>
-    requires { vec_len bytes ≤ 2 ^ 62 }
+    requires { vec_len bytes ≤ MAX_LENGTH }
 {
     let mut disk = MemDisk::of(alloc, bytes);
     let looked = match look(alloc, &mut disk) {

@@ -1,5 +1,6 @@
 -- What there is to say of a log: what it holds, what a crash leaves of it, and whether it can go on.
-use Rattle.std.specs.Prelude.{◌≡◌, ℕ, ◌^◌, ◌≤◌, Bool, false, Option, Some}
+use Rattle.std.specs.Prelude.{◌≡◌, ℕ, ◌≤◌, Bool, false, Option, Some}
+use Rattle.pv_base.specs.declared.limits.TheConstants.{MAX_LENGTH}
 use Rattle.pv_law_disk.specs.Calls.{LogCall}
 use Rattle.pv_law_disk.specs.Size.{Contents, size_of}
 
@@ -33,6 +34,6 @@ pub record LogModel (W : Type 0) : Type 1 where
   pub is_left : (log : W) (held : Contents) → contents log ≡ Some held → may_leave log (Some held)
   -- between its calls a log that isn't down has all that it holds on what it stands on
   pub settled : (log : W) (held : Contents) (left : Option Contents) → is_intact log → is_down log ≡ false → contents log ≡ Some held → may_leave log left → left ≡ Some held
-  -- the log's length is that of what it holds, and never above 2^62
+  -- the log's length is that of what it holds, and never above the greatest
   pub size_is : (log : W) (held : Contents) → is_intact log → is_down log ≡ false → contents log ≡ Some held → size log ≡ size_of held
-  pub is_bounded : (log : W) → is_intact log → size log ≤ 2 ^ 62
+  pub is_bounded : (log : W) → is_intact log → size log ≤ MAX_LENGTH

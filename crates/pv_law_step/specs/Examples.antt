@@ -1,6 +1,7 @@
 -- Examples of steps: one site that takes the messages that it sends itself, and a participant that is left in doubt.
 use Rattle.std.specs.Prelude.{ℕ, zero, suc, ℤ, pos, Bool, true, false, List, [], ◌∷◌, ◌++◌, codes}
 use Rattle.std.specs.Option.{option_to_list}
+use Rattle.pv_base.specs.declared.limits.TheConstants.{MAX_JOURNAL}
 use Rattle.pv_base.specs.declared.literal.Literal.{Literal}
 use Rattle.pv_base.specs.declared.txn.TxnId.{TxnId}
 use Rattle.pv_base.specs.Polyvalue.{Case}
@@ -38,7 +39,7 @@ abbrev pub bank : Setup
 bank = record {
   catalog = record {
     sites = 2;
-    journal = 4294967296;
+    journal = MAX_JOURNAL;
     items = record { name = codes "a"; site = 0; value = pos 100 } ∷ record { name = codes "b"; site = 1; value = pos 50 } ∷ [];
   };
   read_names = 7;

@@ -1,5 +1,6 @@
 -- What a pump needs to come to an end.
 use Rattle.std.specs.Prelude.{◌≡◌, ◌<◌, ◌≤◌, length, All}
+use Rattle.pv_base.specs.declared.limits.TheConstants.{MAX_SITES}
 use Rattle.pv_base.specs.Catalog.{Declared}
 use Rattle.pv_protocol.specs.World.{World}
 
@@ -9,5 +10,5 @@ AreMarked world = length world.sent ≡ length world.fresh
 
 -- There are at most 16 sites, and each item is at one of them.
 pub record HasFewSites (catalog : Declared) : Type 0 where
-  pub few : catalog.sites ≤ 16
+  pub few : catalog.sites ≤ MAX_SITES
   pub homes : All (λ item. item.site < catalog.sites) catalog.items

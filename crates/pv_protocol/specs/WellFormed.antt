@@ -1,5 +1,6 @@
 -- What a step asks of an event.
 use Rattle.std.specs.Prelude.{ℕ, ◌<◌, ◌≤◌, Bool, true, ◌&&◌, List, length, All, IsTrue, ⊤}
+use Rattle.pv_base.specs.declared.limits.TheConstants.{MAX_PROGRAM_ITEMS}
 use Rattle.pv_base.specs.Catalog.{Declared}
 use Rattle.pv_model.specs.Check.{AreItems}
 use Rattle.pv_model.specs.Events.{Event, submit, deliver, pump, lose, drop, tick, stop, start, arm, mend, sent, report, total}
@@ -11,7 +12,7 @@ pub record IsRunnable (catalog : Declared) (program : Program) : Type 0 where
   pub items : List ℕ
   pub are : AreItems program items
   pub some : 0 < length items
-  pub few : length items ≤ 16
+  pub few : length items ≤ MAX_PROGRAM_ITEMS
   pub known : All (λ n. n < length catalog.items) items
 
 -- Each number that stands in the expression has 64 bits.
