@@ -23,7 +23,7 @@ pub record IsFirstBadContent (contents : List (List ℕ)) (place : ℕ) : Type 0
   pub before : SpellRecords records (take place contents)
 
 -- the greatest epoch that is recorded, or 0
-abbrev pub last_epoch : List Record → ℕ
-last_epoch [] = 0
-last_epoch (epoch_begun epoch ∷ records) = max epoch (last_epoch records)
-last_epoch (other ∷ records) = last_epoch records
+abbrev pub greatest_epoch : List Record → ℕ
+greatest_epoch [] = 0
+greatest_epoch (epoch_begun epoch ∷ records) = max epoch (greatest_epoch records)
+greatest_epoch (other ∷ records) = greatest_epoch records

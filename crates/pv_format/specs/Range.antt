@@ -1,5 +1,5 @@
 -- Which values can be spelled: their numbers, items and counts are in range.
-use Rattle.std.specs.Prelude.{ℕ, ℤ, ◌<◌, ◌≤◌, ◌^◌, List, map, length, All}
+use Rattle.std.specs.Prelude.{ℕ, ℤ, ◌<◌, ◌≤◌, ◌^◌, List, map, length, All, ⊤}
 use Rattle.std.specs.Int.{w64}
 use Rattle.std.specs.Int.RustNames.{FitsSigned}
 use Rattle.std.specs.List.{AllPairs}
@@ -30,7 +30,7 @@ pub record AreWantsInRange (wants : List Want) : Type 0 where
 
 -- The length has 64 bits.
 abbrev pub IsCauseInRange : NoCause → Type 0
-IsCauseInRange grant_lost = Unit {0}
+IsCauseInRange grant_lost = ⊤
 IsCauseInRange (journal_full length) = length < 2 ^ 64
 
 -- Where there are so many sites.
@@ -63,10 +63,10 @@ module _ (sites : ℕ) where
   IsBodyWithin (granted txn grant values) = IsGrantInRange grant × AreReadsWithin 1 values
   IsBodyWithin (denied txn item holder) = (item < MAX_ITEMS) × IsTxnWithin holder
   IsBodyWithin (prepare txn grant writes) = IsGrantInRange grant × AreReadsWithin 0 writes
-  IsBodyWithin (vote_yes txn) = Unit {0}
+  IsBodyWithin (vote_yes txn) = ⊤
   IsBodyWithin (vote_no txn cause) = IsCauseInRange cause
-  IsBodyWithin (outcome_told txn commits) = Unit {0}
-  IsBodyWithin (ask txn) = Unit {0}
+  IsBodyWithin (outcome_told txn commits) = ⊤
+  IsBodyWithin (ask txn) = ⊤
 
   -- A message on its way between two of the sites, all of which is in range.
   pub record IsEnvelopeWithin (envelope : Envelope) : Type 0 where

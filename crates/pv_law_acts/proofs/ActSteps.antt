@@ -8,6 +8,7 @@ use Rattle.pv_base.specs.Assignment.{is_same_txn}
 use Rattle.pv_base.specs.Want.{Want}
 use Rattle.pv_base.specs.declared.grant.GrantId.{GrantId}
 use Rattle.pv_base.specs.declared.txn.TxnId.{TxnId}
+use Rattle.pv_format.specs.Contents.{greatest_epoch}
 use Rattle.pv_format.specs.Message.{Envelope}
 use Rattle.pv_format.specs.Record.{Record, epoch_begun, prepared, outcome_known}
 use Rattle.pv_law_acts.proofs.ListLemmas.{none-some, none-found}
@@ -23,7 +24,6 @@ use Rattle.pv_law_step.proofs.ConflictLemmas.{no-conflict}
 use Rattle.pv_model.specs.Syntax.{Program}
 use Rattle.pv_protocol.specs.Granted.{taking}
 use Rattle.pv_protocol.specs.Here.{with_entry, without_entry}
-use Rattle.pv_protocol.specs.Records.{last_epoch}
 use Rattle.pv_protocol.specs.Start.{just_started}
 use Rattle.pv_protocol.specs.State.{Setup, Site, Grant, Taken, Entry, Running, Placed}
 use Rattle.pv_protocol.specs.World.{World, site_at}
@@ -44,13 +44,13 @@ module _ (setup : Setup) (w : World) (n : ℕ) where
     now-holding : (grant : Grant) → Holds w n grant → Contains (holdings_in (Some running)) grant
     now-holding grant h = subst (λ (memory : Option Running). Contains (holdings_in memory) grant) up h
 
-    txns-rise : (after : List Record) (later : ℕ) → last_epoch after ≡ last_epoch (records_at w n) → running.next_txn ≤ later → (epoch number : ℕ)
+    txns-rise : (after : List Record) (later : ℕ) → greatest_epoch after ≡ greatest_epoch (records_at w n) → running.next_txn ≤ later → (epoch number : ℕ)
         → IsNumberPassed (records_at w n) (next_txn_in (memory_at w n)) epoch number → IsNumberPassed after (Some later) epoch number
     txns-rise after later same most epoch number passed =
         passed-stays (records_at w n) after (Some running.next_txn) (Some later) (same, most) epoch number
         (subst (λ (memory : Option Running). IsNumberPassed (records_at w n) (next_txn_in memory) epoch number) up passed)
 
-    ids-rise : (after : List Record) (later : ℕ) → last_epoch after ≡ last_epoch (records_at w n) → running.next_grant ≤ later → (epoch number : ℕ)
+    ids-rise : (after : List Record) (later : ℕ) → greatest_epoch after ≡ greatest_epoch (records_at w n) → running.next_grant ≤ later → (epoch number : ℕ)
         → IsNumberPassed (records_at w n) (next_grant_in (memory_at w n)) epoch number → IsNumberPassed after (Some later) epoch number
     ids-rise after later same most epoch number passed =
         passed-stays (records_at w n) after (Some running.next_grant) (Some later) (same, most) epoch number
@@ -78,7 +78,7 @@ module _ (setup : Setup) (w : World) (n : ℕ) where
     })
 
     -- A record is appended that isn't of an epoch.
-    append-step : (more : Record) → last_epoch (more ∷ []) ≡ 0 → NewRecord setup w (recorded w n more (Some running)) n more
+    append-step : (more : Record) → greatest_epoch (more ∷ []) ≡ 0 → NewRecord setup w (recorded w n more (Some running)) n more
         → IsStep setup w (recorded w n more (Some running))
     append-step more none new = site-step setup w n (records_at w n ++ more ∷ []) (Some running) w.order (record {
       entries = λ txn found is. inl (old-work txn found is);
@@ -96,8 +96,8 @@ module _ (setup : Setup) (w : World) (n : ℕ) where
         let new : NewEntry setup w (remembered w n (with_begun running txn program)) n txn (first_entry txn program) =
         has_begun program refl
         (λ passed. next-unpassed (records_at w n) running.next_txn
-        (subst (λ (memory : Option Running). IsNumberPassed (records_at w n) (next_txn_in memory) (last_epoch (records_at w n)) running.next_txn) up passed))
-        (at-changed (λ (s : Site). IsNumberPassed s.records (next_txn_in s.running) (last_epoch (records_at w n)) running.next_txn)
+        (subst (λ (memory : Option Running). IsNumberPassed (records_at w n) (next_txn_in memory) (greatest_epoch (records_at w n)) running.next_txn) up passed))
+        (at-changed (λ (s : Site). IsNumberPassed s.records (next_txn_in s.running) (greatest_epoch (records_at w n)) running.next_txn)
         (records_at w n) (Some (with_begun running txn program)) (given-passed (records_at w n) running.next_txn))
         may.runs in
         site-step setup w n (records_at w n) (Some (with_begun running txn program)) w.order (record {
@@ -228,12 +228,12 @@ module _ (setup : Setup) (w : World) (n : ℕ) where
   -- Of a site that is down, or goes down.
 
   start-step : MayStart w n
-      → IsStep setup w (recorded w n (epoch_begun (last_epoch (records_at w n) + 1)) (Some (just_started (last_epoch (records_at w n) + 1))))
+      → IsStep setup w (recorded w n (epoch_begun (greatest_epoch (records_at w n) + 1)) (Some (just_started (greatest_epoch (records_at w n) + 1))))
   start-step may =
-      let epoch : ℕ = last_epoch (records_at w n) + 1 in
+      let epoch : ℕ = greatest_epoch (records_at w n) + 1 in
       let records : List Record = records_at w n ++ epoch_begun epoch ∷ [] in
-      let rises : last_epoch (records_at w n) < last_epoch records =
-      let last : last_epoch records ≡ epoch = epoch-rises (records_at w n) epoch (omega arith) in omega (arith, last) in
+      let rises : greatest_epoch (records_at w n) < greatest_epoch records =
+      let last : greatest_epoch records ≡ epoch = epoch-rises (records_at w n) epoch (omega arith) in omega (arith, last) in
       site-step setup w n records (Some (just_started epoch)) w.order (record {
         entries = λ txn found is. absurd (none-some is);
         grants = λ grant h. absurd (Contains-nil grant h);

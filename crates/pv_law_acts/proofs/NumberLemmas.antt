@@ -1,22 +1,22 @@
 -- Numbers that are passed stay passed, and the next number isn't passed yet.
 use Rattle.std.proofs.Common.{◌≡◌, ⊎_elim, ℕ, ◌+◌, ◌<◌, ◌≤◌, Some, None, Option, List, [], ◌∷◌, ◌++◌, inl, inr, refl, sym, ap, ◌∙◌, arith}
 use Rattle.std.specs.Prelude.{max}
+use Rattle.pv_format.specs.Contents.{greatest_epoch}
 use Rattle.pv_format.specs.Record.{Record, epoch_begun, prepared, outcome_known}
 use Rattle.pv_law_acts.specs.Seen.{IsNumberPassed}
-use Rattle.pv_protocol.specs.Records.{last_epoch}
 
 -- The greatest epoch, with one more record.
 
-pub epoch-stays : (records : List Record) (more : Record) → last_epoch (more ∷ []) ≡ 0 → last_epoch (records ++ more ∷ []) ≡ last_epoch records
+pub epoch-stays : (records : List Record) (more : Record) → greatest_epoch (more ∷ []) ≡ 0 → greatest_epoch (records ++ more ∷ []) ≡ greatest_epoch records
 epoch-stays [] more none = none
 epoch-stays (epoch_begun epoch ∷ records) more none = ap (λ (last : ℕ). max epoch last) (epoch-stays records more none)
 epoch-stays (prepared txn writes ∷ records) more none = epoch-stays records more none
 epoch-stays (outcome_known txn commits ∷ records) more none = epoch-stays records more none
 
-pub epoch-rises : (records : List Record) (epoch : ℕ) → last_epoch records ≤ epoch → last_epoch (records ++ epoch_begun epoch ∷ []) ≡ epoch
+pub epoch-rises : (records : List Record) (epoch : ℕ) → greatest_epoch records ≤ epoch → greatest_epoch (records ++ epoch_begun epoch ∷ []) ≡ epoch
 epoch-rises [] epoch most = omega arith
 epoch-rises (epoch_begun other ∷ records) epoch most =
-    let rest : last_epoch (records ++ epoch_begun epoch ∷ []) ≡ epoch = epoch-rises records epoch (omega (arith, most)) in omega (arith, most, rest)
+    let rest : greatest_epoch (records ++ epoch_begun epoch ∷ []) ≡ epoch = epoch-rises records epoch (omega (arith, most)) in omega (arith, most, rest)
 epoch-rises (prepared txn writes ∷ records) epoch most = epoch-rises records epoch most
 epoch-rises (outcome_known txn commits ∷ records) epoch most = epoch-rises records epoch most
 
@@ -26,7 +26,7 @@ Rise last later (Some next) (Some after) = (later ≡ last) × (next ≤ after)
 Rise last later None (Some after) = last < later
 Rise last later next None = later ≡ last
 
-pub passed-stays : (records after : List Record) (next then_next : Option ℕ) → Rise (last_epoch records) (last_epoch after) next then_next
+pub passed-stays : (records after : List Record) (next then_next : Option ℕ) → Rise (greatest_epoch records) (greatest_epoch after) next then_next
     → (epoch number : ℕ) → IsNumberPassed records next epoch number → IsNumberPassed after then_next epoch number
 passed-stays records after (Some next) (Some later) rise epoch number passed =
     ⊎_elim
@@ -40,8 +40,8 @@ passed-stays records after None None rise epoch number passed = omega (arith, ri
 
 -- The next number isn't passed, and is once the one after it is next.
 
-pub next-unpassed : (records : List Record) (next : ℕ) → IsNumberPassed records (Some next) (last_epoch records) next → ⊥
+pub next-unpassed : (records : List Record) (next : ℕ) → IsNumberPassed records (Some next) (greatest_epoch records) next → ⊥
 next-unpassed records next passed = ⊎_elim (λ below. omega (arith, below)) (λ now. omega (arith, now.1)) passed
 
-pub given-passed : (records : List Record) (next : ℕ) → IsNumberPassed records (Some (next + 1)) (last_epoch records) next
+pub given-passed : (records : List Record) (next : ℕ) → IsNumberPassed records (Some (next + 1)) (greatest_epoch records) next
 given-passed records next = inr (refl, omega arith)

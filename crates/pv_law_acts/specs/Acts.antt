@@ -3,6 +3,7 @@ use Rattle.std.specs.Prelude.{◌≡◌, ℕ, ◌+◌, Bool, true, Option, Some,
 use Rattle.pv_base.specs.Want.{Want}
 use Rattle.pv_base.specs.declared.grant.GrantId.{GrantId}
 use Rattle.pv_base.specs.declared.txn.TxnId.{TxnId}
+use Rattle.pv_format.specs.Contents.{greatest_epoch}
 use Rattle.pv_format.specs.Message.{Envelope}
 use Rattle.pv_format.specs.Record.{Record, epoch_begun, prepared, outcome_known}
 use Rattle.pv_law_acts.specs.Guards.{IsAtWork, MayBegin, MayGrant, MayTake, MayPlace, MayCount, MayPromise, MayCommit, MayLearn, MayStart, MaySend}
@@ -11,7 +12,6 @@ use Rattle.pv_model.specs.Alternatives.{Read}
 use Rattle.pv_model.specs.Syntax.{Program}
 use Rattle.pv_protocol.specs.Granted.{taking}
 use Rattle.pv_protocol.specs.Here.{with_grant, with_entry, without_entry}
-use Rattle.pv_protocol.specs.Records.{last_epoch}
 use Rattle.pv_protocol.specs.Start.{just_started}
 use Rattle.pv_protocol.specs.State.{Setup, Grant, locking, voting, Taken, Entry, Running}
 use Rattle.pv_protocol.specs.World.{World, site_at, with_site}
@@ -94,7 +94,7 @@ pub data Act (setup : Setup) (world : World) : World → Type 0 where
       → Act setup world (recorded world n (outcome_known txn outcome) (Some running))
   -- a site starts
   starts : (n : ℕ) → MayStart world n
-      → Act setup world (recorded world n (epoch_begun (last_epoch (records_at world n) + 1)) (Some (just_started (last_epoch (records_at world n) + 1))))
+      → Act setup world (recorded world n (epoch_begun (greatest_epoch (records_at world n) + 1)) (Some (just_started (greatest_epoch (records_at world n) + 1))))
   -- a site goes down
   goes_down : (n : ℕ) → Act setup world (with_content world n (records_at world n) None)
   -- a message is sent

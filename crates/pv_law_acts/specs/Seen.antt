@@ -2,13 +2,13 @@
 use Rattle.std.specs.Prelude.{◌≡◌, ℕ, ◌<◌, ◌≤◌, ◌||◌, false, Option, Some, None, List, map, ◌⊎◌, Contains, IsTrue}
 use Rattle.pv_base.specs.declared.grant.GrantId.{GrantId}
 use Rattle.pv_base.specs.declared.txn.TxnId.{TxnId}
+use Rattle.pv_format.specs.Contents.{greatest_epoch}
 use Rattle.pv_format.specs.Message.{Message}
 use Rattle.pv_format.specs.Record.{Record}
 use Rattle.pv_model.specs.Plan.{participants_of, wants_of}
 use Rattle.pv_base.specs.Want.{Want}
 use Rattle.pv_protocol.specs.Committed.{home_of, is_committed, grants_of, entry_in}
 use Rattle.pv_protocol.specs.Granted.{grants_taken}
-use Rattle.pv_protocol.specs.Records.{last_epoch}
 use Rattle.pv_protocol.specs.State.{Setup, Grant, Entry, Running, Placed}
 use Rattle.pv_protocol.specs.World.{World, site_at}
 
@@ -66,8 +66,8 @@ place_of entry = record { txn = entry.txn; program = entry.program; grants = gra
 -- A number of an epoch will not be given any more, where this one is next: it was given, or its epoch is over. The next number of a
 -- site that is down is the first one of its next epoch.
 abbrev pub IsNumberPassed : List Record → (next : Option ℕ) → (epoch number : ℕ) → Type 0
-IsNumberPassed records None epoch number = epoch ≤ last_epoch records
-IsNumberPassed records (Some next) epoch number = (epoch < last_epoch records) ⊎ ((epoch ≡ last_epoch records) × (number < next))
+IsNumberPassed records None epoch number = epoch ≤ greatest_epoch records
+IsNumberPassed records (Some next) epoch number = (epoch < greatest_epoch records) ⊎ ((epoch ≡ greatest_epoch records) × (number < next))
 
 -- the number that the next transaction gets
 abbrev pub next_txn_in : Option Running → Option ℕ
@@ -91,11 +91,11 @@ IsGrantPassed world n id = IsNumberPassed (records_at world n) (next_grant_in (m
 -- the number of the site's next transaction
 abbrev pub txn_number : World → ℕ → Running → TxnId
 txn_number world n running =
-    record { site = record { 0 = n }; epoch = last_epoch (records_at world n); number = running.next_txn }
+    record { site = record { 0 = n }; epoch = greatest_epoch (records_at world n); number = running.next_txn }
 
 -- the number of the site's next grant
 abbrev pub grant_number : World → ℕ → Running → GrantId
-grant_number world n running = record { epoch = last_epoch (records_at world n); number = running.next_grant }
+grant_number world n running = record { epoch = greatest_epoch (records_at world n); number = running.next_grant }
 
 -- The transaction has its number, isn't worked on by its site, and isn't committed. It will never be.
 pub record IsDead (world : World) (txn : TxnId) : Type 0 where

@@ -3,6 +3,7 @@ use Rattle.std.specs.Prelude.{◌≡◌, ℕ, ◌+◌, Bool, true, false, None, 
 use Rattle.pv_base.specs.Want.{Want}
 use Rattle.pv_base.specs.declared.grant.GrantId.{GrantId}
 use Rattle.pv_base.specs.declared.txn.TxnId.{TxnId}
+use Rattle.pv_format.specs.Contents.{greatest_epoch}
 use Rattle.pv_format.specs.Message.{lock, Envelope}
 use Rattle.pv_format.specs.Record.{Record, epoch_begun, prepared, outcome_known}
 use Rattle.pv_law_acts.specs.Acts.{first_entry, voting_of, counting}
@@ -12,7 +13,7 @@ use Rattle.pv_model.specs.Alternatives.{Read}
 use Rattle.pv_model.specs.Syntax.{Program}
 use Rattle.pv_protocol.specs.Committed.{home_of}
 use Rattle.pv_protocol.specs.Granted.{taking}
-use Rattle.pv_protocol.specs.Records.{last_epoch, is_prepared}
+use Rattle.pv_protocol.specs.Records.{is_prepared}
 use Rattle.pv_protocol.specs.State.{Setup, Grant, Taken, Entry, Placed}
 use Rattle.pv_protocol.specs.WellFormed.{CanRun}
 use Rattle.pv_protocol.specs.World.{World}
@@ -55,7 +56,7 @@ module _ (setup : Setup) (w v : World) where
 
   -- A record is new.
   abbrev pub NewRecord : ℕ → Record → Type 0
-  NewRecord n (epoch_begun epoch) = epoch ≡ last_epoch (records_at w n) + 1
+  NewRecord n (epoch_begun epoch) = epoch ≡ greatest_epoch (records_at w n) + 1
   NewRecord n (prepared txn writes) = NewPromise n txn writes
   NewRecord n (outcome_known txn outcome) = NewCommit n txn outcome ⊎ MayLearn w n txn outcome
 

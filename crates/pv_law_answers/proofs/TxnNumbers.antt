@@ -4,6 +4,7 @@ use Rattle.std.specs.Prelude.{get_or, option_to_list}
 use Rattle.std.specs.List.{Contains}
 use Rattle.std.proofs.lemmas.List.{append-nil, append_assoc, get_or-set_same}
 use Rattle.pv_base.specs.declared.txn.TxnId.{TxnId}
+use Rattle.pv_format.specs.Contents.{greatest_epoch}
 use Rattle.pv_format.specs.Record.{Record}
 use Rattle.pv_law_acts.proofs.NumberLemmas.{next-unpassed, given-passed}
 use Rattle.pv_law_acts.proofs.PassedLemmas.{passed-later}
@@ -27,7 +28,6 @@ use Rattle.pv_protocol.specs.Attempt.{Attempt, begun, of_step}
 use Rattle.pv_protocol.specs.Here.{Here}
 use Rattle.pv_protocol.specs.Lines.{Line, line_of}
 use Rattle.pv_protocol.specs.Lock.{next_txn, beginning}
-use Rattle.pv_protocol.specs.Records.{last_epoch}
 use Rattle.pv_protocol.specs.Run.{world_after}
 use Rattle.pv_protocol.specs.State.{Setup, Arm, Running, Site, Step, Note, began, committed, refused, full, spent}
 use Rattle.pv_protocol.specs.Step.{step_on}
@@ -80,7 +80,7 @@ module _ (setup : Setup) (world : World) (transition : Transition) (txn : TxnId)
       ∙ ap (λ (s : Step). records_at world noted.n ++ option_to_list s.appended) begins.step
       ∙ append-nil (records_at world noted.n)
 
-  epoch : noted.running.epoch ≡ last_epoch (records_at world noted.n)
+  epoch : noted.running.epoch ≡ greatest_epoch (records_at world noted.n)
   epoch = recorded noted.n noted.running noted.up
 
   next-new : IsPassed world (next_txn here) → ⊥

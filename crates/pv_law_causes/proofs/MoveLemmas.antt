@@ -7,6 +7,7 @@ use Rattle.std.proofs.lemmas.List.{append-nil, get_or-set_other}
 use Rattle.std.proofs.lemmas.List.Elements.{Contains-append_cases}
 use Rattle.pv_base.proofs.MapLemmas.{Contains-unmap}
 use Rattle.pv_base.specs.declared.txn.TxnId.{TxnId}
+use Rattle.pv_format.specs.Contents.{greatest_epoch}
 use Rattle.pv_format.specs.Message.{Envelope}
 use Rattle.pv_format.specs.Record.{Record}
 use Rattle.pv_law_acts.proofs.ListLemmas.{none-some}
@@ -23,7 +24,6 @@ use Rattle.pv_protocol.specs.Arms.{Reached, waits, fires, reached, calls_of, com
 use Rattle.pv_protocol.specs.Attempt.{Attempt, Begun, at_once, attempts, begun, given, delivered, lost, halted, opened, of_step, of_start}
 use Rattle.pv_protocol.specs.Committed.{entry_in}
 use Rattle.pv_protocol.specs.Lines.{Line}
-use Rattle.pv_protocol.specs.Records.{last_epoch}
 use Rattle.pv_protocol.specs.Start.{Started, no_epoch, just_started, site_start}
 use Rattle.pv_protocol.specs.State.{Setup, Site, Entry, Running, Arm, Input, submit, receive, tick, Outgoing, Step}
 use Rattle.pv_protocol.specs.Step.{site_step}
@@ -171,7 +171,7 @@ module _ (setup : Setup) (w : World) (event : Event) where
       → IsMove setup w event (completed w n (of_start n started) arm)
   whole-start n started (of_starts.no_epoch_left h) untimed arm = start-move n (of_start n no_epoch) arm refl (empty n) untimed
   whole-start n started (of_starts.no_room h i) untimed arm = start-move n (of_start n started) arm refl (empty n) untimed
-  whole-start n started (of_starts.begins h i) untimed arm = start-move n (of_start n started) arm refl (fresh_start n (last_epoch (records_at w n) + 1)) untimed
+  whole-start n started (of_starts.begins h i) untimed arm = start-move n (of_start n started) arm refl (fresh_start n (greatest_epoch (records_at w n) + 1)) untimed
 
   broken-move : (fresh : List Bool) (n : ℕ) (left : Option Record) → ((m : ℕ) → n ≢ m → is_tick_of m event ≡ false) → IsMove setup w event (broken (record w { fresh = fresh }) n left)
   broken-move fresh n left untimed =

@@ -1,5 +1,5 @@
 -- The calls of a disk and of a log, for those who follow each of them.
-use Rattle.std.specs.Prelude.{◌≡◌, ◌⊎◌, ℕ, Bool, true, false, List, [], ◌∷◌}
+use Rattle.std.specs.Prelude.{◌≡◌, ◌⊎◌, ℕ, Bool, true, false, List, [], ◌∷◌, ⊤}
 
 -- A call of a disk.
 pub data DiskCall : Type 0 where
@@ -11,8 +11,8 @@ pub data DiskCall : Type 0 where
 
 -- It only reads.
 abbrev pub IsRead : DiskCall → Type 0
-IsRead len = Unit {0}
-IsRead (read place count) = Unit {0}
+IsRead len = ⊤
+IsRead (read place count) = ⊤
 IsRead _ = ⊥
 
 -- Some calls that only read were made, one after another. `goes` is as below.

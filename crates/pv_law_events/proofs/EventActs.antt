@@ -6,6 +6,7 @@ use Rattle.std.proofs.lemmas.List.{append-nil, append_assoc, length-set, length-
 use Rattle.std.proofs.lemmas.Option.{slice_get_within, get_or_from_slice_get}
 use Rattle.pv_base.proofs.ContainsLemmas.{Contains-first, Contains-behind, Contains-nil}
 use Rattle.pv_base.proofs.MapLemmas.{Contains-unmap}
+use Rattle.pv_format.specs.Contents.{greatest_epoch}
 use Rattle.pv_format.specs.Message.{Message, lock, granted, denied, prepare, vote_yes, vote_no, outcome_told, ask, Envelope}
 use Rattle.pv_format.specs.Record.{Record, epoch_begun}
 use Rattle.pv_law_acts.proofs.ListLemmas.{none-some, listed-before}
@@ -31,7 +32,6 @@ use Rattle.pv_protocol.specs.Anywhere.{MayEnd, MayCome, MayFollow, disarmed_site
 use Rattle.pv_protocol.specs.Arms.{Reached, waits, fires, reached, calls_of, is_kept, completed, broken, attempted}
 use Rattle.pv_protocol.specs.Attempt.{Attempt, Begun, at_once, attempts, begun, given, delivered, lost, halted, opened, of_step, refused_start, of_start}
 use Rattle.pv_protocol.specs.Lines.{Line}
-use Rattle.pv_protocol.specs.Records.{last_epoch}
 use Rattle.pv_protocol.specs.Start.{Started, starts, just_started, site_start}
 use Rattle.pv_protocol.specs.State.{Setup, Running, Site, Arm, Input, submit, receive, tick, Outgoing, Placed, Step}
 use Rattle.pv_protocol.specs.Step.{on_message, step_on, site_step}
@@ -166,7 +166,7 @@ module _ (setup : Setup) where
       start-acts started (of_starts.no_epoch_left h) = refused-acts _
       start-acts started (of_starts.no_room h i) = refused-acts _
       start-acts started (of_starts.begins h i) =
-          let epoch : ℕ = last_epoch (records_at w n) + 1 in
+          let epoch : ℕ = greatest_epoch (records_at w n) + 1 in
           let records : List Record = records_at w n ++ epoch_begun epoch ∷ [] in
           let so_far : Acts setup w (At w n records (Some (just_started epoch)) w.order) =
           one-act setup w n (recorded w n (epoch_begun epoch) (Some (just_started epoch))) (acts.starts n (record { within = within; down = down })) in

@@ -6,6 +6,7 @@ use Rattle.std.proofs.lemmas.List.{append-nil}
 use Rattle.pv_base.proofs.ContainsLemmas.{Contains-nil, Contains-cases}
 use Rattle.pv_base.proofs.MapLemmas.{Contains-unmap}
 use Rattle.pv_base.specs.declared.txn.TxnId.{TxnId}
+use Rattle.pv_format.specs.Contents.{greatest_epoch}
 use Rattle.pv_format.specs.Message.{Message, outcome_told}
 use Rattle.pv_format.specs.Record.{Record}
 use Rattle.pv_law_acts.proofs.ListLemmas.{none-some}
@@ -23,7 +24,6 @@ use Rattle.pv_law_outcomes.proofs.DecidedLemmas.{IsSettled}
 use Rattle.pv_protocol.specs.Committed.{says_yes}
 use Rattle.pv_protocol.specs.Here.{Here, only_to, outcome_sends, participants, refusing, without_entry}
 use Rattle.pv_protocol.specs.Keyed.{of_txn}
-use Rattle.pv_protocol.specs.Records.{last_epoch}
 use Rattle.pv_protocol.specs.Sound.{IsInOrder}
 use Rattle.pv_protocol.specs.State.{Setup, Entry, Running, Cause, Note, Outgoing, Placed, Step}
 use Rattle.pv_protocol.specs.Step.{records_after}
@@ -33,7 +33,7 @@ use Rattle.pv_protocol.specs.World.{World, site_at}
 pub record IsReady (setup : Setup) (w : World) (n : ℕ) (running : Running) : Type 0 where
   pub up : memory_at w n ≡ Some running
   pub settled : IsSettled setup w
-  pub recorded : running.epoch ≡ last_epoch (records_at w n)
+  pub recorded : running.epoch ≡ greatest_epoch (records_at w n)
   pub ordered : IsInOrder running
 
 -- the site, as its step sees it

@@ -3,6 +3,7 @@ use Rattle.std.proofs.Common.{arith, ◌≡◌, ℕ, ◌+◌, ◌≤◌, Some, N
 use Rattle.std.specs.Prelude.{option_to_list, max}
 use Rattle.std.proofs.lemmas.List.{append-nil}
 use Rattle.pv_base.proofs.Basics.{Some_inj}
+use Rattle.pv_format.specs.Contents.{greatest_epoch}
 use Rattle.pv_format.specs.Record.{Record, epoch_begun, prepared, outcome_known}
 use Rattle.pv_law_step.proofs.Appended.{steady}
 use Rattle.pv_law_step.proofs.OrderLemmas.{stays-in-order}
@@ -13,7 +14,6 @@ use Rattle.pv_law_step.specs.StartCases.{StartCase, no_epoch_left, no_room, begi
 use Rattle.pv_law_world.proofs.SiteLemmas.{IsKept, WhereUp}
 use Rattle.pv_protocol.specs.Attempt.{of_start}
 use Rattle.pv_protocol.specs.Here.{Here}
-use Rattle.pv_protocol.specs.Records.{last_epoch}
 use Rattle.pv_protocol.specs.Sound.{IsInOrder}
 use Rattle.pv_protocol.specs.Start.{Started, just_started, site_start}
 use Rattle.pv_protocol.specs.State.{Setup, Running}
@@ -23,34 +23,34 @@ none-some is = cc
 
 -- The greatest epoch, with one more record.
 
-outcome-epoch : (records : List Record) (more : Record) → last_epoch (more ∷ []) ≡ 0 → last_epoch (records ++ more ∷ []) ≡ last_epoch records
+outcome-epoch : (records : List Record) (more : Record) → greatest_epoch (more ∷ []) ≡ 0 → greatest_epoch (records ++ more ∷ []) ≡ greatest_epoch records
 outcome-epoch [] more none = none
 outcome-epoch (epoch_begun epoch ∷ records) more none = ap (λ (last : ℕ). max epoch last) (outcome-epoch records more none)
 outcome-epoch (prepared txn writes ∷ records) more none = outcome-epoch records more none
 outcome-epoch (outcome_known txn commits ∷ records) more none = outcome-epoch records more none
 
-begun-epoch : (records : List Record) (epoch : ℕ) → last_epoch records ≤ epoch → last_epoch (records ++ epoch_begun epoch ∷ []) ≡ epoch
+begun-epoch : (records : List Record) (epoch : ℕ) → greatest_epoch records ≤ epoch → greatest_epoch (records ++ epoch_begun epoch ∷ []) ≡ epoch
 begun-epoch [] epoch most = omega arith
 begun-epoch (epoch_begun other ∷ records) epoch most =
-    let rest : last_epoch (records ++ epoch_begun epoch ∷ []) ≡ epoch = begun-epoch records epoch (omega (arith, most)) in omega (arith, most, rest)
+    let rest : greatest_epoch (records ++ epoch_begun epoch ∷ []) ≡ epoch = begun-epoch records epoch (omega (arith, most)) in omega (arith, most, rest)
 begun-epoch (prepared txn writes ∷ records) epoch most = begun-epoch records epoch most
 begun-epoch (outcome_known txn commits ∷ records) epoch most = begun-epoch records epoch most
 
-appended-epoch : (here : Here) (more : Option Record) → Appends here more → last_epoch (here.records ++ option_to_list more) ≡ last_epoch here.records
-appended-epoch here more nothing_at_all = ap last_epoch (append-nil here.records)
+appended-epoch : (here : Here) (more : Option Record) → Appends here more → greatest_epoch (here.records ++ option_to_list more) ≡ greatest_epoch here.records
+appended-epoch here more nothing_at_all = ap greatest_epoch (append-nil here.records)
 appended-epoch here more (an_outcome txn commits room) = outcome-epoch here.records (outcome_known txn commits) refl
 appended-epoch here more (a_promise txn writes is room) = outcome-epoch here.records (prepared txn writes) refl
 
 -- The site's epoch is the greatest that its records began.
 abbrev pub IsRecorded : ℕ → List Record → Running → Type 0
-IsRecorded n records running = running.epoch ≡ last_epoch records
+IsRecorded n records running = running.epoch ≡ greatest_epoch records
 
 started-recorded : (n : ℕ) (setup : Setup) (records : List Record) (started : Started) → StartCase setup records started
     → WhereUp IsRecorded n (records ++ option_to_list (of_start n started).appended) (of_start n started).running
 started-recorded n setup records started (no_epoch_left h) up is = absurd (none-some is)
 started-recorded n setup records started (no_room h i) up is = absurd (none-some is)
 started-recorded n setup records started (begins h i) up is =
-    ap (λ (running : Running). running.epoch) (sym (Some_inj is)) ∙ sym (begun-epoch records (last_epoch records + 1) (omega arith))
+    ap (λ (running : Running). running.epoch) (sym (Some_inj is)) ∙ sym (begun-epoch records (greatest_epoch records + 1) (omega arith))
 
 pub epochs-kept : (setup : Setup) → IsKept setup (WhereUp IsRecorded)
 epochs-kept setup = record {
@@ -73,7 +73,7 @@ started-ordered : (n : ℕ) (records : List Record) (setup : Setup) (started : S
     → WhereUp IsOrdered n (records ++ option_to_list (of_start n started).appended) (of_start n started).running
 started-ordered n records setup started (no_epoch_left h) up is = absurd (none-some is)
 started-ordered n records setup started (no_room h i) up is = absurd (none-some is)
-started-ordered n records setup started (begins h i) up is = subst IsInOrder (Some_inj is) (fresh-ordered (last_epoch records + 1))
+started-ordered n records setup started (begins h i) up is = subst IsInOrder (Some_inj is) (fresh-ordered (greatest_epoch records + 1))
 
 pub order-kept : (setup : Setup) → IsKept setup (WhereUp IsOrdered)
 order-kept setup = record {

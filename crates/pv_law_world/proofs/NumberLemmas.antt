@@ -3,6 +3,7 @@ use Rattle.std.proofs.Common.{arith, ◌≡◌, ℕ, zero, suc, ◌+◌, Some, N
 use Rattle.std.specs.Prelude.{get_or, set, slice_get, nat_lt, nat_le}
 use Rattle.pv_base.proofs.Basics.{Some_inj}
 use Rattle.pv_base.specs.declared.limits.TheConstants.{NEVER_GIVEN}
+use Rattle.pv_format.specs.Contents.{greatest_epoch}
 use Rattle.pv_format.specs.Message.{Envelope}
 use Rattle.pv_format.specs.Record.{Record, epoch_begun}
 use Rattle.pv_law_step.proofs.Appended.{steady}
@@ -12,7 +13,7 @@ use Rattle.pv_model.specs.Events.{Event}
 use Rattle.pv_protocol.specs.Arms.{Reached, waits, fires, reached, calls_of, attempted}
 use Rattle.pv_protocol.specs.Attempt.{Attempt, Begun, at_once, attempts, begun, given, delivered, lost, halted, opened, of_step, of_start}
 use Rattle.pv_protocol.specs.Lines.{Line}
-use Rattle.pv_protocol.specs.Records.{last_epoch, record_bytes, journal_bytes}
+use Rattle.pv_protocol.specs.Records.{record_bytes, journal_bytes}
 use Rattle.pv_protocol.specs.Start.{Started, site_start}
 use Rattle.pv_protocol.specs.State.{Setup, Running, Site, Input, submit, receive, tick}
 use Rattle.pv_protocol.specs.Step.{site_step}
@@ -22,7 +23,7 @@ use Rattle.pv_protocol.specs.WorldStep.{ended, transition_of}
 -- What a site has in memory then is of no lesser numbers; and where it was down, of a new epoch.
 pub record IsLater (old : Site) (running : Option Running) : Type 0 where
   pub up : (before after : Running) → old.running ≡ Some before → running ≡ Some after → Rises before after
-  pub start : (after : Running) → old.running ≡ None → running ≡ Some after → after.epoch ≡ last_epoch old.records + 1
+  pub start : (after : Running) → old.running ≡ None → running ≡ Some after → after.epoch ≡ greatest_epoch old.records + 1
 
 none-some : {A : Type 0} {o : Option A} {x : A} → o ≡ None → o ≡ Some x → ⊥
 none-some absent is = cc
@@ -90,10 +91,10 @@ module _ (setup : Setup) (world : World) where
   started-later : (n : ℕ) → (site_at world n).running ≡ None → IsLater (site_at world n) (of_start n (site_start setup (site_at world n).records)).running
   unfolding site_start
   started-later n is =
-      if_case (λ (s : Started). IsLater (site_at world n) (of_start n s).running) (nat_le NEVER_GIVEN (last_epoch (site_at world n).records + 1))
+      if_case (λ (s : Started). IsLater (site_at world n) (of_start n s).running) (nat_le NEVER_GIVEN (greatest_epoch (site_at world n).records + 1))
       (λ spent. down-later (site_at world n))
       (λ some. if_case (λ (s : Started). IsLater (site_at world n) (of_start n s).running)
-      (nat_lt setup.catalog.journal (journal_bytes (site_at world n).records + record_bytes (epoch_begun (last_epoch (site_at world n).records + 1))))
+      (nat_lt setup.catalog.journal (journal_bytes (site_at world n).records + record_bytes (epoch_begun (greatest_epoch (site_at world n).records + 1))))
       (λ full. down-later (site_at world n))
       (λ room. record {
         up = λ before after was now. absurd (none-some is was);

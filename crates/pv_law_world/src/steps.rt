@@ -1,11 +1,11 @@
 // Laws of single transitions.
 ghost use Rattle.std.specs.Prelude.{◌≡◌, ◌+◌, ℕ, Some, None, List, ◌++◌, All, IsSome};
+ghost use Rattle.pv_format.specs.Contents.{greatest_epoch};
 ghost use Rattle.pv_format.specs.Message.{Envelope};
 ghost use Rattle.pv_format.specs.Record.{Record};
 ghost use Rattle.pv_law_step.specs.Appends.{Rises};
 ghost use Rattle.pv_law_world.specs.Transitions.{site_of};
 ghost use Rattle.pv_model.specs.Events.{Event};
-ghost use Rattle.pv_protocol.specs.Records.{last_epoch};
 ghost use Rattle.pv_protocol.specs.State.{Setup, Running};
 ghost use Rattle.pv_protocol.specs.World.{World, site_at};
 ghost use Rattle.pv_protocol.specs.WorldStep.{transition_of};
@@ -43,5 +43,5 @@ pub fn numbers_rise_in_transitions()
     ensures up { (setup : Setup) (world : World) (event : Event) (n : ℕ) (before after : Running) → (site_at world n).running ≡ Some before →
         (site_at (transition_of setup world event).world n).running ≡ Some after → Rises before after }
     ensures start { (setup : Setup) (world : World) (event : Event) (n : ℕ) (after : Running) → (site_at world n).running ≡ None →
-        (site_at (transition_of setup world event).world n).running ≡ Some after → after.epoch ≡ last_epoch (site_at world n).records + 1 }
+        (site_at (transition_of setup world event).world n).running ≡ Some after → after.epoch ≡ greatest_epoch (site_at world n).records + 1 }
 {}

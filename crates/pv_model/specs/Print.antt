@@ -16,9 +16,11 @@ pub data Printed : Type 0 where
   item : List ℕ → ℤ → Printed
   end : Printed
 
+-- what ends a line
 abbrev pub line_feed : List ℕ
 line_feed = 10 ∷ []
 
+-- a number, `nothing`, or why the program declined
 abbrev pub reply_text : Reply → List ℕ
 reply_text (Value v) = signed_decimal v
 reply_text Nothing = codes "nothing"

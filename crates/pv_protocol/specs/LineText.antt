@@ -6,15 +6,9 @@ use Rattle.pv_base.specs.Catalog.{Declared}
 use Rattle.pv_base.specs.Polyvalue.{Case}
 use Rattle.pv_base.specs.Txn.{txn_text}
 use Rattle.pv_base.specs.declared.literal.Literal.{Literal}
-use Rattle.pv_base.specs.declared.reply.Decline.TheVariants.{Require, Overflow, ZeroDivisor}
-use Rattle.pv_base.specs.declared.reply.Reply.{Reply}
-use Rattle.pv_base.specs.declared.reply.Reply.TheVariants.{Value, Nothing, Declined}
+use Rattle.pv_model.specs.Print.{line_feed, reply_text}
 use Rattle.pv_protocol.specs.Lines.{Line, MessageKind}
 use Rattle.pv_protocol.specs.State.{Cause, conflict, outcome_limit, expired, grant_lost, journal_full}
-
--- what ends a line
-abbrev pub line_feed : List ℕ
-line_feed = 10 ∷ []
 
 -- the name of the item of this number
 abbrev pub name_of : Declared → ℕ → List ℕ
@@ -23,14 +17,6 @@ name_of catalog n = option_map_or (λ item. item.name) (slice_get catalog.items 
 -- each text of a list, with a space before it
 abbrev pub spaced : {A : Type 0} → (A → List ℕ) → List A → List ℕ
 spaced text things = flat_map (λ thing. codes " " ++ text thing) things
-
--- a number, `nothing`, or why the program declined
-abbrev pub reply_text : Reply → List ℕ
-reply_text (Value v) = signed_decimal v
-reply_text Nothing = codes "nothing"
-reply_text (Declined Require) = codes "declined-require"
-reply_text (Declined Overflow) = codes "declined-overflow"
-reply_text (Declined ZeroDivisor) = codes "declined-zero-divisor"
 
 -- One possible answer is certain.
 abbrev pub certainty : {A : Type 0} → List A → List ℕ

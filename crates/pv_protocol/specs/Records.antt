@@ -1,10 +1,10 @@
--- What a site's records say: outcomes, promises, the epoch, and how long the journal is that holds them.
-use Rattle.std.specs.Prelude.{ℕ, ◌+◌, max, Bool, false, ◌||◌, List, [], ◌∷◌, filter, Option, Some, None, is_none, if◌then◌else◌}
+-- What a site's records say: outcomes, promises, and how long the journal is that holds them.
+use Rattle.std.specs.Prelude.{ℕ, ◌+◌, Bool, false, ◌||◌, List, [], ◌∷◌, filter, Option, Some, None, is_none, if◌then◌else◌}
 use Rattle.std.specs.List.{sum_by}
 use Rattle.pv_base.specs.declared.txn.TxnId.{TxnId}
 use Rattle.pv_base.specs.Assignment.{is_same_txn, with_outcome}
 use Rattle.pv_format.specs.Length.{record_length}
-use Rattle.pv_format.specs.Record.{Record, epoch_begun, prepared, outcome_known}
+use Rattle.pv_format.specs.Record.{Record, prepared, outcome_known}
 
 -- The known outcome of the transaction: the first record of its outcome counts.
 abbrev pub known : List Record → TxnId → Option Bool
@@ -31,12 +31,6 @@ abbrev pub is_prepared : List Record → TxnId → Bool
 is_prepared [] txn = false
 is_prepared (prepared promised writes ∷ records) txn = is_same_txn txn promised || is_prepared records txn
 is_prepared (other ∷ records) txn = is_prepared records txn
-
--- the greatest epoch that is recorded, or 0
-abbrev pub last_epoch : List Record → ℕ
-last_epoch [] = 0
-last_epoch (epoch_begun epoch ∷ records) = max epoch (last_epoch records)
-last_epoch (other ∷ records) = last_epoch records
 
 -- how many bytes a record takes in the journal: a gate, a length and its content
 abbrev pub record_bytes : Record → ℕ

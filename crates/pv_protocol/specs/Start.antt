@@ -1,8 +1,9 @@
 -- How a site starts: in the epoch after the last one, which it records first.
 use Rattle.std.specs.Prelude.{ℕ, ◌+◌, nat_lt, nat_le, List, [], if◌then◌else◌}
 use Rattle.pv_base.specs.declared.limits.TheConstants.{NEVER_GIVEN}
+use Rattle.pv_format.specs.Contents.{greatest_epoch}
 use Rattle.pv_format.specs.Record.{Record, epoch_begun}
-use Rattle.pv_protocol.specs.Records.{last_epoch, record_bytes, journal_bytes}
+use Rattle.pv_protocol.specs.Records.{record_bytes, journal_bytes}
 use Rattle.pv_protocol.specs.State.{Setup, Running}
 
 -- what a site makes of a start
@@ -28,4 +29,4 @@ starting setup records epoch =
 -- A site with these records starts.
 unfoldable pub site_start : Setup → List Record → Started
 site_start setup records =
-    if nat_le NEVER_GIVEN (last_epoch records + 1) then no_epoch else starting setup records (last_epoch records + 1)
+    if nat_le NEVER_GIVEN (greatest_epoch records + 1) then no_epoch else starting setup records (greatest_epoch records + 1)

@@ -4,7 +4,7 @@ use Rattle.std.specs.Global.{Vec}
 use Rattle.std.proofs.lemmas.List.{append-nil, map-append, take_more, get_or-map, length-map}
 use Rattle.std.proofs.lemmas.Option.{slice_get-get_or}
 use Rattle.pv_bytes.specs.Reading.{Rest}
-use Rattle.pv_format.specs.Contents.{IsNoRecord, IsFirstBadContent, SpellRecords, last_epoch}
+use Rattle.pv_format.specs.Contents.{IsNoRecord, IsFirstBadContent, SpellRecords, greatest_epoch}
 use Rattle.pv_format.specs.FirstFault.{Fault, extra, HasFault, RecordFault, is_extra}
 use Rattle.pv_format.specs.Layout.{nothing_more, polyvalue_then, record_layout}
 use Rattle.pv_format.specs.Record as model
@@ -59,11 +59,11 @@ max_assoc : (a b c : ℕ) → max a (max b c) ≡ max (max a b) c
 max_assoc a b c = omega arith
 
 -- The greatest epoch is that of the records before, or that of the last one.
-pub last_epoch-more : (records : List model.Record) (value : model.Record) → last_epoch (records ++ value ∷ []) ≡ max (last_epoch records) (last_epoch (value ∷ []))
-last_epoch-more [] value = omega arith
-last_epoch-more (epoch_begun epoch ∷ records) value = ap (max epoch) (last_epoch-more records value) ∙ max_assoc epoch (last_epoch records) (last_epoch (value ∷ []))
-last_epoch-more (prepared txn writes ∷ records) value = last_epoch-more records value
-last_epoch-more (outcome_known txn commits ∷ records) value = last_epoch-more records value
+pub greatest_epoch-more : (records : List model.Record) (value : model.Record) → greatest_epoch (records ++ value ∷ []) ≡ max (greatest_epoch records) (greatest_epoch (value ∷ []))
+greatest_epoch-more [] value = omega arith
+greatest_epoch-more (epoch_begun epoch ∷ records) value = ap (max epoch) (greatest_epoch-more records value) ∙ max_assoc epoch (greatest_epoch records) (greatest_epoch (value ∷ []))
+greatest_epoch-more (prepared txn writes ∷ records) value = greatest_epoch-more records value
+greatest_epoch-more (outcome_known txn commits ∷ records) value = greatest_epoch-more records value
 
 module _ (contents : List (Vec ℕ)) (i : ℕ) (content : Vec ℕ) (inside : i < length contents) (is : content ≡ get_or contents i content) where
   bytes : Vec ℕ → List ℕ

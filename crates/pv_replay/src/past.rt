@@ -2,7 +2,7 @@
 ghost use Rattle.std.specs.Prelude.{◌≡◌, ◌≢◌, [], ◌∷◌, ℕ, List, max, All, MatchOption, IsSome, IfOk};
 ghost use Rattle.pv_base.specs.Answer.{Answers};
 ghost use Rattle.pv_base.specs.BigEndian.{AreBytes};
-ghost use Rattle.pv_format.specs.Contents.{IsFirstBadContent, IsNoRecord, SpellRecords, last_epoch};
+ghost use Rattle.pv_format.specs.Contents.{IsFirstBadContent, IsNoRecord, SpellRecords, greatest_epoch};
 ghost use Rattle.pv_format.specs.RecordSpelling.{SpellsRecord};
 ghost use Rattle.pv_replay.specs.Faults.{fault_of};
 ghost use Rattle.pv_replay.specs.Values.{contents_of, index_of, record_of, records_of};
@@ -27,7 +27,7 @@ pub struct Past {
 pub fn replay(alloc: Global, contents: &[Vec<u8>]) -> Result<Past, ReplayError>
     ensures answer { Answers (λ records. SpellRecords records (contents_of contents.now)) (IsFirstBadContent (contents_of contents.now))
         (λ past. records_of past.records.items) index_of result }
-    ensures epoch { IfOk result (λ past. past.epoch ≡ last_epoch (records_of past.records.items)) }
+    ensures epoch { IfOk result (λ past. past.epoch ≡ greatest_epoch (records_of past.records.items)) }
 {
     contents_are_bytes(contents);
     let mut epoch = 0;
@@ -63,7 +63,7 @@ fn content_is_bytes(content: &[u8])
 
 // The greater of this epoch and the record's, if it has one.
 fn later_epoch(epoch: u32, value: &Record) -> u32
-    ensures { result ≡ max epoch (last_epoch (record_of value.now ∷ [])) }
+    ensures { result ≡ max epoch (greatest_epoch (record_of value.now ∷ [])) }
 {
     match value {
         Record::Epoch(number) => epoch.max(*number),

@@ -10,7 +10,6 @@ use Rattle.pv_base.proofs.ContainsLemmas.{Contains-first, Contains-behind, Conta
 use Rattle.pv_base.specs.Catalog.{Declared, Item}
 use Rattle.pv_base.specs.declared.limits.TheConstants.{HELD_NAMES}
 use Rattle.pv_base.specs.declared.txn.TxnId.{TxnId}
-use Rattle.pv_format.specs.Contents as format
 use Rattle.pv_format.specs.Contents.{SpellRecords}
 use Rattle.pv_format.specs.Range.{IsRecordInRange}
 use Rattle.pv_format.specs.RecordSpelling.{SpellsRecord}
@@ -27,7 +26,7 @@ use Rattle.std.specs.Int.RustNames.{FitsSigned}
 use Rattle.pv_model.specs.Alternatives.{Read}
 use Rattle.pv_protocol.specs.Lock.{is_home, is_of_site}
 use Rattle.pv_protocol.specs.Outcome.{items_from}
-use Rattle.pv_protocol.specs.Records.{last_epoch, journal_bytes, record_bytes}
+use Rattle.pv_protocol.specs.Records.{journal_bytes, record_bytes}
 use Rattle.pv_protocol.specs.Shown.{shown_within}
 use Rattle.pv_protocol.specs.Width.{IsNarrow}
 use Rattle.pv_base.specs.declared.txn.SiteId.{SiteId}
@@ -41,13 +40,6 @@ use Rattle.pv_site.specs.SiteState.{setup_of}
 use Rattle.pv_site.specs.declared.parts.Parts.{Parts}
 use Rattle.pv_store.specs.Kept.{Kept}
 use Rattle.pv_store.specs.Refusals.{first_too_many, first_too_many_after, if_too_many, names_count, site_items, too_many_in, width}
-
--- The last epoch is the same by both definitions.
-pub epochs-same : (records : List Record) → format.last_epoch records ≡ last_epoch records
-epochs-same [] = refl
-epochs-same (epoch_begun epoch ∷ records) = ap (max epoch) (epochs-same records)
-epochs-same (prepared txn writes ∷ records) = epochs-same records
-epochs-same (outcome_known txn commits ∷ records) = epochs-same records
 
 sizes : (records : List Record) (contents : Contents) → SpellRecords records contents
     → sum_by (λ (content : List ℕ). 5 + length content) contents ≡ sum_by record_bytes records

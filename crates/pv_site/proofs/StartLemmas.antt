@@ -4,14 +4,14 @@ use Rattle.std.specs.Prelude.{nat_le, nat_lt, if◌then◌else◌, All}
 use Rattle.std.proofs.lemmas.Bool.Decides.{nat_tests}
 use Rattle.pv_base.specs.Catalog.{Declared}
 use Rattle.pv_base.specs.declared.limits.TheConstants.{NEVER_GIVEN, HELD_NAMES, MAX_SITES}
-use Rattle.pv_format.specs.Contents.{SpellRecords}
+use Rattle.pv_format.specs.Contents.{SpellRecords, greatest_epoch}
 use Rattle.pv_format.specs.Range.{IsRecordWithin}
 use Rattle.pv_protocol.specs.Here.{Here}
 use Rattle.pv_format.specs.Record.{Record, epoch_begun}
 use Rattle.pv_law_disk.specs.LogModel.{LogModel}
 use Rattle.pv_law_disk.proofs.LogLemmas.{Keeps-Adds, Keeps-MayAdd, Keeps-trans}
 use Rattle.pv_law_step.proofs.Lists.{all-from}
-use Rattle.pv_protocol.specs.Records.{last_epoch, journal_bytes, record_bytes}
+use Rattle.pv_protocol.specs.Records.{journal_bytes, record_bytes}
 use Rattle.pv_protocol.specs.Sound.{IsHereInRange, IsSetupInRange}
 use Rattle.pv_protocol.specs.Start.{just_started, site_start, starting, starts, too_long, no_epoch}
 use Rattle.pv_protocol.specs.State.{Running, Setup}
@@ -29,24 +29,24 @@ use Rattle.pv_site.specs.declared.parts.Parts.{Parts}
 use Rattle.pv_store.specs.Refusals.{too_many_in}
 
 module _ (setup : Setup) (records : List Record) where
-  spent-by : (b : Bool) → nat_le NEVER_GIVEN (last_epoch records + 1) ≡ b → b ≡ true
-      → (if b then no_epoch else starting setup records (last_epoch records + 1)) ≡ no_epoch
+  spent-by : (b : Bool) → nat_le NEVER_GIVEN (greatest_epoch records + 1) ≡ b → b ≡ true
+      → (if b then no_epoch else starting setup records (greatest_epoch records + 1)) ≡ no_epoch
   spent-by true at is = refl
   spent-by false at is = absurd (let wrong : ⊥ = cc in wrong)
 
   -- No epoch is left.
-  pub starts-not : NEVER_GIVEN ≤ last_epoch records + 1 → site_start setup records ≡ no_epoch
+  pub starts-not : NEVER_GIVEN ≤ greatest_epoch records + 1 → site_start setup records ≡ no_epoch
   unfolding site_start
-  starts-not most = spent-by (nat_le NEVER_GIVEN (last_epoch records + 1)) refl (grind (arith, nat_tests, most))
+  starts-not most = spent-by (nat_le NEVER_GIVEN (greatest_epoch records + 1)) refl (grind (arith, nat_tests, most))
 
-  more-by : (b : Bool) → nat_le NEVER_GIVEN (last_epoch records + 1) ≡ b → b ≡ false
-      → (if b then no_epoch else starting setup records (last_epoch records + 1)) ≡ starting setup records (last_epoch records + 1)
+  more-by : (b : Bool) → nat_le NEVER_GIVEN (greatest_epoch records + 1) ≡ b → b ≡ false
+      → (if b then no_epoch else starting setup records (greatest_epoch records + 1)) ≡ starting setup records (greatest_epoch records + 1)
   more-by false at is = refl
   more-by true at is = absurd (let wrong : ⊥ = cc in wrong)
 
-  starts-next : last_epoch records + 1 < NEVER_GIVEN → site_start setup records ≡ starting setup records (last_epoch records + 1)
+  starts-next : greatest_epoch records + 1 < NEVER_GIVEN → site_start setup records ≡ starting setup records (greatest_epoch records + 1)
   unfolding site_start
-  starts-next less = more-by (nat_le NEVER_GIVEN (last_epoch records + 1)) refl (grind (arith, nat_tests, less))
+  starts-next less = more-by (nat_le NEVER_GIVEN (greatest_epoch records + 1)) refl (grind (arith, nat_tests, less))
 
   full-by : (epoch : ℕ) (b : Bool) → b ≡ true → (if b then too_long (journal_bytes records + record_bytes (epoch_begun epoch)) else starts (just_started epoch) (epoch_begun epoch))
       ≡ too_long (journal_bytes records + record_bytes (epoch_begun epoch))
@@ -59,18 +59,18 @@ module _ (setup : Setup) (records : List Record) where
   fits-by epoch true is = absurd (let wrong : ⊥ = cc in wrong)
 
   -- The journal has no room, or it has.
-  pub starts-full : last_epoch records + 1 < NEVER_GIVEN → (length : ℕ) → length ≡ journal_bytes records + record_bytes (epoch_begun (last_epoch records + 1))
+  pub starts-full : greatest_epoch records + 1 < NEVER_GIVEN → (length : ℕ) → length ≡ journal_bytes records + record_bytes (epoch_begun (greatest_epoch records + 1))
       → setup.catalog.journal < length → site_start setup records ≡ too_long length
   starts-full less length is longer =
       starts-next less
-      ∙ (full-by (last_epoch records + 1) (nat_lt setup.catalog.journal (journal_bytes records + record_bytes (epoch_begun (last_epoch records + 1)))) (grind (arith, nat_tests, longer, is))
+      ∙ (full-by (greatest_epoch records + 1) (nat_lt setup.catalog.journal (journal_bytes records + record_bytes (epoch_begun (greatest_epoch records + 1)))) (grind (arith, nat_tests, longer, is))
       ∙ ap too_long (sym is))
 
-  pub starts-room : last_epoch records + 1 < NEVER_GIVEN → journal_bytes records + record_bytes (epoch_begun (last_epoch records + 1)) ≤ setup.catalog.journal
-      → site_start setup records ≡ starts (just_started (last_epoch records + 1)) (epoch_begun (last_epoch records + 1))
+  pub starts-room : greatest_epoch records + 1 < NEVER_GIVEN → journal_bytes records + record_bytes (epoch_begun (greatest_epoch records + 1)) ≤ setup.catalog.journal
+      → site_start setup records ≡ starts (just_started (greatest_epoch records + 1)) (epoch_begun (greatest_epoch records + 1))
   starts-room less room =
       starts-next less
-      ∙ fits-by (last_epoch records + 1) (nat_lt setup.catalog.journal (journal_bytes records + record_bytes (epoch_begun (last_epoch records + 1)))) (grind (arith, nat_tests, room))
+      ∙ fits-by (greatest_epoch records + 1) (nat_lt setup.catalog.journal (journal_bytes records + record_bytes (epoch_begun (greatest_epoch records + 1)))) (grind (arith, nat_tests, room))
 
 module _ {W : Type 0} (M : LogModel W) (old mid new : W) (me : ℕ) (catalog : Declared) (intact : M.is_intact old) (up : M.is_down old ≡ false) where
   -- The records couldn't be read.
@@ -110,7 +110,7 @@ module _ {W : Type 0} (M : LogModel W) (old mid new : W) (me : ℕ) (catalog : D
     mid-size : M.size mid ≡ journal_bytes (records_of found.past.records.items)
     mid-size = has.0.0.log.size ∙ (has.0.0.size ∙ size-journal (records_of found.past.records.items) has.0.0.contents has.0.0.spelled)
 
-    less-last : last_epoch (records_of found.past.records.items) + 1 < NEVER_GIVEN
+    less-last : greatest_epoch (records_of found.past.records.items) + 1 < NEVER_GIVEN
     less-last = subst (λ epoch. epoch + 1 < NEVER_GIVEN) has.1 less
 
     -- The epoch wasn't recorded.

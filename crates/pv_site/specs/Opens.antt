@@ -1,13 +1,13 @@
 -- What opening a site does, by its answer.
 use Rattle.std.specs.Prelude.{◌≡◌, ℕ, ◌+◌, ◌<◌, ◌≤◌, ◌++◌, ◌∷◌, [], false, List, Some, None, is_some, length, ◌==◌, Result, Ok, Err, ⊤}
 use Rattle.pv_base.specs.Catalog.{Declared}
-use Rattle.pv_format.specs.Contents.{SpellRecords, IsFirstBadContent}
+use Rattle.pv_format.specs.Contents.{SpellRecords, IsFirstBadContent, greatest_epoch}
 use Rattle.pv_format.specs.Record.{Record, epoch_begun}
 use Rattle.pv_format.specs.RecordSpelling.{SpellsRecord}
 use Rattle.pv_law_disk.specs.Log.{Keeps, Adds, MayAdd, StaysUp, GoesDown}
 use Rattle.pv_law_disk.specs.LogModel.{LogModel}
 use Rattle.pv_law_disk.specs.Size.{Contents, size_of}
-use Rattle.pv_protocol.specs.Records.{last_epoch, record_bytes}
+use Rattle.pv_protocol.specs.Records.{record_bytes}
 use Rattle.pv_protocol.specs.Start.{just_started, site_start, starts, too_long, no_epoch}
 use Rattle.pv_protocol.specs.State.{Running}
 use Rattle.pv_store.specs.Kept.{Kept}
@@ -37,11 +37,11 @@ module _ {W : Type 0} (M : LogModel W) where
     pub up : StaysUp M old new
     pub log : Keeps M old new
 
-  -- Records were read, the last epoch among them is this one, and it is said whether there were none.
+  -- Records were read, the greatest epoch among them is this one, and it is said whether there were none.
   abbrev pub HasFound : W → W → Found → Type 0
   HasFound old new found =
       let records = records_of found.past.records.items in
-      ((read : ReadsRecords old new records) × (found.first ≡ (length read.contents == 0))) × (found.past.epoch ≡ last_epoch records)
+      ((read : ReadsRecords old new records) × (found.first ≡ (length read.contents == 0))) × (found.past.epoch ≡ greatest_epoch records)
 
   -- What comes of reading the records, by the answer.
   abbrev pub ReadsPast : W → W → Result Found Refusal → Type 0

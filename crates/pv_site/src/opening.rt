@@ -1,7 +1,7 @@
 // How a site is opened on its log: it goes on from what its records say, in a new epoch.
 ghost use Rattle.std.specs.Prelude.{◌≡◌, ◌<◌, ◌≤◌, ◌+◌, ◌-◌, ◌^◌, ◌==◌, min, length, false, Ok, Err, IfOk};
+ghost use Rattle.pv_format.specs.Contents.{greatest_epoch};
 ghost use Rattle.pv_law_disk.specs.Size.{size_of};
-ghost use Rattle.pv_protocol.specs.Records.{last_epoch};
 ghost use Rattle.pv_protocol.specs.Sound.{IsSetupInRange};
 ghost use Rattle.pv_replay.specs.Values.{contents_of, records_of};
 ghost use Rattle.pv_site.specs.OnLog.{AreReady};
@@ -70,7 +70,7 @@ pub(crate) struct Opened {
 // What was read from a log.
 #[derive(Debug, Drop)]
 pub(crate) struct Found {
-    /// The records, and the last epoch.
+    /// The records, and the greatest epoch.
     pub(crate) past: Past,
     /// Whether there are none.
     pub(crate) first: bool,

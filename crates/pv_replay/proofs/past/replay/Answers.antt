@@ -4,14 +4,14 @@ use Rattle.std.specs.Global.{Vec}
 use Rattle.std.proofs.lemmas.List.{length-map, map-append, take_all}
 use Rattle.std.proofs.lemmas.Result.{err_from_is_err_and}
 use Rattle.pv_base.proofs.AnswerLemmas.{answered}
-use Rattle.pv_format.specs.Contents.{IsFirstBadContent, IsNoRecord, SpellRecords, last_epoch}
+use Rattle.pv_format.specs.Contents.{IsFirstBadContent, IsNoRecord, SpellRecords, greatest_epoch}
 use Rattle.pv_law_format.proofs.ReplayLemmas.{one-replay-answer}
 use Rattle.pv_replay.specs.Values.{contents_of, index_of, record_of, records_of}
 use Rattle.pv_replay.specs.declared.error.ReplayError.TheVariants.{BadRecord, NoMemory}
 use Rattle.pv_format.specs.RecordSpelling.{SpellsRecord}
 use Rattle.pv_replay.specs.declared.record.Record.{Record}
 use Rattle.pv_replay.specs.declared.past.Past.{Past}
-use Rattle.pv_replay.proofs.ReplayLemmas.{first_bad, records_more, last_epoch-more}
+use Rattle.pv_replay.proofs.ReplayLemmas.{first_bad, records_more, greatest_epoch-more}
 use Rattle.pv_replay.proofs.past.replay.Goals as goal
 
 -- A record was found, or none.
@@ -53,9 +53,9 @@ loop-content-preserved c =
       counted = let more = length-append c.loop-content.records.items (c.in-Some.record ∷ []) in let so_far = c.loop-content.invariant.counted in omega arith;
       spelled = records_more c.args.contents.now c.loop-content.content-index c.content-item.result c.loop-content-test.true c.content-item.is c.loop-content.records.items
           c.in-Some.record c.loop-content.invariant.spelled one;
-      epoch = c.later_epoch-epoch.ensures ∙ ap (λ n. max n (last_epoch (record_of c.in-Some.record ∷ []))) c.loop-content.invariant.epoch
-          ∙ sym (last_epoch-more (records_of c.loop-content.records.items) (record_of c.in-Some.record))
-          ∙ ap last_epoch (sym (map-append record_of c.loop-content.records.items (c.in-Some.record ∷ [])));
+      epoch = c.later_epoch-epoch.ensures ∙ ap (λ n. max n (greatest_epoch (record_of c.in-Some.record ∷ []))) c.loop-content.invariant.epoch
+          ∙ sym (greatest_epoch-more (records_of c.loop-content.records.items) (record_of c.in-Some.record))
+          ∙ ap greatest_epoch (sym (map-append record_of c.loop-content.records.items (c.in-Some.record ∷ [])));
     }
 
 pub returns-clause-answer : goal.returns-clause-answer

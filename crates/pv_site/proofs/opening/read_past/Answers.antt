@@ -5,7 +5,7 @@ use Rattle.std.proofs.lemmas.List.{length-map}
 use Rattle.pv_format.specs.Contents.{SpellRecords}
 use Rattle.pv_law_disk.specs.Size.{size_of}
 use Rattle.pv_replay.specs.Values.{contents_of, records_of}
-use Rattle.pv_site.proofs.OpenLemmas.{epochs-same, read-size, untold}
+use Rattle.pv_site.proofs.OpenLemmas.{read-size, untold}
 use Rattle.pv_site.proofs.opening.read_past.Goals as goal
 
 pub returns-then-length-clause-read : goal.returns-then-length-clause-read
@@ -38,5 +38,5 @@ returns-in-Ok-replay-clause-read g c =
         },
         c.is_empty.ensures ∙ ap (λ n. n == 0) (sym length_is),
       ),
-      c.in-Ok-replay.ensures.epoch ∙ epochs-same (records_of c.in-Ok-replay.past.records.items),
+      c.in-Ok-replay.ensures.epoch,
     )
