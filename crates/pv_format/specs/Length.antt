@@ -3,7 +3,7 @@ use Rattle.std.specs.Prelude.{ℕ, ℤ, ◌+◌, ◌*◌, List, length}
 use Rattle.std.specs.List.{sum_by}
 use Rattle.pv_base.specs.Polyvalue.{Case}
 use Rattle.pv_model.specs.Alternatives.{Read}
-use Rattle.pv_format.specs.Message.{Envelope, Message, lock, granted, denied, prepare, vote_yes, vote_no, outcome_told, ask, NoCause, grant_lost, journal_full}
+use Rattle.pv_format.specs.Message.{Envelope, Message, lock, granted, denied, prepare, vote_yes, vote_no, outcome_reported, ask, NoCause, grant_lost, journal_full}
 use Rattle.pv_format.specs.Record.{Record, epoch_begun, prepared, outcome_known}
 
 -- how many bytes a case has: the count of its literals, 10 bytes for each of them, and the value
@@ -37,7 +37,7 @@ body_length (denied txn item holder) = 13
 body_length (prepare txn grant writes) = 8 + reads_length writes
 body_length (vote_yes txn) = 0
 body_length (vote_no txn cause) = cause_length cause
-body_length (outcome_told txn commits) = 1
+body_length (outcome_reported txn commits) = 1
 body_length (ask txn) = 0
 
 -- how many bytes a message has, with its addresses

@@ -12,7 +12,7 @@ pub data NoCause : Type 0 where
   -- the journal with the record would have this length, above its limit
   journal_full : (length : ℕ) → NoCause
 
--- What a site tells another one about a transaction: two-phase commit (Gray, 1978), with locks asked for before it.
+-- What a site sends another one about a transaction: two-phase commit (Gray, 1978), with locks asked for before it.
 pub data Message : Type 0 where
   -- the coordinator asks for locks on these items, which are the receiver's
   lock : (txn : TxnId) (wants : List Want) → Message
@@ -26,8 +26,8 @@ pub data Message : Type 0 where
   vote_yes : (txn : TxnId) → Message
   -- the participant has not, and won't
   vote_no : (txn : TxnId) (cause : NoCause) → Message
-  -- the coordinator tells the outcome
-  outcome_told : (txn : TxnId) (commits : Bool) → Message
+  -- the coordinator reports the outcome
+  outcome_reported : (txn : TxnId) (commits : Bool) → Message
   -- the participant asks for the outcome
   ask : (txn : TxnId) → Message
 
@@ -39,7 +39,7 @@ txn_of (denied txn item holder) = txn
 txn_of (prepare txn grant writes) = txn
 txn_of (vote_yes txn) = txn
 txn_of (vote_no txn cause) = txn
-txn_of (outcome_told txn commits) = txn
+txn_of (outcome_reported txn commits) = txn
 txn_of (ask txn) = txn
 
 -- a message on its way, with the numbers of the sites that it comes from and goes to

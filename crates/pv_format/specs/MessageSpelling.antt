@@ -2,7 +2,7 @@
 use Rattle.std.specs.Prelude.{ℕ, List}
 use Rattle.pv_base.specs.BigEndian.{IsNumber}
 use Rattle.pv_base.specs.Want.{Want}
-use Rattle.pv_format.specs.Message.{Envelope, Message, lock, granted, denied, prepare, vote_yes, vote_no, outcome_told, ask, NoCause, grant_lost, journal_full, txn_of}
+use Rattle.pv_format.specs.Message.{Envelope, Message, lock, granted, denied, prepare, vote_yes, vote_no, outcome_reported, ask, NoCause, grant_lost, journal_full, txn_of}
 use Rattle.pv_format.specs.RecordSpelling.{SpellsReads}
 use Rattle.pv_format.specs.Spelling.{◌followed_by◌, IsEmpty, IsAllowed, IsSite, IsTruth, SpellsTxn, SpellsGrant, SpellsEntries, is_item_from}
 
@@ -14,7 +14,7 @@ kind_of (denied txn item holder) = 3
 kind_of (prepare txn grant writes) = 4
 kind_of (vote_yes txn) = 5
 kind_of (vote_no txn cause) = 6
-kind_of (outcome_told txn commits) = 7
+kind_of (outcome_reported txn commits) = 7
 kind_of (ask txn) = 8
 
 -- Items with whether the transaction may change them, at least so many.
@@ -34,7 +34,7 @@ SpellsBody (denied txn item holder) = IsAllowed 4 (is_item_from 0) item followed
 SpellsBody (prepare txn grant writes) = SpellsGrant grant followed_by SpellsReads 0 writes
 SpellsBody (vote_yes txn) = IsEmpty
 SpellsBody (vote_no txn cause) = SpellsNoCause cause
-SpellsBody (outcome_told txn commits) = IsTruth commits
+SpellsBody (outcome_reported txn commits) = IsTruth commits
 SpellsBody (ask txn) = IsEmpty
 
 -- A message is its kind, the sites that it comes from and goes to, its transaction, and what its kind has besides.

@@ -9,7 +9,7 @@ use Rattle.pv_base.specs.declared.txn.TxnId.{TxnId}
 use Rattle.pv_base.specs.Polyvalue.{Case, IsPolyvalue}
 use Rattle.pv_base.specs.Want.{Want}
 use Rattle.pv_model.specs.Alternatives.{Read}
-use Rattle.pv_format.specs.Message.{Envelope, Message, lock, granted, denied, prepare, vote_yes, vote_no, outcome_told, ask, NoCause, grant_lost, journal_full, txn_of}
+use Rattle.pv_format.specs.Message.{Envelope, Message, lock, granted, denied, prepare, vote_yes, vote_no, outcome_reported, ask, NoCause, grant_lost, journal_full, txn_of}
 use Rattle.pv_format.specs.Record.{Record, epoch_begun, prepared, outcome_known}
 
 -- The grant's epoch and number have 32 bits.
@@ -65,7 +65,7 @@ module _ (sites : ℕ) where
   IsBodyWithin (prepare txn grant writes) = IsGrantInRange grant × AreReadsWithin 0 writes
   IsBodyWithin (vote_yes txn) = ⊤
   IsBodyWithin (vote_no txn cause) = IsCauseInRange cause
-  IsBodyWithin (outcome_told txn commits) = ⊤
+  IsBodyWithin (outcome_reported txn commits) = ⊤
   IsBodyWithin (ask txn) = ⊤
 
   -- A message on its way between two of the sites, all of which is in range.

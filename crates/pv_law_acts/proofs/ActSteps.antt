@@ -172,14 +172,14 @@ module _ (setup : Setup) (w : World) (n : ℕ) where
         put-step running work.up (taking entry taken.site taken.grant taken.values) w.order
         (subst (λ t. NewEntry setup w (remembered w n (with_entry running (taking entry taken.site taken.grant taken.values))) n t (record (taking entry taken.site taken.grant taken.values) { age = 0 })) same-txn
         (has_taken (record entry { age = 0 }) taken works
-        (record { asks = may.asks; participant = may.participant; first = may.first; told = may.told; right = may.right })))
+        (record { asks = may.asks; participant = may.participant; first = may.first; reported = may.reported; right = may.right })))
         (as_was refl)
 
     count-step : (from : ℕ) → MayCount setup w n txn entry from → IsStep setup w (remembered w n (with_entry running (counting entry from)))
     count-step from may =
         put-step running work.up (counting entry from) w.order
         (subst (λ t. NewEntry setup w (remembered w n (with_entry running (counting entry from))) n t (record (counting entry from) { age = 0 })) same-txn
-        (has_counted (record entry { age = 0 }) from works (record { asks = may.asks; participant = may.participant; told = may.told })))
+        (has_counted (record entry { age = 0 }) from works (record { asks = may.asks; participant = may.participant; reported = may.reported })))
         (as_was refl)
 
     place-step : MayPlace setup entry

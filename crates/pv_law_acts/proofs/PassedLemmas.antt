@@ -6,7 +6,7 @@ use Rattle.pv_base.proofs.ContainsLemmas.{Contains-first, Contains-behind, Conta
 use Rattle.pv_base.proofs.MapLemmas.{Contains-unmap}
 use Rattle.pv_base.specs.declared.grant.GrantId.{GrantId}
 use Rattle.pv_base.specs.declared.txn.TxnId.{TxnId}
-use Rattle.pv_format.specs.Message.{Message, lock, granted, denied, prepare, vote_yes, vote_no, outcome_told, ask}
+use Rattle.pv_format.specs.Message.{Message, lock, granted, denied, prepare, vote_yes, vote_no, outcome_reported, ask}
 use Rattle.pv_format.specs.Record.{Record, epoch_begun, prepared, outcome_known}
 use Rattle.pv_law_acts.proofs.ListLemmas.{none-some, found-listed}
 use Rattle.pv_law_acts.proofs.NumberLemmas.{next-unpassed, given-passed}
@@ -57,7 +57,7 @@ module _ (setup : Setup) (w v : World) (step : IsStep setup w v) (all : AreNumbe
         taken = λ other h. ⊎_elim
             (λ before. was.taken other before)
             (λ (same : taken ≡ other). subst (λ (t : Taken). IsGrantPassed v t.site t.grant) same
-            (step.ids taken.site taken.grant (all.sent taken.site n (granted txn taken.grant taken.values) may.told).1))
+            (step.ids taken.site taken.grant (all.sent taken.site n (granted txn taken.grant taken.values) may.reported).1))
             (taken-either taken old.taken other h);
       }
   new-entry n txn entry (is_placed old works may order) =
@@ -74,7 +74,7 @@ module _ (setup : Setup) (w v : World) (step : IsStep setup w v) (all : AreNumbe
   old-message from to (prepare txn id writes) is = (step.txns txn is.0, step.ids to id is.1)
   old-message from to (vote_yes txn) is = step.txns txn is
   old-message from to (vote_no txn cause) is = step.txns txn is
-  old-message from to (outcome_told txn commits) is = step.txns txn is
+  old-message from to (outcome_reported txn commits) is = step.txns txn is
   old-message from to (ask txn) is = tt
 
   outcome-passed : (txn : TxnId) (commits : Bool) → HasOutcome w txn commits → IsPassed w txn
@@ -92,7 +92,7 @@ module _ (setup : Setup) (w v : World) (step : IsStep setup w v) (all : AreNumbe
   new-message from to (vote_yes txn) may =
       let found = prepared-listed (records_at w from) txn may.prepared in all.records from (prepared txn found.0) found.1
   new-message from to (vote_no txn cause) may = (all.sent to from (prepare txn may.id may.writes) may.asked).0
-  new-message from to (outcome_told txn commits) may = outcome-passed txn commits may.outcome
+  new-message from to (outcome_reported txn commits) may = outcome-passed txn commits may.outcome
   new-message from to (ask txn) may = tt
 
   old-record : (kept : Record) → IsRecordPassed w kept → IsRecordPassed v kept
@@ -104,7 +104,7 @@ module _ (setup : Setup) (w v : World) (step : IsStep setup w v) (all : AreNumbe
   new-record n (epoch_begun epoch) new = tt
   new-record n (prepared txn writes) new = (all.sent (home_of txn) n (prepare txn new.id writes) new.may.asked).0
   new-record n (outcome_known txn commits) new =
-      ⊎_elim (λ decided. (all.entries n txn decided.entry decided.works).passed) (λ may. all.sent (home_of txn) n (outcome_told txn commits) may.told) new
+      ⊎_elim (λ decided. (all.entries n txn decided.entry decided.works).passed) (λ may. all.sent (home_of txn) n (outcome_reported txn commits) may.reported) new
 
   old-place : (placed : Placed) → IsPlacePassed w placed → IsPlacePassed v placed
   old-place placed is = record { passed = step.txns placed.txn is.passed; taken = λ taken h. step.ids taken.site taken.grant (is.taken taken h) }

@@ -4,7 +4,7 @@ use Rattle.std.specs.List.{list_all}
 use Rattle.pv_base.specs.Want.{Want}
 use Rattle.pv_base.specs.declared.grant.GrantId.{GrantId}
 use Rattle.pv_base.specs.declared.txn.TxnId.{TxnId}
-use Rattle.pv_format.specs.Message.{Message, lock, granted, denied, prepare, vote_yes, vote_no, outcome_told, ask}
+use Rattle.pv_format.specs.Message.{Message, lock, granted, denied, prepare, vote_yes, vote_no, outcome_reported, ask}
 use Rattle.pv_law_acts.specs.Seen.{records_at, memory_at, Holds, Works, Sent, parts_of, wants_at, IsDead}
 use Rattle.pv_model.specs.Alternatives.{Read}
 use Rattle.pv_model.specs.Syntax.{Program}
@@ -38,12 +38,12 @@ pub record MayGrant (world : World) (n : ℕ) (running : Running) (txn : TxnId) 
   pub unprepared : is_prepared (records_at world n) txn ≡ false
   pub free : first_conflict running.grants wants ≡ None
 
--- The coordinator may take this grant of a participant: it still asks for locks, has none of this participant, and was told of it.
+-- The coordinator may take this grant of a participant: it still asks for locks, has none of this participant, and was sent it.
 pub record MayTake (setup : Setup) (world : World) (n : ℕ) (txn : TxnId) (entry : Entry) (taken : Taken) : Type 0 where
   pub asks : entry.stage ≡ locking
   pub participant : is_among (parts_of setup entry) taken.site ≡ true
   pub first : has_taken entry taken.site ≡ false
-  pub told : Sent world taken.site n (granted txn taken.grant taken.values)
+  pub reported : Sent world taken.site n (granted txn taken.grant taken.values)
   pub right : are_values_of (wants_at setup entry taken.site) taken.values ≡ true
 
 -- The transaction may be at its lock point: the grants of all participants were taken.
@@ -55,7 +55,7 @@ pub record MayPlace (setup : Setup) (entry : Entry) : Type 0 where
 pub record MayCount (setup : Setup) (world : World) (n : ℕ) (txn : TxnId) (entry : Entry) (from : ℕ) : Type 0 where
   pub asks : entry.stage ≡ voting
   pub participant : is_among (parts_of setup entry) from ≡ true
-  pub told : Sent world from n (vote_yes txn)
+  pub reported : Sent world from n (vote_yes txn)
 
 -- The participant may promise these writes: its coordinator asks for the vote under a grant that stands.
 pub record MayPromise (world : World) (n : ℕ) (txn : TxnId) (id : GrantId) (wants : List Want) (writes : List Read) : Type 0 where
@@ -68,9 +68,9 @@ pub record MayCommit (setup : Setup) (entry : Entry) : Type 0 where
   pub asks : entry.stage ≡ voting
   pub whole : list_all (is_among entry.votes) (parts_of setup entry) ≡ true
 
--- The site may record this outcome: the transaction's site tells it, and it isn't known.
+-- The site may record this outcome: the transaction's site reports it, and it isn't known.
 pub record MayLearn (world : World) (n : ℕ) (txn : TxnId) (commits : Bool) : Type 0 where
-  pub told : Sent world (home_of txn) n (outcome_told txn commits)
+  pub reported : Sent world (home_of txn) n (outcome_reported txn commits)
   pub unknown : is_undecided (records_at world n) txn ≡ true
 
 -- The site may start: it is one of the world's, and down.
@@ -92,7 +92,7 @@ abbrev pub AreShown : Setup → World → ℕ → List Want → List Read → Ty
 AreShown setup world n wants values =
     values ≡ map (λ (want : Want). record { item = want.item; cases = shown setup.catalog (records_at world n) want.item }) wants
 
--- A participant tells of a grant that stands and isn't prepared under, with the values of now.
+-- A participant reports a grant that stands and isn't prepared under, with the values of now.
 pub record MaySendGranted (setup : Setup) (world : World) (from to : ℕ) (txn : TxnId) (id : GrantId) (values : List Read) : Type 0 where
   pub wants : List Want
   pub holds : Holds world from (record { txn = txn; id = id; wants = wants; age = 0 })
@@ -129,7 +129,7 @@ pub record MaySendNo (world : World) (from to : ℕ) (txn : TxnId) : Type 0 wher
   pub asked : Sent world to from (prepare txn id writes)
   pub home : to ≡ home_of txn
 
--- The transaction's site tells that it has committed, or that it never will.
+-- The transaction's site reports that it has committed, or that it never will.
 abbrev pub HasOutcome : World → TxnId → Bool → Type 0
 HasOutcome world txn true = is_committed world txn ≡ true
 HasOutcome world txn false = IsDead world txn
@@ -146,5 +146,5 @@ MaySend setup world from to (denied txn item holder) = MaySendDenied world from 
 MaySend setup world from to (prepare txn id writes) = MaySendPrepare setup world from to txn id writes
 MaySend setup world from to (vote_yes txn) = MaySendYes world from to txn
 MaySend setup world from to (vote_no txn cause) = MaySendNo world from to txn
-MaySend setup world from to (outcome_told txn commits) = MaySendOutcome world from txn commits
+MaySend setup world from to (outcome_reported txn commits) = MaySendOutcome world from txn commits
 MaySend setup world from to (ask txn) = ⊤

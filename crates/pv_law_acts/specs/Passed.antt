@@ -2,7 +2,7 @@
 use Rattle.std.specs.Prelude.{◌≡◌, ℕ, List, Contains, ⊤}
 use Rattle.pv_base.specs.declared.grant.GrantId.{GrantId}
 use Rattle.pv_base.specs.declared.txn.TxnId.{TxnId}
-use Rattle.pv_format.specs.Message.{Message, lock, granted, denied, prepare, vote_yes, vote_no, outcome_told, ask}
+use Rattle.pv_format.specs.Message.{Message, lock, granted, denied, prepare, vote_yes, vote_no, outcome_reported, ask}
 use Rattle.pv_format.specs.Record.{Record, epoch_begun, prepared, outcome_known}
 use Rattle.pv_law_acts.specs.Acts.{remembered, with_begun, with_granted}
 use Rattle.pv_law_acts.specs.Guards.{MayBegin, MayGrant}
@@ -28,7 +28,7 @@ IsMessagePassed world from to (denied txn item holder) = IsPassed world txn
 IsMessagePassed world from to (prepare txn id writes) = IsPassed world txn × IsGrantPassed world to id
 IsMessagePassed world from to (vote_yes txn) = IsPassed world txn
 IsMessagePassed world from to (vote_no txn cause) = IsPassed world txn
-IsMessagePassed world from to (outcome_told txn commits) = IsPassed world txn
+IsMessagePassed world from to (outcome_reported txn commits) = IsPassed world txn
 IsMessagePassed world from to (ask txn) = ⊤
 
 -- The number of a record's transaction is passed.

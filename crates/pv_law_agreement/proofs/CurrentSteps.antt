@@ -1,4 +1,4 @@
--- Each step keeps that what was told with a grant is current while the grant stands.
+-- Each step keeps that what was reported with a grant is current while the grant stands.
 use Rattle.std.proofs.Common.{◌≡◌, ⊎_elim, ℕ, ℤ, pos, false, Some, None, Option, List, [], ◌∷◌, map, refl, sym, ap, subst, ◌∙◌}
 use Rattle.std.specs.Prelude.{IsSome, is_some, if◌then◌else◌}
 use Rattle.std.specs.List.{Contains}
@@ -93,9 +93,9 @@ module _ (setup : Setup) (w v : World) (step : IsStep setup w v) (grounds : HasG
           heeds-front (records_at w n) (r ∷ []) a with_it,
         )
 
-  told-new : (from to : ℕ) (txn : TxnId) (id : GrantId) (values : List Read) → MaySendGranted setup w from to txn id values → is_prepared (records_at v from) txn ≡ false
+  reported-new : (from to : ℕ) (txn : TxnId) (id : GrantId) (values : List Read) → MaySendGranted setup w from to txn id values → is_prepared (records_at v from) txn ≡ false
       → AreCurrent setup v from values
-  told-new from to txn id values may unprepared a heeds item cases wrote =
+  reported-new from to txn id values may unprepared a heeds item cases wrote =
       let made = made-for (shown setup.catalog (records_at w from)) item may.wants cases (subst (λ vs. written item vs ≡ Some cases) may.shown_now wrote) in
       let stays = value-by from txn (record { txn = txn; id = id; wants = may.wants; age = 0 }) item may.holds refl made.1 unprepared a (step.records from) heeds in
       ap (λ cs. number_at cs a) made.0
@@ -103,20 +103,20 @@ module _ (setup : Setup) (w v : World) (step : IsStep setup w v) (grounds : HasG
       ∙ sym stays.0
 
   module _ (before : IsSerialized setup w) where
-    told-old : (from to : ℕ) (txn : TxnId) (id : GrantId) (values : List Read) → Sent w from to (granted txn id values) → (grant : Grant) → Holds w from grant → grant.txn ≡ txn → grant.id ≡ id
+    reported-old : (from to : ℕ) (txn : TxnId) (id : GrantId) (values : List Read) → Sent w from to (granted txn id values) → (grant : Grant) → Holds w from grant → grant.txn ≡ txn → grant.id ≡ id
         → is_prepared (records_at v from) txn ≡ false → AreCurrent setup v from values
-    told-old from to txn id values sent grant holds of is unprepared a heeds item cases wrote =
-        let wanted = subst (λ xs. Contains xs item) (grounds.told from to txn id values sent grant holds of is) (written-listed item values (ap is_some wrote)) in
+    reported-old from to txn id values sent grant holds of is unprepared a heeds item cases wrote =
+        let wanted = subst (λ xs. Contains xs item) (grounds.reported from to txn id values sent grant holds of is) (written-listed item values (ap is_some wrote)) in
         let stays = value-by from txn grant item holds of wanted unprepared a (step.records from) heeds in
-        before.told from to txn id values sent grant holds of is (unprepared-before from txn unprepared) a stays.1 item cases wrote ∙ sym stays.0
+        before.reported from to txn id values sent grant holds of is (unprepared-before from txn unprepared) a stays.1 item cases wrote ∙ sym stays.0
 
     pub current-kept : (from to : ℕ) (txn : TxnId) (id : GrantId) (values : List Read) → Sent v from to (granted txn id values) → (grant : Grant) → Holds v from grant → grant.txn ≡ txn → grant.id ≡ id
         → is_prepared (records_at v from) txn ≡ false → AreCurrent setup v from values
     current-kept from to txn id values sent grant holds of is unprepared =
         ⊎_elim
         (λ old. ⊎_elim
-        (λ held. told-old from to txn id values old grant held of is unprepared)
-        (λ new. absurd (new.fresh (subst (IsGrantPassed w from) (sym is) (grounds.told_passed from to txn id values old))))
+        (λ held. reported-old from to txn id values old grant held of is unprepared)
+        (λ new. absurd (new.fresh (subst (IsGrantPassed w from) (sym is) (grounds.granted_passed from to txn id values old))))
         (step.grants from grant holds))
-        (λ new. told-new from to txn id values new unprepared)
+        (λ new. reported-new from to txn id values new unprepared)
         (sent-either setup w v step from to (granted txn id values) sent)

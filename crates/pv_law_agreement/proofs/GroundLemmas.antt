@@ -67,7 +67,7 @@ module _ (setup : Setup) (w : World) (settled : IsSettled setup w) where
         unplaced = λ asks. false_from_ne_true (commits (txns_of w.order) txn) (λ listed.
             let place = listed-placed w.order txn listed in is.unplaced asks place.placed place.listed place.is);
         wants = entry-wants n txn entry works;
-        taken = λ taken h. let from = is.taken taken h in record { told = from.told; items = from.items };
+        taken = λ taken h. let from = is.taken taken h in record { reported = from.reported; items = from.items };
       }
 
   whole-place : (placed : Placed) → Contains w.order placed → (site : ℕ) → Contains (participants_of placed.program setup.catalog.items) site
@@ -84,7 +84,7 @@ module _ (setup : Setup) (w : World) (settled : IsSettled setup w) where
     compatible = coherent.compatible;
     wants = λ n placed grant in_order holds of.
         ((coherent.sent (home_of grant.txn) n (lock grant.txn grant.wants) (coherent.asked n grant holds)).placed placed in_order (sym of)).are;
-    told = λ from to txn id values sent grant holds of is.
+    reported = λ from to txn id values sent grant holds of is.
         let right = coherent.sent from to (granted txn id values) sent in
         let asked : Sent w to from (lock txn grant.wants) =
         subst (λ m. Sent w m from (lock txn grant.wants)) (ap home_of of ∙ sym right.home) (subst (λ t. Sent w (home_of grant.txn) from (lock t grant.wants)) of (coherent.asked from grant holds)) in
@@ -95,7 +95,7 @@ module _ (setup : Setup) (w : World) (settled : IsSettled setup w) where
     promised = λ n txn writes listed.
         let writing = (coherent.records n (prepared txn writes) listed).writing in
         record { placed = writing.placed; in_order = writing.in_order; is = writing.own; items = writing.items };
-    told_passed = λ from to txn id values sent. (passed.sent from to (granted txn id values) sent).1;
+    granted_passed = λ from to txn id values sent. (passed.sent from to (granted txn id values) sent).1;
     taken_passed = λ placed taken in_order h. (passed.order placed in_order).taken taken h;
     held_passed = λ n grant holds. (passed.grants n grant holds).1;
     committed = λ txn is.

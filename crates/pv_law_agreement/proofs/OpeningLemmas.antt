@@ -45,7 +45,7 @@ sequence-opens setup = record {
 
 pub support-opens : (setup : Setup) → IsSupported (opening setup)
 support-opens setup = record {
-  told = λ from to txn id values sent. absurd (Contains-nil _ sent);
+  reported = λ from to txn id values sent. absurd (Contains-nil _ sent);
   taken = λ n txn entry works taken listed. absurd (no-work setup n txn entry works);
   asked = λ from to txn id writes sent. absurd (Contains-nil _ sent);
   promised = λ n txn writes listed. absurd (no-promise setup n txn writes listed);
@@ -53,7 +53,7 @@ support-opens setup = record {
 
 pub values-open : (setup : Setup) → IsSerialized setup (opening setup)
 values-open setup = record {
-  told = λ from to txn id values sent grant holds of is unprepared. absurd (Contains-nil _ sent);
+  reported = λ from to txn id values sent grant holds of is unprepared. absurd (Contains-nil _ sent);
   taken = λ n txn entry works votes taken listed. absurd (no-work setup n txn entry works);
   asked = λ from to txn id writes sent. absurd (Contains-nil _ sent);
   promised = λ n txn writes listed. absurd (no-promise setup n txn writes listed);

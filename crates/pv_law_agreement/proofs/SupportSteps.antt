@@ -73,9 +73,9 @@ module _ (setup : Setup) (w v : World) (step : IsStep setup w v) (grounds : HasG
   wider : (reads : List Read) → AreOfOrder w reads → AreOfOrder v reads
   wider reads fixed = fixed-wider (commits (txns_of w.order)) (commits (txns_of v.order)) still-placed reads fixed
 
-  -- What is told now.
-  told-new : (from to : ℕ) (txn : TxnId) (id : GrantId) (values : List Read) → MaySendGranted setup w from to txn id values → AreOfOrder w values
-  told-new from to txn id values may =
+  -- What is reported now.
+  reported-new : (from to : ℕ) (txn : TxnId) (id : GrantId) (values : List Read) → MaySendGranted setup w from to txn id values → AreOfOrder w values
+  reported-new from to txn id values may =
       let show : Want → Read = λ (want : Want). record { item = want.item; cases = shown setup.catalog (records_at w from) want.item } in
       subst (AreOfOrder w) (sym may.shown_now)
       (all-from (λ (r : Read). DependsOnlyOn (commits (txns_of w.order)) r.cases) (map show may.wants) (λ r h.
@@ -98,7 +98,7 @@ module _ (setup : Setup) (w v : World) (step : IsStep setup w v) (grounds : HasG
   taken-new n txn _ (has_begun program home fresh given runs) taken listed = absurd (Contains-nil taken listed)
   taken-new n txn _ (has_taken entry new works may) taken listed =
       All-contains (λ (t : Taken). AreOfOrder w t.values) _ taken
-      (with-taken-all (λ (t : Taken). AreOfOrder w t.values) _ entry.taken (before.told new.site n txn new.grant new.values may.told)
+      (with-taken-all (λ (t : Taken). AreOfOrder w t.values) _ entry.taken (before.reported new.site n txn new.grant new.values may.reported)
       (all-from (λ (t : Taken). AreOfOrder w t.values) entry.taken (λ t h. before.taken n txn entry works t h)))
       listed
   taken-new n txn _ (is_placed entry works may grown_by) taken listed = before.taken n txn entry works taken listed
@@ -106,7 +106,7 @@ module _ (setup : Setup) (w v : World) (step : IsStep setup w v) (grounds : HasG
 
   pub support-kept : IsSupported v
   support-kept = record {
-    told = λ from to txn id values sent. wider values (⊎_elim (λ old. before.told from to txn id values old) (λ new. told-new from to txn id values new) (sent-either setup w v step from to (granted txn id values) sent));
+    reported = λ from to txn id values sent. wider values (⊎_elim (λ old. before.reported from to txn id values old) (λ new. reported-new from to txn id values new) (sent-either setup w v step from to (granted txn id values) sent));
     taken = λ n txn entry works taken listed. wider taken.values
         (⊎_elim (λ old. before.taken n txn entry old taken listed) (λ new. taken-new n txn entry new taken listed) (step.entries n txn entry works));
     asked = λ from to txn id writes sent. wider writes (⊎_elim (λ old. before.asked from to txn id writes old) (λ new. asked-new from to txn id writes new) (sent-either setup w v step from to (prepare txn id writes) sent));

@@ -148,7 +148,7 @@ module _ (setup : Setup) (w v : World) (step : IsStep setup w v) (gw : HasGround
       was-held taken listed grant holds of id =
           ⊎_elim
           (λ old. record { grant = grant; holds = old; of = of; id = id })
-          (λ new. absurd (new.fresh (subst (IsGrantPassed w taken.site) (sym id) (gw.told_passed taken.site n txn taken.grant taken.values (right.taken taken listed).told))))
+          (λ new. absurd (new.fresh (subst (IsGrantPassed w taken.site) (sym id) (gw.granted_passed taken.site n txn taken.grant taken.values (right.taken taken listed).reported))))
           (step.grants taken.site grant holds)
 
       bound-stands : (taken : Taken) → Contains entry.taken taken → IsBoundBy v txn (record { site = taken.site; grant = taken.grant }) → Stands taken
@@ -218,11 +218,11 @@ module _ (setup : Setup) (w v : World) (step : IsStep setup w v) (gw : HasGround
         read-last =
             let own = stands taken listed a fits in_a in
             let agree = among-agrees (txns_of w.order) a in
-            let told = (right.taken taken listed).told in
+            let reported = (right.taken taken listed).reported in
             let depends : DependsOnlyOn (commits (txns_of w.order)) cases =
             of-some (DependsOnlyOn (commits (txns_of w.order))) (written item taken.values) cases (written-fixed (commits (txns_of w.order)) item taken.values (supported.taken n txn entry works taken listed)) has in
             number-fixed (commits (txns_of w.order)) cases depends a (cut_to a) (λ t is_placed. sym (agree t is_placed))
-            ∙ before.told site n txn taken.grant taken.values told own.grant own.holds own.of own.id (not-prepared site) (cut_to a) (gw.heeded (cut_to a) (falls a fits) site) item cases has
+            ∙ before.reported site n txn taken.grant taken.values reported own.grant own.holds own.of own.id (not-prepared site) (cut_to a) (gw.heeded (cut_to a) (falls a fits) site) item cases has
             ∙ none-pending-agrees setup w orderly (cut_to a) (falls a fits) item site home none-pending
             ∙ ap (λ (rows : List Row). value_in rows item)
             (serial-alike (declared_rows setup.catalog) (programs_of w.order) (cut_to a) a (λ t is_placed. agree t (ap (λ ts. commits ts t) (sym (txns-of-programs w.order)) ∙ is_placed)))
@@ -271,7 +271,7 @@ module _ (setup : Setup) (w v : World) (step : IsStep setup w v) (gw : HasGround
 
     pub serialized-kept : IsSerialized setup v
     serialized-kept = record {
-      told = λ from to txn id values sent grant holds of is unprepared. current-kept setup w v step gw before from to txn id values sent grant holds of is unprepared;
+      reported = λ from to txn id values sent grant holds of is unprepared. current-kept setup w v step gw before from to txn id values sent grant holds of is unprepared;
       taken = λ n txn entry works votes taken listed.
           ⊎_elim (λ old. taken-old n txn entry old votes taken listed) (λ new. taken-new n txn entry new works votes taken listed) (step.entries n txn entry works);
       asked = λ from to txn id writes sent.

@@ -21,7 +21,7 @@ use Rattle.pv_protocol.specs.World.{World}
 module _ (setup : Setup) (world : World) where
   -- What was taken from a participant was sent by it, and is of the items that were asked for.
   pub record IsRightlyTaken (n : ℕ) (txn : TxnId) (entry : Entry) (taken : Taken) : Type 0 where
-    pub told : Sent world taken.site n (granted txn taken.grant taken.values)
+    pub reported : Sent world taken.site n (granted txn taken.grant taken.values)
     pub items : map (λ value. value.item) taken.values ≡ map (λ want. want.item) (wants_at setup entry taken.site)
 
   -- An entry is of its site's own transaction, which isn't committed, of a program that can run, and in the order exactly where it asks for votes. Its grants
@@ -51,12 +51,12 @@ module _ (setup : Setup) (world : World) where
     pub compatible : (n : ℕ) (grant other : Grant) → Holds world n grant → Holds world n other → (grant.txn ≡ other.txn → ⊥) → AreCompatible grant.wants other.wants
     pub wants : (n : ℕ) (placed : Placed) (grant : Grant) → Contains world.order placed → Holds world n grant → grant.txn ≡ placed.txn
         → grant.wants ≡ wants_of placed.program setup.catalog.items n
-    pub told : (from to : ℕ) (txn : TxnId) (id : GrantId) (values : List Read) → Sent world from to (granted txn id values)
+    pub reported : (from to : ℕ) (txn : TxnId) (id : GrantId) (values : List Read) → Sent world from to (granted txn id values)
         → (grant : Grant) → Holds world from grant → grant.txn ≡ txn → grant.id ≡ id → map (λ value. value.item) values ≡ map (λ want. want.item) grant.wants
     pub asked : (from to : ℕ) (txn : TxnId) (id : GrantId) (writes : List Read) → Sent world from to (prepare txn id writes) → IsRightlyAsked to txn id writes
     pub promised : (n : ℕ) (txn : TxnId) (writes : List Read) → Contains (records_at world n) (prepared txn writes)
         → ArePromised setup.catalog world.order n txn writes
-    pub told_passed : (from to : ℕ) (txn : TxnId) (id : GrantId) (values : List Read) → Sent world from to (granted txn id values) → IsGrantPassed world from id
+    pub granted_passed : (from to : ℕ) (txn : TxnId) (id : GrantId) (values : List Read) → Sent world from to (granted txn id values) → IsGrantPassed world from id
     pub taken_passed : (placed : Placed) (taken : TakenGrant) → Contains world.order placed → Contains placed.grants taken → IsGrantPassed world taken.site taken.grant
     pub held_passed : (n : ℕ) (grant : Grant) → Holds world n grant → IsGrantPassed world n grant.id
     pub committed : (txn : TxnId) → IsTrue (is_committed world txn) → IsPreparedByParticipants setup world txn

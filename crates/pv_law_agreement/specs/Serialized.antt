@@ -21,10 +21,10 @@ module _ (setup : Setup) (world : World) where
       (assignment : List TxnId) → Heeds (records_at world n) assignment → (item : ℕ) (cases : List (Case ℤ)) → written item values ≡ Some cases
       → number_at cases assignment ≡ item_value setup.catalog (records_at world n) item assignment
 
-  -- What was told with a grant is current as long as the grant stands and its transaction isn't prepared. From the lock point on, what
+  -- What was reported with a grant is current as long as the grant stands and its transaction isn't prepared. From the lock point on, what
   -- was taken is what the serial run has before the transaction; and what is asked for and promised is what it leaves.
   pub record IsSerialized : Type 0 where
-    pub told : (from to : ℕ) (txn : TxnId) (id : GrantId) (values : List Read) → Sent world from to (granted txn id values)
+    pub reported : (from to : ℕ) (txn : TxnId) (id : GrantId) (values : List Read) → Sent world from to (granted txn id values)
         → (grant : Grant) → Holds world from grant → grant.txn ≡ txn → grant.id ≡ id → is_prepared (records_at world from) txn ≡ false → AreCurrent from values
     pub taken : (n : ℕ) (txn : TxnId) (entry : Entry) → Works world n txn entry → entry.stage ≡ voting → (taken : Taken) → Contains entry.taken taken
         → AreBefore setup.catalog world txn taken.values

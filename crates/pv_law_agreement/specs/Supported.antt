@@ -17,9 +17,9 @@ module _ (world : World) where
   abbrev pub AreOfOrder : List Read → Type 0
   AreOfOrder reads = AreFixedBy (commits (txns_of world.order)) reads
 
-  -- All that is told, taken, asked and promised does.
+  -- All that is reported, taken, asked and promised does.
   pub record IsSupported : Type 0 where
-    pub told : (from to : ℕ) (txn : TxnId) (id : GrantId) (values : List Read) → Sent world from to (granted txn id values) → AreOfOrder values
+    pub reported : (from to : ℕ) (txn : TxnId) (id : GrantId) (values : List Read) → Sent world from to (granted txn id values) → AreOfOrder values
     pub taken : (n : ℕ) (txn : TxnId) (entry : Entry) → Works world n txn entry → (taken : Taken) → Contains entry.taken taken → AreOfOrder taken.values
     pub asked : (from to : ℕ) (txn : TxnId) (id : GrantId) (writes : List Read) → Sent world from to (prepare txn id writes) → AreOfOrder writes
     pub promised : (n : ℕ) (txn : TxnId) (writes : List Read) → Contains (records_at world n) (prepared txn writes) → AreOfOrder writes

@@ -24,7 +24,7 @@ pub fn steps_keep_values()
         FitsFallBack world after → IsSupported world → IsInSequence world → IsSerialized setup world → IsSerialized setup after }
 {}
 
-/// Where a run begins, nothing is promised, taken, told or asked.
+/// Where a run begins, nothing is promised, taken, reported or asked.
 pub fn runs_begin_right()
     ensures sequence { (setup : Setup) → IsInSequence (opening setup) }
     ensures support { (setup : Setup) → IsSupported (opening setup) }

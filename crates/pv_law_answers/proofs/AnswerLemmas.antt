@@ -40,7 +40,7 @@ use Rattle.pv_protocol.specs.WorldStep.{Transition}
 commit-of : (n : ℕ) (note : Note) (t : TxnId) (replies : List Reply) → line_of n note ≡ Line.commit t replies → note ≡ committed t replies
 commit-of n (began u) t replies is = absurd (let wrong : ⊥ = cc in wrong)
 commit-of n (committed u others) t replies is =
-    let own : u ≡ t = cc in let told : others ≡ replies = cc in λ i. committed (own i) (told i)
+    let own : u ≡ t = cc in let reported : others ≡ replies = cc in λ i. committed (own i) (reported i)
 commit-of n (refused u cause) t replies is = absurd (let wrong : ⊥ = cc in wrong)
 commit-of n (full bytes) t replies is = absurd (let wrong : ⊥ = cc in wrong)
 commit-of n spent t replies is = absurd (let wrong : ⊥ = cc in wrong)

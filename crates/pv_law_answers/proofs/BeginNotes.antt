@@ -6,7 +6,7 @@ use Rattle.pv_base.proofs.MapLemmas.{Contains-unmap}
 use Rattle.pv_base.specs.Want.{Want}
 use Rattle.pv_base.specs.declared.grant.GrantId.{GrantId}
 use Rattle.pv_base.specs.declared.txn.TxnId.{TxnId}
-use Rattle.pv_format.specs.Message.{Message, lock, granted, denied, prepare, vote_yes, vote_no, outcome_told, ask, NoCause}
+use Rattle.pv_format.specs.Message.{Message, lock, granted, denied, prepare, vote_yes, vote_no, outcome_reported, ask, NoCause}
 use Rattle.pv_law_step.proofs.StepCases.{submit-case, lock-case, granted-case, denied-case, prepare-case, yes-case, no-case, outcome-case, ask-case}
 use Rattle.pv_law_step.specs.GrantCases as of_grants
 use Rattle.pv_law_step.specs.LockCases as of_locks
@@ -54,7 +54,7 @@ module _ (here : Here) (t : TxnId) where
 
   lock-none : (from : ℕ) (txn : TxnId) (wants : List Want) (step : Step) → of_locks.LockCase here from txn wants step → Notes step → ⊥
   lock-none from txn wants step (of_locks.ignored h) = none-noted
-  lock-none from txn wants step (of_locks.told_again grant h i j) = none-noted
+  lock-none from txn wants step (of_locks.granted_again grant h i j) = none-noted
   lock-none from txn wants step (of_locks.misfits grant h i j) = none-noted
   lock-none from txn wants step (of_locks.denies conflict h i j) = none-noted
   lock-none from txn wants step (of_locks.no_grant_left h i) = spent-noted
@@ -121,7 +121,7 @@ module _ (here : Here) (t : TxnId) where
   message-none from (prepare txn grant writes) = prepare-none from txn grant writes _ (prepare-case here from txn grant writes)
   message-none from (vote_yes txn) = yes-none from txn _ (yes-case here from txn)
   message-none from (vote_no txn cause) = no-none from txn cause _ (no-case here from txn cause)
-  message-none from (outcome_told txn outcome) = outcome-none from txn outcome _ (outcome-case here from txn outcome)
+  message-none from (outcome_reported txn outcome) = outcome-none from txn outcome _ (outcome-case here from txn outcome)
   message-none from (ask txn) = ask-none from txn _ (ask-case here from txn)
 
   pub begin-noted : (input : Input) → Notes (step_on here input) → IsBeginning here input t

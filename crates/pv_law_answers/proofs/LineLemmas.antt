@@ -25,7 +25,7 @@ use Rattle.pv_protocol.specs.Step.{site_step}
 use Rattle.pv_protocol.specs.World.{World, site_at, with_done}
 use Rattle.pv_protocol.specs.WorldStep.{ended}
 
--- None of the lines tells what becomes of a transaction.
+-- None of the lines says what becomes of a transaction.
 abbrev pub AreQuiet : List Line → Type 0
 AreQuiet lines = (line : Line) → Contains lines line → IsTxnLine line → ⊥
 
@@ -145,8 +145,8 @@ module _ (setup : Setup) (world : World) (line : Line) (decides : IsTxnLine line
   start-quietly n started lines after (whole found' n' attempt' arm) h = start-quiet n started line h decides
   start-quietly n started lines after (broken found' after' n' attempt' stops) h = broken-quiet n stops line h decides
 
-  once-quiet : (told : List Line) (left : World) (lines : List Line) (after : World) → Ends (at_once told left) lines after → AreQuiet told → Contains lines line → ⊥
-  once-quiet told left lines after (at_once_done told' left') quiet h = quiet line h decides
+  once-quiet : (reported : List Line) (left : World) (lines : List Line) (after : World) → Ends (at_once reported left) lines after → AreQuiet reported → Contains lines line → ⊥
+  once-quiet reported left lines after (at_once_done reported' left') quiet h = quiet line h decides
 
   given-noted : (event : Event) (n : ℕ) (input : Input) (found : World) → Gives world event n input found → (site_at found n).records ≡ (site_at world n).records → (running : Option Running) → (site_at world n).running ≡ running
       → (lines : List Line) (after : World) → Ends (given setup found n input running) lines after → Contains lines line → IsNoted setup world event line after
@@ -171,7 +171,7 @@ module _ (setup : Setup) (world : World) (line : Line) (decides : IsTxnLine line
   opened-quiet n (Some running) lines after ends h = once-quiet (Line.up n ∷ []) world lines after ends (quiet-one (Line.up n) (λ d. d)) h
   opened-quiet n None lines after ends h = start-quietly n (site_start setup (site_at world n).records) lines after ends h
 
-  -- A line that tells that is of a note of a step that ended.
+  -- A line that says so is of a note of a step that ended.
   pub line-noted : (event : Event) (lines : List Line) (after : World) → Ends (begun setup world event) lines after → Contains lines line → IsNoted setup world event line after
   unfolding begun
   line-noted (Event.submit n query text program) lines after ends h =

@@ -7,7 +7,7 @@ use Rattle.pv_base.specs.Want.{Want}
 use Rattle.pv_base.specs.declared.grant.GrantId.{GrantId}
 use Rattle.pv_base.specs.declared.reply.Reply.{Reply}
 use Rattle.pv_base.specs.declared.txn.TxnId.{TxnId}
-use Rattle.pv_format.specs.Message.{Message, lock, granted, denied, prepare, vote_yes, vote_no, outcome_told, ask, NoCause}
+use Rattle.pv_format.specs.Message.{Message, lock, granted, denied, prepare, vote_yes, vote_no, outcome_reported, ask, NoCause}
 use Rattle.pv_format.specs.Record.{outcome_known}
 use Rattle.pv_law_step.proofs.StepCases.{submit-case, lock-case, granted-case, denied-case, prepare-case, yes-case, no-case, outcome-case, ask-case}
 use Rattle.pv_law_step.specs.GrantCases as of_grants
@@ -51,7 +51,7 @@ module _ (here : Here) (t : TxnId) (replies : List Reply) where
 
   lock-none : (from : ℕ) (txn : TxnId) (wants : List Want) (step : Step) → of_locks.LockCase here from txn wants step → Notes step → ⊥
   lock-none from txn wants step (of_locks.ignored h) = none-noted
-  lock-none from txn wants step (of_locks.told_again grant h i j) = none-noted
+  lock-none from txn wants step (of_locks.granted_again grant h i j) = none-noted
   lock-none from txn wants step (of_locks.misfits grant h i j) = none-noted
   lock-none from txn wants step (of_locks.denies conflict h i j) = none-noted
   lock-none from txn wants step (of_locks.no_grant_left h i) = other-noted _ (λ same. let wrong : ⊥ = cc in wrong)
@@ -115,8 +115,8 @@ module _ (here : Here) (t : TxnId) (replies : List Reply) where
       let answers = replies_of (here.records ++ outcome_known entry.txn true ∷ []) (voted entry from) in
       let is : committed entry.txn answers ≡ committed t replies = ⊎_elim (λ one. one) (λ none. absurd (none-noted none)) (Contains-cases (committed entry.txn answers) [] (committed t replies) noted) in
       let own : entry.txn ≡ t = cc in
-      let told : answers ≡ replies = cc in
-      record { from = from; asked = txn; is_yes = refl; entry = entry; vote = h; is = own; answers = sym told; step = sym same }
+      let reported : answers ≡ replies = cc in
+      record { from = from; asked = txn; is_yes = refl; entry = entry; vote = h; is = own; answers = sym reported; step = sym same }
 
   message-noted : (from : ℕ) (message : Message) → Notes (on_message here from message) → IsCommitting here (receive from message) t replies
   message-noted from (lock txn wants) noted = absurd (lock-none from txn wants _ (lock-case here from txn wants) noted)
@@ -125,7 +125,7 @@ module _ (here : Here) (t : TxnId) (replies : List Reply) where
   message-noted from (prepare txn grant writes) noted = absurd (prepare-none from txn grant writes _ (prepare-case here from txn grant writes) noted)
   message-noted from (vote_yes txn) noted = yes-noted from txn _ (yes-case here from txn) refl noted
   message-noted from (vote_no txn cause) noted = absurd (no-none from txn cause _ (no-case here from txn cause) noted)
-  message-noted from (outcome_told txn outcome) noted = absurd (outcome-none from txn outcome _ (outcome-case here from txn outcome) noted)
+  message-noted from (outcome_reported txn outcome) noted = absurd (outcome-none from txn outcome _ (outcome-case here from txn outcome) noted)
   message-noted from (ask txn) noted = absurd (ask-none from txn _ (ask-case here from txn) noted)
 
   -- A commit is noted where the last vote comes.

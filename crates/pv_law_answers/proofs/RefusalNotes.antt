@@ -7,7 +7,7 @@ use Rattle.pv_base.proofs.MapLemmas.{Contains-unmap}
 use Rattle.pv_base.specs.Want.{Want}
 use Rattle.pv_base.specs.declared.grant.GrantId.{GrantId}
 use Rattle.pv_base.specs.declared.txn.TxnId.{TxnId}
-use Rattle.pv_format.specs.Message.{Message, lock, granted, denied, prepare, vote_yes, vote_no, outcome_told, ask, NoCause}
+use Rattle.pv_format.specs.Message.{Message, lock, granted, denied, prepare, vote_yes, vote_no, outcome_reported, ask, NoCause}
 use Rattle.pv_format.specs.Record.{outcome_known}
 use Rattle.pv_law_acts.proofs.MemoryLemmas.{entry-txn, left-none}
 use Rattle.pv_law_acts.specs.Seen.{ageless_entry, work_in}
@@ -66,7 +66,7 @@ module _ (here : Here) (t : TxnId) (cause : Cause) where
 
   lock-none : (from : ℕ) (txn : TxnId) (wants : List Want) (step : Step) → of_locks.LockCase here from txn wants step → Notes step → ⊥
   lock-none from txn wants step (of_locks.ignored h) noted = none-noted noted
-  lock-none from txn wants step (of_locks.told_again grant h i j) noted = none-noted noted
+  lock-none from txn wants step (of_locks.granted_again grant h i j) noted = none-noted noted
   lock-none from txn wants step (of_locks.misfits grant h i j) noted = none-noted noted
   lock-none from txn wants step (of_locks.denies clash h i j) noted = none-noted noted
   lock-none from txn wants step (of_locks.no_grant_left h i) noted = let same = one-noted _ noted in let wrong : ⊥ = cc in wrong
@@ -133,13 +133,13 @@ module _ (here : Here) (t : TxnId) (cause : Cause) where
       subst (Refuses here t (receive from (vote_yes txn))) (same-cause entry.txn why same) (by_room from txn entry h (same-txn entry.txn why same) j is)
   yes-noted from txn step (of_votes.commits entry h i j) is noted = let same = one-noted _ noted in absurd (let wrong : ⊥ = cc in wrong)
 
-  no-noted : (from : ℕ) (txn : TxnId) (told : NoCause) (step : Step) → of_votes.NoCase here from txn told step → step_on here (receive from (vote_no txn told)) ≡ step → Notes step
-      → Refuses here t (receive from (vote_no txn told)) cause
-  no-noted from txn told step (of_votes.no_entry h) is noted = absurd (none-noted noted)
-  no-noted from txn told step (of_votes.ignored entry h i) is noted = absurd (none-noted noted)
-  no-noted from txn told step (of_votes.refuses entry h) is noted =
-      let same = one-noted (refused entry.txn (cause_of from told)) noted in
-      subst (Refuses here t (receive from (vote_no txn told))) (same-cause entry.txn (cause_of from told) same) (by_vote from txn told entry h (same-txn entry.txn (cause_of from told) same) is)
+  no-noted : (from : ℕ) (txn : TxnId) (reported : NoCause) (step : Step) → of_votes.NoCase here from txn reported step → step_on here (receive from (vote_no txn reported)) ≡ step → Notes step
+      → Refuses here t (receive from (vote_no txn reported)) cause
+  no-noted from txn reported step (of_votes.no_entry h) is noted = absurd (none-noted noted)
+  no-noted from txn reported step (of_votes.ignored entry h i) is noted = absurd (none-noted noted)
+  no-noted from txn reported step (of_votes.refuses entry h) is noted =
+      let same = one-noted (refused entry.txn (cause_of from reported)) noted in
+      subst (Refuses here t (receive from (vote_no txn reported))) (same-cause entry.txn (cause_of from reported) same) (by_vote from txn reported entry h (same-txn entry.txn (cause_of from reported) same) is)
 
   tick-noted : Notes (on_tick here) → Refuses here t tick cause
   unfolding on_tick
@@ -154,8 +154,8 @@ module _ (here : Here) (t : TxnId) (cause : Cause) where
   message-noted from (denied txn item holder) noted = denied-noted from txn item holder _ (denied-case here from txn item holder) refl noted
   message-noted from (prepare txn grant writes) noted = absurd (prepare-none from txn grant writes _ (prepare-case here from txn grant writes) noted)
   message-noted from (vote_yes txn) noted = yes-noted from txn _ (yes-case here from txn) refl noted
-  message-noted from (vote_no txn told) noted = no-noted from txn told _ (no-case here from txn told) refl noted
-  message-noted from (outcome_told txn outcome) noted = absurd (outcome-none from txn outcome _ (outcome-case here from txn outcome) noted)
+  message-noted from (vote_no txn reported) noted = no-noted from txn reported _ (no-case here from txn reported) refl noted
+  message-noted from (outcome_reported txn outcome) noted = absurd (outcome-none from txn outcome _ (outcome-case here from txn outcome) noted)
   message-noted from (ask txn) noted = absurd (ask-none from txn _ (ask-case here from txn) noted)
 
   pub refusal-noted : (input : Input) → Notes (step_on here input) → Refuses here t input cause

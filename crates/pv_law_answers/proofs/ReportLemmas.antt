@@ -40,13 +40,13 @@ of-cases k (down site) n value is = absurd (let wrong : ⊥ = cc in wrong)
 
 -- An item that can be read isn't held, and shows these cases.
 
-unheld : (holder : Option TxnId) (value told : List (Case ℤ)) → shown_unless_held holder value ≡ cases told → (is_none holder ≡ true) × (value ≡ told)
-unheld None value told is = (refl, let same : value ≡ told = cc in same)
-unheld (Some holder) value told is = absurd (let wrong : ⊥ = cc in wrong)
+unheld : (holder : Option TxnId) (value reported : List (Case ℤ)) → shown_unless_held holder value ≡ cases reported → (is_none holder ≡ true) × (value ≡ reported)
+unheld None value reported is = (refl, let same : value ≡ reported = cc in same)
+unheld (Some holder) value reported is = absurd (let wrong : ⊥ = cc in wrong)
 
-readable-with : (site : ℕ) (memory : Option Running) (n : ℕ) (value told : List (Case ℤ)) → reading_at site memory n value ≡ cases told → (is_readable memory n ≡ true) × (value ≡ told)
-readable-with site None n value told is = absurd (let wrong : ⊥ = cc in wrong)
-readable-with site (Some running) n value told is = unheld (holder_of running.grants n) value told is
+readable-with : (site : ℕ) (memory : Option Running) (n : ℕ) (value reported : List (Case ℤ)) → reading_at site memory n value ≡ cases reported → (is_readable memory n ≡ true) × (value ≡ reported)
+readable-with site None n value reported is = absurd (let wrong : ⊥ = cc in wrong)
+readable-with site (Some running) n value reported is = unheld (holder_of running.grants n) value reported is
 
 -- An item's line stands behind the three on transactions.
 
@@ -163,8 +163,8 @@ module _ (setup : Setup) (world : World) where
 
 -- A report's transition prints the report, and changes nothing.
 
-once-come : (told : List Line) (left : World) (lines : List Line) (after : World) → MayCome (at_once told left) lines after → (lines ≡ told) × (after ≡ left)
-once-come told left lines after (anywhere.without_attempt lines' after') = (refl, refl)
+once-come : (reported : List Line) (left : World) (lines : List Line) (after : World) → MayCome (at_once reported left) lines after → (lines ≡ reported) × (after ≡ left)
+once-come reported left lines after (anywhere.without_attempt lines' after') = (refl, refl)
 
 any-report : (setup : Setup) (now : World) (event : Event) (lines : List Line) (left : World) → MayCome (begun setup now event) lines left → event ≡ report → (lines ≡ report_of setup now) × (left ≡ now)
 unfolding begun

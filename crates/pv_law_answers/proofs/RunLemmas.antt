@@ -56,7 +56,7 @@ pub is-transition : (setup : Setup) (first : World) (earlier : List Transition) 
 is-transition setup first [] t later (transitions.one_more first' t' later' is rest) = is
 is-transition setup first (e ∷ earlier) t later (transitions.one_more first' e' rest' is rest) = is-transition setup e.world earlier t later rest
 
--- A line of a transition of a run that tells what becomes of a transaction is of a note.
+-- A line of a transition of a run that says what becomes of a transaction is of a note.
 pub noted-there : (setup : Setup) (now : World) (t : Transition) (line : Line) → t ≡ transition_of setup now t.event → IsTxnLine line → Contains t.lines line → IsNoted setup now t.event line t.world
 unfolding transition_of
 noted-there setup now t line is decides listed =

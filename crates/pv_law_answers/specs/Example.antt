@@ -1,4 +1,4 @@
--- On from the doubt of the eventful run, one message at a time: an outcome is made, told and recorded, and outlasts a restart; or the doubtful
+-- On from the doubt of the eventful run, one message at a time: an outcome is made, reported and recorded, and outlasts a restart; or the doubtful
 -- item is read.
 use Rattle.std.specs.Prelude.{true, List, [], ◌∷◌, ◌++◌, codes}
 use Rattle.pv_base.specs.declared.txn.TxnId.{TxnId}

@@ -10,7 +10,7 @@ use Rattle.pv_protocol.specs.State.{Setup, Arm, Running, Input, submit, receive,
 use Rattle.pv_protocol.specs.Step.{site_step}
 use Rattle.pv_protocol.specs.World.{World, site_at, with_done}
 
--- The line tells what becomes of a transaction: it has begun, has committed, or is refused.
+-- The line says what becomes of a transaction: it has begun, has committed, or is refused.
 abbrev pub IsTxnLine : Line → Type 0
 IsTxnLine (Line.txn txn) = ⊤
 IsTxnLine (Line.commit txn replies) = ⊤
@@ -24,7 +24,7 @@ pub data Gives (world : World) : Event → ℕ → Input → World → Type 0 wh
       → Gives world (Event.deliver number) envelope.to (receive envelope.from envelope.message) (with_done world number)
   time : (n : ℕ) → Gives world (Event.tick n) n tick world
 
--- What an event has begun ends so: with its lines at once, or an attempt ends whole, or it is broken and one line tells that.
+-- What an event has begun ends so: with its lines at once, or an attempt ends whole, or it is broken and one line says so.
 pub data Ends : Begun → List Line → World → Type 0 where
   at_once_done : (lines : List Line) (world : World) → Ends (at_once lines world) lines world
   whole : (world : World) (n : ℕ) (attempt : Attempt) (arm : Option Arm) → Ends (attempts world n attempt) attempt.lines (completed world n attempt arm)

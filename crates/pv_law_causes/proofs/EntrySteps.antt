@@ -14,7 +14,7 @@ use Rattle.pv_base.specs.Want.{Want}
 use Rattle.pv_base.specs.declared.grant.GrantId.{GrantId}
 use Rattle.pv_base.specs.declared.limits.TheConstants.{TICKS}
 use Rattle.pv_base.specs.declared.txn.TxnId.{TxnId}
-use Rattle.pv_format.specs.Message.{Message, lock, granted, denied, prepare, vote_yes, vote_no, outcome_told, ask, NoCause}
+use Rattle.pv_format.specs.Message.{Message, lock, granted, denied, prepare, vote_yes, vote_no, outcome_reported, ask, NoCause}
 use Rattle.pv_law_acts.proofs.ListLemmas.{none-some, listed-any, listed-among, found-listed}
 use Rattle.pv_law_acts.proofs.MemoryLemmas.{entry-txn}
 use Rattle.pv_law_acts.proofs.NumberLemmas.{next-unpassed}
@@ -188,7 +188,7 @@ module _ (setup : Setup) (w : World) (n : ℕ) (running : Running) (ready : IsRe
   lock-entry : (from : ℕ) (asked : TxnId) (wants : List Want) (step : Step) → of_locks.LockCase (here_at setup w n running) from asked wants step
       → entry_found step.running txn ≡ Some after → entry_found running txn ≡ Some after
   lock-entry from asked wants step (of_locks.ignored h) found = found
-  lock-entry from asked wants step (of_locks.told_again grant h i j) found = found
+  lock-entry from asked wants step (of_locks.granted_again grant h i j) found = found
   lock-entry from asked wants step (of_locks.misfits grant h i j) found = found
   lock-entry from asked wants step (of_locks.denies clash h i j) found = found
   lock-entry from asked wants step (of_locks.no_grant_left h i) found = found
@@ -317,7 +317,7 @@ module _ (setup : Setup) (w : World) (n : ℕ) (running : Running) (ready : IsRe
   message-entry from (prepare asked grant writes) found = untouched _ refl (prepare-entry from asked grant writes _ (prepare-case (here_at setup w n running) from asked grant writes) found)
   message-entry from (vote_yes asked) found = yes-entry from asked _ (yes-case (here_at setup w n running) from asked) found
   message-entry from (vote_no asked cause) found = no-entry-step from asked cause _ (no-case (here_at setup w n running) from asked cause) found
-  message-entry from (outcome_told asked commits) found = untouched _ refl (outcome-entry from asked commits _ (outcome-case (here_at setup w n running) from asked commits) found)
+  message-entry from (outcome_reported asked commits) found = untouched _ refl (outcome-entry from asked commits _ (outcome-case (here_at setup w n running) from asked commits) found)
   message-entry from (ask asked) found = untouched _ refl (ask-entry from asked _ (ask-case (here_at setup w n running) from asked) found)
 
   ticked : entry_found (on_tick (here_at setup w n running)).running txn ≡ Some after → Is tick

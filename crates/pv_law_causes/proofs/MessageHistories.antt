@@ -10,7 +10,7 @@ use Rattle.pv_protocol.specs.Records.{is_prepared}
 use Rattle.pv_base.proofs.ContainsLemmas.{Contains-nil}
 use Rattle.pv_base.specs.Want.{Want}
 use Rattle.pv_base.specs.declared.txn.TxnId.{TxnId}
-use Rattle.pv_format.specs.Message.{Message, lock, granted, denied, prepare, vote_yes, vote_no, outcome_told, ask, NoCause, grant_lost, journal_full}
+use Rattle.pv_format.specs.Message.{Message, lock, granted, denied, prepare, vote_yes, vote_no, outcome_reported, ask, NoCause, grant_lost, journal_full}
 use Rattle.pv_format.specs.Record.{prepared}
 use Rattle.pv_law_acts.proofs.StepLemmas.{acts-hold, sent-each}
 use Rattle.pv_law_acts.specs.Acts.{Acts}
@@ -46,7 +46,7 @@ Ascends (denied txn item holder) = ⊤
 Ascends (prepare txn grant writes) = ⊤
 Ascends (vote_yes txn) = ⊤
 Ascends (vote_no txn cause) = ⊤
-Ascends (outcome_told txn commits) = ⊤
+Ascends (outcome_reported txn commits) = ⊤
 Ascends (ask txn) = ⊤
 
 -- A place in more transitions.
@@ -80,7 +80,7 @@ module _ (setup : Setup) where
   new-ascends world from to (prepare txn grant writes) may = tt
   new-ascends world from to (vote_yes txn) may = tt
   new-ascends world from to (vote_no txn cause) may = tt
-  new-ascends world from to (outcome_told txn commits) may = tt
+  new-ascends world from to (outcome_reported txn commits) may = tt
   new-ascends world from to (ask txn) may = tt
 
   pub locks-ascend : (world : World) → Acts setup (opening setup) world → LocksAscend world
@@ -125,7 +125,7 @@ module _ (setup : Setup) where
     stays from (granted txn grant values) was = tt
     stays from (prepare txn grant writes) was = tt
     stays from (vote_yes txn) was = tt
-    stays from (outcome_told txn commits) was = tt
+    stays from (outcome_reported txn commits) was = tt
     stays from (ask txn) was = tt
 
     abbrev here : Place More
@@ -191,7 +191,7 @@ module _ (setup : Setup) where
             by (granted txn grant values) is = tt
             by (prepare txn grant writes) is = tt
             by (vote_yes txn) is = tt
-            by (outcome_told txn commits) is = tt
+            by (outcome_reported txn commits) is = tt
             by (ask txn) is = tt
 
       came-more : MessagesCameOf setup first earlier → MessagesCameOf setup first More

@@ -206,7 +206,7 @@ module _ (setup : Setup) (w : World) (event : Event) where
   end-opens n started case untimed lines after (anywhere.with_record stops appended is) = broken-move w.fresh n (Some appended) (λ m apart. untimed m)
 
   pub come-move : (b : Begun) → Makes b → (lines : List Line) (after : World) → MayCome b lines after → IsMove setup w event after
-  come-move b (settles told after move) lines after' (anywhere.without_attempt told' world') = move
+  come-move b (settles reported after move) lines after' (anywhere.without_attempt reported' world') = move
   come-move b (steps fresh n running input takes untimed) lines after (anywhere.by_attempt before' after' n' attempt' lines' ends) =
       end-steps fresh n running input takes untimed lines after ends
   come-move b (opens n started case untimed) lines after (anywhere.by_attempt before' after' n' attempt' lines' ends) = end-opens n started case untimed lines after ends

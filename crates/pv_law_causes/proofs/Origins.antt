@@ -12,7 +12,7 @@ use Rattle.pv_base.specs.Assignment.{is_same_txn}
 use Rattle.pv_base.specs.Want.{Want}
 use Rattle.pv_base.specs.declared.grant.GrantId.{GrantId}
 use Rattle.pv_base.specs.declared.txn.TxnId.{TxnId}
-use Rattle.pv_format.specs.Message.{Message, lock, granted, denied, prepare, vote_yes, vote_no, outcome_told, ask, NoCause, grant_lost, journal_full}
+use Rattle.pv_format.specs.Message.{Message, lock, granted, denied, prepare, vote_yes, vote_no, outcome_reported, ask, NoCause, grant_lost, journal_full}
 use Rattle.pv_format.specs.Record.{prepared}
 use Rattle.pv_law_acts.proofs.ListLemmas.{any-listed, none-found}
 use Rattle.pv_law_events.proofs.FoundLemmas.{listed-found}
@@ -75,7 +75,7 @@ module _ (here : Here) (order : IsInOrder here.running) (input : Input) where
   Origin (granted txn grant values) = ⊤
   Origin (prepare txn grant writes) = ⊤
   Origin (vote_yes txn) = ⊤
-  Origin (outcome_told txn commits) = ⊤
+  Origin (outcome_reported txn commits) = ⊤
   Origin (ask txn) = ⊤
 
   abbrev Origins : List Outgoing → Type 0
@@ -90,7 +90,7 @@ module _ (here : Here) (order : IsInOrder here.running) (input : Input) where
 
   outcome-origins : (txn : TxnId) (commits : Bool) (sites : List ℕ) → Origins (outcome_sends txn commits sites)
   outcome-origins txn commits sites sent h =
-      let which = Contains-unmap (λ site. record { to = site; message = outcome_told txn commits }) sites sent h in subst (λ (o : Outgoing). Origin o.message) which.1.1 tt
+      let which = Contains-unmap (λ site. record { to = site; message = outcome_reported txn commits }) sites sent h in subst (λ (o : Outgoing). Origin o.message) which.1.1 tt
 
   lock-origins : (txn : TxnId) (parts : List Part) → Origins (lock_sends txn parts)
   lock-origins txn parts sent h =
@@ -133,19 +133,19 @@ module _ (here : Here) (order : IsInOrder here.running) (input : Input) where
   no-case-origins from txn cause step (of_votes.ignored entry h i) = no-origins
   no-case-origins from txn cause step (of_votes.refuses entry h) = outcome-origins entry.txn false (participants here entry)
 
-  told-origins : (from : ℕ) (txn : TxnId) (commits : Bool) (step : Step) → of_outcomes.OutcomeCase here from txn commits step → Origins step.sends
-  told-origins from txn commits step (of_outcomes.not_its_site h) = no-origins
-  told-origins from txn commits step (of_outcomes.known_already h) = no-origins
-  told-origins from txn commits step (of_outcomes.no_room h i j) = no-origins
-  told-origins from txn commits step (of_outcomes.learns h i j) = no-origins
-  told-origins from txn commits step (of_outcomes.nothing_to_do h i j) = no-origins
-  told-origins from txn commits step (of_outcomes.releases h i j) = no-origins
+  reported-origins : (from : ℕ) (txn : TxnId) (commits : Bool) (step : Step) → of_outcomes.OutcomeCase here from txn commits step → Origins step.sends
+  reported-origins from txn commits step (of_outcomes.not_its_site h) = no-origins
+  reported-origins from txn commits step (of_outcomes.known_already h) = no-origins
+  reported-origins from txn commits step (of_outcomes.no_room h i j) = no-origins
+  reported-origins from txn commits step (of_outcomes.learns h i j) = no-origins
+  reported-origins from txn commits step (of_outcomes.nothing_to_do h i j) = no-origins
+  reported-origins from txn commits step (of_outcomes.releases h i j) = no-origins
 
   ask-origins : (from : ℕ) (txn : TxnId) (step : Step) → of_outcomes.AskCase here from txn step → Origins step.sends
   ask-origins from txn step (of_outcomes.not_issued h) = no-origins
-  ask-origins from txn step (of_outcomes.has_committed h i) = one-origin from (outcome_told txn true) tt
+  ask-origins from txn step (of_outcomes.has_committed h i) = one-origin from (outcome_reported txn true) tt
   ask-origins from txn step (of_outcomes.still_works h i j) = no-origins
-  ask-origins from txn step (of_outcomes.will_not_commit h i j) = one-origin from (outcome_told txn false) tt
+  ask-origins from txn step (of_outcomes.will_not_commit h i j) = one-origin from (outcome_reported txn false) tt
 
   tick-origins : Origins (on_tick here).sends
   unfolding on_tick
@@ -153,9 +153,9 @@ module _ (here : Here) (order : IsInOrder here.running) (input : Input) where
       let late : List Entry = expired_entries (older_entries here.running.entries) in
       let asked : List TxnId = ungranted (older here.running) (named_here here) in
       ⊎_elim
-      (λ told. All-contains (λ (o : Outgoing). Origin o.message) (expiry_sends here late) sent
+      (λ reported. All-contains (λ (o : Outgoing). Origin o.message) (expiry_sends here late) sent
       (all-flat (λ (o : Outgoing). Origin o.message) (λ (e : Entry). outcome_sends e.txn false (participants here e)) late
-      (λ e k. all-from (λ (o : Outgoing). Origin o.message) (outcome_sends e.txn false (participants here e)) (outcome-origins e.txn false (participants here e)))) told)
+      (λ e k. all-from (λ (o : Outgoing). Origin o.message) (outcome_sends e.txn false (participants here e)) (outcome-origins e.txn false (participants here e)))) reported)
       (λ question.
       let which = Contains-unmap (λ (txn : TxnId). record { to = txn.site.0; message = ask txn }) asked sent question in subst (λ (o : Outgoing). Origin o.message) which.1.1 tt)
       (Contains-append_cases (expiry_sends here late) (ask_sends asked) sent h)
@@ -183,7 +183,7 @@ module _ (here : Here) (order : IsInOrder here.running) where
   lock-case-origins : (from : ℕ) (txn : TxnId) (wants : List Want) (step : Step) → of_locks.LockCase here from txn wants step
       → Origins here order (receive from (lock txn wants)) step.sends
   lock-case-origins from txn wants step (of_locks.ignored h) = no-origins here order (receive from (lock txn wants))
-  lock-case-origins from txn wants step (of_locks.told_again grant h i j) = one-origin here order (receive from (lock txn wants)) _ _ tt
+  lock-case-origins from txn wants step (of_locks.granted_again grant h i j) = one-origin here order (receive from (lock txn wants)) _ _ tt
   lock-case-origins from txn wants step (of_locks.misfits grant h i j) = no-origins here order (receive from (lock txn wants))
   lock-case-origins from txn wants step (of_locks.denies clash h i found) =
       one-origin here order (receive from (lock txn wants)) txn.site.0 (denied txn clash.item clash.holder)
@@ -229,7 +229,7 @@ module _ (here : Here) (order : IsInOrder here.running) where
   message-origins from (prepare txn grant writes) = prepare-case-origins from txn grant writes _ (prepare-case here from txn grant writes)
   message-origins from (vote_yes txn) = yes-origins here order (receive from (vote_yes txn)) from txn _ (yes-case here from txn)
   message-origins from (vote_no txn cause) = no-case-origins here order (receive from (vote_no txn cause)) from txn cause _ (no-case here from txn cause)
-  message-origins from (outcome_told txn commits) = told-origins here order (receive from (outcome_told txn commits)) from txn commits _ (outcome-case here from txn commits)
+  message-origins from (outcome_reported txn commits) = reported-origins here order (receive from (outcome_reported txn commits)) from txn commits _ (outcome-case here from txn commits)
   message-origins from (ask txn) = ask-origins here order (receive from (ask txn)) from txn _ (ask-case here from txn)
 
   pub step-origins : (input : Input) (sent : Outgoing) → Contains (step_on here input).sends sent → Origin here order input sent.message

@@ -1,7 +1,7 @@
 -- What came before: why a message was sent, as far as it leads to a refusal.
 use Rattle.std.specs.Prelude.{◌≡◌, ℕ, List, ⊤}
 use Rattle.pv_base.specs.declared.txn.TxnId.{TxnId}
-use Rattle.pv_format.specs.Message.{Message, lock, granted, denied, prepare, vote_yes, vote_no, outcome_told, ask, NoCause, grant_lost, journal_full}
+use Rattle.pv_format.specs.Message.{Message, lock, granted, denied, prepare, vote_yes, vote_no, outcome_reported, ask, NoCause, grant_lost, journal_full}
 use Rattle.pv_law_acts.specs.Seen.{Sent}
 use Rattle.pv_protocol.specs.Causes.{HadLost, HadNoRoom}
 use Rattle.pv_protocol.specs.Conflicts.{WasDenied}
@@ -23,7 +23,7 @@ MessageCameOf setup first earlier from (lock txn wants) = ⊤
 MessageCameOf setup first earlier from (granted txn grant values) = ⊤
 MessageCameOf setup first earlier from (prepare txn grant writes) = ⊤
 MessageCameOf setup first earlier from (vote_yes txn) = ⊤
-MessageCameOf setup first earlier from (outcome_told txn commits) = ⊤
+MessageCameOf setup first earlier from (outcome_reported txn commits) = ⊤
 MessageCameOf setup first earlier from (ask txn) = ⊤
 
 -- Each message that was sent in these transitions came of what it has to.

@@ -144,8 +144,8 @@ module _ (setup : Setup) where
       let grounds = grounds-from setup w kept.settled in
       let new = some-value (written item writes) some in
       let old = some-value (written item taken.values) read in
-      let told = ((grounds.entries n txn entry works).taken taken listed).told in
+      let reported = ((grounds.entries n txn entry works).taken taken listed).reported in
       promise-few setup.catalog (records_at w taken.site) txn writes taken.values (names_taken entry) item new.0 old.0 new.1 old.1
       (asked-name-taken w acts from taken.site txn id writes sent n entry works votes item new.0 new.1)
       (taken-names entry taken listed item old.0 old.1)
-      (λ b heeds. kept.values.told taken.site n txn taken.grant taken.values told grant holds of is unprepared b heeds item old.0 old.1)
+      (λ b heeds. kept.values.reported taken.site n txn taken.grant taken.values reported grant holds of is unprepared b heeds item old.0 old.1)

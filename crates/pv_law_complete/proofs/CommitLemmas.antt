@@ -9,7 +9,7 @@ use Rattle.pv_base.proofs.Basics.{never}
 use Rattle.pv_base.specs.Assignment.{is_same_txn}
 use Rattle.pv_base.specs.declared.grant.GrantId.{GrantId}
 use Rattle.pv_base.specs.declared.txn.TxnId.{TxnId}
-use Rattle.pv_format.specs.Message.{Envelope, Message, lock, granted, denied, prepare, vote_yes, vote_no, outcome_told, ask, txn_of}
+use Rattle.pv_format.specs.Message.{Envelope, Message, lock, granted, denied, prepare, vote_yes, vote_no, outcome_reported, ask, txn_of}
 use Rattle.pv_law_acts.proofs.ListLemmas.{among-listed, listed-among}
 use Rattle.pv_law_acts.proofs.NumberLemmas.{next-unpassed}
 use Rattle.pv_law_acts.specs.Seen.{records_at, memory_at, Sent, IsPassed, IsNumberPassed, next_txn_in}
@@ -70,7 +70,7 @@ module _ (setup : Setup) (room : setup.read_names < setup.held_names) (txn : Txn
   Effect entry after v n from (prepare t id writes) = Sent v n (home_of txn) (vote_yes txn)
   Effect entry after v n from (vote_yes t) = n ≡ home_of txn → Contains Members from → is_among after.votes from ≡ true
   Effect entry after v n from (vote_no t cause) = ⊤
-  Effect entry after v n from (outcome_told t commits) = ⊤
+  Effect entry after v n from (outcome_reported t commits) = ⊤
   Effect entry after v n from (ask t) = ⊤
 
   module _ (w : World) (is_known : IsKnown setup w) (entry : Entry) (going : Going setup txn program w entry) (v : World)
@@ -102,7 +102,7 @@ module _ (setup : Setup) (room : setup.read_names < setup.held_names) (txn : Txn
           by-local step makes entry is.0,
           λ part. ⊎_elim
               (λ votes. inl votes)
-              (λ told. inr (told.0, (told.1.0, sent-now setup txn program w entry going n running up v step makes (home_of txn) (granted txn told.0 told.1.0) told.1.1)))
+              (λ reported. inr (reported.0, (reported.1.0, sent-now setup txn program w entry going n running up v step makes (home_of txn) (granted txn reported.0 reported.1.0) reported.1.1)))
               (is.1 part),
         ))
     own-message from (granted t id values) same = subst (λ t. Taking from (granted t id values)) (sym same) (λ makes sent free.
@@ -124,7 +124,7 @@ module _ (setup : Setup) (room : setup.read_names < setup.held_names) (txn : Txn
     own-message from (vote_no t cause) same = subst (λ t. Taking from (vote_no t cause)) (sym same) (λ makes sent free.
         let step = on_no Site from txn cause in
         (by-local step makes entry (no-leaves setup room txn program w is_known entry going n running up from cause sent step (no-case Site from txn cause)), tt))
-    own-message from (outcome_told t commits) same = subst (λ t. Taking from (outcome_told t commits)) (sym same) (λ makes sent free.
+    own-message from (outcome_reported t commits) same = subst (λ t. Taking from (outcome_reported t commits)) (sym same) (λ makes sent free.
         absurd (no-outcome-comes setup room txn program w is_known entry going n running up from commits sent))
     own-message from (ask t) same = subst (λ t. Taking from (ask t)) (sym same) (λ makes sent free.
         let step = on_ask Site from txn in
@@ -139,7 +139,7 @@ module _ (setup : Setup) (room : setup.read_names < setup.held_names) (txn : Txn
       few = going.few;
       undenied = λ part. absurd (none (inr part));
       no_no = λ part. absurd (none (inr part));
-      told = λ part. absurd (none (inr part));
+      reported = λ part. absurd (none (inr part));
       keeps = λ part. absurd (none (inr part));
       asked = λ votes. inl votes;
     })

@@ -164,9 +164,9 @@ module _ (setup : Setup) (room : setup.read_names < setup.held_names) (txn : Txn
         let asked = each-came n (home_of txn) (lock txn (wants_of program setup.catalog.items n)) (end_goes.going.locks n part) (inr part) refl in
         ⊎_elim
         (λ votes. inl (subst (λ e. e.stage ≡ voting) (ends asked.end asked.going) (asked.from_before.voting votes)))
-        (λ told.
-        let told_last : Sent Last n (home_of txn) (granted txn told.0 told.1.0) = asked.sent n (home_of txn) (granted txn told.0 told.1.0) told.1.1 in
-        let taken = each-came (home_of txn) n (granted txn told.0 told.1.0) told_last (inl refl) refl in
+        (λ reported.
+        let told_last : Sent Last n (home_of txn) (granted txn reported.0 reported.1.0) = asked.sent n (home_of txn) (granted txn reported.0 reported.1.0) reported.1.1 in
+        let taken = each-came (home_of txn) n (granted txn reported.0 reported.1.0) told_last (inl refl) refl in
         ⊎_elim
         (λ votes. inl (subst (λ e. e.stage ≡ voting) (ends taken.end taken.going) (taken.from_after.voting votes)))
         (λ has. inr (subst (λ e. has_taken e n ≡ true) (ends taken.end taken.going) (taken.from_after.taken n has)))

@@ -92,8 +92,8 @@ module _ (setup : Setup) (w : World) where
       let site : Site = record { records = records_at found n ++ appended ∷ []; arm = None; running = None } in
       halts n (others found sites n site left refl) (ap (λ (s : Site). s.running) (own-site found sites n running up site)) sent
 
-  once-goes : (event : Event) (told : List Line) (then_world : World) (lines : List Line) (left : World) → MayCome (at_once told then_world) lines left → Goes setup w event then_world → Goes setup w event left
-  once-goes event told then_world lines left (anywhere.without_attempt told' then') goes = goes
+  once-goes : (event : Event) (reported : List Line) (then_world : World) (lines : List Line) (left : World) → MayCome (at_once reported then_world) lines left → Goes setup w event then_world → Goes setup w event left
+  once-goes event reported then_world lines left (anywhere.without_attempt reported' then') goes = goes
 
   given-goes : (event : Event) (n : ℕ) (input : Input) (found : World) → found.sites ≡ w.sites → found.sent ≡ w.sent → Comes w event n input → (running : Option Running) → memory_at w n ≡ running
       → (lines : List Line) (left : World) → MayCome (given setup found n input running) lines left → Goes setup w event left

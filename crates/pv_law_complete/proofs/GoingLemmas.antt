@@ -89,7 +89,7 @@ module _ (setup : Setup) (txn : TxnId) (program : Program) where
       pub few : after.stage ≡ voting → length (names_taken after) ≤ setup.read_names
       pub undenied : Contains Parts n → (item : ℕ) (holder : TxnId) → Contains step.sends (record { to = Home; message = denied txn item holder }) → ⊥
       pub no_no : Contains Parts n → (cause : NoCause) → Contains step.sends (record { to = Home; message = vote_no txn cause }) → ⊥
-      pub told : Contains Parts n → (id : GrantId) (values : List Read) → Contains step.sends (record { to = Home; message = granted txn id values })
+      pub reported : Contains Parts n → (id : GrantId) (values : List Read) → Contains step.sends (record { to = Home; message = granted txn id values })
           → Stands (Left step) (grant_of step.running txn) txn id
       pub keeps : Contains Parts n → (id : GrantId) → Stands (records_at w n) (grant_of running txn) txn id → Stands (Left step) (grant_of step.running txn) txn id
       pub asked : after.stage ≡ voting
@@ -135,7 +135,7 @@ module _ (setup : Setup) (txn : TxnId) (program : Program) where
             (subst (λ r. Stands (Left step) (grant_of r txn) txn id) is
             (⊎_elim
             (λ old. local.keeps part_here id (going.stands n part_here id values (subst (λ k. Sent w k Home (granted txn id values)) (sym same) old) running up))
-            (λ new. local.told part_here id values new.1)
+            (λ new. local.reported part_here id values new.1)
             (sent-either m Home (granted txn id values) sent)))))
             (λ other.
             let kept = makes.others m (λ same. other (sym same)) in
@@ -184,14 +184,14 @@ module _ (setup : Setup) (txn : TxnId) (program : Program) where
         → (Contains Parts n → (id : GrantId) (values : List Read) → Contains step.sends (record { to = Home; message = granted txn id values })
         → Stands (Left step) (grant_of step.running txn) txn id)
         → Local step entry
-    plain step entries grants promised undenied no_no told = record {
+    plain step entries grants promised undenied no_no reported = record {
       mine = λ same. entries ∙ here-entry same;
       other = λ apart. refl;
       further = no-further entry;
       few = going.few;
       undenied = undenied;
       no_no = no_no;
-      told = told;
+      reported = reported;
       keeps = λ part id stood.
           ⊎_elim
           (λ was. inl (promised ∙ was))

@@ -149,7 +149,7 @@ module _ (setup : Setup) (txn : TxnId) (program : Program) (w : World) (is_known
           few = λ votes. absurd (two-stages (sym votes ∙ asks));
           undenied = λ part item holder h. absurd (Contains-nil _ h);
           no_no = λ part cause h. absurd (Contains-nil _ h);
-          told = λ part id' values' h. absurd (Contains-nil _ h);
+          reported = λ part id' values' h. absurd (Contains-nil _ h);
           keeps = λ part id' stood. ⊎_elim (λ was. inl (still ∙ was)) (λ held. inr held) stood;
           asked = λ votes. absurd (two-stages (sym votes ∙ asks));
         },
@@ -197,7 +197,7 @@ module _ (setup : Setup) (txn : TxnId) (program : Program) (w : World) (is_known
           few = λ votes. few;
           undenied = λ part item holder h. prepares-only _ h;
           no_no = λ part cause h. prepares-only _ h;
-          told = λ part id' values' h. absurd (prepares-only _ h);
+          reported = λ part id' values' h. absurd (prepares-only _ h);
           keeps = λ part id' stood. ⊎_elim (λ was. inl (still ∙ was)) (λ held. inr held) stood;
           asked = λ votes. inr (at_home, asked-for whole);
         },

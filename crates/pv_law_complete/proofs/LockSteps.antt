@@ -135,7 +135,7 @@ module _ (setup : Setup) (txn : TxnId) (program : Program) (w : World) (known : 
 
     pub lock-leaves : (step : Step) → of_locks.LockCase Now from txn wants step → LockLeaves step
     lock-leaves step (of_locks.ignored h) = (idle, λ part. inl (ignored-votes h))
-    lock-leaves step (of_locks.told_again grant h found i) =
+    lock-leaves step (of_locks.granted_again grant h found i) =
         let own : txn ≡ grant.txn = grant-txn running txn grant found in (
           plain setup txn program w entry going n running up step refl refl (ap (λ rs. is_prepared rs txn) (append-nil (records_at w n)))
               (λ part item holder h. let wrong = ap (λ (o : Outgoing). o.message) (one-is _ _ h) in absurd (let no : ⊥ = cc in no))
@@ -170,7 +170,7 @@ module _ (setup : Setup) (txn : TxnId) (program : Program) (w : World) (known : 
             few = going.few;
             undenied = λ part item holder h. let wrong = ap (λ (o : Outgoing). o.message) (one-is _ _ h) in absurd (let no : ⊥ = cc in no);
             no_no = λ part cause h. let wrong = ap (λ (o : Outgoing). o.message) (one-is _ _ h) in absurd (let no : ⊥ = cc in no);
-            told = λ part id values h. inr (grant, (stands, ap (λ (o : Outgoing). id_in grant.id o.message) (one-is _ _ h)));
+            reported = λ part id values h. inr (grant, (stands, ap (λ (o : Outgoing). id_in grant.id o.message) (one-is _ _ h)));
             keeps = λ part id stood.
                 ⊎_elim
                 (λ was. inl (ap (λ rs. is_prepared rs txn) (append-nil (records_at w n)) ∙ was))

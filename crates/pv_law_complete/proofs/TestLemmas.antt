@@ -8,7 +8,7 @@ use Rattle.pv_base.proofs.Basics.{Some_inj}
 use Rattle.pv_base.proofs.ContainsLemmas.{Contains-first, Contains-behind, Contains-cases}
 use Rattle.pv_base.specs.declared.limits.TheConstants.{NEVER_GIVEN}
 use Rattle.pv_base.specs.declared.txn.TxnId.{TxnId}
-use Rattle.pv_format.specs.Message.{Envelope, Message, lock, granted, denied, prepare, vote_yes, vote_no, outcome_told, ask}
+use Rattle.pv_format.specs.Message.{Envelope, Message, lock, granted, denied, prepare, vote_yes, vote_no, outcome_reported, ask}
 use Rattle.pv_format.specs.Record.{prepared, outcome_known}
 use Rattle.pv_law_acts.proofs.ListLemmas.{all-listed, none-some}
 use Rattle.pv_law_acts.specs.Seen.{records_at, memory_at}
@@ -58,7 +58,7 @@ frees here from (denied txn item holder) = true
 frees here from (prepare txn id writes) = not (is_full here (prepared txn writes))
 frees here from (vote_yes txn) = not (is_full here (outcome_known txn true))
 frees here from (vote_no txn cause) = true
-frees here from (outcome_told txn commits) = true
+frees here from (outcome_reported txn commits) = true
 frees here from (ask txn) = true
 
 free-by : (here : Here) (from : ℕ) (message : Message) → frees here from message ≡ true → IsFree here from message
@@ -71,7 +71,7 @@ free-by here from (denied txn item holder) is = tt
 free-by here from (prepare txn id writes) is = λ unprepared. unless (is_full here (prepared txn writes)) is
 free-by here from (vote_yes txn) is = λ entry found heard. unless (is_full here (outcome_known txn true)) is
 free-by here from (vote_no txn cause) is = tt
-free-by here from (outcome_told txn commits) is = tt
+free-by here from (outcome_reported txn commits) is = tt
 free-by here from (ask txn) is = tt
 
 module _ (setup : Setup) (txn : TxnId) (program : Program) where

@@ -14,7 +14,7 @@ use Rattle.pv_base.proofs.MapLemmas.{Contains-map, Contains-unmap}
 use Rattle.pv_base.specs.Named.{names_of}
 use Rattle.pv_base.specs.declared.grant.GrantId.{GrantId}
 use Rattle.pv_base.specs.declared.txn.TxnId.{TxnId}
-use Rattle.pv_format.specs.Message.{NoCause, granted, prepare, vote_yes, vote_no, outcome_told}
+use Rattle.pv_format.specs.Message.{NoCause, granted, prepare, vote_yes, vote_no, outcome_reported}
 use Rattle.pv_format.specs.Record.{prepared, outcome_known}
 use Rattle.pv_law_acts.proofs.ListLemmas.{none-some, any-listed, among-listed, listed-among, listed-last}
 use Rattle.pv_law_acts.proofs.MemoryLemmas.{entry-txn}
@@ -132,7 +132,7 @@ module _ (setup : Setup) (room : setup.read_names < setup.held_names) (txn : Txn
     stood : Stands (records_at w n) (grant_of running txn) txn id
     stood =
         subst (λ g. Stands (records_at w n) (grant_of running txn) txn g) is-from.under
-        (going.stands n part is-from.taken.grant is-from.taken.values (subst (λ m. Sent w m (home_of txn) (granted txn is-from.taken.grant is-from.taken.values)) is-from.at is_taken.told) running up)
+        (going.stands n part is-from.taken.grant is-from.taken.values (subst (λ m. Sent w m (home_of txn) (granted txn is-from.taken.grant is-from.taken.values)) is-from.at is_taken.reported) running up)
 
     stands-now : is_prepared (records_at w n) txn ≡ false → (grant : Grant) × ((grant_of running txn ≡ Some grant) × (grant.id ≡ id))
     stands-now unprepared = ⊎_elim (λ was. absurd (false≢true (sym unprepared ∙ was))) (λ held. held) stood
@@ -201,7 +201,7 @@ module _ (setup : Setup) (room : setup.read_names < setup.held_names) (txn : Txn
             few = going.few;
             undenied = λ part item holder h. let wrong = ap (λ (o : Outgoing). o.message) (one-is _ _ h) in absurd (let no : ⊥ = cc in no);
             no_no = λ part cause h. let wrong = ap (λ (o : Outgoing). o.message) (one-is _ _ h) in absurd (let no : ⊥ = cc in no);
-            told = λ part id' values h. inl promised;
+            reported = λ part id' values h. inl promised;
             keeps = λ part id' was. inl promised;
             asked = λ is_voting. inl is_voting;
           },
@@ -237,7 +237,7 @@ module _ (setup : Setup) (room : setup.read_names < setup.held_names) (txn : Txn
               few = going.few;
               undenied = λ part item holder h. absurd (Contains-nil _ h);
               no_no = λ part cause h. absurd (Contains-nil _ h);
-              told = λ part id values h. absurd (Contains-nil _ h);
+              reported = λ part id values h. absurd (Contains-nil _ h);
               keeps = λ part id stood. ⊎_elim (λ was. inl (still ∙ was)) (λ held. inr held) stood;
               asked = λ is. inl is;
             },
@@ -285,18 +285,18 @@ module _ (setup : Setup) (room : setup.read_names < setup.held_names) (txn : Txn
 
   -- An outcome, or a question for it.
 
-  pub no-outcome-comes : (from : ℕ) (outcome : Bool) → Sent w from n (outcome_told txn outcome) → ⊥
-  no-outcome-comes from outcome sent = no-outcome setup txn program w is_known entry going n running up outcome (is_known.settled.decided.told from n txn outcome sent).outcome
+  pub no-outcome-comes : (from : ℕ) (outcome : Bool) → Sent w from n (outcome_reported txn outcome) → ⊥
+  no-outcome-comes from outcome sent = no-outcome setup txn program w is_known entry going n running up outcome (is_known.settled.decided.reported from n txn outcome sent).outcome
 
-  told-leaves : (to : ℕ) (outcome : Bool) → Local setup txn program w entry going n running up (sending running (only_to to (outcome_told txn outcome))) entry
-  told-leaves to outcome =
-      plain setup txn program w entry going n running up (sending running (only_to to (outcome_told txn outcome))) refl refl still
+  reported-leaves : (to : ℕ) (outcome : Bool) → Local setup txn program w entry going n running up (sending running (only_to to (outcome_reported txn outcome))) entry
+  reported-leaves to outcome =
+      plain setup txn program w entry going n running up (sending running (only_to to (outcome_reported txn outcome))) refl refl still
       (λ part item holder h. let wrong = ap (λ (o : Outgoing). o.message) (one-is _ _ h) in absurd (let no : ⊥ = cc in no))
       (λ part cause h. let wrong = ap (λ (o : Outgoing). o.message) (one-is _ _ h) in absurd (let no : ⊥ = cc in no))
       (λ part id values h. let wrong = ap (λ (o : Outgoing). o.message) (one-is _ _ h) in absurd (let no : ⊥ = cc in no))
 
   pub ask-leaves : (from : ℕ) (step : Step) → of_outcomes.AskCase There from txn step → Local setup txn program w entry going n running up step entry
   ask-leaves from step (of_outcomes.not_issued h) = idle setup txn program w is_known entry going n running up
-  ask-leaves from step (of_outcomes.has_committed h i) = told-leaves from true
+  ask-leaves from step (of_outcomes.has_committed h i) = reported-leaves from true
   ask-leaves from step (of_outcomes.still_works h i j) = idle setup txn program w is_known entry going n running up
-  ask-leaves from step (of_outcomes.will_not_commit h i j) = told-leaves from false
+  ask-leaves from step (of_outcomes.will_not_commit h i j) = reported-leaves from false

@@ -34,7 +34,7 @@ item-choice catalog records item a =
     newest-same item (choice records (choice records a)) (choice records a) (choice-heeding records (choice records a) (choice-heeds records a)) records (declared_value catalog item)
 
 module _ (catalog : Declared) (records : List Record) (txn : TxnId) (writes values : List Read) (txns : List TxnId) (item : ℕ) (cases held : List (Case ℤ)) (wrote : written item writes ≡ Some cases)
-    (told : written item values ≡ Some held) (few_new : (t : TxnId) → IsTrue (names cases t) → Contains txns t) (few_old : (t : TxnId) → IsTrue (names held t) → Contains txns t)
+    (reported : written item values ≡ Some held) (few_new : (t : TxnId) → IsTrue (names cases t) → Contains txns t) (few_old : (t : TxnId) → IsTrue (names held t) → Contains txns t)
     (current : (b : List TxnId) → Heeds records b → number_at held b ≡ item_value catalog records item b) where
   abbrev all : List Record
   all = records ++ prepared txn writes ∷ []

@@ -2,7 +2,7 @@
 use Rattle.std.specs.Prelude.{◌≡◌, ℕ, ◌≤◌, Bool, true, false, ◌==◌, Some, None, List, [], ◌∷◌, ◌++◌, length, slice_get, ◌⊎◌, ⊤, All, Contains, IsSome, IsTrue}
 use Rattle.pv_base.specs.declared.limits.TheConstants.{NEVER_GIVEN}
 use Rattle.pv_base.specs.declared.txn.TxnId.{TxnId}
-use Rattle.pv_format.specs.Message.{Envelope, Message, lock, granted, denied, prepare, vote_yes, vote_no, outcome_told, ask, txn_of}
+use Rattle.pv_format.specs.Message.{Envelope, Message, lock, granted, denied, prepare, vote_yes, vote_no, outcome_reported, ask, txn_of}
 use Rattle.pv_format.specs.Record.{prepared, outcome_known}
 use Rattle.pv_law_acts.specs.Seen.{records_at, memory_at}
 use Rattle.pv_model.specs.Events.{Event}
@@ -53,7 +53,7 @@ IsFree here from (prepare txn id writes) = is_prepared here.records txn ≡ fals
 IsFree here from (vote_yes txn) =
     (entry : Entry) → voting_entry here.running txn ≡ Some entry → is_vote_ignored here entry from ≡ false → is_full here (outcome_known txn true) ≡ false
 IsFree here from (vote_no txn cause) = ⊤
-IsFree here from (outcome_told txn commits) = ⊤
+IsFree here from (outcome_reported txn commits) = ⊤
 IsFree here from (ask txn) = ⊤
 
 -- In the transition no site that is concerned ticks, and each is up after it; and each message of the transaction is taken freely.

@@ -7,7 +7,7 @@ use Rattle.std.proofs.lemmas.Option.{slice_get_within, get_or_from_slice_get}
 use Rattle.pv_base.proofs.ContainsLemmas.{Contains-first, Contains-behind, Contains-nil}
 use Rattle.pv_base.proofs.MapLemmas.{Contains-unmap}
 use Rattle.pv_format.specs.Contents.{greatest_epoch}
-use Rattle.pv_format.specs.Message.{Message, lock, granted, denied, prepare, vote_yes, vote_no, outcome_told, ask, Envelope}
+use Rattle.pv_format.specs.Message.{Message, lock, granted, denied, prepare, vote_yes, vote_no, outcome_reported, ask, Envelope}
 use Rattle.pv_format.specs.Record.{Record, epoch_begun}
 use Rattle.pv_law_acts.proofs.ListLemmas.{none-some, listed-before}
 use Rattle.pv_law_acts.specs.Acts as acts
@@ -85,8 +85,8 @@ module _ (setup : Setup) where
   }
   may-still w envelope from to (vote_yes txn) may = record { prepared = may.prepared; home = may.home }
   may-still w envelope from to (vote_no txn cause) may = record { id = may.id; writes = may.writes; asked = listed-before w.sent envelope _ may.asked; home = may.home }
-  may-still w envelope from to (outcome_told txn true) may = record { home = may.home; outcome = may.outcome }
-  may-still w envelope from to (outcome_told txn false) may =
+  may-still w envelope from to (outcome_reported txn true) may = record { home = may.home; outcome = may.outcome }
+  may-still w envelope from to (outcome_reported txn false) may =
       record { home = may.home; outcome = record { passed = may.outcome.passed; idle = may.outcome.idle; uncommitted = may.outcome.uncommitted } }
   may-still w envelope from to (ask txn) may = tt
 
@@ -203,7 +203,7 @@ module _ (setup : Setup) where
     message-acts from (prepare txn grant writes) h = on-prepare-acts setup w n running ready from txn grant writes h
     message-acts from (vote_yes txn) h = on-yes-acts setup w n running ready from txn h
     message-acts from (vote_no txn cause) h = on-no-acts setup w n running ready from txn cause
-    message-acts from (outcome_told txn commits) h = on-outcome-acts setup w n running ready from txn commits h
+    message-acts from (outcome_reported txn commits) h = on-outcome-acts setup w n running ready from txn commits h
     message-acts from (ask txn) h = on-ask-acts setup w n running ready from txn
 
     input-acts : (input : Input) → HasCome w n input → IsActs setup w n (step_on (here_at setup w n running) input)
@@ -315,7 +315,7 @@ module _ (setup : Setup) where
   end-acts w n attempt is lines after (anywhere.with_record stops appended same) = is.with_record appended same
 
   come-acts : (w : World) (b : Begun) → IsBegunActs w b → (lines : List Line) (after : World) → MayCome b lines after → Acts setup w after
-  come-acts w b (settles told world reached) lines after (anywhere.without_attempt told' world') = reached
+  come-acts w b (settles reported world reached) lines after (anywhere.without_attempt reported' world') = reached
   come-acts w b (goes_on before n attempt reached is) lines after (anywhere.by_attempt before' after' n' attempt' lines' ends) =
       then-acts w before after reached (end-acts before n attempt is lines after ends)
 

@@ -213,7 +213,7 @@ module _ (setup : Setup) (w : World) (n : ℕ) (running : Running) (ready : IsRe
   lock-acts : (from : ℕ) (txn : TxnId) (wants : List Want) → Sent w from n (lock txn wants) → (step : Step) → LockCase (here_at setup w n running) from txn wants step
       → IsActs setup w n step
   lock-acts from txn wants asked step (of_locks.ignored h) = idle-acts setup w n running ready []
-  lock-acts from txn wants asked step (of_locks.told_again grant heard found same) = tell-acts txn grant found (lock-heard from txn wants heard).1
+  lock-acts from txn wants asked step (of_locks.granted_again grant heard found same) = tell-acts txn grant found (lock-heard from txn wants heard).1
   lock-acts from txn wants asked step (of_locks.misfits grant heard found other) = idle-acts setup w n running ready []
   lock-acts from txn wants asked step (of_locks.denies over heard none is) =
       sending-acts setup w n running ready txn.site.0 (denied txn over.item over.holder)
@@ -251,7 +251,7 @@ module _ (setup : Setup) (w : World) (n : ℕ) (running : Running) (ready : IsRe
         undenied (are_values_of (wants_of entry.program setup.catalog.items from) values) both.1,
       )
 
-  module _ (from : ℕ) (txn : TxnId) (grant : GrantId) (values : List Read) (told : Sent w from n (granted txn grant values)) (entry : Entry)
+  module _ (from : ℕ) (txn : TxnId) (grant : GrantId) (values : List Read) (reported : Sent w from n (granted txn grant values)) (entry : Entry)
       (taken : IsTaken (here_at setup w n running) from txn values entry) where
     found : (of_txn (λ (e : Entry). e.txn) txn running.entries ≡ Some entry) × (entry.stage ≡ locking)
     found = locking-found running ready.ordered txn entry taken.found
@@ -263,7 +263,7 @@ module _ (setup : Setup) (w : World) (n : ℕ) (running : Running) (ready : IsRe
     take-act =
         let heard = grant-heard entry from values taken.heard in
         acts.takes n running txn entry (record { site = from; grant = grant; values = values }) (record { up = ready.up; has = found.0 })
-        (record { asks = found.1; participant = heard.0; first = heard.1; told = told; right = heard.2 })
+        (record { asks = found.1; participant = heard.0; first = heard.1; reported = reported; right = heard.2 })
 
     take-acts : IsActs setup w n (remembering (with_entry running with_grant_of))
     take-acts = record {
@@ -346,16 +346,16 @@ module _ (setup : Setup) (w : World) (n : ℕ) (running : Running) (ready : IsRe
 
   granted-acts : (from : ℕ) (txn : TxnId) (grant : GrantId) (values : List Read) → Sent w from n (granted txn grant values) → (step : Step)
       → GrantedCase (here_at setup w n running) from txn grant values step → IsActs setup w n step
-  granted-acts from txn grant values told step (of_grants.no_entry h) = idle-acts setup w n running ready []
-  granted-acts from txn grant values told step (of_grants.ignored entry h i) = idle-acts setup w n running ready []
-  granted-acts from txn grant values told step (of_grants.waits entry taken h) = take-acts from txn grant values told entry taken
-  granted-acts from txn grant values told step (of_grants.too_wide entry last h) =
+  granted-acts from txn grant values reported step (of_grants.no_entry h) = idle-acts setup w n running ready []
+  granted-acts from txn grant values reported step (of_grants.ignored entry h i) = idle-acts setup w n running ready []
+  granted-acts from txn grant values reported step (of_grants.waits entry taken h) = take-acts from txn grant values reported entry taken
+  granted-acts from txn grant values reported step (of_grants.too_wide entry last h) =
       refusing-acts setup w n running ready txn entry (taking entry from grant values) _ (locking-found running ready.ordered txn entry last.taken.found).0 refl
-  granted-acts from txn grant values told step (of_grants.reaches_lock_point entry last h) = place-acts from txn grant values told entry last.taken last.whole
+  granted-acts from txn grant values reported step (of_grants.reaches_lock_point entry last h) = place-acts from txn grant values reported entry last.taken last.whole
 
   pub on-granted-acts : (from : ℕ) (txn : TxnId) (grant : GrantId) (values : List Read) → Sent w from n (granted txn grant values)
       → IsActs setup w n (on_granted (here_at setup w n running) from txn grant values)
-  on-granted-acts from txn grant values told = granted-acts from txn grant values told _ (granted-case (here_at setup w n running) from txn grant values)
+  on-granted-acts from txn grant values reported = granted-acts from txn grant values reported _ (granted-case (here_at setup w n running) from txn grant values)
 
   denied-acts : (from : ℕ) (txn : TxnId) (item : ℕ) (holder : TxnId) (step : Step) → DeniedCase (here_at setup w n running) from txn item holder step → IsActs setup w n step
   denied-acts from txn item holder step (of_grants.no_entry h) = idle-acts setup w n running ready []

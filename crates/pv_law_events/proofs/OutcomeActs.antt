@@ -10,7 +10,7 @@ use Rattle.pv_base.proofs.ContainsLemmas.{Contains-nil, Contains-cases}
 use Rattle.pv_base.proofs.MapLemmas.{Contains-unmap}
 use Rattle.pv_base.specs.Assignment.{is_same_txn}
 use Rattle.pv_base.specs.declared.txn.TxnId.{TxnId}
-use Rattle.pv_format.specs.Message.{outcome_told, ask}
+use Rattle.pv_format.specs.Message.{outcome_reported, ask}
 use Rattle.pv_format.specs.Record.{Record, epoch_begun, prepared, outcome_known}
 use Rattle.pv_law_acts.proofs.PassedLemmas.{passed-later}
 use Rattle.pv_law_acts.proofs.RecordLemmas.{known-listed, listed-yes, yes-listed}
@@ -70,13 +70,13 @@ module _ (setup : Setup) (w : World) (n : ℕ) (running : Running) (ready : IsRe
 
   -- Outcomes.
 
-  learn-acts : (txn : TxnId) (commits : Bool) → Sent w (home_of txn) n (outcome_told txn commits) → (unknown : is_undecided (records_at w n) txn ≡ true)
+  learn-acts : (txn : TxnId) (commits : Bool) → Sent w (home_of txn) n (outcome_reported txn commits) → (unknown : is_undecided (records_at w n) txn ≡ true)
       → IsActs setup w n (learning (here_at setup w n running) txn commits)
-  learn-acts txn commits told unknown =
+  learn-acts txn commits reported unknown =
       let more : Record = outcome_known txn commits in
       let records : List Record = records_at w n ++ more ∷ [] in
       let so_far : Acts setup w (At w n records (Some running) w.order) =
-      one-act setup w n (recorded w n more (Some running)) (acts.learns n running txn commits ready.up (record { told = told; unknown = unknown })) in
+      one-act setup w n (recorded w n more (Some running)) (acts.learns n running txn commits ready.up (record { reported = reported; unknown = unknown })) in
       record {
         records = records;
         order = w.order;
@@ -87,21 +87,21 @@ module _ (setup : Setup) (w : World) (n : ℕ) (running : Running) (ready : IsRe
         stops = λ other is. then-down setup w n there records (Some running) w.order so_far;
       }
 
-  outcome-acts : (from : ℕ) (txn : TxnId) (commits : Bool) → Sent w from n (outcome_told txn commits) → (step : Step)
+  outcome-acts : (from : ℕ) (txn : TxnId) (commits : Bool) → Sent w from n (outcome_reported txn commits) → (step : Step)
       → OutcomeCase (here_at setup w n running) from txn commits step → IsActs setup w n step
-  outcome-acts from txn commits told step (of_outcomes.not_its_site h) = idle-acts setup w n running ready []
-  outcome-acts from txn commits told step (of_outcomes.known_already h) = idle-acts setup w n running ready []
-  outcome-acts from txn commits told step (of_outcomes.no_room news needed h) = idle-acts setup w n running ready _
-  outcome-acts from txn commits told step (of_outcomes.learns news needed room) =
-      learn-acts txn commits (subst (λ m. Sent w m n (outcome_told txn commits)) (eqb-true from txn.site.0 news.own) told) news.unknown
-  outcome-acts from txn commits told step (of_outcomes.nothing_to_do news needless is) = idle-acts setup w n running ready []
-  outcome-acts from txn commits told step (of_outcomes.releases news needless is) =
+  outcome-acts from txn commits reported step (of_outcomes.not_its_site h) = idle-acts setup w n running ready []
+  outcome-acts from txn commits reported step (of_outcomes.known_already h) = idle-acts setup w n running ready []
+  outcome-acts from txn commits reported step (of_outcomes.no_room news needed h) = idle-acts setup w n running ready _
+  outcome-acts from txn commits reported step (of_outcomes.learns news needed room) =
+      learn-acts txn commits (subst (λ m. Sent w m n (outcome_reported txn commits)) (eqb-true from txn.site.0 news.own) reported) news.unknown
+  outcome-acts from txn commits reported step (of_outcomes.nothing_to_do news needless is) = idle-acts setup w n running ready []
+  outcome-acts from txn commits reported step (of_outcomes.releases news needless is) =
       plain-acts setup w n running ready (without_grant running txn) [] [] (released-no-more running txn)
       (nothing-sent setup w n (At w n (records_at w n) (Some (without_grant running txn)) w.order))
 
-  pub on-outcome-acts : (from : ℕ) (txn : TxnId) (commits : Bool) → Sent w from n (outcome_told txn commits)
+  pub on-outcome-acts : (from : ℕ) (txn : TxnId) (commits : Bool) → Sent w from n (outcome_reported txn commits)
       → IsActs setup w n (on_outcome (here_at setup w n running) from txn commits)
-  on-outcome-acts from txn commits told = outcome-acts from txn commits told _ (outcome-case (here_at setup w n running) from txn commits)
+  on-outcome-acts from txn commits reported = outcome-acts from txn commits reported _ (outcome-case (here_at setup w n running) from txn commits)
 
   -- Questions.
 
@@ -135,15 +135,15 @@ module _ (setup : Setup) (w : World) (n : ℕ) (running : Running) (ready : IsRe
           by is true knows = unknown knows
           by is false knows = false≢true (sym (ready.settled.decided.known n txn false (known-listed (records_at w n) txn false knows)).uncommitted ∙ is)
 
-    yes-told : (from : ℕ) → known (records_at w n) txn ≡ Some true → MaySend setup V n from (outcome_told txn true)
-    yes-told from knows = record {
+    yes-reported : (from : ℕ) → known (records_at w n) txn ≡ Some true → MaySend setup V n from (outcome_reported txn true)
+    yes-reported from knows = record {
       home = home;
       outcome = subst (λ records. list_any (says_yes txn) records ≡ true) (sym v-records)
           (listed-yes (records_at w n) txn (known-listed (records_at w n) txn true knows));
     }
 
-    no-told : (from : ℕ) → known (records_at w n) txn ≢ Some true → works_on running txn ≡ false → MaySend setup V n from (outcome_told txn false)
-    no-told from unknown idle = record {
+    no-reported : (from : ℕ) → known (records_at w n) txn ≢ Some true → works_on running txn ≡ false → MaySend setup V n from (outcome_reported txn false)
+    no-reported from unknown idle = record {
       home = home;
       outcome = record {
         passed = passed-later setup txn w V (unmoved setup w n running ready) given;
@@ -157,10 +157,10 @@ module _ (setup : Setup) (w : World) (n : ℕ) (running : Running) (ready : IsRe
 
   ask-acts : (from : ℕ) (txn : TxnId) (step : Step) → AskCase (here_at setup w n running) from txn step → IsActs setup w n step
   ask-acts from txn step (of_outcomes.not_issued h) = idle-acts setup w n running ready []
-  ask-acts from txn step (of_outcomes.has_committed issued knows) = sending-acts setup w n running ready from (outcome_told txn true) (yes-told txn issued from knows)
+  ask-acts from txn step (of_outcomes.has_committed issued knows) = sending-acts setup w n running ready from (outcome_reported txn true) (yes-reported txn issued from knows)
   ask-acts from txn step (of_outcomes.still_works issued unknown works) = idle-acts setup w n running ready []
   ask-acts from txn step (of_outcomes.will_not_commit issued unknown idle) =
-      sending-acts setup w n running ready from (outcome_told txn false) (no-told txn issued from unknown idle)
+      sending-acts setup w n running ready from (outcome_reported txn false) (no-reported txn issued from unknown idle)
 
   pub on-ask-acts : (from : ℕ) (txn : TxnId) → IsActs setup w n (on_ask (here_at setup w n running) from txn)
   on-ask-acts from txn = ask-acts from txn _ (ask-case (here_at setup w n running) from txn)
@@ -174,12 +174,12 @@ module _ (setup : Setup) (w : World) (n : ℕ) (running : Running) (ready : IsRe
   older-acts =
       then-forget setup w n there (records_at w n) (Some running) w.order (Some (older running)) (unmoved setup w n running ready) (older-no-more running ready.ordered)
 
-  expiry-told : (late : Entry) → Contains (expired_entries (older_entries running.entries)) late → (sent : Outgoing)
+  expiry-reported : (late : Entry) → Contains (expired_entries (older_entries running.entries)) late → (sent : Outgoing)
       → Contains (outcome_sends late.txn false (participants (here_at setup w n running) late)) sent → MaySend setup Older n sent.to sent.message
-  expiry-told late h sent k =
+  expiry-reported late h sent k =
       let was = expired-was running ready.ordered late h in
       let works : Works w n late.txn (record late { age = 0 }) = subst (λ memory. work_in memory late.txn ≡ Some (record late { age = 0 })) (sym ready.up) was.0 in
-      let which = Contains-unmap (λ site. record { to = site; message = outcome_told late.txn false }) (participants (here_at setup w n running) late) sent k in
+      let which = Contains-unmap (λ site. record { to = site; message = outcome_reported late.txn false }) (participants (here_at setup w n running) late) sent k in
       subst (λ (o : Outgoing). MaySend setup Older n o.to o.message) which.1.1
       (record {
         home = sym (ready.settled.sound.passed.entries n late.txn (record late { age = 0 }) works).home;
@@ -193,10 +193,10 @@ module _ (setup : Setup) (w : World) (n : ℕ) (running : Running) (ready : IsRe
       let asked : List TxnId = ungranted (older running) (named_here (here_at setup w n running)) in
       plain-acts setup w n running ready (older running) (expiry_sends (here_at setup w n running) late ++ ask_sends asked) _ (older-no-more running ready.ordered)
       (λ sent h. ⊎_elim
-      (λ told. All-contains (λ (o : Outgoing). MaySend setup Older n o.to o.message) (expiry_sends (here_at setup w n running) late) sent
+      (λ reported. All-contains (λ (o : Outgoing). MaySend setup Older n o.to o.message) (expiry_sends (here_at setup w n running) late) sent
       (all-flat (λ (o : Outgoing). MaySend setup Older n o.to o.message) (λ (e : Entry). outcome_sends e.txn false (participants (here_at setup w n running) e)) late
-      (λ e k. all-from (λ (o : Outgoing). MaySend setup Older n o.to o.message) (outcome_sends e.txn false (participants (here_at setup w n running) e)) (expiry-told e k)))
-      told)
+      (λ e k. all-from (λ (o : Outgoing). MaySend setup Older n o.to o.message) (outcome_sends e.txn false (participants (here_at setup w n running) e)) (expiry-reported e k)))
+      reported)
       (λ question.
       let which = Contains-unmap (λ (txn : TxnId). record { to = txn.site.0; message = ask txn }) asked sent question in
       subst (λ (o : Outgoing). MaySend setup Older n o.to o.message) which.1.1 tt)

@@ -139,7 +139,7 @@ module _ (setup : Setup) where
       let at = reached before later world is in
       let settled : IsSettled setup world = always-settled setup world at.0 in
       record {
-        one = λ n other txn commits told knows also. one-outcome setup world settled n other txn commits told knows also;
+        one = λ n other txn commits reported knows also. one-outcome setup world settled n other txn commits reported knows also;
         commit = λ n txn knows. known-outcome setup world settled n txn true knows;
         abort = λ n txn knows.
             let dead : IsDead world txn = known-outcome setup world settled n txn false knows in

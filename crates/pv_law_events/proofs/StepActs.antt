@@ -7,7 +7,7 @@ use Rattle.pv_base.proofs.ContainsLemmas.{Contains-nil, Contains-cases}
 use Rattle.pv_base.proofs.MapLemmas.{Contains-unmap}
 use Rattle.pv_base.specs.declared.txn.TxnId.{TxnId}
 use Rattle.pv_format.specs.Contents.{greatest_epoch}
-use Rattle.pv_format.specs.Message.{Message, outcome_told}
+use Rattle.pv_format.specs.Message.{Message, outcome_reported}
 use Rattle.pv_format.specs.Record.{Record}
 use Rattle.pv_law_acts.proofs.ListLemmas.{none-some}
 use Rattle.pv_law_acts.proofs.MemoryLemmas.{entry-txn, left-none}
@@ -138,7 +138,7 @@ module _ (setup : Setup) (w : World) (n : ℕ) where
               (subst (λ m. list_any (says_yes txn) (records_at w m) ≡ false) was.home (ready.settled.decided.working n txn entry works)));
         }
 
-    -- A refusal: the entry ends, and that the transaction doesn't commit is told.
+    -- A refusal: the entry ends, and that the transaction doesn't commit is reported.
     pub refusing-acts : (txn : TxnId) (found refused : Entry) (cause : Cause) → of_txn (λ (e : Entry). e.txn) txn running.entries ≡ Some found → refused.txn ≡ found.txn
         → IsActs (refusing (here_at setup w n running) refused cause)
     refusing-acts txn found refused cause has same =
@@ -151,6 +151,6 @@ module _ (setup : Setup) (w : World) (n : ℕ) where
         dropped-dead after refused.txn (record found { age = 0 }) works (left-none running refused.txn) so_far in
         plain-acts after (outcome_sends refused.txn false (participants (here_at setup w n running) refused)) _ (dropped-no-more running refused.txn)
         (λ sent h.
-        let which = Contains-unmap (λ site. record { to = site; message = outcome_told refused.txn false }) (participants (here_at setup w n running) refused) sent h in
+        let which = Contains-unmap (λ site. record { to = site; message = outcome_reported refused.txn false }) (participants (here_at setup w n running) refused) sent h in
         subst (λ (o : Outgoing). MaySend setup (At w n (records_at w n) (Some after) w.order) n o.to o.message) which.1.1
         (record { home = sym (ready.settled.sound.passed.entries n refused.txn (record found { age = 0 }) works).home; outcome = dead }))

@@ -8,7 +8,7 @@ use Rattle.pv_base.proofs.MapLemmas.{Contains-map, Contains-unmap}
 use Rattle.pv_base.specs.Assignment.{is_same_txn}
 use Rattle.pv_base.specs.declared.grant.GrantId.{GrantId}
 use Rattle.pv_base.specs.declared.txn.TxnId.{TxnId}
-use Rattle.pv_format.specs.Message.{NoCause, prepare, vote_yes, vote_no, outcome_told}
+use Rattle.pv_format.specs.Message.{NoCause, prepare, vote_yes, vote_no, outcome_reported}
 use Rattle.pv_format.specs.Record.{Record, prepared, outcome_known}
 use Rattle.pv_law_acts.proofs.ListLemmas.{none-some, found-listed, listed-last}
 use Rattle.pv_law_acts.proofs.MemoryLemmas.{entry-txn, left-holding}
@@ -134,7 +134,7 @@ module _ (setup : Setup) (w : World) (n : ℕ) (running : Running) (ready : IsRe
 
   -- The coordinator.
 
-  module _ (from : ℕ) (txn : TxnId) (told : Sent w from n (vote_yes txn)) (entry : Entry) (vote : of_votes.IsVote (here_at setup w n running) from txn entry) where
+  module _ (from : ℕ) (txn : TxnId) (reported : Sent w from n (vote_yes txn)) (entry : Entry) (vote : of_votes.IsVote (here_at setup w n running) from txn entry) where
     found : (of_txn (λ (e : Entry). e.txn) txn running.entries ≡ Some entry) × (entry.stage ≡ voting)
     found = voting-found running ready.ordered txn entry vote.found
 
@@ -148,7 +148,7 @@ module _ (setup : Setup) (w : World) (n : ℕ) (running : Running) (ready : IsRe
     count-act =
         let heard = none-of-two (not (is_among (participants_of entry.program setup.catalog.items) from)) _ vote.heard in
         acts.counts n running txn entry from (record { up = ready.up; has = found.0 })
-        (record { asks = found.1; participant = undenied (is_among (participants_of entry.program setup.catalog.items) from) heard.0; told = told })
+        (record { asks = found.1; participant = undenied (is_among (participants_of entry.program setup.catalog.items) from) heard.0; reported = reported })
 
     count-acts : IsActs setup w n (remembering Between)
     count-acts = record {
@@ -196,7 +196,7 @@ module _ (setup : Setup) (w : World) (n : ℕ) (running : Running) (ready : IsRe
         acts = then-forget setup w n there Records Decided w.order (Some After) decide-acts (put-and-dropped running (voted entry from));
         sends = λ sent h.
             let v : World = At w n Records (Some After) w.order in
-            let which = Contains-unmap (λ site. record { to = site; message = outcome_told entry.txn true }) (others_than n (participants_of entry.program setup.catalog.items)) sent h in
+            let which = Contains-unmap (λ site. record { to = site; message = outcome_reported entry.txn true }) (others_than n (participants_of entry.program setup.catalog.items)) sent h in
             subst (λ (o : Outgoing). MaySend setup v n o.to o.message) which.1.1
             (record {
               home = home;
@@ -208,15 +208,15 @@ module _ (setup : Setup) (w : World) (n : ℕ) (running : Running) (ready : IsRe
       }
 
   yes-case-acts : (from : ℕ) (txn : TxnId) → Sent w from n (vote_yes txn) → (step : Step) → YesCase (here_at setup w n running) from txn step → IsActs setup w n step
-  yes-case-acts from txn told step (of_votes.no_entry h) = idle-acts setup w n running ready []
-  yes-case-acts from txn told step (of_votes.ignored entry h i) = idle-acts setup w n running ready []
-  yes-case-acts from txn told step (of_votes.waits entry vote h) = count-acts from txn told entry vote
-  yes-case-acts from txn told step (of_votes.no_room entry vote whole h) =
+  yes-case-acts from txn reported step (of_votes.no_entry h) = idle-acts setup w n running ready []
+  yes-case-acts from txn reported step (of_votes.ignored entry h i) = idle-acts setup w n running ready []
+  yes-case-acts from txn reported step (of_votes.waits entry vote h) = count-acts from txn reported entry vote
+  yes-case-acts from txn reported step (of_votes.no_room entry vote whole h) =
       refusing-acts setup w n running ready txn entry (voted entry from) _ (voting-found running ready.ordered txn entry vote.found).0 refl
-  yes-case-acts from txn told step (of_votes.commits entry vote whole room) = commit-acts from txn told entry vote whole
+  yes-case-acts from txn reported step (of_votes.commits entry vote whole room) = commit-acts from txn reported entry vote whole
 
   pub on-yes-acts : (from : ℕ) (txn : TxnId) → Sent w from n (vote_yes txn) → IsActs setup w n (on_yes (here_at setup w n running) from txn)
-  on-yes-acts from txn told = yes-case-acts from txn told _ (yes-case (here_at setup w n running) from txn)
+  on-yes-acts from txn reported = yes-case-acts from txn reported _ (yes-case (here_at setup w n running) from txn)
 
   no-case-acts : (from : ℕ) (txn : TxnId) (cause : NoCause) (step : Step) → NoCase (here_at setup w n running) from txn cause step → IsActs setup w n step
   no-case-acts from txn cause step (of_votes.no_entry h) = idle-acts setup w n running ready []

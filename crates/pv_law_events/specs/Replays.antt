@@ -8,7 +8,7 @@ use Rattle.pv_protocol.specs.Width.{IsNarrow}
 use Rattle.pv_protocol.specs.World.{World, site_at}
 
 -- The site can read its records anew: each has a spelling, the journal has room for them, and after each promise, with all outcomes known
--- that any record tells, every item's value names few enough outcomes.
+-- that any record says, every item's value names few enough outcomes.
 pub record CanBeReplayed (setup : Setup) (n : ℕ) (records : List Record) : Type 0 where
   pub spelled : All (λ kept. (bytes : List ℕ) × SpellsRecord kept bytes) records
   pub room : journal_bytes records ≤ setup.catalog.journal

@@ -6,7 +6,7 @@ use Rattle.std.proofs.lemmas.List.Elements.{All-weaker}
 use Rattle.std.proofs.lemmas.List.Sums.{sum_by-le}
 use Rattle.pv_base.specs.Polyvalue.{Case}
 use Rattle.pv_format.specs.Length.{body_length, case_length, polyvalue_length, reads_length, record_length}
-use Rattle.pv_format.specs.Message.{Message, lock, granted, denied, prepare, vote_yes, vote_no, outcome_told, ask, grant_lost, journal_full}
+use Rattle.pv_format.specs.Message.{Message, lock, granted, denied, prepare, vote_yes, vote_no, outcome_reported, ask, grant_lost, journal_full}
 use Rattle.pv_format.specs.MessageSpelling.{SpellsBody}
 use Rattle.pv_format.specs.Record.{Record, epoch_begun, prepared, outcome_known}
 use Rattle.pv_format.specs.PolyvalueSpelling.{SpellsCases, SpellsPolyvalue}
@@ -55,5 +55,5 @@ body_small (prepare txn grant writes) bytes spelled = let small = reads_small 0 
 body_small (vote_yes txn) bytes spelled = omega arith
 body_small (vote_no txn grant_lost) bytes spelled = omega arith
 body_small (vote_no txn (journal_full limit)) bytes spelled = omega arith
-body_small (outcome_told txn commits) bytes spelled = omega arith
+body_small (outcome_reported txn commits) bytes spelled = omega arith
 body_small (ask txn) bytes spelled = omega arith

@@ -53,10 +53,10 @@ no-byte : (bytes : List ℕ) → length bytes < 1 → bytes ≡ []
 no-byte [] less = refl
 no-byte (b ∷ bytes) less = absurd (omega (arith, less))
 
-told : (bytes : List ℕ) (fault : Fault) → Wrong bytes fault → (other : Fault) × EnvelopeFault bytes other
-told bytes _ (is_short less) = (short 0, has_no_kind (no-byte bytes less))
-told bytes _ (is_refused kind front rest whole is refused) = (bad_kind kind, has_bad_kind kind rest (one-byte kind front rest bytes whole is) refused)
-told bytes _ (is_later kind front rest fault whole is wrong) =
+reported : (bytes : List ℕ) (fault : Fault) → Wrong bytes fault → (other : Fault) × EnvelopeFault bytes other
+reported bytes _ (is_short less) = (short 0, has_no_kind (no-byte bytes less))
+reported bytes _ (is_refused kind front rest whole is refused) = (bad_kind kind, has_bad_kind kind rest (one-byte kind front rest bytes whole is) refused)
+reported bytes _ (is_later kind front rest fault whole is wrong) =
     (fault, is_in_fields kind rest fault (one-byte kind front rest bytes whole is.spelled) is.allowed wrong)
 
 first-kind : (envelope : Envelope) (bytes : List ℕ) (s : SpellsEnvelope envelope bytes) → bytes ≡ kind_of envelope.message ∷ s.back
@@ -106,11 +106,11 @@ one-envelope-answer bytes all = record {
   some = ⊎_elim
       (λ (b : Begins SpellsEnvelope bytes). ⊎_elim
       (λ empty. inl (b.value, subst (λ (f : List ℕ). SpellsEnvelope b.value f) (sym (b.whole ∙ ap (λ (r : List ℕ). b.front ++ r) empty ∙ append-nil b.front)) b.spelled))
-      (λ more. inr (told bytes (extra (0 + length b.front))
+      (λ more. inr (reported bytes (extra (0 + length b.front))
       (subst (λ (f : List ℕ). Wrong f (extra (0 + length b.front))) (sym b.whole)
       (envelope-code.before b.value b.front b.rest nothing_more 0 (extra (0 + length b.front)) b.spelled (is_extra more)))))
       (empty-or-more b.rest))
-      (λ wrong. inr (told bytes wrong.0 wrong.1))
+      (λ wrong. inr (reported bytes wrong.0 wrong.1))
       (envelope-code.either bytes all nothing_more 0);
   one_value = one-value SpellsEnvelope envelope-code.read bytes;
   one_fault = envelope-one-fault bytes;

@@ -10,7 +10,7 @@ use Rattle.pv_base.specs.Want.{Want}
 use Rattle.pv_model.specs.Alternatives.{Read}
 use Rattle.pv_format.specs.FirstFault.{PolyvalueFault, is_kind}
 use Rattle.pv_format.specs.Layout.{Layout, number_then, polyvalue_then, any, site_layout, txn_layout, grant_layout, counted_layout, truth_layout, cause_layout, body_layout, is_cause}
-use Rattle.pv_format.specs.Message.{Envelope, Message, lock, granted, denied, prepare, vote_yes, vote_no, outcome_told, ask, NoCause, grant_lost, journal_full, txn_of}
+use Rattle.pv_format.specs.Message.{Envelope, Message, lock, granted, denied, prepare, vote_yes, vote_no, outcome_reported, ask, NoCause, grant_lost, journal_full, txn_of}
 use Rattle.pv_format.specs.MessageSpelling.{kind_of, SpellsWants, SpellsNoCause, SpellsBody, SpellsEnvelope}
 use Rattle.pv_format.specs.PolyvalueSpelling.{SpellsPolyvalue}
 use Rattle.pv_format.specs.RecordSpelling.{SpellsReads}
@@ -110,7 +110,7 @@ body_of (denied txn item holder) = (item, holder)
 body_of (prepare txn grant writes) = (grant, writes)
 body_of (vote_yes txn) = tt
 body_of (vote_no txn cause) = cause
-body_of (outcome_told txn commits) = commits
+body_of (outcome_reported txn commits) = commits
 body_of (ask txn) = tt
 
 abbrev message_of : (n : ℕ) → TxnId → Body n → Message
@@ -121,7 +121,7 @@ message_of (suc (suc (suc zero))) txn body = denied txn body.0 body.1
 message_of (suc (suc (suc (suc zero)))) txn body = prepare txn body.0 body.1
 message_of (suc (suc (suc (suc (suc zero))))) txn body = vote_yes txn
 message_of (suc (suc (suc (suc (suc (suc zero)))))) txn body = vote_no txn body
-message_of (suc (suc (suc (suc (suc (suc (suc zero))))))) txn body = outcome_told txn body
+message_of (suc (suc (suc (suc (suc (suc (suc zero))))))) txn body = outcome_reported txn body
 message_of (suc (suc (suc (suc (suc (suc (suc (suc n)))))))) txn body = ask txn
 
 message-back : (message : Message) → message_of (kind_of message) (txn_of message) (body_of message) ≡ message
@@ -131,7 +131,7 @@ message-back (denied txn item holder) = refl
 message-back (prepare txn grant writes) = refl
 message-back (vote_yes txn) = refl
 message-back (vote_no txn cause) = refl
-message-back (outcome_told txn commits) = refl
+message-back (outcome_reported txn commits) = refl
 message-back (ask txn) = refl
 
 abbrev SpellsIn : (n : ℕ) → Body n → List ℕ → Type 0
@@ -168,7 +168,7 @@ is-kind (denied txn item holder) = refl
 is-kind (prepare txn grant writes) = refl
 is-kind (vote_yes txn) = refl
 is-kind (vote_no txn cause) = refl
-is-kind (outcome_told txn commits) = refl
+is-kind (outcome_reported txn commits) = refl
 is-kind (ask txn) = refl
 
 body-so : (message : Message) (front : List ℕ) → SpellsBody message front → SpellsIn (kind_of message) (body_of message) front
@@ -178,7 +178,7 @@ body-so (denied txn item holder) front s = s
 body-so (prepare txn grant writes) front s = s
 body-so (vote_yes txn) front s = s
 body-so (vote_no txn cause) front s = s
-body-so (outcome_told txn commits) front s = s
+body-so (outcome_reported txn commits) front s = s
 body-so (ask txn) front s = s
 
 body-too : (n : ℕ) (txn : TxnId) (body : Body n) (front : List ℕ) → IsTrue (is_kind n) → SpellsIn n body front → SpellsBody (message_of n txn body) front

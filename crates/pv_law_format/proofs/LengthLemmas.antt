@@ -14,7 +14,7 @@ use Rattle.pv_base.specs.Want.{Want}
 use Rattle.pv_base.proofs.BigEndianLemmas.{IsNumber-length, IsSigned-length}
 use Rattle.pv_model.specs.Alternatives.{Read}
 use Rattle.pv_format.specs.Length.{case_length, polyvalue_length, reads_length, record_length, cause_length, body_length, envelope_length}
-use Rattle.pv_format.specs.Message.{Envelope, Message, lock, granted, denied, prepare, vote_yes, vote_no, outcome_told, ask, NoCause, grant_lost, journal_full, txn_of}
+use Rattle.pv_format.specs.Message.{Envelope, Message, lock, granted, denied, prepare, vote_yes, vote_no, outcome_reported, ask, NoCause, grant_lost, journal_full, txn_of}
 use Rattle.pv_format.specs.MessageSpelling.{SpellsWants, SpellsNoCause, SpellsBody, SpellsEnvelope}
 use Rattle.pv_format.specs.PolyvalueSpelling.{SpellsLiteral, SpellsCase, SpellsCases, SpellsPolyvalue}
 use Rattle.pv_format.specs.Record.{Record, epoch_begun, prepared, outcome_known}
@@ -133,7 +133,7 @@ body-length (denied txn item holder) bytes s = omega (arith, parts-length s, all
 body-length (prepare txn grant writes) bytes s = omega (arith, parts-length s, grant-length grant s.front s.first, reads-length 0 writes s.back s.second)
 body-length (vote_yes txn) bytes s = ap (λ (b : List ℕ). length b) s
 body-length (vote_no txn cause) bytes s = cause-length cause bytes s
-body-length (outcome_told txn commits) bytes s = number-length bytes s
+body-length (outcome_reported txn commits) bytes s = number-length bytes s
 body-length (ask txn) bytes s = ap (λ (b : List ℕ). length b) s
 
 pub envelope-length : (envelope : Envelope) (bytes : List ℕ) → SpellsEnvelope envelope bytes → length bytes ≡ envelope_length envelope

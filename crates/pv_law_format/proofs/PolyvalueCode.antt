@@ -1,4 +1,4 @@
--- Polyvalues are a code, and their faults are told one at a time.
+-- Polyvalues are a code, and their faults are reported one at a time.
 use Rattle.std.proofs.Common.{◌≡◌, ◌⊎◌, ⊎_elim, ℕ, ◌+◌, List, ◌++◌, length, inl, inr, refl, sym, subst}
 use Rattle.std.specs.Prelude.{ℤ}
 use Rattle.pv_base.specs.BigEndian.{AreBytes}

@@ -16,7 +16,7 @@ use Rattle.pv_base.specs.declared.txn.TxnId.{TxnId}
 use Rattle.pv_base.specs.Polyvalue.{Case}
 use Rattle.pv_base.specs.Want.{Want}
 use Rattle.pv_model.specs.Alternatives.{Read}
-use Rattle.pv_format.specs.Message.{Envelope, Message, lock, granted, denied, prepare, vote_yes, vote_no, outcome_told, ask, NoCause, grant_lost, journal_full, txn_of}
+use Rattle.pv_format.specs.Message.{Envelope, Message, lock, granted, denied, prepare, vote_yes, vote_no, outcome_reported, ask, NoCause, grant_lost, journal_full, txn_of}
 use Rattle.pv_format.specs.MessageSpelling.{SpellsWants, SpellsNoCause, SpellsBody, SpellsEnvelope, kind_of}
 use Rattle.pv_format.specs.PolyvalueSpelling.{SpellsLiteral, SpellsCase, SpellsPolyvalue}
 use Rattle.pv_format.specs.Range.{IsTxnInRange, IsGrantInRange, AreItemsInRange, IsCaseInRange, IsPolyvalueInRange, AreReadsInRange, AreWantsInRange, IsCauseInRange, IsBodyInRange, IsEnvelopeInRange, IsRecordInRange}
@@ -135,7 +135,7 @@ body-spelled (denied txn item_ holder) is = joined (item 0 item_ (omega arith) i
 body-spelled (prepare txn grant writes) is = joined (grant-spelled grant is.0) (reads-spelled 0 writes is.1)
 body-spelled (vote_yes txn) is = empty
 body-spelled (vote_no txn cause) is = cause-spelled cause is
-body-spelled (outcome_told txn commits) is = truth commits
+body-spelled (outcome_reported txn commits) is = truth commits
 body-spelled (ask txn) is = empty
 
 kind : (message : Message) → HasSpelling (IsNumber 1 (kind_of message))
@@ -240,7 +240,7 @@ body-from (denied txn item_ holder) bytes s = let parts = item-from 0 item_ s.fr
 body-from (prepare txn grant writes) bytes s = (grant-from grant s.front s.first, reads-from 0 writes s.back s.second)
 body-from (vote_yes txn) bytes s = tt
 body-from (vote_no txn cause) bytes s = cause-from cause bytes s
-body-from (outcome_told txn commits) bytes s = tt
+body-from (outcome_reported txn commits) bytes s = tt
 body-from (ask txn) bytes s = tt
 
 pub envelope-from : (envelope : Envelope) (bytes : List ℕ) → SpellsEnvelope envelope bytes → IsEnvelopeInRange envelope

@@ -12,7 +12,7 @@ use Rattle.pv_base.specs.Assignment.{is_same_txn}
 use Rattle.pv_base.specs.Want.{Want}
 use Rattle.pv_base.specs.declared.grant.GrantId.{GrantId}
 use Rattle.pv_base.specs.declared.txn.TxnId.{TxnId}
-use Rattle.pv_format.specs.Message.{Message, lock, granted, denied, prepare, vote_yes, vote_no, outcome_told, ask, NoCause, txn_of}
+use Rattle.pv_format.specs.Message.{Message, lock, granted, denied, prepare, vote_yes, vote_no, outcome_reported, ask, NoCause, txn_of}
 use Rattle.pv_format.specs.Record.{Record, epoch_begun, prepared, outcome_known}
 use Rattle.pv_law_acts.specs.Acts.{voting_of}
 use Rattle.pv_law_frames.specs.Frames.{IsOther, Frames}
@@ -74,7 +74,7 @@ module _ (txn : TxnId) where
 
   outcomes-sent : (other : TxnId) (commits : Bool) (sites : List ℕ) → (other ≡ txn → ⊥) → Silent (outcome_sends other commits sites)
   outcomes-sent other commits sites apart sent h same =
-      let which = Contains-unmap (λ site. record { to = site; message = outcome_told other commits }) sites sent h in
+      let which = Contains-unmap (λ site. record { to = site; message = outcome_reported other commits }) sites sent h in
       apart (ap (λ (o : Outgoing). txn_of o.message) which.1.1 ∙ same)
 
   locks-sent : (other : TxnId) (parts : List Part) → (other ≡ txn → ⊥) → Silent (lock_sends other parts)
@@ -152,7 +152,7 @@ module _ (txn : TxnId) where
 
       lock-frame : (wants : List Want) (step : Step) → of_locks.LockCase here from other wants step → Frames here txn step
       lock-frame wants step (of_locks.ignored h) = idle step refl refl refl
-      lock-frame wants step (of_locks.told_again grant h found i) =
+      lock-frame wants step (of_locks.granted_again grant h found i) =
           sends-alone _ (one-sent grant.txn.site.0 _ (apart-from grant.txn (grant-txn here.running other grant found))) step refl refl refl
       lock-frame wants step (of_locks.misfits grant h i j) = idle step refl refl refl
       lock-frame wants step (of_locks.denies clash h i j) = sends-alone _ (one-sent other.site.0 (denied other clash.item clash.holder) apart) step refl refl refl
@@ -245,9 +245,9 @@ module _ (txn : TxnId) where
 
       ask-frame : (step : Step) → of_outcomes.AskCase here from other step → Frames here txn step
       ask-frame step (of_outcomes.not_issued h) = idle step refl refl refl
-      ask-frame step (of_outcomes.has_committed h i) = sends-alone _ (one-sent from (outcome_told other true) apart) step refl refl refl
+      ask-frame step (of_outcomes.has_committed h i) = sends-alone _ (one-sent from (outcome_reported other true) apart) step refl refl refl
       ask-frame step (of_outcomes.still_works h i j) = idle step refl refl refl
-      ask-frame step (of_outcomes.will_not_commit h i j) = sends-alone _ (one-sent from (outcome_told other false) apart) step refl refl refl
+      ask-frame step (of_outcomes.will_not_commit h i j) = sends-alone _ (one-sent from (outcome_reported other false) apart) step refl refl refl
 
     message-frame : (from : ℕ) (message : Message) → (txn_of message ≡ txn → ⊥) → Frames here txn (on_message here from message)
     message-frame from (lock other wants) apart = lock-frame from other apart wants _ (lock-case here from other wants)
@@ -256,7 +256,7 @@ module _ (txn : TxnId) where
     message-frame from (prepare other grant writes) apart = prepare-frame from other apart grant writes _ (prepare-case here from other grant writes)
     message-frame from (vote_yes other) apart = yes-frame from other apart _ (yes-case here from other)
     message-frame from (vote_no other cause) apart = no-frame from other apart cause _ (no-case here from other cause)
-    message-frame from (outcome_told other commits) apart = outcome-frame from other apart commits _ (outcome-case here from other commits)
+    message-frame from (outcome_reported other commits) apart = outcome-frame from other apart commits _ (outcome-case here from other commits)
     message-frame from (ask other) apart = ask-frame from other apart _ (ask-case here from other)
 
     pub step-frame : (input : Input) → IsOther here txn input → Frames here txn (step_on here input)

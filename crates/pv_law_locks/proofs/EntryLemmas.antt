@@ -41,7 +41,7 @@ module _ (setup : Setup) (w v : World) (step : IsStep setup w v) (passed : AreNu
   taken-stays : (n : ℕ) (txn : TxnId) (entry : Entry) (taken : Taken) → IsTakenFrom setup w n txn entry taken → IsTakenFrom setup v n txn entry taken
   taken-stays n txn entry taken is = record {
     participant = is.participant;
-    told = sent-stays setup w v step taken.site n (granted txn taken.grant taken.values) is.told;
+    reported = sent-stays setup w v step taken.site n (granted txn taken.grant taken.values) is.reported;
     items = is.items;
   }
 
@@ -94,11 +94,11 @@ module _ (setup : Setup) (w v : World) (step : IsStep setup w v) (passed : AreNu
         unplaced = λ asks. unplaced-still n txn entry (passed.entries n txn old works).home now asks (was.unplaced may.asks);
         in_order = λ asks. absurd (two-stages (sym asks ∙ may.asks));
         taken = λ other h. ⊎_elim
-            (λ before. let held = taken-stays n txn old other (was.taken other before) in record { participant = held.participant; told = held.told; items = held.items })
+            (λ before. let held = taken-stays n txn old other (was.taken other before) in record { participant = held.participant; reported = held.reported; items = held.items })
             (λ (same : taken ≡ other). subst (IsTakenFrom setup v n txn entry) same
             (record {
               participant = may.participant;
-              told = sent-stays setup w v step taken.site n (granted txn taken.grant taken.values) may.told;
+              reported = sent-stays setup w v step taken.site n (granted txn taken.grant taken.values) may.reported;
               items = values-items (wants_at setup old taken.site) taken.values may.right;
             }))
             (taken-either taken old.taken other h);
@@ -120,7 +120,7 @@ module _ (setup : Setup) (w v : World) (step : IsStep setup w v) (passed : AreNu
         runs = was.runs;
         unplaced = λ asks. absurd (two-stages asks);
         in_order = λ asks. subst (λ all. Contains all (place_of old)) (sym order) (listed-last w.order (place_of old));
-        taken = λ taken h. let held = taken-stays n txn old taken (was.taken taken h) in record { participant = held.participant; told = held.told; items = held.items };
+        taken = λ taken h. let held = taken-stays n txn old taken (was.taken taken h) in record { participant = held.participant; reported = held.reported; items = held.items };
         one = was.one;
         votes = λ from h. let vote = vote-stays txn old from (was.votes from h) in record { participant = vote.participant; prepared = vote.prepared };
       }
@@ -130,12 +130,12 @@ module _ (setup : Setup) (w v : World) (step : IsStep setup w v) (passed : AreNu
         runs = was.runs;
         unplaced = λ asks. absurd (two-stages (sym may.asks ∙ asks));
         in_order = λ asks. place-stays setup w v step (place_of old) (was.in_order may.asks);
-        taken = λ taken h. let held = taken-stays n txn old taken (was.taken taken h) in record { participant = held.participant; told = held.told; items = held.items };
+        taken = λ taken h. let held = taken-stays n txn old taken (was.taken taken h) in record { participant = held.participant; reported = held.reported; items = held.items };
         one = was.one;
         votes = λ other h. ⊎_elim
             (λ before. let vote = vote-stays txn old other (was.votes other before) in record { participant = vote.participant; prepared = vote.prepared })
             (λ (same : from ≡ other). subst (IsCountedVote setup v txn entry) same
-            (record { participant = may.participant; prepared = promise-stays setup w v step from txn (right.sent from n (vote_yes txn) may.told) }))
+            (record { participant = may.participant; prepared = promise-stays setup w v step from txn (right.sent from n (vote_yes txn) may.reported) }))
             (listed-either old.votes from other h);
       }
 

@@ -8,7 +8,7 @@ use Rattle.pv_base.proofs.MapLemmas.{Contains-map, Contains-unmap}
 use Rattle.pv_base.specs.Want.{Want}
 use Rattle.pv_base.specs.declared.grant.GrantId.{GrantId}
 use Rattle.pv_base.specs.declared.txn.TxnId.{TxnId}
-use Rattle.pv_format.specs.Message.{Message, lock, granted, denied, prepare, vote_yes, vote_no, outcome_told, ask}
+use Rattle.pv_format.specs.Message.{Message, lock, granted, denied, prepare, vote_yes, vote_no, outcome_reported, ask}
 use Rattle.pv_format.specs.Record.{Record, epoch_begun, prepared, outcome_known}
 use Rattle.pv_law_acts.proofs.ListLemmas.{found-listed, any-listed, all-listed, among-listed}
 use Rattle.pv_law_acts.proofs.StepLemmas.{sent-each, records-each, places-each, sent-either, sent-stays, place-stays, promise-stays}
@@ -140,7 +140,7 @@ module _ (setup : Setup) (w v : World) (step : IsStep setup w v) (passed : AreNu
   old-message from to (prepare txn id writes) h is = record { home = is.home; writing = writing-stays to txn id writes is.writing }
   old-message from to (vote_yes txn) h is = promise-stays setup w v step from txn is
   old-message from to (vote_no txn cause) h is = tt
-  old-message from to (outcome_told txn commits) h is = tt
+  old-message from to (outcome_reported txn commits) h is = tt
   old-message from to (ask txn) h is = tt
 
   new-granted : (from to : ℕ) (txn : TxnId) (id : GrantId) (values : List Read) → MaySendGranted setup w from to txn id values → IsGrantedRight v from to txn values
@@ -178,7 +178,7 @@ module _ (setup : Setup) (w v : World) (step : IsStep setup w v) (passed : AreNu
   new-message from to (prepare txn id writes) may = new-prepare from to txn id writes may
   new-message from to (vote_yes txn) may = promise-stays setup w v step from txn may.prepared
   new-message from to (vote_no txn cause) may = tt
-  new-message from to (outcome_told txn commits) may = tt
+  new-message from to (outcome_reported txn commits) may = tt
   new-message from to (ask txn) may = tt
 
   pub sent-right : (from to : ℕ) (message : Message) → Sent v from to message → IsMessageRight setup v from to message

@@ -3,7 +3,7 @@ use Rattle.std.specs.Prelude.{◌≡◌, ℕ, true, List, ◌∷◌, ◌++◌, m
 use Rattle.pv_base.specs.Want.{Want}
 use Rattle.pv_base.specs.declared.grant.GrantId.{GrantId}
 use Rattle.pv_base.specs.declared.txn.TxnId.{TxnId}
-use Rattle.pv_format.specs.Message.{Message, lock, granted, denied, prepare, vote_yes, vote_no, outcome_told, ask}
+use Rattle.pv_format.specs.Message.{Message, lock, granted, denied, prepare, vote_yes, vote_no, outcome_reported, ask}
 use Rattle.pv_format.specs.Record.{Record, epoch_begun, prepared, outcome_known}
 use Rattle.pv_law_acts.specs.Seen.{records_at, Holds, Works, Sent, parts_of, wants_at, place_of, AreCompatible}
 use Rattle.pv_model.specs.Alternatives.{Read}
@@ -33,7 +33,7 @@ pub record AreWantsOf (setup : Setup) (program : Program) (n : ℕ) (wants : Lis
 -- What a coordinator took from a participant is what the participant granted, of the items that were asked for.
 pub record IsTakenFrom (setup : Setup) (world : World) (n : ℕ) (txn : TxnId) (entry : Entry) (taken : Taken) : Type 0 where
   pub participant : is_among (parts_of setup entry) taken.site ≡ true
-  pub told : Sent world taken.site n (granted txn taken.grant taken.values)
+  pub reported : Sent world taken.site n (granted txn taken.grant taken.values)
   pub items : items_of taken.values ≡ wanted_items (wants_at setup entry taken.site)
 
 -- A vote that was counted is of a participant that is prepared.
@@ -74,7 +74,7 @@ pub record IsLockRight (setup : Setup) (world : World) (from to : ℕ) (txn : Tx
   pub placed : (placed : Placed) → Contains world.order placed → placed.txn ≡ txn → AreWantsOf setup placed.program to wants
   pub entry : (entry : Entry) → Works world from txn entry → AreWantsOf setup entry.program to wants
 
--- A grant is told to its transaction's site, which asked for it, with values of the items that it asked for.
+-- A grant is reported to its transaction's site, which asked for it, with values of the items that it asked for.
 pub record IsGrantedRight (world : World) (from to : ℕ) (txn : TxnId) (values : List Read) : Type 0 where
   pub home : to ≡ home_of txn
   pub wants : List Want
@@ -95,7 +95,7 @@ IsMessageRight setup world from to (denied txn item holder) = holder ≡ txn →
 IsMessageRight setup world from to (prepare txn id writes) = IsPrepareRight setup world from to txn id writes
 IsMessageRight setup world from to (vote_yes txn) = is_prepared (records_at world from) txn ≡ true
 IsMessageRight setup world from to (vote_no txn cause) = ⊤
-IsMessageRight setup world from to (outcome_told txn commits) = ⊤
+IsMessageRight setup world from to (outcome_reported txn commits) = ⊤
 IsMessageRight setup world from to (ask txn) = ⊤
 
 -- A promise is of a transaction of the order, for the items that it may change.

@@ -1,10 +1,10 @@
--- What is committed, told and recorded of outcomes stays so, and what is dead stays dead.
+-- What is committed, reported and recorded of outcomes stays so, and what is dead stays dead.
 use Rattle.std.proofs.Common.{◌≡◌, ◌⊎◌, ⊎_elim, ℕ, Bool, true, false, Some, None, Option, inl, inr, refl, sym, subst, ◌∙◌}
 use Rattle.std.specs.List.{Contains}
 use Rattle.std.proofs.lemmas.Bool.{false≢true, false_from_ne_true}
 use Rattle.pv_base.proofs.ContainsLemmas.{Contains-nil}
 use Rattle.pv_base.specs.declared.txn.TxnId.{TxnId}
-use Rattle.pv_format.specs.Message.{outcome_told}
+use Rattle.pv_format.specs.Message.{outcome_reported}
 use Rattle.pv_format.specs.Record.{Record, epoch_begun, outcome_known}
 use Rattle.pv_law_acts.proofs.ListLemmas.{none-some, all-listed, among-listed}
 use Rattle.pv_law_acts.proofs.PassedLemmas.{numbers-passed, no-work-yet, only-epochs-yet}
@@ -44,7 +44,7 @@ module _ (setup : Setup) (w v : World) (step : IsStep setup w v) (sound : IsSoun
       (λ old. inl (listed-yes (records_at w (home_of txn)) txn old))
       (λ new. ⊎_elim
       (λ commit. inr commit)
-      (λ (may : MayLearn w (home_of txn) txn true). inl (decided.told (home_of txn) (home_of txn) txn true may.told).outcome)
+      (λ (may : MayLearn w (home_of txn) txn true). inl (decided.reported (home_of txn) (home_of txn) txn true may.reported).outcome)
       new)
       (record-either setup w v step (home_of txn) (outcome_known txn true) (yes-listed (records_at v (home_of txn)) txn is))
 
@@ -108,7 +108,7 @@ module _ (setup : Setup) (w v : World) (step : IsStep setup w v) (sound : IsSoun
       (listed-yes (records_at v (home_of txn)) txn
       (subst (λ m. Contains (records_at v m) (outcome_known txn true)) (sym (sound.passed.entries n txn commit.entry commit.works).home)
       (subst (λ b. Contains (records_at v n) (outcome_known txn b)) commit.yes h))))
-      (λ (may : MayLearn w n txn commits). outcome-stays txn commits (decided.told (home_of txn) n txn commits may.told).outcome)
+      (λ (may : MayLearn w n txn commits). outcome-stays txn commits (decided.reported (home_of txn) n txn commits may.reported).outcome)
       new)
       (record-either setup w v step n (outcome_known txn commits) h)
 
@@ -116,10 +116,10 @@ module _ (setup : Setup) (w v : World) (step : IsStep setup w v) (sound : IsSoun
   stays-decided = record {
     working = working-uncommitted;
     committed = λ txn is. everywhere-stays txn (⊎_elim (λ old. decided.committed txn old) (λ commit. voted-everywhere (home_of txn) txn true commit) (commit-either txn is));
-    told = λ from to txn commits h. ⊎_elim
-        (λ old. let was = decided.told from to txn commits old in record { home = was.home; outcome = outcome-stays txn commits was.outcome })
+    reported = λ from to txn commits h. ⊎_elim
+        (λ old. let was = decided.reported from to txn commits old in record { home = was.home; outcome = outcome-stays txn commits was.outcome })
         (λ (may : MaySendOutcome w from txn commits). record { home = may.home; outcome = outcome-stays txn commits may.outcome })
-        (sent-either setup w v step from to (outcome_told txn commits) h);
+        (sent-either setup w v step from to (outcome_reported txn commits) h);
     known = known-stays;
   }
 
@@ -133,7 +133,7 @@ module _ (setup : Setup) where
   decided-first = record {
     working = λ n txn entry works. absurd (no-work-yet setup n txn entry works);
     committed = λ txn is. absurd (not-known-first (home_of txn) txn true (yes-listed (records_at (opening setup) (home_of txn)) txn is));
-    told = λ from to txn commits h. absurd (Contains-nil _ h);
+    reported = λ from to txn commits h. absurd (Contains-nil _ h);
     known = λ n txn commits h. absurd (not-known-first n txn commits h);
   }
 

@@ -31,15 +31,15 @@ module _ (setup : Setup) (world : World) (settled : IsSettled setup world) where
   pub dead-uncommitted : (txn : TxnId) → IsDead world txn → is_committed world txn ≡ true → ⊥
   dead-uncommitted txn dead is = false≢true (sym dead.uncommitted ∙ is)
 
-  one-of-two : (txn : TxnId) (outcome told : Bool) → HasOutcome world txn outcome → HasOutcome world txn told → outcome ≡ told
+  one-of-two : (txn : TxnId) (outcome reported : Bool) → HasOutcome world txn outcome → HasOutcome world txn reported → outcome ≡ reported
   one-of-two txn true true is other = refl
   one-of-two txn false false is other = refl
   one-of-two txn true false is other = absurd (dead-uncommitted txn other is)
   one-of-two txn false true is other = absurd (dead-uncommitted txn is other)
 
-  pub one-outcome : (n other : ℕ) (txn : TxnId) (outcome told : Bool) → Knows world n txn outcome → Knows world other txn told → outcome ≡ told
-  one-outcome n other txn outcome told knows also =
-      one-of-two txn outcome told (known-outcome n txn outcome knows) (known-outcome other txn told also)
+  pub one-outcome : (n other : ℕ) (txn : TxnId) (outcome reported : Bool) → Knows world n txn outcome → Knows world other txn reported → outcome ≡ reported
+  one-outcome n other txn outcome reported knows also =
+      one-of-two txn outcome reported (known-outcome n txn outcome knows) (known-outcome other txn reported also)
 
   pub dead-out : (txn : TxnId) → IsDead world txn → IsOut txn world
   dead-out txn dead = record {

@@ -4,7 +4,7 @@ use Rattle.std.specs.List.{list_any}
 use Rattle.pv_base.specs.Assignment.{is_same_txn, commits}
 use Rattle.pv_base.specs.Want.{Want}
 use Rattle.pv_base.specs.declared.txn.TxnId.{TxnId}
-use Rattle.pv_format.specs.Message.{outcome_told}
+use Rattle.pv_format.specs.Message.{outcome_reported}
 use Rattle.pv_format.specs.Record.{outcome_known}
 use Rattle.pv_law_acts.specs.Guards.{HasOutcome}
 use Rattle.pv_law_acts.specs.Seen.{records_at, Holds, Works, Sent}
@@ -20,17 +20,17 @@ pub record IsPreparedEverywhere (world : World) (txn : TxnId) : Type 0 where
   pub own : placed.txn ≡ txn
   pub prepared : (taken : TakenGrant) → Contains placed.grants taken → is_prepared (records_at world taken.site) txn ≡ true
 
--- An outcome that is told comes from the transaction's site, and is the transaction's.
-pub record IsTold (world : World) (from : ℕ) (txn : TxnId) (commits : Bool) : Type 0 where
+-- An outcome that is reported comes from the transaction's site, and is the transaction's.
+pub record IsReported (world : World) (from : ℕ) (txn : TxnId) (commits : Bool) : Type 0 where
   pub home : from ≡ home_of txn
   pub outcome : HasOutcome world txn commits
 
--- What is worked on isn't committed, what is committed is prepared everywhere, and what is told and recorded of outcomes is so: that
+-- What is worked on isn't committed, what is committed is prepared everywhere, and what is reported and recorded of outcomes is so: that
 -- a transaction commits is said of a committed one alone, and that it doesn't of a dead one.
 pub record AreDecided (world : World) : Type 0 where
   pub working : (n : ℕ) (txn : TxnId) (entry : Entry) → Works world n txn entry → is_committed world txn ≡ false
   pub committed : (txn : TxnId) → is_committed world txn ≡ true → IsPreparedEverywhere world txn
-  pub told : (from to : ℕ) (txn : TxnId) (commits : Bool) → Sent world from to (outcome_told txn commits) → IsTold world from txn commits
+  pub reported : (from to : ℕ) (txn : TxnId) (commits : Bool) → Sent world from to (outcome_reported txn commits) → IsReported world from txn commits
   pub known : (n : ℕ) (txn : TxnId) (commits : Bool) → Contains (records_at world n) (outcome_known txn commits) → HasOutcome world txn commits
 
 -- The participant is prepared, or the very grant stands that was taken from it.

@@ -11,7 +11,7 @@ ghost use Rattle.pv_protocol.specs.State.{Setup};
 ghost use Rattle.pv_protocol.specs.World.{opening, World};
 
 /// Whatever acts lead to a world, a committed transaction is in the order and prepared at each participant, and that a transaction
-/// commits is told and recorded of a committed one alone, that it doesn't of a dead one.
+/// commits is reported and recorded of a committed one alone, that it doesn't of a dead one.
 pub fn outcomes_are_decided()
     ensures { (setup : Setup) (world : World) → Acts setup (opening setup) world → AreDecided world }
 {}
@@ -19,8 +19,8 @@ pub fn outcomes_are_decided()
 /// No two sites know different outcomes. One that is known to commit is committed. One that is known not to is dead, which is neither
 /// committed nor open, then and ever after.
 pub fn no_two_outcomes()
-    ensures one { (setup : Setup) (world : World) → Acts setup (opening setup) world → (n other : ℕ) (txn : TxnId) (outcome told : Bool) →
-        Knows world n txn outcome → Knows world other txn told → outcome ≡ told }
+    ensures one { (setup : Setup) (world : World) → Acts setup (opening setup) world → (n other : ℕ) (txn : TxnId) (outcome reported : Bool) →
+        Knows world n txn outcome → Knows world other txn reported → outcome ≡ reported }
     ensures commit { (setup : Setup) (world : World) → Acts setup (opening setup) world → (n : ℕ) (txn : TxnId) → Knows world n txn true →
         IsTrue (is_committed world txn) }
     ensures abort { (setup : Setup) (world : World) → Acts setup (opening setup) world → (n : ℕ) (txn : TxnId) → Knows world n txn false →

@@ -63,8 +63,8 @@ pub delivered-of : (world : World) (event : Event) (n : ℕ) (input : Input) (fo
 delivered-of world _ _ _ _ (request n query text program) from message is = absurd (let wrong : ⊥ = cc in wrong)
 delivered-of world _ _ _ _ (delivery number envelope there) from message is =
     let sender : envelope.from ≡ from = cc in
-    let told : envelope.message ≡ message = cc in
-    record { number = number; is = refl; sent = there ∙ (λ i. Some (record { from = sender i; to = envelope.to; message = told i })) }
+    let reported : envelope.message ≡ message = cc in
+    record { number = number; is = refl; sent = there ∙ (λ i. Some (record { from = sender i; to = envelope.to; message = reported i })) }
 delivered-of world _ _ _ _ (time n) from message is = absurd (let wrong : ⊥ = cc in wrong)
 
 pub time-of : (world : World) (event : Event) (n : ℕ) (input : Input) (found : World) → Gives world event n input found → input ≡ tick → event ≡ Event.tick n

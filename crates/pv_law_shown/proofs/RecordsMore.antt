@@ -25,11 +25,11 @@ known-more (outcome_known txn commits ∷ records) more t =
     ap (λ rest. if is_same_txn t txn then Some commits else rest) (known-more records more t)
     ∙ if-or (is_same_txn t txn) commits (known records t) (known (more ∷ []) t)
 
--- A promise tells no outcome.
+-- A promise says no outcome.
 pub known-promise : (records : List Record) (txn : TxnId) (writes : List Read) (t : TxnId) → known (records ++ prepared txn writes ∷ []) t ≡ known records t
 known-promise records txn writes t = known-more records (prepared txn writes) t ∙ or-none (known records t)
 
--- An epoch tells no outcome.
+-- An epoch says no outcome.
 pub known-epoch : (records : List Record) (epoch : ℕ) (t : TxnId) → known (records ++ epoch_begun epoch ∷ []) t ≡ known records t
 known-epoch records epoch t = known-more records (epoch_begun epoch) t ∙ or-none (known records t)
 

@@ -66,7 +66,7 @@ module _ (catalog : Declared) where
       within-more records front (prepared txn writes) item a
       ∙ ap (λ cases. if commits (choice records a) txn then written_or old cases (choice records a) else old) is
 
-  -- A promise tells no outcome, so the records before it are enough to see what is shown with it.
+  -- A promise says no outcome, so the records before it are enough to see what is shown with it.
   pub shown-promise : (records : List Record) (txn : TxnId) (writes : List Read) (item : ℕ)
       → shown catalog (records ++ prepared txn writes ∷ []) item ≡ shown_within catalog records (records ++ prepared txn writes ∷ []) item
   shown-promise records txn writes item =

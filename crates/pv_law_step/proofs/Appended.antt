@@ -4,7 +4,7 @@ use Rattle.std.specs.Prelude.{◌≤◌, if◌then◌else◌}
 use Rattle.pv_base.specs.declared.grant.GrantId.{GrantId}
 use Rattle.pv_base.specs.declared.txn.TxnId.{TxnId}
 use Rattle.pv_base.specs.Want.{Want}
-use Rattle.pv_format.specs.Message.{Message, lock, granted, denied, prepare, vote_yes, vote_no, outcome_told, ask, NoCause}
+use Rattle.pv_format.specs.Message.{Message, lock, granted, denied, prepare, vote_yes, vote_no, outcome_reported, ask, NoCause}
 use Rattle.pv_format.specs.Record.{prepared}
 use Rattle.pv_law_step.proofs.StepCases.{submit-case, lock-case, granted-case, denied-case, prepare-case, yes-case, no-case, outcome-case, ask-case}
 use Rattle.pv_law_step.specs.Appends.{Appends, nothing_at_all, an_outcome, a_promise, Rises}
@@ -57,7 +57,7 @@ module _ (here : Here) where
 
   lock-steady : (from : ℕ) (txn : TxnId) (wants : List Want) (step : Step) → of_locks.LockCase here from txn wants step → IsSteady here step
   lock-steady from txn wants step (of_locks.ignored h) = still here step refl refl (omega arith) (omega arith)
-  lock-steady from txn wants step (of_locks.told_again grant h i j) = still here step refl refl (omega arith) (omega arith)
+  lock-steady from txn wants step (of_locks.granted_again grant h i j) = still here step refl refl (omega arith) (omega arith)
   lock-steady from txn wants step (of_locks.misfits grant h i j) = still here step refl refl (omega arith) (omega arith)
   lock-steady from txn wants step (of_locks.denies conflict h i j) = still here step refl refl (omega arith) (omega arith)
   lock-steady from txn wants step (of_locks.no_grant_left h i) = still here step refl refl (omega arith) (omega arith)
@@ -137,7 +137,7 @@ module _ (here : Here) where
   message-steady from (prepare txn grant writes) = prepare-steady from txn grant writes _ (prepare-case here from txn grant writes)
   message-steady from (vote_yes txn) = yes-steady from txn _ (yes-case here from txn)
   message-steady from (vote_no txn cause) = no-steady from txn cause _ (no-case here from txn cause)
-  message-steady from (outcome_told txn commits) = outcome-steady from txn commits _ (outcome-case here from txn commits)
+  message-steady from (outcome_reported txn commits) = outcome-steady from txn commits _ (outcome-case here from txn commits)
   message-steady from (ask txn) = ask-steady from txn _ (ask-case here from txn)
 
   pub steady : (input : Input) → IsSteady here (step_on here input)

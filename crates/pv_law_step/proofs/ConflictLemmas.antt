@@ -83,10 +83,10 @@ first-found p (first ∷ rest) up x y is h passes =
 -- Conflicts.
 
 module _ (grants : List Grant) where
-  -- A conflict over a want is one that the test tells.
-  told : (wants : List Want) (want : Want) (item : ℕ) (holder : TxnId) (conflict : IsConflict grants wants item holder) → want ≡ conflict.want
+  -- A conflict over a want is one that the test finds.
+  reported : (wants : List Want) (want : Want) (item : ℕ) (holder : TxnId) (conflict : IsConflict grants wants item holder) → want ≡ conflict.want
       → IsTrue (is_in_the_way want conflict.grant)
-  told wants want item holder conflict same =
+  reported wants want item holder conflict same =
       subst (λ (w : Want). IsTrue (is_in_the_way w conflict.grant)) (sym same)
       (passes-some (do_conflict conflict.want) conflict.grant.wants conflict.held conflict.has
       (and_from (conflict.want.item == conflict.held.item) (conflict.want.exclusive || conflict.held.exclusive)
@@ -128,7 +128,7 @@ module _ (grants : List Grant) where
   no-conflict (want ∷ wants) is item holder conflict =
       let none = none-found want (find (is_in_the_way want) grants) (first_conflict grants wants) is in
       ⊎_elim
-      (λ one. none-passes (is_in_the_way want) grants none.0 conflict.grant conflict.stands (told (want ∷ wants) want item holder conflict one))
+      (λ one. none-passes (is_in_the_way want) grants none.0 conflict.grant conflict.stands (reported (want ∷ wants) want item holder conflict one))
       (λ later. no-conflict wants none.1 item holder (within want wants item holder conflict later))
       (Contains-cases want wants conflict.want conflict.wanted)
 
@@ -154,7 +154,7 @@ module _ (grants : List Grant) (order : AreInOrder (λ (g : Grant). g.txn) grant
             (λ one. inr (
               ap (λ (w : Want). w.item) one ∙ conflict.same.0,
               subst (AtOrBefore grant.txn) conflict.of
-                  (first-found (is_in_the_way want) grants order grant conflict.grant found conflict.stands (told grants (want ∷ wants) want other another conflict one)),
+                  (first-found (is_in_the_way want) grants order grant conflict.grant found conflict.stands (reported grants (want ∷ wants) want other another conflict one)),
             ))
             (λ later. inl (subst (λ n. want.item < n) conflict.same.0
             (ascend-first want.item (map (λ (w : Want). w.item) wants) up conflict.want.item (Contains-map (λ (w : Want). w.item) wants conflict.want later))))
@@ -166,7 +166,7 @@ module _ (grants : List Grant) (order : AreInOrder (λ (g : Grant). g.txn) grant
   later-least want wants none item holder rest = record {
     is = behind grants want wants item holder rest.is;
     least = λ other another conflict. ⊎_elim
-        (λ one. absurd (none-passes (is_in_the_way want) grants none conflict.grant conflict.stands (told grants (want ∷ wants) want other another conflict one)))
+        (λ one. absurd (none-passes (is_in_the_way want) grants none conflict.grant conflict.stands (reported grants (want ∷ wants) want other another conflict one)))
         (λ later. rest.least other another (within grants want wants other another conflict later))
         (Contains-cases want wants conflict.want conflict.wanted);
   }

@@ -10,7 +10,7 @@ use Rattle.pv_base.specs.declared.txn.TxnId.{TxnId}
 use Rattle.pv_base.specs.Assignment.{AreAscending, is_same_txn, precedes}
 use Rattle.pv_base.specs.Named.{with_txn}
 use Rattle.pv_base.specs.Want.{Want}
-use Rattle.pv_format.specs.Message.{Message, lock, granted, denied, prepare, vote_yes, vote_no, outcome_told, ask, NoCause}
+use Rattle.pv_format.specs.Message.{Message, lock, granted, denied, prepare, vote_yes, vote_no, outcome_reported, ask, NoCause}
 use Rattle.pv_law_canonical.proofs.FilterLemmas.{kept-listed}
 use Rattle.pv_law_polyvalues.proofs.AscendingLemmas.{ascending-cons, ascending-first, ascending-tail}
 use Rattle.pv_law_step.proofs.NameLists.{inserted}
@@ -78,7 +78,7 @@ module _ (here : Here) (order : IsInOrder here.running) where
 
   lock-order : (from : ℕ) (txn : TxnId) (wants : List Want) (step : Step) → of_locks.LockCase here from txn wants step → IsInOrder step.running
   lock-order from txn wants step (of_locks.ignored h) = order
-  lock-order from txn wants step (of_locks.told_again grant h i j) = order
+  lock-order from txn wants step (of_locks.granted_again grant h i j) = order
   lock-order from txn wants step (of_locks.misfits grant h i j) = order
   lock-order from txn wants step (of_locks.denies conflict h i j) = order
   lock-order from txn wants step (of_locks.no_grant_left h i) = order
@@ -151,7 +151,7 @@ module _ (here : Here) (order : IsInOrder here.running) where
   message-order from (prepare txn grant writes) = prepare-order from txn grant writes _ (prepare-case here from txn grant writes)
   message-order from (vote_yes txn) = yes-order from txn _ (yes-case here from txn)
   message-order from (vote_no txn cause) = no-order from txn cause _ (no-case here from txn cause)
-  message-order from (outcome_told txn commits) = outcome-order from txn commits _ (outcome-case here from txn commits)
+  message-order from (outcome_reported txn commits) = outcome-order from txn commits _ (outcome-case here from txn commits)
   message-order from (ask txn) = ask-order from txn _ (ask-case here from txn)
 
   pub stays-in-order : (input : Input) → IsInOrder (step_on here input).running

@@ -41,25 +41,25 @@ choice-alike records a b t alike =
 pub choice-known : (records : List Record) (a : List TxnId) (t : TxnId) (outcome : Bool) → known records t ≡ Some outcome → commits (choice records a) t ≡ outcome
 choice-known records a t outcome is = choice-is records a t ∙ ap (λ o. or_assigned o (commits a t)) is
 
--- the assignment with the outcome that a record tells, if it tells one
-abbrev pub told_by : Record → List TxnId → List TxnId
-told_by (outcome_known txn outcome) a = with_outcome txn outcome a
-told_by other a = a
+-- the assignment with the outcome that a record says, if it says one
+abbrev pub with_recorded : Record → List TxnId → List TxnId
+with_recorded (outcome_known txn outcome) a = with_outcome txn outcome a
+with_recorded other a = a
 
-choice-one : (more : Record) (a : List TxnId) → choice (more ∷ []) a ≡ told_by more a
+choice-one : (more : Record) (a : List TxnId) → choice (more ∷ []) a ≡ with_recorded more a
 choice-one (epoch_begun epoch) a = refl
 choice-one (prepared txn writes) a = refl
 choice-one (outcome_known txn outcome) a = refl
 
--- One more record at the end tells its outcome first, and so the others count before it.
-pub choice-more : (records : List Record) (more : Record) (a : List TxnId) → choice (records ++ more ∷ []) a ≡ choice records (told_by more a)
+-- One more record at the end says its outcome first, and so the others count before it.
+pub choice-more : (records : List Record) (more : Record) (a : List TxnId) → choice (records ++ more ∷ []) a ≡ choice records (with_recorded more a)
 choice-more [] more a = choice-one more a
 choice-more (epoch_begun epoch ∷ records) more a = choice-more records more a
 choice-more (prepared txn writes ∷ records) more a = choice-more records more a
 choice-more (outcome_known txn outcome ∷ records) more a = ap (with_outcome txn outcome) (choice-more records more a)
 
--- What a record tells doesn't part assignments that agree on a transaction.
-pub told-alike : (more : Record) (a b : List TxnId) (t : TxnId) → commits a t ≡ commits b t → commits (told_by more a) t ≡ commits (told_by more b) t
-told-alike (epoch_begun epoch) a b t alike = alike
-told-alike (prepared txn writes) a b t alike = alike
-told-alike (outcome_known txn outcome) a b t alike = commits-with-alike txn outcome a b t alike
+-- What a record says doesn't part assignments that agree on a transaction.
+pub recorded-alike : (more : Record) (a b : List TxnId) (t : TxnId) → commits a t ≡ commits b t → commits (with_recorded more a) t ≡ commits (with_recorded more b) t
+recorded-alike (epoch_begun epoch) a b t alike = alike
+recorded-alike (prepared txn writes) a b t alike = alike
+recorded-alike (outcome_known txn outcome) a b t alike = commits-with-alike txn outcome a b t alike

@@ -109,8 +109,8 @@ module _ (sites : ℕ) (here : Here) (sound : IsHereInRange sites here) where
   pub outcome-in-range : (txn : TxnId) → IsTxnWithin sites txn → (commits : Bool) (receivers : List ℕ) → ((site : ℕ) → Contains receivers site → site < sites)
       → All (IsSentInRange sites here) (outcome_sends txn commits receivers)
   outcome-in-range txn is commits receivers each =
-      All-map (IsSentInRange sites here) (λ site. record { to = site; message = Message.outcome_told txn commits }) receivers
-      (all-from (λ site. IsSentInRange sites here (record { to = site; message = Message.outcome_told txn commits })) receivers
+      All-map (IsSentInRange sites here) (λ site. record { to = site; message = Message.outcome_reported txn commits }) receivers
+      (all-from (λ site. IsSentInRange sites here (record { to = site; message = Message.outcome_reported txn commits })) receivers
       (λ site h. record { from = me-in-range; to = each site h; txn = is; body = tt }))
 
   pub one-in-range : (to : ℕ) (message : Message) → IsSentInRange sites here (record { to = to; message = message }) → All (IsSentInRange sites here) (record { to = to; message = message } ∷ [])

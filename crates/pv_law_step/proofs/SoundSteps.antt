@@ -12,7 +12,7 @@ use Rattle.pv_base.specs.declared.txn.TxnId.{TxnId}
 use Rattle.pv_base.specs.Catalog.{Declared}
 use Rattle.pv_base.specs.Named.{names_of}
 use Rattle.pv_base.specs.Want.{Want}
-use Rattle.pv_format.specs.Message.{Message, lock, granted, denied, prepare, vote_yes, vote_no, outcome_told, ask, NoCause, grant_lost, journal_full}
+use Rattle.pv_format.specs.Message.{Message, lock, granted, denied, prepare, vote_yes, vote_no, outcome_reported, ask, NoCause, grant_lost, journal_full}
 use Rattle.pv_format.specs.Range.{IsTxnWithin, IsGrantInRange, AreItemsInRange, AreReadsWithin, AreWantsInRange, IsEnvelopeWithin, IsRecordWithin}
 use Rattle.pv_format.specs.Record.{Record, prepared}
 use Rattle.pv_law_canonical.proofs.FilterLemmas.{kept-listed}
@@ -195,7 +195,7 @@ module _ (sites : ℕ) (here : Here) (sound : IsHereInRange sites here) where
   lock-safe : (from : ℕ) (txn : TxnId) (wants : List Want) → IsTxnWithin sites txn → AreWantsInRange wants
       → (step : Step) → of_locks.LockCase here from txn wants step → IsSafe sites here step
   lock-safe from txn wants is are step (of_locks.ignored h) = same-running
-  lock-safe from txn wants is are step (of_locks.told_again grant h found j) = granting-safe here.running grant sound.running (held txn grant found)
+  lock-safe from txn wants is are step (of_locks.granted_again grant h found j) = granting-safe here.running grant sound.running (held txn grant found)
   lock-safe from txn wants is are step (of_locks.misfits grant h i j) = same-running
   lock-safe from txn wants is are step (of_locks.denies conflict h i found) =
       let small = of-some (λ (c : Conflict). (c.item < MAX_ITEMS) × IsTxnWithin sites c.holder) (first_conflict here.running.grants wants) conflict (conflict-safe wants are.items.each) found in
@@ -348,10 +348,10 @@ module _ (sites : ℕ) (here : Here) (sound : IsHereInRange sites here) where
   ask-safe : (from : ℕ) (txn : TxnId) → from < sites → IsTxnWithin sites txn → (step : Step) → of_outcomes.AskCase here from txn step → IsSafe sites here step
   ask-safe from txn small is step (of_outcomes.not_issued h) = same-running
   ask-safe from txn small is step (of_outcomes.has_committed h i) =
-      telling here.running from (outcome_told txn true) sound.running (record { from = me-in-range sites here sound; to = small; txn = is; body = tt })
+      telling here.running from (outcome_reported txn true) sound.running (record { from = me-in-range sites here sound; to = small; txn = is; body = tt })
   ask-safe from txn small is step (of_outcomes.still_works h i j) = same-running
   ask-safe from txn small is step (of_outcomes.will_not_commit h i j) =
-      telling here.running from (outcome_told txn false) sound.running (record { from = me-in-range sites here sound; to = small; txn = is; body = tt })
+      telling here.running from (outcome_reported txn false) sound.running (record { from = me-in-range sites here sound; to = small; txn = is; body = tt })
 
   -- Ticks.
 
@@ -436,7 +436,7 @@ module _ (sites : ℕ) (here : Here) (sound : IsHereInRange sites here) where
       prepare-safe from txn grant writes is.txn is.body.1 (λ of small. length-short sites here sound of writes is.body.1) _ (prepare-case here from txn grant writes)
   message-safe from (vote_yes txn) is = yes-safe from txn _ (yes-case here from txn)
   message-safe from (vote_no txn cause) is = no-safe from txn cause _ (no-case here from txn cause)
-  message-safe from (outcome_told txn commits) is = outcome-safe from txn commits is.txn _ (outcome-case here from txn commits)
+  message-safe from (outcome_reported txn commits) is = outcome-safe from txn commits is.txn _ (outcome-case here from txn commits)
   message-safe from (ask txn) is = ask-safe from txn is.from is.txn _ (ask-case here from txn)
 
   pub safe : (input : Input) → IsInputInRange sites here input → IsSafe sites here (step_on here input)

@@ -54,7 +54,7 @@ module _ (here : Here) (from : ℕ) (txn : TxnId) (wants : List Want) where
   standing-case : is_lock_ignored here from txn wants ≡ false → (grant : Option Grant) → grant_of here.running txn ≡ grant
       → LockCase here from txn wants (at_standing here txn wants grant)
   standing-case heard (Some grant) is =
-      if_case (LockCase here from txn wants) _ (of_locks.told_again grant heard is) (of_locks.misfits grant heard is)
+      if_case (LockCase here from txn wants) _ (of_locks.granted_again grant heard is) (of_locks.misfits grant heard is)
   standing-case heard None is = conflict-case heard is (first_conflict here.running.grants wants) refl
 
   pub lock-case : LockCase here from txn wants (on_lock here from txn wants)
@@ -140,7 +140,7 @@ none-some same = cc
 
 module _ (here : Here) (from : ℕ) (txn : TxnId) (commits : Bool) where
   needless-case : of_outcomes.IsNews here from txn → is_needed here txn ≡ false
-      → (told : Bool) → commits ≡ told → OutcomeCase here from txn commits (if told then nothing here else remembering (without_grant here.running txn))
+      → (reported : Bool) → commits ≡ reported → OutcomeCase here from txn commits (if reported then nothing here else remembering (without_grant here.running txn))
   needless-case news needless true is = of_outcomes.nothing_to_do news needless is
   needless-case news needless false is = of_outcomes.releases news needless is
 

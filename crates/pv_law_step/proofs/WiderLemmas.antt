@@ -5,7 +5,7 @@ use Rattle.pv_base.specs.declared.limits.TheConstants.{MAX_SITES}
 use Rattle.pv_base.specs.declared.literal.Literal.{Literal}
 use Rattle.pv_base.specs.declared.txn.TxnId.{TxnId}
 use Rattle.pv_base.specs.Polyvalue.{Case}
-use Rattle.pv_format.specs.Message.{Envelope, Message, lock, granted, denied, prepare, vote_yes, vote_no, outcome_told, ask}
+use Rattle.pv_format.specs.Message.{Envelope, Message, lock, granted, denied, prepare, vote_yes, vote_no, outcome_reported, ask}
 use Rattle.pv_format.specs.Range.{IsTxnWithin, IsCaseWithin, IsPolyvalueWithin, AreReadsWithin, IsBodyWithin, IsEnvelopeWithin, IsRecordWithin, IsTxnInRange, IsCaseInRange, IsPolyvalueInRange, AreReadsInRange, IsBodyInRange, IsEnvelopeInRange, IsRecordInRange}
 use Rattle.pv_format.specs.Record.{Record, epoch_begun, prepared, outcome_known}
 use Rattle.pv_model.specs.Alternatives.{Read}
@@ -39,7 +39,7 @@ module _ (sites : ℕ) (few : sites ≤ MAX_SITES) where
   body-wider (prepare txn grant writes) is = (is.0, reads-wider 0 writes is.1)
   body-wider (vote_yes txn) is = is
   body-wider (vote_no txn cause) is = is
-  body-wider (outcome_told txn commits) is = is
+  body-wider (outcome_reported txn commits) is = is
   body-wider (ask txn) is = is
 
   pub envelope-wider : (envelope : Envelope) → IsEnvelopeWithin sites envelope → IsEnvelopeInRange envelope

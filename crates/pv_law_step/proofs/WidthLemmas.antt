@@ -10,7 +10,7 @@ use Rattle.pv_base.specs.Named.{names_of}
 use Rattle.pv_base.specs.Polyvalue.{Case, DependsOnlyOn, names}
 use Rattle.pv_format.specs.Record.{Record, epoch_begun, prepared, outcome_known}
 use Rattle.pv_law_step.proofs.NameLists.{names-listed, listed-names, names-ascend}
-use Rattle.pv_law_step.proofs.OutcomeLemmas.{told_by, choice-more, told-alike}
+use Rattle.pv_law_step.proofs.OutcomeLemmas.{with_recorded, choice-more, recorded-alike}
 use Rattle.pv_law_step.proofs.ShownLemmas.{if-same, shown-canonical, shown-value}
 use Rattle.pv_law_polyvalues.proofs.AscendingLemmas.{fewer-ascending}
 use Rattle.pv_law_polyvalues.proofs.PolyvalueLemmas.{value_at-agree, depends-named}
@@ -97,7 +97,7 @@ module _ (catalog : Declared) where
   with-more : (records front : List Record) (more : Record) (item : ℕ)
       → length (names_of (shown_within catalog (records ++ more ∷ []) front item)) ≤ length (names_of (shown_within catalog records front item))
   with-more records front more item =
-      narrower records front (records ++ more ∷ []) front item (told_by more) (told-alike more)
+      narrower records front (records ++ more ∷ []) front item (with_recorded more) (recorded-alike more)
       (λ a. ap (λ b. newest item b (declared_value catalog item) front) (choice-more records more a))
 
   module _ (limit site : ℕ) (records : List Record) (narrow : IsNarrow limit catalog site records) (txn : TxnId) (writes : List Read) where

@@ -23,7 +23,7 @@ pub record IsGrantable (here : Here) (from : ℕ) (txn : TxnId) (wants : List Wa
 -- The cases of a lock message.
 pub data LockCase (here : Here) (from : ℕ) (txn : TxnId) (wants : List Want) : Step → Type 0 where
   ignored : is_lock_ignored here from txn wants ≡ true → LockCase here from txn wants (nothing here)
-  told_again : (grant : Grant) → is_lock_ignored here from txn wants ≡ false → grant_of here.running txn ≡ Some grant
+  granted_again : (grant : Grant) → is_lock_ignored here from txn wants ≡ false → grant_of here.running txn ≡ Some grant
       → are_same_wants wants grant.wants ≡ true → LockCase here from txn wants (granting here here.running grant)
   misfits : (grant : Grant) → is_lock_ignored here from txn wants ≡ false → grant_of here.running txn ≡ Some grant
       → are_same_wants wants grant.wants ≡ false → LockCase here from txn wants (nothing here)

@@ -25,7 +25,7 @@ pub fn request_cases()
     ensures { (here : Here) (program : Program) → SubmitCase here program (on_submit here program) }
 {}
 
-/// Locks are ignored, also where the transaction's grant is of others; told again, denied, or granted, unless no number is left.
+/// Locks are ignored, also where the transaction's grant is of others; granted again, denied, or granted anew, unless no number is left.
 pub fn lock_cases()
     ensures { (here : Here) (from : ℕ) (txn : TxnId) (wants : List Want) → LockCase here from txn wants (on_lock here from txn wants) }
 {}

@@ -46,7 +46,7 @@ module _ (setup : Setup) where
         _ (ap (λ (left : Option Record). (site_at before n).records ++ option_to_list left) (sym is)) refl)
 
   come-fine : (b : Begun) (lines : List Line) (after : World) → IsBegunInRange setup b → MayCome b lines after → IsWorldInRange setup after
-  come-fine b lines after (settles told world fine) (anywhere.without_attempt told' world') = fine
+  come-fine b lines after (settles reported world fine) (anywhere.without_attempt reported' world') = fine
   come-fine b lines after (goes_on before n attempt fine may sends) (anywhere.by_attempt before' after' n' attempt' lines' ends) =
       end-fine before n attempt fine may sends lines after ends
 

@@ -62,7 +62,7 @@ some-weight (Message.denied txn item holder) = omega arith
 some-weight (Message.prepare txn grant writes) = omega arith
 some-weight (Message.vote_yes txn) = omega arith
 some-weight (Message.vote_no txn cause) = omega arith
-some-weight (Message.outcome_told txn commits) = omega arith
+some-weight (Message.outcome_reported txn commits) = omega arith
 some-weight (Message.ask txn) = omega arith
 
 -- ---- one delivery

@@ -122,7 +122,7 @@ module _ (setup : Setup) (P : ℕ → List Record → Option Running → Type 0)
   ended-holds b (goes_on before n attempt holds new) = attempted-holds before n attempt holds new (reached (calls_of attempt) (site_at before n).arm)
 
   come-holds : (b : Begun) (lines : List Line) (after : World) → KeepsIt b → MayCome b lines after → Holds after
-  come-holds b lines after (settles told world holds) (anywhere.without_attempt told' world') = holds
+  come-holds b lines after (settles reported world holds) (anywhere.without_attempt reported' world') = holds
   come-holds b lines after (goes_on before n attempt holds new) (anywhere.by_attempt before' after' n' attempt' lines' ends) =
       end-holds before n attempt holds new lines after ends
 

@@ -4,7 +4,7 @@ use Rattle.std.specs.List.{cons_option, filter_map}
 use Rattle.pv_base.specs.declared.grant.GrantId.{GrantId}
 use Rattle.pv_base.specs.declared.txn.TxnId.{TxnId}
 use Rattle.pv_base.specs.Want.{Want}
-use Rattle.pv_format.specs.Message.{Message, lock, granted, denied, prepare, vote_yes, vote_no, outcome_told, ask, NoCause}
+use Rattle.pv_format.specs.Message.{Message, lock, granted, denied, prepare, vote_yes, vote_no, outcome_reported, ask, NoCause}
 use Rattle.pv_format.specs.Record.{Record}
 use Rattle.pv_law_step.proofs.StepCases.{lock-case, granted-case, denied-case, prepare-case, yes-case, no-case, outcome-case, ask-case}
 use Rattle.pv_law_step.specs.GrantCases as grants
@@ -64,7 +64,7 @@ module _ (setup : Setup) (few : HasFewSites setup.catalog) (me : ℕ) (records :
 
   lock-light : (txn : TxnId) (wants : List Want) {step : Step} → locks.LockCase here from txn wants step → weight_sent step.sends < 83521
   lock-light txn wants (locks.ignored ignored) = omega arith
-  lock-light txn wants (locks.told_again grant heard has same) = omega arith
+  lock-light txn wants (locks.granted_again grant heard has same) = omega arith
   lock-light txn wants (locks.misfits grant heard has same) = omega arith
   lock-light txn wants (locks.denies conflict heard has is) = omega arith
   lock-light txn wants (locks.no_grant_left free spent) = omega arith
@@ -127,5 +127,5 @@ module _ (setup : Setup) (few : HasFewSites setup.catalog) (me : ℕ) (records :
   message-light (prepare txn grant writes) = prepare-light txn grant writes (prepare-case here from txn grant writes)
   message-light (vote_yes txn) = yes-light txn (yes-case here from txn)
   message-light (vote_no txn cause) = no-light txn cause (no-case here from txn cause)
-  message-light (outcome_told txn commits) = outcome-light txn commits (outcome-case here from txn commits)
+  message-light (outcome_reported txn commits) = outcome-light txn commits (outcome-case here from txn commits)
   message-light (ask txn) = ask-light txn (ask-case here from txn)

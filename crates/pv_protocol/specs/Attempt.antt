@@ -32,7 +32,7 @@ of_step n step =
       placed = step.placed;
     }
 
--- a start that is refused, for the cause that this line tells; the journal was synced to be read
+-- a start that is refused, for the cause that this line says; the journal was synced to be read
 abbrev pub refused_start : Line → Attempt
 refused_start line = record { syncs = 1; appended = None; running = None; sends = []; lines = line ∷ []; placed = None }
 

@@ -2,7 +2,7 @@
 use Rattle.std.specs.Prelude.{ℕ, ◌+◌, Bool, ◌==◌, false, nat_lt, List, [], ◌∷◌, map, Option, None}
 use Rattle.std.specs.List.{list_any}
 use Rattle.pv_base.specs.declared.txn.TxnId.{TxnId}
-use Rattle.pv_format.specs.Message.{Message, outcome_told}
+use Rattle.pv_format.specs.Message.{Message, outcome_reported}
 use Rattle.pv_format.specs.Record.{Record}
 use Rattle.pv_model.specs.Plan.{participants_of}
 use Rattle.pv_protocol.specs.Keyed.{of_txn, with_one, without}
@@ -40,9 +40,9 @@ only_to site message = record { to = site; message = message } ∷ []
 abbrev pub is_among : List ℕ → ℕ → Bool
 is_among sites site = list_any (λ other. site == other) sites
 
--- the outcome of a transaction, told to each of these sites
+-- the outcome of a transaction, reported to each of these sites
 abbrev pub outcome_sends : TxnId → Bool → List ℕ → List Outgoing
-outcome_sends txn commits sites = map (λ site. record { to = site; message = outcome_told txn commits }) sites
+outcome_sends txn commits sites = map (λ site. record { to = site; message = outcome_reported txn commits }) sites
 
 -- the grant that the transaction has here, if one stands
 abbrev pub grant_of : Running → TxnId → Option Grant
@@ -68,7 +68,7 @@ without_entry running txn = record running { entries = without (λ (entry : Entr
 abbrev pub participants : Here → Entry → List ℕ
 participants here entry = participants_of entry.program here.setup.catalog.items
 
--- The transaction is refused: its entry is dropped, and every participant is told that it doesn't commit.
+-- The transaction is refused: its entry is dropped, and it is reported to every participant that it doesn't commit.
 abbrev pub refusing : Here → Entry → Cause → Step
 refusing here entry cause = record {
   running = without_entry here.running entry.txn;

@@ -25,7 +25,7 @@ kind_of (Message.denied txn item holder) = MessageKind.denied
 kind_of (Message.prepare txn grant writes) = MessageKind.prepare
 kind_of (Message.vote_yes txn) = MessageKind.yes
 kind_of (Message.vote_no txn cause) = MessageKind.no
-kind_of (Message.outcome_told txn commits) = MessageKind.outcome
+kind_of (Message.outcome_reported txn commits) = MessageKind.outcome
 kind_of (Message.ask txn) = MessageKind.ask
 
 -- one line
@@ -62,7 +62,7 @@ pub data Line : Type 0 where
   item_locked : (item : ℕ) → TxnId → Line
   item_down : (item : ℕ) → Line
   end : Line
-  -- the sums that all items may have, or why they aren't told
+  -- the sums that all items may have, or why they aren't known
   total : List ℤ → Line
   total_locked : (item : ℕ) → Line
   total_down : (site : ℕ) → Line

@@ -97,7 +97,7 @@ first_conflict grants (want ∷ wants) = conflict_or want (find (is_in_the_way w
 abbrev pub values_of : Here → List Want → List Read
 values_of here wants = map (λ want. record { item = want.item; cases = shown here.setup.catalog here.records want.item }) wants
 
--- The transaction's site is told of the grant, and of the values of its items.
+-- The grant is reported to the transaction's site, with the values of its items.
 abbrev pub granting : Here → Running → Grant → Step
 granting here running grant = sending running (only_to grant.txn.site.0 (granted grant.txn grant.id (values_of here grant.wants)))
 
@@ -113,7 +113,7 @@ at_conflict here txn wants None =
     if here.running.next_grant == NEVER_GIVEN then noting here spent else
     granting here (with_grant (record here.running { next_grant = here.running.next_grant + 1 }) (next_grant here txn wants)) (next_grant here txn wants)
 
--- A grant that the transaction has is told again, with the values of now, if the wants are its own.
+-- A grant that the transaction has is reported again, with the values of now, if the wants are its own.
 abbrev pub at_standing : Here → TxnId → List Want → Option Grant → Step
 at_standing here txn wants (Some grant) = if are_same_wants wants grant.wants then granting here here.running grant else nothing here
 at_standing here txn wants None = at_conflict here txn wants (first_conflict here.running.grants wants)

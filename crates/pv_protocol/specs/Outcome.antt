@@ -1,11 +1,11 @@
--- A site's steps on outcomes that it is told, and on questions for them.
+-- A site's steps on outcomes that are reported to it, and on questions for them.
 use Rattle.std.specs.Prelude.{ℕ, ◌+◌, Bool, true, false, not, ◌&&◌, ◌||◌, ◌==◌, nat_lt, List, [], ◌∷◌, Option, Some, None, is_some, if◌then◌else◌}
 use Rattle.std.specs.List.{list_any}
 use Rattle.pv_base.specs.Catalog.{Item, Declared}
 use Rattle.pv_base.specs.declared.txn.TxnId.{TxnId}
 use Rattle.pv_base.specs.Named.{with_txns, names_of}
 use Rattle.pv_base.specs.Polyvalue.{names}
-use Rattle.pv_format.specs.Message.{outcome_told}
+use Rattle.pv_format.specs.Message.{outcome_reported}
 use Rattle.pv_format.specs.Record.{Record, outcome_known}
 use Rattle.pv_protocol.specs.Here.{Here, remembering, nothing, sending, noting, only_to, without_grant, length_with, is_full}
 use Rattle.pv_protocol.specs.Keyed.{of_txn}
@@ -50,7 +50,7 @@ learning here txn commits = record {
 abbrev pub is_needed : Here → TxnId → Bool
 is_needed here txn = is_prepared here.records txn || is_named_here here txn
 
--- A site is told an outcome. What it doesn't need it doesn't record.
+-- An outcome is reported to a site. What it doesn't need it doesn't record.
 unfoldable pub on_outcome : Here → ℕ → TxnId → Bool → Step
 on_outcome here from txn commits =
     if not (from == txn.site.0) || not (is_undecided here.records txn) then nothing here else
@@ -70,8 +70,8 @@ works_on running txn = is_some (of_txn (λ (entry : Entry). entry.txn) txn runni
 
 -- what is answered by what is known: of a transaction that neither committed nor is worked on, that it doesn't commit
 abbrev pub at_known : Here → ℕ → TxnId → Option Bool → Step
-at_known here from txn (Some true) = sending here.running (only_to from (outcome_told txn true))
-at_known here from txn other = if works_on here.running txn then nothing here else sending here.running (only_to from (outcome_told txn false))
+at_known here from txn (Some true) = sending here.running (only_to from (outcome_reported txn true))
+at_known here from txn other = if works_on here.running txn then nothing here else sending here.running (only_to from (outcome_reported txn false))
 
 -- A site asks for an outcome.
 unfoldable pub on_ask : Here → ℕ → TxnId → Step

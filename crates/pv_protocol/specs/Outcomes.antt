@@ -17,7 +17,7 @@ pub record IsOut (txn : TxnId) (world : World) : Type 0 where
 -- No two sites know different outcomes. A transaction that is known to commit is committed, and one that is known not to
 -- commit is neither committed nor open, in this world and in every later one.
 pub record HasOneOutcome (world : World) (later : List World) : Type 0 where
-  pub one : (n other : ℕ) (txn : TxnId) (commits told : Bool) → Knows world n txn commits → Knows world other txn told → commits ≡ told
+  pub one : (n other : ℕ) (txn : TxnId) (commits reported : Bool) → Knows world n txn commits → Knows world other txn reported → commits ≡ reported
   pub commit : (n : ℕ) (txn : TxnId) → Knows world n txn true → IsTrue (is_committed world txn)
   pub abort : (n : ℕ) (txn : TxnId) → Knows world n txn false → All (IsOut txn) (world ∷ later)
 

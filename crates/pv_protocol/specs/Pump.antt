@@ -1,6 +1,6 @@
 -- A pump: fresh messages are delivered, the least first.
 use Rattle.std.specs.Prelude.{ℕ, zero, suc, ◌+◌, ◌^◌, Bool, true, false, Option, Some, None, List, [], ◌∷◌, position}
-use Rattle.pv_format.specs.Message.{Message, lock, granted, denied, prepare, vote_yes, vote_no, outcome_told, ask, Envelope}
+use Rattle.pv_format.specs.Message.{Message, lock, granted, denied, prepare, vote_yes, vote_no, outcome_reported, ask, Envelope}
 use Rattle.pv_model.specs.Events.{deliver}
 use Rattle.pv_protocol.specs.State.{Setup}
 use Rattle.pv_protocol.specs.World.{World}
@@ -30,7 +30,7 @@ kinds_left (prepare txn grant writes) = 2
 kinds_left (vote_yes txn) = 1
 kinds_left (vote_no txn cause) = 1
 kinds_left (ask txn) = 1
-kinds_left (outcome_told txn commits) = 0
+kinds_left (outcome_reported txn commits) = 0
 
 -- A bound on the deliveries that one message leads to, its own among them, where each causes at most 16 others.
 abbrev pub weight : Message → ℕ

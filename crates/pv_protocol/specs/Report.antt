@@ -69,7 +69,7 @@ abbrev pub total_within : ℕ → List (List (Case ℤ)) → List TxnId → Line
 total_within limit values names = if nat_lt limit (length names) then Line.total_limit (length names) else Line.total (sums values names)
 
 -- The total of items of which these values were read, and of those that are numbered from here on. The first of them that
--- can't be read is told.
+-- can't be read is reported.
 abbrev pub total_from : ℕ → List (List (Case ℤ)) → ℕ → List Reading → Line
 total_from limit values n [] = total_within limit values (names_of (flat_map (λ value. value) values))
 total_from limit values n (cases value ∷ more) = total_from limit (values ++ value ∷ []) (n + 1) more

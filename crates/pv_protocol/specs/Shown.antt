@@ -41,7 +41,7 @@ declared_or_zero (Some declared) = declared.value
 abbrev pub declared_value : Declared → ℕ → ℤ
 declared_value catalog item = declared_or_zero (slice_get catalog.items item)
 
--- An item's value by the writes of a front of the records: transactions commit as all the records say; where no record tells, as
+-- An item's value by the writes of a front of the records: transactions commit as all the records say; where no record says, as
 -- assigned.
 abbrev pub item_within : Declared → List Record → List Record → ℕ → List TxnId → ℤ
 item_within catalog records front item assignment = newest item (choice records assignment) (declared_value catalog item) front

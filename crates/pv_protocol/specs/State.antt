@@ -97,7 +97,7 @@ pub data Note : Type 0 where
   committed : TxnId → List Reply → Note
   -- the transaction is refused
   refused : TxnId → Cause → Note
-  -- the journal would have this length with an outcome that the site was told, above its limit
+  -- the journal would have this length with an outcome that was reported to the site, above its limit
   full : (length : ℕ) → Note
   -- no number is left to give
   spent : Note

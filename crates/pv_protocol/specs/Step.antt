@@ -1,7 +1,7 @@
 -- A running site's step, by what it is given.
 use Rattle.std.specs.Prelude.{ℕ, List, ◌++◌}
 use Rattle.std.specs.Option.{option_to_list}
-use Rattle.pv_format.specs.Message.{Message, lock, granted, denied, prepare, vote_yes, vote_no, outcome_told, ask}
+use Rattle.pv_format.specs.Message.{Message, lock, granted, denied, prepare, vote_yes, vote_no, outcome_reported, ask}
 use Rattle.pv_format.specs.Record.{Record}
 use Rattle.pv_protocol.specs.Granted.{on_granted, on_denied}
 use Rattle.pv_protocol.specs.Here.{Here}
@@ -19,7 +19,7 @@ on_message here from (denied txn item holder) = on_denied here from txn item hol
 on_message here from (prepare txn grant writes) = on_prepare here from txn grant writes
 on_message here from (vote_yes txn) = on_yes here from txn
 on_message here from (vote_no txn cause) = on_no here from txn cause
-on_message here from (outcome_told txn commits) = on_outcome here from txn commits
+on_message here from (outcome_reported txn commits) = on_outcome here from txn commits
 on_message here from (ask txn) = on_ask here from txn
 
 -- The site takes an input.

@@ -39,7 +39,7 @@ has_answered voting entry site = is_among entry.votes site
 abbrev pub awaited : Here → Entry → ℕ
 awaited here entry = unwrap_or (find (λ site. not (has_answered entry.stage entry site)) (participants here entry)) 0
 
--- Every participant of each transaction is told that it doesn't commit.
+-- To every participant of each transaction it is reported that it doesn't commit.
 abbrev pub expiry_sends : Here → List Entry → List Outgoing
 expiry_sends here entries = flat_map (λ entry. outcome_sends entry.txn false (participants here entry)) entries
 

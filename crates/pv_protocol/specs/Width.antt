@@ -9,7 +9,7 @@ use Rattle.pv_protocol.specs.Lock.{is_home}
 use Rattle.pv_protocol.specs.Shown.{shown_within}
 
 -- After each prepared record the value of every item of the site names so many outcomes at most, with all outcomes known that any
--- record tells.
+-- record says.
 pub record IsNarrow (limit : ℕ) (catalog : Declared) (site : ℕ) (records : List Record) : Type 0 where
   pub few : (before after : List Record) (txn : TxnId) (writes : List Read) (item : ℕ) → IsTrue (is_home catalog site item)
       → records ≡ before ++ prepared txn writes ∷ after

@@ -8,7 +8,7 @@ use Rattle.pv_base.specs.declared.txn.TxnId.{TxnId}
 use Rattle.pv_coord.specs.Coordinator as own
 use Rattle.pv_coord.specs.Coordinator.{work_of}
 use Rattle.pv_coord.specs.Work.{Work}
-use Rattle.pv_format.specs.Message.{outcome_told}
+use Rattle.pv_format.specs.Message.{outcome_reported}
 use Rattle.pv_protocol.specs.Here.{Here, nothing, only_to, sending}
 use Rattle.pv_protocol.specs.Outcome.{at_known, is_issued, on_ask, works_on}
 use Rattle.pv_protocol.specs.Records.{known}
@@ -23,8 +23,8 @@ some-map (Some work) = refl
 
 -- what is answered to a question by what is known, and by whether the site works on the transaction
 abbrev answered : Here → ℕ → TxnId → Option Bool → Bool → model.Step
-answered here from txn (Some true) works = sending here.running (only_to from (outcome_told txn true))
-answered here from txn other works = if works then nothing here else sending here.running (only_to from (outcome_told txn false))
+answered here from txn (Some true) works = sending here.running (only_to from (outcome_reported txn true))
+answered here from txn other works = if works then nothing here else sending here.running (only_to from (outcome_reported txn false))
 
 answered-is : (here : Here) (from : ℕ) (txn : TxnId) (outcome : Option Bool) → at_known here from txn outcome ≡ answered here from txn outcome (works_on here.running txn)
 answered-is here from txn None = refl
@@ -40,7 +40,7 @@ module _ (here : Here) (from : ℕ) (txn : TxnId) where
   working (Some true) works unknown works-is = absurd (false≢true (sym unknown))
 
   told : (outcome : Option Bool) (works : Bool) → (option_eq beq outcome (Some true) ≡ true) ⊎ (works ≡ false)
-      → answered here from txn outcome works ≡ sending here.running (only_to from (outcome_told txn (option_eq beq outcome (Some true))))
+      → answered here from txn outcome works ≡ sending here.running (only_to from (outcome_reported txn (option_eq beq outcome (Some true))))
   told (Some true) works either = refl
   told None false either = refl
   told None true either = ⊎_elim (λ commits. absurd (false≢true commits)) (λ works-is. absurd (false≢true (sym works-is))) either
@@ -79,8 +79,8 @@ module _ (parts : Parts) (tied : AreTied parts) (from : ℕ) (txn : TxnId) where
   -- It has committed, or the site doesn't work on it.
   pub asked-told : (commits : Bool) → own.is_issued parts.coord.contents txn ≡ true → commits ≡ option_eq beq (known parts.store.records txn) (Some true)
       → (commits ≡ true) ⊎ (is_some (work_of parts.coord.contents txn) ≡ false)
-      → on_ask (here_of parts) from txn ≡ sending (here_of parts).running (only_to from (outcome_told txn commits))
+      → on_ask (here_of parts) from txn ≡ sending (here_of parts).running (only_to from (outcome_reported txn commits))
   asked-told commits issued is either =
       asked-issued issued
       ∙ told (here_of parts) from txn (known parts.store.records txn) (is_some (work_of parts.coord.contents txn)) (⊎_elim (λ yes-is. inl (sym is ∙ yes-is)) (λ none. inr none) either)
-      ∙ ap (λ (b : Bool). sending (here_of parts).running (only_to from (outcome_told txn b))) (sym is)
+      ∙ ap (λ (b : Bool). sending (here_of parts).running (only_to from (outcome_reported txn b))) (sym is)

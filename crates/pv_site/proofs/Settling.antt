@@ -8,7 +8,7 @@ use Rattle.pv_base.specs.declared.reply.Reply.{Reply}
 use Rattle.pv_base.specs.declared.txn.TxnId.{TxnId}
 use Rattle.pv_coord.specs.Work.{Work}
 use Rattle.pv_format.specs.Record.{Record}
-use Rattle.pv_law_step.proofs.OutcomeLemmas.{choice-more, told_by}
+use Rattle.pv_law_step.proofs.OutcomeLemmas.{choice-more, with_recorded}
 use Rattle.pv_model.specs.Alternatives.{rows_at}
 use Rattle.pv_model.specs.Meaning.{exec}
 use Rattle.pv_protocol.specs.Coordinate.{reads_of, reply_after}
@@ -19,7 +19,7 @@ use Rattle.pv_store.specs.Kept.{Kept}
 
 module _ (records : List Record) (more : Record) where
   -- What a program replies by one record more is what it replies where the record's outcome is assigned.
-  pub reply-told : (entry : Entry) (a : List TxnId) → reply_after (records ++ more ∷ []) entry a ≡ reply_after records entry (told_by more a)
+  pub reply-told : (entry : Entry) (a : List TxnId) → reply_after (records ++ more ∷ []) entry a ≡ reply_after records entry (with_recorded more a)
   reply-told entry a = ap (λ (b : List TxnId). (exec entry.program (rows_at (reads_of entry) b)).reply) (choice-more records more a)
 
   -- A reply that is kept stays what the program replies.
@@ -27,7 +27,7 @@ module _ (records : List Record) (more : Record) where
   reply-more entry None is = is
   reply-more entry (Some reply) is = (
     is.0,
-    λ a. ap (value_at reply) (choice-more records more a) ∙ is.1 (told_by more a) ∙ ap Some (sym (reply-told entry a)),
+    λ a. ap (value_at reply) (choice-more records more a) ∙ is.1 (with_recorded more a) ∙ ap Some (sym (reply-told entry a)),
   )
 
   -- A work stays one of the site.

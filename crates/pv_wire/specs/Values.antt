@@ -1,6 +1,6 @@
 -- What the messages of the code are.
 use Rattle.pv_format.specs.Message as model
-use Rattle.pv_format.specs.Message.{lock, granted, denied, prepare, vote_yes, vote_no, outcome_told, ask, grant_lost, journal_full}
+use Rattle.pv_format.specs.Message.{lock, granted, denied, prepare, vote_yes, vote_no, outcome_reported, ask, grant_lost, journal_full}
 use Rattle.pv_wire.specs.declared.message.Envelope.{Envelope}
 use Rattle.pv_wire.specs.declared.message.Message.{Message}
 use Rattle.pv_wire.specs.declared.message.Message.TheVariants.{Lock, Granted, Denied, Prepare, Yes, No, Outcome, Ask}
@@ -20,7 +20,7 @@ message_of (Denied txn item holder) = denied txn item.0 holder
 message_of (Prepare txn grant writes) = prepare txn grant writes.items
 message_of (Yes txn) = vote_yes txn
 message_of (No txn cause) = vote_no txn (cause_of cause)
-message_of (Outcome txn commits) = outcome_told txn commits
+message_of (Outcome txn commits) = outcome_reported txn commits
 message_of (Ask txn) = ask txn
 
 -- The message on its way, as plain data.

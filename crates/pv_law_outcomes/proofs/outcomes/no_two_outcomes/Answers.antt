@@ -4,8 +4,8 @@ use Rattle.pv_law_outcomes.proofs.OutcomeLemmas.{known-outcome, one-outcome, dea
 use Rattle.pv_law_outcomes.proofs.outcomes.no_two_outcomes.Goals as goal
 
 pub returns-clause-one : goal.returns-clause-one
-returns-clause-one c setup world acts n other txn outcome told knows also =
-    one-outcome setup world (always-settled setup world acts) n other txn outcome told knows also
+returns-clause-one c setup world acts n other txn outcome reported knows also =
+    one-outcome setup world (always-settled setup world acts) n other txn outcome reported knows also
 
 pub returns-clause-commit : goal.returns-clause-commit
 returns-clause-commit c setup world acts n txn knows = known-outcome setup world (always-settled setup world acts) n txn true knows

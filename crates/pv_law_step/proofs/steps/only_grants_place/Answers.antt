@@ -28,7 +28,7 @@ module _ (here : Here) where
 
   lock-none : (from : ℕ) (txn : TxnId) (wants : List Want) (step : Step) → of_locks.LockCase here from txn wants step → step.placed ≡ None
   lock-none from txn wants step (of_locks.ignored h) = refl
-  lock-none from txn wants step (of_locks.told_again grant h i j) = refl
+  lock-none from txn wants step (of_locks.granted_again grant h i j) = refl
   lock-none from txn wants step (of_locks.misfits grant h i j) = refl
   lock-none from txn wants step (of_locks.denies conflict h i j) = refl
   lock-none from txn wants step (of_locks.no_grant_left h i) = refl
