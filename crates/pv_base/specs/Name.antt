@@ -1,18 +1,13 @@
 -- Bytes of texts, and the names of items.
-use Rattle.std.specs.Prelude.{ℕ, Bool, false, not, ◌&&◌, ◌||◌, ◌==◌, nat_le, List, [], ◌∷◌, length, codes}
+use Rattle.std.specs.Prelude.{ℕ, Bool, false, not, ◌&&◌, ◌||◌, ◌==◌, nat_le, List, [], ◌∷◌, length}
 use Rattle.std.specs.List.{list_any, list_all}
 use Rattle.std.specs.Str.{bytes_eq}
 use Rattle.pv_base.specs.declared.limits.TheConstants.{MAX_NAME}
+use Rattle.pv_base.specs.declared.naming.TheConstants.{KEYWORDS}
 
--- The words of the program language, none of which names an item.
-abbrev pub keywords : List (List ℕ)
-keywords =
-    codes "or" ∷ codes "and" ∷ codes "not" ∷ codes "min" ∷ codes "max" ∷ codes "if" ∷ codes "else" ∷ codes "require"
-    ∷ codes "return" ∷ codes "certain" ∷ []
-
--- Whether the text is one of those words.
+-- Whether the text is one of the words of the program language, none of which names an item.
 unfoldable pub is_keyword : List ℕ → Bool
-is_keyword text = list_any (bytes_eq text) keywords
+is_keyword text = list_any (λ word. bytes_eq text word.now) KEYWORDS
 
 -- A space or a tab.
 abbrev pub is_blank : ℕ → Bool
