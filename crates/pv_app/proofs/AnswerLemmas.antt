@@ -9,7 +9,7 @@ use Rattle.pv_model.specs.LineCauses.{LineCause}
 use Rattle.pv_model.specs.Events.{Schedule}
 use Rattle.pv_script.specs.Runnable.{not_built}
 use Rattle.pv_model.specs.Schedule.{IsSchedule}
-use Rattle.pv_model.specs.Run.{output_of}
+use Rattle.pv_law_runs.specs.Run.{output_of}
 use Rattle.pv_law_schedules.proofs.OneScheduleLemmas.{one_schedule, one_fault, no_fault}
 use Rattle.pv_app.specs.declared.status.Status.{Status}
 use Rattle.pv_app.specs.declared.status.Status.TheVariants.{Done, Usage, Malformed, WriteFault, TooLong, NoMemory}

@@ -2,8 +2,8 @@
 use Rattle.std.proofs.Common.{◌≡◌, ℕ, zero, suc, ◌<◌, List, [], ◌∷◌, map, length, drop, slice_get, slice_index_or, Some, ap, arith}
 use Rattle.pv_base.specs.Catalog.{Item}
 use Rattle.pv_model.specs.Meaning.{Row}
-use Rattle.pv_model.specs.Print as model
-use Rattle.pv_model.specs.Run.{item_lines}
+use Rattle.pv_law_runs.specs.Print as model
+use Rattle.pv_law_runs.specs.Run.{item_lines}
 
 -- Behind i lines the next one has the i-th name and value.
 pub item_lines-drop : (items : List Item) (rows : List Row) (i : ℕ) (name : List ℕ) (d : Row)

@@ -6,7 +6,7 @@ use Rattle.pv_law_programs.proofs.DeclaredItems.{declared-items}
 use Rattle.pv_law_programs.proofs.ProgramLemmas.{items_stay}
 use Rattle.pv_model.specs.LineCauses.{Before, declared_by}
 use Rattle.pv_model.specs.Events.{Event, submit, pump, Schedule}
-use Rattle.pv_model.specs.Run.{OneSite, opening, after_commit, after}
+use Rattle.pv_law_runs.specs.Run.{OneSite, opening, after_commit, after}
 use Rattle.pv_model.specs.Schedule.{DeclaresSites, DeclaresJournal, DeclaresItem, Declares, Says, AreLines, none, declaration, event, IsSchedule}
 use Rattle.pv_model.specs.Syntax.{Program}
 use Rattle.pv_model.specs.Text.{TextLine}

@@ -7,8 +7,8 @@ use Rattle.std.proofs.lemmas.Grind.{flat_map-append}
 use Rattle.pv_io.specs.Stream.{AppendsPrefix, KnownAlike}
 use Rattle.pv_io.specs.declared.sink.Sink.{Ghosts}
 use Rattle.pv_model.specs.Events.{Schedule, Event, pump}
-use Rattle.pv_model.specs.Print.{line_text, text_of}
-use Rattle.pv_model.specs.Run.{OneSite, opening, after_commit, after, event_lines, txn_numbered, run, output_of}
+use Rattle.pv_law_runs.specs.Print.{line_text, text_of}
+use Rattle.pv_law_runs.specs.Run.{OneSite, opening, after_commit, after, event_lines, txn_numbered, run, output_of}
 use Rattle.pv_model.specs.Syntax.{Program}
 use Rattle.pv_script.specs.declared.schedule.Event as code
 use Rattle.pv_script.specs.ScheduleView.{event_of}

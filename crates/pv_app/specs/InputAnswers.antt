@@ -10,9 +10,9 @@ use Rattle.pv_model.specs.LineCauses.{LineCause}
 use Rattle.pv_model.specs.Events.{Schedule}
 use Rattle.pv_script.specs.CauseTexts.{refused_text}
 use Rattle.pv_script.specs.Runnable.{not_built}
-use Rattle.pv_model.specs.Print.{line_feed}
+use Rattle.pv_model.specs.ReplyText.{line_feed}
 use Rattle.pv_model.specs.Schedule.{IsSchedule, IsMalformedSchedule}
-use Rattle.pv_model.specs.Run.{output_of}
+use Rattle.pv_law_runs.specs.Run.{output_of}
 
 -- the one command
 abbrev pub IsRun : List (List ℕ) → Type 0

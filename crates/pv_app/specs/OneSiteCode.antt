@@ -4,7 +4,7 @@ use Rattle.std.specs.Prelude.{ℕ, ℤ, List, Option, refl}
 use Rattle.std.specs.Coded.{Coded, code_by, coded_list, coded_option, coded_ℕ, coded_ℤ, coded×}
 use Rattle.pv_base.specs.declared.txn.TxnId.{TxnId}
 use Rattle.pv_model.specs.Meaning.{Row}
-use Rattle.pv_model.specs.Run.{OneSite}
+use Rattle.pv_law_runs.specs.Run.{OneSite}
 use Rattle.pv_model.specs.Syntax.{Program}
 use Rattle.pv_model.specs.SyntaxCodes.{program_code}
 

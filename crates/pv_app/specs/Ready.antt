@@ -4,7 +4,7 @@ use Rattle.pv_base.specs.Catalog.{Declared}
 use Rattle.pv_model.specs.Check.{names_item}
 use Rattle.pv_model.specs.Events.{Event, submit}
 use Rattle.pv_model.specs.Meaning.{items_of_rows}
-use Rattle.pv_model.specs.Run.{OneSite}
+use Rattle.pv_law_runs.specs.Run.{OneSite}
 use Rattle.pv_model.specs.Serial.{declared_rows}
 use Rattle.pv_model.specs.Syntax.{Program}
 

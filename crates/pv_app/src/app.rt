@@ -6,7 +6,7 @@ ghost use Rattle.pv_base.specs.Fault.{Rose};
 ghost use Rattle.pv_io.specs.Stream.{AppendsPrefix};
 ghost use Rattle.pv_model.specs.Events as model;
 ghost use Rattle.pv_script.specs.Runnable.{not_built};
-ghost use Rattle.pv_model.specs.Run.{Agrees, RepliesAgree, output_of};
+ghost use Rattle.pv_law_runs.specs.Run.{Agrees, RepliesAgree, output_of};
 ghost use Rattle.pv_model.specs.Schedule.{IsSchedule};
 ghost use Rattle.pv_script.specs.ScriptErrors.{line_cause_of};
 ghost use Rattle.pv_script.specs.ScheduleView.{schedule_of};

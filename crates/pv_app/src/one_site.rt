@@ -20,7 +20,7 @@ pub struct OneSite<'a> {
 }
 
 impl<'a> Model for OneSite<'a> {
-    ghost use Rattle.pv_model.specs.Run as model;
+    ghost use Rattle.pv_law_runs.specs.Run as model;
     ghost use Rattle.std.specs.Option.{option_map};
     ghost use Rattle.pv_app.specs.OneSiteCode.{one_site_code};
 
@@ -32,7 +32,7 @@ impl<'a> Model for OneSite<'a> {
 }
 
 impl<'a> OneSite<'a> {
-    ghost use Rattle.pv_model.specs.Run.{opening, after_commit, txn_numbered};
+    ghost use Rattle.pv_law_runs.specs.Run.{opening, after_commit, txn_numbered};
 
     /// No transaction yet, and the declared values.
     pub fn new(alloc: Global, catalog: &Catalog) -> Result<OneSite<'a>, NoMemory>

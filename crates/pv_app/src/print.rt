@@ -1,9 +1,10 @@
 // The lines that a run prints, each put after what a buffer holds. After an error the buffer's content is of no use.
 ghost use Rattle.std.specs.Prelude.{◌≡◌, ◌++◌, length, OnOk};
 ghost use Rattle.pv_base.specs.declared.reply.Reply.TheVariants.{Declined};
-ghost use Rattle.pv_model.specs.Print as model;
-ghost use Rattle.pv_model.specs.Print.{line_text, list_text, text_of};
-ghost use Rattle.pv_model.specs.Run.{item_lines, report_lines};
+ghost use Rattle.pv_model.specs.ReplyText as replies;
+ghost use Rattle.pv_law_runs.specs.Print as model;
+ghost use Rattle.pv_law_runs.specs.Print.{line_text, list_text, text_of};
+ghost use Rattle.pv_law_runs.specs.Run.{item_lines, report_lines};
 
 use itoa::Buffer;
 use pv_ast::{Decline, Reply, Row};
@@ -21,7 +22,7 @@ fn push_list(text: &mut Vec<u8>, txns: &[TxnId]) -> Result<(), NoMemory>
 }
 
 /// `txn T`
-#[tactic(auto, unfolding(pv_model::specs::Print::line_text))]
+#[tactic(auto, unfolding(pv_law_runs::specs::Print::line_text))]
 pub fn push_txn_line(text: &mut Vec<u8>, txn: TxnId) -> Result<(), NoMemory>
     ensures { OnOk result (text.new.items ≡ text.old.items ++ line_text (model.txn txn)) }
 {
@@ -31,7 +32,7 @@ pub fn push_txn_line(text: &mut Vec<u8>, txn: TxnId) -> Result<(), NoMemory>
 }
 
 /// `commit T certain REPLY`
-#[tactic(auto, unfolding(pv_model::specs::Print::line_text))]
+#[tactic(auto, unfolding(pv_law_runs::specs::Print::line_text))]
 pub fn push_commit_line(text: &mut Vec<u8>, txn: TxnId, reply: Reply) -> Result<(), NoMemory>
     ensures { OnOk result (text.new.items ≡ text.old.items ++ line_text (model.commit txn reply)) }
 {
@@ -44,7 +45,7 @@ pub fn push_commit_line(text: &mut Vec<u8>, txn: TxnId, reply: Reply) -> Result<
 
 // The reply, as it is printed.
 fn push_reply(text: &mut Vec<u8>, reply: Reply) -> Result<(), NoMemory>
-    ensures { OnOk result (text.new.items ≡ text.old.items ++ model.reply_text reply) }
+    ensures { OnOk result (text.new.items ≡ text.old.items ++ replies.reply_text reply) }
 {
     match reply {
         Reply::Value(value) => {
@@ -58,7 +59,7 @@ fn push_reply(text: &mut Vec<u8>, reply: Reply) -> Result<(), NoMemory>
 
 // Why a program declined, as it is printed.
 fn decline_text(decline: Decline) -> &'static [u8]
-    ensures { result.now ≡ model.reply_text (Declined decline) }
+    ensures { result.now ≡ replies.reply_text (Declined decline) }
 {
     match decline {
         Decline::Require => b"declined-require",
@@ -69,7 +70,7 @@ fn decline_text(decline: Decline) -> &'static [u8]
 
 // A word, and then each transaction.
 fn push_list_line(text: &mut Vec<u8>, word: &[u8], txns: &[TxnId]) -> Result<(), NoMemory>
-    ensures { OnOk result (text.new.items ≡ text.old.items ++ (word.now ++ (list_text txns.now ++ model.line_feed))) }
+    ensures { OnOk result (text.new.items ≡ text.old.items ++ (word.now ++ (list_text txns.now ++ replies.line_feed))) }
 {
     text.extend_from_slice(word)?;
     push_list(text, txns)?;
@@ -77,7 +78,7 @@ fn push_list_line(text: &mut Vec<u8>, word: &[u8], txns: &[TxnId]) -> Result<(),
 }
 
 // `item NAME VALUE`
-#[tactic(auto, unfolding(pv_model::specs::Print::line_text))]
+#[tactic(auto, unfolding(pv_law_runs::specs::Print::line_text))]
 fn push_item_line(text: &mut Vec<u8>, name: &[u8], value: i64) -> Result<(), NoMemory>
     ensures { OnOk result (text.new.items ≡ text.old.items ++ line_text (model.item name.now value)) }
 {
@@ -102,7 +103,7 @@ fn push_item_lines(text: &mut Vec<u8>, catalog: &Catalog, rows: &[Row]) -> Resul
 }
 
 /// The lines of a report: all of the order has committed, and nothing is open.
-#[tactic(auto, unfolding(pv_model::specs::Print::line_text))]
+#[tactic(auto, unfolding(pv_law_runs::specs::Print::line_text))]
 pub fn push_report(
     text: &mut Vec<u8>,
     catalog: &Catalog,

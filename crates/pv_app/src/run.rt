@@ -5,9 +5,9 @@ ghost use Rattle.pv_app.specs.RunEndView.{IsWriteFault};
 ghost use Rattle.pv_io.specs.SinkEffects.{WritesAll};
 ghost use Rattle.pv_model.specs.Items.{has_all_items};
 ghost use Rattle.pv_model.specs.Meaning.{exec};
-ghost use Rattle.pv_model.specs.Print as model;
-ghost use Rattle.pv_model.specs.Print.{line_text, text_of};
-ghost use Rattle.pv_model.specs.Run.{txn_numbered, after, after_commit, event_lines, commit_lines, report_lines, output_of};
+ghost use Rattle.pv_law_runs.specs.Print as model;
+ghost use Rattle.pv_law_runs.specs.Print.{line_text, text_of};
+ghost use Rattle.pv_law_runs.specs.Run.{txn_numbered, after, after_commit, event_lines, commit_lines, report_lines, output_of};
 ghost use Rattle.pv_script.specs.ScheduleView.{event_of, schedule_of};
 
 use crate::one_site::OneSite;

@@ -14,8 +14,8 @@ use Rattle.pv_model.specs.Syntax.{Program}
 use Rattle.pv_base.proofs.AssignmentLemmas.{same-refl}
 use Rattle.pv_base.specs.Assignment.{is_same_txn, commits}
 use Rattle.pv_model.specs.Serial.{Ordered, declared_rows, rows_after, serial, serial_reply, txns}
-use Rattle.pv_model.specs.Print.{Printed, txn, commit, line_text, text_of}
-use Rattle.pv_model.specs.Run.{OneSite, opening, txn_numbered, after_commit, after, event_lines, report_lines, run, output_of, order_from, order_of, output_before, Agrees, RepliesAgree}
+use Rattle.pv_law_runs.specs.Print.{Printed, txn, commit, line_text, text_of}
+use Rattle.pv_law_runs.specs.Run.{OneSite, opening, txn_numbered, after_commit, after, event_lines, report_lines, run, output_of, order_from, order_of, output_before, Agrees, RepliesAgree}
 
 -- the site after events
 abbrev pub state_after : OneSite → List Event → OneSite

@@ -1,6 +1,6 @@
 // That a run of one site agrees with the serial run.
 ghost use Rattle.pv_model.specs.Events.{Schedule};
-ghost use Rattle.pv_model.specs.Run.{Agrees, RepliesAgree, output_of};
+ghost use Rattle.pv_law_runs.specs.Run.{Agrees, RepliesAgree, output_of};
 
 /// What a run prints agrees at each report with the serial run of the transactions before it.
 pub fn reports_agree()

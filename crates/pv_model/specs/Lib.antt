@@ -9,11 +9,10 @@ pub mod Items
 pub mod LineForms
 pub mod Meaning
 pub mod Plan
-pub mod Print
 pub mod ProgramLaws
 pub mod ProgramText
 pub mod Replies
-pub mod Run
+pub mod ReplyText
 pub mod Schedule
 pub mod Serial
 pub mod Syntax

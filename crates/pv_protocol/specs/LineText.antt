@@ -6,7 +6,7 @@ use Rattle.pv_base.specs.Catalog.{Declared}
 use Rattle.pv_base.specs.Polyvalue.{Case}
 use Rattle.pv_base.specs.Txn.{txn_text}
 use Rattle.pv_base.specs.declared.literal.Literal.{Literal}
-use Rattle.pv_model.specs.Print.{line_feed, reply_text}
+use Rattle.pv_model.specs.ReplyText.{line_feed, reply_text}
 use Rattle.pv_protocol.specs.Lines.{Line, MessageKind}
 use Rattle.pv_protocol.specs.State.{Cause, conflict, outcome_limit, expired, grant_lost, journal_full}
 

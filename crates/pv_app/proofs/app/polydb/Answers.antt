@@ -3,7 +3,7 @@ use Rattle.std.proofs.Common.{◌≡◌, ◌≤◌, None, List, ℕ, length, ref
 use Rattle.pv_base.specs.declared.limits.TheConstants.{MAX_INPUT}
 use Rattle.pv_law_runs.proofs.AgreementLemmas.{replies_agree, reports_agree}
 use Rattle.pv_script.specs.Runnable.{not_built}
-use Rattle.pv_model.specs.Run.{output_of}
+use Rattle.pv_law_runs.specs.Run.{output_of}
 use Rattle.pv_model.specs.Schedule.{IsSchedule}
 use Rattle.pv_app.proofs.AnswerLemmas.{output_at_done, prefix_of_run, schedule_at_done, status_of_answer, usage_or_fault}
 use Rattle.pv_app.proofs.OutputLemmas.{AppendsPrefix-none}

@@ -1,7 +1,7 @@
 -- What was written is a beginning of the one answer that the input has.
 use Rattle.std.proofs.Common.{◌≡◌, Some, None, refl}
 use Rattle.pv_script.specs.Runnable.{not_built}
-use Rattle.pv_model.specs.Run.{output_of}
+use Rattle.pv_law_runs.specs.Run.{output_of}
 use Rattle.pv_script.specs.ScheduleView.{schedule_of}
 use Rattle.pv_app.specs.declared.status.Status.TheVariants.{Done, Malformed}
 use Rattle.pv_app.specs.InputAnswers.{IsRefusedAt, fault_text}

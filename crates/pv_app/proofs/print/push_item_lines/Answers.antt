@@ -2,9 +2,9 @@
 use Rattle.std.proofs.Common.{◌≡◌, ◌++◌, ℕ, suc, ℤ, List, drop, w64, FitsSigned, ap, sym, ◌∙◌, rules, arith, append_assoc, add-one}
 use Rattle.std.proofs.lemmas.Int.{to_z-of_z}
 use Rattle.pv_model.specs.Meaning.{Row}
-use Rattle.pv_model.specs.Print as model
-use Rattle.pv_model.specs.Print.{line_text, text_of}
-use Rattle.pv_model.specs.Run.{item_lines}
+use Rattle.pv_law_runs.specs.Print as model
+use Rattle.pv_law_runs.specs.Print.{line_text, text_of}
+use Rattle.pv_law_runs.specs.Run.{item_lines}
 use Rattle.pv_app.proofs.PrintLemmas.{item_lines-drop}
 use Rattle.pv_app.proofs.print.push_item_lines.Goals as goal
 

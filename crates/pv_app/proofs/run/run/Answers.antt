@@ -1,6 +1,6 @@
 -- Each event's step is one step of the run.
 use Rattle.std.proofs.Common.{rules, arith, ℕ, suc, sym, ◌∙◌, subst, add-one}
-use Rattle.pv_model.specs.Run.{OneSite}
+use Rattle.pv_law_runs.specs.Run.{OneSite}
 use Rattle.pv_script.specs.ScheduleView.{event_of, schedule_of}
 use Rattle.pv_app.specs.Ready.{IsEventReady}
 use Rattle.pv_app.proofs.OutputLemmas.{on_any_err}

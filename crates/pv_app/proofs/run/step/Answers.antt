@@ -2,9 +2,9 @@
 use Rattle.std.proofs.Common.{ℕ, List, length, sym, subst}
 use Rattle.std.proofs.lemmas.List.{append-nil}
 use Rattle.pv_io.specs.SinkEffects.{WritesAll}
-use Rattle.pv_model.specs.Print as model
-use Rattle.pv_model.specs.Print.{line_text, text_of}
-use Rattle.pv_model.specs.Run.{event_lines, txn_numbered}
+use Rattle.pv_law_runs.specs.Print as model
+use Rattle.pv_law_runs.specs.Print.{line_text, text_of}
+use Rattle.pv_law_runs.specs.Run.{event_lines, txn_numbered}
 use Rattle.pv_script.specs.declared.schedule.Event as code
 use Rattle.pv_script.specs.ScheduleView.{event_of}
 use Rattle.pv_app.specs.RunEndView.{IsWriteFault}

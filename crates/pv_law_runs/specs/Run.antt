@@ -1,11 +1,11 @@
--- What a run does and prints, and when its reports agree with the serial run.
+-- What a run of one site does and prints, and when its reports agree with the serial run.
 use Rattle.std.specs.Prelude.{◌≡◌, ℕ, ◌+◌, Bool, Option, Some, None, List, [], ◌∷◌, ◌++◌, length}
 use Rattle.pv_base.specs.Catalog.{Item, Declared}
 use Rattle.pv_base.specs.declared.txn.TxnId.{TxnId}
 use Rattle.pv_model.specs.Events.{Event, submit, pump, report, Schedule}
 use Rattle.pv_base.specs.declared.reply.Reply.{Reply}
 use Rattle.pv_model.specs.Meaning.{Row, exec}
-use Rattle.pv_model.specs.Print.{Printed, txn, commit, order, committed, open_ones, item, end, text_of}
+use Rattle.pv_law_runs.specs.Print.{Printed, txn, commit, order, committed, open_ones, item, end, text_of}
 use Rattle.pv_model.specs.Serial.{Ordered, serial, serial_reply, txns, declared_rows}
 use Rattle.pv_model.specs.Syntax.{Program}
 

@@ -1,11 +1,10 @@
--- The lines that a run prints, and their text.
-use Rattle.std.specs.Prelude.{ℕ, ℤ, List, [], ◌∷◌, ◌++◌, flat_map, codes}
+-- The lines that a run of one site prints, and their text.
+use Rattle.std.specs.Prelude.{ℕ, ℤ, List, ◌++◌, flat_map, codes}
 use Rattle.std.specs.Fmt.{signed_decimal}
 use Rattle.pv_base.specs.Txn.{txn_text}
 use Rattle.pv_base.specs.declared.txn.TxnId.{TxnId}
-use Rattle.pv_base.specs.declared.reply.Decline.TheVariants.{Require, Overflow, ZeroDivisor}
 use Rattle.pv_base.specs.declared.reply.Reply.{Reply}
-use Rattle.pv_base.specs.declared.reply.Reply.TheVariants.{Value, Nothing, Declined}
+use Rattle.pv_model.specs.ReplyText.{line_feed, reply_text}
 
 pub data Printed : Type 0 where
   txn : TxnId → Printed
@@ -15,18 +14,6 @@ pub data Printed : Type 0 where
   open_ones : List TxnId → Printed
   item : List ℕ → ℤ → Printed
   end : Printed
-
--- what ends a line
-abbrev pub line_feed : List ℕ
-line_feed = 10 ∷ []
-
--- a number, `nothing`, or why the program declined
-abbrev pub reply_text : Reply → List ℕ
-reply_text (Value v) = signed_decimal v
-reply_text Nothing = codes "nothing"
-reply_text (Declined Require) = codes "declined-require"
-reply_text (Declined Overflow) = codes "declined-overflow"
-reply_text (Declined ZeroDivisor) = codes "declined-zero-divisor"
 
 -- each transaction after a space
 abbrev pub list_text : List TxnId → List ℕ
