@@ -7,3 +7,4 @@ pub mod ContainsLemmas
 pub mod EntryLemmas
 pub mod MapLemmas
 pub mod OrderLemmas
+pub mod ResultLemmas

@@ -13,13 +13,14 @@ use Rattle.pv_format.specs.Message.{Envelope}
 use Rattle.pv_format.specs.Record.{Record, epoch_begun, prepared, outcome_known}
 use Rattle.pv_law_acts.proofs.ListLemmas.{none-some, none-found}
 use Rattle.pv_law_acts.proofs.MemoryLemmas.{entry-txn, put-work, put-work-found, left-work, left-none, put-holding}
-use Rattle.pv_law_acts.proofs.NumberLemmas.{epoch-stays, epoch-rises, passed-stays, next-unpassed, given-passed}
+use Rattle.pv_law_acts.proofs.NumberLemmas.{passed-stays, next-unpassed, given-passed}
 use Rattle.pv_law_acts.proofs.SiteLemmas.{up-within, changed-site, site-step}
 use Rattle.pv_law_acts.specs.Acts as acts
 use Rattle.pv_law_acts.specs.Acts.{with_content, remembered, recorded, first_entry, with_begun, with_granted, voting_of, counting, HasNothingNew, Act}
 use Rattle.pv_law_acts.specs.Guards.{IsAtWork, MayBegin, MayGrant, MayTake, MayPlace, MayCount, MayCommit, MayStart, MaySend}
 use Rattle.pv_law_acts.specs.Seen.{records_at, memory_at, Holds, holdings_in, ageless_grant, ageless_entry, work_in, Works, place_of, IsNumberPassed, next_txn_in, next_grant_in, txn_number, grant_number}
 use Rattle.pv_law_acts.specs.Steps.{NewEntry, has_begun, has_taken, is_placed, has_counted, NewGrant, NewRecord, NewPlace, MayGrow, as_was, one_more, IsStep}
+use Rattle.pv_law_step.proofs.EpochLemmas.{epoch-stays, epoch-rises}
 use Rattle.pv_law_step.proofs.ConflictLemmas.{no-conflict}
 use Rattle.pv_model.specs.Syntax.{Program}
 use Rattle.pv_protocol.specs.Granted.{taking}

@@ -15,7 +15,7 @@ use Rattle.pv_format.specs.Record.{epoch_begun, prepared, outcome_known}
 use Rattle.pv_law_answers.specs.Example.{after, asker, until_asked}
 use Rattle.pv_law_events.proofs.PremiseLemmas.{can-run}
 use Rattle.pv_law_events.specs.Eventful.{small}
-use Rattle.pv_law_world.specs.Lines.{t, sure}
+use Rattle.pv_law_world.specs.ExampleLines.{t, sure}
 use Rattle.pv_model.specs.Check.{names_item}
 use Rattle.pv_model.specs.Events.{Event}
 use Rattle.pv_model.specs.Syntax.{Expr, Program}
@@ -106,11 +106,12 @@ asked-runs = record {
   numbers = refl;
 }
 
-abbrev Each : List Event → Type 0
+-- Each event by itself is well formed.
+abbrev pub Each : List Event → Type 0
 Each [] = ⊤
 Each (event ∷ events) = IsWellFormed small.catalog event × Each events
 
-each-fine : (events : List Event) → Each events → All (IsWellFormed small.catalog) events
+pub each-fine : (events : List Event) → Each events → All (IsWellFormed small.catalog) events
 each-fine [] each = All-nil (IsWellFormed small.catalog)
 each-fine (event ∷ events) each = All-cons (IsWellFormed small.catalog) event events each.0 (each-fine events each.1)
 

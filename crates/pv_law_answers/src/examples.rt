@@ -5,7 +5,7 @@ ghost use Rattle.std.specs.Prelude.{◌≡◌, ◌∷◌, [], All, IsTrue, None,
 ghost use Rattle.pv_law_acts.specs.Seen.{records_at};
 ghost use Rattle.pv_law_answers.specs.Example.{after, asker, strict, until_asked, until_read, until_commit, until_restarted, until_settled};
 ghost use Rattle.pv_law_events.specs.Eventful.{in_doubt, small};
-ghost use Rattle.pv_law_world.specs.Lines.{t};
+ghost use Rattle.pv_law_world.specs.ExampleLines.{t};
 ghost use Rattle.pv_base.specs.declared.reply.Reply.TheVariants.{Value};
 ghost use Rattle.pv_model.specs.Meaning.{value_in};
 ghost use Rattle.pv_model.specs.Serial.{declared_rows, serial_reply};

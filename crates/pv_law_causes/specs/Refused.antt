@@ -2,7 +2,7 @@
 use Rattle.std.specs.Prelude.{ℕ, false, true, List, [], ◌∷◌, ◌++◌, codes}
 use Rattle.pv_base.specs.declared.reply.Reply.TheVariants.{Nothing}
 use Rattle.pv_base.specs.declared.txn.TxnId.{TxnId}
-use Rattle.pv_law_world.specs.Lines.{t, u}
+use Rattle.pv_law_world.specs.ExampleLines.{t, u}
 use Rattle.pv_law_world.specs.Schedules.{bank, one_more, two_more, changed, transfer, pump_all, pumped, three_ticks}
 use Rattle.pv_model.specs.Events.{Event, submit, deliver, drop, stop, start}
 use Rattle.pv_model.specs.Syntax.{Op, Expr, Program}

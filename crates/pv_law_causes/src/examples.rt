@@ -4,7 +4,7 @@
 ghost use Rattle.std.specs.Prelude.{◌≡◌, [], ◌∷◌, All};
 ghost use Rattle.pv_base.specs.declared.limits.TheConstants.{MAX_JOURNAL};
 ghost use Rattle.pv_law_causes.specs.Refused.{at_one, contested, contested_lines, forgotten, limited, raise_b, read_only, unanswered};
-ghost use Rattle.pv_law_world.specs.Lines.{t};
+ghost use Rattle.pv_law_world.specs.ExampleLines.{t};
 ghost use Rattle.pv_law_world.specs.Schedules.{bank, pump_all};
 ghost use Rattle.pv_protocol.specs.Lines.{Line};
 ghost use Rattle.pv_protocol.specs.Run.{printed};

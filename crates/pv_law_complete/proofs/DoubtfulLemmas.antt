@@ -1,21 +1,21 @@
 -- What meets the premises on votes, found by computing.
-use Rattle.std.proofs.Common.{◌≡◌, ◌<◌, Some, List, [], ◌∷◌, refl, sym, subst, arith}
-use Rattle.std.specs.Prelude.{All, slice_get, ⊤}
+use Rattle.std.proofs.Common.{◌≡◌, ◌<◌, Some, [], ◌∷◌, refl, sym, subst, arith}
+use Rattle.std.specs.Prelude.{All, slice_get}
 use Rattle.std.specs.List.{Contains}
-use Rattle.std.proofs.lemmas.List.Elements.{All-nil, All-cons, All-head}
+use Rattle.std.proofs.lemmas.List.Elements.{All-head}
 use Rattle.pv_base.proofs.ContainsLemmas.{Contains-first}
 use Rattle.pv_base.specs.Canonical.{canonical_cases}
 use Rattle.pv_format.specs.Message.{prepare}
 use Rattle.pv_law_acts.specs.Seen.{memory_at, Holds, holdings_in, Sent}
+use Rattle.pv_law_answers.proofs.AskerLemmas.{each-fine}
 use Rattle.pv_law_causes.proofs.RefusedLemmas.{raise-fine}
 use Rattle.pv_law_causes.specs.Refused.{raise_b}
 use Rattle.pv_law_complete.proofs.CommitLemmas.{there-sent}
 use Rattle.pv_law_complete.specs.Doubtful.{until_raised, raised, second, held, writes}
 use Rattle.pv_law_events.proofs.PremiseLemmas.{can-run}
 use Rattle.pv_law_events.specs.Eventful.{small}
-use Rattle.pv_law_world.specs.Lines.{u}
+use Rattle.pv_law_world.specs.ExampleLines.{u}
 use Rattle.pv_law_world.specs.Schedules.{bank, pump_all}
-use Rattle.pv_model.specs.Events.{Event}
 use Rattle.pv_model.specs.Meaning.{exec}
 use Rattle.pv_model.specs.Plan.{plan_of}
 use Rattle.pv_protocol.specs.Attempt.{begun}
@@ -30,14 +30,6 @@ use Rattle.pv_protocol.specs.Tick.{on_tick}
 use Rattle.pv_protocol.specs.Vote.{on_no, on_prepare, on_yes}
 use Rattle.pv_protocol.specs.WellFormed.{IsWellFormed}
 use Rattle.pv_protocol.specs.WorldStep.{transition_of}
-
-abbrev Each : List Event → Type 0
-Each [] = ⊤
-Each (event ∷ events) = IsWellFormed small.catalog event × Each events
-
-each-fine : (events : List Event) → Each events → All (IsWellFormed small.catalog) events
-each-fine [] each = All-nil (IsWellFormed small.catalog)
-each-fine (event ∷ events) each = All-cons (IsWellFormed small.catalog) event events each.0 (each-fine events each.1)
 
 one-below : 1 < 2
 one-below = omega arith

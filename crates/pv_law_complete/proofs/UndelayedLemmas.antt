@@ -9,7 +9,7 @@ use Rattle.pv_law_complete.specs.Undisturbed.{IsUndisturbed}
 use Rattle.pv_law_events.proofs.PremiseLemmas.{can-run}
 use Rattle.pv_law_events.specs.Eventful.{small}
 use Rattle.pv_law_world.proofs.DisarmLemmas.{run-may}
-use Rattle.pv_law_world.specs.Lines.{t}
+use Rattle.pv_law_world.specs.ExampleLines.{t}
 use Rattle.pv_law_world.specs.Schedules.{transfer, pump_all}
 use Rattle.pv_model.specs.Meaning.{exec}
 use Rattle.pv_model.specs.Plan.{plan_of}

@@ -3,7 +3,7 @@ use Rattle.std.specs.Prelude.{true, List, [], ◌∷◌, ◌++◌}
 use Rattle.pv_base.specs.declared.grant.GrantId.{GrantId}
 use Rattle.pv_law_causes.specs.Refused.{raise_b}
 use Rattle.pv_law_events.specs.Eventful.{small, doubtful}
-use Rattle.pv_law_world.specs.Lines.{u, either}
+use Rattle.pv_law_world.specs.ExampleLines.{u, either}
 use Rattle.pv_law_world.specs.Schedules.{changed}
 use Rattle.pv_model.specs.Alternatives.{Read}
 use Rattle.pv_model.specs.Events.{Event, deliver}

@@ -10,7 +10,7 @@ ghost use Rattle.pv_law_complete.specs.Doubtful.{held, raised, raising, read, se
 ghost use Rattle.pv_law_complete.specs.Undelayed.{deliveries, moving, submitted};
 ghost use Rattle.pv_law_complete.specs.Undisturbed.{IsUndisturbed};
 ghost use Rattle.pv_law_events.specs.Eventful.{small};
-ghost use Rattle.pv_law_world.specs.Lines.{t, u};
+ghost use Rattle.pv_law_world.specs.ExampleLines.{t, u};
 ghost use Rattle.pv_protocol.specs.Anywhere.{IsRunWithFaults};
 ghost use Rattle.pv_protocol.specs.Coordinate.{names_taken};
 ghost use Rattle.pv_protocol.specs.Records.{is_prepared};

@@ -8,7 +8,7 @@ use Rattle.pv_base.specs.Canonical.{canonical_cases}
 use Rattle.pv_base.specs.declared.txn.TxnId.{TxnId}
 use Rattle.pv_format.specs.Record.{epoch_begun, prepared}
 use Rattle.pv_law_events.specs.Eventful.{in_doubt}
-use Rattle.pv_law_world.specs.Lines.{t, sure}
+use Rattle.pv_law_world.specs.ExampleLines.{t, sure}
 use Rattle.pv_model.specs.Meaning.{exec}
 use Rattle.pv_model.specs.Plan.{plan_of}
 use Rattle.pv_protocol.specs.Attempt.{begun}

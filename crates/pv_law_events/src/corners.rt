@@ -5,7 +5,7 @@ ghost use Rattle.std.specs.Prelude.{◌≡◌, [], ◌∷◌};
 ghost use Rattle.pv_base.specs.declared.reply.Reply.TheVariants.{Nothing};
 ghost use Rattle.pv_law_events.specs.Corners.{armed_and_mended, armed_beyond, fault_in_refused_start, fault_in_start, numbered_anew, promised_late, shared_grant};
 ghost use Rattle.pv_law_events.specs.Eventful.{small};
-ghost use Rattle.pv_law_world.specs.Lines.{both_held, report_lines, sure, t, txn_in, values};
+ghost use Rattle.pv_law_world.specs.ExampleLines.{both_held, report_lines, sure, t, txn_in, values};
 ghost use Rattle.pv_law_world.specs.Schedules.{short_of_room};
 ghost use Rattle.pv_protocol.specs.Lines.{Line};
 ghost use Rattle.pv_protocol.specs.Run.{printed};

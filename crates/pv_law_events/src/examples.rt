@@ -3,7 +3,7 @@
 
 ghost use Rattle.std.specs.Prelude.{◌≡◌, [], ◌∷◌, All, false, IsTrue, true};
 ghost use Rattle.pv_law_events.specs.Eventful.{after_abort, after_outcome, eventful, eventful_lines, in_doubt, small};
-ghost use Rattle.pv_law_world.specs.Lines.{either, t};
+ghost use Rattle.pv_law_world.specs.ExampleLines.{either, t};
 ghost use Rattle.pv_protocol.specs.Committed.{Fits, is_readable};
 ghost use Rattle.pv_protocol.specs.Outcomes.{Knows};
 ghost use Rattle.pv_protocol.specs.Run.{printed};

@@ -1,11 +1,12 @@
 -- A site that is up is in the epoch that it recorded last, and its memory stands in order.
 use Rattle.std.proofs.Common.{arith, ◌≡◌, ℕ, ◌+◌, ◌≤◌, Some, None, Option, List, [], ◌∷◌, ◌++◌, refl, sym, ap, ◌∙◌, subst}
-use Rattle.std.specs.Prelude.{option_to_list, max}
+use Rattle.std.specs.Prelude.{option_to_list}
 use Rattle.std.proofs.lemmas.List.{append-nil}
 use Rattle.pv_base.proofs.Basics.{Some_inj}
 use Rattle.pv_format.specs.Contents.{greatest_epoch}
-use Rattle.pv_format.specs.Record.{Record, epoch_begun, prepared, outcome_known}
+use Rattle.pv_format.specs.Record.{Record, prepared, outcome_known}
 use Rattle.pv_law_step.proofs.Appended.{steady}
+use Rattle.pv_law_step.proofs.EpochLemmas.{epoch-stays, epoch-rises}
 use Rattle.pv_law_step.proofs.OrderLemmas.{stays-in-order}
 use Rattle.pv_law_step.proofs.ShownLemmas.{none-ascend}
 use Rattle.pv_law_step.proofs.StartLemmas.{start-case}
@@ -21,25 +22,11 @@ use Rattle.pv_protocol.specs.State.{Setup, Running}
 none-some : {A : Type 0} {x : A} → None ≡ Some x → ⊥
 none-some is = cc
 
--- The greatest epoch, with one more record.
-
-outcome-epoch : (records : List Record) (more : Record) → greatest_epoch (more ∷ []) ≡ 0 → greatest_epoch (records ++ more ∷ []) ≡ greatest_epoch records
-outcome-epoch [] more none = none
-outcome-epoch (epoch_begun epoch ∷ records) more none = ap (λ (last : ℕ). max epoch last) (outcome-epoch records more none)
-outcome-epoch (prepared txn writes ∷ records) more none = outcome-epoch records more none
-outcome-epoch (outcome_known txn commits ∷ records) more none = outcome-epoch records more none
-
-begun-epoch : (records : List Record) (epoch : ℕ) → greatest_epoch records ≤ epoch → greatest_epoch (records ++ epoch_begun epoch ∷ []) ≡ epoch
-begun-epoch [] epoch most = omega arith
-begun-epoch (epoch_begun other ∷ records) epoch most =
-    let rest : greatest_epoch (records ++ epoch_begun epoch ∷ []) ≡ epoch = begun-epoch records epoch (omega (arith, most)) in omega (arith, most, rest)
-begun-epoch (prepared txn writes ∷ records) epoch most = begun-epoch records epoch most
-begun-epoch (outcome_known txn commits ∷ records) epoch most = begun-epoch records epoch most
-
+-- What a step appends begins no epoch.
 appended-epoch : (here : Here) (more : Option Record) → Appends here more → greatest_epoch (here.records ++ option_to_list more) ≡ greatest_epoch here.records
 appended-epoch here more nothing_at_all = ap greatest_epoch (append-nil here.records)
-appended-epoch here more (an_outcome txn commits room) = outcome-epoch here.records (outcome_known txn commits) refl
-appended-epoch here more (a_promise txn writes is room) = outcome-epoch here.records (prepared txn writes) refl
+appended-epoch here more (an_outcome txn commits room) = epoch-stays here.records (outcome_known txn commits) refl
+appended-epoch here more (a_promise txn writes is room) = epoch-stays here.records (prepared txn writes) refl
 
 -- The site's epoch is the greatest that its records began.
 abbrev pub IsRecorded : ℕ → List Record → Running → Type 0
@@ -50,7 +37,7 @@ started-recorded : (n : ℕ) (setup : Setup) (records : List Record) (started : 
 started-recorded n setup records started (no_epoch_left h) up is = absurd (none-some is)
 started-recorded n setup records started (no_room h i) up is = absurd (none-some is)
 started-recorded n setup records started (begins h i) up is =
-    ap (λ (running : Running). running.epoch) (sym (Some_inj is)) ∙ sym (begun-epoch records (greatest_epoch records + 1) (omega arith))
+    ap (λ (running : Running). running.epoch) (sym (Some_inj is)) ∙ sym (epoch-rises records (greatest_epoch records + 1) (omega arith))
 
 pub epochs-kept : (setup : Setup) → IsKept setup (WhereUp IsRecorded)
 epochs-kept setup = record {

@@ -1,4 +1,4 @@
-pub mod Lines
+pub mod ExampleLines
 pub mod Pumps
 pub mod Ranges
 pub mod Schedules

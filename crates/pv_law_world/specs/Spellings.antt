@@ -1,7 +1,7 @@
 -- Lines, each with its text.
 use Rattle.std.specs.Prelude.{ℕ, ℤ, pos, negsuc, true, false, List, [], ◌∷◌, codes}
 use Rattle.pv_base.specs.Polyvalue.{Case}
-use Rattle.pv_law_world.specs.Lines.{either, sure, t, u}
+use Rattle.pv_law_world.specs.ExampleLines.{either, sure, t, u}
 use Rattle.pv_base.specs.declared.reply.Decline.TheVariants.{Require, Overflow, ZeroDivisor}
 use Rattle.pv_base.specs.declared.reply.Reply.TheVariants.{Value, Nothing, Declined}
 use Rattle.pv_protocol.specs.Lines.{Line, MessageKind}

@@ -1,5 +1,5 @@
 -- Trees whose test is settled, and trees that choose by a transaction below an earlier test.
-use Rattle.std.proofs.Common.{◌≡◌, ◌⊎◌, ⊎_elim, ◌+◌, ◌<◌, Bool, true, false, List, ◌∷◌, ◌++◌, length, Option, None, Some, Result, Ok, Err, IfOk, inl, inr, if◌then◌else◌, IsTrue, refl, sym, ap, subst, ◌∙◌, arith}
+use Rattle.std.proofs.Common.{◌≡◌, ◌⊎◌, ⊎_elim, ◌+◌, ◌<◌, Bool, true, false, List, ◌∷◌, ◌++◌, length, Option, None, Some, inl, inr, if◌then◌else◌, IsTrue, refl, sym, ap, subst, ◌∙◌, arith}
 use Rattle.std.proofs.lemmas.Bool.{false≢true, false_from_ne_true}
 use Rattle.std.specs.List.{All}
 use Rattle.pv_base.specs.declared.literal.Literal.{Literal}
@@ -14,11 +14,6 @@ use Rattle.pv_poly.specs.From.{NamesFrom, IsFirst, IsFirstOf, IsSide, before, fi
 use Rattle.pv_poly.specs.TreeView.{AreSides}
 use Rattle.pv_poly.proofs.TopOfTree.{IsTested}
 use Rattle.pv_poly.proofs.TestLemmas.{test-named, test-aborted, test-committed, test-from}
-
--- Two facts of the value of a result give a third one.
-pub both-ok : {T E : Type 0} (P Q R : T → Type 0) (result : Result T E) → IfOk result P → IfOk result Q → ((x : T) → P x → Q x → R x) → IfOk result R
-both-ok P Q R (Ok x) p q all = all x p q
-both-ok P Q R (Err e) p q all = p
 
 module _ {V : Type 0} where
   -- What the cases of a tree may name that was made of two others.

@@ -136,11 +136,6 @@ pub over_ok : {X E : Type 0} (result : Result X E) (P Q : X → Type 0) → ((x 
 over_ok (Ok x) P Q go h = go x h
 over_ok (Err e) P Q go h = tt
 
--- What follows from two of them.
-pub over_both_ok : {X E : Type 0} (result : Result X E) (P Q R : X → Type 0) → ((x : X) → P x → Q x → R x) → IfOk result P → IfOk result Q → IfOk result R
-over_both_ok (Ok x) P Q R go h more = go x h more
-over_both_ok (Err e) P Q R go h more = tt
-
 -- The write names only the transactions.
 abbrev pub NamesOnly : List TxnId → Read → Type 0
 NamesOnly txns write = (txn : TxnId) → IsTrue (names write.cases txn) → Contains txns txn

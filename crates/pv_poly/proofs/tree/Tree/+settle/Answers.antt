@@ -2,11 +2,12 @@ use Rattle.std.specs.List.{All}
 use Rattle.pv_base.specs.Assignment.{precedes}
 use Rattle.std.proofs.Common.{◌≡◌, IsTrue, List, length, ap, sym, subst, arith}
 use Rattle.std.proofs.lemmas.Result.{IfOk-weaker}
+use Rattle.pv_base.proofs.ResultLemmas.{both-ok}
 use Rattle.pv_base.specs.declared.literal.Literal.{Literal}
 use Rattle.pv_base.specs.Polyvalue.{Case, AreOutcomes, IsCanonical, IsChoice, IsSettled}
 use Rattle.pv_cases.proofs.SettledLemmas.{NamesKept, before-outcomes, outcomes-rest}
 use Rattle.pv_cases.proofs.TxnTests.{less-precedes, greater-precedes, equal-same}
-use Rattle.pv_poly.proofs.ChoiceLemmas.{NamesOfBoth, both-ok, earlier-settled, aborted-settled, committed-settled, later-settled, test-settled-names}
+use Rattle.pv_poly.proofs.ChoiceLemmas.{NamesOfBoth, earlier-settled, aborted-settled, committed-settled, later-settled, test-settled-names}
 use Rattle.pv_poly.proofs.TestLemmas.{reduced-canonical, test-aborted, test-committed}
 use Rattle.pv_poly.proofs.TopOfTree.{at_Test, aborted-shorter, committed-shorter}
 use Rattle.pv_poly.proofs.tree.Tree.+settle.Goals as goal

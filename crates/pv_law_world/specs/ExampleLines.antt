@@ -1,4 +1,4 @@
--- Lines that schedules print.
+-- Lines that the examples' schedules print.
 use Rattle.std.specs.Prelude.{ℕ, ℤ, pos, Bool, false, true, List, [], ◌∷◌, ◌++◌}
 use Rattle.pv_base.specs.Polyvalue.{Case}
 use Rattle.pv_base.specs.declared.txn.TxnId.{TxnId}
