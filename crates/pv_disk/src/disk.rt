@@ -21,7 +21,7 @@ pub trait Disk: Drop {
     /// The disk as the clauses below see it: what it holds, what a crash may leave of it, and for what it has room.
     ghost model: { DiskModel Self };
 
-    /// The length in bytes, at most 2^62.
+    /// The length in bytes, at most [`MAX_LENGTH`](pv_base::MAX_LENGTH).
     fn len(&mut self) -> Result<u64, Failed>
         ensures len { IfOk result (λ n. (held : List ℕ) → model.content self.old ≡ Some held → n ≡ length held) }
         ensures bound { IfOk result (λ n. n ≤ MAX_LENGTH) }
@@ -43,7 +43,8 @@ pub trait Disk: Drop {
         ensures effect { Reserves model self.old self.new bytes writes result }
         ensures goes { model.goes self.old (make_room bytes writes) (is_ok result) self.new };
 
-    /// Writes these bytes at a place that is at most the length, in room that `reserve` made. They end at 2^40 at most.
+    /// Writes these bytes at a place that is at most the length, in room that `reserve` made. They end at
+    /// [`MAX_WRITE_END`](pv_base::MAX_WRITE_END) at most.
     fn write_at(&mut self, place: u64, bytes: &[u8]) -> Result<(), Failed>
         requires within { (held : List ℕ) → model.content self.old ≡ Some held → place ≤ length held }
         requires end { place + length bytes.now ≤ MAX_WRITE_END }

@@ -37,7 +37,8 @@ pub(crate) struct Image {
 }
 
 impl Model for Image {
-    ghost use Rattle.std.specs.Prelude.{◌≤◌, ◌-◌, ◌^◌, [], min, vec_len, vec_capacity};
+    ghost use Rattle.std.specs.Prelude.{◌≤◌, ◌-◌, [], min, vec_len, vec_capacity};
+    ghost use Rattle.pv_base.specs.declared.limits.TheConstants.{MAX_LENGTH};
     ghost use Rattle.pv_disk.specs.MemImage.{ImageState};
     ghost use Rattle.pv_disk.specs.MemHistory.{moment_of, moments_of, unsynced, CanUndo};
 

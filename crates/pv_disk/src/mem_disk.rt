@@ -50,7 +50,7 @@ impl MemDisk {
         MemDisk::of(alloc, Vec::new(alloc))
     }
 
-    /// A disk that holds these bytes, of which there are at most 2^62, synced. No call fails.
+    /// A disk that holds these bytes, of which there are at most [`MAX_LENGTH`](pv_base::MAX_LENGTH), synced. No call fails.
     pub fn of(alloc: Global, bytes: Vec<u8>) -> Self
         requires { vec_len bytes ≤ MAX_LENGTH }
         ensures content { result.image.content ≡ bytes.items }

@@ -4,10 +4,12 @@ use Rattle.std.specs.Prelude.{IsTrue, ◌||◌}
 use Rattle.std.specs.List.{Contains}
 use Rattle.std.specs.Option.{unwrap_or}
 use Rattle.std.specs.Ordering.{int_eq}
-use Rattle.std.proofs.lemmas.Bool.{false≢true, or_left, or_right}
+use Rattle.std.proofs.lemmas.Bool.{or_left, or_right}
 use Rattle.std.proofs.lemmas.Bool.Decides.{Decides-int_eq}
 use Rattle.std.proofs.lemmas.List.Folds.{list_any-append}
 use Rattle.pv_base.specs.declared.txn.TxnId.{TxnId}
+use Rattle.pv_base.specs.ReplyExact.{reply_exact}
+use Rattle.pv_base.specs.contracts.reply.DeclinePartialEq.TheImpl as decline_eq
 use Rattle.pv_base.specs.Assignment.{AgreeOn, AreAscending, commits}
 use Rattle.pv_base.specs.Canonical.{IsExact, IsFunctionOf}
 use Rattle.pv_base.specs.Polyvalue.{Case, IsCanonical, names, value_at}
@@ -23,36 +25,14 @@ use Rattle.pv_base.specs.declared.reply.Decline.TheVariants.{Require, Overflow, 
 use Rattle.pv_base.specs.declared.reply.Reply.{Reply}
 use Rattle.pv_base.specs.declared.reply.Reply.TheVariants.{Value, Nothing, Declined}
 use Rattle.pv_model.specs.Meaning.{Row, exec, value_in}
-use Rattle.pv_model.specs.Replies.{is_same_decline, is_same_reply}
+use Rattle.pv_model.specs.Replies.{is_same_reply}
 use Rattle.pv_protocol.specs.Coordinate.{reads_of, names_taken, open_names, row_after, reply_after, new_value, reply_value}
 use Rattle.pv_protocol.specs.Records.{choice}
 use Rattle.pv_protocol.specs.State.{Entry}
 
 -- Replies are told apart exactly.
 
-same-decline : (d e : Decline) → is_same_decline d e ≡ true → d ≡ e
-same-decline Require Require h = refl
-same-decline Overflow Overflow h = refl
-same-decline ZeroDivisor ZeroDivisor h = refl
-same-decline Require Overflow h = absurd (false≢true h)
-same-decline Require ZeroDivisor h = absurd (false≢true h)
-same-decline Overflow Require h = absurd (false≢true h)
-same-decline Overflow ZeroDivisor h = absurd (false≢true h)
-same-decline ZeroDivisor Require h = absurd (false≢true h)
-same-decline ZeroDivisor Overflow h = absurd (false≢true h)
-
-same-reply : (r s : Reply) → is_same_reply r s ≡ true → r ≡ s
-same-reply (Value z) (Value w) h = ap Value ((Decides-int_eq z w).0 h)
-same-reply Nothing Nothing h = refl
-same-reply (Declined d) (Declined e) h = ap Declined (same-decline d e h)
-same-reply (Value z) Nothing h = absurd (false≢true h)
-same-reply (Value z) (Declined e) h = absurd (false≢true h)
-same-reply Nothing (Value w) h = absurd (false≢true h)
-same-reply Nothing (Declined e) h = absurd (false≢true h)
-same-reply (Declined d) (Value w) h = absurd (false≢true h)
-same-reply (Declined d) Nothing h = absurd (false≢true h)
-
-decline-itself : (d : Decline) → is_same_decline d d ≡ true
+decline-itself : (d : Decline) → decline_eq.ghosts.eq d d ≡ true
 decline-itself Require = refl
 decline-itself Overflow = refl
 decline-itself ZeroDivisor = refl
@@ -63,7 +43,7 @@ reply-itself Nothing = refl
 reply-itself (Declined d) = decline-itself d
 
 pub reply-exact : IsExact is_same_reply
-reply-exact = record { exact = same-reply; itself = reply-itself }
+reply-exact = record { exact = reply_exact; itself = reply-itself }
 
 -- What is read depends on what the values name.
 

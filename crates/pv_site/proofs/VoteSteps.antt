@@ -1,19 +1,13 @@
 -- What a coordinator makes of a yes, and what it sends and reports when a transaction commits.
 use Rattle.std.proofs.Common.{◌≡◌, ℕ, Bool, true, false, Some, None, Option, List, [], ◌∷◌, ◌++◌, map, is_some, refl, sym, ap, subst, ◌∙◌}
 use Rattle.std.specs.Prelude.{◌&&◌, not, if◌then◌else◌}
-use Rattle.std.specs.List.{filter}
 use Rattle.std.specs.Option.{option_map}
 use Rattle.std.proofs.lemmas.Bool.{false≢true}
-use Rattle.std.proofs.lemmas.List.Elements.{filter_agree}
 use Rattle.pv_base.proofs.Basics.{and-right}
 use Rattle.pv_base.specs.Assignment.{is_same_txn}
-use Rattle.pv_base.specs.contracts.reply.DeclinePartialEq.TheImpl as decline_eq
 use Rattle.pv_base.specs.contracts.reply.ReplyPartialEq.TheImpl as reply_eq
 use Rattle.pv_base.specs.declared.limits.TheConstants.{HELD_NAMES}
-use Rattle.pv_base.specs.declared.reply.Decline.{Decline}
-use Rattle.pv_base.specs.declared.reply.Decline.TheVariants.{Require, Overflow, ZeroDivisor}
 use Rattle.pv_base.specs.declared.reply.Reply.{Reply}
-use Rattle.pv_base.specs.declared.reply.Reply.TheVariants.{Value, Nothing, Declined}
 use Rattle.pv_base.specs.declared.txn.TxnId.{TxnId}
 use Rattle.pv_base.specs.Polyvalue.{Case, IsPolyvalue, IsSettled, value_at, with_outcomes}
 use Rattle.pv_coord.specs.Answers.{vote_of}
@@ -27,8 +21,8 @@ use Rattle.pv_law_polyvalues.proofs.PolyvalueLemmas.{one-canonical}
 use Rattle.pv_law_step.proofs.Appended.{found-passes}
 use Rattle.pv_law_step.proofs.ComputedLemmas.{reply-canonical, reply-value}
 use Rattle.pv_model.specs.Check.{Part}
-use Rattle.pv_model.specs.PossibleAnswers.{possible, without_repeats}
-use Rattle.pv_model.specs.Replies.{is_same_decline, is_same_reply}
+use Rattle.pv_model.specs.PossibleAnswers.{possible}
+use Rattle.pv_model.specs.Replies.{is_same_reply}
 use Rattle.pv_protocol.specs.Coordinate.{is_locking, replies_of, reply_value}
 use Rattle.pv_protocol.specs.Here.{Here, nothing, outcome_sends, participants, remembering, with_entry}
 use Rattle.pv_protocol.specs.Keyed.{with_one}
@@ -46,40 +40,6 @@ use Rattle.pv_site.specs.Parts.{AreTied, HaveStepped, IsReplyOf, IsWorkOf, here_
 use Rattle.pv_site.specs.Values.{note_of, outgoing_of}
 use Rattle.pv_site.specs.declared.input.Step.{Step}
 use Rattle.pv_site.specs.declared.parts.Parts.{Parts}
-
--- Replies are compared as the definitions compare them.
-
-decline-compared : (d e : Decline) → decline_eq.ghosts.eq d e ≡ is_same_decline d e
-decline-compared Require Require = refl
-decline-compared Require Overflow = refl
-decline-compared Require ZeroDivisor = refl
-decline-compared Overflow Require = refl
-decline-compared Overflow Overflow = refl
-decline-compared Overflow ZeroDivisor = refl
-decline-compared ZeroDivisor Require = refl
-decline-compared ZeroDivisor Overflow = refl
-decline-compared ZeroDivisor ZeroDivisor = refl
-
-reply-compared : (r s : Reply) → reply_eq.ghosts.eq r s ≡ is_same_reply r s
-reply-compared (Value z) (Value w) = refl
-reply-compared (Value z) Nothing = refl
-reply-compared (Value z) (Declined e) = refl
-reply-compared Nothing (Value w) = refl
-reply-compared Nothing Nothing = refl
-reply-compared Nothing (Declined e) = refl
-reply-compared (Declined d) (Value w) = refl
-reply-compared (Declined d) Nothing = refl
-reply-compared (Declined d) (Declined e) = decline-compared d e
-
-repeats-alike : {V : Type 0} (p q : V → V → Bool) → ((x y : V) → p x y ≡ q x y) → (values : List V) → without_repeats p values ≡ without_repeats q values
-repeats-alike p q alike [] = refl
-repeats-alike p q alike (value ∷ values) =
-    ap (λ rest. value ∷ rest)
-    (ap (filter (λ other. not (p value other))) (repeats-alike p q alike values)
-    ∙ filter_agree (λ other. not (p value other)) (λ other. not (q value other)) (λ other. ap not (alike value other)) (without_repeats q values))
-
-possible-alike : (cases : List (Case Reply)) → possible reply_eq.ghosts.eq cases ≡ possible is_same_reply cases
-possible-alike cases = repeats-alike reply_eq.ghosts.eq is_same_reply reply-compared (map (λ (case : Case Reply). case.value) cases)
 
 module _ (parts : Parts) (tied : AreTied parts) where
   -- A work that asks for votes is that of its transaction, and has a reply.
@@ -138,7 +98,7 @@ module _ (parts : Parts) (tied : AreTied parts) where
               ∙ ap (λ (sites : List ℕ). outcome_sends txn true (others_than parts.me.0 sites)) (sites-planned (here_of parts) work (planned-found parts tied passes work is))
               ∙ ap (λ (t : TxnId). outcome_sends t true (others_than parts.me.0 (participants (here_of parts) work.entry))) voting-txn;
           notes = noted
-              ∙ ap (λ (replies : List Reply). committed txn replies ∷ []) (possible-alike settled ∙ ap (possible is_same_reply) settled-is)
+              ∙ ap (λ (replies : List Reply). committed txn replies ∷ []) (ap (possible is_same_reply) settled-is)
               ∙ ap (λ (t : TxnId). committed t (replies_of (parts.store.records ++ outcome_known t true ∷ []) work.entry) ∷ []) voting-txn;
           locked = unlocked;
         }
