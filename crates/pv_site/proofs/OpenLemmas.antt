@@ -1,6 +1,6 @@
 -- What a site starts from: its records, and that they are in range and narrow.
 use Rattle.std.proofs.Common.{◌≡◌, refl, sym, subst, ap, ◌∙◌, ⊎_elim, ℕ, zero, suc, ◌+◌, ◌<◌, ◌≤◌, Bool, true, false, List, [], ◌∷◌, ◌++◌, length, map, Option, Some, None, arith}
-use Rattle.std.specs.Prelude.{All, IsTrue, slice_get, nat_lt, ◌==◌, if◌then◌else◌, max, min, is_some, ◌^◌, ◌-◌, sum_by}
+use Rattle.std.specs.Prelude.{All, IsTrue, slice_get, nat_lt, ◌==◌, if◌then◌else◌, min, is_some, ◌^◌, ◌-◌, sum_by}
 use Rattle.std.specs.List.{Contains}
 use Rattle.std.specs.Option.{option_or}
 use Rattle.std.proofs.lemmas.Bool.{false≢true, ltb-false}
