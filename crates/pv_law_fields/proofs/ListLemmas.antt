@@ -30,7 +30,7 @@ module _ {X : Type 0} (Spells : X → List ℕ → Type 0) (each : Layout → La
   pub record IsReading (done : List X) (count : ℕ) (start now : Rest) : Type 0 where
     pub passes : (more : List X) (new : Rest) → Passes (SpellsEach Spells more) (repeated (count - length done) each) now new
         → Passes (SpellsEach Spells (done ++ more)) (repeated count each) start new
-    pub stops : (reported : Option Fault) → Stops (repeated (count - length done) each) now reported → Stops (repeated count each) start reported
+    pub stops : (told : Option Fault) → Stops (repeated (count - length done) each) now told → Stops (repeated count each) start told
 
   -- None was read.
   pub reading_starts : (count : ℕ) (start : Rest) → IsReading [] count start start
@@ -38,7 +38,7 @@ module _ {X : Type 0} (Spells : X → List ℕ → Type 0) (each : Layout → La
       let all : count - 0 ≡ count = omega arith in
       record {
         passes = λ more new passes. subst (λ left. Passes (SpellsEach Spells more) (repeated left each) start new) all passes;
-        stops = λ reported stops. subst (λ left. Stops (repeated left each) start reported) all stops;
+        stops = λ told stops. subst (λ left. Stops (repeated left each) start told) all stops;
       }
 
   -- One more was read.
@@ -53,16 +53,16 @@ module _ {X : Type 0} (Spells : X → List ℕ → Type 0) (each : Layout → La
             (reading.passes (x ∷ more) last
             (subst (λ n. Passes (SpellsEach Spells (x ∷ more)) (repeated n each) now last) (sym left)
             (passes_both (Spells x) (SpellsEach Spells more) each (repeated fewer each) now new last one passes)));
-        stops = λ reported stops. reading.stops reported
-            (subst (λ n. Stops (repeated n each) now reported) (sym left) (stops_second (Spells x) each (repeated fewer each) now new reported one stops));
+        stops = λ told stops. reading.stops told
+            (subst (λ n. Stops (repeated n each) now told) (sym left) (stops_second (Spells x) each (repeated fewer each) now new told one stops));
       }
 
   -- The next one isn't read.
-  pub reading_stops : (done : List X) (count : ℕ) (start now : Rest) (reported : Option Fault) → length done < count → IsReading done count start now → Stops each now reported
-      → Stops (repeated count each) start reported
-  reading_stops done count start now reported some reading stops =
-      reading.stops reported (subst (λ n. Stops (repeated n each) now reported) (sym (left_one done count some))
-      (stops_first each (repeated (count - (length done + 1)) each) now reported stops))
+  pub reading_stops : (done : List X) (count : ℕ) (start now : Rest) (told : Option Fault) → length done < count → IsReading done count start now → Stops each now told
+      → Stops (repeated count each) start told
+  reading_stops done count start now told some reading stops =
+      reading.stops told (subst (λ n. Stops (repeated n each) now told) (sym (left_one done count some))
+      (stops_first each (repeated (count - (length done + 1)) each) now told stops))
 
   -- All were read.
   pub reading_ends : (done : List X) (count : ℕ) (start now : Rest) → count ≤ length done → IsReading done count start now → Passes (SpellsEach Spells done) (repeated count each) start now
@@ -76,7 +76,7 @@ module _ {X : Type 0} (Spells : X → List ℕ → Type 0) (item_of : X → ℕ)
   pub record IsReadingEntries (done : List X) (count least : ℕ) (start now : Rest) : Type 0 where
     pub passes : (more : List X) (new : Rest) → Passes (SpellsEntriesFrom Spells item_of least more) (entries_layout (count - length done) each least) now new
         → Passes (SpellsEntriesFrom Spells item_of 0 (done ++ more)) (entries_layout count each 0) start new
-    pub stops : (reported : Option Fault) → Stops (entries_layout (count - length done) each least) now reported → Stops (entries_layout count each 0) start reported
+    pub stops : (told : Option Fault) → Stops (entries_layout (count - length done) each least) now told → Stops (entries_layout count each 0) start told
 
   -- None was read.
   pub entries_start : (count : ℕ) (start : Rest) → IsReadingEntries [] count 0 start start
@@ -84,7 +84,7 @@ module _ {X : Type 0} (Spells : X → List ℕ → Type 0) (item_of : X → ℕ)
       let all : count - 0 ≡ count = omega arith in
       record {
         passes = λ more new passes. subst (λ left. Passes (SpellsEntriesFrom Spells item_of 0 more) (entries_layout left each 0) start new) all passes;
-        stops = λ reported stops. subst (λ left. Stops (entries_layout left each 0) start reported) all stops;
+        stops = λ told stops. subst (λ left. Stops (entries_layout left each 0) start told) all stops;
       }
 
   -- An entry's item was read, and then what it has besides.
@@ -110,27 +110,27 @@ module _ {X : Type 0} (Spells : X → List ℕ → Type 0) (item_of : X → ℕ)
             (reading.passes (x ∷ more) last
             (subst (λ n. Passes (SpellsEntriesFrom Spells item_of least (x ∷ more)) (entries_layout n each least) now last) (sym left)
             (passes_entry x more fewer least now mid new last item one passes)));
-        stops = λ reported stops. reading.stops reported
-            (subst (λ n. Stops (entries_layout n each least) now reported) (sym left)
+        stops = λ told stops. reading.stops told
+            (subst (λ n. Stops (entries_layout n each least) now told) (sym left)
             (stops_after_number (IsAllowed 4 (is_item_from least) (item_of x)) 4 (is_item_from least) (item_of x) (λ number next. each (entries_layout fewer each (number + 1) next)) now mid item
-            reported (stops_second (Spells x) each (entries_layout fewer each (item_of x + 1)) mid new reported one stops)));
+            told (stops_second (Spells x) each (entries_layout fewer each (item_of x + 1)) mid new told one stops)));
       }
 
   -- The next item isn't read.
-  pub entries_stop_at_item : (done : List X) (count least : ℕ) (start now : Rest) (reported : Option Fault) → length done < count → IsReadingEntries done count least start now
-      → StopsNumber 4 (is_item_from least) now reported → Stops (entries_layout count each 0) start reported
-  entries_stop_at_item done count least start now reported some reading stops =
-      reading.stops reported (subst (λ n. Stops (entries_layout n each least) now reported) (sym (left_one done count some))
-      (stops_at_number 4 (is_item_from least) (λ number next. each (entries_layout (count - (length done + 1)) each (number + 1) next)) now reported stops))
+  pub entries_stop_at_item : (done : List X) (count least : ℕ) (start now : Rest) (told : Option Fault) → length done < count → IsReadingEntries done count least start now
+      → StopsNumber 4 (is_item_from least) now told → Stops (entries_layout count each 0) start told
+  entries_stop_at_item done count least start now told some reading stops =
+      reading.stops told (subst (λ n. Stops (entries_layout n each least) now told) (sym (left_one done count some))
+      (stops_at_number 4 (is_item_from least) (λ number next. each (entries_layout (count - (length done + 1)) each (number + 1) next)) now told stops))
 
   -- What stands after the next item isn't read.
-  pub entries_stop : (done : List X) (item count least : ℕ) (start now mid : Rest) (reported : Option Fault) → length done < count → IsReadingEntries done count least start now
-      → PassesNumber (IsAllowed 4 (is_item_from least) item) 4 (is_item_from least) item now mid → Stops each mid reported → Stops (entries_layout count each 0) start reported
-  entries_stop done item count least start now mid reported some reading number stops =
+  pub entries_stop : (done : List X) (item count least : ℕ) (start now mid : Rest) (told : Option Fault) → length done < count → IsReadingEntries done count least start now
+      → PassesNumber (IsAllowed 4 (is_item_from least) item) 4 (is_item_from least) item now mid → Stops each mid told → Stops (entries_layout count each 0) start told
+  entries_stop done item count least start now mid told some reading number stops =
       let fewer : ℕ = count - (length done + 1) in
-      reading.stops reported (subst (λ n. Stops (entries_layout n each least) now reported) (sym (left_one done count some))
+      reading.stops told (subst (λ n. Stops (entries_layout n each least) now told) (sym (left_one done count some))
       (stops_after_number (IsAllowed 4 (is_item_from least) item) 4 (is_item_from least) item (λ n next. each (entries_layout fewer each (n + 1) next)) now mid number
-      reported (stops_first each (entries_layout fewer each (item + 1)) mid reported stops)))
+      told (stops_first each (entries_layout fewer each (item + 1)) mid told stops)))
 
   -- All were read.
   pub entries_end : (done : List X) (count least : ℕ) (start now : Rest) → count ≤ length done → IsReadingEntries done count least start now

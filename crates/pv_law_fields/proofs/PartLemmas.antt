@@ -122,19 +122,19 @@ passes_both First Second front back old mid new first second = record {
 }
 
 -- A part isn't read after one that is.
-pub stops_second : (First : List ℕ → Type 0) (front back : Layout → Layout) (old mid : Rest) (reported : Option Fault) → Passes First front old mid → Stops back mid reported
-    → Stops (λ next. front (back next)) old reported
+pub stops_second : (First : List ℕ → Type 0) (front back : Layout → Layout) (old mid : Rest) (told : Option Fault) → Passes First front old mid → Stops back mid told
+    → Stops (λ next. front (back next)) old told
 stops_second First front back old mid (Some fault) passes stops = λ next. passes.later (back next) fault (stops next)
 stops_second First front back old mid None passes stops = tt
 
 -- What stops a part stops the parts that begin with it.
-pub stops_first : (front back : Layout → Layout) (old : Rest) (reported : Option Fault) → Stops front old reported → Stops (λ next. front (back next)) old reported
+pub stops_first : (front back : Layout → Layout) (old : Rest) (told : Option Fault) → Stops front old told → Stops (λ next. front (back next)) old told
 stops_first front back old (Some fault) stops = λ next. stops (back next)
 stops_first front back old None stops = tt
 
 -- What stops a number stops the parts that begin with it.
-pub stops_at_number : (size : ℕ) (allows : ℕ → Bool) (layouts : ℕ → Layout → Layout) (old : Rest) (reported : Option Fault) → StopsNumber size allows old reported
-    → Stops (λ next. number_then size allows (λ number. layouts number next)) old reported
+pub stops_at_number : (size : ℕ) (allows : ℕ → Bool) (layouts : ℕ → Layout → Layout) (old : Rest) (told : Option Fault) → StopsNumber size allows old told
+    → Stops (λ next. number_then size allows (λ number. layouts number next)) old told
 stops_at_number size allows layouts old (Some fault) stops = λ next. stops (λ number. layouts number next)
 stops_at_number size allows layouts old None stops = tt
 
@@ -149,7 +149,7 @@ module _ (First : List ℕ → Type 0) (size : ℕ) (allows : ℕ → Bool) (val
   }
 
   -- What the number decides isn't read.
-  pub stops_after_number : (reported : Option Fault) → Stops (layouts value) mid reported → Stops (λ next. number_then size allows (λ n. layouts n next)) old reported
+  pub stops_after_number : (told : Option Fault) → Stops (layouts value) mid told → Stops (λ next. number_then size allows (λ n. layouts n next)) old told
   stops_after_number (Some fault) stops = λ next. number.later (λ n. layouts n next) fault (stops next)
   stops_after_number None stops = tt
 

@@ -63,7 +63,7 @@ pub only_cases : (next : Layout) → OnlyNumbers next → OnlyNumbers (cases_lay
 only_cases next only = λ count. only_repeated count case_layout only_case next only
 
 -- Cases that are no polyvalue were read, or that weren't read.
-pub stops_cases : (old : Rest) (reported : Option Fault) → Stops cases_layout old reported → Stops polyvalue_then old reported
+pub stops_cases : (old : Rest) (told : Option Fault) → Stops cases_layout old told → Stops polyvalue_then old told
 stops_cases old (Some fault) stops = λ next. is_within fault (is_in_fields fault (field_fault (cases_layout anything) (only_cases anything tt) old.place old.left fault (stops anything)))
 stops_cases old None stops = tt
 

@@ -52,11 +52,11 @@ frame_length rest content more gate short is =
     )
 
 module _ (rest : List ℕ) where
-  reported : ℕ
-  reported = number_of (take 4 rest)
+  told : ℕ
+  told = number_of (take 4 rest)
 
-  whole : reported < 2 ^ 32 → 4 + reported < length rest → take 4 rest ≡ big_endian 4 reported → HasFrame rest
-  unfolding reported
+  whole : told < 2 ^ 32 → 4 + told < length rest → take 4 rest ≡ big_endian 4 told → HasFrame rest
+  unfolding told
   whole short long spelled =
       let n = number_of (take 4 rest) in
       let behind = drop 4 rest in
@@ -76,7 +76,7 @@ module _ (rest : List ℕ) where
       }
 
   pub frame_of : HasFrame rest ⊎ IsCut rest
-  unfolding reported
+  unfolding told
   frame_of =
       let n = number_of (take 4 rest) in
       elim (cases_lt n (2 ^ 32)) [
