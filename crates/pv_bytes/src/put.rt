@@ -8,7 +8,7 @@ use std::alloc::Global;
 use std::marker::Model;
 
 /// The bytes written so far. A number is written with its most significant byte first. A call that finds no memory leaves them
-/// as they were, and comes only where the room that was made is used up.
+/// and their room as they were, and comes only where the room that was made is used up.
 #[derive(Debug, Drop)]
 pub struct Put {
     bytes: Vec<u8>,
@@ -49,6 +49,7 @@ impl Put {
         ensures written { OnOk result (self.new.bytes ≡ self.old.bytes ++ big_endian 1 n) }
         ensures unchanged { OnErr result (self.new.bytes ≡ self.old.bytes) }
         ensures room { self.old.room ≤ self.new.room + 1 }
+        ensures kept { OnErr result (self.old.room ≤ self.new.room) }
         ensures no_room { OnErr result (self.old.room < 1) }
     {
         self.bytes(&[n])
@@ -60,6 +61,7 @@ impl Put {
         ensures written { OnOk result (self.new.bytes ≡ self.old.bytes ++ big_endian 2 n) }
         ensures unchanged { OnErr result (self.new.bytes ≡ self.old.bytes) }
         ensures room { self.old.room ≤ self.new.room + 2 }
+        ensures kept { OnErr result (self.old.room ≤ self.new.room) }
         ensures no_room { OnErr result (self.old.room < 2) }
     {
         let mut bytes = [0; 2];
@@ -73,6 +75,7 @@ impl Put {
         ensures written { OnOk result (self.new.bytes ≡ self.old.bytes ++ big_endian 4 n) }
         ensures unchanged { OnErr result (self.new.bytes ≡ self.old.bytes) }
         ensures room { self.old.room ≤ self.new.room + 4 }
+        ensures kept { OnErr result (self.old.room ≤ self.new.room) }
         ensures no_room { OnErr result (self.old.room < 4) }
     {
         let mut bytes = [0; 4];
@@ -86,6 +89,7 @@ impl Put {
         ensures written { OnOk result (self.new.bytes ≡ self.old.bytes ++ big_endian 8 n) }
         ensures unchanged { OnErr result (self.new.bytes ≡ self.old.bytes) }
         ensures room { self.old.room ≤ self.new.room + 8 }
+        ensures kept { OnErr result (self.old.room ≤ self.new.room) }
         ensures no_room { OnErr result (self.old.room < 8) }
     {
         let mut bytes = [0; 8];
@@ -99,6 +103,7 @@ impl Put {
         ensures written { OnOk result (self.new.bytes ≡ self.old.bytes ++ big_endian 8 (twos_complement n)) }
         ensures unchanged { OnErr result (self.new.bytes ≡ self.old.bytes) }
         ensures room { self.old.room ≤ self.new.room + 8 }
+        ensures kept { OnErr result (self.old.room ≤ self.new.room) }
         ensures no_room { OnErr result (self.old.room < 8) }
     {
         let mut bytes = [0; 8];
@@ -111,6 +116,7 @@ impl Put {
         ensures written { OnOk result (self.new.bytes ≡ self.old.bytes ++ b.now) }
         ensures unchanged { OnErr result (self.new.bytes ≡ self.old.bytes) }
         ensures room { self.old.room ≤ self.new.room + length b.now }
+        ensures kept { OnErr result (self.old.room ≤ self.new.room) }
         ensures no_room { OnErr result (self.old.room < length b.now) }
     {
         self.bytes.extend_from_slice(b)?;
