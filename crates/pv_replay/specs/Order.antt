@@ -1,5 +1,5 @@
 -- The order in which a decision tree has its leaves.
-use Rattle.std.specs.Prelude.{ℤ, Bool, true, false, not, ◌&&◌, nat_le, List, [], ◌∷◌, length, if◌then◌else◌}
+use Rattle.std.specs.Prelude.{ℤ, ◌^◌, Bool, true, false, not, ◌&&◌, nat_le, List, [], ◌∷◌, length, if◌then◌else◌}
 use Rattle.std.specs.Bool.{beq}
 use Rattle.std.specs.List.{list_all}
 use Rattle.pv_base.specs.Assignment.{is_same_txn, precedes}
@@ -30,4 +30,4 @@ ascends (literal ∷ next ∷ literals) = precedes literal.txn next.txn && ascen
 -- Cases look like the leaves of a decision tree: they are few, with few literals each, whose transactions ascend, and they are in order.
 abbrev pub looks_canonical : List (Case ℤ) → Bool
 looks_canonical cases =
-    nat_le (length cases) 256 && list_all (λ case. nat_le (length case.when) HELD_NAMES) cases && list_all (λ case. ascends case.when) cases && are_in_order cases
+    nat_le (length cases) (2 ^ HELD_NAMES) && list_all (λ case. nat_le (length case.when) HELD_NAMES) cases && list_all (λ case. ascends case.when) cases && are_in_order cases

@@ -1,5 +1,5 @@
 // The fields that messages and records have in common.
-ghost use Rattle.std.specs.Prelude.{◌≡◌, ◌++◌, ◌<◌, ℕ, List, if◌then◌else◌, IfOk, IfErr, OnOk};
+ghost use Rattle.std.specs.Prelude.{◌≡◌, ◌≢◌, ◌++◌, ◌<◌, ℕ, List, if◌then◌else◌, IfOk, IfErr, OnOk};
 ghost use Rattle.pv_format.specs.Layout.{site_layout, truth_layout, txn_layout};
 ghost use Rattle.pv_format.specs.Spelling.{IsAllowed, IsSite, IsTruth, SpellsTxn, is_count_from, is_item_from};
 ghost use Rattle.pv_law_fields.specs.Decoding.{Passes, PassesNumber, Stops, StopsNumber};
@@ -29,6 +29,7 @@ pub fn put_txn(put: &mut Put, txn: TxnId) -> Result<(), NoMemory>
 pub fn take_site(take: &mut Take<'_>) -> Result<SiteId, PolyError>
     ensures passes { IfOk result (λ site. Passes (IsSite site.0) site_layout take.old take.new) }
     ensures stops { IfErr result (λ e. Stops site_layout take.old (fault_of e)) }
+    ensures memory { result ≢ Err PolyError.NoMemory }
 {
     let place = take.place();
     let site = take.u8()?;
@@ -42,6 +43,7 @@ pub fn take_site(take: &mut Take<'_>) -> Result<SiteId, PolyError>
 pub fn take_truth(take: &mut Take<'_>) -> Result<bool, PolyError>
     ensures passes { IfOk result (λ truth. Passes (IsTruth truth) truth_layout take.old take.new) }
     ensures stops { IfErr result (λ e. Stops truth_layout take.old (fault_of e)) }
+    ensures memory { result ≢ Err PolyError.NoMemory }
 {
     let place = take.place();
     match take.u8()? {
@@ -55,6 +57,7 @@ pub fn take_truth(take: &mut Take<'_>) -> Result<bool, PolyError>
 pub fn take_txn(take: &mut Take<'_>) -> Result<TxnId, PolyError>
     ensures passes { IfOk result (λ txn. Passes (SpellsTxn txn) txn_layout take.old take.new) }
     ensures stops { IfErr result (λ e. Stops txn_layout take.old (fault_of e)) }
+    ensures memory { result ≢ Err PolyError.NoMemory }
 {
     let site = take_site(take)?;
     let epoch = take.u32()?;
@@ -70,6 +73,7 @@ pub fn take_txn(take: &mut Take<'_>) -> Result<TxnId, PolyError>
 pub fn take_item(take: &mut Take<'_>, least: u32) -> Result<ItemId, PolyError>
     ensures passes { IfOk result (λ item. PassesNumber (IsAllowed 4 (is_item_from least) item.0) 4 (is_item_from least) item.0 take.old take.new) }
     ensures stops { IfErr result (λ e. StopsNumber 4 (is_item_from least) take.old (fault_of e)) }
+    ensures memory { result ≢ Err PolyError.NoMemory }
 {
     let place = take.place();
     let item = take.u32()?;
@@ -83,6 +87,7 @@ pub fn take_item(take: &mut Take<'_>, least: u32) -> Result<ItemId, PolyError>
 pub fn take_count(take: &mut Take<'_>, fewest: u8) -> Result<u8, PolyError>
     ensures passes { IfOk result (λ count. PassesNumber (IsAllowed 1 (is_count_from fewest) count) 1 (is_count_from fewest) count take.old take.new) }
     ensures stops { IfErr result (λ e. StopsNumber 1 (is_count_from fewest) take.old (fault_of e)) }
+    ensures memory { result ≢ Err PolyError.NoMemory }
 {
     let place = take.place();
     let count = take.u8()?;

@@ -6,8 +6,8 @@ ghost use Rattle.pv_replay.specs.Order.{are_in_order, ascends, looks_canonical, 
 
 use pv_base::{Case, HELD_NAMES, Literal};
 
-// How many cases a polyvalue has at most.
-const MAX_CASES: usize = 256;
+// How many cases a polyvalue has at most: one for each assignment to the outcomes that it may name.
+const MAX_CASES: usize = 1 << HELD_NAMES;
 
 /// Whether the cases look like those of a polyvalue, the leaves of a decision tree from left to right: they are few, each condition's
 /// transactions are few and ascend, and each case stands before the next one. Takes time in proportion to the cases, where these are many no more
