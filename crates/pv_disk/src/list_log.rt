@@ -43,7 +43,8 @@ pub struct ListLog {
 }
 
 impl Model for ListLog {
-    ghost use Rattle.std.specs.Prelude.{◌≡◌, ◌≤◌, ◌-◌, ◌^◌, map, vec_len, vec_capacity};
+    ghost use Rattle.std.specs.Prelude.{◌≡◌, ◌≤◌, ◌-◌, map, vec_len, vec_capacity};
+    ghost use Rattle.pv_base.specs.declared.limits.TheConstants.{MAX_JOURNAL};
     ghost use Rattle.pv_law_disk.specs.Size.{size_of};
     ghost use Rattle.pv_disk.specs.ListLog.{ListState};
 
@@ -60,11 +61,11 @@ impl Model for ListLog {
       bytes = vec_capacity s.next;
     } };
 
-    ghost invariant = { λ s. (s.length ≡ size_of (map (λ it. it.items) s.contents.items)) × (s.length ≤ s.limit) × (s.limit ≤ 2 ^ 32) × (vec_len s.next ≡ 0) };
+    ghost invariant = { λ s. (s.length ≡ size_of (map (λ it. it.items) s.contents.items)) × (s.length ≤ s.limit) × (s.limit ≤ MAX_JOURNAL) × (vec_len s.next ≡ 0) };
 }
 
 impl ListLog {
-    /// A log without contents that may become `limit` bytes long, from 32 to 4,294,967,296, and fails at these appends.
+    /// A log without contents that may become `limit` bytes long, from `MIN_JOURNAL` to `MAX_JOURNAL`, and fails at these appends.
     pub fn new(alloc: Global, limit: u64, fails: Vec<AppendFail>) -> Self
         requires least { MIN_JOURNAL ≤ limit }
         requires most { limit ≤ MAX_JOURNAL }
