@@ -11,4 +11,5 @@ pub mod Named
 pub mod Polyvalue
 pub mod ReplyExact
 pub mod Txn
+pub mod TxnCode
 pub mod Want

@@ -1,6 +1,7 @@
 //! What every crate of polydb names: sites, transactions, items, the catalog of items, replies, and what a refusal is.
 #![tactic(auto)]
 
+mod buffers;
 mod case;
 mod catalog;
 mod entries;
@@ -16,6 +17,7 @@ mod reply;
 mod txn;
 mod want;
 
+pub use buffers::buffer;
 pub use case::{Case, meets};
 pub use catalog::{Catalog, CatalogError, ItemId};
 pub use exact::Exact;

@@ -5,6 +5,7 @@ use Rattle.pv_base.specs.Fault.{Rose}
 use Rattle.pv_io.specs.Stream.{TakesAtMost, KnownAlike}
 use Rattle.pv_io.specs.declared.read_end.ReadEnd.{ReadEnd}
 use Rattle.pv_io.specs.declared.read_end.ReadEnd.TheVariants.{Failed, TooLong}
+use Rattle.pv_io.specs.declared.reading.TheConstants.{PIECE}
 use Rattle.pv_io.specs.declared.source.Source.{Ghosts}
 
 module _ {R : Type 0} (source : Ghosts R) where
@@ -16,6 +17,6 @@ module _ {R : Type 0} (source : Ghosts R) where
     pub within : IfOk result (λ bytes. vec_len bytes ≤ limit)
     pub too_long : IsErrOf result TooLong → (text : List ℕ) → source.left old ≡ Some text → limit < length text
     pub fault : IsErrOf result Failed → Rose (source.faults old) (source.faults new)
-    pub taken : TakesAtMost (source.left old) (source.left new) (limit + 65536)
+    pub taken : TakesAtMost (source.left old) (source.left new) (limit + PIECE)
     pub known : KnownAlike (source.left old) (source.left new)
     pub counted : source.faults old ≤ source.faults new

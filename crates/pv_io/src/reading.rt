@@ -1,10 +1,9 @@
 // How all of a source is read.
-ghost use Rattle.std.specs.Prelude.{◌≡◌, vec_len, IfOk};
 ghost use Rattle.pv_io.specs.SourceEffects.{ReadsAll};
 
 use crate::{ReadEnd, Source};
-use pv_base::Failed;
-use std::alloc::{AllocError, Global};
+use pv_base::buffer;
+use std::alloc::Global;
 
 /// How much one read asks for, in bytes.
 const PIECE: usize = 65_536;
@@ -24,7 +23,7 @@ pub fn read_all<R: Source>(alloc: Global, source: &mut R, limit: u64) -> Result<
     ensures { ReadsAll R.Source limit source.old source.new result }
 {
     let mut bytes = Vec::new(alloc);
-    let mut piece = zeroes(alloc, PIECE)?;
+    let mut piece = buffer(alloc, PIECE)?;
     loop {
         let count = source.read(&mut piece)?;
         if count == 0 {
@@ -36,11 +35,4 @@ pub fn read_all<R: Source>(alloc: Global, source: &mut R, limit: u64) -> Result<
         let (front, _) = piece.split_at(count);
         bytes.extend_from_slice(front)?;
     }
-}
-
-// So many zeroes. It promises the length alone, so that no proof about a reader of pieces ever writes them out.
-fn zeroes(alloc: Global, size: usize) -> Result<Vec<u8>, AllocError>
-    ensures { IfOk result (λ zeroes. vec_len zeroes ≡ size) }
-{
-    Ok(vec![in alloc; 0; size]?)
 }

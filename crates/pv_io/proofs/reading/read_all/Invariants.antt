@@ -2,11 +2,12 @@
 use Rattle.std.proofs.Common.{◌≡◌, ◌-◌, ◌≤◌, vec_len}
 use Rattle.std.specs.Io.KnownBytes.{Consumes}
 use Rattle.pv_io.specs.Stream.{KnownAlike}
+use Rattle.pv_io.specs.declared.reading.TheConstants.{PIECE}
 use Rattle.pv_io.proofs.reading.read_all.Given as goal
 
 abbrev pub invariant-loop-piece : goal.invariant-loop-piece
 invariant-loop-piece g l = record {
-  room : vec_len l.piece ≡ 65536;
+  room : vec_len l.piece ≡ PIECE;
   within : vec_len l.bytes ≤ l.limit;
   consumed : Consumes (g.R.Source.left l.initial.source) (g.R.Source.left l.source) l.bytes.items;
   known : KnownAlike (g.R.Source.left l.initial.source) (g.R.Source.left l.source);
