@@ -20,7 +20,7 @@ record_of content = 1 ∷ framed content
 abbrev pub records_of : Contents → List ℕ
 records_of contents = flat_map record_of contents
 
--- Four bytes can tell the length of each content.
+-- Four bytes have room for the length of each content.
 abbrev pub AreShort : Contents → Type 0
 AreShort contents = All (λ content. length content < 2 ^ 32) contents
 

@@ -25,7 +25,7 @@ use std::marker::Model;
 /// A grant stands for [`TICKS`] ticks from when it was made or last renewed. Each has a number, and none is given twice, so the site
 /// begins with an epoch in which it gave none.
 ///
-/// A transaction that can't have its locks is told so and doesn't wait, so there is no deadlock.
+/// A transaction that can't have its locks is denied them at once and doesn't wait, so there is no deadlock.
 ///
 /// The costs below are in comparisons; making and ending a grant also moves what stands behind it in two vectors.
 #[derive(Debug, Drop)]
@@ -142,7 +142,7 @@ impl Locks {
         renew_grant(&mut self.grants, txn);
     }
 
-    /// Ends the transaction's grant, and tells whether it had one. Takes no memory. The cost is logarithmic in the grants and, for each want of the
+    /// Ends the transaction's grant, and reports whether it had one. Takes no memory. The cost is logarithmic in the grants and, for each want of the
     /// grant, in the wants that are held.
     pub fn release(&mut self, txn: TxnId) -> bool
         ensures ended { self.new ≡ without_grant self.old txn }

@@ -254,7 +254,7 @@ fn causes_at_one_column_have_an_order(rt: HostRuntime) -> Result<(), Fail> {
 }
 
 #[test]
-fn a_fault_before_the_depth_is_told(rt: HostRuntime) -> Result<(), Fail> {
+fn a_fault_before_the_depth_is_reported(rt: HostRuntime) -> Result<(), Fail> {
     assert_refused(
         &rt,
         rt.alloc(),

@@ -204,7 +204,7 @@ fn a_name_is_an_items(rt: HostRuntime) -> Result<(), Fail> {
 }
 
 #[test]
-fn the_leftmost_fault_is_told(rt: HostRuntime) -> Result<(), Fail> {
+fn the_leftmost_fault_is_reported(rt: HostRuntime) -> Result<(), Fail> {
     assert_reads(
         &rt,
         rt.alloc(),

@@ -70,7 +70,7 @@ fn a_number_ends_at_its_last_digit(rt: HostRuntime) {
 }
 
 #[test]
-fn blanks_part_tokens_and_strays_are_told(rt: HostRuntime) {
+fn blanks_part_tokens_and_strays_are_reported(rt: HostRuntime) {
     assert_tokens(&rt, b"", &[]);
     let split = [at(1, Token::Name(b"a")), at(3, Token::Name(b"b"))];
     assert_tokens(&rt, b"a\tb", &split);

@@ -18,7 +18,7 @@ pub enum Line {
     Order(Vec<TxnId>),
     /// Those that have committed.
     Committed(Vec<TxnId>),
-    /// Those in doubt.
+    /// Those that are open: they haven't committed, and may still commit.
     OpenOnes(Vec<TxnId>),
     /// An item.
     Item {

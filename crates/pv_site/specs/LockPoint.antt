@@ -35,7 +35,7 @@ pub record IsTooMany (reads : List Read) (count : ℕ) : Type 0 where
   pub counted : length (names_of (all_cases reads)) ≡ count
   pub over : READ_NAMES < count
 
--- The polyvalue has the value before, with the outcomes put in that the records tell.
+-- The polyvalue has the value before, with the outcomes put in that the records have.
 pub record IsPutIn {V : Type 0} (records : List Record) (before after : List (Case V)) : Type 0 where
   pub value : (assignment : List TxnId) → value_at after assignment ≡ value_at before (choice records assignment)
   pub polyvalue : IsPolyvalue HELD_NAMES after

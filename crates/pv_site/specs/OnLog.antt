@@ -16,7 +16,7 @@ use Rattle.pv_site.specs.declared.input.Step.{Step}
 use Rattle.pv_site.specs.declared.parts.Parts.{Parts}
 
 module _ {W : Type 0} (M : LogModel W) where
-  -- The log isn't down, is as long as the records make it, and holds them, where it tells what it holds.
+  -- The log isn't down, is as long as the records make it, and holds them, where it is known what it holds.
   pub record HoldsRecords (log : W) (records : List Record) : Type 0 where
     pub up : M.is_down log ≡ false
     pub size : M.size log ≡ journal_bytes records

@@ -24,7 +24,7 @@ use Rattle.pv_site.specs.declared.error.OpenError.{OpenError}
 use Rattle.pv_site.specs.declared.error.OpenError.TheVariants.{Failed, Full, EpochsSpent, BadRecord, TooManyOutcomes, NotOurs, NoMemory}
 
 module _ {W : Type 0} (M : LogModel W) where
-  -- These contents were read: those that the log holds, where it tells them.
+  -- These contents were read: those that the log holds, where these are known.
   abbrev pub WereRead : W → Contents → Type 0
   WereRead log contents = (held : Contents) → M.contents log ≡ Some held → contents ≡ held
 

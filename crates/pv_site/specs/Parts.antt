@@ -46,7 +46,7 @@ here_of parts = record {
   running = running_of parts.locks parts.coord.contents;
 }
 
--- The reply that is kept is what the entry's program replies, once the outcomes that the records tell are put in.
+-- The reply that is kept is what the entry's program replies, once the outcomes that the records have are put in.
 abbrev pub IsReplyOf : List Record → Entry → Option (List (Case Reply)) → Type 0
 IsReplyOf records entry None = ⊤
 IsReplyOf records entry (Some reply) =

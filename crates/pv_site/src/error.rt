@@ -74,10 +74,10 @@ pub enum OpenError<L: Log> {
     /// The content with this index, from 0, is no record, and those before it are.
     BadRecord(L, u64),
     /// With its records the value of an item would name this many outcomes, more than [`HELD_NAMES`](pv_base::HELD_NAMES). It is counted after the
-    /// first prepared record with which there is such an item, for the least one, where all outcomes are known that any record tells.
+    /// first prepared record with which there is such an item, for the least one, where all outcomes are known that any record has.
     TooManyOutcomes(L, u32),
     /// What was read isn't the log's: the log said so of this place, or what was read has this length and the log has another. It never comes
-    /// from a log that tells what it holds.
+    /// from a log of which it is known what it holds.
     NotOurs(L, u64),
     /// There was no memory.
     NoMemory(L),

@@ -141,7 +141,7 @@ fn is_at(catalog: &Catalog, me: SiteId, item: ItemId) -> bool
     item.0 < catalog.len() && catalog.site_of(item) == me
 }
 
-// The grant is told with the values of its items now.
+// The grant is sent with the values of its items now.
 fn granting(
     alloc: Global,
     store: &Store,

@@ -172,7 +172,7 @@ fn begin<L: Log>(
     }
 }
 
-// The site runs on what its log tells, in the epoch after the last one.
+// The site runs on what was read of its log, in the epoch after the last one.
 pub(crate) fn start<L: Log>(
     log: &mut L,
     alloc: Global,
@@ -212,7 +212,7 @@ pub(crate) fn start<L: Log>(
     }
 }
 
-// Shows that a catalog is in range, which its own calls tell, of its values one by one. It computes nothing.
+// Shows that a catalog is in range, which its own calls report, of its values one by one. It computes nothing.
 fn setup_is_in_range(catalog: &Catalog)
     ensures { IsSetupInRange (setup_of catalog.now) }
 {

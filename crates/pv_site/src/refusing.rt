@@ -21,7 +21,7 @@ use pv_wire::{Message, NoCause};
 use std::alloc::Global;
 
 impl Parts {
-    // The transaction is refused: its entry is dropped, and every participant is told that it doesn't commit.
+    // The transaction is refused: its entry is dropped, and every participant is sent that it doesn't commit.
     pub(crate) fn refuse(
         &mut self,
         alloc: Global,

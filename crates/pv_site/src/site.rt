@@ -174,7 +174,7 @@ impl<L: Log> Site<L> {
         self.parts.store.prepared(txn)
     }
 
-    /// The transaction's outcome, if the records tell it: whether it commits. It is asked of a site that is down too.
+    /// The transaction's outcome, if a record has it: whether it commits. It is asked of a site that is down too.
     pub fn known(&self, txn: TxnId) -> Option<bool>
         ensures { result ≡ known self.now.records txn }
     {
