@@ -1,6 +1,6 @@
 -- A journal on a disk as a log.
-use Rattle.std.specs.Prelude.{◌≡◌, ◌⊎◌, ℕ, ◌+◌, ◌-◌, ◌^◌, ◌≤◌, Bool, false, MatchBool, List, [], ◌∷◌, ◌++◌, Option, Some, option_and_then, vec_capacity}
-use Rattle.pv_base.specs.declared.limits.TheConstants.{MAX_LENGTH}
+use Rattle.std.specs.Prelude.{◌≡◌, ◌⊎◌, ℕ, ◌+◌, ◌-◌, ◌≤◌, Bool, false, MatchBool, List, [], ◌∷◌, ◌++◌, Option, Some, option_and_then, vec_capacity}
+use Rattle.pv_base.specs.declared.limits.TheConstants.{MAX_JOURNAL, MAX_LENGTH}
 use Rattle.pv_law_disk.specs.Calls.{DiskCall, LogCall, Makes, OnlyReads, read_all, reserve, append, make_room, write, sync}
 use Rattle.pv_law_disk.specs.DiskModel.{DiskModel}
 use Rattle.pv_law_disk.specs.Disk.{Only}
@@ -22,12 +22,12 @@ module _ {D : Type 0} (M : DiskModel D) where
   pub record IsIntact (journal : Journal D) : Type 0 where
     pub starts : 9 ≤ journal.length
     pub bounded : journal.length ≤ MAX_LENGTH
-    pub limited : journal.limit ≤ 2 ^ 32
+    pub limited : journal.limit ≤ MAX_JOURNAL
     pub at_rest : journal.down ≡ false → (bytes : List ℕ) → M.content journal.disk ≡ Some bytes
         → (contents : Contents) × IsJournal contents bytes × (journal.length ≡ end_of contents + 1)
     pub durable : journal.down ≡ false → (bytes : List ℕ) → M.content journal.disk ≡ Some bytes → Only bytes (M.may_leave journal.disk)
 
-  -- The contents of the journal that the disk tells.
+  -- The contents of the journal, where the disk's bytes are known.
   abbrev pub contents_now : Journal D → Option Contents
   contents_now journal = option_and_then contents_of (M.content journal.disk)
 

@@ -20,7 +20,7 @@ use Rattle.pv_journal.specs.declared.open_log.OpenLog.TheVariants.{Failed, NotOu
 abbrev pub contents_in : Vec (Vec ℕ Global) Global → Contents
 contents_in all = map (λ it. it.items) all.items
 
--- The place that a refusal tells, where it is that there is no journal.
+-- The place that a refusal reports, where it is that there is no journal.
 abbrev pub place_in : LookError → Option ℕ
 place_in (LookNotOurs place) = Some place
 place_in LookFailed = None

@@ -140,10 +140,14 @@ fn a_disk_that_fails_comes_back(rt: HostRuntime) -> Result<(), Fail> {
     };
     // The second read is that of the first gate.
     disk.fail_read(1);
-    let Err(OpenLog::Failed(disk)) = Journal::open(alloc, disk, 100) else {
+    let Err(OpenLog::Failed(mut disk)) = Journal::open(alloc, disk, 100) else {
         return Err(LookError::Failed.into());
     };
+
+    // An opening reads the header and the first gate. The third read is the opened journal's first, which takes it down.
+    disk.fail_read(2);
     let mut journal = opened(alloc, disk)?;
-    journal.disk().fail_read(0);
+    assert_eq!(rt; journal.read_all().err(), Some(LogError::Failed));
+    assert_eq!(rt; journal.read_all().err(), Some(LogError::Down));
     Ok(())
 }

@@ -7,7 +7,7 @@ ghost use Rattle.pv_journal.specs.Reading.{LooksBy};
 ghost use Rattle.pv_journal.specs.Opening.{contents_in, place_in, Opens, Formats};
 
 use crate::OpenLog;
-use crate::reading::{find_end, read_contents};
+use crate::reading::{EMPTY_JOURNAL, find_end, read_contents};
 use pv_base::{Failed, MAX_JOURNAL, MIN_JOURNAL};
 use pv_disk::{Disk, DiskError, LookError};
 use std::alloc::Global;
@@ -88,7 +88,7 @@ pub fn format<D: Disk>(disk: &mut D) -> Result<(), DiskError>
     ensures { Formats D.model disk.old disk.new result }
 {
     disk.reserve(9, 1)?;
-    disk.write_at(0, b"PVJRNL01\0")?;
+    disk.write_at(0, &EMPTY_JOURNAL)?;
     disk.sync()?;
     Ok(())
 }

@@ -6,12 +6,13 @@ ghost use Rattle.pv_law_disk.specs.Size.{Contents};
 ghost use Rattle.pv_law_journal.specs.Format.{header, IsJournal, IsNotOurs, HasNoHeader, end_of};
 ghost use Rattle.pv_journal.specs.Reading.{LooksBy, ReadsTo, StandsAt, StandsCut, EndsBefore, HoldsRecord};
 
+use pv_base::buffer;
 use pv_bytes::Take;
 use pv_disk::{Disk, LookError};
-use std::alloc::{AllocError, Global};
+use std::alloc::Global;
 
-/// What a journal begins with.
-const HEADER: [u8; 8] = *b"PVJRNL01";
+/// An empty journal: what each journal begins with, and a closed gate.
+pub(crate) const EMPTY_JOURNAL: [u8; 9] = *b"PVJRNL01\0";
 
 /// What stands at a gate.
 #[derive(Clone, Copy)]
@@ -138,7 +139,7 @@ fn read_header<D: Disk>(alloc: Global, disk: &mut D, size: u64) -> Result<(), Lo
         → (bytes : List ℕ) → D.model.content disk.old ≡ Some bytes → HasNoHeader bytes place }
 {
     let front = read_content(alloc, disk, 0, size.min(8) as usize)?;
-    let place = agreement(&front, &HEADER);
+    let place = agreement(&front, &EMPTY_JOURNAL[..8]);
     if place < 8 {
         return Err(LookError::NotOurs(place as u64));
     }
@@ -194,7 +195,7 @@ fn read_content<D: Disk>(
     ensures count { IfOk result (λ content. vec_len content ≡ count) }
     ensures not_ours { (at : ℕ) → IsErrOf result (LookError.NotOurs at) → ⊥ }
 {
-    let mut content = zeroes(alloc, count)?;
+    let mut content = buffer(alloc, count)?;
     read_from(disk, place, &mut content)?;
     Ok(content)
 }
@@ -225,11 +226,4 @@ fn number_in(bytes: &[u8]) -> u32
         Ok(number) => number,
         Err(_) => unreachable!(),
     }
-}
-
-// So many zeroes. It promises the length alone, so that no proof about a reading ever writes them out.
-fn zeroes(alloc: Global, count: usize) -> Result<Vec<u8>, AllocError>
-    ensures { IfOk result (λ zeroes. vec_len zeroes ≡ count) }
-{
-    Ok(vec![in alloc; 0; count]?)
 }
