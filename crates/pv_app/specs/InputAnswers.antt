@@ -1,7 +1,8 @@
 -- What the program has to answer.
-use Rattle.std.specs.Prelude.{◌≡◌, ℕ, ◌<◌, ◌≤◌, List, [], ◌∷◌, ◌++◌, length, codes, Option, Some, None, Result, Ok, Err, ⊤}
+use Rattle.std.specs.Prelude.{◌≡◌, ◌⊎◌, ℕ, ◌<◌, ◌≤◌, List, [], ◌∷◌, ◌++◌, length, codes, Option, Some, None, Result, Ok, Err, ⊤}
 use Rattle.std.specs.Io.KnownBytes.{Appends}
 use Rattle.pv_base.specs.declared.limits.TheConstants.{MAX_INPUT}
+use Rattle.pv_io.specs.declared.sink.Sink.{Ghosts}
 use Rattle.pv_app.specs.declared.status.Status.{Status}
 use Rattle.pv_app.specs.declared.status.Status.TheVariants.{Done, Usage, Malformed, ReadFault, WriteFault, TooLong, NoMemory}
 use Rattle.pv_app.specs.declared.run.RunEnd.{RunEnd}
@@ -51,6 +52,11 @@ GivesUp _ = ⊥
 -- Known bytes have grown by an output of which this holds, and by nothing else.
 abbrev pub GrowsBySome : Option (List ℕ) → Option (List ℕ) → (List ℕ → Type 0) → Type 0
 GrowsBySome old new Holds = (output : List ℕ) × Appends old new output × Holds output
+
+module _ {W : Type 0} (sink : Ghosts W) where
+  -- It gave up, or the sink has taken the input's answer, whose status this is.
+  abbrev pub Answers : List ℕ → Status → W → W → Type 0
+  Answers input status old new = GivesUp status ⊎ GrowsBySome (sink.held old) (sink.held new) (IsAnswer input status)
 
 -- the status of a run
 abbrev pub status_of : Result ⊤ RunEnd → Status

@@ -1,16 +1,15 @@
 // The top call: from the words and the input's bytes to the output's bytes and a status.
 ghost use Rattle.std.specs.Prelude.{◌≡◌, ◌≢◌, ℕ, ◌≤◌, ◌⊎◌, ◌↔◌, List, [], Some, None, IsTrue, is_ok, length, map, vec_len, if◌then◌else◌};
 ghost use Rattle.std.specs.String.{string_bytes};
-ghost use Rattle.std.specs.Io.KnownBytes.{Appends, Keeps};
 ghost use Rattle.pv_base.specs.Fault.{Rose};
-ghost use Rattle.pv_io.specs.Stream.{AppendsPrefix};
+ghost use Rattle.pv_io.specs.SinkEffects.{HasFailed, Writes, WritesNothing, WritesPrefix};
 ghost use Rattle.pv_model.specs.Events as model;
 ghost use Rattle.pv_script.specs.Runnable.{not_built};
 ghost use Rattle.pv_law_runs.specs.Run.{Agrees, RepliesAgree, output_of};
 ghost use Rattle.pv_model.specs.Schedule.{IsSchedule};
 ghost use Rattle.pv_script.specs.ScriptErrors.{line_cause_of};
 ghost use Rattle.pv_script.specs.ScheduleView.{schedule_of};
-ghost use Rattle.pv_app.specs.InputAnswers.{IsRun, IsAnswer, GivesUp, GrowsBySome, status_of, usage_text, fault_text};
+ghost use Rattle.pv_app.specs.InputAnswers.{Answers, IsRun, IsAnswer, GivesUp, status_of, usage_text, fault_text};
 
 use crate::run::{RunEnd, run};
 use crate::status::Status;
@@ -33,36 +32,36 @@ pub fn polydb<R: Source, W: Sink>(
     // The headline. At `Done` the whole input was read, it is a schedule that can be run, and exactly what that prints was written.
     ensures done { result ≡ Status.Done → (input : List ℕ) → R.left source.old ≡ Some input →
         (R.left source.new ≡ Some []) × (schedule : model.Schedule) × IsSchedule input schedule × (not_built input ≡ None)
-        × Appends (W.held sink.old) (W.held sink.new) (output_of schedule) }
+        × Writes W.Sink sink.old sink.new (output_of schedule) }
 
     // Of a schedule that can be run, what was written is a beginning, at `Done` the whole, of an output in which each report is that
     // of the serial run of exactly the transactions before it, and each reply that of the serial run of those up to its own.
     ensures agreement { IsRun (map string_bytes words.now) → (input : List ℕ) → R.left source.old ≡ Some input →
         (schedule : model.Schedule) → IsSchedule input schedule → not_built input ≡ None →
         (output : List ℕ) × Agrees schedule output × RepliesAgree schedule output
-        × AppendsPrefix (W.held sink.old) (W.held sink.new) output
-        × (result ≡ Status.Done → Appends (W.held sink.old) (W.held sink.new) output) }
+        × WritesPrefix W.Sink sink.old sink.new output
+        × (result ≡ Status.Done → Writes W.Sink sink.old sink.new output) }
 
     // Words that aren't the one command are answered by the usage line, and no others are. Nothing is read then.
     ensures usage { result ≡ Status.Usage → (IsRun (map string_bytes words.now) → ⊥)
-        × Appends (W.held sink.old) (W.held sink.new) usage_text }
+        × Writes W.Sink sink.old sink.new usage_text }
     ensures no_command { (IsRun (map string_bytes words.now) → ⊥) →
         ((result ≡ Status.Usage) ⊎ (result ≡ Status.WriteFault))
-        × AppendsPrefix (W.held sink.old) (W.held sink.new) usage_text × (source.new ≡ source.old) }
+        × WritesPrefix W.Sink sink.old sink.new usage_text × (source.new ≡ source.old) }
 
     // `run` gives the input's answer, or gives up. Whatever it wrote is a beginning of that answer.
     ensures answered { IsRun (map string_bytes words.now) → (input : List ℕ) → R.left source.old ≡ Some input →
-        GivesUp result ⊎ GrowsBySome (W.held sink.old) (W.held sink.new) (IsAnswer input result) }
+        Answers W.Sink input result sink.old sink.new }
     ensures exact { IsRun (map string_bytes words.now) → (input : List ℕ) → R.left source.old ≡ Some input →
         (status : Status) (output : List ℕ) → IsAnswer input status output →
-        (GivesUp result ⊎ (result ≡ status)) × AppendsPrefix (W.held sink.old) (W.held sink.new) output }
+        (GivesUp result ⊎ (result ≡ status)) × WritesPrefix W.Sink sink.old sink.new output }
 
     // It gives up for a fault only where one was counted. What is too long is never written about, and where the input
     // fails or is too long nothing was written.
     ensures read_fault { result ≡ Status.ReadFault →
-        Rose (R.faults source.old) (R.faults source.new) × Keeps (W.held sink.old) (W.held sink.new) }
-    ensures write_fault { result ≡ Status.WriteFault → Rose (W.faults sink.old) (W.faults sink.new) }
-    ensures too_long { result ≡ Status.TooLong → Keeps (W.held sink.old) (W.held sink.new) }
+        Rose (R.faults source.old) (R.faults source.new) × WritesNothing W.Sink sink.old sink.new }
+    ensures write_fault { result ≡ Status.WriteFault → HasFailed W.Sink sink.old sink.new }
+    ensures too_long { result ≡ Status.TooLong → WritesNothing W.Sink sink.old sink.new }
     ensures short { result ≡ Status.WriteFault → IsRun (map string_bytes words.now) →
         (input : List ℕ) → R.left source.old ≡ Some input → length input ≤ MAX_INPUT }
 {
@@ -90,12 +89,12 @@ fn is_run(words: &[String]) -> bool
 // What `run` answers to an input that was read to its end.
 fn answer<W: Sink>(alloc: Global, input: &[u8], sink: &mut W) -> Status
     requires { length input.now ≤ MAX_INPUT }
-    ensures answered { GivesUp result ⊎ GrowsBySome (W.held sink.old) (W.held sink.new) (IsAnswer input.now result) }
+    ensures answered { Answers W.Sink input.now result sink.old sink.new }
     ensures prefix { (status : Status) (output : List ℕ) → IsAnswer input.now status output →
-        AppendsPrefix (W.held sink.old) (W.held sink.new) output }
+        WritesPrefix W.Sink sink.old sink.new output }
     ensures read_fault { result ≢ Status.ReadFault }
     ensures too_long { result ≢ Status.TooLong }
-    ensures write_fault { result ≡ Status.WriteFault → Rose (W.faults sink.old) (W.faults sink.new) }
+    ensures write_fault { result ≡ Status.WriteFault → HasFailed W.Sink sink.old sink.new }
 {
     match read_schedule(alloc, input) {
         Ok(schedule) => run_built(alloc, input, &schedule, sink),
@@ -109,12 +108,12 @@ fn run_built<W: Sink>(alloc: Global, input: &[u8], schedule: &Schedule, sink: &m
     requires short { length input.now ≤ MAX_INPUT }
     requires schedule { IsSchedule input.now (schedule_of schedule.now) }
     requires few { vec_len schedule.now.events ≤ length input.now }
-    ensures answered { GivesUp result ⊎ GrowsBySome (W.held sink.old) (W.held sink.new) (IsAnswer input.now result) }
+    ensures answered { Answers W.Sink input.now result sink.old sink.new }
     ensures prefix { (status : Status) (output : List ℕ) → IsAnswer input.now status output →
-        AppendsPrefix (W.held sink.old) (W.held sink.new) output }
+        WritesPrefix W.Sink sink.old sink.new output }
     ensures read_fault { result ≢ Status.ReadFault }
     ensures too_long { result ≢ Status.TooLong }
-    ensures write_fault { result ≡ Status.WriteFault → Rose (W.faults sink.old) (W.faults sink.new) }
+    ensures write_fault { result ≡ Status.WriteFault → HasFailed W.Sink sink.old sink.new }
 {
     match not_built(alloc, input) {
         Ok(None) => status_of_run(run(alloc, schedule, sink)),
@@ -126,9 +125,9 @@ fn run_built<W: Sink>(alloc: Global, input: &[u8], schedule: &Schedule, sink: &m
 // Names the line at which the input is refused.
 #[tactic(auto, unfolding(crate::specs::InputAnswers::fault_text))]
 fn refuse<W: Sink>(alloc: Global, line: u32, cause: LineCause, sink: &mut W) -> Status
-    ensures written { result ≡ Status.Malformed → Appends (W.held sink.old) (W.held sink.new) (fault_text line (line_cause_of cause)) }
-    ensures prefix { AppendsPrefix (W.held sink.old) (W.held sink.new) (fault_text line (line_cause_of cause)) }
-    ensures fault { result ≡ Status.WriteFault → Rose (W.faults sink.old) (W.faults sink.new) }
+    ensures written { result ≡ Status.Malformed → Writes W.Sink sink.old sink.new (fault_text line (line_cause_of cause)) }
+    ensures prefix { WritesPrefix W.Sink sink.old sink.new (fault_text line (line_cause_of cause)) }
+    ensures fault { result ≡ Status.WriteFault → HasFailed W.Sink sink.old sink.new }
     ensures others { (result ≡ Status.Malformed) ⊎ ((result ≡ Status.WriteFault) ⊎ (result ≡ Status.NoMemory)) }
 {
     let error = ScriptError::Malformed { line, cause };
