@@ -2,16 +2,12 @@
 -- as such a state needs such a code.
 use Rattle.std.specs.Prelude.{ℕ, ℤ, List, Option, refl}
 use Rattle.std.specs.Coded.{Coded, code_by, coded_list, coded_option, coded_ℕ, coded_ℤ, coded×}
+use Rattle.pv_base.specs.TxnCode.{txn_code}
 use Rattle.pv_base.specs.declared.txn.TxnId.{TxnId}
 use Rattle.pv_model.specs.Meaning.{Row}
 use Rattle.pv_law_runs.specs.Run.{OneSite}
 use Rattle.pv_model.specs.Syntax.{Program}
 use Rattle.pv_model.specs.SyntaxCodes.{program_code}
-
-abbrev txn_code : Coded TxnId
-txn_code =
-    code_by (ℕ × (ℕ × ℕ)) (coded× coded_ℕ (coded× coded_ℕ coded_ℕ)) (λ t. (t.site.0, (t.epoch, t.number)))
-    (λ p. record { site = record { 0 = p.0 }; epoch = p.1.0; number = p.1.1 }) (λ _. refl)
 
 abbrev row_code : Coded Row
 row_code = code_by (ℕ × ℤ) (coded× coded_ℕ coded_ℤ) (λ row. (row.item, row.value)) (λ p. record { item = p.0; value = p.1 }) (λ _. refl)

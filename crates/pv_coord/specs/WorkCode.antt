@@ -4,6 +4,7 @@ use Rattle.std.specs.Prelude.{ℕ, zero, suc, ℤ, Bool, true, false, List, Opti
 use Rattle.std.proofs.Common.{inl, inr}
 use Rattle.std.specs.Coded.{Coded, code_by, coded_list, coded_option, coded_bool, coded_ℕ, coded_ℤ, coded×, coded⊎}
 use Rattle.pv_base.specs.Polyvalue.{Case}
+use Rattle.pv_base.specs.TxnCode.{txn_code}
 use Rattle.pv_base.specs.Want.{Want}
 use Rattle.pv_base.specs.declared.grant.GrantId.{GrantId}
 use Rattle.pv_base.specs.declared.literal.Literal.{Literal}
@@ -19,11 +20,6 @@ use Rattle.pv_model.specs.Check.{Part}
 use Rattle.pv_model.specs.Syntax.{Program}
 use Rattle.pv_model.specs.SyntaxCodes.{program_code}
 use Rattle.pv_protocol.specs.State.{Entry, Stage, locking, voting, Taken}
-
-abbrev txn_code : Coded TxnId
-txn_code =
-    code_by (ℕ × (ℕ × ℕ)) (coded× coded_ℕ (coded× coded_ℕ coded_ℕ)) (λ t. (t.site.0, (t.epoch, t.number)))
-    (λ p. record { site = record { 0 = p.0 }; epoch = p.1.0; number = p.1.1 }) (λ _. refl)
 
 abbrev grant_code : Coded GrantId
 grant_code = code_by (ℕ × ℕ) (coded× coded_ℕ coded_ℕ) (λ g. (g.epoch, g.number)) (λ p. record { epoch = p.0; number = p.1 }) (λ _. refl)
