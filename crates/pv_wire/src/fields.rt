@@ -1,5 +1,5 @@
 // The fields that only messages have.
-ghost use Rattle.std.specs.Prelude.{◌≡◌, ◌++◌, ℕ, List, IfOk, IfErr, OnOk};
+ghost use Rattle.std.specs.Prelude.{◌≡◌, ◌≢◌, ◌++◌, ℕ, List, IfOk, IfErr, OnOk};
 ghost use Rattle.pv_format.specs.Layout.{cause_layout, grant_layout};
 ghost use Rattle.pv_format.specs.MessageSpelling.{SpellsNoCause};
 ghost use Rattle.pv_format.specs.Spelling.{SpellsGrant};
@@ -37,6 +37,7 @@ pub fn put_cause(put: &mut Put, cause: NoCause) -> Result<(), NoMemory>
 pub fn take_grant(take: &mut Take<'_>) -> Result<GrantId, PolyError>
     ensures passes { IfOk result (λ grant. Passes (SpellsGrant grant) grant_layout take.old take.new) }
     ensures stops { IfErr result (λ e. Stops grant_layout take.old (fault_of e)) }
+    ensures memory { result ≢ Err PolyError.NoMemory }
 {
     let epoch = take.u32()?;
     let number = take.u32()?;
@@ -47,6 +48,7 @@ pub fn take_grant(take: &mut Take<'_>) -> Result<GrantId, PolyError>
 pub fn take_cause(take: &mut Take<'_>) -> Result<NoCause, PolyError>
     ensures passes { IfOk result (λ cause. Passes (SpellsNoCause (cause_of cause)) cause_layout take.old take.new) }
     ensures stops { IfErr result (λ e. Stops cause_layout take.old (fault_of e)) }
+    ensures memory { result ≢ Err PolyError.NoMemory }
 {
     let place = take.place();
     let cause = take.u8()?;

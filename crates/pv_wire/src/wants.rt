@@ -1,6 +1,7 @@
 // Items with whether the transaction may change them: their count, and for each the item and the truth value. The items are ascending.
 ghost use Rattle.std.specs.Prelude.{◌≡◌, ◌++◌, ◌≤◌, ℕ, List, length, IfOk, IfErr, OnOk};
 ghost use Rattle.pv_base.specs.Want as model;
+ghost use Rattle.pv_base.specs.declared.limits.TheConstants.{MAX_PROGRAM_ITEMS};
 ghost use Rattle.pv_format.specs.Layout.{counted_layout, entries_layout, truth_layout};
 ghost use Rattle.pv_format.specs.MessageSpelling.{SpellsWants};
 ghost use Rattle.pv_format.specs.Spelling.{IsTruth, SpellsEntriesFrom};
@@ -15,7 +16,7 @@ use std::alloc::Global;
 
 /// Writes wants, which some bytes spell.
 pub fn put_wants(put: &mut Put, wants: &[Want]) -> Result<(), NoMemory>
-    requires { length wants.now ≤ 16 }
+    requires { length wants.now ≤ MAX_PROGRAM_ITEMS }
     ensures { (fewest : ℕ) (bytes : List ℕ) → SpellsWants fewest wants.now bytes → OnOk result (put.new.bytes ≡ put.old.bytes ++ bytes) }
 {
     put.u8(wants.len() as u8)?;
