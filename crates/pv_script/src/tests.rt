@@ -3,7 +3,7 @@ ghost use Rattle.std.specs.Prelude.{◌≤◌, length};
 ghost use Rattle.pv_script.specs.declared.lines.TheConstants.{MAX_SCHEDULE};
 
 use crate::{Event, LineCause, ScriptError, not_built, read_schedule};
-use pv_base::{ItemId, SiteId};
+use pv_base::{ItemId, MAX_JOURNAL, SiteId};
 use std::process::Abort;
 use std::test::Fail;
 
@@ -37,7 +37,7 @@ fn a_schedule_is_read(rt: HostRuntime) {
         Ok(schedule) => {
             let catalog = &schedule.catalog;
             assert_eq!(rt; catalog.sites(), 1);
-            assert_eq!(rt; catalog.journal(), 4_294_967_296);
+            assert_eq!(rt; catalog.journal(), MAX_JOURNAL);
             assert_eq!(rt; catalog.len(), 1);
             assert!(rt; catalog.find(b"a".as_slice()) == Some(ItemId(0)));
             match schedule.events.as_slice() {
@@ -370,7 +370,7 @@ fn a_line_has_at_most_1000_bytes(rt: HostRuntime) -> Result<(), Fail> {
 }
 
 #[test]
-fn what_is_not_built_is_told(rt: HostRuntime) {
+fn what_is_not_built_is_reported(rt: HostRuntime) {
     assert_built(
         &rt,
         b"sites 1\nitem a 0 100\nsubmit 0 a := a + 1\npump\nreport\n".as_slice(),
