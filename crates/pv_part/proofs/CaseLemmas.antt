@@ -8,7 +8,7 @@ use Rattle.pv_base.specs.declared.txn.TxnId.{TxnId}
 use Rattle.pv_format.specs.Message.{vote_yes}
 use Rattle.pv_format.specs.Record.{outcome_known}
 use Rattle.pv_model.specs.Alternatives.{Read}
-use Rattle.pv_part.specs.Cases.{Tells, lock_passes, is_the_grant, prepare_case, IsPrepareStep, outcome_case, IsOutcomeStep}
+use Rattle.pv_part.specs.Cases.{IsReport, lock_passes, is_the_grant, prepare_case, IsPrepareStep, outcome_case, IsOutcomeStep}
 use Rattle.pv_part.specs.declared.cases.PrepareCase.TheVariants as prepare
 use Rattle.pv_protocol.specs.Here.{Here, grant_of, is_full, length_with, nothing, noting, only_to, remembering, sending, without_grant}
 use Rattle.pv_protocol.specs.Lock.{is_home, is_lock_ignored}
@@ -23,7 +23,7 @@ lock-by true false c true known = ap not known
 lock-by true false c false known = ap not known
 lock-by false b c u known = refl
 
-pub lock-step : (here : Here) (from : ℕ) (txn : TxnId) (prepared known : Bool) (wants : List Want) → Tells here txn prepared known
+pub lock-step : (here : Here) (from : ℕ) (txn : TxnId) (prepared known : Bool) (wants : List Want) → IsReport here txn prepared known
     → IsTrue (list_all (λ (want : Want). is_home here.setup.catalog here.me want.item) wants)
     → lock_passes (from == txn.site.0) prepared known ≡ not (is_lock_ignored here from txn wants)
 lock-step here from txn prepared known wants tells homes =
@@ -45,7 +45,7 @@ module _ (here : Here) (txn : TxnId) (grant : GrantId) (writes : List Read) wher
   prepare-by true false None found = refl
   prepare-by true false (Some standing) found = under-by (is_same_grant grant standing.id) standing found
 
-  pub prepare-step : (from : ℕ) (prepared known : Bool) → Tells here txn prepared known
+  pub prepare-step : (from : ℕ) (prepared known : Bool) → IsReport here txn prepared known
       → IsPrepareStep here txn writes (prepare_case (from == txn.site.0) prepared (is_the_grant grant (grant_of here.running txn))) (on_prepare here from txn grant writes)
   unfolding on_prepare
   prepare-step from prepared known tells =
@@ -67,7 +67,7 @@ module _ (here : Here) (txn : TxnId) (commits : Bool) where
     by true = refl
     by false = refl
 
-  pub outcome-step : (from : ℕ) (known prepared named : Bool) → Tells here txn prepared known → named ≡ is_named_here here txn
+  pub outcome-step : (from : ℕ) (known prepared named : Bool) → IsReport here txn prepared known → named ≡ is_named_here here txn
       → IsOutcomeStep here txn commits (outcome_case (from == txn.site.0) commits known (prepared || named)) (on_outcome here from txn commits)
   unfolding on_outcome
   outcome-step from known prepared named tells is =

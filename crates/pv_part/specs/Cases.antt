@@ -15,8 +15,8 @@ use Rattle.pv_protocol.specs.Records.{is_prepared, is_undecided}
 use Rattle.pv_protocol.specs.State.{Grant, Step, full}
 use Rattle.pv_protocol.specs.Vote.{is_same_grant, losing, with_writes}
 
--- What the site's records tell of the transaction: whether it is prepared, and whether its outcome is known.
-pub record Tells (here : Here) (txn : TxnId) (prepared known : Bool) : Type 0 where
+-- What the site's records say of the transaction: whether it is prepared, and whether its outcome is known.
+pub record IsReport (here : Here) (txn : TxnId) (prepared known : Bool) : Type 0 where
   pub is_prepared : prepared ≡ is_prepared here.records txn
   pub is_known : known ≡ not (is_undecided here.records txn)
 

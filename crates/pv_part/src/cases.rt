@@ -5,7 +5,7 @@ ghost use Rattle.std.specs.Option.{option_map};
 ghost use Rattle.pv_base.specs.Want.{Want};
 ghost use Rattle.pv_locks.specs.LockTable.{grant_of};
 ghost use Rattle.pv_model.specs.Alternatives.{Read};
-ghost use Rattle.pv_part.specs.Cases.{Tells, lock_passes, is_the_grant, prepare_case, IsPrepareStep, outcome_case, IsOutcomeStep};
+ghost use Rattle.pv_part.specs.Cases.{IsReport, lock_passes, is_the_grant, prepare_case, IsPrepareStep, outcome_case, IsOutcomeStep};
 ghost use Rattle.pv_protocol.specs.Here.{Here};
 ghost use Rattle.pv_protocol.specs.Lock.{is_home, is_lock_ignored};
 ghost use Rattle.pv_protocol.specs.Outcome.{is_named_here, on_outcome};
@@ -28,7 +28,7 @@ pub enum PrepareCase {
     Go,
 }
 
-/// What a participant does that is told an outcome.
+/// What a participant does that is sent an outcome.
 #[derive(Clone, Copy, Debug, PartialEq, Eq, Hash)]
 pub enum OutcomeCase {
     /// Nothing: the message isn't from the transaction's site, the outcome is known, or it is a commit that isn't needed here.
@@ -45,7 +45,7 @@ pub enum OutcomeCase {
 /// The locks have no say in it: what they answer to the message is [`Locks::plan_grant`]. Takes no memory.
 pub fn on_lock(_locks: &Locks, txn: TxnId, from: SiteId, prepared: bool, known: bool) -> bool
     ensures case { result ≡ lock_passes (from.0 == txn.site.0) prepared known }
-    ensures step { (here : Here) (wants : List Want) → Tells here txn prepared known →
+    ensures step { (here : Here) (wants : List Want) → IsReport here txn prepared known →
         IsTrue (list_all (λ want. is_home here.setup.catalog here.me want.item) wants) → result ≡ not (is_lock_ignored here from.0 txn wants) }
 {
     lock_passes(is_site_of(from, txn), prepared, known)
@@ -61,7 +61,7 @@ pub fn on_prepare(
     prepared: bool,
 ) -> PrepareCase
     ensures case { result ≡ prepare_case (from.0 == txn.site.0) prepared (is_the_grant grant (grant_of locks.now txn)) }
-    ensures step { (here : Here) (known : Bool) (writes : List Read) → Tells here txn prepared known → here.running.grants ≡ locks.now.grants →
+    ensures step { (here : Here) (known : Bool) (writes : List Read) → IsReport here txn prepared known → here.running.grants ≡ locks.now.grants →
         IsPrepareStep here txn writes result (on_prepare here from.0 txn grant writes) }
 {
     prepare_case(
@@ -82,7 +82,7 @@ pub fn on_outcome(
     named: bool,
 ) -> OutcomeCase
     ensures case { result ≡ outcome_case (from.0 == txn.site.0) commits known (prepared || named) }
-    ensures step { (here : Here) → Tells here txn prepared known → named ≡ is_named_here here txn →
+    ensures step { (here : Here) → IsReport here txn prepared known → named ≡ is_named_here here txn →
         IsOutcomeStep here txn commits result (on_outcome here from.0 txn commits) }
 {
     outcome_case(is_site_of(from, txn), commits, known, prepared, named)

@@ -20,7 +20,7 @@ use Rattle.pv_protocol.specs.Shown.{shown}
 use Rattle.pv_protocol.specs.Vote.{would_be_wide}
 use Rattle.pv_store.specs.declared.error.StoreError.{StoreError}
 use Rattle.pv_store.specs.Kept.{IsStoreOf, Kept}
-use Rattle.pv_store.specs.Refusals.{AnswersFor, TellsWide, count_of, first_too_many, if_too_many, site_items, too_many_with, width}
+use Rattle.pv_store.specs.Refusals.{AnswersFor, ReportsWide, count_of, first_too_many, if_too_many, site_items, too_many_with, width}
 use Rattle.pv_store.proofs.MentionLemmas.{has-any, home-listed-in}
 use Rattle.pv_store.proofs.PlanLemmas.{item-of, none-of-count, written-item}
 
@@ -99,7 +99,7 @@ module _ (kept : Kept) (narrow : (item : ℕ) → IsTrue (is_home kept.catalog k
       (written-item found.0 writes)
 
   pub tells-wide : {X : Type 0} (result : Result X StoreError) → All (λ (write : Read). IsTrue (is_home kept.catalog kept.site write.item)) writes
-      → AnswersFor (too_many_with kept (prepared txn writes)) result → TellsWide here txn writes result
+      → AnswersFor (too_many_with kept (prepared txn writes)) result → ReportsWide here txn writes result
   unfolding too_many_with
   tells-wide (Ok x) homes answer = record { accepted = none-wide writes homes answer.given; refused = tt }
   tells-wide (Err e) homes answer = record { accepted = tt; refused = by (count_of e) answer.refused }

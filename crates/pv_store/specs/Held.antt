@@ -15,14 +15,14 @@ use Rattle.pv_protocol.specs.Shown.{shown_within}
 use Rattle.pv_store.specs.Kept.{Places, has_place}
 
 -- the outcomes that are known, and how many more there is room for
-pub record Told : Type 0 where
+pub record KnownOutcomes : Type 0 where
   pub outcomes : List (TxnId × Bool)
   pub room : ℕ
 
 -- the outcome of the transaction, if it is among these
 abbrev pub outcome_in : List (TxnId × Bool) → TxnId → Option Bool
 outcome_in [] txn = None
-outcome_in (told ∷ outcomes) txn = if is_same_txn txn told.0 then Some told.1 else outcome_in outcomes txn
+outcome_in (outcome ∷ outcomes) txn = if is_same_txn txn outcome.0 then Some outcome.1 else outcome_in outcomes txn
 
 -- the transactions that are prepared, and how many more there is room for
 pub record Promised : Type 0 where
@@ -33,7 +33,7 @@ pub record Promised : Type 0 where
 abbrev pub is_promised : List TxnId → TxnId → Bool
 is_promised txns txn = list_any (is_same_txn txn) txns
 
--- The outcomes are those that the records tell.
+-- The outcomes are those that the records have.
 abbrev pub AreKnown : List (TxnId × Bool) → List Record → Type 0
 AreKnown outcomes records = (txn : TxnId) → outcome_in outcomes txn ≡ known records txn
 
@@ -46,7 +46,7 @@ abbrev pub Values : Type 0
 Values = List (Option (List (Case ℤ)))
 
 module _ (catalog : Declared) (site : ℕ) where
-  -- the item's value after a front of the records, with the outcomes that all records tell, if the item is the site's
+  -- the item's value after a front of the records, with the outcomes that all records have, if the item is the site's
   abbrev pub value_here : List Record → List Record → ℕ → Option (List (Case ℤ))
   value_here records front item = if is_home catalog site item then Some (shown_within catalog records front item) else None
 

@@ -22,7 +22,7 @@ use Rattle.pv_store.specs.declared.error.StoreError.TheVariants.{TooManyOutcomes
 abbrev pub names_count : List (Case ℤ) → ℕ
 names_count cases = length (names_of cases)
 
--- how many outcomes the item's value names after a front of the records, with the outcomes that all of them tell
+-- how many outcomes the item's value names after a front of the records, with the outcomes that all of them have
 abbrev pub width : Declared → List Record → List Record → ℕ → ℕ
 width catalog records front item = names_count (shown_within catalog records front item)
 
@@ -62,11 +62,11 @@ too_many_with kept more =
     first_too_many kept.catalog records records (site_items kept.catalog kept.site)
 
 -- Why a store isn't loaded with these records: so many outcomes the least item names whose value names too many after the first prepared
--- record after which there is one, all outcomes being known that any record tells.
+-- record after which there is one, all outcomes being known that any record has.
 unfoldable pub too_many_in : Declared → ℕ → List Record → Option ℕ
 too_many_in catalog site records = first_too_many_after catalog records (site_items catalog site) [] records
 
--- the count that the error tells, unless it is want of memory
+-- the count that the error reports, unless it is want of memory
 abbrev pub count_of : StoreError → Option ℕ
 count_of (TooManyOutcomes count) = Some count
 count_of NoMemory = None
@@ -81,6 +81,6 @@ abbrev pub AnswersFor : {X : Type 0} → Option ℕ → Result X StoreError → 
 AnswersFor cause result = Answers (λ (_ : Unit {0}). cause ≡ None) (λ count. cause ≡ Some count) (λ _. tt) count_of result
 
 -- The same of a promise, as the running site asks it: whether a write would make its item's value too wide.
-pub record TellsWide {X : Type 0} (here : Here) (txn : TxnId) (writes : List Read) (result : Result X StoreError) : Type 0 where
+pub record ReportsWide {X : Type 0} (here : Here) (txn : TxnId) (writes : List Read) (result : Result X StoreError) : Type 0 where
   pub accepted : OnOk result (list_any (λ write. would_be_wide here (prepared txn writes) write.item) writes ≡ false)
   pub refused : IfErr result (λ e. IfSome (count_of e) (λ _. list_any (λ write. would_be_wide here (prepared txn writes) write.item) writes ≡ true))

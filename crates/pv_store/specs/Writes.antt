@@ -34,7 +34,7 @@ abbrev pub held_writes : Values → List Read → List Read → List Read
 held_writes values found [] = found
 held_writes values found (write ∷ writes) = held_writes values (with_held values write found) writes
 
--- The values are those of a site after a front of its records, and the outcomes are those that all records tell.
+-- The values are those of a site after a front of its records, and the outcomes are those that all records have.
 pub record IsPromising (catalog : Declared) (site : ℕ) (records front : List Record)
     (outcomes : List (TxnId × Bool)) (values : Values) : Type 0 where
   pub known : AreKnown outcomes records

@@ -65,7 +65,7 @@ pub(crate) struct Loaded {
     pub(crate) dependents: Dependents,
 }
 
-/// The values after these records, where those without records are given and the outcomes are known that any record tells.
+/// The values after these records, where those without records are given and the outcomes are known that any record has.
 pub(crate) fn values_of(
     alloc: Global,
     outcomes: &Outcomes,

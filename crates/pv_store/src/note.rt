@@ -12,7 +12,7 @@ use crate::outcomes::Outcomes;
 use crate::promises::Promises;
 use pv_replay::Record;
 
-/// Takes note of the record, for which there has to be room. No value has to name a transaction whose outcome it tells.
+/// Takes note of the record, for which there has to be room. No value has to name a transaction whose outcome it has.
 pub(crate) fn note(
     promises: &mut Promises,
     outcomes: &mut Outcomes,

@@ -17,9 +17,9 @@ pub(crate) struct Outcomes {
 
 impl Model for Outcomes {
     ghost use Rattle.indexmap.specs.IndexMap.{spare};
-    ghost use Rattle.pv_store.specs.Held.{Told};
+    ghost use Rattle.pv_store.specs.Held.{KnownOutcomes};
 
-    ghost Value = { Told };
+    ghost Value = { KnownOutcomes };
 
     ghost view = { λ s. record { outcomes = s.outcomes.entries; room = spare s.outcomes } };
 }

@@ -85,7 +85,7 @@ impl Model for Store {
 impl Store {
     ghost use Rattle.std.specs.Prelude.{◌↔◌, false};
     ghost use Rattle.pv_store.specs.Kept.{HasSameContents, IsPlannedOn, IsStoreOf};
-    ghost use Rattle.pv_store.specs.Refusals.{AnswersFor, TellsWide, too_many_in, too_many_with};
+    ghost use Rattle.pv_store.specs.Refusals.{AnswersFor, ReportsWide, too_many_in, too_many_with};
 
     /// The store of a site without records: each of its items is shown as declared. Takes time in proportion to the catalog's items.
     pub fn new(alloc: Global, catalog: &Catalog, site: SiteId) -> Result<Store, NoMemory>
@@ -107,7 +107,7 @@ impl Store {
 
     /// The store of these records, where it was one without records.
     ///
-    /// `TooManyOutcomes` comes exactly where after some prepared record, all outcomes being known that any record tells, a value of the site
+    /// `TooManyOutcomes` comes exactly where after some prepared record, all outcomes being known that any record has, a value of the site
     /// names more outcomes than it may: at the first such record, for the least such item. Then, and where there is no memory, the store is
     /// as it was. Writes of items that aren't the site's are passed over. Takes time in proportion to the records, the cases in them, and the
     /// catalog's items.
@@ -149,7 +149,7 @@ impl Store {
         ensures planned { IfOk result (IsPlannedOn self.new) }
 
         ensures answer { AnswersFor (too_many_with self.old (prepared txn writes.now)) result }
-        ensures wide { (here : Here) → IsStoreOf here self.old → here.setup.held_names ≡ HELD_NAMES → TellsWide here txn writes.now result }
+        ensures wide { (here : Here) → IsStoreOf here self.old → here.setup.held_names ≡ HELD_NAMES → ReportsWide here txn writes.now result }
         ensures unchanged { HasSameContents self.old self.new }
     {
         let values = values_after(self.alloc, &self.outcomes, &self.values, txn, writes)?;

@@ -4,7 +4,7 @@ use Rattle.std.specs.Prelude.{◌&&◌, is_none, not}
 use Rattle.std.specs.Option.{is_some}
 use Rattle.pv_base.specs.declared.txn.TxnId.{TxnId}
 use Rattle.pv_base.proofs.AssignmentLemmas.{same-sym}
-use Rattle.pv_store.specs.Held.{Told, outcome_in}
+use Rattle.pv_store.specs.Held.{KnownOutcomes, outcome_in}
 use Rattle.pv_store.proofs.MapFacts.{is_key-same, lookup-outcome, on-ok}
 use Rattle.pv_store.proofs.outcomes.Outcomes.add.Goals as goal
 
@@ -20,10 +20,10 @@ none-by (Some outcome) false says is = is
 pub returns-then-is_none : goal.returns-then-is_none
 returns-then-is_none c = λ other.
     let old = c.self.inside.outcomes in
-    let same = ap (λ (view : Told). outcome_in view.outcomes) c.self.view_is in
+    let same = ap (λ (view : KnownOutcomes). outcome_in view.outcomes) c.self.view_is in
     let unknown : is_none (outcome_in c.args.self.now.outcomes c.args.txn) ≡ true =
     none-by _ c.is_none.result (subst (λ found. is_some found ≡ not c.is_none.result) c.get.ensures c.is_none.ensures) c.if-is_none.true in
-    let room = subst (λ (view : Told). 0 < view.room) (sym c.self.view_is) c.requires in
+    let room = subst (λ (view : KnownOutcomes). 0 < view.room) (sym c.self.view_is) c.requires in
     let updates = on-ok _ (c.insert.ensures.succeeds room) c.insert.ensures.updates in
     sym (lookup-outcome c.insert.new.self.entries other)
     ∙ updates.0 other
