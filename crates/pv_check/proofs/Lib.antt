@@ -2,3 +2,4 @@
 pub mod MarkLemmas
 pub mod WantLemmas
 pub mod PlanLemmas
+pub mod FitLemmas

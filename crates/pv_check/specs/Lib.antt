@@ -1,4 +1,5 @@
 pub mod Marks
 pub mod PlanView
 pub mod CheckRefusal
+pub mod Fits
 pub mod Wants

@@ -54,7 +54,7 @@ pub fn check(
 }
 
 // Why a program is refused that names this many items.
-fn refusal(program: &Program, count: u32, query: bool) -> Option<CheckError>
+pub(crate) fn refusal(program: &Program, count: u32, query: bool) -> Option<CheckError>
     ensures { result ≡ check_refusal MAX_PROGRAM_ITEMS count program.now query }
 {
     if count == 0 {

@@ -2,11 +2,13 @@
 #![tactic(auto)]
 
 mod checking;
+mod fitting;
 mod marks;
 mod plan;
 mod scan;
 
 pub use checking::check;
+pub use fitting::fits;
 pub use plan::{CheckError, Part, Plan};
 
 #[cfg(test)]

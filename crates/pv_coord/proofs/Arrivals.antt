@@ -1,6 +1,6 @@
 -- What a grant is to its transaction, by what is tested of it.
 use Rattle.std.proofs.Common.{◌≡◌, Bool, true, false, Some, None, Option, IsTrue, refl, sym, ap, subst, ◌∙◌}
-use Rattle.std.specs.Prelude.{not, ◌||◌, if◌then◌else◌}
+use Rattle.std.specs.Prelude.{not, ◌||◌, if◌then◌else◌, IfErr, Result, Ok, Err}
 use Rattle.std.proofs.lemmas.Bool.{false≢true}
 use Rattle.pv_coord.specs.Answers.{Arrival, ignored, waits, last, arrival, arrival_at, CanApply}
 use Rattle.pv_coord.specs.Coordinator.{Coordinator, Grants, locking_work, awaits, CanTake}
@@ -25,6 +25,21 @@ pub last-at : (work : Work) (grants : Grants) → is_grant_ignored work grants.t
     → last (reads_of (with_grant work grants.taken).entry) work.entry.program grants ≡ arrival_at work grants
 last-at work grants fit whole =
     sym (ap (λ (b : Bool). arrival_by b (has_all_grants (with_grant work grants.taken)) work grants) fit ∙ ap (λ (b : Bool). arrival_by false b work grants) whole)
+
+-- What holds anyway holds of an error.
+pub if-error : {T E P : Type 0} (result : Result T E) → P → IfErr result (λ _. P)
+if-error (Ok value) holds = tt
+if-error (Err error) holds = holds
+
+noticed-by : (whole : Bool) (work : Work) (grants : Grants) → arrival_by false whole work grants ≡ ignored → ⊥
+noticed-by true work grants is = let wrong : ⊥ = cc in wrong
+noticed-by false work grants is = let wrong : ⊥ = cc in wrong
+
+-- Notice is taken of a grant that fits.
+pub noticed : (work : Work) (grants : Grants) → is_grant_ignored work grants.taken ≡ false → arrival_at work grants ≡ ignored → ⊥
+noticed work grants fit is =
+    noticed-by (has_all_grants (with_grant work grants.taken)) work grants
+    (sym (ap (λ (b : Bool). arrival_by b (has_all_grants (with_grant work grants.taken)) work grants) fit) ∙ is)
 
 fit-awaited : (a b : Bool) → (a || b) ≡ false → not a ≡ true
 fit-awaited true b is = absurd (false≢true (sym is))

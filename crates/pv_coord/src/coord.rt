@@ -1,9 +1,9 @@
 // A coordinator, and what is done with its entries.
-ghost use Rattle.std.specs.Prelude.{◌≡◌, ◌<◌, ◌++◌, ◌∷◌, not, All, map, length, List, [], Option, Some, None, MatchOption, IfOk, OnOk, is_some, ◌==◌, ◌&&◌, find};
+ghost use Rattle.std.specs.Prelude.{◌≡◌, ◌≢◌, ◌<◌, ◌++◌, ◌∷◌, not, All, map, length, List, [], Option, Some, None, MatchOption, IfErr, IfOk, OnOk, is_some, ◌==◌, ◌&&◌, find};
 ghost use Rattle.std.specs.Option.{option_map, option_copied};
 ghost use Rattle.pv_base.specs.Answer.{Refuses};
 ghost use Rattle.pv_base.specs.declared.limits.TheConstants.{NEVER_GIVEN, TICKS};
-ghost use Rattle.pv_coord.specs.Answers.{refusal_of, arrival, arrival_of, vote_of, expiry_of, CanApply};
+ghost use Rattle.pv_coord.specs.Answers.{refusal_of, ignored, arrival, arrival_of, vote_of, expiry_of, CanApply};
 ghost use Rattle.pv_coord.specs.Coordinator.{next_txn, work_of, locking_work, voting_work, is_issued, refuses, grant_of, reply_of, without_work, beginning, taking, counting, older, lasting, expired, CanBegin, CanTake};
 ghost use Rattle.pv_coord.specs.Place.{IsPlace};
 ghost use Rattle.pv_coord.specs.Work.{Work, txn_of, begun};
@@ -104,7 +104,8 @@ impl Coord {
         txn
     }
 
-    /// What the grant of a site, with these values, is to its transaction. Nothing is changed.
+    /// What the grant of a site, with these values, is to its transaction. Nothing is changed. There may be no memory only where notice is
+    /// taken of the grant.
     ///
     /// With the last grant it takes time in proportion to all that was granted, and to the program.
     pub fn plan_granted(
@@ -117,6 +118,8 @@ impl Coord {
         ensures answer { IfOk result (λ answer.
             arrival_of answer ≡ arrival (locking_work self.old.contents txn)
             (record { txn = txn; taken = record { site = from.0; grant = grant; values = values.now } })) }
+        ensures memory { IfErr result (λ _.
+            arrival (locking_work self.old.contents txn) (record { txn = txn; taken = record { site = from.0; grant = grant; values = values.now } }) ≢ ignored) }
         ensures planned { IfOk result (λ answer. CanApply self.new.contents (arrival_of answer)) }
         ensures unchanged { self.new ≡ self.old }
     {

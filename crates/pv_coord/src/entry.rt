@@ -1,5 +1,5 @@
 // What a coordinator holds of one transaction.
-ghost use Rattle.std.specs.Prelude.{if◌then◌else◌, ◌≡◌, ◌≤◌, ◌<◌, ◌+◌, ◌++◌, ◌∷◌, length, take, drop, not, ◌==◌, ◌||◌, nat_lt, map, find, Option, Some, None, false, IfOk, OnOk, ℕ};
+ghost use Rattle.std.specs.Prelude.{if◌then◌else◌, ◌≡◌, ◌≤◌, ◌<◌, ◌+◌, ◌++◌, ◌∷◌, length, take, drop, not, ◌==◌, ◌||◌, nat_lt, map, find, Option, Some, None, false, IfErr, IfOk, OnOk, ℕ};
 ghost use Rattle.std.specs.List.{list_all, list_any, flat_map, position, zip};
 ghost use Rattle.std.specs.Option.{unwrap_or, option_copied};
 ghost use Rattle.pv_base.specs.declared.limits.TheConstants.{TICKS};
@@ -196,8 +196,9 @@ impl Entry {
         grant: GrantId,
         values: &[Read],
     ) -> Result<GrantTaken, NoMemory>
-        ensures { IfOk result (λ answer.
+        ensures answer { IfOk result (λ answer.
             arrival_of answer ≡ arrival_at self.now (record { txn = txn; taken = record { site = from.0; grant = grant; values = values.now } })) }
+        ensures memory { IfErr result (λ _. is_grant_ignored self.now (record { site = from.0; grant = grant; values = values.now }) ≡ false) }
     {
         if !self.fits(from, values) {
             return Ok(GrantTaken::Ignored);

@@ -71,10 +71,11 @@ module _ (table : LockTable) (txn : TxnId) (wants : List Want) where
   pub answered-now : (plan : GrantPlan) → standing_answer table.grants txn wants ≡ Some plan → IsAnswer (Ok plan)
   answered-now plan some = gives plan (ap (unless_answered table (new_grant table txn wants)) some)
 
+  pub fresh : standing_answer table.grants txn wants ≡ None → (table.next == NEVER_GIVEN) ≡ false → answer_to table txn wants ≡ Ok (Fresh (new_grant table txn wants))
+  fresh none isnt = ap (unless_answered table (new_grant table txn wants)) none ∙ ap (λ b. if b then Err Spent else Ok (Fresh (new_grant table txn wants))) isnt
+
   pub answered-fresh : standing_answer table.grants txn wants ≡ None → (table.next == NEVER_GIVEN) ≡ false → IsAnswer (Ok (Fresh (new_grant table txn wants)))
-  answered-fresh none isnt =
-      gives (Fresh (new_grant table txn wants))
-      (ap (unless_answered table (new_grant table txn wants)) none ∙ ap (λ b. if b then Err Spent else Ok (Fresh (new_grant table txn wants))) isnt)
+  answered-fresh none isnt = gives (Fresh (new_grant table txn wants)) (fresh none isnt)
 
   pub answered-spent : standing_answer table.grants txn wants ≡ None → (table.next == NEVER_GIVEN) ≡ true → IsAnswer (Err Spent)
   answered-spent none is =

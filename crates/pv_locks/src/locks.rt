@@ -1,6 +1,6 @@
 // The locks of a site: grants to transactions, each of some items, shared or exclusive (two-phase locking: Eswaran, Gray, Lorie,
 // Traiger, 1976).
-ghost use Rattle.std.specs.Prelude.{◌≡◌, ◌+◌, ◌<◌, ◌≤◌, [], length, nat_lt, is_some, if◌then◌else◌, IfOk, OnOk};
+ghost use Rattle.std.specs.Prelude.{◌≡◌, ◌+◌, ◌<◌, ◌≤◌, [], Ok, Err, length, nat_lt, is_some, if◌then◌else◌, IfOk, OnOk};
 ghost use Rattle.std.specs.Option.{option_map};
 ghost use Rattle.pv_base.specs.Answer.{Answers};
 ghost use Rattle.pv_protocol.specs.Committed.{holder_of};
@@ -76,12 +76,13 @@ impl Locks {
     /// 4. The error `Spent`: no number is left.
     /// 5. `Fresh`: the grant can be made, and there is memory for it until another is planned.
     ///
-    /// The error `NoMemory` may come in place of `Fresh`. The cost is, for each want, logarithmic in the wants that are held, and linear in the
+    /// The error `NoMemory` may come in place of `Fresh`, and of no other. The cost is, for each want, logarithmic in the wants that are held, and linear in the
     /// transactions that hold its item.
     pub fn plan_grant(&mut self, txn: TxnId, wants: &[Want]) -> Result<GrantPlan, LockError>
         requires { AreWantsAscending wants.now }
         ensures answer { Answers (λ plan. answer_to self.old txn wants.now ≡ Ok plan) (λ cause. answer_to self.old txn wants.now ≡ Err cause)
             (λ plan. plan) cause_of result }
+        ensures memory { result ≡ Err LockError.NoMemory → (change : Grant) × (answer_to self.old txn wants.now ≡ Ok (GrantPlan.Fresh change)) }
         ensures unchanged { self.new ≡ record self.old { room = self.new.room } }
         ensures planned { IfOk result (CanBeMade self.new) }
     {

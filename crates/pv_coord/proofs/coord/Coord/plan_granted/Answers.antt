@@ -1,6 +1,6 @@
 use Rattle.std.proofs.Common.{◌≡◌, Some, Option, sym, ap, subst, ◌∙◌}
-use Rattle.std.proofs.lemmas.Result.{IfOk-weaker}
-use Rattle.pv_coord.proofs.Arrivals.{can-apply}
+use Rattle.std.proofs.lemmas.Result.{IfErr-weaker, IfOk-weaker}
+use Rattle.pv_coord.proofs.Arrivals.{can-apply, noticed}
 use Rattle.pv_coord.proofs.Changed.{held, locks}
 use Rattle.pv_coord.specs.Answers.{arrival, CanApply}
 use Rattle.pv_coord.specs.Coordinator.{CoordMemory, Grants, locking_work}
@@ -13,7 +13,7 @@ returns-clause-answer c =
     let there : Some c.in-Some.entry.now ≡ locking_work c.args.self.now.contents c.args.txn =
     c.in-Some.ensures ∙ ap (held locks c.args.txn) c.deref.ensures.value
     ∙ ap (λ (memory : CoordMemory). locking_work memory.contents c.args.txn) c.self.view_is in
-    IfOk-weaker c.plan_grant.result _ _ (λ answer is. is ∙ ap (λ (work : Option Work). arrival work grants) there) c.plan_grant.ensures
+    IfOk-weaker c.plan_grant.result _ _ (λ answer is. is ∙ ap (λ (work : Option Work). arrival work grants) there) c.plan_grant.ensures.answer
 
 pub returns-clause-planned : goal.returns-clause-planned
 returns-clause-planned c =
@@ -23,4 +23,12 @@ returns-clause-planned c =
     ∙ ap (λ (memory : CoordMemory). locking_work memory.contents c.args.txn) c.self.view_is in
     IfOk-weaker c.plan_grant.result _ _
     (λ answer is. subst (CanApply c.args.self.now.contents) (sym (is ∙ ap (λ (work : Option Work). arrival work grants) there)) (can-apply c.args.self.now.contents grants))
-    c.plan_grant.ensures
+    c.plan_grant.ensures.answer
+
+pub returns-clause-memory : goal.returns-clause-memory
+returns-clause-memory c =
+    let grants : Grants = record { txn = c.args.txn; taken = record { site = c.args.from.0; grant = c.args.grant; values = c.args.values.now } } in
+    let there : Some c.in-Some.entry.now ≡ locking_work c.args.self.now.contents c.args.txn =
+    c.in-Some.ensures ∙ ap (held locks c.args.txn) c.deref.ensures.value
+    ∙ ap (λ (memory : CoordMemory). locking_work memory.contents c.args.txn) c.self.view_is in
+    IfErr-weaker c.plan_grant.result _ _ (λ _ fit is. noticed c.in-Some.entry.now grants fit (ap (λ (work : Option Work). arrival work grants) there ∙ is)) c.plan_grant.ensures.memory

@@ -1,5 +1,5 @@
 use Rattle.std.proofs.Common.{refl, List, sym, ap, ◌∙◌}
-use Rattle.pv_coord.proofs.Arrivals.{ignored-at, waits-at, last-at}
+use Rattle.pv_coord.proofs.Arrivals.{ignored-at, waits-at, last-at, if-error}
 use Rattle.pv_coord.proofs.Changed.{not-true, not-false}
 use Rattle.pv_coord.specs.Answers.{waits, last}
 use Rattle.pv_coord.specs.Coordinator.{Grants}
@@ -9,21 +9,21 @@ use Rattle.pv_model.specs.Syntax.{Program}
 use Rattle.pv_protocol.specs.Coordinate.{reads_of}
 use Rattle.pv_coord.proofs.entry.Entry.plan_grant.Goals as goal
 
-pub returns-then-not-fits : goal.returns-then-not-fits
-returns-then-not-fits c =
+pub returns-then-not-fits-clause-answer : goal.returns-then-not-fits-clause-answer
+returns-then-not-fits-clause-answer c =
     let grants : Grants = record { txn = c.args.txn; taken = record { site = c.args.from.0; grant = c.args.grant; values = c.args.values.now } } in
     ignored-at c.args.self.now grants (not-false (is_grant_ignored c.args.self.now grants.taken) (sym (c.if-not-fits.ensures c.args.grant)))
 
-pub returns-then-not-completes_grants : goal.returns-then-not-completes_grants
-returns-then-not-completes_grants c =
+pub returns-then-not-completes_grants-clause-answer : goal.returns-then-not-completes_grants-clause-answer
+returns-then-not-completes_grants-clause-answer c =
     let grants : Grants = record { txn = c.args.txn; taken = record { site = c.args.from.0; grant = c.args.grant; values = c.args.values.now } } in
     ap (λ (values : List Read). waits (record grants { taken = record grants.taken { values = values } })) c.in_ok-copy_reads.ensures
     ∙ waits-at c.args.self.now grants
     (not-true (is_grant_ignored c.args.self.now grants.taken) (sym (c.fits.ensures c.args.grant) ∙ c.if-not-fits.false))
     (sym (c.if-not-completes_grants.ensures grants.taken refl))
 
-pub returns : goal.returns
-returns c =
+pub returns-clause-answer : goal.returns-clause-answer
+returns-clause-answer c =
     let grants : Grants = record { txn = c.args.txn; taken = record { site = c.args.from.0; grant = c.args.grant; values = c.args.values.now } } in
     ap (λ (values : List Read). last c.in_ok-reads.reads.items c.in_ok-program.program (record grants { taken = record grants.taken { values = values } })) c.in_ok-copy_reads.ensures
     ∙ ap (λ (reads : List Read). last reads c.in_ok-program.program grants) (c.in_ok-reads.ensures c.args.grant)
@@ -31,3 +31,18 @@ returns c =
     ∙ last-at c.args.self.now grants
     (not-true (is_grant_ignored c.args.self.now grants.taken) (sym (c.fits.ensures c.args.grant) ∙ c.if-not-fits.false))
     (sym (c.if-not-completes_grants.ensures grants.taken refl))
+
+pub returns-in_err-copy_reads-clause-memory : goal.returns-in_err-copy_reads-clause-memory
+returns-in_err-copy_reads-clause-memory c =
+    if-error c.from_residual.result (not-true (is_grant_ignored c.args.self.now (record { site = c.args.from.0; grant = c.args.grant; values = c.args.values.now }))
+    (sym (c.fits.ensures c.args.grant) ∙ c.if-not-fits.false))
+
+pub returns-in_err-reads-clause-memory : goal.returns-in_err-reads-clause-memory
+returns-in_err-reads-clause-memory c =
+    if-error c.from_residual-in_err-reads.result (not-true (is_grant_ignored c.args.self.now (record { site = c.args.from.0; grant = c.args.grant; values = c.args.values.now }))
+    (sym (c.fits.ensures c.args.grant) ∙ c.if-not-fits.false))
+
+pub returns-in_err-program-clause-memory : goal.returns-in_err-program-clause-memory
+returns-in_err-program-clause-memory c =
+    if-error c.from_residual-in_err-program.result (not-true (is_grant_ignored c.args.self.now (record { site = c.args.from.0; grant = c.args.grant; values = c.args.values.now }))
+    (sym (c.fits.ensures c.args.grant) ∙ c.if-not-fits.false))
