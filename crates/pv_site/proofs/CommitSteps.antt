@@ -1,5 +1,5 @@
 -- What the last yes makes of a site and its log: its transaction commits, or is refused where the journal has no room.
-use Rattle.std.proofs.Common.{◌≡◌, ◌+◌, ◌≤◌, ℕ, Bool, true, false, Some, Result, Ok, Err, List, [], ◌∷◌, ◌++◌, sym, ap, subst, ◌∙◌, arith}
+use Rattle.std.proofs.Common.{◌≡◌, inl, ◌+◌, ◌≤◌, ℕ, Bool, true, false, Some, Result, Ok, Err, List, [], ◌∷◌, ◌++◌, sym, ap, subst, ◌∙◌, arith}
 use Rattle.std.specs.Prelude.{not, if◌then◌else◌}
 use Rattle.std.proofs.lemmas.Bool.{lt-ltb}
 use Rattle.pv_base.specs.Assignment.{is_same_txn}
@@ -9,6 +9,7 @@ use Rattle.pv_coord.specs.Coordinator.{CoordMemory, voting_work, without_work}
 use Rattle.pv_coord.specs.Work.{Work}
 use Rattle.pv_format.specs.Record.{outcome_known}
 use Rattle.pv_format.specs.RecordSpelling.{SpellsRecord}
+use Rattle.pv_law_disk.specs.Calls.{Makes}
 use Rattle.pv_law_disk.specs.Log.{Adds, Keeps, StaysUp}
 use Rattle.pv_law_disk.specs.LogModel.{LogModel}
 use Rattle.pv_law_disk.proofs.LogLemmas.{Keeps-refl}
@@ -32,6 +33,7 @@ use Rattle.pv_site.proofs.Settling.{here-more, tied-more}
 use Rattle.pv_site.proofs.Tied.{here-without, tied-locks, tied-without}
 use Rattle.pv_site.proofs.VoteSteps.{voting-txn}
 use Rattle.pv_site.specs.Answer.{IsAnswer}
+use Rattle.pv_site.specs.Calls.{append_calls}
 use Rattle.pv_site.specs.LastVote.{deciding}
 use Rattle.pv_site.specs.OnLog.{AreReady, StepsOnLog}
 use Rattle.pv_site.specs.Parts.{AreKept, AreTied, HaveStepped, here_of, running_of}
@@ -112,7 +114,7 @@ module _ {W : Type 0} (M : LogModel W) (log_old log_new : W) (parts : Parts) (re
         answered,
         (
           wrote.1,
-          subst (λ (t : TxnId). (content : List ℕ) × SpellsRecord (outcome_known t true) content × Adds M log_old log_new content) (voting-txn parts tied txn work is) wrote.2,
+          subst (λ (t : TxnId). (content : List ℕ) × SpellsRecord (outcome_known t true) content × Adds M log_old log_new content × Makes M.goes log_old (append_calls content) true log_new) (voting-txn parts tied txn work is) wrote.2,
         ),
       )
 
@@ -149,4 +151,5 @@ module _ {W : Type 0} (M : LogModel W) (log_old log_new : W) (parts : Parts) (re
           record { here = kept.here ∙ same.here; tied = kept.tied },
           subst (StaysUp M log_old) (sym wrote.0) stays,
           subst (Keeps M log_old) (sym wrote.0) (Keeps-refl M log_old),
+          inl wrote.0,
         )

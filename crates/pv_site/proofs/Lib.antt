@@ -4,7 +4,9 @@ pub mod Begun
 pub mod CommitSteps
 pub mod Entries
 pub mod Expired
+pub mod FitLemmas
 pub mod GrantSteps
+pub mod ListLemmas
 pub mod LockPoint
 pub mod Locked
 pub mod LogLemmas

@@ -1,17 +1,19 @@
 -- What a reservation and then an append come to, and what the log then holds.
-use Rattle.std.proofs.Common.{◌≡◌, inl, ℕ, false, List, [], ◌∷◌, ◌++◌, Option, Some, None, Err, is_some, refl, sym, subst, arith, ◌∙◌, ap}
+use Rattle.std.proofs.Common.{◌≡◌, inl, inr, ℕ, true, false, List, [], ◌∷◌, ◌++◌, Option, Some, None, Err, is_some, length, refl, sym, subst, arith, ◌∙◌, ap, ⊎_elim}
 use Rattle.std.specs.Option.{option_to_list}
 use Rattle.std.proofs.lemmas.Bool.{true≢false}
 use Rattle.std.proofs.lemmas.List.{append-nil}
 use Rattle.pv_format.specs.Contents.{SpellRecords}
 use Rattle.pv_format.specs.Record.{Record}
 use Rattle.pv_format.specs.RecordSpelling.{SpellsRecord}
+use Rattle.pv_law_disk.specs.Calls.{Makes, reserve, append}
 use Rattle.pv_law_disk.specs.Log.{Keeps, Adds, MayAdd, StaysUp, GoesDown}
 use Rattle.pv_law_disk.specs.LogModel.{LogModel}
 use Rattle.pv_law_disk.specs.Size.{Contents}
 use Rattle.pv_law_disk.proofs.LogLemmas.{settled_since, Keeps-refl}
 use Rattle.pv_law_format.proofs.LengthLemmas.{record-length}
 use Rattle.pv_law_step.proofs.JournalLemmas.{journal-more}
+use Rattle.pv_site.specs.Calls.{append_calls, FailsToAppend, MayReserve}
 use Rattle.pv_site.specs.OnLog.{HoldsRecords, Logs}
 use Rattle.pv_site.specs.Room.{MakesRoomFor, Writes}
 use Rattle.pv_site.specs.declared.error.StepError.{StepError}
@@ -45,12 +47,30 @@ module _ {W : Type 0} (M : LogModel W) where
     fault = omega (arith, first.faults, second.fault);
   }
 
-pub ruleset record_joins = (StaysUp-trans, StaysUp-GoesDown, keeping_may_add)
+  -- Room was made, and then the content appended, or not.
+  pub appended-calls : (old mid new : W) (content : List ℕ) → M.goes old (reserve (length content)) true mid → M.goes mid (append content) true new
+      → Makes M.goes old (append_calls content) true new
+  appended-calls old mid new content reserved appended = inr (mid, reserved, inr (new, appended, (refl, refl)))
+
+  pub failed-calls : (old mid new : W) (content : List ℕ) → Keeps M old mid → M.goes old (reserve (length content)) true mid → M.goes mid (append content) false new
+      → FailsToAppend M old new content
+  failed-calls old mid new content kept reserved failed = inr (mid, kept, reserved, failed)
+
+  -- These are the calls, and one of them failed.
+  pub calls-made : (old new : W) (content : List ℕ) → FailsToAppend M old new content → Makes M.goes old (append_calls content) false new
+  calls-made old new content fails =
+      ⊎_elim (λ roomless. inl (refl, roomless.1)) (λ reserved. inr (reserved.0, reserved.2, inl (refl, reserved.3))) fails
+
+  -- No call was made.
+  pub uncalled : (log : W) → MayReserve M log log
+  uncalled log = inl refl
+
+pub ruleset record_joins = (StaysUp-trans, StaysUp-GoesDown, keeping_may_add, appended-calls, failed-calls, uncalled)
 
 module _ {W : Type 0} (M : LogModel W) (old new : W) where
   -- Where no room was made nothing is written.
   pub unmade : (entry : Record) → M.is_intact old → M.is_down old ≡ false → (error : StepError) → MakesRoomFor M old new entry (Err error) → Writes M old new entry (Err error)
-  unmade entry intact up Fault made = (made.3, made.0, (made.2.0, made.2.1, keeping_may_add M old new made.2.0 intact up made.1))
+  unmade entry intact up Fault made = (made.3, made.0, (made.2.0, made.2.1, keeping_may_add M old new made.2.0 intact up made.1, inl (made.1, made.2.2)))
   unmade entry intact up Down made = made
   unmade entry intact up NoMemory made = made
 
@@ -99,8 +119,8 @@ module _ {W : Type 0} (M : LogModel W) (old new : W) where
   limit-after None same = ap M.limit same
   limit-after (Some more) logged = logged.1.2.limit
 
--- The length of a record's bytes.
-pub ruleset record_lengths = (record-length)
+-- The length of a record's bytes, and an untouched log.
+pub ruleset record_lengths = (record-length, uncalled)
 
 -- An untouched log.
-pub ruleset keeps_itself = (Keeps-refl)
+pub ruleset keeps_itself = (Keeps-refl, uncalled)

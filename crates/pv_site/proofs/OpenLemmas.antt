@@ -154,6 +154,10 @@ module _ {W : Type 0} (M : LogModel W) (log : W) (intact : M.is_intact log) (up 
       → (min (size_of contents) (2 ^ 64 - 1) ≡ M.size log → ⊥) → is_some (M.contents log) ≡ false
   untold contents read other = untold-by (M.contents log) refl contents read other
 
+  -- What was read has another length then, however long it is.
+  pub other-size : (contents : Contents) → (min (size_of contents) (2 ^ 64 - 1) ≡ M.size log → ⊥) → size_of contents ≡ M.size log → ⊥
+  other-size contents other same = other (omega (arith, same, M.is_bounded log intact))
+
   -- Else it is as long as what was read.
   pub read-size : (contents : Contents) → min (size_of contents) (2 ^ 64 - 1) ≡ M.size log → M.size log ≡ size_of contents
   read-size contents is = omega (arith, is, M.is_bounded log intact)

@@ -63,10 +63,10 @@ module _ {W : Type 0} (M : LogModel W) (log_old log_new : W) (old new : Parts) w
       → (error : StepError) → Writes M log_old log_new more (Err error) → AreKept old new → StepsOnLog M log_old log_new old new step (Err error)
   step-failed more step appends Fault wrote kept = (
     kept,
-    record { appended = more; content = wrote.2.0; is = appends wrote.0; spelled = wrote.2.1; down = wrote.1; log = wrote.2.2 },
+    record { appended = more; content = wrote.2.0; is = appends wrote.0; spelled = wrote.2.1; down = wrote.1; log = wrote.2.2; calls = wrote.2.3 },
   )
   step-failed more step appends Down wrote kept = wrote
-  step-failed more step appends NoMemory wrote kept = (kept, wrote.0, wrote.1)
+  step-failed more step appends NoMemory wrote kept = (kept, wrote.0, wrote.1, wrote.2)
 
   module _ (ready : AreReady M log_old old) (txn : TxnId) (commits : Bool) (step : model.Step) (is : IsOutcomeStep (here_of old) txn commits outcome.Record step) where
     step-learns : M.size log_old + record_bytes (outcome_known txn commits) ≤ M.limit log_old → step ≡ learning (here_of old) txn commits

@@ -1,5 +1,5 @@
 -- How the parts of an opening join.
-use Rattle.std.proofs.Common.{◌≡◌, refl, sym, subst, ap, ◌∙◌, ℕ, ◌+◌, ◌<◌, ◌≤◌, Bool, true, false, List, [], ◌∷◌, ◌++◌, Some, None, Ok, Err, arith}
+use Rattle.std.proofs.Common.{◌≡◌, inl, inr, refl, sym, subst, ap, ◌∙◌, ℕ, ◌+◌, ◌<◌, ◌≤◌, Bool, true, false, List, [], ◌∷◌, ◌++◌, Some, None, Ok, Err, arith}
 use Rattle.std.specs.Prelude.{nat_le, nat_lt, if◌then◌else◌, All}
 use Rattle.std.proofs.lemmas.Bool.Decides.{nat_tests}
 use Rattle.pv_base.specs.Catalog.{Declared}
@@ -17,8 +17,8 @@ use Rattle.pv_protocol.specs.Start.{just_started, site_start, starting, starts, 
 use Rattle.pv_protocol.specs.State.{Running, Setup}
 use Rattle.pv_protocol.specs.Width.{IsNarrow}
 use Rattle.pv_replay.specs.Values.{records_of}
-use Rattle.pv_site.proofs.LogLemmas.{holds-more, keeping_may_add, StaysUp-trans, StaysUp-GoesDown}
-use Rattle.pv_site.proofs.OpenLemmas.{epoch-spelled, narrow-taken, records-in-range, size-journal}
+use Rattle.pv_site.proofs.LogLemmas.{holds-more, StaysUp-trans, StaysUp-GoesDown}
+use Rattle.pv_site.proofs.OpenLemmas.{narrow-taken, records-in-range, size-journal}
 use Rattle.pv_site.specs.OnLog.{AreReady, HoldsRecords}
 use Rattle.pv_site.specs.Opens.{Begins, HasFound, HasOpened, IsStoreFor, Opens, ReadsPast, ReadsRecords, opened_on, refused_with}
 use Rattle.pv_site.specs.SiteState.{setup_of}
@@ -75,15 +75,13 @@ module _ (setup : Setup) (records : List Record) where
 module _ {W : Type 0} (M : LogModel W) (old mid new : W) (me : ℕ) (catalog : Declared) (intact : M.is_intact old) (up : M.is_down old ≡ false) where
   -- The records couldn't be read.
   pub unread : (reason : Refusal) → ReadsPast M old new (Err reason) → Opens M old me catalog (Err (refused_with new reason))
-  unread refusal.Failed read =
-      let spelled = epoch-spelled 1 (omega arith) (omega arith) in
-      record { epoch = 1; content = spelled.0; spelled = spelled.1; down = read.0; log = keeping_may_add M old new spelled.0 intact up read.1 }
+  unread refusal.Failed read = inl (record { down = read.0; log = read.1; call = read.2 })
   unread (refusal.Full length) read = absurd read
   unread refusal.EpochsSpent read = absurd read
   unread (refusal.BadRecord index) read = read
   unread (refusal.TooManyOutcomes count) read = absurd read
   unread (refusal.NotOurs place) read = read
-  unread refusal.NoMemory read = read
+  unread refusal.NoMemory read = (read.0, read.1, record { mid = new; ok = read.2.0; read = read.2.1; room = inl refl })
 
   -- The store took them not.
   pub unstored : (found : Found) → HasFound M old new found → (reason : Refusal) → IsStoreFor me catalog (records_of found.past.records.items) (Err reason)
@@ -94,7 +92,7 @@ module _ {W : Type 0} (M : LogModel W) (old mid new : W) (me : ℕ) (catalog : D
   unstored found has (refusal.BadRecord index) cause = absurd cause
   unstored found has (refusal.TooManyOutcomes count) cause = (records_of found.past.records.items, has.0.0, cause)
   unstored found has (refusal.NotOurs place) cause = absurd cause
-  unstored found has refusal.NoMemory cause = (has.0.0.up, has.0.0.log)
+  unstored found has refusal.NoMemory cause = (has.0.0.up, has.0.0.log, record { mid = new; ok = true; read = has.0.0.call; room = inl refl })
 
   -- No epoch is left.
   pub unnumbered : (found : Found) → HasFound M old new found → too_many_in catalog me (records_of found.past.records.items) ≡ None → NEVER_GIVEN ≤ found.past.epoch + 1
@@ -113,16 +111,35 @@ module _ {W : Type 0} (M : LogModel W) (old mid new : W) (me : ℕ) (catalog : D
     less-last : greatest_epoch (records_of found.past.records.items) + 1 < NEVER_GIVEN
     less-last = subst (λ epoch. epoch + 1 < NEVER_GIVEN) has.1 less
 
+    starts-fitting : M.size mid + record_bytes (epoch_begun (found.past.epoch + 1)) ≤ M.limit mid
+        → site_start (setup_of catalog) (records_of found.past.records.items) ≡ starts (just_started (found.past.epoch + 1)) (epoch_begun (found.past.epoch + 1))
+    starts-fitting fits =
+        subst (λ epoch. site_start (setup_of catalog) (records_of found.past.records.items) ≡ starts (just_started (epoch + 1)) (epoch_begun (epoch + 1))) (sym has.1)
+        (starts-room (setup_of catalog) (records_of found.past.records.items) less-last
+        (omega (arith, subst (λ epoch. M.size mid + record_bytes (epoch_begun (epoch + 1)) ≤ M.limit mid) has.1 fits, mid-size, has.0.0.log.limit, limit)))
+
     -- The epoch wasn't recorded.
     pub unbegun : (reason : Refusal) → Begins M mid new me catalog (records_of found.past.records.items) (found.past.epoch + 1) (Err reason)
         → Opens M old me catalog (Err (refused_with new reason))
-    unbegun refusal.Failed cause = record {
+    unbegun refusal.Failed cause = inr (record {
+      contents = has.0.0.contents;
+      records = records_of found.past.records.items;
+      running = just_started (found.past.epoch + 1);
       epoch = found.past.epoch + 1;
-      content = cause.1.0;
-      spelled = cause.1.1;
-      down = StaysUp-GoesDown M old mid new has.0.0.up cause.0;
-      log = Keeps-MayAdd M old mid new intact up has.0.0.log cause.1.0 cause.1.2;
-    }
+      content = cause.2.0;
+      read = has.0.0.read;
+      size = has.0.0.size;
+      spelled = has.0.0.spelled;
+      narrow = narrow;
+      starts = starts-fitting cause.0;
+      content_is = cause.2.1;
+      down = StaysUp-GoesDown M old mid new has.0.0.up cause.1;
+      log = Keeps-MayAdd M old mid new intact up has.0.0.log cause.2.0 cause.2.2;
+      mid = mid;
+      kept = has.0.0.log;
+      reading = has.0.0.call;
+      calls = cause.2.3;
+    })
     unbegun (refusal.Full length) cause = (
       records_of found.past.records.items,
       subst (λ log. ReadsRecords M old log (records_of found.past.records.items)) (sym cause.0) has.0.0,
@@ -136,14 +153,15 @@ module _ {W : Type 0} (M : LogModel W) (old mid new : W) (me : ℕ) (catalog : D
     unbegun (refusal.BadRecord index) cause = absurd cause
     unbegun (refusal.TooManyOutcomes count) cause = absurd cause
     unbegun (refusal.NotOurs place) cause = absurd cause
-    unbegun refusal.NoMemory cause = (StaysUp-trans M old mid new has.0.0.up cause.0, Keeps-trans M old mid new has.0.0.log cause.1)
+    unbegun refusal.NoMemory cause = (
+      StaysUp-trans M old mid new has.0.0.up cause.0,
+      Keeps-trans M old mid new has.0.0.log cause.1,
+      record { mid = mid; ok = true; read = has.0.0.call; room = cause.2 },
+    )
 
     module _ (parts : Parts) (begun : Begins M mid new me catalog (records_of found.past.records.items) (found.past.epoch + 1) (Ok parts)) where
       pub starts-now : site_start (setup_of catalog) (records_of found.past.records.items) ≡ starts (just_started (found.past.epoch + 1)) (epoch_begun (found.past.epoch + 1))
-      starts-now =
-          subst (λ epoch. site_start (setup_of catalog) (records_of found.past.records.items) ≡ starts (just_started (epoch + 1)) (epoch_begun (epoch + 1))) (sym has.1)
-          (starts-room (setup_of catalog) (records_of found.past.records.items) less-last
-          (omega (arith, begun.0, mid-size, has.0.0.log.limit, limit)))
+      starts-now = starts-fitting begun.0
 
       -- The site runs.
       pub has-opened : HasOpened M old me catalog (opened_on new (record { parts = parts; epoch = found.past.epoch + 1; first = found.first }))
@@ -163,6 +181,7 @@ module _ {W : Type 0} (M : LogModel W) (old mid new : W) (me : ℕ) (catalog : D
         content_is = begun.4.1;
         up = StaysUp-trans M old mid new has.0.0.up begun.3;
         log = Keeps-Adds M old mid new intact up has.0.0.log begun.4.0 begun.4.2;
+        calls = inr (mid, has.0.0.call, begun.4.3);
       }
 
       held : HoldsRecords M mid (records_of found.past.records.items)

@@ -1,8 +1,10 @@
 pub mod Answer
 pub mod Asked
+pub mod Calls
 pub mod Inputs
 pub mod LastVote
 pub mod Lending
+pub mod Lists
 pub mod LockPoint
 pub mod OnLog
 pub mod Opens

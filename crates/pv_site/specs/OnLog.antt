@@ -1,14 +1,16 @@
 -- What a step makes of a site's parts and of its log.
-use Rattle.std.specs.Prelude.{◌≡◌, ℕ, false, List, Option, Some, None, Result, Ok, Err}
+use Rattle.std.specs.Prelude.{◌≡◌, ℕ, true, false, List, Option, Some, None, Result, Ok, Err}
 use Rattle.pv_format.specs.Contents.{SpellRecords}
 use Rattle.pv_format.specs.Record.{Record}
 use Rattle.pv_format.specs.RecordSpelling.{SpellsRecord}
+use Rattle.pv_law_disk.specs.Calls.{Makes}
 use Rattle.pv_law_disk.specs.Log.{Keeps, Adds, MayAdd, StaysUp, GoesDown}
 use Rattle.pv_law_disk.specs.LogModel.{LogModel}
 use Rattle.pv_law_disk.specs.Size.{Contents}
 use Rattle.pv_protocol.specs.Records.{journal_bytes}
 use Rattle.pv_protocol.specs.State as model
 use Rattle.pv_site.specs.Answer.{IsAnswer}
+use Rattle.pv_site.specs.Calls.{append_calls, FailsToAppend, MayReserve}
 use Rattle.pv_site.specs.Parts.{AreKept, AreSound, HaveStepped}
 use Rattle.pv_site.specs.declared.error.StepError.{StepError}
 use Rattle.pv_site.specs.declared.error.StepError.TheVariants.{Fault, Down, NoMemory}
@@ -29,12 +31,12 @@ module _ {W : Type 0} (M : LogModel W) where
     pub holds : HoldsRecords log parts.store.records
     pub sound : AreSound parts
 
-  -- What a step leaves of the log: it is untouched, or it holds the step's record.
+  -- What a step makes of the log: it isn't called, or it was to append the step's record, and holds it.
   abbrev pub Logs : W → W → Option Record → Type 0
   Logs old new None = new ≡ old
-  Logs old new (Some appended) = StaysUp M old new × ((content : List ℕ) × SpellsRecord appended content × Adds M old new content)
+  Logs old new (Some appended) = StaysUp M old new × ((content : List ℕ) × SpellsRecord appended content × Adds M old new content × Makes M.goes old (append_calls content) true new)
 
-  -- The step was to append this record, and the log failed: it holds the record, or it doesn't.
+  -- The step was to append this record, and the log failed: it holds the record, or it doesn't, and it doesn't where room was asked for in vain.
   pub record Fails (old new : W) (step : model.Step) : Type 0 where
     pub appended : Record
     pub content : List ℕ
@@ -42,10 +44,11 @@ module _ {W : Type 0} (M : LogModel W) where
     pub spelled : SpellsRecord appended content
     pub down : GoesDown M old new
     pub log : MayAdd M old new content
+    pub calls : FailsToAppend M old new content
 
   -- A step that may append, by its answer.
   abbrev pub StepsOnLog : W → W → Parts → Parts → model.Step → Result Step StepError → Type 0
   StepsOnLog log_old log_new old new step (Ok answer) = HaveStepped old new step × IsAnswer answer step × Logs log_old log_new step.appended
   StepsOnLog log_old log_new old new step (Err Fault) = AreKept old new × Fails log_old log_new step
-  StepsOnLog log_old log_new old new step (Err NoMemory) = AreKept old new × StaysUp M log_old log_new × Keeps M log_old log_new
+  StepsOnLog log_old log_new old new step (Err NoMemory) = AreKept old new × StaysUp M log_old log_new × Keeps M log_old log_new × MayReserve M log_old log_new
   StepsOnLog log_old log_new old new step (Err Down) = ⊥

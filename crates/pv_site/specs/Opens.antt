@@ -1,9 +1,10 @@
 -- What opening a site does, by its answer.
-use Rattle.std.specs.Prelude.{◌≡◌, ℕ, ◌+◌, ◌<◌, ◌≤◌, ◌++◌, ◌∷◌, [], false, List, Some, None, is_some, length, ◌==◌, Result, Ok, Err, ⊤}
+use Rattle.std.specs.Prelude.{◌≡◌, ◌⊎◌, ℕ, ◌+◌, ◌<◌, ◌≤◌, ◌++◌, ◌∷◌, [], Bool, true, false, List, Some, None, is_some, length, ◌==◌, ◌≢◌, ◌-◌, ◌^◌, min, Result, Ok, Err, ⊤}
 use Rattle.pv_base.specs.Catalog.{Declared}
 use Rattle.pv_format.specs.Contents.{SpellRecords, IsFirstBadContent, greatest_epoch}
 use Rattle.pv_format.specs.Record.{Record, epoch_begun}
 use Rattle.pv_format.specs.RecordSpelling.{SpellsRecord}
+use Rattle.pv_law_disk.specs.Calls.{Makes, read_all}
 use Rattle.pv_law_disk.specs.Log.{Keeps, Adds, MayAdd, StaysUp, GoesDown}
 use Rattle.pv_law_disk.specs.LogModel.{LogModel}
 use Rattle.pv_law_disk.specs.Size.{Contents, size_of}
@@ -12,6 +13,7 @@ use Rattle.pv_protocol.specs.Start.{just_started, site_start, starts, too_long, 
 use Rattle.pv_protocol.specs.State.{Running}
 use Rattle.pv_store.specs.Kept.{Kept}
 use Rattle.pv_store.specs.Refusals.{too_many_in}
+use Rattle.pv_site.specs.Calls.{append_calls, AsksFor, FailsToAppend, MayReserve}
 use Rattle.pv_site.specs.SiteState.{SiteState, setup_of}
 use Rattle.pv_replay.specs.Values.{records_of}
 use Rattle.pv_site.specs.declared.opening.Found.{Found}
@@ -28,6 +30,13 @@ module _ {W : Type 0} (M : LogModel W) where
   abbrev pub WereRead : W → Contents → Type 0
   WereRead log contents = (held : Contents) → M.contents log ≡ Some held → contents ≡ held
 
+  -- What was read isn't the log's: the log said so; or what was read has this length, or a greater one where this is u64's greatest value, and the log
+  -- has another.
+  abbrev pub IsNotOurs : W → W → ℕ → Type 0
+  IsNotOurs old new place =
+      M.goes old read_all false new
+      ⊎ ((contents : Contents) × WereRead old contents × (place ≡ min (size_of contents) (2 ^ 64 - 1)) × (size_of contents ≢ M.size old) × M.goes old read_all true new)
+
   -- The log is as it was, and these records were read from it.
   pub record ReadsRecords (old new : W) (records : List Record) : Type 0 where
     pub contents : Contents
@@ -36,6 +45,7 @@ module _ {W : Type 0} (M : LogModel W) where
     pub spelled : SpellRecords records contents
     pub up : StaysUp M old new
     pub log : Keeps M old new
+    pub call : M.goes old read_all true new
 
   -- Records were read, the greatest epoch among them is this one, and it is said whether there were none.
   abbrev pub HasFound : W → W → Found → Type 0
@@ -46,11 +56,12 @@ module _ {W : Type 0} (M : LogModel W) where
   -- What comes of reading the records, by the answer.
   abbrev pub ReadsPast : W → W → Result Found Refusal → Type 0
   ReadsPast old new (Ok found) = HasFound old new found
-  ReadsPast old new (Err refusal.Failed) = GoesDown M old new × Keeps M old new
-  ReadsPast old new (Err (refusal.NotOurs place)) = StaysUp M old new × Keeps M old new × (is_some (M.contents old) ≡ false)
+  ReadsPast old new (Err refusal.Failed) = GoesDown M old new × Keeps M old new × M.goes old read_all false new
+  ReadsPast old new (Err (refusal.NotOurs place)) =
+      StaysUp M old new × Keeps M old new × (is_some (M.contents old) ≡ false) × IsNotOurs old new place
   ReadsPast old new (Err (refusal.BadRecord index)) =
-      StaysUp M old new × Keeps M old new × ((contents : Contents) × WereRead old contents × IsFirstBadContent contents index)
-  ReadsPast old new (Err refusal.NoMemory) = StaysUp M old new × Keeps M old new
+      StaysUp M old new × Keeps M old new × ((contents : Contents) × WereRead old contents × IsFirstBadContent contents index) × M.goes old read_all true new
+  ReadsPast old new (Err refusal.NoMemory) = StaysUp M old new × Keeps M old new × ((ok : Bool) × M.goes old read_all ok new)
   ReadsPast old new (Err other) = ⊥
 
   -- The site runs: it has recorded the epoch after the last one, and has nothing else in memory.
@@ -77,14 +88,38 @@ module _ {W : Type 0} (M : LogModel W) where
     pub content_is : SpellsRecord (epoch_begun epoch) content
     pub up : StaysUp M old opened.log
     pub log : Adds M old opened.log content
+    pub calls : Makes M.goes old (read_all ∷ append_calls content) true opened.log
 
-  -- The log failed: it holds what it held, or the record of an epoch more.
-  pub record HasFailed (old new : W) : Type 0 where
+  -- The log failed as it was read, and holds what it held.
+  pub record FailsToRead (old new : W) : Type 0 where
+    pub down : GoesDown M old new
+    pub log : Keeps M old new
+    pub call : M.goes old read_all false new
+
+  -- The log failed at the record of the epoch after the last one, which it holds, or it doesn't, and it doesn't where room was asked for in vain.
+  pub record FailsToBegin (old : W) (me : ℕ) (catalog : Declared) (new : W) : Type 0 where
+    pub contents : Contents
+    pub records : List Record
+    pub running : Running
     pub epoch : ℕ
     pub content : List ℕ
-    pub spelled : SpellsRecord (epoch_begun epoch) content
+    pub read : WereRead old contents
+    pub size : M.size old ≡ size_of contents
+    pub spelled : SpellRecords records contents
+    pub narrow : too_many_in catalog me records ≡ None
+    pub starts : site_start (setup_of catalog) records ≡ starts running (epoch_begun epoch)
+    pub content_is : SpellsRecord (epoch_begun epoch) content
     pub down : GoesDown M old new
     pub log : MayAdd M old new content
+    -- what it is once it was read
+    pub mid : W
+    pub kept : Keeps M old mid
+    pub reading : M.goes old read_all true mid
+    pub calls : FailsToAppend M mid new content
+
+  -- The log failed.
+  abbrev pub HasFailed : W → ℕ → Declared → W → Type 0
+  HasFailed old me catalog new = FailsToRead old new ⊎ FailsToBegin old me catalog new
 
   -- Why a site with these records is refused, once they were read.
   abbrev pub RefusesRecords : W → ℕ → Declared → W → (List Record → Type 0) → Type 0
@@ -93,17 +128,18 @@ module _ {W : Type 0} (M : LogModel W) where
   -- An opening, by its answer.
   abbrev pub Opens : W → ℕ → Declared → Result (SiteState W) (OpenError W) → Type 0
   Opens old me catalog (Ok site) = HasOpened old me catalog site
-  Opens old me catalog (Err (Failed log)) = HasFailed old log
-  Opens old me catalog (Err (NotOurs log place)) = StaysUp M old log × Keeps M old log × (is_some (M.contents old) ≡ false)
+  Opens old me catalog (Err (Failed log)) = HasFailed old me catalog log
+  Opens old me catalog (Err (NotOurs log place)) =
+      StaysUp M old log × Keeps M old log × (is_some (M.contents old) ≡ false) × IsNotOurs old log place
   Opens old me catalog (Err (BadRecord log index)) =
-      StaysUp M old log × Keeps M old log × ((contents : Contents) × WereRead old contents × IsFirstBadContent contents index)
+      StaysUp M old log × Keeps M old log × ((contents : Contents) × WereRead old contents × IsFirstBadContent contents index) × M.goes old read_all true log
   Opens old me catalog (Err (TooManyOutcomes log count)) =
       RefusesRecords old me catalog log (λ records. too_many_in catalog me records ≡ Some count)
   Opens old me catalog (Err (EpochsSpent log)) =
       RefusesRecords old me catalog log (λ records. (too_many_in catalog me records ≡ None) × (site_start (setup_of catalog) records ≡ no_epoch))
   Opens old me catalog (Err (Full log length)) =
       RefusesRecords old me catalog log (λ records. (too_many_in catalog me records ≡ None) × (site_start (setup_of catalog) records ≡ too_long length))
-  Opens old me catalog (Err (NoMemory log)) = StaysUp M old log × Keeps M old log
+  Opens old me catalog (Err (NoMemory log)) = StaysUp M old log × Keeps M old log × AsksFor M old log
 
 module _ {W : Type 0} (M : LogModel W) where
   -- A beginning in an epoch, by its answer: the epoch is recorded, and the site has nothing else in memory; or why not.
@@ -112,12 +148,14 @@ module _ {W : Type 0} (M : LogModel W) where
       let more = epoch_begun epoch in
       (M.size old + record_bytes more ≤ M.limit old)
       × (here_of parts ≡ record { me = me; setup = setup_of catalog; records = records ++ more ∷ []; running = just_started epoch })
-      × AreTied parts × StaysUp M old new × ((content : List ℕ) × SpellsRecord more content × Adds M old new content)
+      × AreTied parts × StaysUp M old new
+      × ((content : List ℕ) × SpellsRecord more content × Adds M old new content × Makes M.goes old (append_calls content) true new)
   Begins old new me catalog records epoch (Err (refusal.Full length)) =
       (new ≡ old) × (length ≡ M.size old + record_bytes (epoch_begun epoch)) × (M.limit old < length)
   Begins old new me catalog records epoch (Err refusal.Failed) =
-      GoesDown M old new × ((content : List ℕ) × SpellsRecord (epoch_begun epoch) content × MayAdd M old new content)
-  Begins old new me catalog records epoch (Err refusal.NoMemory) = StaysUp M old new × Keeps M old new
+      (M.size old + record_bytes (epoch_begun epoch) ≤ M.limit old) × GoesDown M old new
+      × ((content : List ℕ) × SpellsRecord (epoch_begun epoch) content × MayAdd M old new content × FailsToAppend M old new content)
+  Begins old new me catalog records epoch (Err refusal.NoMemory) = StaysUp M old new × Keeps M old new × MayReserve M old new
   Begins old new me catalog records epoch (Err other) = ⊥
 
 -- the refusal, with which the log comes back

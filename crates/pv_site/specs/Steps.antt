@@ -9,6 +9,7 @@ use Rattle.pv_protocol.specs.Step.{step_on, records_after}
 use Rattle.pv_site.specs.OnLog.{HoldsRecords, Logs, Fails}
 use Rattle.pv_site.specs.SiteState.{SiteState, here_with}
 use Rattle.pv_site.specs.Answer.{IsAnswer}
+use Rattle.pv_site.specs.Calls.{MayReserve}
 use Rattle.pv_site.specs.declared.error.StepError.{StepError}
 use Rattle.pv_site.specs.declared.error.StepError.TheVariants.{Fault, Down, NoMemory}
 use Rattle.pv_site.specs.declared.input.Step.{Step}
@@ -41,6 +42,7 @@ module _ {W : Type 0} (M : LogModel W) where
     pub site : new ≡ record old { log = new.log }
     pub up : StaysUp M old.log new.log
     pub log : Keeps M old.log new.log
+    pub calls : MayReserve M old.log new.log
 
   -- A step of a site that has this in memory, by its answer.
   abbrev pub StepsFrom : SiteState W → SiteState W → Running → Input → Result Step StepError → Type 0

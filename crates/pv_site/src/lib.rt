@@ -9,7 +9,9 @@ mod error;
 mod granting;
 mod input;
 mod learning;
+mod lists;
 mod locking;
+mod numbers;
 mod opening;
 mod parts;
 mod refusing;
@@ -19,6 +21,13 @@ mod ticking;
 
 pub use error::{OpenError, StepError};
 pub use input::{Cause, Input, Note, Outgoing, Shown, Step};
+pub use lists::lists_fail_as_planned;
+pub use opening::setup_is_in_range;
 pub use pv_poly::Read;
 pub use pv_wire::{Message, NoCause};
 pub use site::Site;
+
+#[cfg(test)]
+mod opening_tests;
+#[cfg(test)]
+mod tests;

@@ -212,8 +212,9 @@ pub(crate) fn start<L: Log>(
     }
 }
 
-// Shows that a catalog is in range, which its own calls report, of its values one by one. It computes nothing.
-fn setup_is_in_range(catalog: &Catalog)
+/// Shows that what a catalog declares is in range, which its own calls report, of its values one by one. It computes nothing. Takes time in
+/// proportion to the items.
+pub fn setup_is_in_range(catalog: &Catalog)
     ensures { IsSetupInRange (setup_of catalog.now) }
 {
     catalog.sites();

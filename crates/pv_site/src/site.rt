@@ -1,19 +1,24 @@
 // A site over a log: what it makes of an input, and what can be asked of it.
-ghost use Rattle.std.specs.Prelude.{◌≡◌, ◌↔◌, ◌<◌, false, All, IfOk, IfErr, IsTrue, is_some};
+ghost use Rattle.std.specs.Prelude.{◌≡◌, ◌↔◌, ◌<◌, true, false, All, IfOk, IfErr, IsTrue, is_some};
+ghost use Rattle.pv_model.specs.Plan.{plan_of};
 ghost use Rattle.pv_protocol.specs.Committed.{entry_in};
 ghost use Rattle.pv_protocol.specs.Lock.{is_home};
 ghost use Rattle.pv_protocol.specs.Records.{is_prepared, known};
+ghost use Rattle.pv_protocol.specs.WellFormed.{CanRun};
 ghost use Rattle.pv_site.specs.Asked.{grant_held, grant_taken, voting_at, IsIdle, Shows};
 ghost use Rattle.pv_site.specs.Inputs.{IsInputFor, IsSpelledFrom};
 ghost use Rattle.pv_site.specs.Opens.{Opens, log_in};
 ghost use Rattle.pv_site.specs.Steps.{IsReady, Steps};
 ghost use Rattle.pv_site.specs.Values.{input_of};
 
+use crate::numbers::has_small_numbers;
 use crate::opening::start;
 use crate::parts::Parts;
 use crate::taking::take;
 use crate::{Input, OpenError, Shown, Step, StepError};
+use pv_ast::Program;
 use pv_base::{Catalog, GrantId, ItemId, SiteId, TxnId};
+use pv_check::{Plan, fits};
 use pv_disk::Log;
 use std::alloc::Global;
 use std::marker::Model;
@@ -130,6 +135,14 @@ impl<L: Log> Site<L> {
             }
             Err(error) => Err(error),
         }
+    }
+
+    /// Whether the site takes the program with this plan: the program can run over the site's catalog, and `check` answers the plan for it, where
+    /// it is no query. It is asked of a site that is down too. The cost is that of `pv_check`'s `fits`.
+    pub fn fits(&self, program: &Program, plan: &Plan) -> bool
+        ensures { (result ≡ true) ↔ (CanRun self.now.catalog program.now × (plan.now.parts.items ≡ plan_of program.now self.now.catalog.items)) }
+    {
+        has_small_numbers(program) && fits(program, &self.parts.catalog, plan)
     }
 
     /// What the site shows of its item. Takes time in proportion to the transactions that hold the item, and logarithmic in the locks.

@@ -40,4 +40,4 @@ pub returns-in-Err-Fault-clause-begun : goal.returns-in-Err-Fault-clause-begun
 returns-in-Err-Fault-clause-begun g c =
     let wrote = subst (λ (r : Record). Writes g.L.Log.model c.args.log.now c.write.new.log r (Err error.Fault)) (c.record.ensures ∙ c.plan_epoch-change.ensures.change)
     (subst (λ e. Writes g.L.Log.model c.args.log.now c.write.new.log (record_of c.record.result.now) (Err e)) c.in-Err-Fault.field-0-is c.in-Err-Fault.ensures.written) in
-    (wrote.1, wrote.2)
+    (wrote.0, wrote.1, wrote.2)

@@ -1,21 +1,24 @@
-use Rattle.std.proofs.Common.{◌≡◌, ◌∙◌, sym, ap, subst, List, ℕ, length, ◌^◌, ◌-◌}
+use Rattle.std.proofs.Common.{◌≡◌, inr, ◌∙◌, sym, ap, subst, List, ℕ, length, ◌^◌, ◌-◌}
 use Rattle.std.specs.Global.{Vec}
 use Rattle.std.specs.Prelude.{min, ◌==◌, vec_len}
 use Rattle.std.proofs.lemmas.List.{length-map}
 use Rattle.pv_format.specs.Contents.{SpellRecords}
 use Rattle.pv_law_disk.specs.Size.{size_of}
 use Rattle.pv_replay.specs.Values.{contents_of, records_of}
-use Rattle.pv_site.proofs.OpenLemmas.{read-size, untold}
+use Rattle.pv_site.proofs.OpenLemmas.{other-size, read-size, untold}
 use Rattle.pv_site.proofs.opening.read_past.Goals as goal
 
 pub returns-then-length-clause-read : goal.returns-then-length-clause-read
 returns-then-length-clause-read g c =
-    let did = c.in-Ok.ensures.effect in (
+    let did = c.in-Ok.ensures.effect in
+    let contents = contents_of c.in-Ok.contents.items in
+    let place = c.length_of-length.ensures ∙ ap (λ (all : List (Vec ℕ)). min (size_of (contents_of all)) (2 ^ 64 - 1)) c.deref.ensures.value in
+    let other : min (size_of contents) (2 ^ 64 - 1) ≡ g.L.Log.model.size c.args.log.now → ⊥ =
+    λ same. c.if-length.true (place ∙ (same ∙ (sym did.1.size ∙ sym c.length.ensures))) in (
       did.0,
       did.1,
-      untold g.L.Log.model c.args.log.now c.requires.intact c.requires.up (contents_of c.in-Ok.contents.items) c.in-Ok.ensures.contents
-          (λ same. c.if-length.true
-          (c.length_of-length.ensures ∙ (ap (λ (all : List (Vec ℕ)). min (size_of (contents_of all)) (2 ^ 64 - 1)) c.deref.ensures.value ∙ (same ∙ (sym did.1.size ∙ sym c.length.ensures))))),
+      untold g.L.Log.model c.args.log.now c.requires.intact c.requires.up contents c.in-Ok.ensures.contents other,
+      inr (contents, c.in-Ok.ensures.contents, place, other-size g.L.Log.model c.args.log.now c.requires.intact c.requires.up contents other, c.in-Ok.ensures.goes),
     )
 
 pub returns-in-Ok-replay-clause-read : goal.returns-in-Ok-replay-clause-read
@@ -35,6 +38,7 @@ returns-in-Ok-replay-clause-read g c =
               c.in-Ok-replay.ensures.answer.given;
           up = did.0;
           log = did.1;
+          call = c.in-Ok.ensures.goes;
         },
         c.is_empty.ensures ∙ ap (λ n. n == 0) (sym length_is),
       ),
