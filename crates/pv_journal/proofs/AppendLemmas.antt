@@ -19,7 +19,7 @@ module _ (contents : Contents) (content bytes : List ℕ) (journal : IsJournal c
   front = header ++ records_of contents
 
   -- An open gate opens a whole record.
-  opened_record : (tail : List ℕ) → IsJournal (contents ++ content ∷ []) (header ++ (records_of contents ++ 1 ∷ (framed content ++ 0 ∷ tail)))
+  pub opened_record : (tail : List ℕ) → IsJournal (contents ++ content ∷ []) (header ++ (records_of contents ++ 1 ∷ (framed content ++ 0 ∷ tail)))
   opened_record tail = record {
     short = All-append (λ c. length c < 2 ^ 32) contents (content ∷ []) journal.short (All-cons (λ c. length c < 2 ^ 32) content [] short (All-nil (λ c. length c < 2 ^ 32)));
     gate = 0;

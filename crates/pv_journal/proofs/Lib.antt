@@ -1,4 +1,5 @@
 mod AppendLemmas
+mod ArmedLemmas
 mod FormatLemmas
 mod LogLemmas
 mod LookLemmas

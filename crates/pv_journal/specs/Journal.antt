@@ -1,5 +1,5 @@
 -- A journal on a disk as a log.
-use Rattle.std.specs.Prelude.{◌≡◌, ◌⊎◌, ℕ, ◌+◌, ◌-◌, ◌≤◌, Bool, false, MatchBool, List, [], ◌∷◌, ◌++◌, Option, Some, option_and_then, vec_capacity}
+use Rattle.std.specs.Prelude.{◌≡◌, ◌⊎◌, ℕ, ◌+◌, ◌-◌, ◌≤◌, ◌<◌, ◌^◌, Bool, true, false, MatchBool, List, [], ◌∷◌, ◌++◌, Option, Some, length, option_and_then, vec_capacity}
 use Rattle.pv_base.specs.declared.limits.TheConstants.{MAX_JOURNAL, MAX_LENGTH}
 use Rattle.pv_law_disk.specs.Calls.{DiskCall, LogCall, Makes, OnlyReads, read_all, reserve, append, make_room, write, sync}
 use Rattle.pv_law_disk.specs.DiskModel.{DiskModel}
@@ -46,9 +46,17 @@ module _ {D : Type 0} (M : DiskModel D) where
     pub writes : 2 ≤ M.writes journal.disk
     pub within : journal.length + (5 + content) ≤ journal.limit
 
-  -- The calls that one call makes of the disk. A journal that is down makes none, and one without room within its limit neither.
+  -- A call that adds nothing leaves the journal as long as it was, with the limit that it had, and where it succeeds up or down as it was.
+  pub record IsAsLong (old new : Journal D) (ok : Bool) : Type 0 where
+    pub length : new.length ≡ old.length
+    pub limit : new.limit ≡ old.limit
+    pub down : ok ≡ true → new.down ≡ old.down
+
+  -- The calls that one call makes of the disk. A journal that is down makes none, and one without room within its limit neither. What is
+  -- appended has a length of four bytes.
   abbrev pub JournalGoes : Journal D → LogCall → Bool → Journal D → Type 0
-  JournalGoes old read_all ok new = OnlyReads M.goes old.disk new.disk
-  JournalGoes old (reserve content) ok new = (new.disk ≡ old.disk) ⊎ Makes M.goes old.disk (make_room (6 + content) 2 ∷ []) ok new.disk
+  JournalGoes old read_all ok new = IsAsLong old new ok × OnlyReads M.goes old.disk new.disk
+  JournalGoes old (reserve content) ok new =
+      IsAsLong old new ok × ((new.disk ≡ old.disk) ⊎ Makes M.goes old.disk (make_room (6 + content) 2 ∷ []) ok new.disk)
   JournalGoes old (append content) ok new =
-      MatchBool old.down ((ok ≡ false) × (new ≡ old)) (Makes M.goes old.disk (append_calls (old.length - 1) content) ok new.disk)
+      MatchBool old.down ((ok ≡ false) × (new ≡ old)) ((length content < 2 ^ 32) × Makes M.goes old.disk (append_calls (old.length - 1) content) ok new.disk)

@@ -1,4 +1,5 @@
 pub mod Appending
+pub mod Armed
 pub mod Journal
 pub mod Lending
 pub mod JournalModel

@@ -31,25 +31,25 @@ abbrev pub empty_journal : List ℕ
 empty_journal = header ++ 0 ∷ []
 
 module _ {D : Type 0} (M : DiskModel D) where
-  -- A sync was asked for, and where it succeeded calls that only read.
+  -- A sync succeeded, and then there were calls that only read.
   abbrev pub SyncsAndReads : D → D → Type 0
-  SyncsAndReads old new = M.goes old sync false new ⊎ ((mid : D) × M.goes old sync true mid × OnlyReads M.goes mid new)
+  SyncsAndReads old new = (mid : D) × M.goes old sync true mid × OnlyReads M.goes mid new
 
   -- What an opening leaves of the disk: at each moment a crash leaves what it might have left before.
   pub record Opened (old new : D) : Type 0 where
     pub known : is_some (M.content new) ≡ is_some (M.content old)
     pub any_moment : LeavesOnly M old new (M.may_leave old)
     pub faults : M.faults old ≤ M.faults new
-    pub calls : SyncsAndReads old new
 
-  -- An opening, by its answer: the journal has the contents of the disk's bytes, or they are none, and it shows at that place.
+  -- An opening, by its answer. A sync comes first, and where it succeeds calls that only read. The journal has the contents of the disk's bytes, or they are none, and it shows at that place.
   abbrev pub Opens : D → ℕ → Result (Journal D) (OpenLog D) → Type 0
   Opens old limit (Ok journal) =
-      Opened old journal.disk × (M.content journal.disk ≡ M.content old) × IsIntact M journal × (journal.down ≡ false) × (journal.limit ≡ limit)
-  Opens old limit (Err (Failed disk)) = Opened old disk × Rose (M.faults old) (M.faults disk)
+      Opened old journal.disk × SyncsAndReads old journal.disk × (M.content journal.disk ≡ M.content old) × IsIntact M journal × (journal.down ≡ false)
+      × (journal.limit ≡ limit)
+  Opens old limit (Err (Failed disk)) = Opened old disk × (M.goes old sync false disk ⊎ SyncsAndReads old disk) × Rose (M.faults old) (M.faults disk)
   Opens old limit (Err (NotOurs disk place)) =
-      Opened old disk × (M.content disk ≡ M.content old) × ((bytes : List ℕ) → M.content old ≡ Some bytes → IsNotOurs bytes place)
-  Opens old limit (Err (NoMemory disk)) = Opened old disk × (M.content disk ≡ M.content old)
+      Opened old disk × SyncsAndReads old disk × (M.content disk ≡ M.content old) × ((bytes : List ℕ) → M.content old ≡ Some bytes → IsNotOurs bytes place)
+  Opens old limit (Err (NoMemory disk)) = Opened old disk × SyncsAndReads old disk × (M.content disk ≡ M.content old)
 
   -- What making an empty journal asks of the disk.
   abbrev pub format_calls : List DiskCall

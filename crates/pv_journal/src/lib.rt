@@ -3,10 +3,12 @@
 
 mod journal;
 mod log;
+mod memory;
 mod open_log;
 mod reading;
 
 pub use journal::{Journal, format, look};
+pub use memory::{armed_journals, formatted_journals};
 pub use open_log::OpenLog;
 
 #[cfg(test)]

@@ -31,8 +31,11 @@ returns-in-Err-clause-effect g c =
 pub returns-in-Err-clause-goes : goal.returns-in-Err-clause-goes
 returns-in-Err-clause-goes g c =
     let frame_is = c.deref.ensures.value ∙ c.make_frame.ensures in
-    not_down c.args.self.now.down _ _ c.if-self.false
-    (subst (λ (l : List ℕ). Makes g.D.Disk.model.goes c.args.self.now.disk (frame_calls (c.args.self.now.length - 1) l) false c.write_record.new.disk) frame_is c.in-Err.ensures.calls)
+    let room = c.requires.room c.if-self.false in
+    not_down c.args.self.now.down _ _ c.if-self.false (
+      omega (arith, room.within, c.requires.intact.limited),
+      subst (λ (l : List ℕ). Makes g.D.Disk.model.goes c.args.self.now.disk (frame_calls (c.args.self.now.length - 1) l) false c.write_record.new.disk) frame_is c.in-Err.ensures.calls,
+    )
 
 pub returns-in-Ok-clause-effect : goal.returns-in-Ok-clause-effect
 returns-in-Ok-clause-effect g c =
@@ -59,5 +62,8 @@ returns-in-Ok-clause-intact g c =
 pub returns-in-Ok-clause-goes : goal.returns-in-Ok-clause-goes
 returns-in-Ok-clause-goes g c =
     let frame_is = c.deref.ensures.value ∙ c.make_frame.ensures in
-    not_down c.args.self.now.down _ _ c.if-self.false
-    (subst (λ (l : List ℕ). Makes g.D.Disk.model.goes c.args.self.now.disk (frame_calls (c.args.self.now.length - 1) l) true c.write_record.new.disk) frame_is c.in-Ok.ensures.calls)
+    let room = c.requires.room c.if-self.false in
+    not_down c.args.self.now.down _ _ c.if-self.false (
+      omega (arith, room.within, c.requires.intact.limited),
+      subst (λ (l : List ℕ). Makes g.D.Disk.model.goes c.args.self.now.disk (frame_calls (c.args.self.now.length - 1) l) true c.write_record.new.disk) frame_is c.in-Ok.ensures.calls,
+    )

@@ -1,4 +1,4 @@
-use Rattle.std.proofs.Common.{rules, ◌≡◌, sym, ◌∙◌, false}
+use Rattle.std.proofs.Common.{rules, ◌≡◌, refl, sym, ◌∙◌, false}
 use Rattle.pv_law_disk.specs.Calls.{none}
 use Rattle.pv_law_journal.proofs.ContentsLemmas.{contents_of-is}
 use Rattle.pv_law_journal.proofs.SizeLemmas.{known_bytes}
@@ -6,7 +6,7 @@ use Rattle.pv_journal.proofs.LogLemmas.{silent}
 use Rattle.pv_journal.proofs.log.JournalLog.read_all.Goals as goal
 
 pub returns-then-self-clause-goes : goal.returns-then-self-clause-goes
-returns-then-self-clause-goes g c = none
+returns-then-self-clause-goes g c = (record { length = refl; limit = refl; down = λ ok. refl }, none)
 
 pub returns-in-Ok-clause-contents : goal.returns-in-Ok-clause-contents
 returns-in-Ok-clause-contents g c held is =
