@@ -1,3 +1,4 @@
+pub mod LineView
 pub mod LinesLeft
 pub mod ScriptErrors
 pub mod CauseTexts
@@ -5,6 +6,5 @@ pub mod ScheduleView
 pub mod LineFaults
 pub mod Keywords
 pub mod Said
-pub mod Stages
 pub mod TakesLine
 pub mod Runnable

@@ -9,16 +9,16 @@ mod line;
 mod lines;
 mod program;
 mod read;
+mod runnable;
 mod said;
 mod schedule;
-mod stages;
 mod words;
 
-pub use line::Line;
+pub use line::{Line, MessageKind};
 pub use lines::MAX_SCHEDULE;
 pub use read::read_schedule;
+pub use runnable::not_built;
 pub use schedule::{Event, LineCause, Schedule, ScriptError};
-pub use stages::not_built;
 
 #[cfg(test)]
 mod tests;

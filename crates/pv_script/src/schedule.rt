@@ -112,8 +112,7 @@ pub enum LineCause {
     QueryAssigns,
     /// A query has no `return`.
     NoReturn,
-    /// The line isn't malformed, but can't be run so far. Where a pump is missing at the end, it is reported at the number after
-    /// the last line.
+    /// The line isn't malformed, but can't be run so far.
     NotBuilt,
 }
 

@@ -371,39 +371,25 @@ fn a_line_has_at_most_1000_bytes(rt: HostRuntime) -> Result<(), Fail> {
 
 #[test]
 fn what_is_not_built_is_reported(rt: HostRuntime) {
-    assert_built(
-        &rt,
-        b"sites 1\nitem a 0 100\nsubmit 0 a := a + 1\npump\nreport\n".as_slice(),
-        None,
-    );
-    assert_built(&rt, b"sites 01".as_slice(), None);
-    assert_built(&rt, b"sites 2\nreport".as_slice(), Some(1));
-    assert_built(&rt, b"sites 1\njournal 64".as_slice(), Some(2));
-    assert_built(
-        &rt,
-        b"sites 1\nitem a 0 1\nquery 0 return a\nreport".as_slice(),
-        Some(4),
-    );
-    assert_built(
-        &rt,
-        b"sites 1\nitem a 0 1\nquery 0 return a\n\npump 1".as_slice(),
-        Some(5),
-    );
-    assert_built(
-        &rt,
-        b"sites 1\nitem a 0 1\nquery 0 return a\n\n".as_slice(),
-        Some(5),
-    );
-    assert_built(&rt, b"sites 1\npump".as_slice(), Some(2));
-}
-
-// Asserts that this is the first line that can't be run so far.
-fn assert_built(rt: &(impl Abort + AllocGlobal), text: &[u8], line: Option<u32>)
-    requires { length text.now ≤ MAX_SCHEDULE }
-{
-    match not_built(rt.alloc(), text) {
-        Ok(found) => assert!(rt; found == line),
-        Err(_) => panic!(rt; "no memory"),
+    for (text, line) in [
+        (
+            b"sites 2\nitem a 0 1\npump\nstop 0\nstart 0\ndrop 1\nreport".as_slice(),
+            None,
+        ),
+        // Words that only begin so, or stand elsewhere, are others.
+        (
+            b"sites 1\n# cut 0 1 lost\nitem cut 0 1\nsubmit 0 cut := 1".as_slice(),
+            None,
+        ),
+        (b"sites 1\n\n cut 0 1 lost\nmend 0".as_slice(), Some(3)),
+        (b"sites 1\nreport\nfail\t0 1 kept".as_slice(), Some(3)),
+        (b"sites 1\r\nmend 0\r\n".as_slice(), Some(2)),
+    ] {
+        assert!(rt; text.len() <= 100);
+        match not_built(rt.alloc(), text) {
+            Ok(found) => assert!(rt; found == line),
+            Err(_) => panic!(rt; "no memory"),
+        }
     }
 }
 
