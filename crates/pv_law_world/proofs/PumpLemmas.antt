@@ -68,9 +68,9 @@ some-weight (Message.ask txn) = omega arith
 -- ---- one delivery
 
 -- The world has its messages marked, and less of them is fresh than this.
-record IsLighter (bound : ℕ) (world : World) : Type 0 where
-  marked : AreMarked world
-  less : enough world < bound
+pub record IsLighter (bound : ℕ) (world : World) : Type 0 where
+  pub marked : AreMarked world
+  pub less : enough world < bound
 
 module _ (setup : Setup) (few : HasFewSites setup.catalog) (world : World) (marked : AreMarked world) where
   module _ (n : ℕ) (envelope : Envelope) (is : get_or world.fresh n false ≡ true) (there : slice_get world.sent n ≡ Some envelope) where
@@ -126,7 +126,7 @@ module _ (setup : Setup) (few : HasFewSites setup.catalog) (world : World) (mark
       (subst (λ (count : ℕ). n < count) (sym marked) place.0, place.1)
 
   -- A delivery of the least fresh message leaves less to deliver.
-  delivery-lighter : (n : ℕ) → next_fresh world ≡ Some n → IsLighter (enough world) (transition_of setup world (deliver n)).world
+  pub delivery-lighter : (n : ℕ) → next_fresh world ≡ Some n → IsLighter (enough world) (transition_of setup world (deliver n)).world
   unfolding transition_of begun
   delivery-lighter n next =
       let place = next-sent n next in

@@ -1,0 +1,32 @@
+use Rattle.std.proofs.Common.{ap, sym, subst, ◌∙◌}
+use Rattle.pv_model.specs.Plan.{plan_of}
+use Rattle.pv_protocol.specs.Attempt.{given}
+use Rattle.pv_protocol.specs.State.{submit}
+use Rattle.pv_protocol.specs.WellFormed.{CanRun}
+use Rattle.pv_protocol.specs.World.{site_at}
+use Rattle.pv_site.specs.SiteState.{setup_of}
+use Rattle.pv_world.proofs.DeliverLemmas.{orderly}
+use Rattle.pv_world.specs.Steps.{Comes}
+use Rattle.pv_world.proofs.world.World.submit.Goals as goal
+
+-- The copies are of the request, and its plan is the one that its program has.
+pub give-requires : goal.give-requires
+give-requires c =
+    let catalog = c.args.self.now.catalog in
+    let stands = c.requires.stands in (
+      stands.0,
+      stands.1.stands,
+      c.requires.site,
+      (
+        subst (CanRun catalog) (sym c.in_ok-copy.ensures) c.requires.runs,
+        c.in_ok-copy-2.ensures ∙ (c.one_plan.ensures _ _ _ c.requires.plan ∙ ap (λ program. plan_of program catalog.items) (sym c.in_ok-copy.ensures)),
+      ),
+    )
+
+pub returns : goal.returns
+returns c is stands =
+    let world = c.args.self.now in
+    let lawful = c.reached_worlds_are_lawful.ensures _ is stands.range stands.reached in
+    subst (λ program. Comes world c.give.new.self c.args.lines.now.items c.give.new.lines.items
+    (given (setup_of world.catalog) is c.args.site.0 (submit program) (site_at is c.args.site.0).running) c.give.result) c.in_ok-copy.ensures
+    (c.give.ensures is stands.stands (orderly world is stands lawful))

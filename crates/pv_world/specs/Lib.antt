@@ -1,0 +1,12 @@
+pub mod Carry
+pub mod Cells
+pub mod Mail
+pub mod MailView
+pub mod OpenWith
+pub mod Places
+pub mod Pumping
+pub mod Reached
+pub mod Readings
+pub mod Stands
+pub mod Steps
+pub mod Taken

@@ -1,0 +1,23 @@
+//! A world of sites in one process: the sites over logs in memory, the messages between them, and the events of a schedule, one after another.
+#![tactic(auto)]
+
+mod cell;
+mod error;
+mod events;
+mod giving;
+mod laws;
+mod lines;
+mod mail;
+mod order;
+mod report;
+mod sent;
+mod total;
+mod world;
+
+pub use error::WorldError;
+pub use world::World;
+
+#[cfg(test)]
+mod mail_tests;
+#[cfg(test)]
+mod report_tests;
