@@ -1,6 +1,7 @@
 -- An input has one answer, and what the words are.
 use Rattle.std.proofs.Common.{◌≡◌, ℕ, ◌≤◌, ◌<◌, List, [], ◌∷◌, length, get_or, Option, Some, None, Result, Ok, Err, OnOk, OnErr, ◌⊎◌, inl, inr, cond, is_ok, refl, sym, ap, ◌∙◌, subst, arith}
 use Rattle.std.specs.Bool.{⊤}
+use Rattle.std.specs.Prelude.{IfOk}
 use Rattle.std.specs.Io.KnownBytes.{Appends}
 use Rattle.std.proofs.lemmas.List.{append-nil}
 use Rattle.pv_base.specs.declared.limits.TheConstants.{MAX_INPUT}
@@ -9,11 +10,13 @@ use Rattle.pv_model.specs.LineCauses.{LineCause}
 use Rattle.pv_model.specs.Events.{Schedule}
 use Rattle.pv_script.specs.Runnable.{not_built}
 use Rattle.pv_model.specs.Schedule.{IsSchedule}
-use Rattle.pv_law_runs.specs.Run.{output_of}
 use Rattle.pv_law_schedules.proofs.OneScheduleLemmas.{one_schedule, one_fault, no_fault}
 use Rattle.pv_app.specs.declared.status.Status.{Status}
-use Rattle.pv_app.specs.declared.status.Status.TheVariants.{Done, Usage, Malformed, WriteFault, TooLong, NoMemory}
-use Rattle.pv_app.specs.InputAnswers.{IsAnswer, IsRefusedAt, GivesUp, GrowsBySome, fault_text}
+use Rattle.pv_app.specs.declared.status.Status.TheVariants.{Done, Usage, Malformed, WriteFault, TooLong, NoMemory, SentLimit}
+use Rattle.pv_app.specs.InputAnswers.{CanBeRun, IsAnswer, IsRefusedAt, GivesUp, GrowsBySome, fault_text, output_of, output_within, status_within, status_of, within_limit}
+use Rattle.pv_app.specs.declared.run.RunEnd.{RunEnd}
+use Rattle.pv_app.specs.declared.run.RunEnd.TheVariants as end
+use Rattle.pv_app.proofs.LimitLemmas.{output-within}
 use Rattle.pv_app.proofs.OutputLemmas.{AppendsPrefix-whole}
 
 -- a list of one element
@@ -43,23 +46,37 @@ one_refusal input number other None (Some reported) a b = absurd (no_fault input
 one_refusal input number other None None a b =
     let same : number ≡ other = let both = sym a.2 ∙ b.2 in cc in ap (λ (n : ℕ). fault_text n None) same
 
+-- A schedule is within the limit, or it is passed.
+both_differ : (one other : Schedule) → one ≡ other → (total : ℕ) → (within_limit one).over ≡ None → (within_limit other).over ≡ Some total → ⊥
+both_differ one other same total within over =
+    let differ : None ≡ Some total = sym within ∙ ap (λ (s : Schedule). (within_limit s).over) same ∙ over in cc
+
 one_status : (input : List ℕ) (one other : Status) (output text : List ℕ) → IsAnswer input one output → IsAnswer input other text → one ≡ other
 one_status input Done Done output text a b = refl
-one_status input Done Malformed output text a b = absurd (no_refused_schedule input a.1 b.1 b.2 a.2 a.3 b.3)
+one_status input Done SentLimit output text a b = absurd (both_differ a.1 b.1 (one_schedule input a.1 b.1 a.2.0 b.2.0) b.3 a.3 b.4)
+one_status input Done Malformed output text a b = absurd (no_refused_schedule input a.1 b.1 b.2 a.2.0 a.2.1 b.3)
 one_status input Done TooLong output text a b = absurd (omega (arith, a.0, b.0))
 one_status input Done _ output text a b = absurd b
-one_status input Malformed Done output text a b = absurd (no_refused_schedule input b.1 a.1 a.2 b.2 b.3 a.3)
+one_status input SentLimit Done output text a b = absurd (both_differ b.1 a.1 (one_schedule input b.1 a.1 b.2.0 a.2.0) a.3 b.3 a.4)
+one_status input SentLimit SentLimit output text a b = refl
+one_status input SentLimit Malformed output text a b = absurd (no_refused_schedule input a.1 b.1 b.2 a.2.0 a.2.1 b.3)
+one_status input SentLimit TooLong output text a b = absurd (omega (arith, a.0, b.0))
+one_status input SentLimit _ output text a b = absurd b
+one_status input Malformed Done output text a b = absurd (no_refused_schedule input b.1 a.1 a.2 b.2.0 b.2.1 a.3)
+one_status input Malformed SentLimit output text a b = absurd (no_refused_schedule input b.1 a.1 a.2 b.2.0 b.2.1 a.3)
 one_status input Malformed Malformed output text a b = refl
 one_status input Malformed TooLong output text a b = absurd (omega (arith, a.0, b.0))
 one_status input Malformed _ output text a b = absurd b
 one_status input TooLong Done output text a b = absurd (omega (arith, a.0, b.0))
+one_status input TooLong SentLimit output text a b = absurd (omega (arith, a.0, b.0))
 one_status input TooLong Malformed output text a b = absurd (omega (arith, a.0, b.0))
 one_status input TooLong TooLong output text a b = refl
 one_status input TooLong _ output text a b = absurd b
 one_status input _ other output text a b = absurd a
 
 one_output : (input : List ℕ) (status : Status) (output text : List ℕ) → IsAnswer input status output → IsAnswer input status text → output ≡ text
-one_output input Done output text a b = a.4 ∙ ap output_of (one_schedule input a.1 b.1 a.2 b.2) ∙ sym b.4
+one_output input Done output text a b = a.4 ∙ ap output_of (one_schedule input a.1 b.1 a.2.0 b.2.0) ∙ sym b.4
+one_output input SentLimit output text a b = a.5 ∙ ap output_within (one_schedule input a.1 b.1 a.2.0 b.2.0) ∙ sym b.5
 one_output input Malformed output text a b = a.4 ∙ one_refusal input a.1 b.1 a.2 b.2 a.3 b.3 ∙ sym b.4
 one_output input TooLong output text a b = a.1 ∙ sym b.1
 one_output input _ output text a b = absurd a
@@ -76,7 +93,7 @@ prefix_of_answer input one other output text old new a written b =
     subst (AppendsPrefix old new) (one_answer input one other output text a b).1 written
 
 -- a run writes a beginning of its output, however it ends
-pub prefix_of_run : {E : Type 0} (r : Result ⊤ E) (old new : Option (List ℕ)) (output : List ℕ)
+pub prefix_of_run : {T E : Type 0} (r : Result T E) (old new : Option (List ℕ)) (output : List ℕ)
     → OnOk r (Appends old new output) → OnErr r (AppendsPrefix old new output) → AppendsPrefix old new output
 prefix_of_run (Ok done) old new output p q = subst (AppendsPrefix old new) (append-nil output) (AppendsPrefix-whole old new output [] p)
 prefix_of_run (Err e) old new output p q = q
@@ -86,21 +103,51 @@ prefix_of_run (Err e) old new output p q = q
 -- At `Done` the input is a schedule that can be run, and its output was written.
 pub schedule_at_done : (input : List ℕ) (status : Status) (old new : Option (List ℕ))
     → status ≡ Done → GivesUp status ⊎ GrowsBySome old new (IsAnswer input status)
-    → (schedule : Schedule) × IsSchedule input schedule × (not_built input ≡ None) × Appends old new (output_of schedule)
+    → (schedule : Schedule) × CanBeRun input schedule × Appends old new (output_of schedule)
 schedule_at_done input status old new is answered =
     done (subst (λ (s : Status). GivesUp s ⊎ GrowsBySome old new (IsAnswer input s)) is answered)
   where
     done : GivesUp Done ⊎ GrowsBySome old new (IsAnswer input Done)
-        → (schedule : Schedule) × IsSchedule input schedule × (not_built input ≡ None) × Appends old new (output_of schedule)
+        → (schedule : Schedule) × CanBeRun input schedule × Appends old new (output_of schedule)
     done (inl gives_up) = absurd gives_up
-    done (inr (output, grown, a)) = (a.1, a.2, a.3, subst (Appends old new) a.4 grown)
+    done (inr (output, grown, a)) = (a.1, a.2, subst (Appends old new) a.4 grown)
 
 -- What was written at `Done` is the output of any schedule that the input is.
 pub output_at_done : (input : List ℕ) (status : Status) (old new : Option (List ℕ)) (schedule : Schedule)
     → GivesUp status ⊎ GrowsBySome old new (IsAnswer input status) → IsSchedule input schedule → status ≡ Done → Appends old new (output_of schedule)
 output_at_done input status old new schedule answered says is =
     let at_done = schedule_at_done input status old new is answered in
-    subst (Appends old new) (ap output_of (one_schedule input at_done.0 schedule at_done.1 says)) at_done.3
+    subst (Appends old new) (ap output_of (one_schedule input at_done.0 schedule at_done.1.0 says)) at_done.2
+
+-- And at `SentLimit` what is printed within the limit.
+pub output_at_limit : (input : List ℕ) (status : Status) (old new : Option (List ℕ)) (schedule : Schedule)
+    → GivesUp status ⊎ GrowsBySome old new (IsAnswer input status) → IsSchedule input schedule → status ≡ SentLimit → Appends old new (output_within schedule)
+output_at_limit input status old new schedule answered says is =
+    at_limit (subst (λ (s : Status). GivesUp s ⊎ GrowsBySome old new (IsAnswer input s)) is answered)
+  where
+    at_limit : GivesUp SentLimit ⊎ GrowsBySome old new (IsAnswer input SentLimit) → Appends old new (output_within schedule)
+    at_limit (inl gives_up) = absurd gives_up
+    at_limit (inr (output, grown, a)) = subst (Appends old new) (a.5 ∙ ap output_within (one_schedule input a.1 schedule a.2.0 says)) grown
+
+-- ---- the answer to a schedule that can be run
+
+-- What has to be written of it, and the status with it.
+pub answer_of_run : (input : List ℕ) (schedule : Schedule) → length input ≤ MAX_INPUT → CanBeRun input schedule
+    → IsAnswer input (status_within (within_limit schedule).over) (output_within schedule)
+answer_of_run input schedule short can = go (within_limit schedule).over refl
+  where
+    go : (over : Option ℕ) → (within_limit schedule).over ≡ over → IsAnswer input (status_within over) (output_within schedule)
+    go None is = (short, schedule, can, is, output-within schedule is)
+    go (Some total) is = (short, schedule, can, total, is, refl)
+
+-- Where a schedule was run, that is the input's answer, or it gave up.
+pub answered_run : (input : List ℕ) (schedule : Schedule) (end : Result (Option ℕ) RunEnd) (old new : Option (List ℕ))
+    → length input ≤ MAX_INPUT → CanBeRun input schedule → IfOk end (λ over. over ≡ (within_limit schedule).over) → OnOk end (Appends old new (output_within schedule))
+    → GivesUp (status_of end) ⊎ GrowsBySome old new (IsAnswer input (status_of end))
+answered_run input schedule (Ok over) old new short can is written =
+    inr (output_within schedule, written, subst (λ (o : Option ℕ). IsAnswer input (status_within o) (output_within schedule)) (sym is) (answer_of_run input schedule short can))
+answered_run input schedule (Err end.WriteFault) old new short can is written = inl tt
+answered_run input schedule (Err end.NoMemory) old new short can is written = inl tt
 
 -- The status is that of the answer, or it gave up.
 pub status_of_answer : (input : List ℕ) (status other : Status) (old new : Option (List ℕ)) (text : List ℕ)

@@ -1,6 +1,6 @@
 pub mod AnswerLemmas
+pub mod BuiltLemmas
+pub mod LimitLemmas
+pub mod LineItems
 pub mod OutputLemmas
-pub mod PrintLemmas
-pub mod ReadyLemmas
-pub mod RowLemmas
 pub mod RunLemmas

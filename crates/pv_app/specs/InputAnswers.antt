@@ -1,10 +1,10 @@
 -- What the program has to answer.
-use Rattle.std.specs.Prelude.{◌≡◌, ◌⊎◌, ℕ, ◌<◌, ◌≤◌, List, [], ◌∷◌, ◌++◌, length, codes, Option, Some, None, Result, Ok, Err, ⊤}
+use Rattle.std.specs.Prelude.{◌≡◌, ◌⊎◌, ℕ, ◌<◌, ◌≤◌, List, [], ◌∷◌, ◌++◌, length, codes, Option, Some, None, Result, Ok, Err}
 use Rattle.std.specs.Io.KnownBytes.{Appends}
-use Rattle.pv_base.specs.declared.limits.TheConstants.{MAX_INPUT}
+use Rattle.pv_base.specs.declared.limits.TheConstants.{MAX_INPUT, MAX_SENT}
 use Rattle.pv_io.specs.declared.sink.Sink.{Ghosts}
 use Rattle.pv_app.specs.declared.status.Status.{Status}
-use Rattle.pv_app.specs.declared.status.Status.TheVariants.{Done, Usage, Malformed, ReadFault, WriteFault, TooLong, NoMemory}
+use Rattle.pv_app.specs.declared.status.Status.TheVariants.{Done, Usage, Malformed, ReadFault, WriteFault, TooLong, NoMemory, SentLimit}
 use Rattle.pv_app.specs.declared.run.RunEnd.{RunEnd}
 use Rattle.pv_app.specs.declared.run.RunEnd.TheVariants as end
 use Rattle.pv_model.specs.LineCauses.{LineCause}
@@ -13,7 +13,11 @@ use Rattle.pv_script.specs.CauseTexts.{refused_text}
 use Rattle.pv_script.specs.Runnable.{not_built}
 use Rattle.pv_model.specs.ReplyText.{line_feed}
 use Rattle.pv_model.specs.Schedule.{IsSchedule, IsMalformedSchedule}
-use Rattle.pv_law_runs.specs.Run.{output_of}
+use Rattle.pv_protocol.specs.Limit.{Output, run_within}
+use Rattle.pv_protocol.specs.LineText.{text_of}
+use Rattle.pv_protocol.specs.Run.{printed}
+use Rattle.pv_protocol.specs.World.{opening}
+use Rattle.pv_site.specs.SiteState.{setup_of}
 
 -- the one command
 abbrev pub IsRun : List (List ℕ) → Type 0
@@ -26,17 +30,37 @@ usage_text = codes "usage: polydb run\n"
 unfoldable pub fault_text : ℕ → Option LineCause → List ℕ
 fault_text number cause = refused_text number cause ++ line_feed
 
+-- the text of all that the run of a schedule prints
+unfoldable pub output_of : Schedule → List ℕ
+output_of schedule = text_of schedule.catalog (printed (setup_of schedule.catalog) schedule.events)
+
+-- what it prints before its messages have more bytes together than they may, and how many they have then, if they do
+unfoldable pub within_limit : Schedule → Output
+within_limit schedule = let setup = setup_of schedule.catalog in run_within MAX_SENT setup (opening setup) schedule.events
+
+-- the text of that
+abbrev pub output_within : Schedule → List ℕ
+output_within schedule = text_of schedule.catalog (within_limit schedule).lines
+
+-- The input is this schedule, and all of it can be run so far.
+abbrev pub CanBeRun : List ℕ → Schedule → Type 0
+CanBeRun input schedule = IsSchedule input schedule × (not_built input ≡ None)
+
 -- An input is refused at the line of this number: it is malformed there, for this cause, or it is a schedule of which this is the first
 -- line that can't be run so far.
 abbrev pub IsRefusedAt : List ℕ → ℕ → Option LineCause → Type 0
 IsRefusedAt input number (Some cause) = IsMalformedSchedule input number cause
 IsRefusedAt input number None = (schedule : Schedule) × IsSchedule input schedule × (not_built input ≡ Some number)
 
--- What `run` has to answer to an input, and the status with it: the output of the schedule that the input is, where it can be run, or
--- the line at which it is refused. A longer input than may be is neither.
+-- What `run` has to answer to an input, and the status with it. Where the input is a schedule that can be run, that is the text of its run;
+-- where the messages of an event pass the limit, the text of the events before. Else it is the line at which the input is refused. A longer
+-- input than may be is none of these.
 abbrev pub IsAnswer : List ℕ → Status → List ℕ → Type 0
 IsAnswer input Done output =
-    (length input ≤ MAX_INPUT) × (schedule : Schedule) × IsSchedule input schedule × (not_built input ≡ None) × (output ≡ output_of schedule)
+    (length input ≤ MAX_INPUT) × (schedule : Schedule) × CanBeRun input schedule × ((within_limit schedule).over ≡ None) × (output ≡ output_of schedule)
+IsAnswer input SentLimit output =
+    (length input ≤ MAX_INPUT) × (schedule : Schedule) × CanBeRun input schedule × (total : ℕ) × ((within_limit schedule).over ≡ Some total)
+    × (output ≡ output_within schedule)
 IsAnswer input Malformed output =
     (length input ≤ MAX_INPUT) × (number : ℕ) × (cause : Option LineCause) × IsRefusedAt input number cause × (output ≡ fault_text number cause)
 IsAnswer input TooLong output = (MAX_INPUT < length input) × (output ≡ [])
@@ -58,9 +82,14 @@ module _ {W : Type 0} (sink : Ghosts W) where
   abbrev pub Answers : List ℕ → Status → W → W → Type 0
   Answers input status old new = GivesUp status ⊎ GrowsBySome (sink.held old) (sink.held new) (IsAnswer input status)
 
+-- the status of a run that wrote all that it had to, by the total that passed the limit
+abbrev pub status_within : Option ℕ → Status
+status_within None = Done
+status_within (Some total) = SentLimit
+
 -- the status of a run
-abbrev pub status_of : Result ⊤ RunEnd → Status
-status_of (Ok done) = Done
+abbrev pub status_of : Result (Option ℕ) RunEnd → Status
+status_of (Ok over) = status_within over
 status_of (Err end.WriteFault) = WriteFault
 status_of (Err end.NoMemory) = NoMemory
 
@@ -73,3 +102,4 @@ exit_code ReadFault = 4
 exit_code WriteFault = 5
 exit_code TooLong = 6
 exit_code NoMemory = 7
+exit_code SentLimit = 8

@@ -1,4 +1,3 @@
+pub mod Headline
 pub mod InputAnswers
-pub mod Ready
 pub mod RunEndView
-pub mod OneSiteCode

@@ -1,20 +1,23 @@
 // The top call: from the words and the input's bytes to the output's bytes and a status.
-ghost use Rattle.std.specs.Prelude.{◌≡◌, ◌≢◌, ℕ, ◌≤◌, ◌⊎◌, ◌↔◌, List, [], Some, None, IsTrue, is_ok, length, map, vec_len, if◌then◌else◌};
+ghost use Rattle.std.specs.Prelude.{◌≡◌, ◌≢◌, ℕ, ◌≤◌, ◌⊎◌, ◌↔◌, All, List, [], Some, IsTrue, is_ok, length, map, if◌then◌else◌};
 ghost use Rattle.std.specs.String.{string_bytes};
 ghost use Rattle.pv_base.specs.Fault.{Rose};
 ghost use Rattle.pv_io.specs.SinkEffects.{HasFailed, Writes, WritesNothing, WritesPrefix};
 ghost use Rattle.pv_model.specs.Events as model;
-ghost use Rattle.pv_script.specs.Runnable.{not_built};
-ghost use Rattle.pv_law_runs.specs.Run.{Agrees, RepliesAgree, output_of};
 ghost use Rattle.pv_model.specs.Schedule.{IsSchedule};
 ghost use Rattle.pv_script.specs.ScriptErrors.{line_cause_of};
-ghost use Rattle.pv_script.specs.ScheduleView.{schedule_of};
-ghost use Rattle.pv_app.specs.InputAnswers.{Answers, IsRun, IsAnswer, GivesUp, status_of, usage_text, fault_text};
+ghost use Rattle.pv_script.specs.ScheduleView.{HasPlan, schedule_of};
+ghost use Rattle.pv_site.specs.SiteState.{setup_of};
+ghost use Rattle.pv_app.specs.Headline.{KeepsPromises};
+ghost use Rattle.pv_app.specs.InputAnswers.{Answers, CanBeRun, IsRun, IsAnswer, GivesUp, output_of, output_within, status_of, usage_text, fault_text};
 
 use crate::run::{RunEnd, run};
 use crate::status::Status;
 use pv_base::{Failed, MAX_INPUT};
 use pv_io::{ReadEnd, Sink, Source, read_all, write_all};
+use pv_law_answers::{committed_fit, reports_show_each_readable, texts_agree, texts_answer};
+use pv_law_refusals::texts_refuse_for_causes;
+use pv_law_world::schedules_are_well_formed;
 use pv_script::{LineCause, Schedule, ScriptError, not_built, read_schedule};
 use std::alloc::Global;
 
@@ -22,25 +25,28 @@ const USAGE: &[u8] = b"usage: polydb run\n";
 
 /// The program, over any input and output. `words` are those after the program's name.
 ///
-/// `run` reads a schedule from the source to its end, runs it, and writes each event's lines when the event is done.
+/// `run` reads a schedule from the source to its end, runs it, and writes each event's lines when the event is done. The status says how it
+/// ended. After [`Status::WriteFault`] and [`Status::NoMemory`] the sink has taken a beginning of what was to be written. Takes time in proportion
+/// to the input, what is printed and what the events send and touch.
 pub fn polydb<R: Source, W: Sink>(
     alloc: Global,
     words: &[String],
     source: &mut R,
     sink: &mut W,
 ) -> Status
-    // The headline. At `Done` the whole input was read, it is a schedule that can be run, and exactly what that prints was written.
+    // At `Done` the whole input was read, it is a schedule that can be run, and exactly what that prints was written.
     ensures done { result ≡ Status.Done → (input : List ℕ) → R.left source.old ≡ Some input →
-        (R.left source.new ≡ Some []) × (schedule : model.Schedule) × IsSchedule input schedule × (not_built input ≡ None)
+        (R.left source.new ≡ Some []) × (schedule : model.Schedule) × CanBeRun input schedule
         × Writes W.Sink sink.old sink.new (output_of schedule) }
 
-    // Of a schedule that can be run, what was written is a beginning, at `Done` the whole, of an output in which each report is that
-    // of the serial run of exactly the transactions before it, and each reply that of the serial run of those up to its own.
+    // The headline. Of a schedule that can be run, what was written is a beginning of exactly what its run prints, at `Done` the whole, and at
+    // `SentLimit` all up to the event in which the messages pass the limit; and that run keeps the promises.
     ensures agreement { IsRun (map string_bytes words.now) → (input : List ℕ) → R.left source.old ≡ Some input →
-        (schedule : model.Schedule) → IsSchedule input schedule → not_built input ≡ None →
-        (output : List ℕ) × Agrees schedule output × RepliesAgree schedule output
-        × WritesPrefix W.Sink sink.old sink.new output
-        × (result ≡ Status.Done → Writes W.Sink sink.old sink.new output) }
+        (schedule : model.Schedule) → CanBeRun input schedule →
+        KeepsPromises (setup_of schedule.catalog) schedule.events
+        × WritesPrefix W.Sink sink.old sink.new (output_of schedule)
+        × (result ≡ Status.Done → Writes W.Sink sink.old sink.new (output_of schedule))
+        × (result ≡ Status.SentLimit → Writes W.Sink sink.old sink.new (output_within schedule)) }
 
     // Words that aren't the one command are answered by the usage line, and no others are. Nothing is read then.
     ensures usage { result ≡ Status.Usage → (IsRun (map string_bytes words.now) → ⊥)
@@ -68,6 +74,7 @@ pub fn polydb<R: Source, W: Sink>(
     if !is_run(words) {
         return status_of_write(write_all(sink, USAGE), Status::Usage);
     }
+    promises_are_kept();
     match read_all(alloc, source, MAX_INPUT) {
         Ok(input) => answer(alloc, &input, sink),
         Err(ReadEnd::Failed) => Status::ReadFault,
@@ -107,7 +114,7 @@ fn answer<W: Sink>(alloc: Global, input: &[u8], sink: &mut W) -> Status
 fn run_built<W: Sink>(alloc: Global, input: &[u8], schedule: &Schedule, sink: &mut W) -> Status
     requires short { length input.now ≤ MAX_INPUT }
     requires schedule { IsSchedule input.now (schedule_of schedule.now) }
-    requires few { vec_len schedule.now.events ≤ length input.now }
+    requires plans { All (HasPlan schedule.now.catalog) schedule.now.events.items }
     ensures answered { Answers W.Sink input.now result sink.old sink.new }
     ensures prefix { (status : Status) (output : List ℕ) → IsAnswer input.now status output →
         WritesPrefix W.Sink sink.old sink.new output }
@@ -115,6 +122,7 @@ fn run_built<W: Sink>(alloc: Global, input: &[u8], schedule: &Schedule, sink: &m
     ensures too_long { result ≢ Status.TooLong }
     ensures write_fault { result ≡ Status.WriteFault → HasFailed W.Sink sink.old sink.new }
 {
+    schedules_are_well_formed();
     match not_built(alloc, input) {
         Ok(None) => status_of_run(run(alloc, schedule, sink)),
         Ok(Some(line)) => refuse(alloc, line, LineCause::NotBuilt, sink),
@@ -148,12 +156,25 @@ fn status_of_write(written: Result<(), Failed>, status: Status) -> Status
 }
 
 // The status of a run that ended so.
-fn status_of_run(end: Result<(), RunEnd>) -> Status
+fn status_of_run(end: Result<Option<u64>, RunEnd>) -> Status
     ensures { result ≡ status_of end }
 {
     match end {
-        Ok(()) => Status::Done,
+        Ok(None) => Status::Done,
+        Ok(Some(_)) => Status::SentLimit,
         Err(RunEnd::WriteFault) => Status::WriteFault,
         Err(RunEnd::NoMemory) => Status::NoMemory,
     }
+}
+
+// What the laws say of the run of every schedule's text.
+fn promises_are_kept()
+    ensures { (input : List ℕ) (schedule : model.Schedule) → IsSchedule input schedule → KeepsPromises (setup_of schedule.catalog) schedule.events }
+{
+    committed_fit();
+    reports_show_each_readable();
+    schedules_are_well_formed();
+    texts_agree();
+    texts_answer();
+    texts_refuse_for_causes();
 }

@@ -2,8 +2,6 @@
 #![tactic(auto)]
 
 mod app;
-mod one_site;
-mod print;
 mod run;
 mod status;
 
@@ -42,3 +40,5 @@ fn words_of<R: Env + AllocGlobal>(rt: &R) -> io::Result<Vec<String>> {
 
 #[cfg(test)]
 mod tests;
+#[cfg(test)]
+mod worked_runs;

@@ -18,6 +18,8 @@ pub enum Status {
     TooLong = 6,
     /// There was no memory. A beginning of the text was written.
     NoMemory = 7,
+    /// The messages of a run have more bytes together than they may. The text of the events before the one in which they do was written.
+    SentLimit = 8,
 }
 
 impl Status {

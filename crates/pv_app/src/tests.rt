@@ -1,5 +1,6 @@
-// The worked examples end to end, and each way to end but for lack of memory.
+// The worked examples end to end, and each way to end but for lack of memory and of too many bytes of messages.
 use super::*;
+use crate::worked_runs::RUNS;
 use pv_io::{MemSink, MemSource};
 use std::alloc::{AllocError, Global};
 use std::test::Fail;
@@ -89,24 +90,19 @@ fn each_text_has_its_answer(rt: HostRuntime) -> Result<(), Fail> {
         ("sites 1\n", Status::Done, ""),
         ("", Status::Malformed, "line 1: sites expected\n"),
         (
-            "sites 1\nitem a 0 1\nsubmit 0 a := c + 1\npump\n",
+            "sites 1\nitem a 0 1\nsubmit 0 a := c\n",
             Status::Malformed,
             "line 3: unknown name column 6\n",
         ),
-        // a line that can't be run yet, at the end and in the middle
+        // a line that can't be run yet
         (
-            "sites 1\nitem a 0 1\nsubmit 0 a := a + 1\n",
+            "sites 1\nitem a 0 1\nstop 0\ncut 0 1 lost\nmend 0\n",
             Status::Malformed,
             "line 4: not built\n",
         ),
-        (
-            "sites 1\nitem a 0 1\nstop 0\nreport\n",
-            Status::Malformed,
-            "line 3: not built\n",
-        ),
         // A malformed line is named before one that only can't be run yet.
         (
-            "sites 2\nitem a 0 1\nnothing\n",
+            "sites 1\nfail 0 1 kept\nnothing\n",
             Status::Malformed,
             "line 3: unknown word\n",
         ),
@@ -114,6 +110,17 @@ fn each_text_has_its_answer(rt: HostRuntime) -> Result<(), Fail> {
         let (answered, written) = call(alloc, &["run"], input.as_bytes(), &[], &[])?;
         assert_eq!(rt; answered, status, "at {input}");
         assert_eq!(rt; written.as_slice(), output.as_bytes(), "at {input}");
+    }
+    Ok(())
+}
+
+#[test]
+fn each_run_of_many_sites_prints_its_lines(rt: HostRuntime) -> Result<(), Fail> {
+    let alloc = rt.alloc();
+    for (schedule, output) in RUNS {
+        let (status, written) = call(alloc, &["run"], schedule.as_bytes(), &[], &[])?;
+        assert_eq!(rt; status, Status::Done, "at {schedule}");
+        assert_eq!(rt; written.as_slice(), output.as_bytes(), "at {schedule}");
     }
     Ok(())
 }

@@ -1,0 +1,239 @@
+-- The lines of a run name only items of its catalog.
+use Rattle.std.proofs.Common.{◌≡◌, ℕ, ℤ, zero, suc, ◌+◌, ◌≤◌, ◌<◌, Bool, true, false, Some, None, Option, All, List, [], ◌∷◌, ◌++◌, filter, length, refl, arith}
+use Rattle.std.specs.Prelude.{nat_lt, not, ◌||◌, ◌&&◌, ◌==◌, if◌then◌else◌, slice_get}
+use Rattle.std.specs.List.{Contains, flat_map, list_any}
+use Rattle.std.proofs.lemmas.Bool.{eqb-true}
+use Rattle.std.proofs.lemmas.List.Elements.{All-append, All-cons, All-map, All-nil}
+use Rattle.pv_base.specs.Catalog.{Item}
+use Rattle.pv_base.specs.Named.{names_of}
+use Rattle.pv_base.specs.Polyvalue.{Case}
+use Rattle.pv_base.specs.Want.{Want}
+use Rattle.pv_base.specs.declared.txn.TxnId.{TxnId}
+use Rattle.pv_format.specs.Message.{Envelope, grant_lost, journal_full, txn_of}
+use Rattle.pv_law_answers.proofs.RefusalNotes.{Refuses, by_width, by_denial, by_room, by_vote, by_time, refusal-noted}
+use Rattle.pv_law_step.proofs.Lists.{all-from}
+use Rattle.pv_model.specs.Check.{names_item}
+use Rattle.pv_model.specs.Events.{Event}
+use Rattle.pv_model.specs.Plan.{want_of, wants_from}
+use Rattle.pv_model.specs.PossibleAnswers.{sums}
+use Rattle.pv_model.specs.Syntax.{Program}
+use Rattle.pv_protocol.specs.Arms.{broken_line, Reached, waits, fires, reached, calls_of, attempted}
+use Rattle.pv_protocol.specs.Attempt.{Attempt, Begun, begun, given, delivered, lost, halted, opened, of_start, of_step}
+use Rattle.pv_protocol.specs.Committed.{is_committed, is_open}
+use Rattle.pv_protocol.specs.Granted.{asked_of, is_unawaited, is_wanted}
+use Rattle.pv_format.specs.Record.{Record}
+use Rattle.pv_protocol.specs.Here.{Here}
+use Rattle.pv_protocol.specs.Lines.{Line, kind_of, line_of, lines_of}
+use Rattle.pv_protocol.specs.Pump.{deliveries, next_fresh, enough, with_fresh}
+use Rattle.pv_protocol.specs.Report.{Reading, cases, locked, down, item_line, item_lines, readings_from, reading_of, total_from, total_of, report_of, sent_from, sent_lines, readings, txns_in_order}
+use Rattle.pv_protocol.specs.Run.{transitions_of, lines_of_transitions}
+use Rattle.pv_protocol.specs.Start.{Started, starts, too_long, no_epoch, site_start}
+use Rattle.pv_protocol.specs.State.{Setup, Running, Input, submit, receive, tick, Note, began, committed, refused, full, spent, Cause}
+use Rattle.pv_protocol.specs.Step.{site_step, step_on}
+use Rattle.pv_protocol.specs.World.{World, site_at, with_done}
+use Rattle.pv_protocol.specs.WorldStep.{transition_of, ended}
+use Rattle.pv_report.specs.NamesOnlyItems.{CauseNamesOnlyItems, NamesOnlyItems}
+
+-- What a coordinator asks of a site are items of the catalog.
+
+wanted-here : (item k n : ℕ) (rest : List Want) (first : Bool) → (k == item) ≡ first → (first || list_any (λ (want : Want). want.item == item) rest) ≡ true
+    → (list_any (λ (want : Want). want.item == item) rest ≡ true → item < k + suc n) → item < k + suc n
+wanted-here item k n rest true is wanted behind = let same = eqb-true k item is in omega (arith, same)
+wanted-here item k n rest false is wanted behind = behind wanted
+
+wanted-either : (program : Program) (item k n : ℕ) (rest : List Want) (b : Bool) → list_any (λ (want : Want). want.item == item) (if b then want_of program k ∷ rest else rest) ≡ true
+    → (list_any (λ (want : Want). want.item == item) rest ≡ true → item < k + suc n) → item < k + suc n
+wanted-either program item k n rest true wanted behind = wanted-here item k n rest (k == item) refl wanted behind
+wanted-either program item k n rest false wanted behind = behind wanted
+
+wanted-below : (program : Program) (site item k : ℕ) (items : List Item) → list_any (λ (want : Want). want.item == item) (wants_from program site k items) ≡ true → item < k + length items
+wanted-below program site item k [] wanted = let wrong : ⊥ = cc in absurd wrong
+wanted-below program site item k (declared ∷ items) wanted =
+    wanted-either program item k (length items) (wants_from program site (k + 1) items) (declared.site == site && names_item program k) wanted
+    (λ more. let below = wanted-below program site item (k + 1) items more in omega (arith, below))
+
+wanted-of-two : (unawaited wanted : Bool) → (unawaited || not wanted) ≡ false → wanted ≡ true
+wanted-of-two true wanted is = let wrong : ⊥ = cc in absurd wrong
+wanted-of-two false true is = refl
+wanted-of-two false false is = let wrong : ⊥ = cc in absurd wrong
+
+-- A refusal that a step notes names an item of the catalog, if it names one.
+refusal-fine : (here : Here) (t : TxnId) (input : Input) (cause : Cause) → Refuses here t input cause → CauseNamesOnlyItems here.setup.catalog cause
+refusal-fine here t _ _ (by_width from asked grant values entry last own wide is) = tt
+refusal-fine here t _ _ (by_denial from asked item holder entry found own heard is) =
+    let below = wanted-below entry.program from item 0 here.setup.catalog.items (wanted-of-two (is_unawaited here entry from) (is_wanted (asked_of here entry from) item) heard) in
+    omega (arith, below)
+refusal-fine here t _ _ (by_room from asked entry vote own crowded is) = tt
+refusal-fine here t _ _ (by_vote from asked grant_lost entry vote own is) = tt
+refusal-fine here t _ _ (by_vote from asked (journal_full bytes) entry vote own is) = tt
+refusal-fine here t _ _ (by_time late expired own) = tt
+
+note-fine : (here : Here) (input : Input) (n : ℕ) (note : Note) → Contains (step_on here input).notes note → NamesOnlyItems here.setup.catalog (line_of n note)
+note-fine here input n (began t) noted = tt
+note-fine here input n (committed t replies) noted = tt
+note-fine here input n (refused t cause) noted = refusal-fine here t input cause (refusal-noted here t cause input noted)
+note-fine here input n (full bytes) noted = tt
+note-fine here input n spent noted = tt
+
+module _ (setup : Setup) where
+  abbrev Fine : Line → Type 0
+  Fine line = NamesOnlyItems setup.catalog line
+
+  fine-one : (line : Line) → Fine line → All Fine (line ∷ [])
+  fine-one line is = All-cons Fine line [] is (All-nil Fine)
+
+  step-fine : (n : ℕ) (records : List Record) (running : Running) (input : Input) → All Fine (lines_of n (site_step setup n records running input).notes)
+  step-fine n records running input =
+      let here : Here = record { me = n; setup = setup; records = records; running = running } in
+      All-map Fine (line_of n) (step_on here input).notes (all-from (λ note. Fine (line_of n note)) (step_on here input).notes (note-fine here input n))
+
+  -- Reports, totals and lists of messages.
+
+  item-fine : (n : ℕ) (reading : Reading) → n < length setup.catalog.items → Fine (item_line n reading)
+  item-fine n (cases value) below = below
+  item-fine n (locked holder) below = below
+  item-fine n (down site) below = below
+
+  items-fine : (world : World) (n : ℕ) (items : List Item) → n + length items ≤ length setup.catalog.items → All Fine (item_lines n (readings_from setup world n items))
+  items-fine world n [] within = All-nil Fine
+  items-fine world n (item ∷ items) within =
+      All-cons Fine (item_line n (reading_of setup world n item)) (item_lines (n + 1) (readings_from setup world (n + 1) items))
+      (item-fine n (reading_of setup world n item) (omega (arith, within))) (items-fine world (n + 1) items (omega (arith, within)))
+
+  three-fine : (ordered done open_ones : List TxnId) (rest : List Line) → All Fine rest → All Fine (Line.order ordered ∷ (Line.committed done ∷ (Line.open_ones open_ones ∷ rest)))
+  three-fine ordered done open_ones rest are =
+      All-cons Fine (Line.order ordered) (Line.committed done ∷ (Line.open_ones open_ones ∷ rest)) tt
+      (All-cons Fine (Line.committed done) (Line.open_ones open_ones ∷ rest) tt (All-cons Fine (Line.open_ones open_ones) rest tt are))
+
+  report-fine : (world : World) → All Fine (report_of setup world)
+  unfolding report_of
+  report-fine world =
+      three-fine (txns_in_order world.order) (txns_in_order (filter (λ placed. is_committed world placed.txn) world.order)) (txns_in_order (filter (is_open world) world.order))
+      (item_lines 0 (readings setup world) ++ Line.end ∷ [])
+      (All-append Fine (item_lines 0 (readings setup world)) (Line.end ∷ []) (items-fine world 0 setup.catalog.items (omega arith)) (fine-one Line.end tt))
+
+  within-fine : (values : List (List (Case ℤ))) (names : List TxnId) (b : Bool) → Fine (if b then Line.total_limit (length names) else Line.total (sums values names))
+  within-fine values names true = tt
+  within-fine values names false = tt
+
+  total-reading : (limit : ℕ) (world : World) (values : List (List (Case ℤ))) (n : ℕ) (item : Item) (items : List Item) (reading : Reading)
+      → ((now : List (List (Case ℤ))) → Fine (total_from limit now (n + 1) (readings_from setup world (n + 1) items)))
+      → n < length setup.catalog.items → Fine (total_from limit values n (reading ∷ readings_from setup world (n + 1) items))
+  total-reading limit world values n item items (cases value) behind below = behind (values ++ value ∷ [])
+  total-reading limit world values n item items (locked holder) behind below = below
+  total-reading limit world values n item items (down site) behind below = tt
+
+  total-fine : (limit : ℕ) (world : World) (values : List (List (Case ℤ))) (n : ℕ) (items : List Item) → n + length items ≤ length setup.catalog.items
+      → Fine (total_from limit values n (readings_from setup world n items))
+  total-fine limit world values n [] within =
+      let names = names_of (flat_map (λ value. value) values) in within-fine values names (nat_lt limit (length names))
+  total-fine limit world values n (item ∷ items) within =
+      total-reading limit world values n item items (reading_of setup world n item) (λ now. total-fine limit world now (n + 1) items (omega (arith, within))) (omega (arith, within))
+
+  totals-fine : (world : World) → All Fine (total_of setup world)
+  unfolding total_of
+  totals-fine world = fine-one (total_from setup.held_names [] 0 (readings setup world)) (total-fine setup.held_names world [] 0 setup.catalog.items (omega arith))
+
+  sent-fine : (n : ℕ) (sent : List Envelope) → All Fine (sent_from n sent)
+  sent-fine n [] = All-nil Fine
+  sent-fine n (envelope ∷ sent) =
+      All-cons Fine (Line.sent n envelope.from envelope.to (kind_of envelope.message) (txn_of envelope.message)) (sent_from (n + 1) sent) tt (sent-fine (n + 1) sent)
+
+  sents-fine : (world : World) → All Fine (sent_lines world)
+  unfolding sent_lines
+  sents-fine world = sent-fine 0 world.sent
+
+  -- What is begun ends with such lines.
+
+  start-fine : (n : ℕ) (started : Started) → All Fine (of_start n started).lines
+  start-fine n (starts running epoch) = fine-one (Line.started n running.epoch) tt
+  start-fine n (too_long bytes) = fine-one (Line.full n bytes) tt
+  start-fine n no_epoch = fine-one (Line.spent n) tt
+
+  broken-fine : (n : ℕ) (stops : Bool) → All Fine (broken_line n stops ∷ [])
+  broken-fine n true = fine-one (Line.stopped n) tt
+  broken-fine n false = fine-one (Line.fault n) tt
+
+  attempted-fine : (world : World) (n : ℕ) (attempt : Attempt) (left : Reached) → All Fine attempt.lines → All Fine (attempted world n attempt left).0
+  attempted-fine world n attempt (waits arm) are = are
+  attempted-fine world n attempt (fires arm) are = broken-fine n arm.stops
+
+  abbrev EndsFine : Begun → Type 0
+  EndsFine now = All Fine (ended now).0
+
+  given-fine : (world : World) (n : ℕ) (input : Input) (running : Option Running) → EndsFine (given setup world n input running)
+  given-fine world n input None = fine-one (Line.down n) tt
+  given-fine world n input (Some running) =
+      let attempt = of_step n (site_step setup n (site_at world n).records running input) in
+      attempted-fine world n attempt (reached (calls_of attempt) (site_at world n).arm) (step-fine n (site_at world n).records running input)
+
+  delivered-fine : (world : World) (n : ℕ) (envelope : Option Envelope) → EndsFine (delivered setup world n envelope)
+  delivered-fine world n None = fine-one (Line.no_message n) tt
+  delivered-fine world n (Some envelope) = given-fine (with_done world n) envelope.to (receive envelope.from envelope.message) (site_at world envelope.to).running
+
+  lost-fine : (world : World) (n : ℕ) (envelope : Option Envelope) → EndsFine (lost world n envelope)
+  lost-fine world n None = fine-one (Line.no_message n) tt
+  lost-fine world n (Some envelope) = All-nil Fine
+
+  halted-fine : (world : World) (n : ℕ) (running : Option Running) → EndsFine (halted world n running)
+  halted-fine world n None = fine-one (Line.down n) tt
+  halted-fine world n (Some running) = fine-one (Line.stopped n) tt
+
+  opened-fine : (world : World) (n : ℕ) (running : Option Running) → EndsFine (opened setup world n running)
+  opened-fine world n (Some running) = fine-one (Line.up n) tt
+  opened-fine world n None =
+      let attempt = of_start n (site_start setup (site_at world n).records) in
+      attempted-fine world n attempt (reached (calls_of attempt) (site_at world n).arm) (start-fine n (site_start setup (site_at world n).records))
+
+  begun-fine : (world : World) (event : Event) → EndsFine (begun setup world event)
+  unfolding begun
+  begun-fine world (Event.submit n query text program) = given-fine world n (submit program) (site_at world n).running
+  begun-fine world (Event.deliver n) = delivered-fine world n (slice_get world.sent n)
+  begun-fine world (Event.pump most) = All-nil Fine
+  begun-fine world (Event.lose n) = lost-fine world n (slice_get world.sent n)
+  begun-fine world (Event.drop n) = All-nil Fine
+  begun-fine world (Event.tick n) = given-fine world n tick (site_at world n).running
+  begun-fine world (Event.stop n) = halted-fine world n (site_at world n).running
+  begun-fine world (Event.start n) = opened-fine world n (site_at world n).running
+  begun-fine world (Event.arm n call mode stops) = All-nil Fine
+  begun-fine world (Event.mend n) = All-nil Fine
+  begun-fine world Event.sent = sents-fine world
+  begun-fine world Event.report = report-fine world
+  begun-fine world Event.total = totals-fine world
+
+  transition-fine : (world : World) (event : Event) → All Fine (transition_of setup world event).lines
+  unfolding transition_of
+  transition-fine world event = begun-fine world event
+
+  -- A pump's deliveries print such lines, and so does every event.
+
+  next-fine : (more : ℕ) (world : World) (next : Option ℕ) → ((now : World) → All Fine (lines_of_transitions (deliveries more setup now)))
+      → All Fine (lines_of_transitions (with_fresh next (λ n. let transition = transition_of setup world (Event.deliver n) in transition ∷ deliveries more setup transition.world)))
+  next-fine more world None behind = All-nil Fine
+  next-fine more world (Some n) behind =
+      let transition = transition_of setup world (Event.deliver n) in
+      All-append Fine transition.lines (lines_of_transitions (deliveries more setup transition.world)) (transition-fine world (Event.deliver n)) (behind transition.world)
+
+  deliveries-fine : (most : ℕ) (world : World) → All Fine (lines_of_transitions (deliveries most setup world))
+  deliveries-fine zero world = All-nil Fine
+  deliveries-fine (suc more) world = next-fine more world (next_fresh world) (deliveries-fine more)
+
+  one-fine : (world : World) (event : Event) → All Fine (lines_of_transitions (transition_of setup world event ∷ []))
+  one-fine world event = All-append Fine (transition_of setup world event).lines [] (transition-fine world event) (All-nil Fine)
+
+  pub lines-name-items : (world : World) (event : Event) → All (NamesOnlyItems setup.catalog) (lines_of_transitions (transitions_of setup world event))
+  unfolding transitions_of
+  lines-name-items world (Event.pump None) = deliveries-fine (enough world) world
+  lines-name-items world (Event.pump (Some most)) = deliveries-fine most world
+  lines-name-items world (Event.submit n query text program) = one-fine world (Event.submit n query text program)
+  lines-name-items world (Event.deliver n) = one-fine world (Event.deliver n)
+  lines-name-items world (Event.lose n) = one-fine world (Event.lose n)
+  lines-name-items world (Event.drop n) = one-fine world (Event.drop n)
+  lines-name-items world (Event.tick n) = one-fine world (Event.tick n)
+  lines-name-items world (Event.stop n) = one-fine world (Event.stop n)
+  lines-name-items world (Event.start n) = one-fine world (Event.start n)
+  lines-name-items world (Event.arm n call mode stops) = one-fine world (Event.arm n call mode stops)
+  lines-name-items world (Event.mend n) = one-fine world (Event.mend n)
+  lines-name-items world Event.sent = one-fine world Event.sent
+  lines-name-items world Event.report = one-fine world Event.report
+  lines-name-items world Event.total = one-fine world Event.total
