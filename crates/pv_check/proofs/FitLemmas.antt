@@ -1,10 +1,10 @@
 -- Parts that pass the tests are the plan of the program, and the plan passes them.
 use Rattle.std.proofs.Common.{◌≡◌, ◌⊎◌, inl, inr, ⊎_elim, refl, sym, ap, subst, ◌∙◌, ℕ, zero, suc, ◌+◌, ◌<◌, ◌≤◌, ◌-◌, Bool, true, false, List, [], ◌∷◌, ◌++◌, map, length, Option, Some, None, slice_index_or, arith}
-use Rattle.std.specs.Prelude.{All, IsTrue, is_some, not, ◌==◌, ◌&&◌, ◌||◌, nat_lt, slice_get, if◌then◌else◌}
+use Rattle.std.specs.Prelude.{IsTrue, is_some, not, ◌==◌, ◌&&◌, ◌||◌, nat_lt, if◌then◌else◌}
 use Rattle.std.specs.Bool.{beq, Decides}
 use Rattle.std.specs.Cmp.{booleans_Decides}
 use Rattle.std.specs.Cmp.Lexicographic.{pointwise, pointwise_decides}
-use Rattle.std.specs.List.{AllPairs, Any, Contains, cons_option, list_any}
+use Rattle.std.specs.List.{AllPairs, Contains, cons_option}
 use Rattle.std.proofs.lemmas.Bool.{and_from, and_parts, eq-eqb, eqb-false, eqb-true, false≢true, lt-ltb, ltb-true, true≢false}
 use Rattle.std.proofs.lemmas.Bool.Decides.{nat_tests}
 use Rattle.std.proofs.lemmas.List.{append_assoc, length-append}
@@ -13,16 +13,15 @@ use Rattle.pv_base.specs.Catalog.{Item}
 use Rattle.pv_base.specs.Want.{Want}
 use Rattle.pv_base.proofs.Basics.{Some_inj}
 use Rattle.pv_base.proofs.ContainsLemmas.{Contains-behind, Contains-cases, Contains-first, Contains-nil}
-use Rattle.pv_base.proofs.MapLemmas.{Contains-map, Contains-unmap, map-map, map-same}
-use Rattle.pv_base.proofs.OrderLemmas.{one-ascending_by, pairs-cons, pairs-first, pairs-map, pairs-nil, pairs-tail}
+use Rattle.pv_base.proofs.MapLemmas.{Contains-map, Contains-unmap}
+use Rattle.pv_base.proofs.OrderLemmas.{one-ascending_by, pairs-cons, pairs-first, pairs-nil, pairs-tail}
 use Rattle.pv_check.specs.Fits.{are_covered, are_own_parts, has_part, home_of, is_own_part, is_same_want, names_below, reads_below, wanted_at, wants_between}
-use Rattle.pv_check.specs.Marks.{AreMarks, is_exclusive, is_named, mark_at}
-use Rattle.pv_check.specs.Wants.{is_home_site, marked_want}
+use Rattle.pv_check.specs.Marks.{AreMarks, is_named, mark_at}
+use Rattle.pv_check.specs.Wants.{marked_want}
 use Rattle.pv_check.specs.declared.marks.Mark.{Mark}
 use Rattle.pv_law_programs.proofs.PlanLemmas.{at-some, sites-ascend, sites-have, sites-known, wants-each, wants-have}
 use Rattle.pv_model.specs.Check.{IsAt, Part, names_item, reads}
 use Rattle.pv_model.specs.Plan.{part_of, participants_of, plan_of, want_of, wants_from, wants_of}
-use Rattle.pv_model.specs.ProgramLaws.{assigns}
 use Rattle.pv_model.specs.Syntax.{Expr, number, item, minus, negation, two, Program, end, assign, require, return, when, when_else}
 
 or-left : (x y : Bool) → x ≡ true → (x || y) ≡ true

@@ -1,9 +1,9 @@
 -- The marks that a program leaves say what it names and what it assigns.
-use Rattle.std.proofs.Common.{◌≡◌, ⊎_elim, ℕ, ◌<◌, ◌≤◌, Bool, true, false, List, length, slice_set, replicate, refl, sym, ap, ◌∙◌, arith}
+use Rattle.std.proofs.Common.{◌≡◌, ⊎_elim, ℕ, ◌<◌, ◌≤◌, Bool, true, false, List, length, take, slice_set, replicate, refl, sym, ap, ◌∙◌, arith}
 use Rattle.std.specs.Prelude.{◌||◌, ◌==◌, IsTrue}
 use Rattle.std.proofs.lemmas.Bool.{cases_eq, cases_lt, eq-eqb, ne_eqb, false_from_ne_true}
 use Rattle.std.proofs.Math.Bool.{or_assoc, or_comm}
-use Rattle.std.proofs.lemmas.List.{length-set, length-replicate, get_or-set_same, get_or-set_other, get_or-replicate, get_or_past}
+use Rattle.std.proofs.lemmas.List.{length-set, length-replicate, length-take, get_or-set_same, get_or-set_other, get_or-replicate, get_or-take, get_or_past}
 use Rattle.pv_model.specs.Syntax.{Expr, number, item, minus, negation, two, Program, end, assign, require, return, when, when_else}
 use Rattle.pv_model.specs.ProgramLaws.{assigns}
 use Rattle.pv_model.specs.Check.{reads, names_item}
@@ -236,4 +236,24 @@ AreMarks-fresh program count known = record {
       (λ past. named-past program count n past (known n))
       (cases_lt n count);
   exclusive = λ n named. exclusive-fresh program count n (known n named);
+}
+
+-- The first marks of a table, as many as there are items.
+
+unnamed-past : (program : Program) (marks : List Mark) (count n : ℕ) → count ≤ n → (IsTrue (names_item program n) → n < count)
+    → is_named (mark_at (take count marks) n) ≡ names_item program n
+unnamed-past program marks count n past known =
+    ap is_named (get_or_past (take count marks) n Unnamed (omega (arith, past, length-take count marks)))
+    ∙ sym (false_from_ne_true (names_item program n) (λ is. absurd (omega (arith, past, known is))))
+
+-- The marks of the items that a program may name are its marks.
+pub AreMarks-take : (program : Program) (marks : List Mark) (count : ℕ) → ((n : ℕ) → IsTrue (names_item program n) → n < count)
+    → AreMarks program marks → AreMarks program (take count marks)
+AreMarks-take program marks count known are = record {
+  named = λ n.
+      ⊎_elim
+      (λ within. ap is_named (get_or-take count marks n Unnamed within) ∙ are.named n)
+      (λ past. unnamed-past program marks count n past (known n))
+      (cases_lt n count);
+  exclusive = λ n named. ap is_exclusive (get_or-take count marks n Unnamed (known n named)) ∙ are.exclusive n named;
 }

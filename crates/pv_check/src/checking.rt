@@ -6,7 +6,7 @@ ghost use Rattle.pv_model.specs.Check.{names_item, AreItems, IsPlan};
 ghost use Rattle.pv_check.specs.CheckRefusal.{check_refusal};
 ghost use Rattle.pv_check.specs.Wants.{AreWants, wants_at};
 
-use crate::marks::{ROOM, count_named, marks_of, wants_of};
+use crate::marks::{ROOM, count_named, marks_of, marks_within, wants_of};
 use crate::scan::{has_assignment, has_return};
 use crate::{CheckError, Part, Plan};
 use pv_ast::Program;
@@ -27,7 +27,8 @@ use std::alloc::Global;
 /// The program is read once, and for a query up to twice more, until an assignment or a `return` is found. That recurses as
 /// deep as the program's tree: a chain of n operators has n levels. Besides, the
 /// cost is bounded by a constant, whatever the catalog holds: a table of a mark for each item that any catalog may hold is
-/// cleared and read twice, and the wants, at most [`MAX_PROGRAM_ITEMS`], are read once for each site.
+/// cleared, the marks of the catalog's items are read twice, and the wants, at most [`MAX_PROGRAM_ITEMS`], are read once
+/// for each site.
 pub fn check(
     alloc: Global,
     program: &Program,
@@ -44,11 +45,12 @@ pub fn check(
 {
     // The table of marks has room for each item of the catalog.
     prove!(catalog.len() as usize <= ROOM);
-    let marks = marks_of(program);
-    if let Some(cause) = refusal(program, count_named(&marks), query) {
+    let table = marks_of(program);
+    let marks = marks_within(&table, catalog);
+    if let Some(cause) = refusal(program, count_named(marks), query) {
         return Err(cause);
     }
-    let wants = wants_of(alloc, &marks)?;
+    let wants = wants_of(alloc, marks)?;
     let parts = parts_of(alloc, catalog, &wants)?;
     Ok(Plan { parts })
 }

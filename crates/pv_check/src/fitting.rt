@@ -8,7 +8,7 @@ ghost use Rattle.pv_check.specs.Marks.{mark_at};
 ghost use Rattle.pv_model.specs.Check as model;
 
 use crate::checking::refusal;
-use crate::marks::{Mark, Marks, count_named, marks_of};
+use crate::marks::{Mark, count_named, marks_of, marks_within};
 use crate::scan::names_below;
 use crate::{Part, Plan};
 use pv_ast::Program;
@@ -24,15 +24,16 @@ pub fn fits(program: &Program, catalog: &Catalog, plan: &Plan) -> bool
     if !names_below(program, catalog.len()) {
         return false;
     }
-    let marks = marks_of(program);
-    if refusal(program, count_named(&marks), false).is_some() {
+    let table = marks_of(program);
+    let marks = marks_within(&table, catalog);
+    if refusal(program, count_named(marks), false).is_some() {
         return false;
     }
-    are_own_parts(&marks, catalog, &plan.parts) && are_covered(&marks, catalog, &plan.parts)
+    are_own_parts(marks, catalog, &plan.parts) && are_covered(marks, catalog, &plan.parts)
 }
 
 // Whether each part is what is wanted of its site, which is something, and the sites ascend.
-fn are_own_parts(marks: &Marks, catalog: &Catalog, parts: &[Part]) -> bool
+fn are_own_parts(marks: &[Mark], catalog: &Catalog, parts: &[Part]) -> bool
     ensures { result ≡ are_own_parts (λ site. wants_between catalog.now.items marks.now site 0 (length catalog.now.items)) 0 parts.now }
 {
     let mut least = 0;
@@ -47,14 +48,14 @@ fn are_own_parts(marks: &Marks, catalog: &Catalog, parts: &[Part]) -> bool
 }
 
 // Whether the part is what is wanted of its site, which is something.
-fn is_own_part(marks: &Marks, catalog: &Catalog, part: &Part) -> bool
+fn is_own_part(marks: &[Mark], catalog: &Catalog, part: &Part) -> bool
     ensures { result ≡ is_own_part (λ site. wants_between catalog.now.items marks.now site 0 (length catalog.now.items)) part.now }
 {
     !part.wants.is_empty() && are_wants(marks, catalog, part.site, &part.wants)
 }
 
 // Whether these are the wants of the site.
-fn are_wants(marks: &Marks, catalog: &Catalog, site: SiteId, wants: &[Want]) -> bool
+fn are_wants(marks: &[Mark], catalog: &Catalog, site: SiteId, wants: &[Want]) -> bool
     ensures { result ≡ pointwise is_same_want wants.now (wants_between catalog.now.items marks.now site.0 0 (length catalog.now.items)) }
 {
     let mut left = wants;
@@ -68,7 +69,7 @@ fn are_wants(marks: &Marks, catalog: &Catalog, site: SiteId, wants: &[Want]) -> 
 }
 
 // What is wanted of the item, if it is of the site.
-fn wanted_at(marks: &Marks, catalog: &Catalog, site: SiteId, item: ItemId) -> Option<Want>
+fn wanted_at(marks: &[Mark], catalog: &Catalog, site: SiteId, item: ItemId) -> Option<Want>
     requires { item.0 < length catalog.now.items }
     ensures { result ≡ wanted_at marks.now site.0 (home_of catalog.now.items item.0) item.0 }
 {
@@ -95,7 +96,7 @@ fn behind(left: &[Want], first: Option<Want>) -> Option<&[Want]>
 }
 
 // Whether the site of each item that is marked has a part.
-fn are_covered(marks: &Marks, catalog: &Catalog, parts: &[Part]) -> bool
+fn are_covered(marks: &[Mark], catalog: &Catalog, parts: &[Part]) -> bool
     ensures { result ≡ are_covered catalog.now.items marks.now parts.now 0 (length catalog.now.items) }
 {
     for number in 0..catalog.len() {
@@ -107,7 +108,7 @@ fn are_covered(marks: &Marks, catalog: &Catalog, parts: &[Part]) -> bool
 }
 
 // Whether the item isn't marked, or its site has a part.
-fn is_covered(marks: &Marks, catalog: &Catalog, parts: &[Part], item: ItemId) -> bool
+fn is_covered(marks: &[Mark], catalog: &Catalog, parts: &[Part], item: ItemId) -> bool
     requires { item.0 < length catalog.now.items }
     ensures { (count : ℕ) → are_covered catalog.now.items marks.now parts.now item.0 (suc count)
         ≡ (result && are_covered catalog.now.items marks.now parts.now (item.0 + 1) count) }
@@ -116,7 +117,7 @@ fn is_covered(marks: &Marks, catalog: &Catalog, parts: &[Part], item: ItemId) ->
 }
 
 // The mark of the item.
-fn mark_of(marks: &Marks, item: ItemId) -> Mark
+fn mark_of(marks: &[Mark], item: ItemId) -> Mark
     ensures { result ≡ mark_at marks.now item.0 }
 {
     match marks.get(item.0 as usize) {

@@ -1,5 +1,5 @@
 // Which items a program names and which it assigns, found in one reading of it.
-ghost use Rattle.std.specs.Prelude.{◌≡◌, ◌<◌, ℕ, List, length, IsTrue, IfOk};
+ghost use Rattle.std.specs.Prelude.{◌≡◌, ◌<◌, ◌≤◌, ℕ, List, length, IsTrue, IfOk};
 ghost use Rattle.pv_model.specs.Syntax as model;
 ghost use Rattle.pv_model.specs.Check.{names_item, AreItems};
 ghost use Rattle.pv_ast.specs.ExprView.{expr_of};
@@ -8,7 +8,7 @@ ghost use Rattle.pv_check.specs.Wants.{AreWants};
 ghost use Rattle.pv_check.specs.Marks.{AreMarks, read_of, with_read, with_assigned, marks_after_expr, marks_after};
 
 use pv_ast::{Expr, Program, Stmt};
-use pv_base::{ItemId, NoMemory, Want};
+use pv_base::{Catalog, ItemId, NoMemory, Want};
 use std::alloc::Global;
 
 /// How a program uses an item, as far as the program was read.
@@ -53,9 +53,19 @@ pub(crate) fn marks_of(program: &Program) -> Marks
     marks
 }
 
+/// The marks of the catalog's items, which are all that a program over the catalog names.
+pub(crate) fn marks_within<'a>(marks: &'a Marks, catalog: &Catalog) -> &'a [Mark]
+    ensures few { length result.now ≤ ROOM }
+    ensures marks { (program : model.Program) → AreMarks program marks.now →
+        ((n : ℕ) → IsTrue (names_item program n) → n < length catalog.now.items) → AreMarks program result.now }
+{
+    &marks[..catalog.len() as usize]
+}
+
 /// How many items the program names.
 #[tactic(auto, unfolding(crate::specs::Wants::wants_among))]
-pub(crate) fn count_named(marks: &Marks) -> u32
+pub(crate) fn count_named(marks: &[Mark]) -> u32
+    requires few { length marks.now ≤ ROOM }
     ensures { (program : model.Program) → AreMarks program marks.now → (items : List ℕ) → AreItems program items → result ≡ length items }
 {
     let mut count = 0;
@@ -69,7 +79,8 @@ pub(crate) fn count_named(marks: &Marks) -> u32
 
 /// What the program wants of each item that it names, ascending by item.
 #[tactic(auto, unfolding(crate::specs::Wants::wants_among))]
-pub(crate) fn wants_of(alloc: Global, marks: &Marks) -> Result<Vec<Want>, NoMemory>
+pub(crate) fn wants_of(alloc: Global, marks: &[Mark]) -> Result<Vec<Want>, NoMemory>
+    requires few { length marks.now ≤ ROOM }
     ensures { IfOk result (λ wants. (program : model.Program) → AreMarks program marks.now → AreWants program wants.items) }
 {
     let mut wants = Vec::new(alloc);

@@ -9,4 +9,4 @@ returns-clause-plan c =
     let program = c.args.program.now in
     c.in_ok-parts.ensures program
     (subst (λ (wants : List Want). AreWants program wants) (sym c.deref.ensures.value)
-    (c.in_ok-wants.ensures program c.marks_of-marks.ensures))
+    (c.in_ok-wants.ensures program (c.marks_within-marks.ensures.marks program c.marks_of-table.ensures c.requires)))

@@ -6,4 +6,4 @@ use Rattle.pv_check.proofs.marks.count_named.Goals as goal
 pub returns : goal.returns
 returns c = λ program are items them.
     c.loop-mark.invariant.0
-    ∙ length-wants program c.args.marks.now c.loop-mark.mark-index items (omega (arith, c.told-marks, c.loop-mark-test.false)) are them
+    ∙ length-wants program c.args.marks.now c.loop-mark.mark-index items (omega (arith, c.loop-mark-test.false)) are them

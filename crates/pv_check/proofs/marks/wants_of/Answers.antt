@@ -8,4 +8,4 @@ use Rattle.pv_check.proofs.marks.wants_of.Goals as goal
 pub returns : goal.returns
 returns c = λ program are.
     subst (λ (wants : List Want). AreWants program wants) (sym c.loop-number.invariant)
-    (AreWants-among program c.args.marks.now c.loop-number.number (omega (arith, c.told-marks, c.loop-number-test.false)) are)
+    (AreWants-among program c.args.marks.now c.loop-number.number (omega (arith, c.loop-number-test.false)) are)
