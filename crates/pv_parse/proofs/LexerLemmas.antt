@@ -11,7 +11,7 @@ use Rattle.pv_base.specs.declared.limits.TheConstants.{MAX_NAME}
 use Rattle.pv_base.specs.Name.{is_blank, is_lower, is_digit, continues_name}
 use Rattle.pv_model.specs.Text.{number_of_digits}
 use Rattle.pv_model.specs.Tokens.{Token, number, stray, is_name_word, is_digits, token_of, AreTokens, at_token, at_stray}
-use Rattle.pv_parse.specs.TokenView.{StartsWith, IsOther, listed_token}
+use Rattle.pv_parse.specs.TokenView.{StartsWith, IsOther, listed_pair, listed_token}
 use Rattle.pv_parse.proofs.TokenKinds.{word_at_lower, digits_at_digit, short_at_other, token_of-listed, no_token_at_other, token_of-digits, all_from_each, each_from_all, word_continues, word_short, word_from_each, digits_from_each, digits_all}
 
 cases_le : (a b : ℕ) → (a ≤ b) ⊎ (b < a)
@@ -116,35 +116,39 @@ other_front text longer other u begins split token =
 other_taken : (text : List ℕ) (size : ℕ) → IsOther (get_or text 0 0) → 1 ≤ size → IsOther (get_or (take size text) 0 0)
 other_taken text size begins some = subst IsOther (sym (get_or-take size text 0 0 some)) begins
 
-pub pair_starts : (text : List ℕ) (size : ℕ) (t : Token) → size ≡ min (length text) 2 → IsOther (get_or text 0 0) → 1 ≤ length text → listed_token (take size text) ≡ Some t → StartsWith text t size
-pair_starts text size t two begins some is =
-    starts text size t (omega arith) (omega arith) (token_of-listed (take size text) t is)
-    (λ longer other u split token. let short = other_front text longer other u begins split token in omega arith)
+pub pair_starts : (text : List ℕ) (t : Token) → IsOther (get_or text 0 0) → listed_pair text ≡ Some t → StartsWith text t 2
+pair_starts [] t begins is = absurd (none-some t is)
+pair_starts (a ∷ []) t begins is = absurd (none-some t is)
+pair_starts (a ∷ b ∷ bs) t begins is =
+    starts (a ∷ b ∷ bs) 2 t (omega arith) (omega arith) (token_of-listed (a ∷ b ∷ []) t is)
+    (λ longer other u split token. let short = other_front (a ∷ b ∷ bs) longer other u begins split token in omega arith)
 
--- Where the front of two bytes is no token, no token is longer than one byte.
-single_front : (text longer other : List ℕ) (u : Token) (size : ℕ) → size ≡ min (length text) 2 → IsOther (get_or text 0 0) → listed_token (take size text) ≡ None →
+-- Where the first two bytes are no token, no token is longer than one byte.
+single_front : (text longer other : List ℕ) (u : Token) → IsOther (get_or text 0 0) → listed_pair text ≡ None →
     text ≡ longer ++ other → token_of longer ≡ Some u → length longer ≤ 1
-single_front text longer other u size two begins unlisted split token =
-    let short = other_front text longer other u begins split token in
-    let some = token_is_long longer u token in
+single_front [] longer other u begins unlisted split token = let fits = front_fits [] longer other split in omega arith
+single_front (a ∷ []) longer other u begins unlisted split token = let fits = front_fits (a ∷ []) longer other split in omega arith
+single_front (a ∷ b ∷ bs) longer other u begins unlisted split token =
+    let short = other_front (a ∷ b ∷ bs) longer other u begins split token in
     ⊎_elim (λ (h : length longer ≤ 1). h)
     (λ (h : 1 < length longer).
-    let whole : length longer ≡ size = omega arith in
-    let same : longer ≡ take size text = front_is_take text longer other split ∙ ap (λ (n : ℕ). take n text) whole in
-    absurd (none-some u (sym (no_token_at_other (take size text) (other_taken text size begins (omega arith)) unlisted) ∙ sym (ap token_of same) ∙ token)))
+    let whole : length longer ≡ 2 = omega arith in
+    let same : longer ≡ a ∷ b ∷ [] = front_is_take (a ∷ b ∷ bs) longer other split ∙ ap (λ (n : ℕ). take n (a ∷ b ∷ bs)) whole in
+    absurd (none-some u (sym (no_token_at_other (a ∷ b ∷ []) begins unlisted) ∙ sym (ap token_of same) ∙ token)))
     (cases_le (length longer) 1)
 
-pub single_starts : (text : List ℕ) (size : ℕ) (t : Token) → size ≡ min (length text) 2 → IsOther (get_or text 0 0) → 1 ≤ length text →
-    listed_token (take size text) ≡ None → listed_token (take 1 text) ≡ Some t → StartsWith text t 1
-single_starts text size t two begins some unlisted is =
-    starts text 1 t (omega arith) some (token_of-listed (take 1 text) t is)
-    (λ longer other u split token. single_front text longer other u size two begins unlisted split token)
+pub single_starts : (text : List ℕ) (t : Token) → IsOther (get_or text 0 0) → 1 ≤ length text →
+    listed_pair text ≡ None → listed_token (get_or text 0 0 ∷ []) ≡ Some t → StartsWith text t 1
+single_starts [] t begins some unlisted is = absurd (omega arith)
+single_starts (b ∷ bs) t begins some unlisted is =
+    starts (b ∷ bs) 1 t (omega arith) some (token_of-listed (b ∷ []) t is)
+    (λ longer other u split token. single_front (b ∷ bs) longer other u begins unlisted split token)
 
-no_front : (text longer other : List ℕ) (u : Token) (size : ℕ) → size ≡ min (length text) 2 → IsOther (get_or text 0 0) → listed_token (take size text) ≡ None →
+no_front : (text longer other : List ℕ) (u : Token) → IsOther (get_or text 0 0) → listed_pair text ≡ None →
     listed_token (take 1 text) ≡ None → text ≡ longer ++ other → token_of longer ≡ Some u → ⊥
-no_front text longer other u size two begins unlisted single split token =
+no_front text longer other u begins unlisted single split token =
     let some = token_is_long longer u token in
-    let short = single_front text longer other u size two begins unlisted split token in
+    let short = single_front text longer other u begins unlisted split token in
     let one : length longer ≡ 1 = omega arith in
     let same : longer ≡ take 1 text = front_is_take text longer other split ∙ ap (λ (n : ℕ). take n text) one in
     none-some u (sym (no_token_at_other (take 1 text) (other_taken text 1 begins (omega arith)) single) ∙ sym (ap token_of same) ∙ token)
@@ -153,15 +157,15 @@ none_unless : (o : Option Token) → ((u : Token) → o ≡ Some u → ⊥) → 
 none_unless None h = refl
 none_unless (Some u) h = absurd (h u refl)
 
-pub stray_starts : (text : List ℕ) (size : ℕ) → size ≡ min (length text) 2 → IsOther (get_or text 0 0) → is_blank (get_or text 0 0) ≡ false → 1 ≤ length text →
-    listed_token (take size text) ≡ None → listed_token (take 1 text) ≡ None → StartsWith text (stray (get_or text 0 0)) 1
-stray_starts [] size two begins seen some unlisted single = absurd (omega arith)
-stray_starts (b ∷ bs) size two begins seen some unlisted single =
+pub stray_starts : (text : List ℕ) → IsOther (get_or text 0 0) → is_blank (get_or text 0 0) ≡ false → 1 ≤ length text →
+    listed_pair text ≡ None → listed_token (get_or text 0 0 ∷ []) ≡ None → StartsWith text (stray (get_or text 0 0)) 1
+stray_starts [] begins seen some unlisted single = absurd (omega arith)
+stray_starts (b ∷ bs) begins seen some unlisted single =
     record {
       some = omega arith;
       within = some;
       first = λ column tokens rest.
           at_stray column b bs tokens (not_from_false (is_blank b) seen)
-          (λ front behind split. none_unless (token_of front) (λ u token. no_front (b ∷ bs) front behind u size two begins unlisted single split token))
+          (λ front behind split. none_unless (token_of front) (λ u token. no_front (b ∷ bs) front behind u begins unlisted single split token))
           (subst (λ (n : ℕ). AreTokens n bs tokens) (let e : column + 1 ≡ suc column = omega arith in e) rest);
     }

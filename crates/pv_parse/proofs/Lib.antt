@@ -1,4 +1,5 @@
 pub mod TokenKinds
+pub mod TableLemmas
 pub mod LexerLemmas
 pub mod TokenListLemmas
 pub mod NumberLemmas

@@ -1,5 +1,5 @@
 -- Which bytes are a token: what all tokens share that begin alike.
-use Rattle.std.proofs.Common.{◌≡◌, ℕ, suc, zero, ◌<◌, ◌≤◌, Bool, true, false, not, ◌&&◌, ◌||◌, Option, Some, None, List, [], ◌∷◌, length, map, cond, get_or, refl, sym, ap, ◌∙◌, ⊎_elim, arith, find}
+use Rattle.std.proofs.Common.{◌≡◌, ℕ, suc, zero, ◌<◌, ◌≤◌, Bool, true, false, not, ◌&&◌, ◌||◌, Option, Some, None, List, [], ◌∷◌, length, cond, get_or, refl, sym, ap, ◌∙◌, ⊎_elim, arith, find}
 use Rattle.std.specs.Prelude.{nat_le, ◌==◌}
 use Rattle.std.specs.List.{list_all}
 use Rattle.std.specs.Option.{option_map, option_map_or}
@@ -11,9 +11,8 @@ use Rattle.pv_base.specs.Name.{is_lower, is_digit, continues_name, is_spelled_as
 use Rattle.pv_model.specs.Text.{number_of_digits}
 use Rattle.pv_law_programs.proofs.NameLemmas.{found_all}
 use Rattle.pv_model.specs.Tokens.{Token, name, number, words_and_symbols, is_name_word, is_digits, name_or_number, token_of}
-use denote.Ref.{Bor}
 use Rattle.pv_parse.specs.declared.token.Token as code
-use Rattle.pv_parse.specs.TokenView.{IsOther, token_beside, listed_token}
+use Rattle.pv_parse.specs.TokenView.{IsOther, listed_token}
 use Rattle.pv_parse.specs.TokenView.{token_of as token_view}
 
 named : (bytes : List ℕ) (t : Token) (P : Type 0) → (is_name_word bytes ≡ true → P) → (is_digits bytes ≡ true → P) → name_or_number bytes ≡ Some t → P
@@ -94,6 +93,11 @@ first_is_lower : (b : ℕ) (bs : List ℕ) → is_name_word (b ∷ bs) ≡ true 
 unfolding is_spelled_as_name
 first_is_lower b bs h =
     (and_parts (is_lower b) (list_all continues_name bs) ((and_parts (nat_le (length (b ∷ bs)) MAX_NAME) (is_lower b && list_all continues_name bs) h).1)).0
+
+pub word_lower : (bytes : List ℕ) → is_name_word bytes ≡ true → is_lower (get_or bytes 0 0) ≡ true
+unfolding is_spelled_as_name
+word_lower [] h = absurd (both_ways false refl h)
+word_lower (b ∷ bs) h = first_is_lower b bs h
 
 digit_word : (bytes : List ℕ) → is_name_word bytes ≡ true → is_number_at_digit bytes ≡ true
 unfolding is_number_at_digit
@@ -252,19 +256,3 @@ digits_all (b ∷ bs) h = h
 pub unfound : (found : Option code.Token) (is : Option Token) → option_map token_view found ≡ is → ((token : code.Token) → found ≡ Some token → ⊥) → is ≡ None
 unfound None is same not_some = sym same
 unfound (Some token) is same not_some = absurd (not_some token refl)
-
--- A table of the code gives what the same table as plain data gives.
-pub option_map-token_beside : (bytes : List ℕ) (table : List (Bor (List ℕ) × code.Token)) →
-    option_map token_view (token_beside bytes table)
-    ≡ option_map (λ (e : List ℕ × Token). e.1) (find (λ (e : List ℕ × Token). bytes_eq bytes e.0) (map (λ (e : Bor (List ℕ) × code.Token). (e.0.now, token_view e.1)) table))
-unfolding token_beside
-option_map-token_beside bytes [] = refl
-option_map-token_beside bytes (e ∷ table) = go (bytes_eq bytes e.0.now) (option_map-token_beside bytes table)
-  where
-    go : (b : Bool) →
-        option_map token_view (option_map (λ (f : Bor (List ℕ) × code.Token). f.1) (find (λ (f : Bor (List ℕ) × code.Token). bytes_eq bytes f.0.now) table))
-        ≡ option_map (λ (f : List ℕ × Token). f.1) (find (λ (f : List ℕ × Token). bytes_eq bytes f.0) (map (λ (f : Bor (List ℕ) × code.Token). (f.0.now, token_view f.1)) table)) →
-        option_map token_view (option_map (λ (f : Bor (List ℕ) × code.Token). f.1) (cond b (Some e) (find (λ (f : Bor (List ℕ) × code.Token). bytes_eq bytes f.0.now) table)))
-        ≡ option_map (λ (f : List ℕ × Token). f.1) (cond b (Some (e.0.now, token_view e.1)) (find (λ (f : List ℕ × Token). bytes_eq bytes f.0) (map (λ (f : Bor (List ℕ) × code.Token). (f.0.now, token_view f.1)) table)))
-    go true rest = refl
-    go false rest = rest

@@ -1,5 +1,5 @@
 -- The tokens that the code makes, as plain data.
-use Rattle.std.specs.Prelude.{◌≡◌, ℕ, ◌+◌, ◌≤◌, false, List, ◌∷◌, length, drop, find, Option, IsTrue}
+use Rattle.std.specs.Prelude.{◌≡◌, ℕ, ◌+◌, ◌≤◌, ◌==◌, ◌&&◌, false, List, [], ◌∷◌, length, drop, find, Option, None, IsTrue}
 use Rattle.std.specs.Option.{option_map}
 use Rattle.std.specs.Str.{bytes_eq}
 use denote.Ref.{Bor}
@@ -44,9 +44,23 @@ HasDigits _ = Unit {0}
 unfoldable pub token_beside : List ℕ → List (Bor (List ℕ) × Token) → Option Token
 token_beside bytes table = option_map (λ entry. entry.1) (find (λ entry. bytes_eq bytes entry.0.now) table)
 
+-- the token beside two bytes in a table
+unfoldable pub pair_beside : ℕ × ℕ → List ((ℕ × ℕ) × Token) → Option Token
+pair_beside bytes table = option_map (λ entry. entry.1) (find (λ entry. bytes.0 == entry.0.0 && bytes.1 == entry.0.1) table)
+
+-- the token beside a byte in a table
+unfoldable pub single_beside : ℕ → List (ℕ × Token) → Option Token
+single_beside byte table = option_map (λ entry. entry.1) (find (λ entry. byte == entry.0) table)
+
 -- the token that bytes are, if they are a word or symbol that stands for itself
 unfoldable pub listed_token : List ℕ → Option model.Token
 listed_token bytes = option_map (λ entry. entry.1) (find (λ entry. bytes_eq bytes entry.0) model.words_and_symbols)
+
+-- the token that the first two bytes are, if they are a word or symbol that stands for itself
+abbrev pub listed_pair : List ℕ → Option model.Token
+listed_pair [] = None
+listed_pair (first ∷ []) = None
+listed_pair (first ∷ second ∷ rest) = listed_token (first ∷ second ∷ [])
 
 -- Bytes begin with this token, which is this long, or with a stray byte: whatever tokens are after it, it stands before them.
 pub record StartsWith (bytes : List ℕ) (token : model.Token) (size : ℕ) : Type 0 where

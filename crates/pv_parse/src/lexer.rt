@@ -3,14 +3,14 @@ ghost use Rattle.std.specs.Prelude.{◌≡◌, ℕ, ◌+◌, ◌<◌, ◌≤◌,
 ghost use Rattle.std.specs.Option.{option_map};
 ghost use Rattle.pv_base.specs.Name.{is_blank, is_lower, is_digit, continues_name};
 ghost use Rattle.pv_model.specs.Tokens as model;
-ghost use Rattle.pv_parse.specs.TokenView.{token_of, HasDigits, IsOther, StartsWith, token_beside, listed_token};
+ghost use Rattle.pv_parse.specs.TokenView.{token_of, HasDigits, IsOther, StartsWith, token_beside, pair_beside, single_beside, listed_pair, listed_token};
 
 use crate::token::Token;
 use pv_ast::Op;
 use pv_base::{MAX_NAME, continues_name};
 
-// The words and symbols that stand for themselves.
-const WORDS_AND_SYMBOLS: [(&[u8], Token<'static>); 28] = [
+// The words that stand for themselves.
+const WORDS: [(&[u8], Token<'static>); 10] = [
     (b"or", Token::Operator(Op::Or)),
     (b"and", Token::Operator(Op::And)),
     (b"not", Token::Not),
@@ -21,24 +21,32 @@ const WORDS_AND_SYMBOLS: [(&[u8], Token<'static>); 28] = [
     (b"require", Token::Require),
     (b"return", Token::Return),
     (b"certain", Token::Certain),
-    (b"=", Token::Operator(Op::Equal)),
-    (b"<>", Token::Operator(Op::Unequal)),
-    (b"<", Token::Operator(Op::Less)),
-    (b"<=", Token::Operator(Op::AtMost)),
-    (b">", Token::Operator(Op::Greater)),
-    (b">=", Token::Operator(Op::AtLeast)),
-    (b"+", Token::Operator(Op::Plus)),
-    (b"-", Token::Operator(Op::Sub)),
-    (b"*", Token::Operator(Op::Times)),
-    (b"/", Token::Operator(Op::Over)),
-    (b"%", Token::Operator(Op::Rest)),
-    (b":=", Token::Becomes),
-    (b"(", Token::Open),
-    (b")", Token::Close),
-    (b"{", Token::OpenBody),
-    (b"}", Token::CloseBody),
-    (b";", Token::Next),
-    (b",", Token::Comma),
+];
+
+// The symbols of two bytes.
+const PAIRS: [((u8, u8), Token<'static>); 4] = [
+    ((b'<', b'>'), Token::Operator(Op::Unequal)),
+    ((b'<', b'='), Token::Operator(Op::AtMost)),
+    ((b'>', b'='), Token::Operator(Op::AtLeast)),
+    ((b':', b'='), Token::Becomes),
+];
+
+// The symbols of one byte.
+const SINGLES: [(u8, Token<'static>); 14] = [
+    (b'=', Token::Operator(Op::Equal)),
+    (b'<', Token::Operator(Op::Less)),
+    (b'>', Token::Operator(Op::Greater)),
+    (b'+', Token::Operator(Op::Plus)),
+    (b'-', Token::Operator(Op::Sub)),
+    (b'*', Token::Operator(Op::Times)),
+    (b'/', Token::Operator(Op::Over)),
+    (b'%', Token::Operator(Op::Rest)),
+    (b'(', Token::Open),
+    (b')', Token::Close),
+    (b'{', Token::OpenBody),
+    (b'}', Token::CloseBody),
+    (b';', Token::Next),
+    (b',', Token::Comma),
 ];
 
 /// The token that a text begins with, and its length. A byte that begins no token is stray.
@@ -88,10 +96,31 @@ fn word_token<'a>(word: &'a [u8]) -> Token<'a>
     ensures token { model.token_of word.now ≡ Some (token_of result) }
     ensures digits { HasDigits result }
 {
-    match listed_token(word) {
+    match listed_word(word) {
         Some(token) => token,
         None => Token::Name(word),
     }
+}
+
+// The token that a word is, if it stands for itself.
+#[tactic(auto, unfolding(crate::specs::TokenView::token_beside))]
+fn listed_word<'a>(word: &[u8]) -> Option<Token<'a>>
+    requires lower { is_lower (slice_index word.now 0) ≡ true }
+    ensures token { option_map token_of result ≡ listed_token word.now }
+    ensures digits { IfSome result HasDigits }
+{
+    token_in(word, &WORDS)
+}
+
+// The token beside the first text of a table that bytes are.
+#[tactic(auto, unfolding(crate::specs::TokenView::token_beside))]
+fn token_in<'a>(bytes: &[u8], table: &[(&[u8], Token<'a>)]) -> Option<Token<'a>>
+    ensures { result ≡ token_beside bytes.now table.now }
+{
+    table
+        .iter()
+        .find(|entry| bytes == entry.0)
+        .map(|entry| entry.1)
 }
 
 // The number that a text begins with.
@@ -128,34 +157,56 @@ fn first_symbol<'a>(text: &'a [u8]) -> (Token<'a>, usize)
     ensures token { StartsWith text.now (token_of result.0) result.1 }
     ensures digits { HasDigits result.0 }
 {
-    let size = text.len().min(2);
-    let (two, _) = text.split_at(size);
-    if let Some(token) = listed_token(two) {
-        return (token, size);
+    if let Some(token) = listed_pair(text) {
+        return (token, 2);
     }
-    let (one, _) = text.split_at(1);
-    match listed_token(one) {
+    let first = text[0];
+    match listed_single(first) {
         Some(token) => (token, 1),
-        None => (Token::Stray(text[0]), 1),
+        None => (Token::Stray(first), 1),
     }
 }
 
-// The token that bytes are, if they are a word or symbol that stands for itself.
-#[tactic(auto, unfolding(crate::specs::TokenView::token_beside))]
-fn listed_token<'a>(bytes: &[u8]) -> Option<Token<'a>>
-    ensures token { option_map token_of result ≡ listed_token bytes.now }
+// The token that the first two bytes of a text are, if they are a symbol that stands for itself.
+#[tactic(auto, unfolding(crate::specs::TokenView::pair_beside))]
+fn listed_pair<'a>(text: &[u8]) -> Option<Token<'a>>
+    requires other { IsOther (slice_index text.now 0) }
+    ensures token { option_map token_of result ≡ listed_pair text.now }
     ensures digits { IfSome result HasDigits }
 {
-    token_in(bytes, &WORDS_AND_SYMBOLS)
+    let [first, second, ..] = text else {
+        return None;
+    };
+    pair_in((*first, *second), &PAIRS)
 }
 
-// The token beside the first text of a table that bytes are.
-#[tactic(auto, unfolding(crate::specs::TokenView::token_beside))]
-fn token_in<'a>(bytes: &[u8], table: &[(&[u8], Token<'a>)]) -> Option<Token<'a>>
-    ensures { result ≡ token_beside bytes.now table.now }
+// The token beside two bytes in a table.
+#[tactic(auto, unfolding(crate::specs::TokenView::pair_beside))]
+fn pair_in<'a>(bytes: (u8, u8), table: &[((u8, u8), Token<'a>)]) -> Option<Token<'a>>
+    ensures { result ≡ pair_beside bytes table.now }
 {
     table
         .iter()
-        .find(|entry| bytes == entry.0)
+        .find(|entry| bytes.0 == entry.0.0 && bytes.1 == entry.0.1)
+        .map(|entry| entry.1)
+}
+
+// The token that a byte is, if it is a symbol that stands for itself.
+#[tactic(auto, unfolding(crate::specs::TokenView::single_beside))]
+fn listed_single<'a>(byte: u8) -> Option<Token<'a>>
+    ensures token { option_map token_of result ≡ listed_token (byte ∷ []) }
+    ensures digits { IfSome result HasDigits }
+{
+    single_in(byte, &SINGLES)
+}
+
+// The token beside a byte in a table.
+#[tactic(auto, unfolding(crate::specs::TokenView::single_beside))]
+fn single_in<'a>(byte: u8, table: &[(u8, Token<'a>)]) -> Option<Token<'a>>
+    ensures { result ≡ single_beside byte table.now }
+{
+    table
+        .iter()
+        .find(|entry| byte == entry.0)
         .map(|entry| entry.1)
 }

@@ -64,7 +64,8 @@ pub(crate) fn tokens_of<'a>(alloc: Global, text: &'a [u8]) -> Result<Vec<Located
     ensures tokens { IfOk result (λ found. HasTokens text.now (map located_of found.items)) }
     ensures digits { IfOk result (λ found. All (λ located. HasDigits located.token) found.items) }
 {
-    let mut found = Vec::new(alloc);
+    // Most tokens have a blank behind them, so there is mostly room for all.
+    let mut found = Vec::with_capacity(alloc, text.len() / 2 + 1)?;
     let mut column = 1;
     let mut rest = text;
     while let [first, ..] = rest {
