@@ -2,6 +2,7 @@ pub mod Answered
 pub mod Asked
 pub mod Begun
 pub mod CommitSteps
+pub mod CrashLemmas
 pub mod Entries
 pub mod Expired
 pub mod FitLemmas

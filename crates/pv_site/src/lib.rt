@@ -4,6 +4,7 @@
 mod answers;
 mod appending;
 mod committing;
+mod crashes;
 mod deciding;
 mod error;
 mod granting;
@@ -19,6 +20,7 @@ mod site;
 mod taking;
 mod ticking;
 
+pub use crashes::crashes_leave_before_or_after;
 pub use error::{OpenError, StepError};
 pub use input::{Cause, Input, Note, Outgoing, Shown, Step};
 pub use lists::lists_fail_as_planned;
@@ -29,5 +31,11 @@ pub use site::Site;
 
 #[cfg(test)]
 mod opening_tests;
+#[cfg(test)]
+mod play_tests;
+#[cfg(test)]
+mod step_tests;
+#[cfg(test)]
+mod stray_tests;
 #[cfg(test)]
 mod tests;

@@ -41,7 +41,7 @@ fn add_all(alloc: Global, log: &mut ListLog, contents: &[&str]) -> Result<(), Fa
 }
 
 // The log with these contents, in hexadecimal, that fails at the appends planned.
-fn log_of(
+pub(crate) fn log_of(
     alloc: Global,
     journal: u64,
     fails: Vec<AppendFail>,
@@ -59,7 +59,7 @@ fn log_of(
 }
 
 // why a site wasn't opened
-fn refusal_of(error: &OpenError<ListLog>) -> Refusal {
+pub(crate) fn refusal_of(error: &OpenError<ListLog>) -> Refusal {
     match error {
         OpenError::Failed(_) => Refusal::Failed,
         OpenError::Full(_, length) => Refusal::Full(*length),

@@ -1,6 +1,6 @@
 // The catalog of the tests, contents written in hexadecimal, and the texts of a step's errors. The item a is declared as 7 at the first of two
 // sites, and b as 8 at the other one.
-ghost use Rattle.std.specs.Prelude.{◌≡◌, ◌≤◌, IfOk};
+ghost use Rattle.std.specs.Prelude.{◌≡◌, ◌≤◌, length, IfOk};
 ghost use Rattle.pv_base.specs.declared.limits.TheConstants.{MAX_JOURNAL, MIN_JOURNAL};
 
 use crate::StepError;
@@ -10,12 +10,15 @@ use std::test::Fail;
 
 pub(crate) const HERE: SiteId = SiteId(0);
 
+pub(crate) const THERE: SiteId = SiteId(1);
+
 // the catalog of a and b
 pub(crate) fn catalog(alloc: Global, journal: u64) -> Result<Catalog, CatalogError>
     requires least { MIN_JOURNAL ≤ journal }
     requires most { journal ≤ MAX_JOURNAL }
     ensures sites { IfOk result (λ catalog. catalog.sites ≡ 2) }
     ensures journal { IfOk result (λ catalog. catalog.journal ≡ journal) }
+    ensures items { IfOk result (λ catalog. length catalog.items ≡ 2) }
 {
     let mut catalog = Catalog::new(alloc, 2, journal);
     catalog.add(b"a", HERE, 7)?;
