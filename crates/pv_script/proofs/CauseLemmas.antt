@@ -91,18 +91,18 @@ module _ (before : Before) (line : TextLine) where
 
 -- ---- what is reported first
 
-pub reported : (before : Before) (line : TextLine) (cause : LineCause) (is : model.LineCause) → line_cause_of cause ≡ Some is → HasLineCause before line is
-    → NoneBefore before line (line_cause_rank is) → IsLineFault before line (At cause)
-reported before line cause is same has none = (is, same, record { has = has; first = none })
+pub reported : (before : Before) (line : TextLine) (cause : LineCause) → HasLineCause before line (line_cause_of cause)
+    → NoneBefore before line (line_cause_rank (line_cause_of cause)) → IsLineFault before line (At cause)
+reported before line cause has none = record { has = has; first = none }
 
 pub IsLineFault-long : (before : Before) (line : TextLine) → MAX_LINE < length line → IsLineFault before line (At TooLong)
-IsLineFault-long before line long = reported before line TooLong too_long refl long (none0 before line)
+IsLineFault-long before line long = reported before line TooLong long (none0 before line)
 
 none-long : (before : Before) (line : TextLine) → length line ≤ MAX_LINE → NoneBefore before line 1
 none-long before line short = none1 before line (λ has. absurd (omega arith))
 
 pub IsLineFault-bytes : (before : Before) (line : TextLine) → length line ≤ MAX_LINE → list_all is_text_byte line ≡ false → IsLineFault before line (At NotText)
-IsLineFault-bytes before line short bytes = reported before line NotText not_text refl bytes (none-long before line short)
+IsLineFault-bytes before line short bytes = reported before line NotText bytes (none-long before line short)
 
 pub none-text : (before : Before) (line : TextLine) → IsText line → NoneBefore before line 2
 none-text before line is = none2 before line (none-long before line is.short) (λ bytes. both_ways (list_all is_text_byte line) bytes is.bytes)
@@ -113,7 +113,7 @@ none-said before line sites is said = none3 before line (none-text before line i
 
 pub IsLineFault-unknown : (before : Before) (line : TextLine) (sites : ℕ) → IsText line → before.sites ≡ Some sites → forms_of (first_word line) ≡ []
     → IsLineFault before line (At UnknownWord)
-IsLineFault-unknown before line sites is said unknown = reported before line UnknownWord unknown_word refl unknown (none-said before line sites is said)
+IsLineFault-unknown before line sites is said unknown = reported before line UnknownWord unknown (none-said before line sites is said)
 
 -- ---- the words of a line
 
@@ -158,14 +158,14 @@ none-known before line word args head known =
 pub IsLineFault-fields : (before : Before) (line : TextLine) (word : List ℕ) (args given : List (List ℕ)) (cause : LineCause) → words line ≡ word ∷ args
     → arguments line ≡ given → NoneBefore before line 6 → IsFieldFault (or_default 0 before.sites) (forms_of word) given cause → IsLineFault before line (At cause)
 IsLineFault-fields before line word args given WrongCount are same none fault =
-    reported before line WrongCount wrong_count refl (form_of-line line word args given are same ∙ fault) none
+    reported before line WrongCount (form_of-line line word args given are same ∙ fault) none
 IsLineFault-fields before line word args given BadNumber are same none fault =
-    reported before line BadNumber bad_number refl
+    reported before line BadNumber
     (ap (list_all (has_good_number (or_default 0 before.sites))) (fields_of-line line word args given are same) ∙ fault.1)
     (none7 before line none (λ no_form. fault.0 (sym (form_of-line line word args given are same) ∙ no_form)))
 IsLineFault-fields before line word args given BadMode are same none fault =
     let fields = fields_of-line line word args given are same in
-    reported before line BadMode bad_mode refl
+    reported before line BadMode
     (fault.2, subst (λ (fs : List (Field × List ℕ)). Contains fs (mode, fault.2)) (sym fields) fault.3, fault.4)
     (none8 before line (none7 before line none (λ no_form. fault.0 (sym (form_of-line line word args given are same) ∙ no_form)))
     (λ bad. both_ways (list_all (has_good_number (or_default 0 before.sites)) (fields_of line)) bad (ap (list_all (has_good_number (or_default 0 before.sites))) fields ∙ fault.1)))

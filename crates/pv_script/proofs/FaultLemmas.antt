@@ -6,7 +6,7 @@ use Rattle.pv_model.specs.Events as model
 use Rattle.pv_model.specs.FirstMisplaced.{without_numbers}
 use Rattle.pv_model.specs.Schedule.{Declares, IsEvent, with_event, AreLines, none, declaration, event, IsAtFault, IsMalformedSchedule}
 use Rattle.pv_model.specs.Text.{TextLine, lines, numbered}
-use Rattle.pv_script.specs.ScriptErrors.{IsMalformedAt, refused_line}
+use Rattle.pv_script.specs.ScriptErrors.{IsMalformedAt, line_cause_of, refused_line}
 use Rattle.pv_script.specs.LineFaults.{error_at, IsErrorAt, IsLineFault}
 use Rattle.pv_script.specs.TakesLine.{TakesLine, declared, happened}
 use Rattle.pv_script.specs.ScheduleView.{event_of}
@@ -91,7 +91,8 @@ lines-takes before after catalog old new line left whole more last (happened e s
 pub refuses-first : (text : List ℕ) (number : ℕ) (line : TextLine) (rest : List (ℕ × TextLine)) (fault : Fault) → numbered text ≡ (number, line) ∷ rest
     → IsLineFault at_first line fault → IfSome (refused_line (error_at number fault)) (IsMalformedAt text)
 refuses-first text number line rest (At reported) split fault =
-    (fault.0, fault.1, inl (fault-whole text number fault.0 (subst (λ (all : List (ℕ × TextLine)). IsAtFaultFrom at_first all number fault.0) (sym split) (fault-here at_first number line rest fault.0 fault.2))))
+    let cause = line_cause_of reported in
+    inl (fault-whole text number cause (subst (λ (all : List (ℕ × TextLine)). IsAtFaultFrom at_first all number cause) (sym split) (fault-here at_first number line rest cause fault)))
 refuses-first text number line rest NoMemory split fault = tt
 
 pub error-fault : (before : Before) (number : ℕ) (line : TextLine) (fault : Fault) → IsLineFault before line fault → IsErrorAt before number line (error_at number fault)
@@ -103,8 +104,8 @@ pub refuses-line : (text : List ℕ) (before : Before) (number : ℕ) (line : Te
     → ((n : ℕ) (cause : LineCause) → IsAtFaultFrom before ((number, line) ∷ rest) n cause → IsAtFault text n cause)
     → IsErrorAt before number line e → IfSome (refused_line e) (IsMalformedAt text)
 refuses-line text before number line rest (error.Malformed place reported) so is =
-    let at = so number is.1.0 (fault-here before number line rest is.1.0 is.1.2) in
-    (is.1.0, is.1.1, inl (subst (λ (n : ℕ). IsAtFault text n is.1.0) (sym is.0) at))
+    let cause = line_cause_of reported in
+    inl (subst (λ (n : ℕ). IsAtFault text n cause) (sym is.0) (so number cause (fault-here before number line rest cause is.1)))
 refuses-line text before number line rest error.NoMemory so is = tt
 
 -- A text without lines lacks the sites.

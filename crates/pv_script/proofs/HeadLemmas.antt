@@ -8,7 +8,7 @@ use Rattle.std.proofs.lemmas.Slice.Eq.{bytes_eq-Decides}
 use Rattle.pv_base.specs.declared.limits.TheConstants.{MAX_ITEMS, MAX_JOURNAL, MAX_SITES, MIN_JOURNAL}
 use Rattle.pv_base.specs.Name.{is_name}
 use Rattle.pv_base.specs.Catalog.{place_of}
-use Rattle.pv_model.specs.LineCauses.{Before, at_first, sites_expected, twice, too_late, bad_name, name_taken, too_many_items, HasFirstWord, IsSaid, or_default, Has}
+use Rattle.pv_model.specs.LineCauses.{Before, at_first, HasFirstWord, IsSaid, or_default, Has}
 use Rattle.pv_model.specs.LineForms.{Field, number, site, value, mode, name, first_word, forms_of, form_of, fields_of, fields_in, has_good_number}
 use Rattle.pv_model.specs.Text.{TextLine, IsText, words, IsDecimal, IsSignedDecimal}
 use Rattle.pv_model.specs.Meaning.{fits_i64}
@@ -75,7 +75,7 @@ IsLineFault-command before line sites command args cause head said fault =
 -- ---- the first line
 
 pub IsLineFault-no_sites : (line : TextLine) → IsText line → (first_word line ≡ codes "sites" → ⊥) → IsLineFault at_first line (At SitesExpected)
-IsLineFault-no_sites line is refuted = reported at_first line SitesExpected sites_expected refl (refl, refuted) (none-text at_first line is)
+IsLineFault-no_sites line is refuted = reported at_first line SitesExpected (refl, refuted) (none-text at_first line is)
 
 none-first : (line : TextLine) (args : List (List ℕ)) → IsText line → words line ≡ codes "sites" ∷ args → NoneBefore at_first line 6
 none-first line args is are =
@@ -97,7 +97,7 @@ IsLineFault-sites line args cause is are fault =
 
 pub IsLineFault-twice_sites : (before : Before) (line : TextLine) (args : List (List ℕ)) → IsHead before line (codes "sites") args → IsLineFault before line (At Twice)
 IsLineFault-twice_sites before line args head =
-    reported before line Twice twice refl
+    reported before line Twice
     (inl (first-line line (codes "sites") args head.words, λ none. let said = head.said in let refuted : None ≡ Some head.sites = sym none ∙ said in cc))
     (none-known before line (codes "sites") args head (some_forms (forms_of (codes "sites")) (number 1 MAX_SITES ∷ []) [] forms-sites))
 
@@ -110,7 +110,7 @@ none-journal before line args head =
 pub IsLineFault-twice_journal : (before : Before) (line : TextLine) (args : List (List ℕ)) → IsHead before line (codes "journal") args
     → before.journal ≢ None → IsLineFault before line (At Twice)
 IsLineFault-twice_journal before line args head said =
-    reported before line Twice twice refl (inr (first-line line (codes "journal") args head.words, said)) (none-journal before line args head)
+    reported before line Twice (inr (first-line line (codes "journal") args head.words, said)) (none-journal before line args head)
 
 none-once : (before : Before) (line : TextLine) (args : List (List ℕ)) → IsHead before line (codes "journal") args → before.journal ≡ None → NoneBefore before line 5
 none-once before line args head once =
@@ -121,7 +121,7 @@ none-once before line args head once =
 pub IsLineFault-late_journal : (before : Before) (line : TextLine) (args : List (List ℕ)) → IsHead before line (codes "journal") args
     → before.journal ≡ None → before.begun ≡ true → IsLineFault before line (At TooLate)
 IsLineFault-late_journal before line args head once late =
-    reported before line TooLate too_late refl (inl (first-line line (codes "journal") args head.words), late) (none-once before line args head once)
+    reported before line TooLate (inl (first-line line (codes "journal") args head.words), late) (none-once before line args head once)
 
 pub IsLineFault-journal : (before : Before) (line : TextLine) (args : List (List ℕ)) (cause : LineCause) → IsHead before line (codes "journal") args
     → before.journal ≡ None → before.begun ≡ false → IsFieldFault (or_default 0 before.sites) ((number MIN_JOURNAL MAX_JOURNAL ∷ []) ∷ []) args cause
@@ -144,7 +144,7 @@ none-item before line args head =
 pub IsLineFault-late_item : (before : Before) (line : TextLine) (args : List (List ℕ)) → IsHead before line (codes "item") args
     → before.begun ≡ true → IsLineFault before line (At TooLate)
 IsLineFault-late_item before line args head late =
-    reported before line TooLate too_late refl (inr (first-line line (codes "item") args head.words), late) (none-item before line args head)
+    reported before line TooLate (inr (first-line line (codes "item") args head.words), late) (none-item before line args head)
 
 none-early : (before : Before) (line : TextLine) (args : List (List ℕ)) → IsHead before line (codes "item") args → before.begun ≡ false → NoneBefore before line 6
 none-early before line args head early = none6 before line (none-item before line args head) (λ late. both_ways before.begun early late.1)
@@ -240,7 +240,7 @@ none-numbers before line word at digits is =
 pub IsLineFault-bad_name : (before : Before) (line word at digits : List ℕ) → IsItemLine before line word at digits → is_name word ≡ false
     → IsLineFault before line (At BadName)
 IsLineFault-bad_name before line word at digits is refuted =
-    reported before line BadName bad_name refl (word, item-has_name line word at digits is.head.words, refuted) (none-numbers before line word at digits is)
+    reported before line BadName (word, item-has_name line word at digits is.head.words, refuted) (none-numbers before line word at digits is)
 
 none-named : (before : Before) (line word at digits : List ℕ) → IsItemLine before line word at digits → is_name word ≡ true → NoneBefore before line 10
 none-named before line word at digits is named =
@@ -250,11 +250,11 @@ none-named before line word at digits is named =
 pub IsLineFault-taken : (before : Before) (line word at digits : List ℕ) → IsItemLine before line word at digits → is_name word ≡ true
     → place_of word before.items ≢ None → IsLineFault before line (At NameTaken)
 IsLineFault-taken before line word at digits is named taken =
-    reported before line NameTaken name_taken refl (word, item-has_name line word at digits is.head.words, taken) (none-named before line word at digits is named)
+    reported before line NameTaken (word, item-has_name line word at digits is.head.words, taken) (none-named before line word at digits is named)
 
 pub IsLineFault-full : (before : Before) (line word at digits : List ℕ) → IsItemLine before line word at digits → is_name word ≡ true
     → place_of word before.items ≡ None → MAX_ITEMS ≤ length before.items → IsLineFault before line (At TooManyItems)
 IsLineFault-full before line word at digits is named free full =
-    reported before line TooManyItems too_many_items refl (first-line line (codes "item") (word ∷ at ∷ digits ∷ []) is.head.words, full)
+    reported before line TooManyItems (first-line line (codes "item") (word ∷ at ∷ digits ∷ []) is.head.words, full)
     (none11 before line (none-named before line word at digits is named)
     (λ has. has.2 (ap (λ (w : List ℕ). place_of w before.items) (sym (item-name line word at digits has.0 is.head.words has.1)) ∙ free)))

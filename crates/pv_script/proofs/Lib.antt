@@ -10,4 +10,3 @@ pub mod RequestLemmas
 pub mod FaultLemmas
 pub mod CountLemmas
 pub mod ScheduleLemmas
-pub mod RunnableLemmas

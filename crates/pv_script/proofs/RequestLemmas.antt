@@ -10,10 +10,10 @@ use Rattle.pv_check.specs.declared.plan.CheckError.TheVariants as check
 use Rattle.pv_parse.specs.declared.error.ParseError.{ParseError}
 use Rattle.pv_parse.specs.declared.error.ParseError.TheVariants as parse
 use Rattle.pv_parse.specs.Refusals.{refusal_of}
-use Rattle.pv_model.specs.LineCauses.{Before, declared_by, at_program, names_no_item, too_many_names, query_assigns, no_return, HasProgram, HasFirstWord, IsSaid, or_default, Has}
+use Rattle.pv_model.specs.LineCauses.{Before, declared_by, HasProgram, HasFirstWord, IsSaid, or_default, Has}
 use Rattle.pv_model.specs.Check.{names_item, AreItems, has_assignment, has_return}
 use Rattle.pv_model.specs.LineForms.{Field, site, mode, name, program, forms_of, arguments, takes_program, site_and_text, program_text, form_of, fields_of, fields_in, has_good_number}
-use Rattle.pv_model.specs.ProgramText.{malformed, unknown_name, too_deep, IsProgramText, at_fault, IsRefused}
+use Rattle.pv_model.specs.ProgramText.{IsProgramText, at_fault, IsRefused}
 use Rattle.pv_model.specs.Schedule.{request_word, IsRequest}
 use Rattle.pv_model.specs.Syntax.{Program}
 use Rattle.pv_model.specs.Text.{TextLine, IsDecimal}
@@ -239,9 +239,9 @@ module _ (before : Before) (line : TextLine) (query : Bool) (args : List (List �
 
   pub IsLineFault-parse : (error : ParseError) → length text ≤ MAX_LINE → IfSome (refusal_of error) (IsRefused (declared_by before) text) → IsLineFault before line (fault_of_parse error)
   IsLineFault-parse (parse.TooLarge m) short refused = absurd (let same = refused.0 in let large = refused.1 in omega arith)
-  IsLineFault-parse (parse.Malformed column) short refused = reported before line (ProgramColumn column) (at_program malformed column) refl (text, has_text, refused) none-fields
-  IsLineFault-parse (parse.UnknownName column) short refused = reported before line (UnknownName column) (at_program unknown_name column) refl (text, has_text, refused) none-fields
-  IsLineFault-parse (parse.TooDeep column) short refused = reported before line (TooDeep column) (at_program too_deep column) refl (text, has_text, refused) none-fields
+  IsLineFault-parse (parse.Malformed column) short refused = reported before line (ProgramColumn column) (text, has_text, refused) none-fields
+  IsLineFault-parse (parse.UnknownName column) short refused = reported before line (UnknownName column) (text, has_text, refused) none-fields
+  IsLineFault-parse (parse.TooDeep column) short refused = reported before line (TooDeep column) (text, has_text, refused) none-fields
   IsLineFault-parse parse.NoMemory short refused = tt
 
   module _ (p : Program) (program_is : IsProgramText (declared_by before) text p) where
@@ -278,15 +278,15 @@ module _ (before : Before) (line : TextLine) (query : Bool) (args : List (List �
         omega arith)
 
     fault-why : (items : List ℕ) → AreItems p items → (e : CheckError) → Why (length items) p query e → IsLineFault before line (fault_of_check e)
-    fault-why items are check.NoItem (none empty) = reported before line NamesNoItem names_no_item refl (p, has_program, names_item-no_items p items are empty) none-program
+    fault-why items are check.NoItem (none empty) = reported before line NamesNoItem (p, has_program, names_item-no_items p items are empty) none-program
     fault-why items are (check.TooManyItems m) (many large) =
-        reported before line (TooManyNames (length items)) (too_many_names (length items)) refl (p, has_program, items, are, refl, large) (none-some_name items are (omega arith))
+        reported before line (TooManyNames (length items)) (p, has_program, items, are, refl, large) (none-some_name items are (omega arith))
     fault-why items are check.Assigns (assigning some small asks assigns) =
-        reported before line QueryAssigns query_assigns refl
+        reported before line QueryAssigns
         (p, has_program, first-line line (request_word query) args is.head.words ∙ ap request_word asks, assigns)
         (none-few_names items are some small)
     fault-why items are check.NoReturn (silent some small asks pure quiet) =
-        reported before line NoReturn no_return refl
+        reported before line NoReturn
         (p, has_program, first-line line (request_word query) args is.head.words ∙ ap request_word asks, quiet)
         (none16 before line (none-few_names items are some small)
         (λ has. both_ways (has_assignment p) pure (ap has_assignment (only_program has.0 has.1) ∙ has.3)))

@@ -109,10 +109,8 @@ refused_at a b number cause = λ i. record { number = number i; cause = cause i 
 -- Each text has exactly one answer.
 pub one : (text : List ℕ) → HasOneAnswer (IsSchedule text) (IsMalformedAt text)
 one text = record {
-  some = ⊎_elim inl (λ at. inr (record { number = at.0; cause = Some at.1 }, (at.1, refl, at.2))) (some_schedule_or_fault text);
+  some = ⊎_elim inl (λ at. inr (record { number = at.0; cause = at.1 }, at.2)) (some_schedule_or_fault text);
   one_value = one_schedule text;
-  one_fault = λ a b is also.
-      let same = one_fault text a.number b.number is.0 also.0 is.2 also.2 in
-      refused_at a b same.0 (is.1 ∙ ap Some same.1 ∙ sym also.1);
-  not_both = λ schedule a is fault. no_fault text schedule a.number fault.0 is fault.2;
+  one_fault = λ a b is also. let same = one_fault text a.number b.number a.cause b.cause is also in refused_at a b same.0 same.1;
+  not_both = λ schedule a is fault. no_fault text schedule a.number a.cause is fault;
 }

@@ -1,5 +1,5 @@
 -- How a refused line and its cause are printed.
-use Rattle.std.specs.Prelude.{ℕ, List, ◌++◌, codes, Option, Some, None}
+use Rattle.std.specs.Prelude.{ℕ, List, ◌++◌, codes}
 use Rattle.std.specs.Fmt.{decimal}
 use Rattle.pv_model.specs.LineCauses.{LineCause, too_long, not_text, sites_expected, unknown_word, twice, too_late, wrong_count, bad_number, bad_mode, bad_name, name_taken, too_many_items, at_program, names_no_item, too_many_names, query_assigns, no_return}
 use Rattle.pv_model.specs.ProgramText.{malformed, unknown_name, too_deep}
@@ -7,7 +7,7 @@ use Rattle.pv_script.specs.ScriptErrors.{line_cause_of}
 use Rattle.pv_script.specs.declared.schedule.ScriptError.{ScriptError}
 use Rattle.pv_script.specs.declared.schedule.ScriptError.TheVariants.{Malformed, NoMemory}
 
--- what is wrong with a malformed line, as it is printed
+-- what is wrong with a line, as it is printed
 unfoldable pub cause_text : LineCause → List ℕ
 cause_text too_long = codes "too long"
 cause_text not_text = codes "not text"
@@ -29,14 +29,9 @@ cause_text (too_many_names n) = codes "too many names " ++ decimal n
 cause_text query_assigns = codes "query assigns"
 cause_text no_return = codes "no return"
 
--- the same, and what is printed of a line that is well formed but can't be run so far
-abbrev pub reason_text : Option LineCause → List ℕ
-reason_text None = codes "not built"
-reason_text (Some cause) = cause_text cause
-
 -- `line N: CAUSE`
-abbrev pub refused_text : ℕ → Option LineCause → List ℕ
-refused_text number cause = codes "line " ++ (decimal number ++ (codes ": " ++ reason_text cause))
+abbrev pub refused_text : ℕ → LineCause → List ℕ
+refused_text number cause = codes "line " ++ (decimal number ++ (codes ": " ++ cause_text cause))
 
 -- why a text wasn't read, as it is printed
 abbrev pub error_text : ScriptError → List ℕ

@@ -7,4 +7,3 @@ pub mod LineFaults
 pub mod Keywords
 pub mod Said
 pub mod TakesLine
-pub mod Runnable

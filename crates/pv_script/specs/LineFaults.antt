@@ -1,5 +1,5 @@
 -- Why a line isn't read.
-use Rattle.std.specs.Prelude.{◌≡◌, ◌≢◌, ℕ, true, false, ◌==◌, Option, Some, None, List, length, map, find}
+use Rattle.std.specs.Prelude.{◌≡◌, ◌≢◌, ℕ, true, false, ◌==◌, Option, None, List, length, map, find}
 use Rattle.std.specs.List.{list_all, Contains}
 use denote.Ref.{Bor}
 use Rattle.pv_base.specs.declared.catalog.CatalogError.{CatalogError}
@@ -8,7 +8,6 @@ use Rattle.pv_check.specs.declared.plan.CheckError.{CheckError}
 use Rattle.pv_check.specs.declared.plan.CheckError.TheVariants as check
 use Rattle.pv_parse.specs.declared.error.ParseError.{ParseError}
 use Rattle.pv_parse.specs.declared.error.ParseError.TheVariants as parse
-use Rattle.pv_model.specs.LineCauses as model
 use Rattle.pv_model.specs.LineCauses.{Before, mode_words, IsFirstCause}
 use Rattle.pv_model.specs.LineForms.{Field, mode, fields_in, has_good_number}
 use Rattle.pv_model.specs.Text.{TextLine}
@@ -66,7 +65,7 @@ IsFieldFault sites forms args _ = ⊥
 
 -- The line has this cause first, or there was no memory.
 abbrev pub IsLineFault : Before → TextLine → Fault → Type 0
-IsLineFault before line (At reported) = (cause : model.LineCause) × (line_cause_of reported ≡ Some cause) × IsFirstCause before line cause
+IsLineFault before line (At reported) = IsFirstCause before line (line_cause_of reported)
 IsLineFault before line NoMemory = Unit {0}
 
 -- The error names the line of this number, with its first cause, or there was no memory.

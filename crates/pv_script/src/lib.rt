@@ -1,4 +1,4 @@
-//! Schedules as texts: what a text says, or its first malformed line and why; and the first line that can't be run so far.
+//! Schedules as texts: what a text says, or its first malformed line and why; and the lines that a run prints, as data.
 #![tactic(auto)]
 
 mod arguments;
@@ -9,7 +9,6 @@ mod line;
 mod lines;
 mod program;
 mod read;
-mod runnable;
 mod said;
 mod schedule;
 mod words;
@@ -17,7 +16,6 @@ mod words;
 pub use line::{Line, MessageKind};
 pub use lines::MAX_SCHEDULE;
 pub use read::read_schedule;
-pub use runnable::not_built;
 pub use schedule::{Event, LineCause, Schedule, ScriptError};
 
 #[cfg(test)]

@@ -1,6 +1,6 @@
 // What a schedule says, and why a text is none.
 ghost use Rattle.std.specs.Prelude.{◌≡◌, Some};
-ghost use Rattle.pv_script.specs.CauseTexts.{error_text, reason_text};
+ghost use Rattle.pv_script.specs.CauseTexts.{cause_text, error_text};
 ghost use Rattle.pv_script.specs.ScriptErrors.{line_cause_of};
 
 use pv_ast::Program;
@@ -112,8 +112,6 @@ pub enum LineCause {
     QueryAssigns,
     /// A query has no `return`.
     NoReturn,
-    /// The line isn't malformed, but can't be run so far.
-    NotBuilt,
 }
 
 /// Why a text wasn't read as a schedule.
@@ -131,7 +129,7 @@ pub enum ScriptError {
 }
 
 impl fmt::Display for LineCause {
-    ghost output = { λ cause. Some (reason_text (line_cause_of cause)) };
+    ghost output = { λ cause. Some (cause_text (line_cause_of cause)) };
 
     #[tactic(auto, unfolding(crate::specs::CauseTexts::cause_text))]
     fn fmt<W: fmt::Write>(&self, f: &mut fmt::Formatter<W>) -> fmt::Result {
@@ -155,7 +153,6 @@ impl fmt::Display for LineCause {
             LineCause::TooManyNames(count) => write!(f, "too many names {count}"),
             LineCause::QueryAssigns => f.write_str("query assigns"),
             LineCause::NoReturn => f.write_str("no return"),
-            LineCause::NotBuilt => f.write_str("not built"),
         }
     }
 }

@@ -2,7 +2,7 @@
 ghost use Rattle.std.specs.Prelude.{◌≤◌, length};
 ghost use Rattle.pv_script.specs.declared.lines.TheConstants.{MAX_SCHEDULE};
 
-use crate::{Event, LineCause, ScriptError, not_built, read_schedule};
+use crate::{Event, LineCause, ScriptError, read_schedule};
 use pv_base::{ItemId, MAX_JOURNAL, SiteId};
 use std::process::Abort;
 use std::test::Fail;
@@ -367,30 +367,6 @@ fn a_line_has_at_most_1000_bytes(rt: HostRuntime) -> Result<(), Fail> {
     assert!(rt; text.len() <= 1009);
     assert_refused(&rt, text.as_slice(), 2, LineCause::TooLong);
     Ok(())
-}
-
-#[test]
-fn what_is_not_built_is_reported(rt: HostRuntime) {
-    for (text, line) in [
-        (
-            b"sites 2\nitem a 0 1\npump\nstop 0\nstart 0\ndrop 1\nreport".as_slice(),
-            None,
-        ),
-        // Words that only begin so, or stand elsewhere, are others.
-        (
-            b"sites 1\n# cut 0 1 lost\nitem cut 0 1\nsubmit 0 cut := 1".as_slice(),
-            None,
-        ),
-        (b"sites 1\n\n cut 0 1 lost\nmend 0".as_slice(), Some(3)),
-        (b"sites 1\nreport\nfail\t0 1 kept".as_slice(), Some(3)),
-        (b"sites 1\r\nmend 0\r\n".as_slice(), Some(2)),
-    ] {
-        assert!(rt; text.len() <= 100);
-        match not_built(rt.alloc(), text) {
-            Ok(found) => assert!(rt; found == line),
-            Err(_) => panic!(rt; "no memory"),
-        }
-    }
 }
 
 #[test]

@@ -20,9 +20,11 @@ pub fn is_text(line: &[u8]) -> bool
 pub fn words_of<'a>(alloc: Global, line: &'a [u8]) -> Result<Vec<&'a [u8]>, AllocError>
     ensures { IfOk result (λ found. map (λ word. word.now) found.items ≡ words line.now) }
 {
-    line.split(|b| is_blank(*b))
-        .filter(|word| !word.is_empty())
-        .collect(alloc)
+    // A blank stands between two words, so there is room for all of them.
+    let mut found = Vec::with_capacity(alloc, line.len() / 2 + 1)?;
+    let parts = line.split(|b| is_blank(*b));
+    found.extend(parts.filter(|word| !word.is_empty()))?;
+    Ok(found)
 }
 
 /// The number below 2^64 that a word spells.

@@ -1,18 +1,14 @@
 -- The first line has to be the count of sites, and there has to be one.
-use Rattle.std.proofs.Common.{ap, sym, ◌∙◌, refl}
-use Rattle.pv_model.specs.LineCauses.{sites_expected}
+use Rattle.std.proofs.Common.{ap, sym, ◌∙◌}
 use Rattle.pv_script.specs.LinesLeft.{LinesLeft}
 use Rattle.pv_script.proofs.FaultLemmas.{refuses-first, lacks-sites}
 use Rattle.pv_script.proofs.read.read_first.Goals as goal
 
 pub returns-in_default-clause-fault : goal.returns-in_default-clause-fault
-returns-in_default-clause-fault c = λ text same. (
-  sites_expected,
-  refl,
-  lacks-sites text c.after_last.result
-      (sym (ap (λ (left : LinesLeft). left.numbered) same) ∙ c.in_default.ensures.none)
-      (c.after_last.ensures ∙ c.in_default.ensures.after_last ∙ ap (λ (left : LinesLeft). left.after_last) same),
-)
+returns-in_default-clause-fault c = λ text same.
+    lacks-sites text c.after_last.result
+    (sym (ap (λ (left : LinesLeft). left.numbered) same) ∙ c.in_default.ensures.none)
+    (c.after_last.ensures ∙ c.in_default.ensures.after_last ∙ ap (λ (left : LinesLeft). left.after_last) same)
 
 pub returns-in-Err-clause-fault : goal.returns-in-Err-clause-fault
 returns-in-Err-clause-fault c = λ text same.

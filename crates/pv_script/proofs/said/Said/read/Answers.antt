@@ -25,6 +25,14 @@ returns-in-Sites-clause-fault c =
     (head-of (before_of c.args.self.now) c.args.line.now c.in_ok-words.words.items c.deref.result.now _ (texts c.in_ok-keyword.args.now) c.args.self.now.catalog.sites
     c.in_ok-words.ensures.words.0 c.in_ok-words.ensures.words.1 c.deref.ensures.value (rw c.in-Sites.is at c.in_ok-keyword.ensures.words) refl)
 
+pub returns-in_err-limit-in-Journal-clause-fault : goal.returns-in_err-limit-in-Journal-clause-fault
+returns-in_err-limit-in-Journal-clause-fault c =
+    let p = err_from_is_err_and c.from_residual-in_err-limit-in-Journal.result c.from_residual-in_err-limit-in-Journal.ensures.1 in
+    rw (p.1, p.2)
+    (c.in_err-limit-in-Journal.ensures.fault c.args.line.now
+    (head-of (before_of c.args.self.now) c.args.line.now c.in_ok-words.words.items c.deref.result.now _ (texts c.in_ok-keyword.args.now) c.args.self.now.catalog.sites
+    c.in_ok-words.ensures.words.0 c.in_ok-words.ensures.words.1 c.deref.ensures.value (rw c.in-Journal.is at c.in_ok-keyword.ensures.words) refl))
+
 pub returns-in_err-declare-in-Item-clause-fault : goal.returns-in_err-declare-in-Item-clause-fault
 returns-in_err-declare-in-Item-clause-fault c =
     let p = err_from_is_err_and c.from_residual-in_err-declare-in-Item.result c.from_residual-in_err-declare-in-Item.ensures.1 in
