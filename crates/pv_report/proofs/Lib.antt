@@ -1,1 +1,2 @@
 pub mod CaseTextLemmas
+pub mod PieceLemmas

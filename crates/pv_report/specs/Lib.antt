@@ -1,1 +1,2 @@
 pub mod NamesOnlyItems
+pub mod StillHeld

@@ -4,6 +4,7 @@ ghost use Rattle.std.specs.Fmt.{signed_decimal};
 ghost use Rattle.pv_model.specs.ReplyText as model;
 ghost use Rattle.pv_base.specs.declared.reply.Reply.TheVariants.{Declined};
 ghost use Rattle.pv_protocol.specs.LineText.{answers_text, certainty, spaced};
+ghost use Rattle.pv_report.specs.StillHeld.{StillHeld};
 
 use crate::pieces::{push_signed, push_words};
 use pv_ast::{Decline, Reply};
@@ -11,7 +12,8 @@ use pv_base::NoMemory;
 
 // `certain` or `possible`, and the replies.
 pub(crate) fn push_replies(text: &mut Vec<u8>, replies: &[Reply]) -> Result<(), NoMemory>
-    ensures { OnOk result (text.new.items ≡ text.old.items ++ answers_text model.reply_text replies.now) }
+    ensures text { OnOk result (text.new.items ≡ text.old.items ++ answers_text model.reply_text replies.now) }
+    ensures held { StillHeld text.old.items text.new.items }
 {
     text.extend_from_slice(certainty(replies))?;
     push_each_reply(text, replies)
@@ -19,7 +21,8 @@ pub(crate) fn push_replies(text: &mut Vec<u8>, replies: &[Reply]) -> Result<(), 
 
 // `certain` or `possible`, and the sums.
 pub(crate) fn push_sums(text: &mut Vec<u8>, sums: &[i128]) -> Result<(), NoMemory>
-    ensures { OnOk result (text.new.items ≡ text.old.items ++ answers_text signed_decimal sums.now) }
+    ensures text { OnOk result (text.new.items ≡ text.old.items ++ answers_text signed_decimal sums.now) }
+    ensures held { StillHeld text.old.items text.new.items }
 {
     text.extend_from_slice(certainty(sums))?;
     push_each_sum(text, sums)
@@ -38,7 +41,8 @@ fn certainty<A>(answers: &[A]) -> &'static [u8]
 
 // Each reply, with a space before it.
 fn push_each_reply(text: &mut Vec<u8>, replies: &[Reply]) -> Result<(), NoMemory>
-    ensures { OnOk result (text.new.items ≡ text.old.items ++ spaced model.reply_text replies.now) }
+    ensures text { OnOk result (text.new.items ≡ text.old.items ++ spaced model.reply_text replies.now) }
+    ensures held { StillHeld text.old.items text.new.items }
 {
     for reply in replies {
         text.extend_from_slice(b" ")?;
@@ -49,7 +53,8 @@ fn push_each_reply(text: &mut Vec<u8>, replies: &[Reply]) -> Result<(), NoMemory
 
 // Each sum, with a space before it.
 fn push_each_sum(text: &mut Vec<u8>, sums: &[i128]) -> Result<(), NoMemory>
-    ensures { OnOk result (text.new.items ≡ text.old.items ++ spaced signed_decimal sums.now) }
+    ensures text { OnOk result (text.new.items ≡ text.old.items ++ spaced signed_decimal sums.now) }
+    ensures held { StillHeld text.old.items text.new.items }
 {
     for sum in sums {
         text.extend_from_slice(b" ")?;
@@ -60,7 +65,8 @@ fn push_each_sum(text: &mut Vec<u8>, sums: &[i128]) -> Result<(), NoMemory>
 
 // One reply.
 fn push_reply(text: &mut Vec<u8>, reply: Reply) -> Result<(), NoMemory>
-    ensures { OnOk result (text.new.items ≡ text.old.items ++ model.reply_text reply) }
+    ensures text { OnOk result (text.new.items ≡ text.old.items ++ model.reply_text reply) }
+    ensures held { StillHeld text.old.items text.new.items }
 {
     match reply {
         Reply::Value(value) => push_signed(text, value as i128),

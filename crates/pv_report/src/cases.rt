@@ -1,13 +1,15 @@
 // An item's cases.
 ghost use Rattle.std.specs.Prelude.{◌≡◌, ◌++◌, codes, flat_map, if◌then◌else◌, OnOk};
 ghost use Rattle.pv_protocol.specs.LineText.{case_text, cases_text, literal_text, spaced, when_text};
+ghost use Rattle.pv_report.specs.StillHeld.{StillHeld};
 
 use crate::pieces::push_signed;
 use pv_base::{Case, Literal, NoMemory, push_txn};
 
 // The cases, parted by ` ; `.
 pub(crate) fn push_cases(text: &mut Vec<u8>, cases: &[Case<i64>]) -> Result<(), NoMemory>
-    ensures { OnOk result (text.new.items ≡ text.old.items ++ cases_text cases.now) }
+    ensures text { OnOk result (text.new.items ≡ text.old.items ++ cases_text cases.now) }
+    ensures held { StillHeld text.old.items text.new.items }
 {
     match cases.split_first() {
         None => Ok(()),
@@ -20,7 +22,8 @@ pub(crate) fn push_cases(text: &mut Vec<u8>, cases: &[Case<i64>]) -> Result<(), 
 
 // Each case, with ` ; ` before it.
 fn push_others(text: &mut Vec<u8>, cases: &[Case<i64>]) -> Result<(), NoMemory>
-    ensures { OnOk result (text.new.items ≡ text.old.items ++ flat_map (λ case. codes " ; " ++ case_text case) cases.now) }
+    ensures text { OnOk result (text.new.items ≡ text.old.items ++ flat_map (λ case. codes " ; " ++ case_text case) cases.now) }
+    ensures held { StillHeld text.old.items text.new.items }
 {
     for case in cases {
         text.extend_from_slice(b" ; ")?;
@@ -31,7 +34,8 @@ fn push_others(text: &mut Vec<u8>, cases: &[Case<i64>]) -> Result<(), NoMemory>
 
 // One case.
 fn push_case(text: &mut Vec<u8>, case: &Case<i64>) -> Result<(), NoMemory>
-    ensures { OnOk result (text.new.items ≡ text.old.items ++ case_text case.now) }
+    ensures text { OnOk result (text.new.items ≡ text.old.items ++ case_text case.now) }
+    ensures held { StillHeld text.old.items text.new.items }
 {
     push_signed(text, case.value as i128)?;
     push_when(text, &case.when)
@@ -39,7 +43,8 @@ fn push_case(text: &mut Vec<u8>, case: &Case<i64>) -> Result<(), NoMemory>
 
 // A condition, if there is one.
 fn push_when(text: &mut Vec<u8>, literals: &[Literal]) -> Result<(), NoMemory>
-    ensures { OnOk result (text.new.items ≡ text.old.items ++ when_text literals.now) }
+    ensures text { OnOk result (text.new.items ≡ text.old.items ++ when_text literals.now) }
+    ensures held { StillHeld text.old.items text.new.items }
 {
     if literals.is_empty() {
         return Ok(());
@@ -50,7 +55,8 @@ fn push_when(text: &mut Vec<u8>, literals: &[Literal]) -> Result<(), NoMemory>
 
 // Each literal, with a space before it.
 fn push_literals(text: &mut Vec<u8>, literals: &[Literal]) -> Result<(), NoMemory>
-    ensures { OnOk result (text.new.items ≡ text.old.items ++ spaced literal_text literals.now) }
+    ensures text { OnOk result (text.new.items ≡ text.old.items ++ spaced literal_text literals.now) }
+    ensures held { StillHeld text.old.items text.new.items }
 {
     for literal in literals {
         text.extend_from_slice(b" ")?;
@@ -61,7 +67,8 @@ fn push_literals(text: &mut Vec<u8>, literals: &[Literal]) -> Result<(), NoMemor
 
 // The transaction, with `+` before it where it commits, and else `-`.
 pub(crate) fn push_literal(text: &mut Vec<u8>, literal: Literal) -> Result<(), NoMemory>
-    ensures { OnOk result (text.new.items ≡ text.old.items ++ literal_text literal) }
+    ensures text { OnOk result (text.new.items ≡ text.old.items ++ literal_text literal) }
+    ensures held { StillHeld text.old.items text.new.items }
 {
     text.extend_from_slice(sign(literal.commits))?;
     push_txn(text, literal.txn)

@@ -4,6 +4,7 @@ ghost use Rattle.pv_base.specs.Txn.{txn_text};
 ghost use Rattle.pv_protocol.specs.LineText.{cause_text, kind_text, line_text, name_of, spaced, words_of};
 ghost use Rattle.pv_protocol.specs.State.{conflict};
 ghost use Rattle.pv_report.specs.NamesOnlyItems.{HasItem, NamesOnlyItems};
+ghost use Rattle.pv_report.specs.StillHeld.{StillHeld};
 ghost use Rattle.pv_script.specs.LineView.{kind_of, line_of};
 
 use crate::answers::{push_replies, push_sums};
@@ -20,8 +21,7 @@ pub fn print(alloc: Global, line: &Line, catalog: &Catalog) -> Result<Vec<u8>, N
     ensures { IfOk result (λ text. text.items ≡ line_text catalog.now (line_of line.now)) }
 {
     let mut text = Vec::new(alloc);
-    push_words_of(&mut text, line, catalog)?;
-    text.extend_from_slice(b"\n")?;
+    push_line(&mut text, line, catalog)?;
     Ok(text)
 }
 
@@ -32,16 +32,32 @@ pub fn push_line(text: &mut Vec<u8>, line: &Line, catalog: &Catalog) -> Result<(
     ensures text { OnOk result (text.new.items ≡ text.old.items ++ line_text catalog.now (line_of line.now)) }
     ensures unchanged { OnErr result (text.new.items ≡ text.old.items) }
 {
-    // It is printed apart, since a line that finds no memory leaves a part of it behind.
-    let printed = print(*text.allocator(), line, catalog)?;
-    Ok(text.extend_from_slice(&printed)?)
+    let before = text.len();
+    let pushed = push_whole(text, line, catalog);
+    // A line that finds no memory leaves a part of it behind.
+    if pushed.is_err() {
+        text.truncate(before);
+    }
+    pushed
 }
 
-// The line without its line feed. After an error the buffer's content is of no use.
+// The line with its line feed. After an error the buffer still begins with what it held.
+fn push_whole(text: &mut Vec<u8>, line: &Line, catalog: &Catalog) -> Result<(), NoMemory>
+    requires items { NamesOnlyItems catalog.now (line_of line.now) }
+    ensures text { OnOk result (text.new.items ≡ text.old.items ++ line_text catalog.now (line_of line.now)) }
+    ensures held { StillHeld text.old.items text.new.items }
+{
+    push_words_of(text, line, catalog)?;
+    text.extend_from_slice(b"\n")?;
+    Ok(())
+}
+
+// The line without its line feed. After an error the buffer still begins with what it held.
 #[tactic(auto, unfolding(pv_protocol::specs::LineText::words_of))]
 fn push_words_of(text: &mut Vec<u8>, line: &Line, catalog: &Catalog) -> Result<(), NoMemory>
     requires items { NamesOnlyItems catalog.now (line_of line.now) }
-    ensures { OnOk result (text.new.items ≡ text.old.items ++ words_of catalog.now (line_of line.now)) }
+    ensures text { OnOk result (text.new.items ≡ text.old.items ++ words_of catalog.now (line_of line.now)) }
+    ensures held { StillHeld text.old.items text.new.items }
 {
     match line {
         Line::Txn(txn) => push_with_txn(text, b"txn ", *txn),
@@ -120,7 +136,8 @@ fn push_words_of(text: &mut Vec<u8>, line: &Line, catalog: &Catalog) -> Result<(
 
 // Words and a transaction.
 fn push_with_txn(text: &mut Vec<u8>, words: &[u8], txn: TxnId) -> Result<(), NoMemory>
-    ensures { OnOk result (text.new.items ≡ text.old.items ++ (words.now ++ txn_text txn)) }
+    ensures text { OnOk result (text.new.items ≡ text.old.items ++ (words.now ++ txn_text txn)) }
+    ensures held { StillHeld text.old.items text.new.items }
 {
     text.extend_from_slice(words)?;
     push_txn(text, txn)
@@ -133,7 +150,8 @@ fn push_two_numbers(
     first: u64,
     second: u64,
 ) -> Result<(), NoMemory>
-    ensures { OnOk result (text.new.items ≡ text.old.items ++ (words.now ++ (decimal first ++ (codes " " ++ decimal second)))) }
+    ensures text { OnOk result (text.new.items ≡ text.old.items ++ (words.now ++ (decimal first ++ (codes " " ++ decimal second)))) }
+    ensures held { StillHeld text.old.items text.new.items }
 {
     text.extend_from_slice(words)?;
     push_number(text, first)?;
@@ -143,7 +161,8 @@ fn push_two_numbers(
 
 // `refuse T ` before the cause.
 fn push_refused(text: &mut Vec<u8>, txn: TxnId) -> Result<(), NoMemory>
-    ensures { OnOk result (text.new.items ≡ text.old.items ++ (codes "refuse " ++ (txn_text txn ++ codes " "))) }
+    ensures text { OnOk result (text.new.items ≡ text.old.items ++ (codes "refuse " ++ (txn_text txn ++ codes " "))) }
+    ensures held { StillHeld text.old.items text.new.items }
 {
     push_with_txn(text, b"refuse ", txn)?;
     push_words(text, b" ")
@@ -158,7 +177,8 @@ fn push_conflict(
     catalog: &Catalog,
 ) -> Result<(), NoMemory>
     requires { HasItem catalog.now item.0 }
-    ensures { OnOk result (text.new.items ≡ text.old.items ++ cause_text catalog.now (conflict site.0 item.0 holder)) }
+    ensures text { OnOk result (text.new.items ≡ text.old.items ++ cause_text catalog.now (conflict site.0 item.0 holder)) }
+    ensures held { StillHeld text.old.items text.new.items }
 {
     text.extend_from_slice(b"conflict ")?;
     push_number(text, site.0 as u64)?;
@@ -176,8 +196,9 @@ fn push_sent(
     kind: MessageKind,
     txn: TxnId,
 ) -> Result<(), NoMemory>
-    ensures { OnOk result (text.new.items ≡ text.old.items ++ (codes "sent " ++ (decimal number ++ (codes " " ++ (decimal from.0
+    ensures text { OnOk result (text.new.items ≡ text.old.items ++ (codes "sent " ++ (decimal number ++ (codes " " ++ (decimal from.0
         ++ (codes ">" ++ (decimal to.0 ++ (codes " " ++ (kind_text (kind_of kind) ++ (codes " " ++ txn_text txn)))))))))) }
+    ensures held { StillHeld text.old.items text.new.items }
 {
     push_two_numbers(text, b"sent ", number, from.0 as u64)?;
     text.extend_from_slice(b">")?;
@@ -189,7 +210,8 @@ fn push_sent(
 
 // A word, and then each transaction.
 fn push_list(text: &mut Vec<u8>, word: &[u8], txns: &[TxnId]) -> Result<(), NoMemory>
-    ensures { OnOk result (text.new.items ≡ text.old.items ++ (word.now ++ spaced txn_text txns.now)) }
+    ensures text { OnOk result (text.new.items ≡ text.old.items ++ (word.now ++ spaced txn_text txns.now)) }
+    ensures held { StillHeld text.old.items text.new.items }
 {
     text.extend_from_slice(word)?;
     push_txns(text, txns)
@@ -203,7 +225,8 @@ fn push_item(
     catalog: &Catalog,
 ) -> Result<(), NoMemory>
     requires { HasItem catalog.now item.0 }
-    ensures { OnOk result (text.new.items ≡ text.old.items ++ (words.now ++ name_of catalog.now item.0)) }
+    ensures text { OnOk result (text.new.items ≡ text.old.items ++ (words.now ++ name_of catalog.now item.0)) }
+    ensures held { StillHeld text.old.items text.new.items }
 {
     text.extend_from_slice(words)?;
     push_name(text, item, catalog)
