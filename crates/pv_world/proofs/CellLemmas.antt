@@ -1,60 +1,52 @@
--- What becomes of a cell in a step, a stop and a start.
-use Rattle.std.proofs.Common.{◌≡◌, ℕ, ℤ, ◌+◌, ◌≤◌, Bool, true, false, List, [], ◌∷◌, ◌++◌, Option, Some, None, Ok, Err, refl, sym, ap, subst, ◌∙◌, arith}
-use Rattle.std.specs.Prelude.{All, if◌then◌else◌, is_some, nat_le, nat_lt}
+-- What becomes of a cell in a step and a stop, and what it shows.
+use Rattle.std.proofs.Common.{◌≡◌, ◌⊎◌, inl, inr, ℕ, ℤ, ◌++◌, Bool, true, List, Option, Some, None, Result, Ok, Err, refl, sym, ap, subst, ◌∙◌}
+use Rattle.std.specs.Prelude.{All, IfOk, is_some, option_to_list}
 use Rattle.std.proofs.lemmas.Bool.{true≢false}
-use Rattle.std.proofs.lemmas.Bool.Decides.{nat_tests}
-use Rattle.std.proofs.lemmas.List.Elements.{All-nil}
 use Rattle.std.proofs.lemmas.Option.{none-some}
-use Rattle.pv_base.proofs.Basics.{Some_inj}
 use Rattle.pv_base.specs.Catalog.{Declared}
 use Rattle.pv_base.specs.Polyvalue.{Case}
-use Rattle.pv_base.specs.declared.limits.TheConstants.{HELD_NAMES, MIN_JOURNAL, NEVER_GIVEN}
 use Rattle.pv_base.specs.declared.txn.TxnId.{TxnId}
-use Rattle.pv_disk.specs.ListLaws.{list_model}
-use Rattle.pv_disk.specs.ListLog.{ListState}
-use Rattle.pv_disk.specs.declared.list_log.AppendFail.{AppendFail}
-use Rattle.pv_format.specs.Contents.{SpellRecords, greatest_epoch}
-use Rattle.pv_format.specs.Record.{Record, epoch_begun}
-use Rattle.pv_format.specs.RecordSpelling.{SpellsRecord}
+use Rattle.pv_disk.specs.MemDisk.{MemState}
+use Rattle.pv_disk.specs.MemLaws.{mem_model}
+use Rattle.pv_format.specs.Record.{Record}
+use Rattle.pv_journal.specs.JournalModel.{journal_model}
+use Rattle.pv_journal.specs.declared.journal.Journal.{Journal}
 use Rattle.pv_law_events.specs.Replays.{CanBeReplayed}
+use Rattle.pv_protocol.specs.Arms.{Reached, calls_of, fires, reached, record_left}
+use Rattle.pv_protocol.specs.Attempt.{of_step}
 use Rattle.pv_protocol.specs.Committed.{holder_of}
 use Rattle.pv_protocol.specs.Here.{Here}
-use Rattle.pv_protocol.specs.Records.{journal_bytes, record_bytes}
 use Rattle.pv_protocol.specs.Report as report
 use Rattle.pv_protocol.specs.Report.{reading_at, shown_unless_held}
 use Rattle.pv_protocol.specs.Shown.{shown}
-use Rattle.pv_protocol.specs.Start.{just_started, site_start, starts, too_long, no_epoch}
 use Rattle.pv_protocol.specs.State as model
-use Rattle.pv_protocol.specs.State.{Running, Setup}
-use Rattle.pv_protocol.specs.Step.{step_on, records_after}
-use Rattle.pv_protocol.specs.Width.{IsNarrow}
-use Rattle.pv_protocol.specs.World.{first_site, no_site}
-use Rattle.pv_site.specs.Answer.{IsAnswer}
+use Rattle.pv_protocol.specs.State.{Arm, Running}
+use Rattle.pv_protocol.specs.Step.{site_step, step_on}
 use Rattle.pv_site.specs.Asked.{Shows}
 use Rattle.pv_site.specs.Inputs.{IsSpelledFrom}
-use Rattle.pv_site.specs.OnLog.{HoldsRecords}
-use Rattle.pv_site.specs.Opens.{HasOpened, Opens}
 use Rattle.pv_site.specs.SiteState.{SiteState, here_with, setup_of}
-use Rattle.pv_site.specs.Steps.{HoldsWhatRuns, IsReady, Steps}
-use Rattle.pv_site.specs.declared.error.OpenError.TheVariants as refused
+use Rattle.pv_site.specs.Steps.{Breaks, IsReady, Makes, Steps}
 use Rattle.pv_site.specs.declared.error.StepError.TheVariants as step_error
 use Rattle.pv_site.specs.declared.input.Shown.TheVariants as answered
 use Rattle.pv_site.specs.declared.input.Shown.{Shown}
 use Rattle.pv_site.specs.declared.input.Step.{Step}
 use Rattle.pv_store.specs.Kept.{Kept}
-use Rattle.pv_store.specs.Refusals.{too_many_in}
-use Rattle.pv_world.proofs.RecordLemmas.{none-bad, narrow-is-taken, records-same}
-use Rattle.pv_world.specs.Cells.{CanBeRead, HasStarted, HasStepped, HasStopped, KeepsRecords}
+use Rattle.pv_world.proofs.StepLemmas.{Appends, Rests, step-broken, step-made}
+use Rattle.pv_world.specs.Cells.{CanBeRead, CanFall, HasFallen, HasStepped, HasStopped, IsDone, IsUpOver, KeepsRecords, site_after, site_after_input}
+use Rattle.pv_world.specs.Disks.{Spells}
 use Rattle.pv_world.specs.Readings.{reading_in}
-use Rattle.pv_world.specs.Stands.{IsDown, IsUp, StandsForSite}
+use Rattle.pv_world.specs.Stands.{IsUp, StandsForSite}
 use Rattle.pv_world.specs.declared.cell.Cell.TheVariants.{Up, Down}
 use Rattle.pv_world.specs.declared.cell.Cell.{Cell}
-use Rattle.pv_world.specs.declared.cell.Start.TheVariants as start
-use Rattle.pv_world.specs.declared.cell.Start.{Start}
+use Rattle.pv_world.specs.declared.cell.Stepped.TheVariants as stepped
+use Rattle.pv_world.specs.declared.cell.Stepped.{Stepped}
 
--- A step.
+-- A cell that is up.
+pub is-up : (catalog : Declared) (n : ℕ) (cell : Cell) (up : SiteState (Journal MemState)) (is : model.Site) → cell ≡ Up up → StandsForSite catalog n cell is
+    → IsUp catalog n up is
+is-up catalog n cell up is same stands = subst (λ (now : Cell). StandsForSite catalog n now is) same stands
 
-module _ (catalog : Declared) (n : ℕ) (old : SiteState ListState) (is : model.Site) (up : IsUp catalog n old is) where
+module _ (catalog : Declared) (n : ℕ) (old : SiteState (Journal MemState)) (is : model.Site) (up : IsUp catalog n old is) where
   -- It isn't down.
   not-down : (X : Type 0) → old.running ≡ None → X
   not-down X none = absurd (true≢false (sym up.runs ∙ ap (λ (running : Option Running). is_some running) none))
@@ -65,210 +57,160 @@ module _ (catalog : Declared) (n : ℕ) (old : SiteState ListState) (is : model.
       ∙ (ap (λ (declared : Declared). record { me = n; setup = setup_of declared; records = old.records; running = running }) up.catalog
       ∙ ap (λ (records : List Record). record { me = n; setup = setup_of catalog; records = records; running = running }) up.records)
 
-  -- The site has made the step of the definition.
-  pub has-stepped : (new : SiteState ListState) (input : model.Input) (answer : Step) → Steps list_model old new old.running input (Ok answer)
-      → IsReady list_model new → new.log.fails ≡ old.log.fails → All (IsSpelledFrom old.me) answer.sends.items
-      → HasStepped catalog n (Up old) (Up new) is is.running input (Some answer)
-  has-stepped new input answer steps ready sure spelled = by old.running refl steps
-    where
-      by : (was : Option Running) → old.running ≡ was → Steps list_model old new was input (Ok answer)
-          → HasStepped catalog n (Up old) (Up new) is is.running input (Some answer)
-      by None none made = not-down _ none
-      by (Some running) at made =
-          subst (λ (now : Option Running). HasStepped catalog n (Up old) (Up new) is now input (Some answer)) (sym at ∙ up.running) (
-            subst (λ (here : Here). IsAnswer answer (step_on here input)) (here-same running) made.answered,
-            subst (λ (me : ℕ). All (IsSpelledFrom me) answer.sends.items) up.me spelled,
-            subst (λ (here : Here). IsUp catalog n new (record { records = records_after is.records (step_on here input); arm = None; running = Some (step_on here input).running }))
-                (here-same running)
-                (record {
-                  me = ap (λ (site : SiteState ListState). site.me) made.site ∙ up.me;
-                  catalog = ap (λ (site : SiteState ListState). site.catalog) made.site ∙ up.catalog;
-                  records = ap (λ (site : SiteState ListState). site.records) made.site
-                      ∙ ap (λ (records : List Record). records_after records (step_on (here_with old running) input)) up.records;
-                  runs = ap (λ (site : SiteState ListState). is_some site.running) made.site;
-                  running = ap (λ (site : SiteState ListState). site.running) made.site;
-                  unarmed = refl;
-                  ready = ready;
-                  sure = sure ∙ up.sure;
-                }),
-          )
+  -- A step.
+
+  module _ (rests : Rests) (appends : Appends) (new : SiteState (Journal MemState)) where
+    -- The site is there with all that the step makes of it.
+    is-done : (answer : Step) (step : model.Step) → Makes (journal_model mem_model) old new answer step → IsReady (journal_model mem_model) new
+        → IsDone catalog n (Up new) is (of_step n step)
+    is-done answer step made ready =
+        let (armed, waiting, disk) = step-made rests appends is.records is.arm old.log new.log up.ready.intact up.disk step.appended made.log in
+        record {
+          armed = armed;
+          waits = waiting;
+          stands = record {
+            me = ap (λ (site : SiteState (Journal MemState)). site.me) made.site ∙ up.me;
+            catalog = ap (λ (site : SiteState (Journal MemState)). site.catalog) made.site ∙ up.catalog;
+            records = ap (λ (site : SiteState (Journal MemState)). site.records) made.site
+                ∙ ap (λ (records : List Record). records ++ option_to_list step.appended) up.records;
+            runs = ap (λ (site : SiteState (Journal MemState)). is_some site.running) made.site;
+            running = ap (λ (site : SiteState (Journal MemState)). site.running) made.site;
+            ready = ready;
+            disk = disk;
+          };
+        }
+
+    -- The site has made the step of the definition.
+    pub has-stepped : (input : model.Input) (answer : Step) → Steps (journal_model mem_model) old new old.running input (Ok answer)
+        → IsReady (journal_model mem_model) new → All (IsSpelledFrom old.me) answer.sends.items
+        → HasStepped catalog n (Up old) (Up new) is is.running input (stepped.Made answer)
+    has-stepped input answer steps ready spelled = by old.running refl steps
+      where
+        by : (was : Option Running) → old.running ≡ was → Steps (journal_model mem_model) old new was input (Ok answer)
+            → HasStepped catalog n (Up old) (Up new) is is.running input (stepped.Made answer)
+        by None none made = not-down _ none
+        by (Some running) at made =
+            let made_so : Makes (journal_model mem_model) old new answer (site_step (setup_of catalog) n is.records running input) =
+            subst (λ (here : Here). Makes (journal_model mem_model) old new answer (step_on here input)) (here-same running) made in
+            subst (λ (now : Option Running). HasStepped catalog n (Up old) (Up new) is now input (stepped.Made answer)) (sym at ∙ up.running) (
+              made_so.answered,
+              subst (λ (me : ℕ). All (IsSpelledFrom me) answer.sends.items) up.me spelled,
+              is-done answer (site_step (setup_of catalog) n is.records running input) made_so ready,
+            )
+
+    -- What its disk holds where the step is broken off: a fault has fired, or all is as it was.
+    abbrev BreaksOff : model.Step → Type 0
+    BreaksOff step =
+        ((fired : Arm) × (reached (calls_of (of_step n step)) is.arm ≡ fires fired)
+        × Spells (is.records ++ option_to_list (record_left 0 step.appended fired)) None (Some fired.stops) new.log.disk)
+        ⊎ Spells is.records is.arm None new.log.disk
+
+    breaks-off : (running : Running) (input : model.Input) → Breaks (journal_model mem_model) old new (step_on (here_with old running) input)
+        → BreaksOff (site_step (setup_of catalog) n is.records running input)
+    breaks-off running input breaks =
+        let broken : Breaks (journal_model mem_model) old new (site_step (setup_of catalog) n is.records running input) =
+        subst (λ (here : Here). Breaks (journal_model mem_model) old new (step_on here input)) (here-same running) breaks in
+        step-broken rests appends is.records is.arm old.log new.log up.ready.intact up.disk (site_step (setup_of catalog) n is.records running input) broken.log
+
+    -- It can be taken from memory.
+    pub can-fall : (input : model.Input) → Steps (journal_model mem_model) old new old.running input (Err step_error.Fault)
+        → CanBeReplayed (setup_of catalog) n is.records → CanBeReplayed (setup_of catalog) n (site_after_input catalog n is is.running input).records
+        → CanFall catalog n (Up new)
+    can-fall input steps replayable after = by old.running refl steps
+      where
+        from : (running : Running) → CanBeReplayed (setup_of catalog) n (site_after_input catalog n is (Some running) input).records
+            → BreaksOff (site_step (setup_of catalog) n is.records running input) → CanFall catalog n (Up new)
+        from running then (inl (fired, reaches, disk)) = (
+          is.records ++ option_to_list (record_left 0 (site_step (setup_of catalog) n is.records running input).appended fired),
+          None,
+          Some fired.stops,
+          disk,
+          subst (λ (r : Reached). CanBeReplayed (setup_of catalog) n (site_after is (of_step n (site_step (setup_of catalog) n is.records running input)) r).records) reaches then,
+        )
+        from running then (inr disk) = (is.records, is.arm, None, disk, replayable)
+
+        by : (was : Option Running) → old.running ≡ was → Steps (journal_model mem_model) old new was input (Err step_error.Fault) → CanFall catalog n (Up new)
+        by None none broke = not-down _ none
+        by (Some running) at broke =
+            from running
+            (subst (λ (now : Option Running). CanBeReplayed (setup_of catalog) n (site_after_input catalog n is now input).records) (sym up.running ∙ at) after)
+            (breaks-off running input broke)
+
+    -- Once it is, the step is broken off.
+    pub has-broken : {E : Type 0} (input : model.Input) (cell : Cell) (result : Result Stepped E)
+        → Steps (journal_model mem_model) old new old.running input (Err step_error.Fault)
+        → ((records : List Record) (armed : Option Arm) (fired : Option Bool) → IsUpOver records armed fired (Up new) → IfOk result (HasFallen catalog n records fired cell))
+        → IfOk result (HasStepped catalog n (Up old) cell is is.running input)
+    has-broken {E = E} input cell result steps fell = by old.running refl steps
+      where
+        broken : (running : Running) (fired : Arm) → reached (calls_of (of_step n (site_step (setup_of catalog) n is.records running input))) is.arm ≡ fires fired
+            → (answer : Result Stepped E)
+            → IfOk answer (HasFallen catalog n (is.records ++ option_to_list (record_left 0 (site_step (setup_of catalog) n is.records running input).appended fired))
+            (Some fired.stops) cell)
+            → IfOk answer (HasStepped catalog n (Up old) cell is (Some running) input)
+        broken running fired reaches (Err error) has = tt
+        broken running fired reaches (Ok stepped.Down) has = absurd has
+        broken running fired reaches (Ok (stepped.Made answer)) has = absurd has
+        broken running fired reaches (Ok (stepped.Broke stops)) has =
+            record { arm = fired; fires = reaches; kind = (let same : fired.stops ≡ stops = cc in same); stands = has.1 }
+
+        unfired : (running : Running) (answer : Result Stepped E) → IfOk answer (HasFallen catalog n is.records None cell)
+            → IfOk answer (HasStepped catalog n (Up old) cell is (Some running) input)
+        unfired running (Err error) has = tt
+        unfired running (Ok stepped.Down) has = absurd has
+        unfired running (Ok (stepped.Made answer)) has = absurd has
+        unfired running (Ok (stepped.Broke stops)) has = absurd (none-some stops has.0)
+
+        from : (running : Running) → BreaksOff (site_step (setup_of catalog) n is.records running input)
+            → IfOk result (HasStepped catalog n (Up old) cell is (Some running) input)
+        from running (inl (fired, reaches, disk)) =
+            broken running fired reaches result
+            (fell (is.records ++ option_to_list (record_left 0 (site_step (setup_of catalog) n is.records running input).appended fired)) None (Some fired.stops) disk)
+        from running (inr disk) = unfired running result (fell is.records is.arm None disk)
+
+        by : (was : Option Running) → old.running ≡ was → Steps (journal_model mem_model) old new was input (Err step_error.Fault)
+            → IfOk result (HasStepped catalog n (Up old) cell is is.running input)
+        by None none broke = not-down _ none
+        by (Some running) at broke =
+            subst (λ (now : Option Running). IfOk result (HasStepped catalog n (Up old) cell is now input)) (sym at ∙ up.running)
+            (from running (breaks-off running input broke))
 
   -- It isn't answered that the site is down.
-  pub not-down-now : (new : SiteState ListState) (input : model.Input) → Steps list_model old new old.running input (Err step_error.Down) → ⊥
+  pub not-down-now : (new : SiteState (Journal MemState)) (input : model.Input) → Steps (journal_model mem_model) old new old.running input (Err step_error.Down) → ⊥
   not-down-now new input steps = by old.running refl steps
     where
-      by : (was : Option Running) → old.running ≡ was → Steps list_model old new was input (Err step_error.Down) → ⊥
+      by : (was : Option Running) → old.running ≡ was → Steps (journal_model mem_model) old new was input (Err step_error.Down) → ⊥
       by None none made = not-down _ none
       by (Some running) some made = made
 
-  holds-running : (was : Option Running) → old.running ≡ was → HoldsWhatRuns list_model old.log old.records was → HoldsRecords list_model old.log is.records
-  holds-running None none holds = not-down _ none
-  holds-running (Some running) some holds = subst (HoldsRecords list_model old.log) up.records holds
+  -- A stop.
 
-  -- Its log can be read.
-  pub up-can-be-read : CanBeReplayed (setup_of catalog) n is.records → CanBeRead catalog n old.log
-  up-can-be-read replayable = (is.records, up.ready.intact, holds-running old.running refl up.ready.holds, replayable)
-
-  pub up-holds : HoldsRecords list_model old.log is.records
-  up-holds = holds-running old.running refl up.ready.holds
+  -- Its disk can be read.
+  pub up-can-be-read : CanBeReplayed (setup_of catalog) n is.records → CanBeRead catalog n old.log.disk
+  up-can-be-read replayable = (is.records, is.arm, None, up.disk, replayable)
 
   -- It has stopped.
-  pub has-stopped : (log : ListState) (store : Kept) → log ≡ old.log → KeepsRecords catalog n is.records store
-      → HasStopped catalog n (Up old) (Down log store) is is.running true
-  has-stopped log store same keeps = by old.running refl
+  pub has-stopped : (disk : MemState) (store : Kept) → disk ≡ old.log.disk → KeepsRecords catalog n is.records store
+      → HasStopped catalog n (Up old) (Down disk store) is is.running true
+  has-stopped disk store same keeps = by old.running refl
     where
-      by : (was : Option Running) → old.running ≡ was → HasStopped catalog n (Up old) (Down log store) is is.running true
+      by : (was : Option Running) → old.running ≡ was → HasStopped catalog n (Up old) (Down disk store) is is.running true
       by None none = not-down _ none
       by (Some running) some =
-          subst (λ (now : Option Running). HasStopped catalog n (Up old) (Down log store) is now true) (sym some ∙ up.running) (
+          subst (λ (now : Option Running). HasStopped catalog n (Up old) (Down disk store) is now true) (sym some ∙ up.running) (
             refl,
-            subst (λ (l : ListState). IsDown catalog n l store (record is { running = None })) (sym same)
-                (record {
-                  me = keeps.site;
-                  catalog = keeps.catalog;
-                  records = keeps.records;
-                  down = refl;
-                  unarmed = up.unarmed;
-                  intact = up.ready.intact;
-                  limit = up.ready.limit ∙ ap (λ (declared : Declared). declared.journal) up.catalog;
-                  holds = up-holds;
-                  sure = up.sure;
-                }),
+            record {
+              me = keeps.site;
+              catalog = keeps.catalog;
+              records = keeps.records;
+              down = refl;
+              disk = subst (Spells is.records is.arm None) (sym same) up.disk;
+            },
           )
-
--- A start.
-
-module _ (setup : Setup) (records : List Record) (running : Running) (epoch : ℕ) where
-  -- The epoch that is recorded is the one that runs.
-  epoch-runs : site_start setup records ≡ starts running (epoch_begun epoch) → running.epoch ≡ epoch
-  unfolding site_start
-  epoch-runs is = by (nat_le NEVER_GIVEN (greatest_epoch records + 1)) (nat_lt setup.catalog.journal (journal_bytes records + record_bytes (epoch_begun (greatest_epoch records + 1)))) is
-    where
-      by : (spent full : Bool) → (if spent then no_epoch else (if full then too_long (journal_bytes records + record_bytes (epoch_begun (greatest_epoch records + 1)))
-          else starts (just_started (greatest_epoch records + 1)) (epoch_begun (greatest_epoch records + 1)))) ≡ starts running (epoch_begun epoch) → running.epoch ≡ epoch
-      by true full same = absurd (let wrong : ⊥ = cc in wrong)
-      by false true same = absurd (let wrong : ⊥ = cc in wrong)
-      by false false same =
-          let runs : just_started (greatest_epoch records + 1) ≡ running = cc in
-          let begun : epoch_begun (greatest_epoch records + 1) ≡ epoch_begun epoch = cc in
-          let number : greatest_epoch records + 1 ≡ epoch = cc in
-          sym (ap (λ (r : Running). r.epoch) runs) ∙ number
-
-module _ (catalog : Declared) (n : ℕ) (log : ListState) (store : Kept) (is : model.Site) (down : IsDown catalog n log store is) where
-  -- What was read are the site's records.
-  records-read : (records : List Record) (contents : List (List ℕ)) → ((held : List (List ℕ)) → Some log.contents ≡ Some held → contents ≡ held)
-      → SpellRecords records contents → records ≡ is.records
-  records-read records contents read spelled =
-      records-same log.contents records is.records (subst (SpellRecords records) (read log.contents refl) spelled) (down.holds.held log.contents refl)
-
-  -- It runs.
-  pub has-started : (up : SiteState ListState) → HasOpened list_model log n catalog up → IsReady list_model up → up.log.fails ≡ log.fails
-      → HasStarted catalog n (Down log store) (Up up) is is.running (start.Started up.epoch)
-  has-started up opened ready sure =
-      let same : opened.records ≡ is.records = records-read opened.records opened.contents opened.read opened.spelled in
-      subst (λ (now : Option Running). HasStarted catalog n (Down log store) (Up up) is now (start.Started up.epoch)) (sym down.down) (
-        opened.running,
-        epoch_begun opened.epoch,
-        subst (λ (records : List Record). site_start (setup_of catalog) records ≡ starts opened.running (epoch_begun opened.epoch)) same opened.starts,
-        epoch-runs (setup_of catalog) opened.records opened.running opened.epoch opened.starts ∙ sym (ap (λ (site : SiteState ListState). site.epoch) opened.site),
-        record {
-          me = ap (λ (site : SiteState ListState). site.me) opened.site;
-          catalog = ap (λ (site : SiteState ListState). site.catalog) opened.site;
-          records = ap (λ (site : SiteState ListState). site.records) opened.site
-              ∙ ap (λ (records : List Record). records ++ epoch_begun opened.epoch ∷ []) same;
-          runs = ap (λ (site : SiteState ListState). is_some site.running) opened.site;
-          running = ap (λ (site : SiteState ListState). site.running) opened.site;
-          unarmed = refl;
-          ready = ready;
-          sure = sure ∙ down.sure;
-        },
-      )
-
-  -- It doesn't, and is as it was.
-  stays-down : (new : ListState) → new ≡ log → IsDown catalog n new store is
-  stays-down new same = subst (λ (l : ListState). IsDown catalog n l store is) (sym same) down
-
-  pub has-no-room : (new : ListState) (length : ℕ) → Opens list_model log n catalog (Err (refused.Full new length))
-      → HasStarted catalog n (Down log store) (Down new store) is is.running (start.Full length)
-  has-no-room new length (records, reads, cause) =
-      subst (λ (now : Option Running). HasStarted catalog n (Down log store) (Down new store) is now (start.Full length)) (sym down.down) (
-        subst (λ (r : List Record). site_start (setup_of catalog) r ≡ too_long length) (records-read records reads.contents reads.read reads.spelled) cause.1,
-        stays-down new reads.call,
-      )
-
-  pub has-no-epoch : (new : ListState) → Opens list_model log n catalog (Err (refused.EpochsSpent new))
-      → HasStarted catalog n (Down log store) (Down new store) is is.running start.Spent
-  has-no-epoch new (records, reads, cause) =
-      subst (λ (now : Option Running). HasStarted catalog n (Down log store) (Down new store) is now start.Spent) (sym down.down) (
-        subst (λ (r : List Record). site_start (setup_of catalog) r ≡ no_epoch) (records-read records reads.contents reads.read reads.spelled) cause.1,
-        stays-down new reads.call,
-      )
-
-  -- No record is bad, and no value names too many outcomes.
-  pub no-bad-record : (new : ListState) (index : ℕ) → Opens list_model log n catalog (Err (refused.BadRecord new index)) → ⊥
-  no-bad-record new index (up, kept, found, call) =
-      none-bad found.0 is.records index (subst (SpellRecords is.records) (sym (found.1 log.contents refl)) (down.holds.held log.contents refl)) found.2
-
-  pub not-too-many : (new : ListState) (count : ℕ) → IsNarrow HELD_NAMES catalog n is.records → Opens list_model log n catalog (Err (refused.TooManyOutcomes new count)) → ⊥
-  not-too-many new count narrow (records, reads, cause) =
-      none-some count (sym (narrow-is-taken catalog n is.records narrow)
-      ∙ subst (λ (r : List Record). too_many_in catalog n r ≡ Some count) (records-read records reads.contents reads.read reads.spelled) cause)
-
--- The first start.
-
-module _ (catalog : Declared) (least : MIN_JOURNAL ≤ catalog.journal) where
-  first-start : site_start (setup_of catalog) [] ≡ starts (just_started 1) (epoch_begun 1)
-  unfolding site_start journal_bytes
-  first-start = by (nat_lt catalog.journal 19) (grind (arith, nat_tests, least))
-    where
-      by : (full : Bool) → full ≡ false → (if full then too_long 19 else starts (just_started 1) (epoch_begun 1)) ≡ starts (just_started 1) (epoch_begun 1)
-      by false is = refl
-      by true is = absurd (let wrong : ⊥ = cc in wrong)
-
-  -- A site without records that is started is up in its first epoch.
-  pub first-started : (n : ℕ) (old new : Cell) (answer : Start) → HasStarted catalog n old new no_site None answer → StandsForSite catalog n new first_site
-  first-started n old new start.Up started = absurd started
-  first-started n old new (start.Started epoch) (running, more, is, same, stands) =
-      let both : starts running more ≡ starts (just_started 1) (epoch_begun 1) = sym is ∙ first-start in
-      let runs : running ≡ just_started 1 = cc in
-      let begun : more ≡ epoch_begun 1 = cc in
-      subst (λ (r : Running). StandsForSite catalog n new (record { records = epoch_begun 1 ∷ []; arm = None; running = Some r })) runs
-      (subst (λ (m : Record). StandsForSite catalog n new (record { records = m ∷ []; arm = None; running = Some running })) begun stands)
-  first-started n old new (start.Full length) (is, stands) =
-      absurd (let both : too_long length ≡ starts (just_started 1) (epoch_begun 1) = sym is ∙ first-start in let wrong : ⊥ = cc in wrong)
-  first-started n old new start.Spent (is, stands) =
-      absurd (let both : no_epoch ≡ starts (just_started 1) (epoch_begun 1) = sym is ∙ first-start in let wrong : ⊥ = cc in wrong)
-
-  -- A site without records, which is down.
-  pub stands-empty : (n : ℕ) (log : ListState) (limit : ℕ) (fails : List AppendFail) (store : Kept)
-      → log ≡ record { contents = []; limit = limit; fails = fails; appends = 0; faults = 0; is_down = false; places = 0; bytes = 0 } → limit ≡ catalog.journal → fails ≡ []
-      → store.site ≡ n → store.catalog ≡ catalog → store.records ≡ [] → IsDown catalog n log store no_site
-  unfolding journal_bytes
-  stands-empty n log limit fails store is within none site declared records =
-      subst (λ (l : ListState). IsDown catalog n l store no_site) (sym is)
-      (record {
-        me = site;
-        catalog = declared;
-        records = records;
-        down = refl;
-        unarmed = refl;
-        intact = omega arith;
-        limit = within;
-        holds = record { up = refl; size = refl; held = λ contents same. subst (SpellRecords []) (Some_inj same) tt };
-        sure = none;
-      })
-
-  pub empty-replayable : (n : ℕ) → IsNarrow HELD_NAMES catalog n [] → CanBeReplayed (setup_of catalog) n []
-  unfolding journal_bytes
-  empty-replayable n narrow = record {
-    spelled = All-nil (λ (kept : Record). (bytes : List ℕ) × SpellsRecord kept bytes);
-    room = omega (arith, least);
-    narrow = narrow;
-  }
 
 -- What is read.
 
-module _ (catalog : Declared) (n : ℕ) (up : SiteState ListState) (is : model.Site) (stands : IsUp catalog n up is) where
+module _ (catalog : Declared) (n : ℕ) (up : SiteState (Journal MemState)) (is : model.Site) (stands : IsUp catalog n up is) where
   -- A site that is up shows its item as the definitions read it.
   pub reads-up : (item : ℕ) (result : Shown) → Shows up up.running item result → reading_in n result ≡ reading_at n is.running item (shown catalog is.records item)
   reads-up item result shows = by up.running refl shows

@@ -1,10 +1,10 @@
 -- What comes of an event that changes one site and prints one line.
-use Rattle.std.proofs.Common.{◌≡◌, ℕ, ◌<◌, Bool, true, false, Option, Some, None, List, [], ◌∷◌, ◌++◌, refl, sym, ap, subst, ◌∙◌}
+use Rattle.std.proofs.Common.{◌≡◌, ℕ, ◌<◌, Bool, true, false, Option, Some, None, List, [], ◌∷◌, ◌++◌, length, refl, sym, ap, subst, ◌∙◌}
 use Rattle.std.specs.Prelude.{get_or, Ok}
 use Rattle.std.specs.Vec.{with_item}
 use Rattle.std.proofs.lemmas.List.{map-append}
-use Rattle.pv_law_events.specs.Replays.{AreReplayable}
-use Rattle.pv_protocol.specs.Attempt.{Begun, halted, opened}
+use Rattle.pv_law_events.specs.Replays.{AreReplayable, CanBeReplayed}
+use Rattle.pv_protocol.specs.Attempt.{Attempt, Begun, halted, opened}
 use Rattle.pv_protocol.specs.Lines as protocol
 use Rattle.pv_protocol.specs.State as state
 use Rattle.pv_protocol.specs.State.{Running}
@@ -14,15 +14,17 @@ use Rattle.pv_protocol.specs.WorldStep.{ended}
 use Rattle.pv_script.specs.LineView.{line_of}
 use Rattle.pv_script.specs.declared.line.Line.{Line}
 use Rattle.pv_site.specs.SiteState.{setup_of}
-use Rattle.pv_world.proofs.GiveLemmas.{comes-by, unarmed}
+use Rattle.pv_site.specs.Values.{input_of}
+use Rattle.pv_site.specs.declared.input.Input.{Input}
+use Rattle.pv_world.proofs.GiveLemmas.{broken-off, comes-by, site-given, site-opened}
 use Rattle.pv_world.proofs.StandLemmas.{site-stands, stands-with-site}
-use Rattle.pv_world.proofs.StartLemmas.{halted-down, halted-up, opened-up, opened-begun, opened-full, opened-spent, with-own}
-use Rattle.pv_world.specs.Cells.{HasStarted, HasStopped, IsReplayable}
+use Rattle.pv_world.proofs.StartLemmas.{halted-down, halted-up, opened-done, opened-down, opened-up, with-own}
+use Rattle.pv_world.specs.Cells.{CanStart, HasBegun, HasEnded, HasStarted, HasStopped, IsReplayable, TakesInput, broken_site, completed_site, start_attempt, start_line}
 use Rattle.pv_world.specs.Stands.{Stands, StandsForSite}
-use Rattle.pv_world.specs.Steps.{Comes, IsSameBeside, lines_of}
+use Rattle.pv_world.specs.Steps.{CanGive, Comes, IsSameBeside, lines_of}
 use Rattle.pv_world.specs.declared.cell.Cell.{Cell}
 use Rattle.pv_world.specs.declared.cell.Start.{Start}
-use Rattle.pv_world.specs.declared.cell.Start.TheVariants.{Up, Started, Full, Spent}
+use Rattle.pv_world.specs.declared.cell.Start.TheVariants.{Up, Started, Full, Spent, Broke}
 use Rattle.pv_world.specs.declared.world.World.{World}
 
 -- the world with this cell in the place of the one of this number
@@ -49,23 +51,34 @@ module _ (old : World) (is : model.World) (stands : Stands old is) (n : ℕ) (wi
   pub own-stands : StandsForSite old.catalog n cell (site_at is n)
   own-stands = subst (λ (c : Cell). StandsForSite old.catalog n c (site_at is n)) (sym at) (site-stands old is stands n cell within)
 
-  pub own-unarmed : (site_at is n).arm ≡ None
-  own-unarmed = unarmed old.catalog n cell (site_at is n) own-stands
+  there : n < length is.sites
+  there = subst (λ (count : ℕ). n < count) (sym stands.count) within
 
   -- The site can read its records anew.
   pub own-replayable : AreReplayable (setup_of old.catalog) is → IsReplayable old.catalog n cell
   own-replayable replayable = (site_at is n, own-stands, replayable n within)
+
+  -- It can start.
+  pub own-can-start : AreReplayable (setup_of old.catalog) is
+      → AreReplayable (setup_of old.catalog) (ended (opened (setup_of old.catalog) is n (site_at is n).running)).1 → CanStart old.catalog n cell
+  own-can-start replayable after = record {
+    is = site_at is n;
+    stands = own-stands;
+    replayable = replayable n within;
+    after =
+        subst (λ (site : state.Site). CanBeReplayed (setup_of old.catalog) n site.records)
+        (site-opened old.catalog is n there (site_at is n).running) (after n within);
+  }
 
   -- Another site in its place.
   pub put-stands : (new : Cell) (site : state.Site) → StandsForSite old.catalog n new site → Stands (with_cell old n new) (with_site is n site)
   put-stands new site now = stands-with-site old is stands (with_cell old n new) refl n new site refl refl refl now
 
   -- The same site.
-  pub same-stands : (new : Cell) → StandsForSite old.catalog n new (site_at is n) → Stands (with_cell old n new) is
-  same-stands new now = subst (Stands (with_cell old n new)) (with-own is n) (put-stands new (site_at is n) now)
-
   pub kept-stands : (new : Cell) → new ≡ cell → Stands (with_cell old n new) is
-  kept-stands new same = same-stands new (subst (λ (c : Cell). StandsForSite old.catalog n c (site_at is n)) (sym same) own-stands)
+  kept-stands new same =
+      subst (Stands (with_cell old n new)) (with-own is n)
+      (put-stands new (site_at is n) (subst (λ (c : Cell). StandsForSite old.catalog n c (site_at is n)) (sym same) own-stands))
 
   module _ (new : Cell) where
     -- A stop.
@@ -74,12 +87,12 @@ module _ (old : World) (is : model.World) (stands : Stands old is) (n : ℕ) (wi
         → Ends (with_cell old n new) (halted is n (site_at is n).running) line
     stopped-ends None was_up memory stopped line rose fell = record {
       next = is;
-      ends = halted-down is n own-unarmed memory ∙ ap (λ (l : protocol.Line). (l ∷ [], is)) (sym (fell stopped.0));
+      ends = halted-down is n memory ∙ ap (λ (l : protocol.Line). (l ∷ [], is)) (sym (fell stopped.0));
       stands = kept-stands new stopped.1;
     }
     stopped-ends (Some running) was_up memory stopped line rose fell = record {
       next = with_site is n (record (site_at is n) { running = None });
-      ends = halted-up is n own-unarmed running memory ∙ ap (λ (l : protocol.Line). (l ∷ [], with_site is n (record (site_at is n) { running = None }))) (sym (rose stopped.0));
+      ends = halted-up is n running memory ∙ ap (λ (l : protocol.Line). (l ∷ [], with_site is n (record (site_at is n) { running = None }))) (sym (rose stopped.0));
       stands = put-stands new (record (site_at is n) { running = None }) stopped.1;
     }
 
@@ -88,40 +101,55 @@ module _ (old : World) (is : model.World) (stands : Stands old is) (n : ℕ) (wi
         → Ends (with_cell old n new) (halted is n (site_at is n).running) line
     stop-ends was_up stopped line rose fell = stopped-ends (site_at is n).running was_up refl stopped line rose fell
 
-    -- the line of a start
-    abbrev pub line_of_start : Start → protocol.Line
-    line_of_start Up = protocol.Line.up n
-    line_of_start (Started epoch) = protocol.Line.started n epoch
-    line_of_start (Full length) = protocol.Line.full n length
-    line_of_start Spent = protocol.Line.spent n
+    -- What the site of this number attempts in a start.
+    abbrev OwnStart : Attempt
+    OwnStart = start_attempt old.catalog n (site_at is n)
+
+    -- A start that isn't broken off.
+    done-ends : (answer : Start) → (site_at is n).running ≡ None → HasEnded old.catalog n new (site_at is n) answer
+        → Ends (with_cell old n new) (opened (setup_of old.catalog) is n (site_at is n).running) (start_line n answer)
+    done-ends answer memory ended = record {
+      next = with_site is n (completed_site (site_at is n) OwnStart ended.1.armed);
+      ends = opened-done is n old.catalog ended.1.armed (start_line n answer) memory ended.1.waits ended.0;
+      stands = put-stands new (completed_site (site_at is n) OwnStart ended.1.armed) ended.1.stands;
+    }
+
+    -- A start of a site that is down.
+    begun-ends : (answer : Start) → (site_at is n).running ≡ None → HasBegun old.catalog n new (site_at is n) answer
+        → Ends (with_cell old n new) (opened (setup_of old.catalog) is n (site_at is n).running) (start_line n answer)
+    begun-ends Up memory begun = absurd begun
+    begun-ends (Started epoch) memory begun = done-ends (Started epoch) memory begun
+    begun-ends (Full length) memory begun = done-ends (Full length) memory begun
+    begun-ends Spent memory begun = done-ends Spent memory begun
+    begun-ends (Broke stops) memory begun = record {
+      next = with_site is n (broken_site (site_at is n) OwnStart begun.arm);
+      ends = opened-down is n old.catalog memory ∙ broken-off is n OwnStart begun.arm stops begun.fires begun.kind;
+      stands = put-stands new (broken_site (site_at is n) OwnStart begun.arm) begun.stands;
+    }
 
     -- A start.
-    started-ends : (running : Option Running) (start : Start) → (site_at is n).running ≡ running → HasStarted old.catalog n cell new (site_at is n) running start
-        → Ends (with_cell old n new) (opened (setup_of old.catalog) is n (site_at is n).running) (line_of_start start)
-    started-ends (Some running) start memory started = record {
+    started-ends : (running : Option Running) (answer : Start) → (site_at is n).running ≡ running → HasStarted old.catalog n cell new (site_at is n) running answer
+        → Ends (with_cell old n new) (opened (setup_of old.catalog) is n (site_at is n).running) (start_line n answer)
+    started-ends (Some running) answer memory started = record {
       next = is;
-      ends = opened-up is n own-unarmed (setup_of old.catalog) running memory ∙ ap (λ (s : Start). (line_of_start s ∷ [], is)) (sym started.0);
+      ends = opened-up is n old.catalog running memory ∙ ap (λ (s : Start). (start_line n s ∷ [], is)) (sym started.0);
       stands = kept-stands new started.1;
     }
-    started-ends None Up memory started = absurd started
-    started-ends None (Started epoch) memory started = record {
-      next = with_site is n (record { records = (site_at is n).records ++ started.1 ∷ []; arm = None; running = Some started.0 });
-      ends =
-          opened-begun is n own-unarmed (setup_of old.catalog) started.0 started.1 memory started.2
-          ∙ ap (λ (e : ℕ). (protocol.Line.started n e ∷ [], with_site is n (record { records = (site_at is n).records ++ started.1 ∷ []; arm = None; running = Some started.0 }))) started.3;
-      stands = put-stands new (record { records = (site_at is n).records ++ started.1 ∷ []; arm = None; running = Some started.0 }) started.4;
-    }
-    started-ends None (Full length) memory started = record {
-      next = is;
-      ends = opened-full is n own-unarmed (setup_of old.catalog) length memory started.0;
-      stands = same-stands new started.1;
-    }
-    started-ends None Spent memory started = record {
-      next = is;
-      ends = opened-spent is n own-unarmed (setup_of old.catalog) memory started.0;
-      stands = same-stands new started.1;
-    }
+    started-ends None answer memory started = begun-ends answer memory started
 
-    pub start-ends : (start : Start) → HasStarted old.catalog n cell new (site_at is n) (site_at is n).running start
-        → Ends (with_cell old n new) (opened (setup_of old.catalog) is n (site_at is n).running) (line_of_start start)
-    start-ends start started = started-ends (site_at is n).running start refl started
+    pub start-ends : (answer : Start) → HasStarted old.catalog n cell new (site_at is n) (site_at is n).running answer
+        → Ends (with_cell old n new) (opened (setup_of old.catalog) is n (site_at is n).running) (start_line n answer)
+    start-ends answer started = started-ends (site_at is n).running answer refl started
+
+-- A site that is given an input takes it.
+pub own-takes : (world : World) (n : ℕ) (input : Input) → (can : CanGive world n input) → (cell : Cell) → cell ≡ get_or world.cells.items n cell
+    → TakesInput world.catalog n cell input
+own-takes world n input can cell at = record {
+  is = site_at can.is n;
+  stands = own-stands world can.is can.stands n can.site cell at;
+  fits = can.fits;
+  replayable = can.replayable n can.site;
+  after =
+      subst (λ (site : state.Site). CanBeReplayed (setup_of world.catalog) n site.records)
+      (site-given world.catalog can.is n (subst (λ (count : ℕ). n < count) (sym can.stands.count) can.site) (site_at can.is n).running (input_of input)) (can.after n can.site);
+}

@@ -6,6 +6,7 @@ use Rattle.pv_base.specs.Catalog.{Declared}
 use Rattle.pv_format.specs.Message.{Envelope}
 use Rattle.pv_format.specs.MessageSpelling.{SpellsEnvelope}
 use Rattle.pv_format.specs.Range.{IsEnvelopeWithin}
+use Rattle.pv_law_events.specs.Replays.{AreReplayable}
 use Rattle.pv_law_step.proofs.Lists.{slice-of, of-some}
 use Rattle.pv_protocol.specs.Attempt.{delivered, given}
 use Rattle.pv_protocol.specs.Limit.{over_limit}
@@ -52,13 +53,20 @@ module _ (old done : World) (is : model.World) (n : ℕ) (lawful : IsLawful (set
       (slice-of (IsEnvelopeWithin old.catalog.sites) is.sent n lawful.range.sent) there
 
   -- The receiver can take it.
-  pub can-take : CanGive done envelope.to.0 (Take envelope.from envelope.message)
-  can-take = (
-    with_done is n,
-    stands,
-    subst (λ (c : Declared). envelope.to.0 < c.sites) (sym same.catalog) within.to,
-    (subst (λ (c : Declared). envelope.from.0 < c.sites) (sym same.catalog) within.from, (bytes, spells)),
-  )
+  pub can-take : AreReplayable (setup_of old.catalog) (ended (delivered (setup_of old.catalog) is n (slice_get is.sent n))).1
+      → CanGive done envelope.to.0 (Take envelope.from envelope.message)
+  can-take after = record {
+    is = with_done is n;
+    stands = stands;
+    site = subst (λ (c : Declared). envelope.to.0 < c.sites) (sym same.catalog) within.to;
+    fits = (subst (λ (c : Declared). envelope.from.0 < c.sites) (sym same.catalog) within.from, (bytes, spells));
+    replayable = subst (λ (c : Declared). AreReplayable (setup_of c) (with_done is n)) (sym same.catalog) lawful.replayable;
+    after =
+        subst (λ (c : Declared).
+        AreReplayable (setup_of c) (ended (given (setup_of c) (with_done is n) envelope.to.0 (receive envelope.from.0 (message_of envelope.message)) (site_at is envelope.to.0).running)).1)
+        (sym same.catalog)
+        (subst (λ (found : Option Envelope). AreReplayable (setup_of old.catalog) (ended (delivered (setup_of old.catalog) is n found)).1) there after);
+  }
 
   -- What the receiver makes of it is what the delivery comes to.
   pub delivered-comes : {X : Type 0} (new : World) (before after : List Line) (result : Result X WorldError)

@@ -1,17 +1,20 @@
 -- What an event that isn't a pump, and what deliveries make of a world.
-use Rattle.std.proofs.Common.{◌≡◌, ℕ, List, [], ◌∷◌, ◌++◌, Some, None, refl, sym, ap, subst, ◌∙◌}
+use Rattle.std.proofs.Common.{◌≡◌, ℕ, false, List, [], ◌∷◌, ◌++◌, Some, None, refl, sym, ap, subst, ◌∙◌}
 use Rattle.std.specs.Prelude.{Result, Ok, Err, slice_get, ⊤}
 use Rattle.std.proofs.lemmas.List.{append-nil}
 use Rattle.pv_base.specs.Catalog.{Declared}
 use Rattle.pv_model.specs.Events.{Event, pump, deliver}
-use Rattle.pv_protocol.specs.Attempt.{begun, delivered}
+use Rattle.pv_model.specs.Syntax.{Program}
+use Rattle.pv_protocol.specs.Attempt.{begun, delivered, given, opened}
 use Rattle.pv_protocol.specs.Lines as protocol
 use Rattle.pv_protocol.specs.Run.{transitions_of, world_after}
 use Rattle.pv_protocol.specs.Sound.{IsSetupInRange}
+use Rattle.pv_protocol.specs.State as state
 use Rattle.pv_protocol.specs.State.{Setup}
-use Rattle.pv_protocol.specs.WellFormed.{IsWellFormed}
+use Rattle.pv_protocol.specs.WellFormed.{CanRun, HasSite, IsWellFormed}
 use Rattle.pv_protocol.specs.World as model
-use Rattle.pv_protocol.specs.WorldStep.{Transition, transition_of}
+use Rattle.pv_protocol.specs.World.{site_at}
+use Rattle.pv_protocol.specs.WorldStep.{Transition, ended, transition_of}
 use Rattle.pv_script.specs.declared.line.Line.{Line}
 use Rattle.pv_site.specs.SiteState.{setup_of}
 use Rattle.pv_world.proofs.RunLemmas.{reached-after}
@@ -33,6 +36,32 @@ unfolding transitions_of
 one-transition setup is (Event.pump None) no_pump = absurd no_pump
 one-transition setup is (Event.pump (Some most)) no_pump = absurd no_pump
 one-transition setup is event no_pump = refl
+
+-- One such event more of a run.
+module _ (setup : Setup) (is : model.World) (reached : IsReached setup is) where
+  reached-once : (event : Event) → IsNoPump event → IsWellFormed setup.catalog event → IsReached setup (ended (begun setup is event)).1
+  unfolding transition_of
+  reached-once event no_pump well =
+      subst (λ (transitions : List Transition). IsReached setup (world_after is transitions)) (one-transition setup is event no_pump)
+      (reached-after setup is event reached well)
+
+  -- A request, a message that is delivered, a tick, and a start.
+  pub reached-submitted : (n : ℕ) (program : Program) → HasSite setup.catalog n → CanRun setup.catalog program
+      → IsReached setup (ended (given setup is n (state.submit program) (site_at is n).running)).1
+  unfolding begun
+  reached-submitted n program there runs = reached-once (Event.submit n false [] program) tt (there, runs)
+
+  pub reached-delivered : (n : ℕ) → IsReached setup (ended (delivered setup is n (slice_get is.sent n))).1
+  unfolding begun
+  reached-delivered n = reached-once (deliver n) tt tt
+
+  pub reached-ticked : (n : ℕ) → HasSite setup.catalog n → IsReached setup (ended (given setup is n state.tick (site_at is n).running)).1
+  unfolding begun
+  reached-ticked n there = reached-once (Event.tick n) tt there
+
+  pub reached-started : (n : ℕ) → HasSite setup.catalog n → IsReached setup (ended (opened setup is n (site_at is n).running)).1
+  unfolding begun
+  reached-started n there = reached-once (Event.start n) tt there
 
 module _ (old new : World) (before after : List Line) (is : model.World) (stands : StandsFor old is) where
   -- The world stands for the one after a transition.

@@ -1,15 +1,17 @@
 -- What an event comes to that changes the world at once, or that another event stands for.
-use Rattle.std.proofs.Common.{◌≡◌, ℕ, ◌<◌, Bool, Option, None, List, [], ◌++◌, refl, sym, ap, subst, ◌∙◌}
-use Rattle.std.specs.Prelude.{Result, Ok, Err, IsErrAnd, slice_get}
+use Rattle.std.proofs.Common.{◌≡◌, ℕ, ◌<◌, Bool, Option, Some, None, List, [], ◌++◌, sym, ap, subst, ◌∙◌, refl}
+use Rattle.std.specs.Prelude.{Result, Ok, Err, IsErrAnd, get_or, slice_get}
 use Rattle.std.specs.Global.{Vec}
 use Rattle.std.proofs.lemmas.List.{append-nil}
+use Rattle.pv_base.specs.declared.mode.Mode.{Mode}
 use Rattle.pv_model.specs.Events.{Event, pump}
 use Rattle.pv_model.specs.Syntax.{Program}
-use Rattle.pv_protocol.specs.Attempt.{at_once, begun, delivered, given, halted, lost, opened, without_site}
+use Rattle.pv_protocol.specs.Attempt.{at_once, begun, delivered, given, halted, lost, opened, with_arm, without_site}
 use Rattle.pv_protocol.specs.Lines as protocol
 use Rattle.pv_protocol.specs.Report.{report_of, sent_lines, total_of}
 use Rattle.pv_protocol.specs.Run.{lines_of_transitions, transitions_of}
 use Rattle.pv_protocol.specs.State as state
+use Rattle.pv_protocol.specs.State.{Arm, Setup}
 use Rattle.pv_protocol.specs.World as model
 use Rattle.pv_protocol.specs.World.{site_at}
 use Rattle.pv_script.specs.ScheduleView.{event_of}
@@ -17,14 +19,13 @@ use Rattle.pv_script.specs.declared.line.Line.{Line}
 use Rattle.pv_script.specs.declared.schedule.Event as script
 use Rattle.pv_script.specs.declared.schedule.Event.TheVariants.{Pump}
 use Rattle.pv_site.specs.SiteState.{setup_of}
+use Rattle.pv_world.proofs.ChangeLemmas.{own-stands, put-stands, with_cell}
 use Rattle.pv_world.proofs.EventLemmas.{IsNoPump}
-use Rattle.pv_world.proofs.GiveLemmas.{unarmed}
-use Rattle.pv_world.proofs.StandLemmas.{site-stands, stands-dropped}
-use Rattle.pv_world.proofs.StartLemmas.{mended}
+use Rattle.pv_world.proofs.StandLemmas.{stands-dropped}
 use Rattle.pv_world.specs.Mail.{without_posts_to}
-use Rattle.pv_world.specs.Stands.{Stands}
+use Rattle.pv_world.specs.Stands.{Stands, StandsForSite}
 use Rattle.pv_world.specs.Steps.{Comes, IsSameBeside, Makes, Steps, lines_of}
-use Rattle.pv_world.specs.declared.cell.Cell.TheVariants.{Vacant}
+use Rattle.pv_world.specs.declared.cell.Cell.{Cell}
 use Rattle.pv_world.specs.declared.error.WorldError.{WorldError}
 use Rattle.pv_world.specs.declared.error.WorldError.TheVariants.{SentLimit, NoMemory}
 use Rattle.pv_world.specs.declared.world.World.{World}
@@ -85,10 +86,6 @@ module _ {X : Type 0} (old new : World) (before after : List Line) (is : model.W
   comes-totalled same stands beside more = at-once (total_of (setup_of old.catalog) is) is (ap (begun (setup_of old.catalog) is) same) stands beside more
 
 module _ {X : Type 0} (old : World) (lines : List Line) (is : model.World) (stands : Stands old is) (event : Event) (x : X) where
-  -- A site of the catalog, over whose log no failure is planned.
-  site-unarmed : (n : ℕ) → n < old.catalog.sites → (site_at is n).arm ≡ None
-  site-unarmed n within = unarmed old.catalog n _ (site_at is n) (site-stands old is stands n Vacant within)
-
   pub comes-dropped : (new : World) (n : ℕ) → event ≡ Event.drop n → new.catalog ≡ old.catalog → new.cells ≡ old.cells → new.order ≡ old.order
       → new.mail ≡ record old.mail { posts = without_posts_to n old.mail.posts }
       → Comes {X = X} old new lines lines (begun (setup_of old.catalog) is event) (Ok x)
@@ -97,17 +94,31 @@ module _ {X : Type 0} (old : World) (lines : List Line) (is : model.World) (stan
       at-once old new lines lines is event x [] (record is { fresh = without_site n is.sent is.fresh }) (ap (begun (setup_of old.catalog) is) same)
       (stands-dropped old is stands new catalog cells order n mail) (record { catalog = catalog; limit = ap (λ m. m.limit) mail }) (sym (append-nil (lines_of lines)))
 
-  pub comes-mended : (n : ℕ) → event ≡ Event.mend n → n < old.catalog.sites → Comes {X = X} old old lines lines (begun (setup_of old.catalog) is event) (Ok x)
-  unfolding begun
-  comes-mended n same within =
-      at-once old old lines lines is event x [] is (ap (begun (setup_of old.catalog) is) same ∙ ap (at_once []) (mended is n (site-unarmed n within)))
-      stands (record { catalog = refl; limit = refl }) (sym (append-nil (lines_of lines)))
-
   pub comes-pumped : (most : Option ℕ) → event ≡ pump most → Comes {X = X} old old lines lines (begun (setup_of old.catalog) is event) (Ok x)
   unfolding begun
   comes-pumped most same =
       at-once old old lines lines is event x [] is (ap (begun (setup_of old.catalog) is) same) stands (record { catalog = refl; limit = refl })
       (sym (append-nil (lines_of lines)))
+
+  -- Another fault is armed at a site's disk, or none.
+  pub comes-rearmed : (n : ℕ) → n < old.catalog.sites → (cell : Cell) → cell ≡ get_or old.cells.items n cell → (new : Cell) (armed : Option Arm)
+      → ((site : state.Site) → StandsForSite old.catalog n cell site → StandsForSite old.catalog n new (record site { arm = armed }))
+      → begun (setup_of old.catalog) is event ≡ at_once [] (with_arm is n armed)
+      → Comes {X = X} old (with_cell old n new) lines lines (begun (setup_of old.catalog) is event) (Ok x)
+  comes-rearmed n within cell at new armed turns begins =
+      at-once old (with_cell old n new) lines lines is event x [] (with_arm is n armed) begins
+      (put-stands old is stands n within cell at new (record (site_at is n) { arm = armed }) (turns (site_at is n) (own-stands old is stands n within cell at)))
+      (record { catalog = refl; limit = refl }) (sym (append-nil (lines_of lines)))
+
+module _ (setup : Setup) (is : model.World) (event : Event) where
+  pub begun-armed : (n call : ℕ) (mode : Mode) (stops : Bool) → event ≡ Event.arm n call mode stops
+      → begun setup is event ≡ at_once [] (with_arm is n (Some (record { call = call; mode = mode; stops = stops })))
+  unfolding begun
+  begun-armed n call mode stops same = ap (begun setup is) same
+
+  pub begun-mended : (n : ℕ) → event ≡ Event.mend n → begun setup is event ≡ at_once [] (with_arm is n None)
+  unfolding begun
+  begun-mended n same = ap (begun setup is) same
 
 -- An event that isn't read as a pump is none.
 pub no-pump : (event : script.Event) → ((most : Option ℕ) → event ≡ Pump most → ⊥) → IsNoPump (event_of event)

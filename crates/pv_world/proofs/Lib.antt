@@ -1,3 +1,4 @@
+pub mod ArmLemmas
 pub mod BeginLemmas
 pub mod CellLemmas
 pub mod ChangeLemmas
@@ -18,11 +19,16 @@ pub mod PumpSteps
 pub mod ReadingLemmas
 pub mod RecordLemmas
 pub mod ReportLemmas
+pub mod RestartArms
+pub mod RestartDisks
+pub mod RestartFirst
+pub mod RestartLemmas
 pub mod RunLemmas
 pub mod SendLemmas
 pub mod SentLemmas
 pub mod SiteLemmas
 pub mod StandLemmas
 pub mod StartLemmas
+pub mod StepLemmas
 pub mod TakenLemmas
 pub mod TotalLemmas

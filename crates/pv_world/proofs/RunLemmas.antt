@@ -3,12 +3,12 @@ use Rattle.std.proofs.Common.{◌≡◌, ℕ, List, [], ◌∷◌, ◌++◌, app
 use Rattle.std.specs.Prelude.{All}
 use Rattle.std.proofs.lemmas.List.{append-nil}
 use Rattle.std.proofs.lemmas.List.Elements.{All-append, All-cons, All-nil, All-head, All-tail}
-use Rattle.pv_model.specs.Events.{Event, deliver}
+use Rattle.pv_model.specs.Events.{Event}
 use Rattle.pv_protocol.specs.Run.{run, transitions_of, world_after, worlds_of}
 use Rattle.pv_protocol.specs.State.{Setup}
 use Rattle.pv_protocol.specs.WellFormed.{IsWellFormed}
 use Rattle.pv_protocol.specs.World.{World, opening}
-use Rattle.pv_protocol.specs.WorldStep.{Transition, transition_of}
+use Rattle.pv_protocol.specs.WorldStep.{Transition}
 use Rattle.pv_world.specs.Reached.{IsReached}
 
 pub world_after-append : (world : World) (front back : List Transition) → world_after world (front ++ back) ≡ world_after (world_after world front) back
@@ -48,11 +48,6 @@ pub reached-after : (setup : Setup) (world : World) (event : Event) → IsReache
     → IsReached setup (world_after world (transitions_of setup world event))
 reached-after setup world event reached good =
     subst (λ (w : World). IsReached setup (world_after w (transitions_of setup w event))) (sym reached.ends) (end-reached setup reached.events reached.well event good)
-
--- One more delivery.
-pub reached-delivered : (setup : Setup) (world : World) (n : ℕ) → IsReached setup world → IsReached setup (transition_of setup world (deliver n)).world
-unfolding transitions_of
-reached-delivered setup world n reached = reached-after setup world (deliver n) reached tt
 
 pub reached-opening : (setup : Setup) → IsReached setup (opening setup)
 reached-opening setup = record { events = []; well = All-nil (IsWellFormed setup.catalog); ends = refl }

@@ -1,39 +1,97 @@
--- What a step, a stop and a start make of a cell.
-use Rattle.std.specs.Prelude.{◌≡◌, ℕ, true, false, Bool, All, List, [], ◌∷◌, ◌++◌, Option, Some, None}
+-- What a step, a stop, a start and an armed fault make of a cell.
+use Rattle.std.specs.Prelude.{◌≡◌, ℕ, true, false, Bool, All, List, [], ◌∷◌, ◌++◌, option_to_list, Option, Some, None}
 use Rattle.pv_base.specs.Catalog.{Declared}
-use Rattle.pv_disk.specs.ListLaws.{list_model}
-use Rattle.pv_disk.specs.ListLog.{ListState}
+use Rattle.pv_disk.specs.MemDisk.{MemState}
 use Rattle.pv_format.specs.Record.{Record}
 use Rattle.pv_law_events.specs.Replays.{CanBeReplayed}
-use Rattle.pv_protocol.specs.Start.{site_start, starts, too_long, no_epoch}
+use Rattle.pv_protocol.specs.Arms.{Reached, waits, fires, reached, calls_of, record_left, broken_line}
+use Rattle.pv_protocol.specs.Attempt.{Attempt, of_step, of_start}
+use Rattle.pv_protocol.specs.Lines as protocol
+use Rattle.pv_protocol.specs.Start.{site_start}
 use Rattle.pv_protocol.specs.State as model
-use Rattle.pv_protocol.specs.State.{Running}
-use Rattle.pv_protocol.specs.Step.{site_step, records_after}
+use Rattle.pv_protocol.specs.State.{Arm, Running}
+use Rattle.pv_protocol.specs.Step.{site_step}
 use Rattle.pv_site.specs.Answer.{IsAnswer}
 use Rattle.pv_site.specs.Inputs.{IsInputFor, IsSpelledFrom}
-use Rattle.pv_site.specs.OnLog.{HoldsRecords}
 use Rattle.pv_site.specs.SiteState.{setup_of}
+use Rattle.pv_site.specs.Values.{input_of}
 use Rattle.pv_site.specs.declared.input.Input.{Input}
-use Rattle.pv_site.specs.declared.input.Step.{Step}
 use Rattle.pv_store.specs.Kept.{Kept}
+use Rattle.pv_world.specs.Disks.{Spells}
 use Rattle.pv_world.specs.Stands.{StandsForSite}
 use Rattle.pv_world.specs.declared.cell.Cell.{Cell}
+use Rattle.pv_world.specs.declared.cell.Cell.TheVariants.{Up}
 use Rattle.pv_world.specs.declared.cell.Start.{Start}
-use Rattle.pv_world.specs.declared.cell.Start.TheVariants.{Up, Started, Full, Spent}
+use Rattle.pv_world.specs.declared.cell.Start.TheVariants as start
+use Rattle.pv_world.specs.declared.cell.Stepped.{Stepped}
+use Rattle.pv_world.specs.declared.cell.Stepped.TheVariants.{Down, Made, Broke}
 
--- The cell is a site, and the input is for that one.
-abbrev pub TakesInput : Cell → Input → Type 0
-TakesInput cell input =
-    (catalog : Declared) × (n : ℕ) × (is : model.Site) × StandsForSite catalog n cell is × IsInputFor n catalog input
+-- The site once all writes and syncs of an attempt are made. Its disk is then armed so.
+abbrev pub completed_site : model.Site → Attempt → Option Arm → model.Site
+completed_site is attempt arm = record { records = is.records ++ option_to_list attempt.appended; arm = arm; running = attempt.running }
+
+-- The site that one of them stopped, or made fail.
+abbrev pub broken_site : model.Site → Attempt → Arm → model.Site
+broken_site is attempt arm =
+    record { records = is.records ++ option_to_list (record_left attempt.syncs attempt.appended arm); arm = None; running = None }
+
+-- the site after an attempt
+abbrev pub site_after : model.Site → Attempt → Reached → model.Site
+site_after is attempt (waits arm) = completed_site is attempt arm
+site_after is attempt (fires arm) = broken_site is attempt arm
+
+-- What a site with these records attempts, where it has this in memory and is given an input.
+abbrev pub step_attempt : Declared → ℕ → model.Site → Running → model.Input → Attempt
+step_attempt catalog n is running input = of_step n (site_step (setup_of catalog) n is.records running input)
+
+-- what it attempts in a start
+abbrev pub start_attempt : Declared → ℕ → model.Site → Attempt
+start_attempt catalog n is = of_start n (site_start (setup_of catalog) is.records)
+
+-- The site after an input. One that is down takes none.
+abbrev pub site_after_input : Declared → ℕ → model.Site → Option Running → model.Input → model.Site
+site_after_input catalog n is None input = is
+site_after_input catalog n is (Some running) input =
+    let attempt = step_attempt catalog n is running input in site_after is attempt (reached (calls_of attempt) is.arm)
+
+-- The site after a start. One that is up stays so.
+abbrev pub site_after_start : Declared → ℕ → model.Site → Option Running → model.Site
+site_after_start catalog n is None = let attempt = start_attempt catalog n is in site_after is attempt (reached (calls_of attempt) is.arm)
+site_after_start catalog n is (Some running) = is
 
 -- The cell is the site of this number, which can read its records anew.
 abbrev pub IsReplayable : Declared → ℕ → Cell → Type 0
 IsReplayable catalog n cell = (is : model.Site) × StandsForSite catalog n cell is × CanBeReplayed (setup_of catalog) n is.records
 
--- The log holds records that the site of this number can read anew.
-abbrev pub CanBeRead : Declared → ℕ → ListState → Type 0
-CanBeRead catalog n log =
-    (records : List Record) × list_model.is_intact log × HoldsRecords list_model log records × CanBeReplayed (setup_of catalog) n records
+-- The cell is the site of this number, and the input is for it. It can read its records anew, now and after the input.
+pub record TakesInput (catalog : Declared) (n : ℕ) (cell : Cell) (input : Input) : Type 0 where
+  pub is : model.Site
+  pub stands : StandsForSite catalog n cell is
+  pub fits : IsInputFor n catalog input
+  pub replayable : CanBeReplayed (setup_of catalog) n is.records
+  pub after : CanBeReplayed (setup_of catalog) n (site_after_input catalog n is is.running (input_of input)).records
+
+-- The cell is the site of this number. It can read its records anew, now and after a start.
+pub record CanStart (catalog : Declared) (n : ℕ) (cell : Cell) : Type 0 where
+  pub is : model.Site
+  pub stands : StandsForSite catalog n cell is
+  pub replayable : CanBeReplayed (setup_of catalog) n is.records
+  pub after : CanBeReplayed (setup_of catalog) n (site_after_start catalog n is is.running).records
+
+-- The disk holds records that the site of this number can read anew.
+abbrev pub CanBeRead : Declared → ℕ → MemState → Type 0
+CanBeRead catalog n disk =
+    (records : List Record) × (armed : Option Arm) × (fired : Option Bool) × Spells records armed fired disk × CanBeReplayed (setup_of catalog) n records
+
+-- The cell's site is in memory, and its disk holds these records. This is armed there, and this has fired.
+abbrev pub IsUpOver : List Record → Option Arm → Option Bool → Cell → Type 0
+IsUpOver records armed fired (Up up) = Spells records armed fired up.log.disk
+IsUpOver records armed fired other = ⊥
+
+-- The cell's site of this number is in memory, over a disk that holds records that it can read anew.
+abbrev pub CanFall : Declared → ℕ → Cell → Type 0
+CanFall catalog n cell =
+    (records : List Record) × (armed : Option Arm) × (fired : Option Bool) × IsUpOver records armed fired cell × CanBeReplayed (setup_of catalog) n records
 
 -- The store keeps these records of the site of this number.
 pub record KeepsRecords (declared : Declared) (n : ℕ) (recorded : List Record) (store : Kept) : Type 0 where
@@ -41,27 +99,62 @@ pub record KeepsRecords (declared : Declared) (n : ℕ) (recorded : List Record)
   pub catalog : store.catalog ≡ declared
   pub records : store.records ≡ recorded
 
+-- what a start prints
+abbrev pub start_line : ℕ → Start → protocol.Line
+start_line n start.Up = protocol.Line.up n
+start_line n (start.Started epoch) = protocol.Line.started n epoch
+start_line n (start.Full length) = protocol.Line.full n length
+start_line n start.Spent = protocol.Line.spent n
+start_line n (start.Broke stops) = broken_line n stops
+
+-- What fired on the disk stands for a stop or for a fault, as is answered, and the cell is the site of this number, down with these records.
+abbrev pub HasFallen : Declared → ℕ → List Record → Option Bool → Cell → Stepped → Type 0
+HasFallen catalog n records fired new (Broke stops) =
+    (fired ≡ Some stops) × StandsForSite catalog n new (record { records = records; arm = None; running = None })
+HasFallen catalog n records fired new other = ⊥
+
+module _ (catalog : Declared) (n : ℕ) (new : Cell) (is : model.Site) where
+  -- All writes and syncs of the attempt are made, and the cell is the site then.
+  pub record IsDone (attempt : Attempt) : Type 0 where
+    pub armed : Option Arm
+    pub waits : reached (calls_of attempt) is.arm ≡ waits armed
+    pub stands : StandsForSite catalog n new (completed_site is attempt armed)
+
+  -- One of them fired, which stands for a stop or for a fault, and the cell is the site then.
+  pub record IsBroken (attempt : Attempt) (stops : Bool) : Type 0 where
+    pub arm : Arm
+    pub fires : reached (calls_of attempt) is.arm ≡ fires arm
+    pub kind : arm.stops ≡ stops
+    pub stands : StandsForSite catalog n new (broken_site is attempt arm)
+
+  -- What comes of a start that isn't broken off, by the answer.
+  abbrev pub HasEnded : Start → Type 0
+  HasEnded answer = ((start_attempt catalog n is).lines ≡ start_line n answer ∷ []) × IsDone (start_attempt catalog n is)
+
+  -- What comes of a start of a site that is down, by the answer.
+  abbrev pub HasBegun : Start → Type 0
+  HasBegun start.Up = ⊥
+  HasBegun (start.Started epoch) = HasEnded (start.Started epoch)
+  HasBegun (start.Full length) = HasEnded (start.Full length)
+  HasBegun start.Spent = HasEnded start.Spent
+  HasBegun (start.Broke stops) = IsBroken (start_attempt catalog n is) stops
+
 module _ (catalog : Declared) (n : ℕ) (old new : Cell) (is : model.Site) where
-  -- What comes of an input where the site has this in memory: it makes the step. One that is down stays as it is.
-  abbrev pub HasStepped : Option Running → model.Input → Option Step → Type 0
-  HasStepped None input made = (made ≡ None) × (new ≡ old)
-  HasStepped (Some running) input None = ⊥
-  HasStepped (Some running) input (Some answer) =
-      let step = site_step (setup_of catalog) n is.records running input in
-      IsAnswer answer step × All (IsSpelledFrom n) answer.sends.items
-      × StandsForSite catalog n new (record { records = records_after is.records step; arm = None; running = Some step.running })
+  -- What comes of an input where the site has this in memory: it makes the step, or is broken off. One that is down stays as it is.
+  abbrev pub HasStepped : Option Running → model.Input → Stepped → Type 0
+  HasStepped None input made = (made ≡ Down) × (new ≡ old)
+  HasStepped (Some running) input Down = ⊥
+  HasStepped (Some running) input (Made answer) =
+      IsAnswer answer (site_step (setup_of catalog) n is.records running input) × All (IsSpelledFrom n) answer.sends.items
+      × IsDone catalog n new is (step_attempt catalog n is running input)
+  HasStepped (Some running) input (Broke stops) = IsBroken catalog n new is (step_attempt catalog n is running input) stops
 
   -- What comes of a stop, and whether the site was up.
   abbrev pub HasStopped : Option Running → Bool → Type 0
   HasStopped None was_up = (was_up ≡ false) × (new ≡ old)
   HasStopped (Some running) was_up = (was_up ≡ true) × StandsForSite catalog n new (record is { running = None })
 
-  -- What comes of a start, by the answer.
+  -- What comes of a start, by the answer. A site that is up stays as it is.
   abbrev pub HasStarted : Option Running → Start → Type 0
-  HasStarted (Some running) start = (start ≡ Up) × (new ≡ old)
-  HasStarted None Up = ⊥
-  HasStarted None (Started epoch) =
-      (running : Running) × (more : Record) × (site_start (setup_of catalog) is.records ≡ starts running more) × (running.epoch ≡ epoch)
-      × StandsForSite catalog n new (record { records = is.records ++ more ∷ []; arm = None; running = Some running })
-  HasStarted None (Full length) = (site_start (setup_of catalog) is.records ≡ too_long length) × StandsForSite catalog n new is
-  HasStarted None Spent = (site_start (setup_of catalog) is.records ≡ no_epoch) × StandsForSite catalog n new is
+  HasStarted (Some running) answer = (answer ≡ start.Up) × (new ≡ old)
+  HasStarted None answer = HasBegun catalog n new is answer

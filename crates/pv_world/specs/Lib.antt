@@ -1,5 +1,6 @@
 pub mod Carry
 pub mod Cells
+pub mod Disks
 pub mod Mail
 pub mod MailView
 pub mod OpenWith
@@ -7,6 +8,7 @@ pub mod Places
 pub mod Pumping
 pub mod Reached
 pub mod Readings
+pub mod Restarts
 pub mod Stands
 pub mod Steps
 pub mod Taken

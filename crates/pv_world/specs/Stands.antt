@@ -2,17 +2,19 @@
 use Rattle.std.specs.Prelude.{◌≡◌, ℕ, ◌+◌, true, List, [], ◌∷◌, map, length, is_some, None, ⊤}
 use Rattle.pv_base.specs.Catalog.{Declared}
 use Rattle.pv_base.specs.declared.txn.TxnId.{TxnId}
-use Rattle.pv_disk.specs.ListLaws.{list_model}
-use Rattle.pv_disk.specs.ListLog.{ListState}
+use Rattle.pv_disk.specs.MemDisk.{MemState}
+use Rattle.pv_disk.specs.MemLaws.{mem_model}
+use Rattle.pv_journal.specs.JournalModel.{journal_model}
+use Rattle.pv_journal.specs.declared.journal.Journal.{Journal}
 use Rattle.pv_protocol.specs.Limit.{over_limit}
 use Rattle.pv_protocol.specs.Sound.{IsSetupInRange}
 use Rattle.pv_protocol.specs.State as state
 use Rattle.pv_protocol.specs.World as model
-use Rattle.pv_site.specs.OnLog.{HoldsRecords}
 use Rattle.pv_site.specs.SiteState.{SiteState, setup_of}
 use Rattle.pv_site.specs.Steps.{IsReady}
 use Rattle.pv_store.specs.Kept.{Kept}
 use Rattle.pv_world.specs.Carry.{Carry}
+use Rattle.pv_world.specs.Disks.{Spells}
 use Rattle.pv_world.specs.Reached.{IsReached}
 use Rattle.pv_world.specs.declared.cell.Cell.{Cell}
 use Rattle.pv_world.specs.declared.cell.Cell.TheVariants.{Up, Down, Vacant}
@@ -20,33 +22,28 @@ use Rattle.pv_world.specs.declared.order.Placed.{Placed}
 use Rattle.pv_world.specs.declared.order.TakenGrant.{TakenGrant}
 use Rattle.pv_world.specs.declared.world.World.{World}
 
--- The site that runs is this one, over a log on which no failure is planned.
-pub record IsUp (declared : Declared) (n : ℕ) (up : SiteState ListState) (site : state.Site) : Type 0 where
+-- The site that runs is this one, and its disk holds its records.
+pub record IsUp (declared : Declared) (n : ℕ) (up : SiteState (Journal MemState)) (site : state.Site) : Type 0 where
   pub me : up.me ≡ n
   pub catalog : up.catalog ≡ declared
   pub records : up.records ≡ site.records
   pub runs : is_some up.running ≡ true
   pub running : up.running ≡ site.running
-  pub unarmed : site.arm ≡ None
-  pub ready : IsReady list_model up
-  pub sure : up.log.fails ≡ []
+  pub ready : IsReady (journal_model mem_model) up
+  pub disk : Spells site.records site.arm None up.log.disk
 
--- The site is down, and these are its log, on which no failure is planned, and what its records say.
-pub record IsDown (declared : Declared) (n : ℕ) (log : ListState) (store : Kept) (site : state.Site) : Type 0 where
+-- The site is down. Its disk holds its records, and the store what they say.
+pub record IsDown (declared : Declared) (n : ℕ) (on : MemState) (store : Kept) (site : state.Site) : Type 0 where
   pub me : store.site ≡ n
   pub catalog : store.catalog ≡ declared
   pub records : store.records ≡ site.records
   pub down : site.running ≡ None
-  pub unarmed : site.arm ≡ None
-  pub intact : list_model.is_intact log
-  pub limit : log.limit ≡ declared.journal
-  pub holds : HoldsRecords list_model log site.records
-  pub sure : log.fails ≡ []
+  pub disk : Spells site.records site.arm None on
 
 -- The cell is the site of this number.
 abbrev pub StandsForSite : Declared → ℕ → Cell → state.Site → Type 0
 StandsForSite catalog n (Up up) site = IsUp catalog n up site
-StandsForSite catalog n (Down log store) site = IsDown catalog n log store site
+StandsForSite catalog n (Down disk store) site = IsDown catalog n disk store site
 StandsForSite catalog n Vacant site = ⊥
 
 -- The cells are the sites that are numbered from here on.

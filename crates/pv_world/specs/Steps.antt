@@ -1,18 +1,21 @@
 -- What an event of a schedule makes of a world in memory, by the answer.
 use Rattle.std.specs.Prelude.{◌≡◌, ◌<◌, ℕ, List, ◌++◌, map, option_to_list, Option, Some, Result, Ok, Err, ⊤}
 use Rattle.std.specs.Global.{Vec}
-use Rattle.pv_model.specs.Events.{Event, arm}
-use Rattle.pv_protocol.specs.Attempt.{Begun}
+use Rattle.pv_law_events.specs.Replays.{AreReplayable}
+use Rattle.pv_model.specs.Events.{Event}
+use Rattle.pv_protocol.specs.Attempt.{Begun, given}
 use Rattle.pv_protocol.specs.Limit.{over_limit}
 use Rattle.pv_protocol.specs.Lines as lines
 use Rattle.pv_protocol.specs.Run.{transitions_of, world_after, lines_of_transitions}
 use Rattle.pv_protocol.specs.State.{Placed}
 use Rattle.pv_protocol.specs.World as model
+use Rattle.pv_protocol.specs.World.{site_at}
 use Rattle.pv_protocol.specs.WorldStep.{Transition, ended}
 use Rattle.pv_script.specs.LineView.{line_of}
 use Rattle.pv_script.specs.declared.line.Line.{Line}
 use Rattle.pv_site.specs.Inputs.{IsInputFor}
 use Rattle.pv_site.specs.SiteState.{setup_of}
+use Rattle.pv_site.specs.Values.{input_of}
 use Rattle.pv_site.specs.declared.input.Input.{Input}
 use Rattle.pv_world.specs.Stands.{Stands, StandsFor}
 use Rattle.pv_world.specs.declared.error.WorldError.{WorldError}
@@ -23,14 +26,14 @@ use Rattle.pv_world.specs.declared.world.World.{World}
 abbrev pub lines_of : List Line → List lines.Line
 lines_of lines = map line_of lines
 
--- The event can happen over logs in memory, on which no failure can be planned.
-abbrev pub CanHappen : Event → Type 0
-CanHappen (arm site call mode stops) = ⊥
-CanHappen event = ⊤
-
--- The world stands for some world, and the input can be given to this site of it.
-abbrev pub CanGive : World → ℕ → Input → Type 0
-CanGive world n input = (is : model.World) × Stands world is × (n < world.catalog.sites) × IsInputFor n world.catalog input
+-- The world stands for some world, and the input can be given to this site of it. Each site can read its records anew, now and after that.
+pub record CanGive (world : World) (n : ℕ) (input : Input) : Type 0 where
+  pub is : model.World
+  pub stands : Stands world is
+  pub site : n < world.catalog.sites
+  pub fits : IsInputFor n world.catalog input
+  pub replayable : AreReplayable (setup_of world.catalog) is
+  pub after : AreReplayable (setup_of world.catalog) (ended (given (setup_of world.catalog) is n (input_of input) (site_at is n).running)).1
 
 -- the world with this transaction at the end of its order, if there is one
 abbrev pub with_placed : model.World → Option Placed → model.World

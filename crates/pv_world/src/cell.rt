@@ -1,8 +1,7 @@
-// A site of the world, up or down, and what a step, a stop or a start makes of it. Only this module knows
-// what kind of log the sites have.
-ghost use Rattle.std.specs.Prelude.{◌≡◌, ◌<◌, ℕ, List, IfOk, is_some};
+// A site of the world, up or down, and what a step, a stop, a start and an armed fault make of it. Only this module and the one on restarts
+// know what the sites stand on.
+ghost use Rattle.std.specs.Prelude.{◌≡◌, ◌<◌, ◌≤◌, ℕ, Bool, List, Option, IfOk, None, Some, is_some};
 ghost use Rattle.pv_base.specs.Catalog.{Declared};
-ghost use Rattle.pv_disk.specs.ListLaws.{list_model};
 ghost use Rattle.pv_format.specs.Record.{Record};
 ghost use Rattle.pv_protocol.specs.Committed.{entry_in};
 ghost use Rattle.pv_protocol.specs.Records.{is_prepared, known};
@@ -11,20 +10,17 @@ ghost use Rattle.pv_protocol.specs.Shown.{shown};
 ghost use Rattle.pv_protocol.specs.State as model;
 ghost use Rattle.pv_protocol.specs.World.{first_site};
 ghost use Rattle.pv_site.specs.Asked.{grant_held, grant_taken, voting_at};
-ghost use Rattle.pv_site.specs.OnLog.{HoldsRecords};
-ghost use Rattle.pv_site.specs.SiteState.{setup_of};
 ghost use Rattle.pv_site.specs.Values.{input_of};
-ghost use Rattle.pv_world.specs.Cells.{CanBeRead, HasStepped, HasStarted, HasStopped, IsReplayable, KeepsRecords, TakesInput};
+ghost use Rattle.pv_world.specs.Cells.{CanFall, CanStart, HasFallen, HasStarted, HasStepped, HasStopped, IsReplayable, IsUpOver, TakesInput};
 ghost use Rattle.pv_world.specs.Readings.{OwnsItem, reading_in};
 ghost use Rattle.pv_world.specs.Stands.{StandsForSite};
-ghost use Rattle.pv_world.specs.declared.cell.Cell.TheVariants.{Down};
 
-use pv_base::{Catalog, GrantId, ItemId, NoMemory, SiteId, TxnId};
-use pv_disk::{ListLog, Log, LogError};
-use pv_law_step::no_records_are_narrow;
-use pv_replay::{ReplayError, replay};
-use pv_site::{Input, OpenError, Shown, Site, Step, StepError, lists_fail_as_planned};
-use pv_store::{Store, StoreError};
+use crate::restart::{fallen, first_started, started, store_of};
+use pv_base::{Catalog, GrantId, ItemId, Mode, NoMemory, SiteId, TxnId};
+use pv_disk::MemDisk;
+use pv_journal::{Journal, armed_journals};
+use pv_site::{Input, Shown, Site, Step, StepError};
+use pv_store::Store;
 use std::alloc::Global;
 use std::mem::replace;
 
@@ -32,11 +28,25 @@ use std::mem::replace;
 #[derive(Drop)]
 pub(crate) enum Cell {
     /// It is up.
-    Up(Site<ListLog>),
-    /// It is down: its log, and what its records say.
-    Down(ListLog, Store),
+    Up(Site<Journal<MemDisk>>),
+    /// It is down: its disk, and what its records say.
+    Down(MemDisk, Store),
     /// It is being stopped or started, or there was no memory for that.
     Vacant,
+}
+
+/// What came of an input.
+#[derive(Debug, Drop)]
+pub(crate) enum Stepped {
+    /// The site was down, and took nothing.
+    Down,
+    /// It has made this step.
+    Made(Step),
+    /// A write or a sync of its disk fired, and it is down.
+    Broke {
+        /// Whether that stands for a stop of the site, and not for a fault of the disk.
+        stops: bool,
+    },
 }
 
 /// What came of a start.
@@ -46,46 +56,67 @@ pub(crate) enum Start {
     Up,
     /// It has started in this epoch.
     Started(u32),
-    /// Its log would have this length with the record of the epoch, above its limit.
+    /// Its journal would have this length with the record of the epoch, above its limit.
     Full(u64),
     /// No epoch is left.
     Spent,
+    /// A write or a sync of its disk fired, and it is down.
+    Broke {
+        /// Whether that stands for a stop of the site, and not for a fault of the disk.
+        stops: bool,
+    },
 }
 
 impl Cell {
-    /// The site after its first start, over a log that was empty. Takes time in proportion to the catalog's items.
+    /// The site after its first start, over a disk that was empty. Takes time in proportion to the catalog's items.
     pub(crate) fn open(alloc: Global, site: SiteId, catalog: &Catalog) -> Result<Cell, NoMemory>
         requires { site.0 < catalog.now.sites }
         ensures { IfOk result (λ cell. StandsForSite catalog.now site.0 cell first_site) }
     {
-        no_records_are_narrow();
-        let log = ListLog::new(alloc, catalog.journal(), Vec::new(alloc));
-        let store = Store::new(alloc, catalog, site)?;
-        let (cell, _) = started(log, store, alloc, site, catalog)?;
-        Ok(cell)
+        first_started(alloc, site, catalog)
     }
 
-    /// The step that a site that is up makes of the input. One that is down makes none, and stays as it is.
-    pub(crate) fn step(&mut self, input: &Input) -> Result<Option<Step>, NoMemory>
-        requires { TakesInput self.old input.now }
-        ensures { (catalog : Declared) (n : ℕ) (is : model.Site) → StandsForSite catalog n self.old is →
-            IfOk result (HasStepped catalog n self.old self.new is is.running (input_of input.now)) }
+    /// What the site of this number makes of the input. Where a write or a sync of its disk fires, it reads its records anew, as in a stop.
+    pub(crate) fn step(
+        &mut self,
+        alloc: Global,
+        site: SiteId,
+        catalog: &Catalog,
+        input: &Input,
+    ) -> Result<Stepped, NoMemory>
+        requires { TakesInput catalog.now site.0 self.old input.now }
+        ensures { (is : model.Site) → StandsForSite catalog.now site.0 self.old is →
+            IfOk result (HasStepped catalog.now site.0 self.old self.new is is.running (input_of input.now)) }
     {
+        armed_journals();
         let Cell::Up(up) = self else {
-            return Ok(None);
+            return Ok(Stepped::Down);
         };
-        lists_fail_as_planned();
         match up.step(input) {
-            Ok(step) => Ok(Some(step)),
+            Ok(step) => Ok(Stepped::Made(step)),
+            Err(StepError::Fault) => self.fall(alloc, site, catalog),
             Err(StepError::NoMemory) => Err(NoMemory),
-            // No call of the log is to fail, and the site is up.
-            Err(StepError::Fault) => unreachable!(),
+            // The site is up.
             Err(StepError::Down) => unreachable!(),
         }
     }
 
-    /// Stops a site that is up, and answers whether it was. It then reads its records from its log, as it would have to over a
-    /// disk, in time in proportion to the log and the catalog.
+    // Takes a site from memory whose journal failed.
+    fn fall(&mut self, alloc: Global, site: SiteId, catalog: &Catalog) -> Result<Stepped, NoMemory>
+        requires { CanFall catalog.now site.0 self.old }
+        ensures { (records : List Record) (armed : Option model.Arm) (fired : Option Bool) → IsUpOver records armed fired self.old →
+            IfOk result (HasFallen catalog.now site.0 records fired self.new) }
+    {
+        let Cell::Up(up) = replace(self, Cell::Vacant) else {
+            return Ok(Stepped::Down);
+        };
+        let (cell, stops) = fallen(up.close().close(), alloc, site, catalog)?;
+        *self = cell;
+        Ok(Stepped::Broke { stops })
+    }
+
+    /// Stops a site that is up, and answers whether it was. It then reads its records from its disk, in time in proportion to the journal and
+    /// the catalog.
     pub(crate) fn stop(
         &mut self,
         alloc: Global,
@@ -98,9 +129,9 @@ impl Cell {
     {
         match replace(self, Cell::Vacant) {
             Cell::Up(up) => {
-                let mut log = up.close();
-                let store = store_of(&mut log, alloc, site, catalog)?;
-                *self = Cell::Down(log, store);
+                let mut disk = up.close().close();
+                let store = store_of(&mut disk, alloc, site, catalog)?;
+                *self = Cell::Down(disk, store);
                 Ok(true)
             }
             down => {
@@ -110,21 +141,21 @@ impl Cell {
         }
     }
 
-    /// Starts a site that is down. Takes time in proportion to the log and the catalog.
+    /// Starts a site that is down. Takes time in proportion to the journal and the catalog.
     pub(crate) fn start(
         &mut self,
         alloc: Global,
         site: SiteId,
         catalog: &Catalog,
     ) -> Result<Start, NoMemory>
-        requires replayable { IsReplayable catalog.now site.0 self.old }
+        requires replayable { CanStart catalog.now site.0 self.old }
         requires site { site.0 < catalog.now.sites }
         ensures { (is : model.Site) → StandsForSite catalog.now site.0 self.old is →
             IfOk result (HasStarted catalog.now site.0 self.old self.new is is.running) }
     {
         match replace(self, Cell::Vacant) {
-            Cell::Down(log, store) => {
-                let (cell, start) = started(log, store, alloc, site, catalog)?;
+            Cell::Down(disk, store) => {
+                let (cell, start) = started(disk, store, alloc, site, catalog)?;
                 *self = cell;
                 Ok(start)
             }
@@ -132,6 +163,32 @@ impl Cell {
                 *self = up;
                 Ok(Start::Up)
             }
+        }
+    }
+
+    /// Lets the `k`-th write or sync of the site's disk from now on, counted from 1, fire in place of one armed before. It then leaves what the
+    /// mode says, and stands for a stop of the site or for a fault of the disk.
+    pub(crate) fn arm(&mut self, k: u32, mode: Mode, stop: bool)
+        requires { 1 ≤ k }
+        ensures { (catalog : Declared) (n : ℕ) (is : model.Site) → StandsForSite catalog n self.old is →
+            StandsForSite catalog n self.new (record is { arm = Some (record { call = k; mode = mode; stops = stop }) }) }
+    {
+        match self {
+            Cell::Up(up) => up.log().disk().arm(k, mode, stop),
+            Cell::Down(disk, _) => disk.arm(k, mode, stop),
+            Cell::Vacant => {}
+        }
+    }
+
+    /// Lets no write and no sync of the site's disk fire.
+    pub(crate) fn mend(&mut self)
+        ensures { (catalog : Declared) (n : ℕ) (is : model.Site) → StandsForSite catalog n self.old is →
+            StandsForSite catalog n self.new (record is { arm = None }) }
+    {
+        match self {
+            Cell::Up(up) => up.log().disk().mend(),
+            Cell::Down(disk, _) => disk.mend(),
+            Cell::Vacant => {}
         }
     }
 
@@ -197,63 +254,5 @@ impl Cell {
             Cell::Up(up) => up.read(item),
             Cell::Down(..) | Cell::Vacant => Shown::Down,
         }
-    }
-}
-
-// What comes of starting the site over its log, and what its cell is then.
-fn started(
-    log: ListLog,
-    store: Store,
-    alloc: Global,
-    site: SiteId,
-    catalog: &Catalog,
-) -> Result<(Cell, Start), NoMemory>
-    requires replayable { IsReplayable catalog.now site.0 (Down log store) }
-    requires site { site.0 < catalog.now.sites }
-    ensures { (is : model.Site) → StandsForSite catalog.now site.0 (Down log store) is →
-        IfOk result (λ made. HasStarted catalog.now site.0 (Down log store) made.0 is is.running made.1) }
-{
-    lists_fail_as_planned();
-    match Site::open(alloc, log, site, catalog) {
-        Ok(up) => {
-            let epoch = up.epoch();
-            Ok((Cell::Up(up), Start::Started(epoch)))
-        }
-        Err(OpenError::Full(log, length)) => Ok((Cell::Down(log, store), Start::Full(length))),
-        Err(OpenError::EpochsSpent(log)) => Ok((Cell::Down(log, store), Start::Spent)),
-        Err(OpenError::NoMemory(_)) => Err(NoMemory),
-        // No call of the log is to fail, and the site can read its records anew.
-        Err(OpenError::Failed(_)) | Err(OpenError::NotOurs(..)) => unreachable!(),
-        Err(OpenError::BadRecord(..)) => unreachable!(),
-        Err(OpenError::TooManyOutcomes(..)) => unreachable!(),
-    }
-}
-
-// What the records of the log say.
-fn store_of(
-    log: &mut ListLog,
-    alloc: Global,
-    site: SiteId,
-    catalog: &Catalog,
-) -> Result<Store, NoMemory>
-    requires { CanBeRead catalog.now site.0 log.old }
-    ensures same { log.new ≡ log.old }
-    ensures store { (records : List Record) → HoldsRecords list_model log.old records → IfOk result (KeepsRecords catalog.now site.0 records) }
-{
-    let contents = match log.read_all() {
-        Ok(contents) => contents,
-        Err(LogError::NoMemory) => return Err(NoMemory),
-        Err(_) => unreachable!(),
-    };
-    let past = match replay(alloc, &contents) {
-        Ok(past) => past,
-        Err(ReplayError::NoMemory) => return Err(NoMemory),
-        Err(ReplayError::BadRecord(_)) => unreachable!(),
-    };
-    let mut store = Store::new(alloc, catalog, site)?;
-    match store.load(&past) {
-        Ok(()) => Ok(store),
-        Err(StoreError::NoMemory) => Err(NoMemory),
-        Err(StoreError::TooManyOutcomes(_)) => unreachable!(),
     }
 }

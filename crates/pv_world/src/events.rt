@@ -1,5 +1,5 @@
 // What each event of a schedule makes of the world.
-ghost use Rattle.std.specs.Prelude.{◌≡◌, ◌<◌, ℕ, [], false, slice_get};
+ghost use Rattle.std.specs.Prelude.{◌≡◌, false, slice_get};
 ghost use Rattle.pv_protocol.specs.Attempt.{begun, delivered, given, halted, lost, opened};
 ghost use Rattle.pv_protocol.specs.Run.{transitions_of};
 ghost use Rattle.pv_protocol.specs.State.{submit};
@@ -10,14 +10,15 @@ ghost use Rattle.pv_model.specs.Check.{IsPlan};
 ghost use Rattle.pv_model.specs.Events as happening;
 ghost use Rattle.pv_script.specs.ScheduleView.{event_of, HasPlan};
 ghost use Rattle.pv_site.specs.SiteState.{setup_of};
-ghost use Rattle.pv_site.specs.Values.{input_of};
 ghost use Rattle.pv_world.specs.Pumping.{is_over, one_less};
 ghost use Rattle.pv_world.specs.Stands.{StandsFor, StandsForSome};
 ghost use Rattle.pv_world.specs.Stands as world;
-ghost use Rattle.pv_world.specs.Steps.{CanGive, CanHappen, Comes, Makes};
+ghost use Rattle.pv_world.specs.Steps.{Comes, Makes};
 
 use crate::cell::Start;
 use crate::laws::reached_worlds_are_lawful;
+use crate::lines::broken_line;
+use crate::spelled::envelope;
 use crate::{World, WorldError};
 use pv_ast::Program;
 use pv_base::SiteId;
@@ -25,7 +26,6 @@ use pv_check::Plan;
 use pv_law_programs::one_plan;
 use pv_script::{Event, Line};
 use pv_site::Input;
-use pv_wire::decode;
 
 impl World {
     // Makes of the world what the event makes of it; what it prints is put after these lines.
@@ -33,7 +33,6 @@ impl World {
         requires stands { StandsForSome self.old }
         requires event { IsWellFormed self.old.catalog (event_of event.now) }
         requires plan { HasPlan self.old.catalog event.now }
-        requires unarmed { CanHappen (event_of event.now) }
         ensures { (is : model.World) → StandsFor self.old is →
             Makes self.old self.new lines.old.items lines.new.items is (transitions_of (setup_of self.old.catalog) is (event_of event.now)) result }
     {
@@ -48,7 +47,6 @@ impl World {
         requires stands { StandsForSome self.old }
         requires event { IsWellFormed self.old.catalog (event_of event.now) }
         requires plan { HasPlan self.old.catalog event.now }
-        requires unarmed { CanHappen (event_of event.now) }
         ensures { (is : model.World) → StandsFor self.old is →
             Comes self.old self.new lines.old.items lines.new.items (begun (setup_of self.old.catalog) is (event_of event.now)) result }
     {
@@ -72,9 +70,19 @@ impl World {
             Event::Sent => Ok(self.push_sent(lines)?),
             Event::Report => Ok(self.push_report(lines)?),
             Event::Total => Ok(self.push_total(lines)?),
-            // Nothing can be armed over logs in memory, so there is nothing to disarm.
-            Event::Arm { .. } => Ok(()),
-            Event::Mend(_) => Ok(()),
+            Event::Arm {
+                site,
+                k,
+                mode,
+                stop,
+            } => {
+                self.cells[site.0 as usize].arm(*k, *mode, *stop);
+                Ok(())
+            }
+            Event::Mend(site) => {
+                self.cells[site.0 as usize].mend();
+                Ok(())
+            }
             // A pump is its deliveries.
             Event::Pump(_) => Ok(()),
         }
@@ -114,10 +122,7 @@ impl World {
         let Some(bytes) = self.mail.get(number) else {
             return Ok(lines.push(Line::NoMessage(number))?);
         };
-        // Each message that was sent has a spelling, so all that can be refused is memory.
-        let Ok(envelope) = decode(self.alloc, bytes) else {
-            return Err(WorldError::NoMemory);
-        };
+        let envelope = envelope(self.alloc, bytes)?;
         self.mail.finish(number);
         let input = Input::Take {
             from: envelope.from,
@@ -184,6 +189,7 @@ impl World {
             Start::Started(epoch) => Line::Started { site, epoch },
             Start::Full(length) => Line::Full { site, length },
             Start::Spent => Line::Spent(site),
+            Start::Broke { stops } => broken_line(site, stops),
         };
         Ok(lines.push(line)?)
     }

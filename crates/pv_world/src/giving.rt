@@ -15,7 +15,8 @@ ghost use Rattle.pv_world.specs.Stands as world;
 ghost use Rattle.pv_world.specs.Steps.{Becomes, CanGive, Comes, IsPlaced, with_placed};
 ghost use Rattle.pv_world.specs.Taken.{IsOrderly};
 
-use crate::lines::push_notes;
+use crate::cell::Stepped;
+use crate::lines::{broken_line, push_notes};
 use crate::order::at_lock_point;
 use crate::{World, WorldError};
 use pv_base::{NoMemory, SiteId, TxnId};
@@ -35,9 +36,10 @@ impl World {
         ensures { (is : model.World) → world.Stands self.old is → IsOrderly (setup_of self.old.catalog) is →
             Comes self.old self.new lines.old.items lines.new.items (given (setup_of self.old.catalog) is site.0 (input_of input.now) (site_at is site.0).running) result }
     {
-        match self.cells[site.0 as usize].step(input)? {
-            Some(step) => self.follow(site, step, lines),
-            None => Ok(lines.push(Line::Down(site))?),
+        match self.cells[site.0 as usize].step(self.alloc, site, &self.catalog, input)? {
+            Stepped::Made(step) => self.follow(site, step, lines),
+            Stepped::Broke { stops } => Ok(lines.push(broken_line(site, stops))?),
+            Stepped::Down => Ok(lines.push(Line::Down(site))?),
         }
     }
 

@@ -1,4 +1,4 @@
-//! A world of sites in one process: the sites over logs in memory, the messages between them, and the events of a schedule, one after another.
+//! A world of sites in one process: the sites over journals on disks in memory, the messages between them, and the events of a schedule, one after another.
 #![tactic(auto)]
 
 mod cell;
@@ -10,7 +10,9 @@ mod lines;
 mod mail;
 mod order;
 mod report;
+mod restart;
 mod sent;
+mod spelled;
 mod total;
 mod world;
 

@@ -1,5 +1,6 @@
 // What the steps of sites print.
 ghost use Rattle.std.specs.Prelude.{◌≡◌, ◌++◌, ◌∷◌, [], map, OnOk};
+ghost use Rattle.pv_protocol.specs.Arms.{broken_line};
 ghost use Rattle.pv_protocol.specs.Lines as model;
 ghost use Rattle.pv_protocol.specs.Lines.{lines_of};
 ghost use Rattle.pv_script.specs.LineView.{line_of};
@@ -21,6 +22,17 @@ pub(crate) fn push_notes(
         push_note(lines, site, note)?;
     }
     Ok(())
+}
+
+/// What is printed where a write or a sync of a site's disk fires: that the site has stopped, or that its disk failed.
+pub(crate) fn broken_line(site: SiteId, stops: bool) -> Line
+    ensures { line_of result ≡ broken_line site.0 stops }
+{
+    if stops {
+        Line::Stopped(site)
+    } else {
+        Line::Fault(site)
+    }
 }
 
 // Adds what a note of the site prints.

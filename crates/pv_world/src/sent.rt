@@ -15,14 +15,16 @@ ghost use Rattle.pv_world.specs.Steps.{lines_of};
 
 use crate::World;
 use crate::mail::Mail;
+use crate::spelled::envelope;
 use pv_base::{NoMemory, TxnId};
 use pv_script::{Line, MessageKind};
-use pv_wire::{Message, decode};
+use pv_wire::Message;
 use std::alloc::Global;
 
 impl World {
     /// Adds a line for each message that was ever sent. Takes time in proportion to their bytes.
     pub(crate) fn push_sent(&self, lines: &mut Vec<Line>) -> Result<(), NoMemory>
+        requires { (is : protocol.World) × Stands self.now is }
         ensures { (is : protocol.World) → Stands self.now is → OnOk result (lines_of lines.new.items ≡ lines_of lines.old.items ++ sent_lines is) }
     {
         push_messages(self.alloc, &self.mail, lines)
@@ -31,6 +33,7 @@ impl World {
 
 // Adds a line for each message, by its number.
 fn push_messages(alloc: Global, mail: &Mail, lines: &mut Vec<Line>) -> Result<(), NoMemory>
+    requires { (sent : List Envelope) × Carry mail.now.posts sent }
     ensures { (sent : List Envelope) → Carry mail.now.posts sent → OnOk result (map line_of lines.new.items ≡ map line_of lines.old.items ++ sent_from 0 sent) }
 {
     for number in 0..mail.len() as u64 {
@@ -46,6 +49,7 @@ fn push_message(
     number: u64,
     lines: &mut Vec<Line>,
 ) -> Result<(), NoMemory>
+    requires { (sent : List Envelope) × Carry mail.now.posts sent }
     ensures { (post : Posted) (envelope : Envelope) → slice_get mail.now.posts number ≡ Some post → SpellsEnvelope envelope post.bytes
         → OnOk result (map line_of lines.new.items ≡ map line_of lines.old.items ++ sent_from number (envelope ∷ [])) }
 {
@@ -58,13 +62,11 @@ fn push_message(
 
 // The line of a message, by its bytes.
 fn line_of(alloc: Global, number: u64, bytes: &[u8]) -> Result<Line, NoMemory>
+    requires { (envelope : Envelope) × SpellsEnvelope envelope bytes.now }
     ensures { (envelope : Envelope) → SpellsEnvelope envelope bytes.now
         → IfOk result (λ line. line_of line ≡ model.Line.sent number envelope.from envelope.to (model.kind_of envelope.message) (txn_of envelope.message)) }
 {
-    // Each message that was sent has a spelling, so all that can be refused is memory.
-    let Ok(envelope) = decode(alloc, bytes) else {
-        return Err(NoMemory);
-    };
+    let envelope = envelope(alloc, bytes)?;
     let (kind, txn) = head_of(&envelope.message);
     Ok(Line::Sent {
         number,

@@ -6,7 +6,7 @@ ghost use Rattle.pv_protocol.specs.WellFormed.{IsWellFormed};
 ghost use Rattle.pv_script.specs.ScheduleView.{event_of, HasPlan};
 ghost use Rattle.pv_site.specs.SiteState.{setup_of};
 ghost use Rattle.pv_world.specs.Stands.{StandsFor, StandsForSome};
-ghost use Rattle.pv_world.specs.Steps.{CanHappen, Steps};
+ghost use Rattle.pv_world.specs.Steps.{Steps};
 
 use crate::WorldError;
 use crate::cell::Cell;
@@ -17,8 +17,9 @@ use pv_script::{Event, Line};
 use pv_site::setup_is_in_range;
 use std::alloc::Global;
 
-/// All sites of a database over logs in memory, the messages between them, and the order of the transactions. The events of a schedule
-/// change it, one after another: what is delivered, lost or repeated, and which site stops, is the schedule's to say.
+/// All sites of a database, each over a journal on a disk in memory, the messages between them, and the order of the transactions. The events of
+/// a schedule change it, one after another: what is delivered, lost or repeated, which site stops, and in which write or sync, is the schedule's
+/// to say.
 #[derive(Drop)]
 pub struct World {
     /// Where its memory comes from.
@@ -55,9 +56,9 @@ impl World {
         })
     }
 
-    /// What the event prints; the world is then the one after it. The event's sites are the catalog's, it isn't one that arms a disk, and a
-    /// request has the plan that `check` answers for its program. Takes time in proportion to what the event prints, sends and touches; a stop and
-    /// a start take besides time in proportion to the site's log and the items, and a tick to what stands at the site.
+    /// What the event prints; the world is then the one after it. The event's sites are the catalog's, a write or sync that it arms is counted
+    /// from 1, and a request has the plan that `check` answers for its program. Takes time in proportion to what the event prints, sends and
+    /// touches; where a site stops or starts besides in proportion to its journal and the items, and a tick to what stands at the site.
     ///
     /// - [`WorldError::SentLimit`]: the encoded bytes of all messages, with those of the first one that passes the limit, are so many. The world
     ///   is then to be dropped.
@@ -66,7 +67,6 @@ impl World {
         requires stands { StandsForSome self.old }
         requires event { IsWellFormed self.old.catalog (event_of event.now) }
         requires plan { HasPlan self.old.catalog event.now }
-        requires unarmed { CanHappen (event_of event.now) }
         ensures { (is : model.World) → StandsFor self.old is → Steps self.old self.new (event_of event.now) is result }
     {
         let mut lines = Vec::new(self.alloc);

@@ -1,8 +1,11 @@
-use Rattle.std.proofs.Common.{refl, ap, subst}
+use Rattle.std.proofs.Common.{arith, refl, ap, subst}
 use Rattle.pv_protocol.specs.WellFormed.{IsWellFormed}
 use Rattle.pv_script.specs.ScheduleView.{event_of}
+use Rattle.pv_site.specs.SiteState.{setup_of}
 use Rattle.pv_world.proofs.DeliverLemmas.{orderly}
-use Rattle.pv_world.proofs.HappenLemmas.{comes-delivered, comes-dropped, comes-lost, comes-mended, comes-pumped, comes-reported, comes-sent, comes-started, comes-stopped, comes-submitted, comes-ticked, comes-totalled}
+use Rattle.pv_world.proofs.EventLemmas.{reached-ticked}
+use Rattle.pv_world.proofs.HappenLemmas.{begun-armed, begun-mended, comes-delivered, comes-dropped, comes-lost, comes-pumped, comes-rearmed, comes-reported, comes-sent, comes-started, comes-stopped, comes-submitted, comes-ticked, comes-totalled}
+use Rattle.pv_world.proofs.StandLemmas.{cells-count}
 use Rattle.pv_world.proofs.world.World.happen_once.Goals as goal
 
 pub returns-in-Submit : goal.returns-in-Submit
@@ -25,6 +28,22 @@ returns-in-Drop c is stands =
     let world = c.args.self.now in
     comes-dropped world c.args.lines.now.items is stands.stands (event_of c.args.event.now) (tt {0}) (record world { mail = c.drop_to.new.self }) c.in-Drop.site.0
     (ap event_of c.in-Drop.is) refl refl refl c.drop_to.ensures
+
+pub give-requires : goal.give-requires
+give-requires c =
+    let world = c.args.self.now in
+    let is = c.requires.stands.0 in
+    let stands = c.requires.stands.1 in
+    let laws = c.reached_worlds_are_lawful.ensures (setup_of world.catalog) in
+    let there = subst (λ event. IsWellFormed world.catalog (event_of event)) c.in-Tick.is c.requires.event in
+    record {
+      is = is;
+      stands = stands.stands;
+      site = there;
+      fits = tt;
+      replayable = (laws is stands.range stands.reached).replayable;
+      after = (laws _ stands.range (reached-ticked (setup_of world.catalog) is stands.reached c.in-Tick.site.0 there)).replayable;
+    }
 
 pub returns-in-Tick : goal.returns-in-Tick
 returns-in-Tick c is stands =
@@ -63,11 +82,38 @@ returns-in_ok-push_total-in-Total c is stands =
     comes-totalled world world c.args.lines.now.items c.push_total.new.lines.items is (event_of c.args.event.now) (tt {0})
     (ap event_of c.in-Total.is) stands.stands (record { catalog = refl; limit = refl }) (c.in_ok-push_total-in-Total.ensures is stands.stands)
 
+pub index_mut-requires : goal.index_mut-requires
+index_mut-requires c =
+    let world = c.args.self.now in
+    let stands = c.requires.stands in
+    let well = subst (λ event. IsWellFormed world.catalog (event_of event)) c.in-Arm.is c.requires.event in
+    omega (arith, cells-count world stands.0 stands.1.stands, world.cells.ok.0, well.0)
+
+pub arm-requires : goal.arm-requires
+arm-requires c = (subst (λ event. IsWellFormed c.args.self.now.catalog (event_of event)) c.in-Arm.is c.requires.event).1
+
+pub returns-in-Arm : goal.returns-in-Arm
+returns-in-Arm c is stands =
+    let world = c.args.self.now in
+    let well = subst (λ event. IsWellFormed world.catalog (event_of event)) c.in-Arm.is c.requires.event in
+    comes-rearmed world c.args.lines.now.items is stands.stands (event_of c.args.event.now) (tt {0}) c.in-Arm.site.0 well.0
+    c.index_mut.result.now c.index_mut.ensures.value c.arm.new.self _ (λ site own. c.arm.ensures world.catalog c.in-Arm.site.0 site own)
+    (begun-armed (setup_of world.catalog) is (event_of c.args.event.now) c.in-Arm.site.0 c.in-Arm.k c.in-Arm.mode c.in-Arm.stop (ap event_of c.in-Arm.is))
+
+pub index_mut-requires-in-Mend : goal.index_mut-requires-in-Mend
+index_mut-requires-in-Mend c =
+    let world = c.args.self.now in
+    let stands = c.requires.stands in
+    let well = subst (λ event. IsWellFormed world.catalog (event_of event)) c.in-Mend.is c.requires.event in
+    omega (arith, cells-count world stands.0 stands.1.stands, world.cells.ok.0, well)
+
 pub returns-in-Mend : goal.returns-in-Mend
 returns-in-Mend c is stands =
     let world = c.args.self.now in
-    comes-mended world c.args.lines.now.items is stands.stands (event_of c.args.event.now) (tt {0}) _
-    (ap event_of c.in-Mend.is) (subst (λ event. IsWellFormed world.catalog (event_of event)) c.in-Mend.is c.requires.event)
+    let well = subst (λ event. IsWellFormed world.catalog (event_of event)) c.in-Mend.is c.requires.event in
+    comes-rearmed world c.args.lines.now.items is stands.stands (event_of c.args.event.now) (tt {0}) c.in-Mend.site.0 well
+    c.index_mut-in-Mend.result.now c.index_mut-in-Mend.ensures.value c.mend.new.self _ (λ site own. c.mend.ensures world.catalog c.in-Mend.site.0 site own)
+    (begun-mended (setup_of world.catalog) is (event_of c.args.event.now) c.in-Mend.site.0 (ap event_of c.in-Mend.is))
 
 pub returns-in-Pump : goal.returns-in-Pump
 returns-in-Pump c is stands =

@@ -6,6 +6,7 @@ use Rattle.pv_protocol.specs.WellFormed.{CanRun}
 use Rattle.pv_protocol.specs.World.{site_at}
 use Rattle.pv_site.specs.SiteState.{setup_of}
 use Rattle.pv_world.proofs.DeliverLemmas.{orderly}
+use Rattle.pv_world.proofs.EventLemmas.{reached-submitted}
 use Rattle.pv_world.specs.Steps.{Comes}
 use Rattle.pv_world.proofs.world.World.submit.Goals as goal
 
@@ -13,15 +14,18 @@ use Rattle.pv_world.proofs.world.World.submit.Goals as goal
 pub give-requires : goal.give-requires
 give-requires c =
     let catalog = c.args.self.now.catalog in
-    let stands = c.requires.stands in (
-      stands.0,
-      stands.1.stands,
-      c.requires.site,
-      (
-        subst (CanRun catalog) (sym c.in_ok-copy.ensures) c.requires.runs,
-        c.in_ok-copy-2.ensures ∙ (c.one_plan.ensures _ _ _ c.requires.plan ∙ ap (λ program. plan_of program catalog.items) (sym c.in_ok-copy.ensures)),
-      ),
-    )
+    let is = c.requires.stands.0 in
+    let stands = c.requires.stands.1 in
+    let laws = c.reached_worlds_are_lawful.ensures (setup_of catalog) in
+    let runs = subst (CanRun catalog) (sym c.in_ok-copy.ensures) c.requires.runs in
+    record {
+      is = is;
+      stands = stands.stands;
+      site = c.requires.site;
+      fits = (runs, c.in_ok-copy-2.ensures ∙ (c.one_plan.ensures _ _ _ c.requires.plan ∙ ap (λ program. plan_of program catalog.items) (sym c.in_ok-copy.ensures)));
+      replayable = (laws is stands.range stands.reached).replayable;
+      after = (laws _ stands.range (reached-submitted (setup_of catalog) is stands.reached c.args.site.0 _ c.requires.site runs)).replayable;
+    }
 
 pub returns : goal.returns
 returns c is stands =

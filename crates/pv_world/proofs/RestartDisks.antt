@@ -1,0 +1,80 @@
+-- The disk of a site that is started or was stopped: what it holds is read, and what is added.
+use Rattle.std.proofs.Common.{◌≡◌, ℕ, ◌+◌, ◌-◌, ◌<◌, Bool, true, false, List, [], ◌∷◌, ◌++◌, Option, Some, None, refl, sym, subst, arith}
+use Rattle.std.specs.Prelude.{◌&&◌, if◌then◌else◌, nat_lt, option_to_list}
+use Rattle.std.specs.Option.{option_map}
+use Rattle.std.proofs.lemmas.Bool.Decides.{nat_tests}
+use Rattle.std.proofs.lemmas.List.{append-nil}
+use Rattle.pv_base.specs.declared.mode.Mode.{Mode}
+use Rattle.pv_base.specs.declared.mode.Mode.TheVariants.{Lost, Kept, Torn}
+use Rattle.pv_disk.specs.MemDisk.{MemState}
+use Rattle.pv_disk.specs.MemLaws.{mem_model}
+use Rattle.pv_disk.specs.declared.arms.Arm as disk
+use Rattle.pv_format.specs.Contents.{SpellRecords}
+use Rattle.pv_format.specs.Record.{Record}
+use Rattle.pv_format.specs.RecordSpelling.{SpellsRecord}
+use Rattle.pv_journal.specs.Armed.{Holds, contents_left, opened_in}
+use Rattle.pv_journal.specs.Journal.{contents_now}
+use Rattle.pv_journal.specs.declared.journal.Journal.{Journal}
+use Rattle.pv_law_disk.specs.Size.{Contents}
+use Rattle.pv_law_journal.proofs.ContentsLemmas.{contents_of-is}
+use Rattle.pv_law_journal.specs.Format.{IsJournal}
+use Rattle.pv_protocol.specs.Arms.{is_kept, record_left}
+use Rattle.pv_protocol.specs.State.{Arm}
+use Rattle.pv_world.proofs.RecordLemmas.{records-same}
+use Rattle.pv_world.proofs.RestartArms.{later_by}
+use Rattle.pv_world.specs.Disks.{Spells, armed_as}
+
+-- The contents of a journal are those that its disk holds.
+pub holds-contents : (contents : Contents) (armed : Option disk.Arm) (fired : Option Bool) (journal : Journal MemState) → Holds contents armed fired journal.disk
+    → contents_now mem_model journal ≡ Some contents
+holds-contents contents armed fired journal holds = contents_of-is contents journal.disk.image.content holds.journal
+
+-- Records that were read of a journal are those that its disk spells.
+pub reads-spelled : (records others : List Record) (contents : Contents) (armed : Option Arm) (fired : Option Bool) (journal : Journal MemState)
+    → Spells records armed fired journal.disk → ((held : Contents) → contents_now mem_model journal ≡ Some held → contents ≡ held) → SpellRecords others contents
+    → others ≡ records
+reads-spelled records others contents armed fired journal spells read spelled =
+    let same : contents ≡ spells.contents = read spells.contents (holds-contents spells.contents (option_map armed_as armed) fired journal spells.holds) in
+    records-same spells.contents others records (subst (SpellRecords others) same spelled) spells.spelled
+
+-- Contents that are read of the disk spell the records.
+pub look-spells : (records : List Record) (armed : Option Arm) (fired : Option Bool) (on : MemState) (read : Contents) → Spells records armed fired on
+    → ((contents : Contents) → IsJournal contents on.image.content → read ≡ contents) → SpellRecords records read
+look-spells records armed fired on read spells is = subst (SpellRecords records) (sym (is spells.contents spells.holds.journal)) spells.spelled
+
+-- A disk that is mended holds what it held.
+pub spells-mended : (records : List Record) (armed : Option Arm) (fired : Option Bool) (on : MemState) → Spells records armed fired on
+    → Spells records None None (record on { arms = record on.arms { armed = None; fired = None } })
+spells-mended records armed fired on spells = record {
+  contents = spells.contents;
+  spelled = spells.spelled;
+  holds = record { journal = spells.holds.journal; settled = spells.holds.settled; armed = refl; fired = refl; reads = spells.holds.reads };
+}
+
+-- One content more spells one record more.
+pub spell-append : (records : List Record) (contents : Contents) (more : Record) (content : List ℕ) → SpellRecords records contents → SpellsRecord more content
+    → SpellRecords (records ++ more ∷ []) (contents ++ content ∷ [])
+spell-append [] [] more content spelled one = (one, tt)
+spell-append [] (first ∷ contents) more content spelled one = absurd spelled
+spell-append (first ∷ records) [] more content spelled one = absurd spelled
+spell-append (first ∷ records) (content_first ∷ contents) more content spelled one = (spelled.0, spell-append records contents more content spelled.1 one)
+
+-- What an append leaves that fires spells the record more exactly where the definitions say so.
+module _ (records : List Record) (contents : Contents) (more : Record) (content : List ℕ) (spelled : SpellRecords records contents) (one : SpellsRecord more content) where
+  spell-kept : (mode : Mode) → SpellRecords (records ++ option_to_list (if is_kept mode then Some more else None)) (opened_in mode contents content)
+  spell-kept Kept = spell-append records contents more content spelled one
+  spell-kept Lost = subst (λ (all : List Record). SpellRecords all contents) (sym (append-nil records)) spelled
+  spell-kept Torn = subst (λ (all : List Record). SpellRecords all contents) (sym (append-nil records)) spelled
+
+  pub spell-opened : (late : Bool) (mode : Mode)
+      → SpellRecords (records ++ option_to_list (if late && is_kept mode then Some more else None)) (if late then opened_in mode contents content else contents)
+  spell-opened true mode = spell-kept mode
+  spell-opened false mode = subst (λ (all : List Record). SpellRecords all contents) (sym (append-nil records)) spelled
+
+  -- So many syncs come before the append, and what fires in it is nearer by them.
+  pub spell-left : (syncs : ℕ) (first : Arm) → syncs < first.call
+      → SpellRecords (records ++ option_to_list (record_left syncs (Some more) first)) (contents_left contents content (armed_as (later_by syncs first)))
+  spell-left syncs first late =
+      let same : nat_lt (syncs + 2) first.call ≡ nat_lt 2 (first.call - syncs) = grind (arith, nat_tests, late) in
+      subst (λ (b : Bool). SpellRecords (records ++ option_to_list (if b && is_kept first.mode then Some more else None)) (contents_left contents content (armed_as (later_by syncs first))))
+      (sym same) (spell-opened (nat_lt 2 (first.call - syncs)) first.mode)

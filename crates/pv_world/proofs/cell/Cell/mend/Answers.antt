@@ -1,0 +1,9 @@
+use Rattle.std.proofs.Common.{None}
+use Rattle.pv_world.proofs.ArmLemmas.{up-lent}
+use Rattle.pv_world.proofs.CellLemmas.{is-up}
+use Rattle.pv_world.proofs.cell.Cell.mend.Goals as goal
+
+pub returns-in-Up : goal.returns-in-Up
+returns-in-Up c = λ catalog n is stands.
+    up-lent catalog n is None c.in-Up.up c.log.result.now c.disk.result.now c.mend.new.self
+    c.log.ensures.value c.disk.ensures.value c.mend.ensures (is-up catalog n c.args.self.now c.in-Up.up is c.in-Up.is stands)

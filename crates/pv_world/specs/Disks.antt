@@ -1,0 +1,20 @@
+-- What the disk of a site holds.
+use Rattle.std.specs.Prelude.{Bool, List, Option}
+use Rattle.std.specs.Option.{option_map}
+use Rattle.pv_disk.specs.MemDisk.{MemState}
+use Rattle.pv_disk.specs.declared.arms.Arm.{Arm}
+use Rattle.pv_format.specs.Contents.{SpellRecords}
+use Rattle.pv_format.specs.Record.{Record}
+use Rattle.pv_journal.specs.Armed.{Holds}
+use Rattle.pv_law_disk.specs.Size.{Contents}
+use Rattle.pv_protocol.specs.State as model
+
+-- an armed fault as the disk has it
+abbrev pub armed_as : model.Arm → Arm
+armed_as arm = record { left = arm.call; mode = arm.mode; stop = arm.stops }
+
+-- The disk holds a journal of these records, all of it synced. This is armed, this has fired, and no read is to fail.
+pub record Spells (records : List Record) (armed : Option model.Arm) (fired : Option Bool) (disk : MemState) : Type 0 where
+  pub contents : Contents
+  pub spelled : SpellRecords records contents
+  pub holds : Holds contents (option_map armed_as armed) fired disk
