@@ -8,12 +8,11 @@ use Rattle.pv_base.specs.declared.limits.TheConstants.{MAX_INPUT}
 use Rattle.pv_io.specs.Stream.{AppendsPrefix}
 use Rattle.pv_model.specs.LineCauses.{LineCause}
 use Rattle.pv_model.specs.Events.{Schedule}
-use Rattle.pv_script.specs.Runnable.{not_built}
-use Rattle.pv_model.specs.Schedule.{IsSchedule}
+use Rattle.pv_model.specs.Schedule.{IsMalformedSchedule, IsSchedule}
 use Rattle.pv_law_schedules.proofs.OneScheduleLemmas.{one_schedule, one_fault, no_fault}
 use Rattle.pv_app.specs.declared.status.Status.{Status}
 use Rattle.pv_app.specs.declared.status.Status.TheVariants.{Done, Usage, Malformed, WriteFault, TooLong, NoMemory, SentLimit}
-use Rattle.pv_app.specs.InputAnswers.{CanBeRun, IsAnswer, IsRefusedAt, GivesUp, GrowsBySome, fault_text, output_of, output_within, status_within, status_of, within_limit}
+use Rattle.pv_app.specs.InputAnswers.{IsAnswer, GivesUp, GrowsBySome, fault_text, output_of, output_within, status_within, status_of, within_limit}
 use Rattle.pv_app.specs.declared.run.RunEnd.{RunEnd}
 use Rattle.pv_app.specs.declared.run.RunEnd.TheVariants as end
 use Rattle.pv_app.proofs.LimitLemmas.{output-within}
@@ -27,24 +26,10 @@ one_element (y ∷ z ∷ xs) x some few is = absurd (omega arith)
 
 -- ---- an input has one answer
 
-built_differs : (input : List ℕ) (number : ℕ) → not_built input ≡ None → not_built input ≡ Some number → ⊥
-built_differs input number none some = let differ = sym none ∙ some in cc
-
--- What can be run isn't refused.
-no_refused_schedule : (input : List ℕ) (schedule : Schedule) (number : ℕ) (cause : Option LineCause)
-    → IsSchedule input schedule → not_built input ≡ None → IsRefusedAt input number cause → ⊥
-no_refused_schedule input schedule number (Some cause) is built refused = no_fault input schedule number cause is refused
-no_refused_schedule input schedule number None is built refused = built_differs input number built refused.2
-
--- An input is refused in one way.
-one_refusal : (input : List ℕ) (number other : ℕ) (cause reported : Option LineCause) → IsRefusedAt input number cause → IsRefusedAt input other reported
+-- An input is malformed in one way.
+one_refusal : (input : List ℕ) (number other : ℕ) (cause reported : LineCause) → IsMalformedSchedule input number cause → IsMalformedSchedule input other reported
     → fault_text number cause ≡ fault_text other reported
-one_refusal input number other (Some cause) (Some reported) a b =
-    let same = one_fault input number other cause reported a b in λ i. fault_text (same.0 i) (Some (same.1 i))
-one_refusal input number other (Some cause) None a b = absurd (no_fault input b.0 number cause b.1 a)
-one_refusal input number other None (Some reported) a b = absurd (no_fault input a.0 other reported a.1 b)
-one_refusal input number other None None a b =
-    let same : number ≡ other = let both = sym a.2 ∙ b.2 in cc in ap (λ (n : ℕ). fault_text n None) same
+one_refusal input number other cause reported a b = let same = one_fault input number other cause reported a b in λ i. fault_text (same.0 i) (same.1 i)
 
 -- A schedule is within the limit, or it is passed.
 both_differ : (one other : Schedule) → one ≡ other → (total : ℕ) → (within_limit one).over ≡ None → (within_limit other).over ≡ Some total → ⊥
@@ -53,17 +38,17 @@ both_differ one other same total within over =
 
 one_status : (input : List ℕ) (one other : Status) (output text : List ℕ) → IsAnswer input one output → IsAnswer input other text → one ≡ other
 one_status input Done Done output text a b = refl
-one_status input Done SentLimit output text a b = absurd (both_differ a.1 b.1 (one_schedule input a.1 b.1 a.2.0 b.2.0) b.3 a.3 b.4)
-one_status input Done Malformed output text a b = absurd (no_refused_schedule input a.1 b.1 b.2 a.2.0 a.2.1 b.3)
+one_status input Done SentLimit output text a b = absurd (both_differ a.1 b.1 (one_schedule input a.1 b.1 a.2 b.2) b.3 a.3 b.4)
+one_status input Done Malformed output text a b = absurd (no_fault input a.1 b.1 b.2 a.2 b.3)
 one_status input Done TooLong output text a b = absurd (omega (arith, a.0, b.0))
 one_status input Done _ output text a b = absurd b
-one_status input SentLimit Done output text a b = absurd (both_differ b.1 a.1 (one_schedule input b.1 a.1 b.2.0 a.2.0) a.3 b.3 a.4)
+one_status input SentLimit Done output text a b = absurd (both_differ b.1 a.1 (one_schedule input b.1 a.1 b.2 a.2) a.3 b.3 a.4)
 one_status input SentLimit SentLimit output text a b = refl
-one_status input SentLimit Malformed output text a b = absurd (no_refused_schedule input a.1 b.1 b.2 a.2.0 a.2.1 b.3)
+one_status input SentLimit Malformed output text a b = absurd (no_fault input a.1 b.1 b.2 a.2 b.3)
 one_status input SentLimit TooLong output text a b = absurd (omega (arith, a.0, b.0))
 one_status input SentLimit _ output text a b = absurd b
-one_status input Malformed Done output text a b = absurd (no_refused_schedule input b.1 a.1 a.2 b.2.0 b.2.1 a.3)
-one_status input Malformed SentLimit output text a b = absurd (no_refused_schedule input b.1 a.1 a.2 b.2.0 b.2.1 a.3)
+one_status input Malformed Done output text a b = absurd (no_fault input b.1 a.1 a.2 b.2 a.3)
+one_status input Malformed SentLimit output text a b = absurd (no_fault input b.1 a.1 a.2 b.2 a.3)
 one_status input Malformed Malformed output text a b = refl
 one_status input Malformed TooLong output text a b = absurd (omega (arith, a.0, b.0))
 one_status input Malformed _ output text a b = absurd b
@@ -75,8 +60,8 @@ one_status input TooLong _ output text a b = absurd b
 one_status input _ other output text a b = absurd a
 
 one_output : (input : List ℕ) (status : Status) (output text : List ℕ) → IsAnswer input status output → IsAnswer input status text → output ≡ text
-one_output input Done output text a b = a.4 ∙ ap output_of (one_schedule input a.1 b.1 a.2.0 b.2.0) ∙ sym b.4
-one_output input SentLimit output text a b = a.5 ∙ ap output_within (one_schedule input a.1 b.1 a.2.0 b.2.0) ∙ sym b.5
+one_output input Done output text a b = a.4 ∙ ap output_of (one_schedule input a.1 b.1 a.2 b.2) ∙ sym b.4
+one_output input SentLimit output text a b = a.5 ∙ ap output_within (one_schedule input a.1 b.1 a.2 b.2) ∙ sym b.5
 one_output input Malformed output text a b = a.4 ∙ one_refusal input a.1 b.1 a.2 b.2 a.3 b.3 ∙ sym b.4
 one_output input TooLong output text a b = a.1 ∙ sym b.1
 one_output input _ output text a b = absurd a
@@ -100,15 +85,15 @@ prefix_of_run (Err e) old new output p q = q
 
 -- ---- what the statuses say
 
--- At `Done` the input is a schedule that can be run, and its output was written.
+-- At `Done` the input is a schedule, and its output was written.
 pub schedule_at_done : (input : List ℕ) (status : Status) (old new : Option (List ℕ))
     → status ≡ Done → GivesUp status ⊎ GrowsBySome old new (IsAnswer input status)
-    → (schedule : Schedule) × CanBeRun input schedule × Appends old new (output_of schedule)
+    → (schedule : Schedule) × IsSchedule input schedule × Appends old new (output_of schedule)
 schedule_at_done input status old new is answered =
     done (subst (λ (s : Status). GivesUp s ⊎ GrowsBySome old new (IsAnswer input s)) is answered)
   where
     done : GivesUp Done ⊎ GrowsBySome old new (IsAnswer input Done)
-        → (schedule : Schedule) × CanBeRun input schedule × Appends old new (output_of schedule)
+        → (schedule : Schedule) × IsSchedule input schedule × Appends old new (output_of schedule)
     done (inl gives_up) = absurd gives_up
     done (inr (output, grown, a)) = (a.1, a.2, subst (Appends old new) a.4 grown)
 
@@ -117,7 +102,7 @@ pub output_at_done : (input : List ℕ) (status : Status) (old new : Option (Lis
     → GivesUp status ⊎ GrowsBySome old new (IsAnswer input status) → IsSchedule input schedule → status ≡ Done → Appends old new (output_of schedule)
 output_at_done input status old new schedule answered says is =
     let at_done = schedule_at_done input status old new is answered in
-    subst (Appends old new) (ap output_of (one_schedule input at_done.0 schedule at_done.1.0 says)) at_done.2
+    subst (Appends old new) (ap output_of (one_schedule input at_done.0 schedule at_done.1 says)) at_done.2
 
 -- And at `SentLimit` what is printed within the limit.
 pub output_at_limit : (input : List ℕ) (status : Status) (old new : Option (List ℕ)) (schedule : Schedule)
@@ -127,27 +112,27 @@ output_at_limit input status old new schedule answered says is =
   where
     at_limit : GivesUp SentLimit ⊎ GrowsBySome old new (IsAnswer input SentLimit) → Appends old new (output_within schedule)
     at_limit (inl gives_up) = absurd gives_up
-    at_limit (inr (output, grown, a)) = subst (Appends old new) (a.5 ∙ ap output_within (one_schedule input a.1 schedule a.2.0 says)) grown
+    at_limit (inr (output, grown, a)) = subst (Appends old new) (a.5 ∙ ap output_within (one_schedule input a.1 schedule a.2 says)) grown
 
--- ---- the answer to a schedule that can be run
+-- ---- the answer to a schedule
 
 -- What has to be written of it, and the status with it.
-pub answer_of_run : (input : List ℕ) (schedule : Schedule) → length input ≤ MAX_INPUT → CanBeRun input schedule
+pub answer_of_run : (input : List ℕ) (schedule : Schedule) → length input ≤ MAX_INPUT → IsSchedule input schedule
     → IsAnswer input (status_within (within_limit schedule).over) (output_within schedule)
-answer_of_run input schedule short can = go (within_limit schedule).over refl
+answer_of_run input schedule short says = go (within_limit schedule).over refl
   where
     go : (over : Option ℕ) → (within_limit schedule).over ≡ over → IsAnswer input (status_within over) (output_within schedule)
-    go None is = (short, schedule, can, is, output-within schedule is)
-    go (Some total) is = (short, schedule, can, total, is, refl)
+    go None is = (short, schedule, says, is, output-within schedule is)
+    go (Some total) is = (short, schedule, says, total, is, refl)
 
 -- Where a schedule was run, that is the input's answer, or it gave up.
 pub answered_run : (input : List ℕ) (schedule : Schedule) (end : Result (Option ℕ) RunEnd) (old new : Option (List ℕ))
-    → length input ≤ MAX_INPUT → CanBeRun input schedule → IfOk end (λ over. over ≡ (within_limit schedule).over) → OnOk end (Appends old new (output_within schedule))
+    → length input ≤ MAX_INPUT → IsSchedule input schedule → IfOk end (λ over. over ≡ (within_limit schedule).over) → OnOk end (Appends old new (output_within schedule))
     → GivesUp (status_of end) ⊎ GrowsBySome old new (IsAnswer input (status_of end))
-answered_run input schedule (Ok over) old new short can is written =
-    inr (output_within schedule, written, subst (λ (o : Option ℕ). IsAnswer input (status_within o) (output_within schedule)) (sym is) (answer_of_run input schedule short can))
-answered_run input schedule (Err end.WriteFault) old new short can is written = inl tt
-answered_run input schedule (Err end.NoMemory) old new short can is written = inl tt
+answered_run input schedule (Ok over) old new short says is written =
+    inr (output_within schedule, written, subst (λ (o : Option ℕ). IsAnswer input (status_within o) (output_within schedule)) (sym is) (answer_of_run input schedule short says))
+answered_run input schedule (Err end.WriteFault) old new short says is written = inl tt
+answered_run input schedule (Err end.NoMemory) old new short says is written = inl tt
 
 -- The status is that of the answer, or it gave up.
 pub status_of_answer : (input : List ℕ) (status other : Status) (old new : Option (List ℕ)) (text : List ℕ)
@@ -162,8 +147,8 @@ usage_or_fault (Ok done) status is = inl is
 usage_or_fault (Err e) status is = inr is
 
 -- Where a refusal was to be written, that is the input's answer, or it gave up.
-pub answered_refusal : (input : List ℕ) (result : Status) (old new : Option (List ℕ)) (number : ℕ) (cause : Option LineCause)
-    → length input ≤ MAX_INPUT → IsRefusedAt input number cause → (result ≡ Malformed) ⊎ ((result ≡ WriteFault) ⊎ (result ≡ NoMemory))
+pub answered_refusal : (input : List ℕ) (result : Status) (old new : Option (List ℕ)) (number : ℕ) (cause : LineCause)
+    → length input ≤ MAX_INPUT → IsMalformedSchedule input number cause → (result ≡ Malformed) ⊎ ((result ≡ WriteFault) ⊎ (result ≡ NoMemory))
     → (result ≡ Malformed → Appends old new (fault_text number cause)) → GivesUp result ⊎ GrowsBySome old new (IsAnswer input result)
 answered_refusal input result old new number cause short refused (inl is) written =
     inr (fault_text number cause, written is, subst (λ (s : Status). IsAnswer input s (fault_text number cause)) (sym is) (short, number, cause, refused, refl))

@@ -1,5 +1,4 @@
 pub mod AnswerLemmas
-pub mod BuiltLemmas
 pub mod LimitLemmas
 pub mod LineItems
 pub mod OutputLemmas

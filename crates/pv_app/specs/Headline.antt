@@ -1,4 +1,4 @@
--- What is promised of a run, whatever is delivered, lost or repeated in it, and wherever its sites stop.
+-- What is promised of a run, whatever is delivered, lost or repeated in it, and in whatever writes and syncs its sites stop or fail.
 use Rattle.std.specs.Prelude.{List, All}
 use Rattle.pv_law_answers.specs.Orders.{CommittedFit}
 use Rattle.pv_law_answers.specs.Reported.{ReportsShowEachReadable, ReportsShowSerialValues}

@@ -10,7 +10,6 @@ use Rattle.pv_app.specs.declared.run.RunEnd.TheVariants as end
 use Rattle.pv_model.specs.LineCauses.{LineCause}
 use Rattle.pv_model.specs.Events.{Schedule}
 use Rattle.pv_script.specs.CauseTexts.{refused_text}
-use Rattle.pv_script.specs.Runnable.{not_built}
 use Rattle.pv_model.specs.ReplyText.{line_feed}
 use Rattle.pv_model.specs.Schedule.{IsSchedule, IsMalformedSchedule}
 use Rattle.pv_protocol.specs.Limit.{Output, run_within}
@@ -27,7 +26,7 @@ abbrev pub usage_text : List ℕ
 usage_text = codes "usage: polydb run\n"
 
 -- what is written of an input that is refused at this line
-unfoldable pub fault_text : ℕ → Option LineCause → List ℕ
+unfoldable pub fault_text : ℕ → LineCause → List ℕ
 fault_text number cause = refused_text number cause ++ line_feed
 
 -- the text of all that the run of a schedule prints
@@ -42,27 +41,17 @@ within_limit schedule = let setup = setup_of schedule.catalog in run_within MAX_
 abbrev pub output_within : Schedule → List ℕ
 output_within schedule = text_of schedule.catalog (within_limit schedule).lines
 
--- The input is this schedule, and all of it can be run so far.
-abbrev pub CanBeRun : List ℕ → Schedule → Type 0
-CanBeRun input schedule = IsSchedule input schedule × (not_built input ≡ None)
-
--- An input is refused at the line of this number: it is malformed there, for this cause, or it is a schedule of which this is the first
--- line that can't be run so far.
-abbrev pub IsRefusedAt : List ℕ → ℕ → Option LineCause → Type 0
-IsRefusedAt input number (Some cause) = IsMalformedSchedule input number cause
-IsRefusedAt input number None = (schedule : Schedule) × IsSchedule input schedule × (not_built input ≡ Some number)
-
--- What `run` has to answer to an input, and the status with it. Where the input is a schedule that can be run, that is the text of its run;
--- where the messages of an event pass the limit, the text of the events before. Else it is the line at which the input is refused. A longer
--- input than may be is none of these.
+-- What `run` has to answer to an input, and the status with it. Where the input is a schedule, that is the text of its run; where the messages
+-- of an event pass the limit, the text of the events before. Where it is malformed, it is the first line at fault and why. To an input that is
+-- longer than it may be it is nothing at all.
 abbrev pub IsAnswer : List ℕ → Status → List ℕ → Type 0
 IsAnswer input Done output =
-    (length input ≤ MAX_INPUT) × (schedule : Schedule) × CanBeRun input schedule × ((within_limit schedule).over ≡ None) × (output ≡ output_of schedule)
+    (length input ≤ MAX_INPUT) × (schedule : Schedule) × IsSchedule input schedule × ((within_limit schedule).over ≡ None) × (output ≡ output_of schedule)
 IsAnswer input SentLimit output =
-    (length input ≤ MAX_INPUT) × (schedule : Schedule) × CanBeRun input schedule × (total : ℕ) × ((within_limit schedule).over ≡ Some total)
+    (length input ≤ MAX_INPUT) × (schedule : Schedule) × IsSchedule input schedule × (total : ℕ) × ((within_limit schedule).over ≡ Some total)
     × (output ≡ output_within schedule)
 IsAnswer input Malformed output =
-    (length input ≤ MAX_INPUT) × (number : ℕ) × (cause : Option LineCause) × IsRefusedAt input number cause × (output ≡ fault_text number cause)
+    (length input ≤ MAX_INPUT) × (number : ℕ) × (cause : LineCause) × IsMalformedSchedule input number cause × (output ≡ fault_text number cause)
 IsAnswer input TooLong output = (MAX_INPUT < length input) × (output ≡ [])
 IsAnswer input _ output = ⊥
 

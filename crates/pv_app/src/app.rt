@@ -1,15 +1,14 @@
 // The top call: from the words and the input's bytes to the output's bytes and a status.
-ghost use Rattle.std.specs.Prelude.{◌≡◌, ◌≢◌, ℕ, ◌≤◌, ◌⊎◌, ◌↔◌, All, List, [], Some, IsTrue, is_ok, length, map, if◌then◌else◌};
+ghost use Rattle.std.specs.Prelude.{◌≡◌, ◌≢◌, ℕ, ◌≤◌, ◌⊎◌, ◌↔◌, List, [], Some, IsTrue, is_ok, length, map, if◌then◌else◌};
 ghost use Rattle.std.specs.String.{string_bytes};
 ghost use Rattle.pv_base.specs.Fault.{Rose};
 ghost use Rattle.pv_io.specs.SinkEffects.{HasFailed, Writes, WritesNothing, WritesPrefix};
 ghost use Rattle.pv_model.specs.Events as model;
 ghost use Rattle.pv_model.specs.Schedule.{IsSchedule};
 ghost use Rattle.pv_script.specs.ScriptErrors.{line_cause_of};
-ghost use Rattle.pv_script.specs.ScheduleView.{HasPlan, schedule_of};
 ghost use Rattle.pv_site.specs.SiteState.{setup_of};
 ghost use Rattle.pv_app.specs.Headline.{KeepsPromises};
-ghost use Rattle.pv_app.specs.InputAnswers.{Answers, CanBeRun, IsRun, IsAnswer, GivesUp, output_of, output_within, status_of, usage_text, fault_text};
+ghost use Rattle.pv_app.specs.InputAnswers.{Answers, IsRun, IsAnswer, GivesUp, output_of, output_within, status_of, usage_text, fault_text};
 
 use crate::run::{RunEnd, run};
 use crate::status::Status;
@@ -18,7 +17,7 @@ use pv_io::{ReadEnd, Sink, Source, read_all, write_all};
 use pv_law_answers::{committed_fit, reports_show_each_readable, texts_agree, texts_answer};
 use pv_law_refusals::texts_refuse_for_causes;
 use pv_law_world::schedules_are_well_formed;
-use pv_script::{LineCause, Schedule, ScriptError, not_built, read_schedule};
+use pv_script::{LineCause, ScriptError, read_schedule};
 use std::alloc::Global;
 
 const USAGE: &[u8] = b"usage: polydb run\n";
@@ -34,15 +33,16 @@ pub fn polydb<R: Source, W: Sink>(
     source: &mut R,
     sink: &mut W,
 ) -> Status
-    // At `Done` the whole input was read, it is a schedule that can be run, and exactly what that prints was written.
+    // At `Done` the whole input was read, it is a schedule, and exactly what the run of that prints was written.
     ensures done { result ≡ Status.Done → (input : List ℕ) → R.left source.old ≡ Some input →
-        (R.left source.new ≡ Some []) × (schedule : model.Schedule) × CanBeRun input schedule
+        (R.left source.new ≡ Some []) × (schedule : model.Schedule) × IsSchedule input schedule
         × Writes W.Sink sink.old sink.new (output_of schedule) }
 
-    // The headline. Of a schedule that can be run, what was written is a beginning of exactly what its run prints, at `Done` the whole, and at
-    // `SentLimit` all up to the event in which the messages pass the limit; and that run keeps the promises.
+    // The headline. Whatever schedule the input is, and in whatever writes and syncs its sites stop or fail, its run keeps the promises. What was
+    // written is a beginning of exactly what that run prints: at `Done` the whole, and at `SentLimit` all up to the event in which the messages pass
+    // the limit.
     ensures agreement { IsRun (map string_bytes words.now) → (input : List ℕ) → R.left source.old ≡ Some input →
-        (schedule : model.Schedule) → CanBeRun input schedule →
+        (schedule : model.Schedule) → IsSchedule input schedule →
         KeepsPromises (setup_of schedule.catalog) schedule.events
         × WritesPrefix W.Sink sink.old sink.new (output_of schedule)
         × (result ≡ Status.Done → Writes W.Sink sink.old sink.new (output_of schedule))
@@ -103,30 +103,11 @@ fn answer<W: Sink>(alloc: Global, input: &[u8], sink: &mut W) -> Status
     ensures too_long { result ≢ Status.TooLong }
     ensures write_fault { result ≡ Status.WriteFault → HasFailed W.Sink sink.old sink.new }
 {
+    schedules_are_well_formed();
     match read_schedule(alloc, input) {
-        Ok(schedule) => run_built(alloc, input, &schedule, sink),
+        Ok(schedule) => status_of_run(run(alloc, &schedule, sink)),
         Err(ScriptError::Malformed { line, cause }) => refuse(alloc, line, cause, sink),
         Err(ScriptError::NoMemory) => Status::NoMemory,
-    }
-}
-
-// Runs the schedule that the input is, or names the first line that can't be run so far.
-fn run_built<W: Sink>(alloc: Global, input: &[u8], schedule: &Schedule, sink: &mut W) -> Status
-    requires short { length input.now ≤ MAX_INPUT }
-    requires schedule { IsSchedule input.now (schedule_of schedule.now) }
-    requires plans { All (HasPlan schedule.now.catalog) schedule.now.events.items }
-    ensures answered { Answers W.Sink input.now result sink.old sink.new }
-    ensures prefix { (status : Status) (output : List ℕ) → IsAnswer input.now status output →
-        WritesPrefix W.Sink sink.old sink.new output }
-    ensures read_fault { result ≢ Status.ReadFault }
-    ensures too_long { result ≢ Status.TooLong }
-    ensures write_fault { result ≡ Status.WriteFault → HasFailed W.Sink sink.old sink.new }
-{
-    schedules_are_well_formed();
-    match not_built(alloc, input) {
-        Ok(None) => status_of_run(run(alloc, schedule, sink)),
-        Ok(Some(line)) => refuse(alloc, line, LineCause::NotBuilt, sink),
-        Err(_) => Status::NoMemory,
     }
 }
 

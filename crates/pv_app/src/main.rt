@@ -41,4 +41,6 @@ fn words_of<R: Env + AllocGlobal>(rt: &R) -> io::Result<Vec<String>> {
 #[cfg(test)]
 mod tests;
 #[cfg(test)]
+mod worked_faults;
+#[cfg(test)]
 mod worked_runs;

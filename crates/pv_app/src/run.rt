@@ -8,7 +8,6 @@ ghost use Rattle.pv_protocol.specs.WellFormed.{IsWellFormed};
 ghost use Rattle.pv_report.specs.NamesOnlyItems.{NamesOnlyItems};
 ghost use Rattle.pv_script.specs.LineView.{line_of};
 ghost use Rattle.pv_script.specs.ScheduleView.{HasPlan, event_of, schedule_of};
-ghost use Rattle.pv_world.specs.Steps.{CanHappen};
 
 use pv_base::{Catalog, Failed, MAX_SENT, NoMemory};
 use pv_io::{Sink, write_all};
@@ -50,7 +49,6 @@ impl From<NoMemory> for RunEnd {
 /// bytes all messages would have there.
 pub fn run<W: Sink>(alloc: Global, schedule: &Schedule, sink: &mut W) -> Result<Option<u64>, RunEnd>
     requires well_formed { All (IsWellFormed schedule.now.catalog) (schedule_of schedule.now).events }
-    requires unarmed { All CanHappen (schedule_of schedule.now).events }
     requires plans { All (HasPlan schedule.now.catalog) schedule.now.events.items }
     ensures over { IfOk result (λ over. over ≡ (within_limit (schedule_of schedule.now)).over) }
     ensures writes { WritesAll W.Sink IsWriteFault sink.old sink.new (output_within (schedule_of schedule.now)) result }

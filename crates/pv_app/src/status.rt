@@ -8,7 +8,7 @@ pub enum Status {
     Done = 0,
     /// The words aren't the one word `run`. The usage line was written.
     Usage = 2,
-    /// The input is malformed, or is a schedule that can't be run so far. Its first line at fault was named.
+    /// The input is malformed. Its first line at fault was named.
     Malformed = 3,
     /// The input failed. Nothing was written.
     ReadFault = 4,

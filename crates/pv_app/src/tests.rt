@@ -1,8 +1,13 @@
 // The worked examples end to end, and each way to end but for lack of memory and of too many bytes of messages.
 use super::*;
+use crate::worked_faults::{
+    ARMED_TWICE, COMMIT, COMMIT_STOPS, Group, PROMISE, PROMISE_FAULTS, REFUSED_START,
+    REFUSED_START_STOPS, SECOND_ARMS, START, START_STOPS,
+};
 use crate::worked_runs::RUNS;
 use pv_io::{MemSink, MemSource};
 use std::alloc::{AllocError, Global};
+use std::process::Abort;
 use std::test::Fail;
 
 const FIRST: &str = "sites 1\nitem a 0 100\nsubmit 0 a := a + 1\npump\nreport\n";
@@ -94,17 +99,11 @@ fn each_text_has_its_answer(rt: HostRuntime) -> Result<(), Fail> {
             Status::Malformed,
             "line 3: unknown name column 6\n",
         ),
-        // a line that can't be run yet
+        // What stands before a malformed line isn't run.
         (
-            "sites 1\nitem a 0 1\nstop 0\ncut 0 1 lost\nmend 0\n",
+            "sites 1\nstop 0\nfail 0 1 kept\nnothing\n",
             Status::Malformed,
-            "line 4: not built\n",
-        ),
-        // A malformed line is named before one that only can't be run yet.
-        (
-            "sites 1\nfail 0 1 kept\nnothing\n",
-            Status::Malformed,
-            "line 3: unknown word\n",
+            "line 4: unknown word\n",
         ),
     ] {
         let (answered, written) = call(alloc, &["run"], input.as_bytes(), &[], &[])?;
@@ -118,6 +117,31 @@ fn each_text_has_its_answer(rt: HostRuntime) -> Result<(), Fail> {
 fn each_run_of_many_sites_prints_its_lines(rt: HostRuntime) -> Result<(), Fail> {
     let alloc = rt.alloc();
     for (schedule, output) in RUNS {
+        let (status, written) = call(alloc, &["run"], schedule.as_bytes(), &[], &[])?;
+        assert_eq!(rt; status, Status::Done, "at {schedule}");
+        assert_eq!(rt; written.as_slice(), output.as_bytes(), "at {schedule}");
+    }
+    Ok(())
+}
+
+#[test]
+fn each_run_with_a_stop_or_a_fault_in_a_call_prints_its_lines(rt: HostRuntime) -> Result<(), Fail> {
+    assert_prints(&rt, &COMMIT, &COMMIT_STOPS)?;
+    assert_prints(&rt, &PROMISE, &PROMISE_FAULTS)?;
+    assert_prints(&rt, &START, &START_STOPS)?;
+    assert_prints(&rt, &REFUSED_START, &REFUSED_START_STOPS)?;
+    assert_prints(&rt, &ARMED_TWICE, &SECOND_ARMS)
+}
+
+// Asserts what each schedule of a group prints, by the line that is its own.
+fn assert_prints(
+    rt: &(impl Abort + AllocGlobal),
+    group: &Group,
+    cases: &[(&str, &str)],
+) -> Result<(), Fail> {
+    let alloc = rt.alloc();
+    for (line, output) in cases {
+        let schedule = format!(in alloc; "{}{line}{}", group.before, group.after)?;
         let (status, written) = call(alloc, &["run"], schedule.as_bytes(), &[], &[])?;
         assert_eq!(rt; status, Status::Done, "at {schedule}");
         assert_eq!(rt; written.as_slice(), output.as_bytes(), "at {schedule}");

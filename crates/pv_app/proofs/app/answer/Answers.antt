@@ -1,20 +1,39 @@
 -- What was written is a beginning of the one answer that the input has.
-use Rattle.std.proofs.Common.{◌≡◌, ℕ, List, IfSome, refl, sym, subst}
+use Rattle.std.proofs.Common.{◌≡◌, ℕ, List, IfSome, refl, subst}
+use Rattle.pv_model.specs.Schedule.{IsMalformedSchedule}
+use Rattle.pv_script.specs.ScheduleView.{schedule_of}
 use Rattle.pv_script.specs.ScriptErrors.{IsMalformedAt, line_cause_of, refused_line}
 use Rattle.pv_script.specs.declared.schedule.ScriptError.{ScriptError}
 use Rattle.pv_script.specs.declared.schedule.ScriptError.TheVariants as errors
 use Rattle.pv_script.specs.declared.schedule.LineCause.{LineCause}
 use Rattle.pv_app.specs.declared.status.Status.TheVariants.{Malformed}
-use Rattle.pv_app.specs.InputAnswers.{IsRefusedAt, fault_text}
-use Rattle.pv_app.proofs.AnswerLemmas.{answered_refusal, prefix_of_answer}
+use Rattle.pv_app.specs.InputAnswers.{fault_text, output_within, status_within, within_limit}
+use Rattle.pv_app.proofs.AnswerLemmas.{answer_of_run, answered_refusal, answered_run, prefix_of_answer, prefix_of_run}
 use Rattle.pv_app.proofs.app.answer.Goals as goal
 
--- The line that was refused is where the input is refused.
+pub run-requires-clause-well_formed : goal.run-requires-clause-well_formed
+run-requires-clause-well_formed g c = c.schedules_are_well_formed.ensures c.args.input.now (schedule_of c.in-Ok.schedule) c.in-Ok.ensures.answer.given
+
+pub returns-in-Ok-clause-answered : goal.returns-in-Ok-clause-answered
+returns-in-Ok-clause-answered g c =
+    rw c.status_of_run.ensures
+    (answered_run c.args.input.now (schedule_of c.in-Ok.schedule) c.run.result (g.W.Sink.held c.args.sink.now) (g.W.Sink.held c.run.new.sink) c.requires c.in-Ok.ensures.answer.given
+    c.run.ensures.over c.run.ensures.writes.written)
+
+pub returns-in-Ok-clause-prefix : goal.returns-in-Ok-clause-prefix
+returns-in-Ok-clause-prefix g c = λ status text is.
+    let input = c.args.input.now in
+    let schedule = schedule_of c.in-Ok.schedule in
+    let old = g.W.Sink.held c.args.sink.now in
+    let new = g.W.Sink.held c.run.new.sink in
+    let written = prefix_of_run c.run.result old new (output_within schedule) c.run.ensures.writes.written c.run.ensures.writes.prefix in
+    prefix_of_answer input (status_within (within_limit schedule).over) status (output_within schedule) text old new
+    (answer_of_run input schedule c.requires c.in-Ok.ensures.answer.given) written is
+
+-- The line that was refused is where the input is malformed.
 refused-at : (input : List ℕ) (error : ScriptError) (line : ℕ) (cause : LineCause) → error ≡ errors.Malformed line cause → IfSome (refused_line error) (IsMalformedAt input)
-    → IsRefusedAt input line (line_cause_of cause)
-refused-at input error line cause is refused =
-    let fault = subst (λ (e : ScriptError). IfSome (refused_line e) (IsMalformedAt input)) is refused in
-    subst (IsRefusedAt input line) (sym fault.1) fault.2
+    → IsMalformedSchedule input line (line_cause_of cause)
+refused-at input error line cause is refused = subst (λ (e : ScriptError). IfSome (refused_line e) (IsMalformedAt input)) is refused
 
 pub returns-in-Err-Malformed-clause-answered : goal.returns-in-Err-Malformed-clause-answered
 returns-in-Err-Malformed-clause-answered g c =

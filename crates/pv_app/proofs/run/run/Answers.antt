@@ -11,7 +11,7 @@ use Rattle.pv_report.specs.NamesOnlyItems.{NamesOnlyItems}
 use Rattle.pv_script.specs.LineView.{line_of}
 use Rattle.pv_script.specs.ScheduleView.{event_of, schedule_of}
 use Rattle.pv_site.specs.SiteState.{setup_of}
-use Rattle.pv_world.specs.Steps.{CanHappen, Steps}
+use Rattle.pv_world.specs.Steps.{Steps}
 use Rattle.pv_world.specs.declared.error.WorldError.{WorldError}
 use Rattle.pv_app.proofs.LineItems.{lines-name-items}
 use Rattle.pv_app.proofs.OutputLemmas.{AppendsPrefix-none, on_any_err}
@@ -31,15 +31,6 @@ step-requires-clause-event g c =
     let split = drop-events_of events c.args.schedule.now.events.items c.deref-event-items.ensures.value i event c.loop-event-test.true c.event-item.is in
     subst (λ (catalog : Declared). IsWellFormed catalog (event_of event)) (sym c.loop-event.invariant.catalog)
     (All-next (IsWellFormed schedule.catalog) schedule.events i (event_of event) _ c.requires.well_formed split)
-
-pub step-requires-clause-unarmed : goal.step-requires-clause-unarmed
-step-requires-clause-unarmed g c =
-    let schedule = schedule_of c.args.schedule.now in
-    let events = c.deref-event-items.result.now in
-    let i = c.loop-event.event-index in
-    let event = c.event-item.result in
-    let split = drop-events_of events c.args.schedule.now.events.items c.deref-event-items.ensures.value i event c.loop-event-test.true c.event-item.is in
-    All-next CanHappen schedule.events i (event_of event) _ c.requires.unarmed split
 
 pub write_lines-requires : goal.write_lines-requires
 write_lines-requires g c =
