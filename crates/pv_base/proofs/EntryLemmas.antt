@@ -1,18 +1,20 @@
 -- What the map's entries say of the items that they stand for.
-use Rattle.std.proofs.Common.{◌≡◌, ◌+◌, ℕ, Bool, not, cond, List, [], ◌∷◌, ◌++◌, map, length, slice_get, position, refl, sym, ap, ◌∙◌, Some, None, Result, Ok, Err, IfOk, MatchResult, nat_lt, vec_len}
+use Rattle.std.proofs.Common.{◌≡◌, ◌+◌, ℕ, Bool, not, cond, List, [], ◌∷◌, ◌++◌, map, length, slice_get, position, refl, sym, ap, ◌∙◌, Some, None, Result, Ok, Err, IfOk, MatchResult, nat_lt, vec_len, All, IsTrue, subst}
 use Rattle.std.specs.Global.{Vec}
 use Rattle.std.specs.Map.{keys_of}
 use Rattle.std.specs.List.{position_or_len, AllZip}
 use Rattle.std.proofs.lemmas.Slice.Zip.{AllZip-map}
 use Rattle.std.specs.Option.{option_map}
 use Rattle.std.specs.Str.{bytes_eq}
-use Rattle.std.proofs.lemmas.Option.{slice_get-map}
+use Rattle.std.proofs.lemmas.Option.{slice_get-map, slice_get_within, get_or_from_slice_get}
+use Rattle.std.proofs.lemmas.List.Elements.{All-get_or, All-map}
 use Rattle.std.proofs.lemmas.List.{length-map, map-append, map-id}
 use Rattle.indexmap.specs.IndexMap.{insert_entry}
 use Rattle.indexmap.proofs.MapLemmas.{Missing-position, insert_entry-absent}
 use Rattle.pv_base.specs.declared.entries.Declaration.{Declaration}
 use Rattle.pv_base.specs.Catalog.{Item, place_of}
 use Rattle.pv_base.specs.CatalogView.{item_of, items_of}
+use Rattle.pv_base.specs.Name.{is_name}
 
 -- The entries of a map.
 abbrev pub Entries : Type 0
@@ -25,6 +27,17 @@ pub slice_get-items_of : {X : Type 0} (f : Item → X) (entries : Entries) (plac
 slice_get-items_of f entries place entry at =
     slice_get-map f (items_of entries) place
     ∙ ap (option_map f) (slice_get-map item_of entries place ∙ ap (option_map item_of) at)
+
+-- What stands at a place of names is a name.
+pub name-at-is-name : (items : List Item) (place : ℕ) (name : List ℕ)
+    → All (λ item. IsTrue (is_name item.name)) items
+    → slice_get (map (λ item. item.name) items) place ≡ Some name
+    → IsTrue (is_name name)
+name-at-is-name items place name are_names at =
+    let names = map (λ (item : Item). item.name) items in
+    let there = All-get_or (λ text. IsTrue (is_name text)) names place name (slice_get_within names place name at)
+    (All-map (λ text. IsTrue (is_name text)) (λ (item : Item). item.name) items are_names) in
+    subst (λ text. IsTrue (is_name text)) (get_or_from_slice_get names place name name at) there
 
 -- Whether a key has this name.
 abbrev pub has_name : List ℕ → Vec ℕ → Bool

@@ -1,5 +1,5 @@
 // The catalog of items: which there are, at which site, and with which first value.
-ghost use Rattle.std.specs.Prelude.{◌≡◌, ◌≢◌, ◌+◌, ◌<◌, ◌≤◌, Err, Some, None, [], ◌∷◌, ◌++◌, length, map, slice_get, All, OnErr, OnOk, IfOk, IfErr, IfSome};
+ghost use Rattle.std.specs.Prelude.{◌≡◌, ◌≢◌, ◌+◌, ◌<◌, ◌≤◌, Err, Some, None, [], ◌∷◌, ◌++◌, length, map, slice_get, All, OnErr, OnOk, IfOk, IfErr, IfSome, IsTrue};
 ghost use Rattle.std.specs.Option.{option_map};
 
 use crate::entries::{
@@ -98,6 +98,7 @@ impl Model for Catalog {
 impl Catalog {
     ghost use Rattle.pv_base.specs.Answer.{Refuses};
     ghost use Rattle.pv_base.specs.Catalog.{Item, place_of, refusal, with_item};
+    ghost use Rattle.pv_base.specs.Name.{is_name};
 
     /// A catalog without items, of 1 to [`MAX_SITES`] sites, whose journals may each have up to `journal` bytes, from
     /// [`MIN_JOURNAL`] to [`MAX_JOURNAL`].
@@ -187,7 +188,8 @@ impl Catalog {
     /// The item's name.
     pub fn name(&self, item: ItemId) -> &[u8]
         requires { item.0 < length self.now.items }
-        ensures { slice_get (map (λ declared. declared.name) self.now.items) item.0 ≡ Some result.now }
+        ensures name { slice_get (map (λ declared. declared.name) self.now.items) item.0 ≡ Some result.now }
+        ensures named { IsTrue (is_name result.now) }
     {
         name_at(&self.items, item.0 as usize)
     }
