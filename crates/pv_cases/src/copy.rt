@@ -8,7 +8,7 @@ use std::alloc::Global;
 pub fn copy_cases<V: Copy>(alloc: Global, cases: &[Case<V>]) -> Result<Vec<Case<V>>, NoMemory>
     ensures equal { IfOk result (λ copy. copy.items ≡ cases.now) }
 {
-    let mut copy = Vec::new(alloc);
+    let mut copy = Vec::with_capacity(alloc, cases.len())?;
     for case in cases {
         copy.push(case.copy(alloc)?)?;
     }

@@ -27,7 +27,7 @@ pub(crate) fn push_reads(
 pub(crate) fn copy_reads(alloc: Global, reads: &[Read]) -> Result<Vec<Read>, NoMemory>
     ensures { IfOk result (λ copies. copies.items ≡ reads.now) }
 {
-    let mut copies = Vec::new(alloc);
+    let mut copies = Vec::with_capacity(alloc, reads.len())?;
     push_reads(alloc, &mut copies, reads)?;
     Ok(copies)
 }

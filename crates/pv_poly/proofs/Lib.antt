@@ -1,6 +1,8 @@
 pub mod CasesAtLemmas
 pub mod ChoiceLemmas
 pub mod PushedCases
+pub mod SureChoice
+pub mod SureSettled
 pub mod TableSteps
 pub mod TestLemmas
 pub mod TopOfTree

@@ -44,7 +44,8 @@ impl<V: Exact> Tree<V> {
     pub fn cases(&self, alloc: Global) -> Result<Vec<Case<V>>, NoMemory>
         ensures { IfOk result (λ cases. cases.items ≡ self.now) }
     {
-        let mut cases = Vec::new(alloc);
+        // Most values depend on no outcome, and have one case.
+        let mut cases = Vec::with_capacity(alloc, 1)?;
         self.push_cases(&mut Vec::new(alloc), &mut cases)?;
         Ok(cases)
     }

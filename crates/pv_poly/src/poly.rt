@@ -1,5 +1,5 @@
 // Polyvalues, and what is done with them.
-ghost use Rattle.std.specs.Prelude.{◌≡◌, ◌≢◌, ◌<◌, ◌≤◌, ◌*◌, ◌^◌, ◌⊎◌, [], ◌∷◌, ◌++◌, ℕ, Some, Err, List, IsTrue, length, map, IfOk, IfErr, IfSome};
+ghost use Rattle.std.specs.Prelude.{◌≡◌, ◌≢◌, ◌<◌, ◌≤◌, ◌*◌, ◌^◌, ◌⊎◌, false, true, [], ◌∷◌, ◌++◌, ℕ, Some, Err, List, IsTrue, length, map, IfOk, IfErr, IfSome};
 ghost use Rattle.std.specs.List.{Contains, sum};
 ghost use Rattle.pv_base.specs.Answer.{Answers};
 ghost use Rattle.pv_base.specs.Assignment.{AreAscending, assignments};
@@ -71,7 +71,7 @@ impl<V: Exact> Poly<V> {
     ///
     /// `TooManyOutcomes` has the number of outcomes that it would name, where these are more than [`HELD_NAMES`]. Takes time in proportion to
     /// the cases of both and of the result, times the names and, to count these, the logarithm of the literals. Where it is refused, the tree
-    /// of the choice hasn't been made.
+    /// of the choice hasn't been made. Between two values that name nothing no tree is made.
     pub fn choose(
         alloc: Global,
         txn: TxnId,
@@ -83,6 +83,11 @@ impl<V: Exact> Poly<V> {
         // Reading the cases shows the proof that both are canonical.
         let _ = &new.cases;
         let _ = &old.cases;
+        if let Some(values) = two_values(&old.cases, &new.cases) {
+            return Ok(Poly {
+                cases: cases_of_choice(alloc, txn, values.0, values.1)?,
+            });
+        }
         let tree = Poly::chosen(alloc, txn, new, old)?;
         Ok(Poly {
             cases: tree.cases(alloc)?,
@@ -144,6 +149,11 @@ impl<V: Exact> Poly<V> {
         ensures settled { IfOk result (IsSettled literals.now self.now) }
         ensures polyvalue { IfOk result (IsPolyvalue HELD_NAMES) }
     {
+        if let Some(value) = settled_value(&self.cases, literals) {
+            return Ok(Poly {
+                cases: Tree::sure(value).cases(alloc)?,
+            });
+        }
         let tree = self.settled_tree(alloc, literals)?;
         Ok(Poly {
             cases: tree.cases(alloc)?,
@@ -190,12 +200,15 @@ impl<V: Exact> Poly<V> {
     /// The polyvalue of exactly these cases, which have to be its canonical ones.
     ///
     /// The first thing that is wrong with them is reported, in the order of the errors of [`CaseError`], unless the memory runs out. Takes
-    /// the time that [`join`](Poly::join) takes.
+    /// the time that [`join`](Poly::join) takes; one case that is always met is kept as it is.
     pub fn from_cases(alloc: Global, cases: Vec<Case<V>>) -> Result<Poly<V>, CaseError>
         requires few_cases { length cases.items < 2 ^ 32 }
         requires few_literals { sum (map (λ case. length case.when) cases.items) < 2 ^ 32 }
         ensures answer { Answers (IsKept HELD_NAMES cases.items) (IsCanonicalFault HELD_NAMES cases.items) (λ poly. poly) fault_of result }
     {
+        if is_sure(&cases) {
+            return Ok(Poly { cases });
+        }
         let poly = Poly::joined(alloc, &cases)?;
         match first_difference(&cases, &poly.cases) {
             None => Ok(poly),
@@ -258,6 +271,107 @@ impl<V: Exact> Poly<V> {
     }
 }
 
+// Whether the cases are only one, which is always met.
+fn is_sure<V: Copy>(cases: &[Case<V>]) -> bool
+    ensures { result ≡ true → (value : V) × (cases.now ≡ record { when = []; value = value } ∷ []) }
+{
+    sure_value(cases).is_some()
+}
+
+// The value of cases that are only one, which is always met.
+fn sure_value<V: Copy>(cases: &[Case<V>]) -> Option<V>
+    ensures { IfSome result (λ value. cases.now ≡ record { when = []; value = value } ∷ []) }
+{
+    match cases {
+        [case] if case.when.is_empty() => Some(case.value),
+        _ => None,
+    }
+}
+
+// The two values, where both are always met and they differ.
+fn two_values<V: Exact>(old: &[Case<V>], new: &[Case<V>]) -> Option<(V, V)>
+    ensures { IfSome result (λ both. (old.now ≡ record { when = []; value = both.0 } ∷ []) ×
+        ((new.now ≡ record { when = []; value = both.1 } ∷ []) × (both.0 ≢ both.1))) }
+{
+    let before = sure_value(old)?;
+    let after = sure_value(new)?;
+    if before == after {
+        return None;
+    }
+    Some((before, after))
+}
+
+// The value of cases that are a choice between two by one transaction, once its outcome alone is known.
+fn settled_value<V: Copy>(cases: &[Case<V>], literals: &[Literal]) -> Option<V>
+    ensures { IfSome result (λ value. IsSettled literals.now cases.now (record { when = []; value = value } ∷ [])) }
+{
+    let literal = only_literal(literals)?;
+    let values = values_by(cases, literal.txn)?;
+    Some(if literal.commits { values.1 } else { values.0 })
+}
+
+// The literal, if it is the only one.
+fn only_literal(literals: &[Literal]) -> Option<Literal>
+    ensures { IfSome result (λ literal. literals.now ≡ literal ∷ []) }
+{
+    match literals {
+        [literal] => Some(*literal),
+        _ => None,
+    }
+}
+
+// The two values of cases that are a choice between them by this transaction.
+fn values_by<V: Copy>(cases: &[Case<V>], txn: TxnId) -> Option<(V, V)>
+    ensures { IfSome result (λ both. cases.now ≡ record { when = record { txn = txn; commits = false } ∷ []; value = both.0 }
+        ∷ record { when = record { txn = txn; commits = true } ∷ []; value = both.1 } ∷ []) }
+{
+    match cases {
+        [before, after] if is_only(&before.when, txn, false) && is_only(&after.when, txn, true) => {
+            Some((before.value, after.value))
+        }
+        _ => None,
+    }
+}
+
+// Whether the condition asks for this outcome of the transaction, and for no other.
+fn is_only(when: &[Literal], txn: TxnId, commits: bool) -> bool
+    ensures { result ≡ true → when.now ≡ record { txn = txn; commits = commits } ∷ [] }
+{
+    match when {
+        [literal] => literal.txn == txn && literal.commits == commits,
+        _ => false,
+    }
+}
+
+// The cases of a choice between two values.
+fn cases_of_choice<V: Copy>(
+    alloc: Global,
+    txn: TxnId,
+    before: V,
+    after: V,
+) -> Result<Vec<Case<V>>, NoMemory>
+    ensures { IfOk result (λ cases. cases.items ≡ record { when = record { txn = txn; commits = false } ∷ []; value = before }
+        ∷ record { when = record { txn = txn; commits = true } ∷ []; value = after } ∷ []) }
+{
+    let mut cases = Vec::with_capacity(alloc, 2)?;
+    cases.push_reserved(case_under(alloc, txn, false, before)?);
+    cases.push_reserved(case_under(alloc, txn, true, after)?);
+    Ok(cases)
+}
+
+// The value under this outcome of the transaction.
+fn case_under<V: Copy>(
+    alloc: Global,
+    txn: TxnId,
+    commits: bool,
+    value: V,
+) -> Result<Case<V>, NoMemory>
+    ensures { IfOk result (λ case. case ≡ record { when = record { txn = txn; commits = commits } ∷ []; value = value }) }
+{
+    let when = Vec::from_slice(alloc, &[Literal { txn, commits }])?;
+    Ok(Case { when, value })
+}
+
 // How many transactions both trees name together.
 fn count_of_sides<V: Exact>(
     alloc: Global,
@@ -269,6 +383,9 @@ fn count_of_sides<V: Exact>(
     ensures count { IfOk result (λ count. (txns : List TxnId) → AreNames (aborted.now ++ committed.now) txns → length txns ≡ count) }
     ensures few { IfOk result (λ count. count ≤ 2 * HELD_NAMES) }
 {
+    if aborted.is_sure() && committed.is_sure() {
+        return Ok(0);
+    }
     let aborted = aborted.cases(alloc)?;
     let committed = committed.cases(alloc)?;
     count_of_both(alloc, &aborted, &committed)

@@ -80,6 +80,13 @@ impl<V: Exact> Tree<V> {
         })
     }
 
+    /// Whether it tests nothing.
+    pub fn is_sure(&self) -> bool
+        ensures { result ≡ true → (txn : TxnId) → names self.now txn ≡ false }
+    {
+        matches!(self.node, Node::Sure(_))
+    }
+
     /// Whether both trees are equal, which they are exactly where they have the same value at every assignment.
     pub fn same(&self, other: &Tree<V>) -> bool
         ensures equal { result ≡ true → self.now ≡ other.now }

@@ -1,5 +1,6 @@
 mod HistorySteps
 mod MapFacts
+mod PutLemmas
 mod HeldLemmas
 mod PromiseLemmas
 mod NoteLemmas

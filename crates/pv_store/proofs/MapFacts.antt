@@ -3,7 +3,7 @@ use Rattle.std.proofs.Common.{◌≡◌, Result, Ok, Err, subst, ℕ, Bool, true
 use Rattle.std.specs.Prelude.{if◌then◌else◌}
 use Rattle.std.specs.List.{list_any}
 use Rattle.std.specs.Option.{option_map_or}
-use Rattle.std.specs.HashSet.{HashSet}
+use Rattle.std.specs.Global.{Vec}
 use Rattle.std.specs.Result.{IsOk, OnOk}
 use Rattle.std.proofs.lemmas.Bool.{false≢true}
 use Rattle.std.specs.Map.{lookup}
@@ -33,19 +33,19 @@ lookup-outcome (entry ∷ entries) txn =
     ap₂ (λ (test : Bool) (rest : Option Bool). cond test (Some entry.1) rest) (is_key-same txn entry.0) (lookup-outcome entries txn)
 
 -- The item is in the set.
-abbrev pub is_in : {S : Type 0} → ℕ → HashSet ItemId S → Bool
-is_in item items = list_any (λ (other : ItemId). item == other.0) items.keys
+abbrev pub is_in : ℕ → Vec ItemId → Bool
+is_in item items = list_any (λ (other : ItemId). item == other.0) items.items
 
 any-map : (item : ℕ) (items : List ItemId) → list_any (λ other. item == other) (map (λ (i : ItemId). i.0) items) ≡ list_any (λ (other : ItemId). item == other.0) items
 any-map item [] = refl
 any-map item (first ∷ items) = ap (λ rest. (item == first.0) || rest) (any-map item items)
 
-place-by : {S : Type 0} (test : Bool) (item : ℕ) (first : HashSet ItemId S) (rest : Option (HashSet ItemId S)) (else_ : Bool) → else_ ≡ option_map_or (is_in item) rest false
-    → (if test then list_any (λ other. item == other) (map (λ (i : ItemId). i.0) first.keys) else else_) ≡ option_map_or (is_in item) (cond test (Some first) rest) false
-place-by true item first rest else_ same = any-map item first.keys
+place-by : (test : Bool) (item : ℕ) (first : Vec ItemId) (rest : Option (Vec ItemId)) (else_ : Bool) → else_ ≡ option_map_or (is_in item) rest false
+    → (if test then list_any (λ other. item == other) (map (λ (i : ItemId). i.0) first.items) else else_) ≡ option_map_or (is_in item) (cond test (Some first) rest) false
+place-by true item first rest else_ same = any-map item first.items
 place-by false item first rest else_ same = same
 
-pub place-lookup : {S : Type 0} (entries : List (TxnId × HashSet ItemId S)) (txn : TxnId) (item : ℕ)
+pub place-lookup : (entries : List (TxnId × Vec ItemId)) (txn : TxnId) (item : ℕ)
     → has_place (places_of entries) txn item ≡ option_map_or (is_in item) (lookup (is_key txn) entries) false
 place-lookup [] txn item = refl
 place-lookup (entry ∷ entries) txn item =
@@ -60,10 +60,10 @@ pub key-apart : (txn other : TxnId) → is_same_txn other txn ≡ false → is_k
 key-apart txn other apart = is_key-same txn other ∙ same-sym txn other ∙ apart
 
 -- A map in which one transaction has another set of items.
-module _ {S : Type 0} (old new : List (TxnId × HashSet ItemId S)) (txn : TxnId) (items : HashSet ItemId S)
+module _ (old new : List (TxnId × Vec ItemId)) (txn : TxnId) (items : Vec ItemId)
     (updates : (other : TxnId) → lookup (is_key other) new ≡ cond (is_key txn other) (Some items) (lookup (is_key other) old)) where
   -- what is found at a transaction
-  abbrev found : List (TxnId × HashSet ItemId S) → TxnId → ℕ → Bool
+  abbrev found : List (TxnId × Vec ItemId) → TxnId → ℕ → Bool
   found entries other item = option_map_or (is_in item) (lookup (is_key other) entries) false
 
   found-by : (other : TxnId) (item : ℕ) (test : Bool) → is_key txn other ≡ test → ((there : ℕ) → found old txn there ≡ true → is_in there items ≡ true)

@@ -5,7 +5,7 @@ ghost use Rattle.pv_base.specs.Assignment.{is_same_txn};
 ghost use Rattle.pv_base.specs.declared.txn.TxnId.{TxnId};
 ghost use Rattle.pv_store.specs.Kept.{has_place, txns_of};
 
-use indexmap::{IndexMap, IndexSet};
+use indexmap::IndexMap;
 use pv_base::{ItemId, NoMemory, TxnId};
 use std::alloc::Global;
 use std::marker::Model;
@@ -15,7 +15,8 @@ use std::marker::Model;
 #[derive(Drop)]
 pub(crate) struct Dependents {
     alloc: Global,
-    items: IndexMap<TxnId, IndexSet<ItemId>>,
+    // The items ascend: they are few, and a set would take more memory, and longer to make.
+    items: IndexMap<TxnId, Vec<ItemId>>,
 }
 
 impl Model for Dependents {
@@ -43,7 +44,7 @@ impl Dependents {
         ensures { (item : ℕ) → list_any (λ other. item == other.0) result.now ≡ has_place self.now txn item }
     {
         match self.items.get(&txn) {
-            Some(items) => items.as_slice(),
+            Some(items) => items,
             None => &[],
         }
     }
@@ -70,11 +71,10 @@ impl Dependents {
         ensures placed { OnOk result (has_place self.new txn item.0 ≡ true) }
     {
         if let Some(items) = self.items.get_mut(&txn) {
-            items.insert(item)?;
-            return Ok(());
+            return put_item(items, item);
         }
-        let mut items = IndexSet::new(self.alloc);
-        items.insert(item)?;
+        let mut items = Vec::new(self.alloc);
+        put_item(&mut items, item)?;
         self.items.insert(txn, items)?;
         Ok(())
     }
@@ -85,4 +85,15 @@ impl Dependents {
     {
         let _ = self.items.swap_remove(&txn);
     }
+}
+
+// Puts the item among these, which ascend, if it isn't there yet.
+fn put_item(items: &mut Vec<ItemId>, item: ItemId) -> Result<(), NoMemory>
+    ensures more { (there : ℕ) → list_any (λ other. there == other.0) items.old.items ≡ true → list_any (λ other. there == other.0) items.new.items ≡ true }
+    ensures placed { OnOk result (list_any (λ other. item.0 == other.0) items.new.items ≡ true) }
+{
+    if let Err(place) = items.binary_search(&item) {
+        items.insert(place, item)?;
+    }
+    Ok(())
 }

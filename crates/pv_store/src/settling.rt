@@ -22,7 +22,7 @@ pub(crate) fn settled_values(
     ensures { (catalog : Declared) (site : ℕ) (records : List Record) → AreShown catalog site records records values.now →
         IfOk result (λ settled. settled.items ≡ flat_map (settled_at catalog site records txn commits) (map (λ item. item.0) items.now)) }
 {
-    let mut settled = Vec::new(alloc);
+    let mut settled = Vec::with_capacity(alloc, items.len())?;
     for item in items {
         push_settled(alloc, &mut settled, values, *item, txn, commits)?;
     }

@@ -41,7 +41,7 @@ fn held_writes<'a>(
 ) -> Result<Vec<&'a Read>, NoMemory>
     ensures { IfOk result (λ found. map (λ write. write.now) found.items ≡ held_writes values.now [] writes.now) }
 {
-    let mut found = Vec::new(alloc);
+    let mut found = Vec::with_capacity(alloc, writes.len())?;
     for write in writes {
         push_held(&mut found, values, write)?;
     }
@@ -112,7 +112,7 @@ fn promised_values(
         AreFirst catalog site all (map (λ write. write.now) writes.now) →
         IsRefusedFor (first_too_many catalog records (front ++ prepared txn all ∷ []) (items_of (map (λ write. write.now) writes.now))) result }
 {
-    let mut new = Vec::new(alloc);
+    let mut new = Vec::with_capacity(alloc, writes.len())?;
     for write in writes {
         let old = value_of(values, write.item);
         let value = promised(alloc, outcomes, txn, &write.value, old)?;
@@ -128,7 +128,7 @@ fn promised_values(
 pub(crate) fn copy_reads(alloc: Global, reads: &[Read]) -> Result<Vec<Read>, NoMemory>
     ensures { IfOk result (λ copy. copy.items ≡ reads.now) }
 {
-    let mut copy = Vec::new(alloc);
+    let mut copy = Vec::with_capacity(alloc, reads.len())?;
     for read in reads {
         copy.push(Read {
             item: read.item,

@@ -21,7 +21,7 @@ value_of-old-requires c =
 
 pub loop-write-init : goal.loop-write-init
 loop-write-init c = record {
-  made = λ catalog site records front all is first. c.new-new.ensures.items;
+  made = λ catalog site records front all is first. c.in_ok-new.ensures.items;
   count = λ catalog site records front all is first. refl;
 }
 
@@ -34,9 +34,9 @@ returns-in_err-value-clause-answer c =
     let here : drop i reads ≡ write ∷ rest =
     map-at (λ (write : Bor Read). write.now) c.args.writes.now i c.write-item.result c.loop-write-test.true c.write-item.is
     ∙ ap (λ (read : Read). read ∷ rest) (sym (ap (λ (write : Bor Read). write.now) c.write.view_is)) in
-    let p = err_from_is_err_and c.from_residual.result c.from_residual.ensures.1 in
+    let p = err_from_is_err_and c.from_residual-in_err-value.result c.from_residual-in_err-value.ensures.1 in
     promise-refused c.args.outcomes.now.outcomes c.args.values.now c.args.txn reads i c.loop-write.new.items c.loop-write.invariant write rest here c.value_of-old.result.now c.value_of-old.ensures
-    c.in_err-value.field-0.0 c.from_residual.result (p.1 ∙ ap Err p.2)
+    c.in_err-value.field-0.0 c.from_residual-in_err-value.result (p.1 ∙ ap Err p.2)
     (λ catalog records front item all asked. (c.in_err-value.ensures.answer catalog records front item all asked).refused)
 
 pub loop-write-preserved : goal.loop-write-preserved

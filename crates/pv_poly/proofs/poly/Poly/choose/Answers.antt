@@ -1,5 +1,5 @@
 -- What is given is the choice, and what is reported is its count.
-use Rattle.std.proofs.Common.{◌≡◌, Bool, List, Result, Ok, Err, IfSome, sym, subst, rules}
+use Rattle.std.proofs.Common.{◌≡◌, ◌∙◌, arith, Bool, List, Result, Ok, Err, IfSome, sym, subst, rules}
 use Rattle.std.proofs.lemmas.Result.{err_from_is_err_and}
 use Rattle.pv_base.specs.Answer.{Answers}
 use Rattle.pv_base.specs.Canonical.{IsExact}
@@ -12,6 +12,7 @@ use Rattle.pv_base.proofs.AnswerLemmas.{answered}
 use Rattle.pv_cases.specs.NameLimits.{count_of, IsChosen, ChoiceNamesTooMany}
 use Rattle.pv_cases.proofs.NameLimitLemmas.{one-chosen}
 use Rattle.pv_cases.proofs.RefusedLemmas.{refused-so}
+use Rattle.pv_poly.proofs.SureChoice.{sure-chosen}
 use Rattle.pv_poly.proofs.poly.Poly.choose.Goals as goal
 
 module _ {V : Type 0} {same : V → V → Bool} (laws : IsExact same) (txn : TxnId) (aborted committed : List (Case V)) (first : IsCanonical aborted) (second : IsCanonical committed) where
@@ -27,13 +28,41 @@ module _ {V : Type 0} {same : V → V → Bool} (laws : IsExact same) (txn : Txn
       answered (IsChosen HELD_NAMES txn aborted committed) (ChoiceNamesTooMany HELD_NAMES txn aborted committed)
       (one-chosen HELD_NAMES laws txn aborted committed first second) (λ poly. poly) count_of (Ok poly) is tt
 
-pub returns-in_err-tree : goal.returns-in_err-tree
-returns-in_err-tree g c =
+pub returns-in_err-cases_of_choice : goal.returns-in_err-cases_of_choice
+returns-in_err-cases_of_choice g c =
     let laws : IsExact g.V.PartialEq.eq = record { exact = g.met.V.Exact.exact; itself = g.met.V.Eq.laws.refl } in
     let is = err_from_is_err_and c.from_residual.result c.from_residual.ensures.1 in
     record {
       answer = refused-choice laws c.args.txn c.args.old.now c.args.new.now (subst IsCanonical c.old.view_is c.old.invariant.canonical) (subst IsCanonical c.new.view_is c.new.invariant.canonical)
-          c.from_residual.result c.in_err-tree.field-0.0 (search (rules, is)) c.in_err-tree.ensures.refused;
+          c.from_residual.result NoMemory (search (rules, is)) tt;
+    }
+
+pub invariant_of-result : goal.invariant_of-result
+invariant_of-result g c =
+    (sure-chosen HELD_NAMES c.args.txn c.in-Some.values.0 c.in-Some.values.1 (omega arith) c.in-Some.ensures.1.1 c.args.old.now c.args.new.now c.in_ok-cases_of_choice.field-0.items
+    (sym (c.deref.ensures.value ∙ c.old.view_is) ∙ c.in-Some.ensures.0)
+    (sym (c.deref-2.ensures.value ∙ c.new.view_is) ∙ c.in-Some.ensures.1.0)
+    c.in_ok-cases_of_choice.ensures).polyvalue
+
+pub returns-in-Some : goal.returns-in-Some
+returns-in-Some g c =
+    let laws : IsExact g.V.PartialEq.eq = record { exact = g.met.V.Exact.exact; itself = g.met.V.Eq.laws.refl } in
+    record {
+      answer = given-choice laws c.args.txn c.args.old.now c.args.new.now (subst IsCanonical c.old.view_is c.old.invariant.canonical) (subst IsCanonical c.new.view_is c.new.invariant.canonical)
+          c.in_ok-cases_of_choice.field-0.items
+          (sure-chosen HELD_NAMES c.args.txn c.in-Some.values.0 c.in-Some.values.1 (omega arith) c.in-Some.ensures.1.1 c.args.old.now c.args.new.now c.in_ok-cases_of_choice.field-0.items
+          (sym (c.deref.ensures.value ∙ c.old.view_is) ∙ c.in-Some.ensures.0)
+          (sym (c.deref-2.ensures.value ∙ c.new.view_is) ∙ c.in-Some.ensures.1.0)
+          c.in_ok-cases_of_choice.ensures);
+    }
+
+pub returns-in_err-tree : goal.returns-in_err-tree
+returns-in_err-tree g c =
+    let laws : IsExact g.V.PartialEq.eq = record { exact = g.met.V.Exact.exact; itself = g.met.V.Eq.laws.refl } in
+    let is = err_from_is_err_and c.from_residual-in_err-tree.result c.from_residual-in_err-tree.ensures.1 in
+    record {
+      answer = refused-choice laws c.args.txn c.args.old.now c.args.new.now (subst IsCanonical c.old.view_is c.old.invariant.canonical) (subst IsCanonical c.new.view_is c.new.invariant.canonical)
+          c.from_residual-in_err-tree.result c.in_err-tree.field-0.0 (search (rules, is)) c.in_err-tree.ensures.refused;
     }
 
 pub returns-in_err-cases : goal.returns-in_err-cases

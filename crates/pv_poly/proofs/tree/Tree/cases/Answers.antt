@@ -8,5 +8,5 @@ use Rattle.pv_poly.proofs.tree.Tree.cases.Goals as goal
 pub returns : goal.returns
 returns g c =
     c.in_ok-push_cases.ensures.cases
-    ∙ ap₂ (λ (old : List (Case g.row.V.Denot)) (way : List Literal). old ++ under_all way c.args.self.now) c.new-cases.ensures.items c.new.ensures.items
+    ∙ ap₂ (λ (old : List (Case g.row.V.Denot)) (way : List Literal). old ++ under_all way c.args.self.now) c.in_ok-cases.ensures.items c.new.ensures.items
     ∙ behind-none c.args.self.now

@@ -9,7 +9,7 @@ use Rattle.pv_store.proofs.dependents.Dependents.items.Goals as goal
 
 pub returns-in-Some : goal.returns-in-Some
 returns-in-Some c = λ item.
-    ap (λ keys. list_any (λ (other : ItemId). item == other.0) keys) c.as_slice.ensures.keys
+    ap (λ items. list_any (λ (other : ItemId). item == other.0) items) c.deref.ensures.value
     ∙ ap (λ found. option_map_or (is_in item) found false) (ap option_copied (sym c.in-Some.is) ∙ c.get.ensures.value)
     ∙ sym (place-lookup c.self.inside.items.entries c.args.txn item)
     ∙ ap (λ places. has_place places c.args.txn item) c.self.view_is

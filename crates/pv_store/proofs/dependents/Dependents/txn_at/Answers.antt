@@ -2,7 +2,7 @@
 use Rattle.std.proofs.Common.{◌≡◌, ◌∙◌, zero, suc, ℕ, Some, None, List, [], ◌∷◌, ap, sym}
 use Rattle.std.specs.Prelude.{slice_get}
 use Rattle.std.specs.Option.{option_map}
-use Rattle.std.specs.HashSet.{HashSet}
+use Rattle.std.specs.Global.{Vec}
 use Rattle.pv_base.specs.declared.catalog.ItemId.{ItemId}
 use Rattle.pv_base.specs.declared.txn.TxnId.{TxnId}
 use Rattle.pv_store.specs.Kept.{Places, txns_of}
@@ -12,10 +12,10 @@ use Rattle.pv_store.proofs.dependents.Dependents.txn_at.Goals as goal
 none-some : {X : Type 0} (x : X) → None ≡ Some x → ⊥
 none-some x e = cc
 
-at-place : {S : Type 0} (entries : List (TxnId × HashSet ItemId S)) (place : ℕ) (entry : TxnId × HashSet ItemId S) → slice_get entries place ≡ Some entry
+at-place : (entries : List (TxnId × Vec ItemId)) (place : ℕ) (entry : TxnId × Vec ItemId) → slice_get entries place ≡ Some entry
     → slice_get (txns_of (places_of entries)) place ≡ Some entry.0
 at-place [] place entry at = absurd (none-some entry at)
-at-place (first ∷ entries) zero entry at = let same : Some first ≡ Some entry = at in ap (option_map (λ (e : TxnId × HashSet ItemId _). e.0)) same
+at-place (first ∷ entries) zero entry at = let same : Some first ≡ Some entry = at in ap (option_map (λ (e : TxnId × Vec ItemId). e.0)) same
 at-place (first ∷ entries) (suc place) entry at = at-place entries place entry at
 
 pub returns : goal.returns
