@@ -1,3 +1,5 @@
+mod BayLemmas
+mod FileLemmas
 mod FillLemmas
 mod HistoryLemmas
 mod ImageLemmas

@@ -1,7 +1,11 @@
+pub mod BayAnswers
+pub mod BayModel
 pub mod DiskAnswers
+pub mod Folder
 pub mod ListLaws
 pub mod ListLog
 pub mod LogAnswers
+pub mod MemBay
 pub mod MemDisk
 pub mod MemHistory
 pub mod MemImage

@@ -96,6 +96,20 @@ impl MemDisk {
         self.arms.fired()
     }
 
+    /// How many calls have failed.
+    pub(crate) fn faults(&self) -> u64
+        ensures { result ≡ self.now.faults }
+    {
+        self.faults
+    }
+
+    /// Counts the calls that fail from 0 again.
+    pub(crate) fn forget_faults(&mut self)
+        ensures { self.new ≡ record self.old { faults = 0 } }
+    {
+        self.faults = 0;
+    }
+
     /// How many writes and syncs were called since the disk was made, up to u64's greatest value.
     pub fn calls(&self) -> u64
         ensures { result ≡ self.now.arms.calls }

@@ -3,8 +3,10 @@ ghost use Rattle.std.specs.Prelude.{◌≡◌, ◌<◌, ◌≤◌, ◌+◌, ◌^
 ghost use Rattle.pv_law_disk.specs.Log.{Adds};
 
 use super::*;
-use pv_base::Mode;
+use pv_base::{Failed, Mode, SiteId};
 use std::alloc::Global;
+use std::fs;
+use std::fs::{File, OpenOptions};
 use std::test::Fail;
 
 // An append with its room, over any log.
@@ -119,5 +121,105 @@ fn each_arm_fires_once(rt: HostRuntime) -> Result<(), Fail> {
     disk.read_at(0, &mut [])?;
     assert!(rt; disk.read_at(0, &mut []).is_err());
     disk.read_at(0, &mut [])?;
+    Ok(())
+}
+
+#[test]
+fn a_bay_in_memory_hands_out_and_takes_back(rt: HostRuntime) -> Result<(), Fail> {
+    let alloc = rt.alloc();
+    let zero = MemDisk::of(alloc, b"zero".to_vec(alloc)?);
+    let one = MemDisk::of(alloc, b"one".to_vec(alloc)?);
+    let mut bay = MemBay::new(vec![in alloc; zero, one]?)?;
+    let mut disk = bay.disk(SiteId(1))?;
+    assert_eq!(rt; held(alloc, &mut disk)?.as_slice(), b"one".as_slice());
+
+    // A call of it fails, and it comes again with a count of 0.
+    disk.reserve(3, 1)?;
+    disk.write_at(0, b"two")?;
+    disk.arm(1, Mode::Kept, false);
+    assert_eq!(rt; disk.sync(), Err(Failed));
+    assert_eq!(rt; disk.faults(), 1);
+    bay.back(SiteId(1), disk);
+    let mut disk = bay.disk(SiteId(1))?;
+    assert_eq!(rt; held(alloc, &mut disk)?.as_slice(), b"two".as_slice());
+    assert_eq!(rt; disk.faults(), 0);
+    assert_eq!(rt; disk.calls(), 2);
+    Ok(())
+}
+
+#[test]
+fn a_bay_in_memory_has_no_disk_past_its_list(rt: HostRuntime) -> Result<(), Fail> {
+    let mut bay = MemBay::new(Vec::new(rt.alloc()))?;
+    assert_eq!(rt; bay.disk(SiteId(0)).err(), Some(BayError::Failed));
+    Ok(())
+}
+
+#[test]
+fn a_bay_in_memory_keeps_the_last_disk(rt: HostRuntime) -> Result<(), Fail> {
+    let alloc = rt.alloc();
+    let mut bay = MemBay::new(Vec::new(alloc))?;
+    assert!(rt; bay.kept(SiteId(3)).is_none());
+    bay.keep(SiteId(3), MemDisk::of(alloc, b"first".to_vec(alloc)?));
+    bay.keep(SiteId(3), MemDisk::of(alloc, b"second".to_vec(alloc)?));
+    assert!(rt; bay.kept(SiteId(2)).is_none());
+    if let Some(mut disk) = bay.kept(SiteId(3)) {
+        assert_eq!(rt; held(alloc, &mut disk)?.as_slice(), b"second".as_slice());
+    }
+    assert!(rt; bay.kept(SiteId(3)).is_none());
+    assert!(rt; bay.kept(SiteId(16)).is_none());
+    Ok(())
+}
+
+#[test]
+fn a_disk_is_on_a_file(rt: HostRuntime) -> Result<(), Fail> {
+    let name = "file-disk-test.pv";
+    let file = OpenOptions::new()
+        .read(true)
+        .write(true)
+        .create(true)
+        .truncate(true)
+        .open(&rt, name)?;
+    let mut disk = FileDisk::new(file);
+    assert_eq!(rt; disk.len()?, 0);
+    disk.reserve(3, 1)?;
+    disk.write_at(0, b"one")?;
+    disk.sync()?;
+    assert_eq!(rt; disk.len()?, 3);
+    let mut bytes = [0; 2];
+    disk.read_at(1, &mut bytes)?;
+    assert_eq!(rt; bytes.as_slice(), b"ne".as_slice());
+
+    // A read that ends early, and a write to a file that is open for reading.
+    assert_eq!(rt; disk.read_at(2, &mut bytes), Err(Failed));
+    assert_eq!(rt; disk.faults(), 1);
+    let mut disk = FileDisk::new(File::open(&rt, name)?);
+    fs::remove_file(&rt, name)?;
+    disk.reserve(3, 1)?;
+    assert_eq!(rt; disk.write_at(0, b"two"), Err(Failed));
+    assert_eq!(rt; disk.faults(), 1);
+    Ok(())
+}
+
+#[test]
+fn a_bay_is_on_the_current_folder(rt: HostRuntime) -> Result<(), Fail> {
+    let alloc = rt.alloc();
+    let mut bay = FolderBay::new(alloc, rt.clone()?);
+    let mut disk = bay.disk(SiteId(13))?;
+    assert_eq!(rt; disk.len()?, 0);
+    disk.reserve(4, 1)?;
+    disk.write_at(0, b"that")?;
+    bay.back(SiteId(13), disk);
+    bay.keep(SiteId(13), MemDisk::new(alloc));
+    let mut disk = bay.disk(SiteId(13))?;
+    let mut bytes = [0; 4];
+    disk.read_at(0, &mut bytes)?;
+    assert_eq!(rt; bytes.as_slice(), b"that".as_slice());
+    bay.back(SiteId(13), disk);
+
+    // That is the file, and a folder in its place is no disk.
+    fs::remove_file(&rt, "site-13.pv")?;
+    fs::create_dir(&rt, "site-13.pv")?;
+    assert_eq!(rt; bay.disk(SiteId(13)).err(), Some(BayError::Failed));
+    fs::remove_dir(&rt, "site-13.pv")?;
     Ok(())
 }

@@ -1,0 +1,5 @@
+use Rattle.pv_disk.proofs.FileLemmas.{read_failed}
+use Rattle.pv_disk.proofs.file_disk.FileDiskDisk.len.Goals as goal
+
+pub returns-in_default-clause-effect : goal.returns-in_default-clause-effect
+returns-in_default-clause-effect c = read_failed c.args.self.now c.fault.new.self c.fault.ensures.rises c.fault.ensures.counted c.fault.result

@@ -1,0 +1,5 @@
+use Rattle.pv_disk.proofs.FileLemmas.{sync_failed}
+use Rattle.pv_disk.proofs.file_disk.FileDiskDisk.sync.Goals as goal
+
+pub returns-in-Err-clause-effect : goal.returns-in-Err-clause-effect
+returns-in-Err-clause-effect c = sync_failed c.args.self.now c.fault.new.self c.fault.ensures.rises c.fault.ensures.counted c.fault.result

@@ -1,0 +1,89 @@
+// A disk on a file.
+ghost use Rattle.std.specs.Prelude.{◌≡◌, ◌≤◌};
+ghost use Rattle.pv_base.specs.Fault.{risen};
+ghost use Rattle.pv_disk.specs.Folder.{file_disk};
+
+use crate::{Disk, DiskError};
+use pv_base::{Failed, MAX_LENGTH};
+use std::fs::File;
+use std::marker::Model;
+use std::os::unix::fs::FileExt;
+
+/// A disk on a file. What it holds isn't known. Each error of the file counts as a fault, and so does a file longer than
+/// [`MAX_LENGTH`](pv_base::MAX_LENGTH), a read that ends before its bytes are there, and a write that takes fewer.
+#[derive(Drop)]
+pub struct FileDisk {
+    /// The file, open for reading and writing.
+    file: File,
+    /// How many calls have failed, up to u64's greatest value.
+    faults: u64,
+}
+
+impl Model for FileDisk {
+    ghost use Rattle.std.specs.Prelude.{ℕ};
+
+    ghost Value = { ℕ };
+
+    ghost view = { λ s. s.faults };
+}
+
+impl FileDisk {
+    /// A disk on this file, which is open for reading and writing. No call has failed.
+    pub fn new(file: File) -> Self
+        ensures { result ≡ 0 }
+    {
+        FileDisk { file, faults: 0 }
+    }
+
+    /// How many calls have failed.
+    pub(crate) fn faults(&self) -> u64
+        ensures { result ≡ self.now }
+    {
+        self.faults
+    }
+
+    // A call has failed.
+    fn fault(&mut self) -> Failed
+        ensures counted { self.new ≡ risen self.old }
+        ensures rises { self.old ≤ self.new }
+    {
+        self.faults = self.faults.saturating_add(1);
+        Failed
+    }
+}
+
+impl Disk for FileDisk {
+    ghost model = { file_disk };
+
+    fn len(&mut self) -> Result<u64, Failed> {
+        match self.file.metadata() {
+            Ok(metadata) if metadata.len() <= MAX_LENGTH => Ok(metadata.len()),
+            _ => Err(self.fault()),
+        }
+    }
+
+    fn read_at(&mut self, place: u64, into: &mut [u8]) -> Result<(), Failed> {
+        match self.file.read_exact_at(into, place) {
+            Ok(()) => Ok(()),
+            Err(_) => Err(self.fault()),
+        }
+    }
+
+    fn reserve(&mut self, _bytes: u64, _writes: u32) -> Result<(), DiskError> {
+        Ok(())
+    }
+
+    fn write_at(&mut self, place: u64, bytes: &[u8]) -> Result<(), Failed> {
+        match self.file.write_all_at(bytes, place) {
+            Ok(()) => Ok(()),
+            Err(_) => Err(self.fault()),
+        }
+    }
+
+    fn sync(&mut self) -> Result<(), Failed> {
+        match self.file.sync_all() {
+            Ok(()) => Ok(()),
+            Err(_) => Err(self.fault()),
+        }
+    }
+}
