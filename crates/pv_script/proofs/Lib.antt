@@ -10,3 +10,4 @@ pub mod RequestLemmas
 pub mod FaultLemmas
 pub mod CountLemmas
 pub mod ScheduleLemmas
+pub mod EachBelowLemmas

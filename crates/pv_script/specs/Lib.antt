@@ -4,6 +4,7 @@ pub mod ScriptErrors
 pub mod CauseTexts
 pub mod ScheduleView
 pub mod LineFaults
+pub mod Generated
 pub mod Keywords
 pub mod Said
 pub mod TakesLine

@@ -2,7 +2,7 @@
 ghost use Rattle.std.specs.Prelude.{◌≤◌, length};
 ghost use Rattle.pv_script.specs.declared.lines.TheConstants.{MAX_SCHEDULE};
 
-use crate::{Event, LineCause, ScriptError, read_schedule};
+use crate::{Event, LineCause, MAX_SCHEDULE, ScriptError, make, read_schedule};
 use pv_base::{ItemId, MAX_JOURNAL, SiteId};
 use std::process::Abort;
 use std::test::Fail;
@@ -379,4 +379,27 @@ fn a_refusal_has_its_text(rt: HostRuntime) -> Result<(), Fail> {
         "line 3: unknown name column 7, no memory"
     );
     Ok(())
+}
+
+// The lines and the count of what 7 makes were worked out from the rules, apart from the program.
+#[test]
+fn a_long_schedule_is_made(rt: HostRuntime) {
+    match make(rt.alloc(), 7) {
+        Ok(text) => {
+            let mut lines = text.split(|b| *b == b'\n').skip(65);
+            assert!(rt;
+                lines.next()
+                    == Some(
+                        b"submit 2 require i44 >= 9 ; i44 := i44 - 9 ; i22 := i22 + 9".as_slice()
+                    )
+            );
+            assert!(rt; lines.next() == Some(b"pump 12".as_slice()));
+            assert!(rt; lines.next() == Some(b"pump".as_slice()));
+            if text.len() > MAX_SCHEDULE {
+                panic!(rt; "too long a text");
+            }
+            assert_read(&rt, &text, 64, 6346);
+        },
+        Err(error) => panic!(rt; "{error}"),
+    }
 }
