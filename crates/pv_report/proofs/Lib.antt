@@ -1,2 +1,5 @@
 pub mod CaseTextLemmas
+pub mod LineShown
 pub mod PieceLemmas
+pub mod PlainLemmas
+pub mod ShownLemmas

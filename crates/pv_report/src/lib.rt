@@ -1,11 +1,15 @@
-//! Lines as text.
+//! Lines as text and as JSON.
 #![tactic(auto)]
 
 mod answers;
 mod cases;
+mod json_form;
+mod json_lines;
+mod json_values;
 mod line;
 mod pieces;
 
+pub use json_form::{json, push_json};
 pub use line::{print, push_line};
 
 #[cfg(test)]

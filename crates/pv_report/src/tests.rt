@@ -325,13 +325,15 @@ fn worked_line(alloc: Global, number: usize, catalog: &Catalog) -> Result<Line, 
 }
 
 #[test]
-fn each_kind_of_line_has_its_text(rt: HostRuntime) -> Result<(), Fail> {
+fn each_kind_of_line_has_its_text_and_its_json(rt: HostRuntime) -> Result<(), Fail> {
     let alloc = rt.alloc();
     let catalog = two_items(alloc)?;
-    for (number, (text, _)) in TEXTS.iter().enumerate() {
+    for (number, (text, object)) in TEXTS.iter().enumerate() {
         let line = worked_line(alloc, number, &catalog)?;
         let printed = print(alloc, &line, &catalog)?;
         assert_eq!(rt; printed.as_slice(), text.as_bytes(), "at {text}");
+        let printed = json(alloc, &line, &catalog)?;
+        assert_eq!(rt; printed.as_slice(), object.as_bytes(), "at {object}");
     }
     Ok(())
 }
@@ -343,6 +345,10 @@ fn a_line_is_put_behind_what_the_buffer_holds(rt: HostRuntime) -> Result<(), Fai
     let mut text = Vec::new(alloc);
     push_line(&mut text, &Line::ItemDown(ItemId(1)), &catalog)?;
     push_line(&mut text, &Line::End, &catalog)?;
-    assert_eq!(rt; text.as_slice(), b"item b down\nend\n".as_slice());
+    push_json(&mut text, &Line::End, &catalog)?;
+    assert_eq!(rt;
+        text.as_slice(),
+        b"item b down\nend\n{\"end\":true}\n".as_slice()
+    );
     Ok(())
 }
