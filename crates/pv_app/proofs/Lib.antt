@@ -1,5 +1,7 @@
-pub mod AnswerLemmas
-pub mod LimitLemmas
-pub mod LineItems
-pub mod OutputLemmas
-pub mod RunLemmas
+mod AnswerLemmas
+mod CommandLemmas
+mod LimitLemmas
+mod LineItems
+mod OutputLemmas
+mod RunLemmas
+mod SummaryLemmas

@@ -7,13 +7,14 @@ use Rattle.pv_io.specs.Stream.{AppendsPrefix}
 use Rattle.pv_model.specs.Events.{Event, Schedule}
 use Rattle.pv_protocol.specs.Limit.{Output, over_limit, run_within, unless_over}
 use Rattle.pv_protocol.specs.Lines.{Line}
-use Rattle.pv_protocol.specs.LineText.{line_text, text_of}
 use Rattle.pv_protocol.specs.Run.{lines_of_transitions, printed, run, transitions_of, world_after}
 use Rattle.pv_protocol.specs.State.{Setup}
 use Rattle.pv_protocol.specs.World.{World, opening}
 use Rattle.pv_protocol.specs.WorldStep.{Transition}
 use Rattle.pv_site.specs.SiteState.{setup_of}
+use Rattle.pv_app.specs.Forms.{line_in, lines_in}
 use Rattle.pv_app.specs.InputAnswers.{output_of, output_within, within_limit}
+use Rattle.pv_app.specs.declared.form.Form.{Form}
 use Rattle.pv_app.proofs.OutputLemmas.{AppendsPrefix-front}
 
 -- What is printed under a limit, with the rest of what events print, is all that they print; without a rest, where the limit isn't passed.
@@ -44,21 +45,28 @@ begins-output : (schedule : Schedule) → Begins (printed (setup_of schedule.cat
 unfolding within_limit printed
 begins-output schedule = let setup = setup_of schedule.catalog in begins-run MAX_SENT setup (opening setup) schedule.events
 
-output-begins : (schedule : Schedule) → output_of schedule ≡ output_within schedule ++ text_of schedule.catalog (begins-output schedule).rest
-unfolding output_of
-output-begins schedule =
-    ap (text_of schedule.catalog) (begins-output schedule).whole
-    ∙ flat_map-append (line_text schedule.catalog) (within_limit schedule).lines (begins-output schedule).rest
+-- Where the limit isn't passed, all lines are printed.
+pub lines-within-limit : (schedule : Schedule) → (within_limit schedule).over ≡ None → (within_limit schedule).lines ≡ printed (setup_of schedule.catalog) schedule.events
+lines-within-limit schedule within =
+    sym (append-nil (within_limit schedule).lines)
+    ∙ ap (λ (rest : List Line). (within_limit schedule).lines ++ rest) (sym ((begins-output schedule).none within))
+    ∙ sym (begins-output schedule).whole
 
--- Where the limit isn't passed, all is printed.
-pub output-within : (schedule : Schedule) → (within_limit schedule).over ≡ None → output_within schedule ≡ output_of schedule
-output-within schedule within =
-    sym (append-nil (output_within schedule))
-    ∙ ap (λ (ls : List Line). output_within schedule ++ text_of schedule.catalog ls) (sym ((begins-output schedule).none within))
-    ∙ sym (output-begins schedule)
+output-begins : (form : Form) (schedule : Schedule)
+    → output_of form schedule ≡ output_within form schedule ++ lines_in form schedule.catalog (begins-output schedule).rest
+unfolding output_of
+output-begins form schedule =
+    ap (lines_in form schedule.catalog) (begins-output schedule).whole
+    ∙ flat_map-append (line_in form schedule.catalog) (within_limit schedule).lines (begins-output schedule).rest
+
+-- And all of the text.
+pub output-within : (form : Form) (schedule : Schedule) → (within_limit schedule).over ≡ None → output_within form schedule ≡ output_of form schedule
+unfolding output_of
+output-within form schedule within = ap (lines_in form schedule.catalog) (lines-within-limit schedule within)
 
 -- A beginning of what is printed within the limit is one of all that is printed.
-pub prefix-within : (schedule : Schedule) (old new : Option (List ℕ)) → AppendsPrefix old new (output_within schedule) → AppendsPrefix old new (output_of schedule)
-prefix-within schedule old new written =
-    subst (AppendsPrefix old new) (sym (output-begins schedule))
-    (AppendsPrefix-front old new (output_within schedule) (text_of schedule.catalog (begins-output schedule).rest) written)
+pub prefix-within : (form : Form) (schedule : Schedule) (old new : Option (List ℕ))
+    → AppendsPrefix old new (output_within form schedule) → AppendsPrefix old new (output_of form schedule)
+prefix-within form schedule old new written =
+    subst (AppendsPrefix old new) (sym (output-begins form schedule))
+    (AppendsPrefix-front old new (output_within form schedule) (lines_in form schedule.catalog (begins-output schedule).rest) written)

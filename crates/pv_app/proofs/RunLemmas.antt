@@ -2,7 +2,8 @@
 use Rattle.std.proofs.Common.{◌≡◌, ℕ, ◌≤◌, ◌<◌, zero, suc, All, List, [], ◌∷◌, ◌++◌, map, length, drop, drop-cons, take, get_or, Option, Some, None, refl, sym, ap, ◌∙◌, subst, arith}
 use Rattle.std.specs.Io.KnownBytes.{Appends}
 use Rattle.std.proofs.KnownBytes.{Appends-trans}
-use Rattle.std.proofs.lemmas.List.{drop-map}
+use Rattle.std.proofs.lemmas.List.{append_assoc, drop-map}
+use Rattle.std.proofs.lemmas.List.Elements.{All-append, All-nil}
 use Rattle.std.proofs.lemmas.Grind.{flat_map-append}
 use Rattle.pv_base.specs.Catalog.{Declared}
 use Rattle.pv_base.specs.declared.limits.TheConstants.{MAX_SENT}
@@ -11,18 +12,20 @@ use Rattle.pv_io.specs.declared.sink.Sink.{Ghosts}
 use Rattle.pv_model.specs.Events.{Schedule, Event}
 use Rattle.pv_protocol.specs.Limit.{Output, over_limit, run_within, unless_over}
 use Rattle.pv_protocol.specs.Lines.{Line}
-use Rattle.pv_protocol.specs.LineText.{line_text, text_of}
 use Rattle.pv_protocol.specs.Run.{lines_of_transitions, transitions_of, world_after}
 use Rattle.pv_protocol.specs.State.{Setup}
 use Rattle.pv_protocol.specs.World as model
 use Rattle.pv_protocol.specs.World.{opening}
+use Rattle.pv_report.specs.NamesOnlyItems.{NamesOnlyItems}
 use Rattle.pv_script.specs.declared.schedule.Event as code
 use Rattle.pv_script.specs.ScheduleView.{event_of}
 use Rattle.pv_site.specs.SiteState.{setup_of}
 use Rattle.pv_world.specs.Stands.{StandsFor}
 use Rattle.pv_world.specs.Steps.{IsSameBeside}
 use Rattle.pv_world.specs.declared.world.World.{World}
+use Rattle.pv_app.specs.Forms.{line_in, lines_in}
 use Rattle.pv_app.specs.InputAnswers.{output_within, within_limit}
+use Rattle.pv_app.specs.declared.form.Form.{Form}
 use Rattle.pv_app.proofs.OutputLemmas.{AppendsPrefix-front, AppendsPrefix-after}
 
 -- the world after an event, and after several
@@ -44,16 +47,28 @@ world_at schedule done = after_events (setup_for schedule) (opening (setup_for s
 abbrev pub left_at : Schedule → ℕ → Output
 left_at schedule done = run_within MAX_SENT (setup_for schedule) (world_at schedule done) (drop done schedule.events)
 
--- The world in memory is the one after `done` events, within the limit. What is left to be printed ends where all that is to be printed ends.
-pub record IsUnderWay {W : Type 0} (sink : Ghosts W) (first now : W) (schedule : Schedule) (world : World) (done : ℕ) : Type 0 where
+-- The world in memory is the one after `done` events, within the limit.
+pub record IsInCourse (schedule : Schedule) (world : World) (done : ℕ) : Type 0 where
   pub stands : StandsFor world (world_at schedule done)
   pub catalog : world.catalog ≡ schedule.catalog
   pub limit : world.mail.limit ≡ MAX_SENT
-  pub whole : (end : Option (List ℕ)) → Appends (sink.held now) end (text_of schedule.catalog (left_at schedule done).lines) → Appends (sink.held first) end (output_within schedule)
-  pub prefix : (end : Option (List ℕ)) → AppendsPrefix (sink.held now) end (text_of schedule.catalog (left_at schedule done).lines) → AppendsPrefix (sink.held first) end (output_within schedule)
   pub over : (left_at schedule done).over ≡ (within_limit schedule).over
+
+-- And what is left to be printed ends where all that is to be printed ends.
+pub record IsUnderWay {W : Type 0} (sink : Ghosts W) (form : Form) (first now : W) (schedule : Schedule) (world : World) (done : ℕ) : Type 0 where
+  pub course : IsInCourse schedule world done
+  pub whole : (end : Option (List ℕ)) → Appends (sink.held now) end (lines_in form schedule.catalog (left_at schedule done).lines)
+      → Appends (sink.held first) end (output_within form schedule)
+  pub prefix : (end : Option (List ℕ)) → AppendsPrefix (sink.held now) end (lines_in form schedule.catalog (left_at schedule done).lines)
+      → AppendsPrefix (sink.held first) end (output_within form schedule)
   pub known : KnownAlike (sink.held first) (sink.held now)
   pub counted : sink.faults first ≤ sink.faults now
+
+-- And the lines so far, each of which can be printed, are what was to be printed before what is left.
+pub record HasCollected (schedule : Schedule) (world : World) (done : ℕ) (so_far : List Line) : Type 0 where
+  pub course : IsInCourse schedule world done
+  pub whole : so_far ++ (left_at schedule done).lines ≡ (within_limit schedule).lines
+  pub items : All (NamesOnlyItems schedule.catalog) so_far
 
 -- the events, as the definitions see them
 abbrev pub events_of : List code.Event → List Event
@@ -90,11 +105,11 @@ drop-end [] (suc i) end = refl
 drop-end (x ∷ xs) zero end = absurd (omega (arith, end))
 drop-end (x ∷ xs) (suc i) end = drop-end xs i (omega (arith, end))
 
--- After all events nothing is left to be printed.
+-- After all events nothing is left to be printed, and the limit wasn't passed.
 pub left-at-end : (schedule : Schedule) (items : List code.Event) (done : ℕ) → schedule.events ≡ events_of items → length items ≤ done
-    → text_of schedule.catalog (left_at schedule done).lines ≡ []
+    → left_at schedule done ≡ record { lines = []; over = None }
 left-at-end schedule items done same end =
-    ap (λ (events : List Event). text_of schedule.catalog (run_within MAX_SENT (setup_for schedule) (world_at schedule done) events).lines)
+    ap (λ (events : List Event). run_within MAX_SENT (setup_for schedule) (world_at schedule done) events)
     (ap (drop done) same ∙ drop-map event_of done items ∙ ap events_of (drop-end items done end))
 
 -- the world after one event more
@@ -105,22 +120,33 @@ after-next setup world [] (suc i) event rest split = cc
 after-next setup world (e ∷ events) zero event rest split = let same : e ≡ event = cc in ap (after_event setup world) same
 after-next setup world (e ∷ events) (suc i) event rest split = after-next setup (after_event setup world e) events i event rest split
 
-pub start : {W : Type 0} (sink : Ghosts W) (first : W) (schedule : Schedule) (world : World)
-    → StandsFor world (opening (setup_for schedule)) → world.catalog ≡ schedule.catalog → world.mail.limit ≡ MAX_SENT → IsUnderWay sink first first schedule world 0
+pub course-start : (schedule : Schedule) (world : World)
+    → StandsFor world (opening (setup_for schedule)) → world.catalog ≡ schedule.catalog → world.mail.limit ≡ MAX_SENT → IsInCourse schedule world 0
 unfolding within_limit
-start sink first schedule world stands catalog limit = record {
-  stands = stands;
-  catalog = catalog;
-  limit = limit;
+course-start schedule world stands catalog limit = record { stands = stands; catalog = catalog; limit = limit; over = refl }
+
+pub start : {W : Type 0} (sink : Ghosts W) (form : Form) (first : W) (schedule : Schedule) (world : World)
+    → StandsFor world (opening (setup_for schedule)) → world.catalog ≡ schedule.catalog → world.mail.limit ≡ MAX_SENT → IsUnderWay sink form first first schedule world 0
+unfolding within_limit
+start sink form first schedule world stands catalog limit = record {
+  course = course-start schedule world stands catalog limit;
   whole = λ end p. p;
   prefix = λ end p. p;
-  over = refl;
   known = refl;
   counted = omega arith;
 }
 
-module _ {W : Type 0} (sink : Ghosts W) (first now next : W) (schedule : Schedule) (world : World) (done : ℕ) (event : Event)
-    (way : IsUnderWay sink first now schedule world done) (split : drop done schedule.events ≡ event ∷ drop (suc done) schedule.events) where
+pub collect-start : (schedule : Schedule) (world : World)
+    → StandsFor world (opening (setup_for schedule)) → world.catalog ≡ schedule.catalog → world.mail.limit ≡ MAX_SENT → HasCollected schedule world 0 []
+unfolding within_limit
+collect-start schedule world stands catalog limit = record {
+  course = course-start schedule world stands catalog limit;
+  whole = refl;
+  items = All-nil (NamesOnlyItems schedule.catalog);
+}
+
+module _ (schedule : Schedule) (world : World) (done : ℕ) (event : Event)
+    (course : IsInCourse schedule world done) (split : drop done schedule.events ≡ event ∷ drop (suc done) schedule.events) where
   abbrev setup : Setup
   setup = setup_for schedule
 
@@ -130,7 +156,7 @@ module _ {W : Type 0} (sink : Ghosts W) (first now next : W) (schedule : Schedul
   abbrev pub lines : List Line
   lines = lines_of_transitions (transitions_of setup is event)
 
-  abbrev after : model.World
+  abbrev pub after : model.World
   after = after_event setup is event
 
   next-world : world_at schedule (suc done) ≡ after
@@ -148,27 +174,27 @@ module _ {W : Type 0} (sink : Ghosts W) (first now next : W) (schedule : Schedul
   -- What a step says of the world in memory, said of the schedule's own catalog and limit.
 
   pub printed-by : (printed : List Line) → printed ≡ lines_of_transitions (transitions_of (setup_of world.catalog) is event) → printed ≡ lines
-  printed-by printed same = subst (λ (catalog : Declared). printed ≡ lines_of_transitions (transitions_of (setup_of catalog) is event)) way.catalog same
+  printed-by printed same = subst (λ (catalog : Declared). printed ≡ lines_of_transitions (transitions_of (setup_of catalog) is event)) course.catalog same
 
   pub stands-after : (new : World) → StandsFor new (after_event (setup_of world.catalog) is event) → StandsFor new after
-  stands-after new stands = subst (λ (catalog : Declared). StandsFor new (after_event (setup_of catalog) is event)) way.catalog stands
+  stands-after new stands = subst (λ (catalog : Declared). StandsFor new (after_event (setup_of catalog) is event)) course.catalog stands
 
   pub within-after : (new : World) → StandsFor new (after_event (setup_of world.catalog) is event) → IsSameBeside world new → over_limit MAX_SENT after ≡ None
   within-after new stands beside =
-      subst (λ (limit : ℕ). over_limit limit after ≡ None) (beside.limit ∙ way.limit) (stands-after new stands).stands.within
+      subst (λ (limit : ℕ). over_limit limit after ≡ None) (beside.limit ∙ course.limit) (stands-after new stands).stands.within
 
   over-after : (total : ℕ) → over_limit world.mail.limit (after_event (setup_of world.catalog) is event) ≡ Some total → over_limit MAX_SENT after ≡ Some total
   over-after total over =
-      subst (λ (limit : ℕ). over_limit limit after ≡ Some total) way.limit
-      (subst (λ (catalog : Declared). over_limit world.mail.limit (after_event (setup_of catalog) is event) ≡ Some total) way.catalog over)
+      subst (λ (limit : ℕ). over_limit limit after ≡ Some total) course.limit
+      (subst (λ (catalog : Declared). over_limit world.mail.limit (after_event (setup_of catalog) is event) ≡ Some total) course.catalog over)
 
-  -- The limit is passed in this event.
+  -- The limit is passed in this event, and nothing is left to be printed.
   pub passes : (total : ℕ) → over_limit world.mail.limit (after_event (setup_of world.catalog) is event) ≡ Some total
-      → (Some total ≡ (within_limit schedule).over) × (text_of schedule.catalog (left_at schedule done).lines ≡ [])
+      → (Some total ≡ (within_limit schedule).over) × ((left_at schedule done).lines ≡ [])
   passes total passed =
       let over = over-after total passed in
       let left : left_at schedule done ≡ record { lines = []; over = Some total } = left-is ∙ ap (λ (o : Option ℕ). unless_over o lines rest) over in
-      (sym (ap (λ (o : Output). o.over) left) ∙ way.over, ap (λ (o : Output). text_of schedule.catalog o.lines) left)
+      (sym (ap (λ (o : Output). o.over) left) ∙ course.over, ap (λ (o : Output). o.lines) left)
 
   module _ (within : over_limit MAX_SENT after ≡ None) where
     left-within : left_at schedule done ≡ record { lines = lines ++ (left_at schedule (suc done)).lines; over = (left_at schedule (suc done)).over }
@@ -176,30 +202,69 @@ module _ {W : Type 0} (sink : Ghosts W) (first now next : W) (schedule : Schedul
         left-is ∙ ap (λ (o : Option ℕ). unless_over o lines rest) within
         ∙ ap (λ (o : Output). unless_over None lines o) (sym rest-is)
 
-    text-within : text_of schedule.catalog (left_at schedule done).lines ≡ text_of schedule.catalog lines ++ text_of schedule.catalog (left_at schedule (suc done)).lines
-    text-within =
-        ap (λ (o : Output). text_of schedule.catalog o.lines) left-within
-        ∙ flat_map-append (line_text schedule.catalog) lines (left_at schedule (suc done)).lines
+    pub lines-within : (left_at schedule done).lines ≡ lines ++ (left_at schedule (suc done)).lines
+    lines-within = ap (λ (o : Output). o.lines) left-within
 
-    -- The event's lines are written, and the next event comes.
-    pub go_on : (new : World) → StandsFor new after → IsSameBeside world new → Appends (sink.held now) (sink.held next) (text_of schedule.catalog lines)
-        → KnownAlike (sink.held now) (sink.held next) → sink.faults now ≤ sink.faults next → IsUnderWay sink first next schedule new (suc done)
-    go_on new stands beside written known counted =
-        let text = text_of schedule.catalog lines in
-        let more = text_of schedule.catalog (left_at schedule (suc done)).lines in
-        record {
-          stands = subst (StandsFor new) (sym next-world) stands;
-          catalog = beside.catalog ∙ way.catalog;
-          limit = beside.limit ∙ way.limit;
-          whole = λ end p. way.whole end (subst (Appends (sink.held now) end) (sym text-within) (Appends-trans (sink.held now) (sink.held next) end text more written p));
-          prefix = λ end p. way.prefix end (subst (AppendsPrefix (sink.held now) end) (sym text-within) (AppendsPrefix-after (sink.held now) (sink.held next) end text more written p));
-          over = sym (ap (λ (o : Output). o.over) left-within) ∙ way.over;
-          known = known ∙ way.known;
-          counted = omega (arith, way.counted, counted);
-        }
+    pub text-within : (form : Form) → lines_in form schedule.catalog (left_at schedule done).lines
+        ≡ lines_in form schedule.catalog lines ++ lines_in form schedule.catalog (left_at schedule (suc done)).lines
+    text-within form =
+        ap (lines_in form schedule.catalog) lines-within
+        ∙ flat_map-append (line_in form schedule.catalog) lines (left_at schedule (suc done)).lines
 
-    -- A beginning of the event's lines is written.
-    pub give_up : AppendsPrefix (sink.held now) (sink.held next) (text_of schedule.catalog lines) → AppendsPrefix (sink.held first) (sink.held next) (output_within schedule)
-    give_up written =
-        way.prefix (sink.held next) (subst (AppendsPrefix (sink.held now) (sink.held next)) (sym text-within)
-        (AppendsPrefix-front (sink.held now) (sink.held next) (text_of schedule.catalog lines) (text_of schedule.catalog (left_at schedule (suc done)).lines) written))
+    -- The next event comes.
+    pub course-on : (new : World) → StandsFor new after → IsSameBeside world new → IsInCourse schedule new (suc done)
+    course-on new stands beside = record {
+      stands = subst (StandsFor new) (sym next-world) stands;
+      catalog = beside.catalog ∙ course.catalog;
+      limit = beside.limit ∙ course.limit;
+      over = sym (ap (λ (o : Output). o.over) left-within) ∙ course.over;
+    }
+
+-- The event's lines are written, and the next event comes.
+pub go_on : {W : Type 0} (sink : Ghosts W) (form : Form) (first now next : W) (schedule : Schedule) (world : World) (done : ℕ) (event : Event)
+    (way : IsUnderWay sink form first now schedule world done) (split : drop done schedule.events ≡ event ∷ drop (suc done) schedule.events)
+    (within : over_limit MAX_SENT (after schedule world done event way.course split) ≡ None)
+    (new : World) → StandsFor new (after schedule world done event way.course split) → IsSameBeside world new
+    → Appends (sink.held now) (sink.held next) (lines_in form schedule.catalog (lines schedule world done event way.course split))
+    → KnownAlike (sink.held now) (sink.held next) → sink.faults now ≤ sink.faults next → IsUnderWay sink form first next schedule new (suc done)
+go_on sink form first now next schedule world done event way split within new stands beside written known counted =
+    let text = lines_in form schedule.catalog (lines schedule world done event way.course split) in
+    let more = lines_in form schedule.catalog (left_at schedule (suc done)).lines in
+    let both = text-within schedule world done event way.course split within form in
+    record {
+      course = course-on schedule world done event way.course split within new stands beside;
+      whole = λ end p. way.whole end (subst (Appends (sink.held now) end) (sym both) (Appends-trans (sink.held now) (sink.held next) end text more written p));
+      prefix = λ end p. way.prefix end (subst (AppendsPrefix (sink.held now) end) (sym both) (AppendsPrefix-after (sink.held now) (sink.held next) end text more written p));
+      known = known ∙ way.known;
+      counted = omega (arith, way.counted, counted);
+    }
+
+-- A beginning of the event's lines is written.
+pub give_up : {W : Type 0} (sink : Ghosts W) (form : Form) (first now next : W) (schedule : Schedule) (world : World) (done : ℕ) (event : Event)
+    (way : IsUnderWay sink form first now schedule world done) (split : drop done schedule.events ≡ event ∷ drop (suc done) schedule.events)
+    → over_limit MAX_SENT (after schedule world done event way.course split) ≡ None
+    → AppendsPrefix (sink.held now) (sink.held next) (lines_in form schedule.catalog (lines schedule world done event way.course split))
+    → AppendsPrefix (sink.held first) (sink.held next) (output_within form schedule)
+give_up sink form first now next schedule world done event way split within written =
+    way.prefix (sink.held next) (subst (AppendsPrefix (sink.held now) (sink.held next)) (sym (text-within schedule world done event way.course split within form))
+    (AppendsPrefix-front (sink.held now) (sink.held next) (lines_in form schedule.catalog (lines schedule world done event way.course split))
+    (lines_in form schedule.catalog (left_at schedule (suc done)).lines) written))
+
+-- The event's lines are collected, and the next event comes.
+pub collect_on : (schedule : Schedule) (world : World) (done : ℕ) (so_far : List Line) (event : Event)
+    (collected : HasCollected schedule world done so_far) (split : drop done schedule.events ≡ event ∷ drop (suc done) schedule.events)
+    (within : over_limit MAX_SENT (after schedule world done event collected.course split) ≡ None)
+    (new : World) → StandsFor new (after schedule world done event collected.course split) → IsSameBeside world new
+    → All (NamesOnlyItems schedule.catalog) (lines schedule world done event collected.course split)
+    → HasCollected schedule new (suc done) (so_far ++ lines schedule world done event collected.course split)
+collect_on schedule world done so_far event collected split within new stands beside items =
+    let now = lines schedule world done event collected.course split in
+    let more = (left_at schedule (suc done)).lines in
+    record {
+      course = course-on schedule world done event collected.course split within new stands beside;
+      whole =
+          append_assoc so_far now more
+          ∙ sym (ap (λ (ls : List Line). so_far ++ ls) (lines-within schedule world done event collected.course split within))
+          ∙ collected.whole;
+      items = All-append (NamesOnlyItems schedule.catalog) so_far now collected.items items;
+    }

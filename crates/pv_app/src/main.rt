@@ -2,8 +2,12 @@
 #![tactic(auto)]
 
 mod app;
+mod command;
+mod form;
+mod printed;
 mod run;
 mod status;
+mod summary;
 
 use crate::app::polydb;
 use crate::status::Status;

@@ -6,7 +6,7 @@ ghost use Rattle.std.specs.Prelude.{◌≡◌};
 pub enum Status {
     /// The whole input was read, and the whole text written.
     Done = 0,
-    /// The words aren't the one word `run`. The usage line was written.
+    /// The words are no command. The usage line was written.
     Usage = 2,
     /// The input is malformed. Its first line at fault was named.
     Malformed = 3,

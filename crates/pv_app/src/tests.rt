@@ -64,7 +64,17 @@ const REPORTS: &str =
 const REPORTS_OUTPUT: &str =
     "order\ncommitted\nopen\nitem a -1\nend\ntxn 0.1.0\ncommit 0.1.0 certain nothing\norder 0.1.0\ncommitted 0.1.0\nopen\nitem a 1\nend\ntxn 0.1.1\ncommit 0.1.1 certain nothing\n";
 
-const USAGE: &str = "usage: polydb run\n";
+const USAGE: &str = "usage: polydb run | json | make N | big N\n";
+
+const FIRST_JSON: &str = "\
+{\"txn\":\"0.1.0\"}
+{\"commit\":\"0.1.0\",\"replies\":[\"nothing\"]}
+{\"order\":[\"0.1.0\"]}
+{\"committed\":[\"0.1.0\"]}
+{\"open\":[]}
+{\"cases\":[{\"value\":101,\"when\":[]}],\"item\":\"a\"}
+{\"end\":true}
+";
 
 // the status, and what was written, of a call over memory
 fn call(
@@ -150,20 +160,47 @@ fn assert_prints(
 }
 
 #[test]
+fn json_writes_each_line_as_an_object(rt: HostRuntime) -> Result<(), Fail> {
+    let alloc = rt.alloc();
+    for (input, status, output) in [
+        (FIRST, Status::Done, FIRST_JSON),
+        ("", Status::Malformed, "line 1: sites expected\n"),
+    ] {
+        let (answered, written) = call(alloc, &["json"], input.as_bytes(), &[], &[])?;
+        assert_eq!(rt; answered, status, "at {input}");
+        assert_eq!(rt; written.as_slice(), output.as_bytes(), "at {input}");
+    }
+    Ok(())
+}
+
+// What the made schedule's run prints is counted by a script of the gate.
+#[test]
+fn a_made_schedule_is_written_and_summarized(rt: HostRuntime) -> Result<(), Fail> {
+    let alloc = rt.alloc();
+    let (status, made) = call(alloc, &["make", "7"], b"", &[0], &[])?;
+    assert_eq!(rt; status, Status::Done);
+    assert!(rt; made.starts_with(b"sites 16\nitem i0 0 1000\n"));
+    let (status, summary) = call(alloc, &["big", "7"], b"", &[0], &[])?;
+    assert_eq!(rt; status, Status::Done);
+    assert!(rt; summary.starts_with(b"events "));
+    Ok(())
+}
+
+#[test]
 fn other_words_are_answered_by_the_usage_line(rt: HostRuntime) -> Result<(), Fail> {
     let alloc = rt.alloc();
-    let (none, nothing) = call(alloc, &[], FIRST.as_bytes(), &[], &[])?;
-    let (two, after_two) = call(alloc, &["run", "7"], FIRST.as_bytes(), &[], &[])?;
-    let (help, after_help) = call(alloc, &["--help"], FIRST.as_bytes(), &[], &[])?;
-    for status in [none, two, help] {
-        assert_eq!(rt; status, Status::Usage);
-    }
-    for written in [
-        nothing.as_slice(),
-        after_two.as_slice(),
-        after_help.as_slice(),
+    for words in [
+        [].as_slice(),
+        &["--help"],
+        &["run", "7"],
+        &["make"],
+        &["big", "07"],
+        &["big", "+7"],
+        &["make", "2147483648"],
     ] {
-        assert_eq!(rt; written, USAGE.as_bytes());
+        let (status, written) = call(alloc, words, FIRST.as_bytes(), &[0], &[])?;
+        assert_eq!(rt; status, Status::Usage);
+        assert_eq!(rt; written.as_slice(), USAGE.as_bytes());
     }
     Ok(())
 }

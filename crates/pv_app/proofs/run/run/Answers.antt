@@ -4,8 +4,8 @@ use Rattle.std.proofs.KnownBytes.{Appends-nil}
 use Rattle.std.specs.Io.KnownBytes.{Appends}
 use Rattle.pv_base.specs.Catalog.{Declared}
 use Rattle.pv_io.specs.Stream.{AppendsPrefix}
+use Rattle.pv_protocol.specs.Limit.{Output}
 use Rattle.pv_protocol.specs.Lines.{Line}
-use Rattle.pv_protocol.specs.LineText.{text_of}
 use Rattle.pv_protocol.specs.WellFormed.{IsWellFormed}
 use Rattle.pv_report.specs.NamesOnlyItems.{NamesOnlyItems}
 use Rattle.pv_script.specs.LineView.{line_of}
@@ -13,6 +13,7 @@ use Rattle.pv_script.specs.ScheduleView.{event_of, schedule_of}
 use Rattle.pv_site.specs.SiteState.{setup_of}
 use Rattle.pv_world.specs.Steps.{Steps}
 use Rattle.pv_world.specs.declared.error.WorldError.{WorldError}
+use Rattle.pv_app.specs.Forms.{lines_in}
 use Rattle.pv_app.proofs.LineItems.{lines-name-items}
 use Rattle.pv_app.proofs.OutputLemmas.{AppendsPrefix-none, on_any_err}
 use Rattle.pv_app.proofs.RunLemmas.{IsUnderWay, All-next, drop-events_of, left_at, left-at-end, start, world_at, go_on, give_up, passes, printed-by, stands-after, within-after}
@@ -20,7 +21,7 @@ use Rattle.pv_app.proofs.run.run.Goals as goal
 
 pub loop-event-init : goal.loop-event-init
 loop-event-init g c =
-    start g.W.Sink c.args.sink.now (schedule_of c.args.schedule.now) c.in_ok-world.world c.in_ok-world.ensures.stands c.in_ok-world.ensures.catalog c.in_ok-world.ensures.limit
+    start g.W.Sink c.args.form c.args.sink.now (schedule_of c.args.schedule.now) c.in_ok-world.world c.in_ok-world.ensures.stands c.in_ok-world.ensures.catalog c.in_ok-world.ensures.limit
 
 pub step-requires-clause-event : goal.step-requires-clause-event
 step-requires-clause-event g c =
@@ -29,7 +30,7 @@ step-requires-clause-event g c =
     let i = c.loop-event.event-index in
     let event = c.event-item.result in
     let split = drop-events_of events c.args.schedule.now.events.items c.deref-event-items.ensures.value i event c.loop-event-test.true c.event-item.is in
-    subst (λ (catalog : Declared). IsWellFormed catalog (event_of event)) (sym c.loop-event.invariant.catalog)
+    subst (λ (catalog : Declared). IsWellFormed catalog (event_of event)) (sym c.loop-event.invariant.course.catalog)
     (All-next (IsWellFormed schedule.catalog) schedule.events i (event_of event) _ c.requires.well_formed split)
 
 pub write_lines-requires : goal.write_lines-requires
@@ -37,8 +38,8 @@ write_lines-requires g c =
     let world = c.loop-event.world in
     let is = world_at (schedule_of c.args.schedule.now) c.loop-event.event-index in
     let event = event_of c.event-item.result in
-    let steps = c.in-Ok.ensures is c.loop-event.invariant.stands in
-    subst (λ (catalog : Declared). All (NamesOnlyItems catalog) (map line_of c.deref.result.now)) c.loop-event.invariant.catalog
+    let steps = c.in-Ok.ensures is c.loop-event.invariant.course.stands in
+    subst (λ (catalog : Declared). All (NamesOnlyItems catalog) (map line_of c.deref.result.now)) c.loop-event.invariant.course.catalog
     (subst (All (NamesOnlyItems world.catalog)) (sym (ap (map line_of) c.deref.ensures.value ∙ steps.2)) (lines-name-items (setup_of world.catalog) is event))
 
 pub loop-event-preserved : goal.loop-event-preserved
@@ -54,13 +55,13 @@ loop-event-preserved g c =
     let event = event_of c.event-item.result in
     let way = c.loop-event.invariant in
     let split = drop-events_of events c.args.schedule.now.events.items c.deref-event-items.ensures.value i c.event-item.result c.loop-event-test.true c.event-item.is in
-    let steps = c.in-Ok.ensures (world_at schedule i) way.stands in
-    let printed = printed-by g.W.Sink first now next schedule world i event way split (map line_of c.deref.result.now) (ap (map line_of) c.deref.ensures.value ∙ steps.2) in
+    let steps = c.in-Ok.ensures (world_at schedule i) way.course.stands in
+    let printed = printed-by schedule world i event way.course split (map line_of c.deref.result.now) (ap (map line_of) c.deref.ensures.value ∙ steps.2) in
     let writes = c.in_ok-write_lines-in-Ok.ensures in
-    let written = subst (λ (ls : List Line). Appends (g.W.Sink.held now) (g.W.Sink.held next) (text_of schedule.catalog ls)) printed writes.written in
-    subst (λ (k : ℕ). IsUnderWay g.W.Sink first next schedule new k) (sym (add-one i))
-    (go_on g.W.Sink first now next schedule world i event way split (within-after g.W.Sink first now next schedule world i event way split new steps.0 steps.1)
-    new (stands-after g.W.Sink first now next schedule world i event way split new steps.0) steps.1 written writes.known writes.counted)
+    let written = subst (λ (ls : List Line). Appends (g.W.Sink.held now) (g.W.Sink.held next) (lines_in c.args.form schedule.catalog ls)) printed writes.written in
+    subst (λ (k : ℕ). IsUnderWay g.W.Sink c.args.form first next schedule new k) (sym (add-one i))
+    (go_on g.W.Sink c.args.form first now next schedule world i event way split (within-after schedule world i event way.course split new steps.0 steps.1)
+    new (stands-after schedule world i event way.course split new steps.0) steps.1 written writes.known writes.counted)
 
 pub returns-in_err-write_lines-in-Ok-clause-writes : goal.returns-in_err-write_lines-in-Ok-clause-writes
 returns-in_err-write_lines-in-Ok-clause-writes g c =
@@ -75,14 +76,14 @@ returns-in_err-write_lines-in-Ok-clause-writes g c =
     let event = event_of c.event-item.result in
     let way = c.loop-event.invariant in
     let split = drop-events_of events c.args.schedule.now.events.items c.deref-event-items.ensures.value i c.event-item.result c.loop-event-test.true c.event-item.is in
-    let steps = c.in-Ok.ensures (world_at schedule i) way.stands in
-    let printed = printed-by g.W.Sink first now next schedule world i event way split (map line_of c.deref.result.now) (ap (map line_of) c.deref.ensures.value ∙ steps.2) in
+    let steps = c.in-Ok.ensures (world_at schedule i) way.course.stands in
+    let printed = printed-by schedule world i event way.course split (map line_of c.deref.result.now) (ap (map line_of) c.deref.ensures.value ∙ steps.2) in
     let failed = c.in_err-write_lines-in-Ok.ensures in
-    let written = subst (λ (ls : List Line). AppendsPrefix (g.W.Sink.held now) (g.W.Sink.held next) (text_of schedule.catalog ls)) printed failed.prefix in
+    let written = subst (λ (ls : List Line). AppendsPrefix (g.W.Sink.held now) (g.W.Sink.held next) (lines_in c.args.form schedule.catalog ls)) printed failed.prefix in
     record {
       written = search rules;
       prefix = on_any_err c.from_residual-in_err-write_lines-in-Ok.result _
-          (give_up g.W.Sink first now next schedule world i event way split (within-after g.W.Sink first now next schedule world i event way split new steps.0 steps.1) written);
+          (give_up g.W.Sink c.args.form first now next schedule world i event way split (within-after schedule world i event way.course split new steps.0 steps.1) written);
       known = failed.known ∙ way.known;
       fault = search rules;
       counted = omega (arith, way.counted, failed.counted);
@@ -96,8 +97,8 @@ returns-in-Err-SentLimit-clause-over g c =
     let way = c.loop-event.invariant in
     let split = drop-events_of events c.args.schedule.now.events.items c.deref-event-items.ensures.value i c.event-item.result c.loop-event-test.true c.event-item.is in
     let steps = subst (λ (e : WorldError). Steps c.loop-event.world c.step.new.self (event_of c.event-item.result) (world_at schedule i) (Err e)) c.in-Err-SentLimit.field-0-is
-    (c.in-Err-SentLimit.ensures (world_at schedule i) way.stands) in
-    let passed = passes g.W.Sink c.args.sink.now c.loop-event.sink c.loop-event.sink schedule c.loop-event.world i (event_of c.event-item.result) way split c.in-Err-SentLimit.total steps in
+    (c.in-Err-SentLimit.ensures (world_at schedule i) way.course.stands) in
+    let passed = passes schedule c.loop-event.world i (event_of c.event-item.result) way.course split c.in-Err-SentLimit.total steps in
     ap (λ (total : ℕ). Some total) c.in-Err-SentLimit.total-is ∙ passed.0
 
 pub returns-in-Err-SentLimit-clause-writes : goal.returns-in-Err-SentLimit-clause-writes
@@ -109,10 +110,10 @@ returns-in-Err-SentLimit-clause-writes g c =
     let way = c.loop-event.invariant in
     let split = drop-events_of events c.args.schedule.now.events.items c.deref-event-items.ensures.value i c.event-item.result c.loop-event-test.true c.event-item.is in
     let steps = subst (λ (e : WorldError). Steps c.loop-event.world c.step.new.self (event_of c.event-item.result) (world_at schedule i) (Err e)) c.in-Err-SentLimit.field-0-is
-    (c.in-Err-SentLimit.ensures (world_at schedule i) way.stands) in
-    let none = (passes g.W.Sink c.args.sink.now c.loop-event.sink c.loop-event.sink schedule c.loop-event.world i (event_of c.event-item.result) way split c.in-Err-SentLimit.total steps).1 in
+    (c.in-Err-SentLimit.ensures (world_at schedule i) way.course.stands) in
+    let none = (passes schedule c.loop-event.world i (event_of c.event-item.result) way.course split c.in-Err-SentLimit.total steps).1 in
     record {
-      written = way.whole now (subst (Appends now now) (sym none) (Appends-nil now));
+      written = way.whole now (subst (λ (ls : List Line). Appends now now (lines_in c.args.form schedule.catalog ls)) (sym none) (Appends-nil now));
       prefix = tt;
       known = way.known;
       fault = tt;
@@ -126,7 +127,7 @@ returns-in-Err-NoMemory-clause-writes g c =
     let way = c.loop-event.invariant in
     record {
       written = tt;
-      prefix = way.prefix now (AppendsPrefix-none now (text_of schedule.catalog (left_at schedule c.loop-event.event-index).lines));
+      prefix = way.prefix now (AppendsPrefix-none now (lines_in c.args.form schedule.catalog (left_at schedule c.loop-event.event-index).lines));
       known = way.known;
       fault = search rules;
       counted = way.counted;
@@ -140,9 +141,9 @@ returns-clause-writes g c =
     let same = ap length c.deref-event-items.ensures.value in
     let end : length items ≤ c.loop-event.event-index = omega (arith, same, c.loop-event-test.false) in
     let way = c.loop-event.invariant in
-    let none = left-at-end schedule items c.loop-event.event-index refl end in
+    let none = ap (λ (o : Output). o.lines) (left-at-end schedule items c.loop-event.event-index refl end) in
     record {
-      written = way.whole now (subst (Appends now now) (sym none) (Appends-nil now));
+      written = way.whole now (subst (λ (ls : List Line). Appends now now (lines_in c.args.form schedule.catalog ls)) (sym none) (Appends-nil now));
       prefix = tt;
       known = way.known;
       fault = tt;

@@ -5,4 +5,4 @@ use Rattle.pv_app.proofs.RunLemmas.{IsUnderWay}
 use Rattle.pv_app.proofs.run.run.Given as goal
 
 abbrev pub invariant-loop-event : goal.invariant-loop-event
-invariant-loop-event g l = IsUnderWay g.W.Sink l.initial.sink l.sink (schedule_of l.schedule) l.world l.event-index
+invariant-loop-event g l = IsUnderWay g.W.Sink l.form l.initial.sink l.sink (schedule_of l.schedule) l.world l.event-index

@@ -1,0 +1,22 @@
+-- What the words after the program's name ask for.
+use Rattle.std.specs.Prelude.{◌≡◌, ℕ, ◌≤◌, List, [], ◌∷◌, codes, decimal}
+use Rattle.pv_app.specs.declared.command.Command.{Command}
+use Rattle.pv_app.specs.declared.command.Command.TheVariants.{Run, Make, Big}
+use Rattle.pv_app.specs.declared.command.TheConstants.{MAX_NUMBER}
+use Rattle.pv_app.specs.declared.form.Form.{Form}
+use Rattle.pv_app.specs.declared.form.Form.TheVariants.{Text, Json}
+
+-- the word for running a schedule, by how its lines are written
+unfoldable pub word_of : Form → List ℕ
+word_of Text = codes "run"
+word_of Json = codes "json"
+
+-- a word, and a number in decimal without a leading zero
+abbrev pub AreNumbered : List (List ℕ) → List ℕ → ℕ → Type 0
+AreNumbered words word n = (words ≡ word ∷ decimal n ∷ []) × (n ≤ MAX_NUMBER)
+
+-- The words are this command.
+abbrev pub IsCommand : List (List ℕ) → Command → Type 0
+IsCommand words (Run form) = words ≡ word_of form ∷ []
+IsCommand words (Make n) = AreNumbered words (codes "make") n
+IsCommand words (Big n) = AreNumbered words (codes "big") n

@@ -1,0 +1,79 @@
+// What the words after the program's name ask for.
+ghost use Rattle.std.specs.Prelude.{◌≡◌, ℕ, ◌≤◌, [], ◌∷◌, map, decimal, None, IfSome};
+ghost use Rattle.std.specs.String.{string_bytes};
+ghost use Rattle.pv_app.specs.Commands.{IsCommand};
+
+use crate::form::Form;
+use itoa::Buffer;
+
+/// The greatest number of a schedule that is made.
+pub const MAX_NUMBER: u32 = 2_147_483_647;
+
+/// What the program is asked to do.
+#[derive(Clone, Copy, Debug, PartialEq, Eq)]
+pub enum Command {
+    /// Read a schedule, run it, and write what it prints in this form.
+    Run(Form),
+    /// Write the schedule of this number, at most [`MAX_NUMBER`].
+    Make(u32),
+    /// Make the schedule of this number, at most [`MAX_NUMBER`], run it, and write the summary of what it prints.
+    Big(u32),
+}
+
+/// The command that the words are, or `None` where they are no command.
+pub fn command_of(words: &[String]) -> Option<Command>
+    ensures some { IfSome result (IsCommand (map string_bytes words.now)) }
+    ensures none { result ≡ None → (command : Command) → IsCommand (map string_bytes words.now) command → ⊥ }
+{
+    match words {
+        [word] => run_by(word.as_str()),
+        [word, number] => numbered_by(word.as_str(), number.as_str()),
+        _ => None,
+    }
+}
+
+// The command of one word.
+fn run_by(word: &str) -> Option<Command>
+    ensures some { IfSome result (IsCommand (word.now ∷ [])) }
+    ensures none { result ≡ None → (command : Command) → IsCommand (word.now ∷ []) command → ⊥ }
+{
+    if word == "run" {
+        return Some(Command::Run(Form::Text));
+    }
+    if word == "json" {
+        return Some(Command::Run(Form::Json));
+    }
+    None
+}
+
+// The command of a word and a number.
+fn numbered_by(word: &str, text: &str) -> Option<Command>
+    ensures some { IfSome result (IsCommand (word.now ∷ text.now ∷ [])) }
+    ensures none { result ≡ None → (command : Command) → IsCommand (word.now ∷ text.now ∷ []) command → ⊥ }
+{
+    let number = number_of(text)?;
+    if word == "make" {
+        return Some(Command::Make(number));
+    }
+    if word == "big" {
+        return Some(Command::Big(number));
+    }
+    None
+}
+
+// The number of a schedule, in decimal without a leading zero.
+fn number_of(text: &str) -> Option<u32>
+    ensures some { IfSome result (λ n. (text.now ≡ decimal n) × (n ≤ MAX_NUMBER)) }
+    ensures none { result ≡ None → (n : ℕ) → n ≤ MAX_NUMBER → text.now ≡ decimal n → ⊥ }
+{
+    let Ok(number) = text.parse::<u32>() else {
+        return None;
+    };
+    let mut digits = Buffer::new();
+    // `parse` takes a `+` and leading zeros too.
+    if number <= MAX_NUMBER && digits.format(number) == text {
+        Some(number)
+    } else {
+        None
+    }
+}
