@@ -1,6 +1,6 @@
 -- What the calls of a bay do.
 use Rattle.std.specs.Prelude.{◌≡◌, ◌≢◌, ℕ, ◌==◌, true, false, if◌then◌else◌, List, Some, Result, Ok, Err}
-use Rattle.pv_base.specs.Fault.{risen, Rose}
+use Rattle.pv_base.specs.Fault.{risen}
 use Rattle.pv_law_disk.specs.DiskModel.{DiskModel}
 use Rattle.pv_disk.specs.BayModel.{BayModel}
 use Rattle.pv_disk.specs.declared.bay_error.BayError.{BayError}
@@ -25,7 +25,7 @@ module _ {W : Type 0} (M : BayModel W) where
     pub kept : M.tells old ≡ true → (M.berth new site).kept ≡ Some bytes
 
 module _ {W V : Type 0} (M : BayModel W) (D : DiskModel V) where
-  -- The site's disk is handed out with a count of 0. It reads what the one that was handed back last did.
+  -- The site's disk is handed out with a count of 0. It reads what the one that was handed back last did, or, before one was, the first one.
   pub record HandsOut (old new : W) (site : ℕ) (disk : V) : Type 0 where
     pub unfailed : D.faults disk ≡ 0
     pub holds : M.tells old ≡ true → D.content disk ≡ Some (M.berth old site).holds
@@ -35,7 +35,7 @@ module _ {W V : Type 0} (M : BayModel W) (D : DiskModel V) where
   -- What asking for a site's disk does, by its answer.
   abbrev pub Asks : W → W → ℕ → Result V BayError → Type 0
   Asks old new site (Ok disk) = HandsOut old new site disk
-  Asks old new site (Err Failed) = HandsOutNone M old new × Rose (M.faults old) (M.faults new)
+  Asks old new site (Err Failed) = HandsOutNone M old new × (M.faults new ≡ risen (M.faults old))
   Asks old new site (Err NoMemory) = HandsOutNone M old new × (M.faults new ≡ M.faults old)
 
   -- This disk is handed back. The count of the site rises where a call of the disk had failed, and only there.

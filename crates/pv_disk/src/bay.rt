@@ -18,9 +18,10 @@ pub trait Bay {
     /// The bay as the clauses below see it: what it says of each site, and how often it failed.
     ghost model: { BayModel Self };
 
-    /// Hands out the disk of a site, which isn't out. No call of the disk has failed, as its count says. It reads what the disk handed back last did.
+    /// Hands out the disk of a site, which isn't out. No call of the disk has failed, as its count says. It reads what the disk handed back last did, or,
+    /// before one was, the first one.
     ///
-    /// - [`BayError::Failed`]: the bay failed, and counted that. Nothing else changed.
+    /// - [`BayError::Failed`]: the bay failed, and counted that. No disk is out; on a folder an empty file may have been made.
     /// - [`BayError::NoMemory`]: as it says. Nothing changed.
     fn disk(&mut self, site: SiteId) -> Result<Self::D, BayError>
         requires { (model.berth self.old site.0).is_out ≡ false }

@@ -10,7 +10,7 @@ use std::marker::Model;
 use std::os::unix::fs::FileExt;
 
 /// A disk on a file. What it holds isn't known. Each error of the file counts as a fault, and so does a file longer than
-/// [`MAX_LENGTH`](pv_base::MAX_LENGTH), a read that ends before its bytes are there, and a write that takes fewer.
+/// [`MAX_LENGTH`](pv_base::MAX_LENGTH), a read that ends before its bytes are there, and a write that can't be finished.
 #[derive(Drop)]
 pub struct FileDisk {
     /// The file, open for reading and writing.

@@ -19,7 +19,7 @@ pub(crate) struct FolderBerth {
 }
 
 /// A bay on the current folder. The disk of site s is the file `site-s.pv`, which is made empty where it isn't there. What the files hold isn't
-/// known, and a disk in memory isn't kept.
+/// known, and a disk in memory isn't kept. Two bays on one folder aren't kept apart, and the folder is synced each time a disk is asked for.
 #[derive(Drop)]
 pub struct FolderBay<R: Files<File = File>> {
     /// What opens the files.

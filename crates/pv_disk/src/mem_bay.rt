@@ -70,6 +70,8 @@ impl Bay for MemBay {
         ensures effect { Asks mem_bay mem_model self.old self.new site.0 result }
         ensures past { IsErr result ↔ (length self.old.berths ≤ site.0) }
         ensures disk { IfOk result (λ disk. option_map (λ berth. berth.last) (slice_get self.old.berths site.0) ≡ Some disk) }
+        ensures whole { IfOk result (λ _. (berth : MemBerth) → slice_get self.old.berths site.0 ≡ Some berth →
+            self.new ≡ record self.old { berths = slice_set self.old.berths site.0 (record berth { is_out = true }) }) }
         ensures failed { OnErr result (self.new ≡ record self.old { faults = risen self.old.faults }) }
     {
         let at = site.0 as usize;
