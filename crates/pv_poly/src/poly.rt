@@ -71,7 +71,7 @@ impl<V: Exact> Poly<V> {
     ///
     /// `TooManyOutcomes` has the number of outcomes that it would name, where these are more than [`HELD_NAMES`]. Takes time in proportion to
     /// the cases of both and of the result, times the names and, to count these, the logarithm of the literals. Where it is refused, the tree
-    /// of the choice hasn't been made. Between two values that name nothing no tree is made.
+    /// of the choice hasn't been made. Between two different values that name nothing no tree is made.
     pub fn choose(
         alloc: Global,
         txn: TxnId,
