@@ -7,7 +7,7 @@ use Rattle.std.proofs.lemmas.List.Filters.{length-filter_more}
 use Rattle.pv_protocol.specs.Lines as model
 use Rattle.pv_script.specs.LineView.{line_of}
 use Rattle.pv_script.specs.declared.line.Line.{Line}
-use Rattle.pv_app.specs.Summary.{count, is_total, latest, later, number_or_none, total_in}
+use Rattle.pv_app.specs.Summary.{count, is_total, latest, later, or_zero, total_in}
 
 -- the lines, as the definitions see them
 abbrev pub seen : List Line → List model.Line
@@ -46,18 +46,18 @@ count-step is lines i line so before after below at said so_far counted =
     counted ∙ ap (λ (n : ℕ). n + cond so 1 0) so_far ∙ ap (λ (b : Bool). count is (take i (seen lines)) + cond b 1 0) said
     ∙ sym (count-next is lines i line below at)
 
-number-later : (found said : Option ℕ) → number_or_none (later found said) ≡ unwrap_or said (number_or_none found)
+number-later : (found said : Option ℕ) → or_zero (later found said) ≡ unwrap_or said (or_zero found)
 number-later found None = refl
 number-later found (Some n) = refl
 
 -- The latest number goes on.
 pub number-step : (says : model.Line → Option ℕ) (lines : List Line) (i : ℕ) (line : Line) (said : Option ℕ) (before after : ℕ)
-    → i < length lines → line ≡ get_or lines i line → said ≡ says (line_of line) → before ≡ number_or_none (latest says None (take i (seen lines)))
-    → after ≡ unwrap_or said before → after ≡ number_or_none (latest says None (take (i + 1) (seen lines)))
+    → i < length lines → line ≡ get_or lines i line → said ≡ says (line_of line) → before ≡ or_zero (latest says None (take i (seen lines)))
+    → after ≡ unwrap_or said before → after ≡ or_zero (latest says None (take (i + 1) (seen lines)))
 number-step says lines i line said before after below at is so_far found =
-    found ∙ ap (unwrap_or said) so_far ∙ ap (λ (s : Option ℕ). unwrap_or s (number_or_none (latest says None (take i (seen lines))))) is
+    found ∙ ap (unwrap_or said) so_far ∙ ap (λ (s : Option ℕ). unwrap_or s (or_zero (latest says None (take i (seen lines))))) is
     ∙ sym (number-later (latest says None (take i (seen lines))) (says (line_of line)))
-    ∙ ap number_or_none (sym (latest-next says None lines i line below at))
+    ∙ ap or_zero (sym (latest-next says None lines i line below at))
 
 later-tested : (found : Option model.Line) (line : model.Line) (so : Bool) → cond so (Some line) found ≡ later found (cond so (Some line) None)
 later-tested found line true = refl

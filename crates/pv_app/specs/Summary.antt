@@ -1,4 +1,4 @@
--- The summary of a run: how much of what it printed, what its last report says, and its last total.
+-- The summary of a run: counts of its lines, what its last report says, and its last total.
 use Rattle.std.specs.Prelude.{ℕ, Bool, true, false, List, [], ◌∷◌, ◌++◌, length, filter, codes, decimal, Option, Some, None, if◌then◌else◌}
 use Rattle.std.specs.Option.{option_map_or}
 use Rattle.pv_base.specs.Catalog.{Declared}
@@ -54,9 +54,9 @@ abbrev pub latest : {A : Type 0} → (Line → Option A) → Option A → List L
 latest says found [] = found
 latest says found (line ∷ lines) = latest says (later found (says line)) lines
 
--- a number that none is said of is 0
-abbrev pub number_or_none : Option ℕ → ℕ
-number_or_none said = option_map_or (λ n. n) said 0
+-- 0 where no line says a number
+abbrev pub or_zero : Option ℕ → ℕ
+or_zero said = option_map_or (λ n. n) said 0
 
 -- a word and a number on a line of their own
 abbrev pub counted_line : List ℕ → ℕ → List ℕ
@@ -67,9 +67,9 @@ unfoldable pub summary_text : Declared → ℕ → List Line → List ℕ
 summary_text catalog events lines =
     counted_line (codes "events") events
     ++ (counted_line (codes "transactions") (count begins_txn lines)
-    ++ (counted_line (codes "committed") (number_or_none (latest committed_in None lines))
+    ++ (counted_line (codes "committed") (or_zero (latest committed_in None lines))
     ++ (counted_line (codes "refused") (count refuses_txn lines)
-    ++ (counted_line (codes "open") (number_or_none (latest open_in None lines))
+    ++ (counted_line (codes "open") (or_zero (latest open_in None lines))
     ++ option_map_or (line_text catalog) (latest total_in None lines) []))))
 
 -- the summary of the run of a schedule

@@ -17,7 +17,7 @@ ghost use Rattle.pv_app.specs.Summary.{summary_of};
 
 use crate::command::{Command, command_of};
 use crate::form::Form;
-use crate::printed::print_all;
+use crate::printed::run_to_lines;
 use crate::run::{RunEnd, run};
 use crate::status::Status;
 use crate::summary::sum_up;
@@ -98,7 +98,7 @@ pub fn polydb<R: Source, W: Sink>(
     match command_of(words) {
         Some(Command::Run(form)) => read_and_run(alloc, form, source, sink),
         Some(Command::Make(number)) => write_made(alloc, number, sink),
-        Some(Command::Big(number)) => summarize(alloc, number, sink),
+        Some(Command::Big(number)) => write_summary_of_number(alloc, number, sink),
         None => status_of_write(write_all(sink, USAGE), Status::Usage),
     }
 }
@@ -172,7 +172,7 @@ fn write_made<W: Sink>(alloc: Global, number: u32, sink: &mut W) -> Status
 }
 
 // Makes the schedule of this number, runs it, and writes the summary.
-fn summarize<W: Sink>(alloc: Global, number: u32, sink: &mut W) -> Status
+fn write_summary_of_number<W: Sink>(alloc: Global, number: u32, sink: &mut W) -> Status
     ensures answered { Answers W.Sink summary_of (λ schedule. []) (made_text number) result sink.old sink.new }
     ensures prefix { (status : Status) (output : List ℕ) → IsSummaryAnswer (made_text number) status output →
         WritesPrefix W.Sink sink.old sink.new output }
@@ -187,11 +187,11 @@ fn summarize<W: Sink>(alloc: Global, number: u32, sink: &mut W) -> Status
     if text.len() as u64 > MAX_INPUT {
         return Status::TooLong;
     }
-    answer_in_short(alloc, &text, sink)
+    write_summary_of_text(alloc, &text, sink)
 }
 
 // The summary of the run of a text that is to be a schedule.
-fn answer_in_short<W: Sink>(alloc: Global, input: &[u8], sink: &mut W) -> Status
+fn write_summary_of_text<W: Sink>(alloc: Global, input: &[u8], sink: &mut W) -> Status
     requires { length input.now ≤ MAX_INPUT }
     ensures answered { Answers W.Sink summary_of (λ schedule. []) input.now result sink.old sink.new }
     ensures prefix { (status : Status) (output : List ℕ) → IsSummaryAnswer input.now status output →
@@ -203,14 +203,14 @@ fn answer_in_short<W: Sink>(alloc: Global, input: &[u8], sink: &mut W) -> Status
 {
     schedules_are_well_formed();
     match read_schedule(alloc, input) {
-        Ok(schedule) => write_summary(alloc, &schedule, sink),
+        Ok(schedule) => write_summary_of_run(alloc, &schedule, sink),
         Err(ScriptError::Malformed { line, cause }) => refuse(alloc, line, cause, sink),
         Err(ScriptError::NoMemory) => Status::NoMemory,
     }
 }
 
 // Writes the summary of the run of a schedule, and nothing where the messages pass the limit.
-fn write_summary<W: Sink>(alloc: Global, schedule: &Schedule, sink: &mut W) -> Status
+fn write_summary_of_run<W: Sink>(alloc: Global, schedule: &Schedule, sink: &mut W) -> Status
     requires well_formed { All (IsWellFormed schedule.now.catalog) (schedule_of schedule.now).events }
     requires plans { All (HasPlan schedule.now.catalog) schedule.now.events.items }
     ensures answered { (input : List ℕ) → length input ≤ MAX_INPUT → IsSchedule input (schedule_of schedule.now) →
@@ -220,7 +220,7 @@ fn write_summary<W: Sink>(alloc: Global, schedule: &Schedule, sink: &mut W) -> S
     ensures fault { result ≡ Status.WriteFault → HasFailed W.Sink sink.old sink.new }
     ensures others { (result ≡ Status.Done) ⊎ ((result ≡ Status.SentLimit) ⊎ ((result ≡ Status.WriteFault) ⊎ (result ≡ Status.NoMemory))) }
 {
-    let Ok(printed) = print_all(alloc, schedule) else {
+    let Ok(printed) = run_to_lines(alloc, schedule) else {
         return Status::NoMemory;
     };
     if printed.over.is_some() {

@@ -6,7 +6,7 @@ ghost use Rattle.pv_app.specs.Commands.{IsCommand};
 use crate::form::Form;
 use itoa::Buffer;
 
-/// The greatest number of a schedule that is made.
+/// The greatest number of a schedule that is made. The generator's numbers are below the one after it, so a greater one would make nothing new.
 pub const MAX_NUMBER: u32 = 2_147_483_647;
 
 /// What the program is asked to do.

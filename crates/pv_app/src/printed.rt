@@ -16,12 +16,12 @@ use std::alloc::Global;
 pub struct Printed {
     /// The lines, up to the event whose messages pass the limit on bytes, if there is one.
     pub lines: Vec<Line>,
-    /// How many bytes all messages would have there.
+    /// How many bytes all messages have with those of that event, up to the first one that passes the limit.
     pub over: Option<u64>,
 }
 
 /// Runs a schedule, and answers all that it prints. Takes time as a run does, and memory in proportion to the lines.
-pub fn print_all(alloc: Global, schedule: &Schedule) -> Result<Printed, NoMemory>
+pub fn run_to_lines(alloc: Global, schedule: &Schedule) -> Result<Printed, NoMemory>
     requires well_formed { All (IsWellFormed schedule.now.catalog) (schedule_of schedule.now).events }
     requires plans { All (HasPlan schedule.now.catalog) schedule.now.events.items }
     ensures lines { IfOk result (λ printed. map line_of printed.lines.items ≡ (within_limit (schedule_of schedule.now)).lines) }

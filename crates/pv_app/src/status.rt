@@ -4,7 +4,7 @@ ghost use Rattle.std.specs.Prelude.{◌≡◌};
 /// How a call of the program ended. The numbers are the exit codes.
 #[derive(Clone, Copy, Debug, PartialEq, Eq)]
 pub enum Status {
-    /// The whole input was read, and the whole text written.
+    /// The whole text was written and, for the commands that read one, the whole input read.
     Done = 0,
     /// The words are no command. The usage line was written.
     Usage = 2,
@@ -18,7 +18,8 @@ pub enum Status {
     TooLong = 6,
     /// There was no memory. A beginning of the text was written.
     NoMemory = 7,
-    /// The messages of a run have more bytes together than they may. The text of the events before the one in which they do was written.
+    /// The messages of a run have more bytes together than they may. The text of the events before the one in which they do was written, for a
+    /// summary nothing.
     SentLimit = 8,
 }
 

@@ -1,7 +1,7 @@
 // The summary of a run.
 ghost use Rattle.std.specs.Prelude.{◌≡◌, ◌++◌, [], All, IfOk, OnOk, None, map};
 ghost use Rattle.std.specs.Option.{option_map, option_map_or};
-ghost use Rattle.pv_app.specs.Summary.{begins_txn, committed_in, count, counted_line, is_total, latest, number_or_none, open_in, refuses_txn, summary_text, total_in};
+ghost use Rattle.pv_app.specs.Summary.{begins_txn, committed_in, count, counted_line, is_total, latest, or_zero, open_in, refuses_txn, summary_text, total_in};
 ghost use Rattle.pv_protocol.specs.LineText.{line_text};
 ghost use Rattle.pv_report.specs.NamesOnlyItems.{NamesOnlyItems};
 ghost use Rattle.pv_script.specs.LineView.{line_of};
@@ -92,7 +92,7 @@ fn refuses_txn(line: &Line) -> bool
 
 // How many transactions the last report says are committed.
 fn last_committed(lines: &[Line]) -> usize
-    ensures { result ≡ number_or_none (latest committed_in None (map line_of lines.now)) }
+    ensures { result ≡ or_zero (latest committed_in None (map line_of lines.now)) }
 {
     let mut committed = 0;
     for line in lines {
@@ -110,9 +110,9 @@ fn committed_in(line: &Line) -> Option<usize>
     }
 }
 
-// And how many are open.
+// How many transactions the last report says are open.
 fn last_open(lines: &[Line]) -> usize
-    ensures { result ≡ number_or_none (latest open_in None (map line_of lines.now)) }
+    ensures { result ≡ or_zero (latest open_in None (map line_of lines.now)) }
 {
     let mut open = 0;
     for line in lines {

@@ -99,8 +99,8 @@ returns-in-Some-Big-clause-summarized g c = λ n is.
     let words = map string_bytes c.args.words.now in
     let same = c.in-Some-Big.number-is ∙ big-is c.in-Some-Big.number n
     (found-is words c.command_of.result (Big c.in-Some-Big.number) (Big n) c.command_of.ensures.some (c.in-Some-Big.is ∙ ap Some c.in-Some-Big.field-0-is) is) in (
-      subst (λ (m : ℕ). Answers g.W.Sink summary_of (λ schedule. []) (made_text m) c.summarize.result c.args.sink.now c.summarize.new.sink)
-          same c.summarize.ensures.answered,
+      subst (λ (m : ℕ). Answers g.W.Sink summary_of (λ schedule. []) (made_text m) c.write_summary_of_number.result c.args.sink.now c.write_summary_of_number.new.sink)
+          same c.write_summary_of_number.ensures.answered,
       refl,
     )
 
@@ -110,12 +110,12 @@ returns-in-Some-Big-clause-exact_summary g c = λ n is status output answer.
     let same = c.in-Some-Big.number-is ∙ big-is c.in-Some-Big.number n
     (found-is words c.command_of.result (Big c.in-Some-Big.number) (Big n) c.command_of.ensures.some (c.in-Some-Big.is ∙ ap Some c.in-Some-Big.field-0-is) is) in
     let old = g.W.Sink.held c.args.sink.now in
-    let new = g.W.Sink.held c.summarize.new.sink in
-    let answered = subst (λ (m : ℕ). Answers g.W.Sink summary_of (λ schedule. []) (made_text m) c.summarize.result c.args.sink.now c.summarize.new.sink)
-    same c.summarize.ensures.answered in
+    let new = g.W.Sink.held c.write_summary_of_number.new.sink in
+    let answered = subst (λ (m : ℕ). Answers g.W.Sink summary_of (λ schedule. []) (made_text m) c.write_summary_of_number.result c.args.sink.now c.write_summary_of_number.new.sink)
+    same c.write_summary_of_number.ensures.answered in
     let prefix = subst (λ (m : ℕ). (status : Status) (output : List ℕ) → IsSummaryAnswer (made_text m) status output
-    → WritesPrefix g.W.Sink c.args.sink.now c.summarize.new.sink output) same c.summarize.ensures.prefix in
-    (status_of_answer summary_of (λ schedule. []) (made_text n) c.summarize.result status old new output answered answer, prefix status output answer)
+    → WritesPrefix g.W.Sink c.args.sink.now c.write_summary_of_number.new.sink output) same c.write_summary_of_number.ensures.prefix in
+    (status_of_answer summary_of (λ schedule. []) (made_text n) c.write_summary_of_number.result status old new output answered answer, prefix status output answer)
 
 pub returns-in-None-clause-agreement : goal.returns-in-None-clause-agreement
 returns-in-None-clause-agreement g c = λ form is. absurd (c.command_of.ensures.none c.in-None.is (Run form) is)

@@ -9,7 +9,7 @@ use Rattle.pv_app.specs.Summary.{summary_of}
 use Rattle.pv_app.specs.declared.status.Status.TheVariants.{Done}
 use Rattle.pv_app.proofs.AnswerLemmas.{answered_summary, none-where-false, prefix_of_answer, prefix_of_run, summary-is}
 use Rattle.pv_app.proofs.LimitLemmas.{lines-within-limit}
-use Rattle.pv_app.proofs.app.write_summary.Goals as goal
+use Rattle.pv_app.proofs.app.write_summary_of_run.Goals as goal
 
 pub returns-in-Ok-sum_up-clause-answered : goal.returns-in-Ok-sum_up-clause-answered
 returns-in-Ok-sum_up-clause-answered g c = λ input short says.

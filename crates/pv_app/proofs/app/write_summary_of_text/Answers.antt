@@ -8,17 +8,17 @@ use Rattle.pv_app.specs.declared.status.Status.TheVariants.{Malformed}
 use Rattle.pv_app.specs.InputAnswers.{fault_text}
 use Rattle.pv_app.specs.Summary.{summary_of}
 use Rattle.pv_app.proofs.AnswerLemmas.{answered_refusal, prefix_of_answer, refused-at}
-use Rattle.pv_app.proofs.app.answer_in_short.Goals as goal
+use Rattle.pv_app.proofs.app.write_summary_of_text.Goals as goal
 
-pub write_summary-requires-clause-well_formed : goal.write_summary-requires-clause-well_formed
-write_summary-requires-clause-well_formed g c =
+pub write_summary_of_run-requires-clause-well_formed : goal.write_summary_of_run-requires-clause-well_formed
+write_summary_of_run-requires-clause-well_formed g c =
     c.schedules_are_well_formed.ensures c.args.input.now (schedule_of c.in-Ok.schedule) c.in-Ok.ensures.answer.given
 
 pub returns-in-Ok-clause-answered : goal.returns-in-Ok-clause-answered
-returns-in-Ok-clause-answered g c = c.write_summary.ensures.answered c.args.input.now c.requires c.in-Ok.ensures.answer.given
+returns-in-Ok-clause-answered g c = c.write_summary_of_run.ensures.answered c.args.input.now c.requires c.in-Ok.ensures.answer.given
 
 pub returns-in-Ok-clause-prefix : goal.returns-in-Ok-clause-prefix
-returns-in-Ok-clause-prefix g c = c.write_summary.ensures.prefix c.args.input.now c.requires c.in-Ok.ensures.answer.given
+returns-in-Ok-clause-prefix g c = c.write_summary_of_run.ensures.prefix c.args.input.now c.requires c.in-Ok.ensures.answer.given
 
 pub returns-in-Err-Malformed-clause-answered : goal.returns-in-Err-Malformed-clause-answered
 returns-in-Err-Malformed-clause-answered g c =

@@ -13,7 +13,7 @@ use Rattle.pv_world.specs.Steps.{Steps}
 use Rattle.pv_world.specs.declared.error.WorldError.{WorldError}
 use Rattle.pv_app.proofs.LineItems.{lines-name-items}
 use Rattle.pv_app.proofs.RunLemmas.{HasCollected, All-next, collect-start, collect_on, drop-events_of, left-at-end, lines, passes, printed-by, stands-after, within-after, world_at}
-use Rattle.pv_app.proofs.printed.print_all.Goals as goal
+use Rattle.pv_app.proofs.printed.run_to_lines.Goals as goal
 
 pub loop-event-init : goal.loop-event-init
 loop-event-init c =

@@ -4,7 +4,7 @@ use Rattle.std.proofs.Common.{map}
 use Rattle.pv_script.specs.LineView.{line_of}
 use Rattle.pv_script.specs.ScheduleView.{schedule_of}
 use Rattle.pv_app.proofs.RunLemmas.{HasCollected}
-use Rattle.pv_app.proofs.printed.print_all.Given as goal
+use Rattle.pv_app.proofs.printed.run_to_lines.Given as goal
 
 abbrev pub invariant-loop-event : goal.invariant-loop-event
 invariant-loop-event l = HasCollected (schedule_of l.schedule) l.world l.event-index (map line_of l.lines.items)
