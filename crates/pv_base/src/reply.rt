@@ -2,7 +2,7 @@
 use crate::Exact;
 
 /// Why a program declines.
-#[derive(Clone, Copy, Debug, PartialEq, Eq)]
+#[derive(Clone, Copy, Debug, PartialEq, Eq, Hash)]
 pub enum Decline {
     /// What a `require` asks isn't so.
     Require,
@@ -13,7 +13,7 @@ pub enum Decline {
 }
 
 /// What a program replies.
-#[derive(Clone, Copy, Debug, PartialEq, Eq)]
+#[derive(Clone, Copy, Debug, PartialEq, Eq, Hash)]
 pub enum Reply {
     /// The value that it returned.
     Value(i64),

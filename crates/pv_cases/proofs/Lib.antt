@@ -18,5 +18,7 @@ pub mod RefusedLemmas
 pub mod SameCaseLemmas
 pub mod SettledLemmas
 pub mod SomeFaultLemmas
+pub mod SureCases
+pub mod SureChoice
 pub mod TxnTests
 pub mod ValuesMetLemmas

@@ -4,3 +4,4 @@ pub mod Joining
 pub mod Meetings
 pub mod NameLimits
 pub mod Names
+pub mod Sure

@@ -7,6 +7,7 @@ mod difference;
 mod laws;
 mod meetings;
 mod names;
+mod sure;
 mod table;
 
 pub use copy::copy_cases;
@@ -17,6 +18,7 @@ pub use laws::{
     some_canonical_fault, some_join_fault,
 };
 pub use names::{names_of, ordered, push_names};
+pub use sure::is_sure;
 pub use table::{Table, table_of};
 
 #[cfg(test)]

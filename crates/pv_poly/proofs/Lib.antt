@@ -1,7 +1,6 @@
 pub mod CasesAtLemmas
 pub mod ChoiceLemmas
 pub mod PushedCases
-pub mod SureChoice
 pub mod SureSettled
 pub mod TableSteps
 pub mod TestLemmas

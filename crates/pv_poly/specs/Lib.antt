@@ -1,4 +1,5 @@
 pub mod CasesAt
 pub mod From
+pub mod HeldCases
 pub mod TreeFalls
 pub mod TreeView

@@ -44,8 +44,8 @@ impl<V: Exact> Tree<V> {
     pub fn cases(&self, alloc: Global) -> Result<Vec<Case<V>>, NoMemory>
         ensures { IfOk result (λ cases. cases.items ≡ self.now) }
     {
-        // Most values depend on no outcome, and have one case.
-        let mut cases = Vec::with_capacity(alloc, 1)?;
+        // A tree that isn't sure has two cases at least.
+        let mut cases = Vec::with_capacity(alloc, 2)?;
         self.push_cases(&mut Vec::new(alloc), &mut cases)?;
         Ok(cases)
     }

@@ -3,6 +3,7 @@
 
 mod cases;
 mod choice;
+mod held;
 mod laws;
 mod poly;
 mod read;

@@ -10,10 +10,12 @@ ghost use Rattle.pv_base.specs.declared.txn.TxnId.{TxnId};
 ghost use Rattle.pv_base.specs.declared.limits.TheConstants.{HELD_NAMES};
 ghost use Rattle.pv_cases.specs.JoinedCases.{IsJoined, IsKept};
 ghost use Rattle.pv_cases.specs.NameLimits.{count_of, IsChosen, ChoiceNamesTooMany};
+ghost use Rattle.pv_poly.specs.HeldCases.{held_cases};
 
+use crate::held::Cases;
 use crate::tree::Tree;
 use pv_base::{Case, CaseError, Exact, HELD_NAMES, Literal, NameError, NoMemory, TxnId};
-use pv_cases::{copy_cases, count_of_both, first_difference, names_of, table_of};
+use pv_cases::{count_of_both, first_difference, names_of, table_of};
 use std::alloc::Global;
 use std::marker::Model;
 
@@ -22,15 +24,15 @@ use std::marker::Model;
 /// canonical one, so two polyvalues have the same cases exactly where they have the same value at every assignment.
 #[derive(Debug, Drop)]
 pub struct Poly<V> {
-    cases: Vec<Case<V>>,
+    cases: Cases<V>,
 }
 
 impl<V> Model for Poly<V> {
     ghost Value = { List (model.Case V) };
 
-    ghost view = { λ poly. poly.cases.items };
+    ghost view = { λ poly. held_cases poly.cases };
 
-    ghost invariant = { λ poly. model.IsPolyvalue HELD_NAMES poly.cases.items };
+    ghost invariant = { λ poly. model.IsPolyvalue HELD_NAMES (held_cases poly.cases) };
 }
 
 impl<V: PartialEq> PartialEq for Poly<V> {
@@ -44,7 +46,7 @@ impl<V: PartialEq> PartialEq for Poly<V> {
     ghost laws = { Prim.search (comparing, case_laws.laws-law, rules) depth 9 };
 
     fn eq(&self, other: &Poly<V>) -> bool {
-        self.cases == other.cases
+        self.cases.as_slice() == other.cases.as_slice()
     }
 }
 
@@ -63,7 +65,7 @@ impl<V: Exact> Poly<V> {
         ensures polyvalue { IfOk result (IsPolyvalue HELD_NAMES) }
     {
         Ok(Poly {
-            cases: Tree::sure(value).cases(alloc)?,
+            cases: Cases::sure(alloc, value),
         })
     }
 
@@ -83,14 +85,14 @@ impl<V: Exact> Poly<V> {
         // Reading the cases shows the proof that both are canonical.
         let _ = &new.cases;
         let _ = &old.cases;
-        if let Some(values) = two_values(&old.cases, &new.cases) {
+        if let Some(values) = two_values(old.cases.as_slice(), new.cases.as_slice()) {
             return Ok(Poly {
-                cases: cases_of_choice(alloc, txn, values.0, values.1)?,
+                cases: Cases::Many(cases_of_choice(alloc, txn, values.0, values.1)?),
             });
         }
         let tree = Poly::chosen(alloc, txn, new, old)?;
         Ok(Poly {
-            cases: tree.cases(alloc)?,
+            cases: Cases::of_tree(alloc, &tree)?,
         })
     }
 
@@ -124,7 +126,7 @@ impl<V: Exact> Poly<V> {
     pub fn at(&self, yes: &[TxnId]) -> V
         ensures value { value_at self.now yes.now ≡ Some result }
     {
-        for case in &self.cases {
+        for case in self.cases.as_slice() {
             if pv_base::meets(&case.when, yes) {
                 return case.value;
             }
@@ -149,14 +151,14 @@ impl<V: Exact> Poly<V> {
         ensures settled { IfOk result (IsSettled literals.now self.now) }
         ensures polyvalue { IfOk result (IsPolyvalue HELD_NAMES) }
     {
-        if let Some(value) = settled_value(&self.cases, literals) {
+        if let Some(value) = settled_value(self.cases.as_slice(), literals) {
             return Ok(Poly {
-                cases: Tree::sure(value).cases(alloc)?,
+                cases: Cases::sure(alloc, value),
             });
         }
         let tree = self.settled_tree(alloc, literals)?;
         Ok(Poly {
-            cases: tree.cases(alloc)?,
+            cases: Cases::of_tree(alloc, &tree)?,
         })
     }
 
@@ -167,7 +169,7 @@ impl<V: Exact> Poly<V> {
         ensures few { IfOk result (NamesAtMost HELD_NAMES) }
         ensures canonical { IfOk result IsCanonical }
     {
-        let tree = Tree::read(alloc, &self.cases)?;
+        let tree = Tree::read(alloc, self.cases.as_slice())?;
         tree.settle(alloc, literals)
     }
 
@@ -177,7 +179,7 @@ impl<V: Exact> Poly<V> {
         ensures names { IfOk result (λ txns. AreNames self.now txns.items) }
         ensures few { IfOk result (λ txns. length txns.items ≤ HELD_NAMES) }
     {
-        names_of(alloc, &self.cases)
+        names_of(alloc, self.cases.as_slice())
     }
 
     /// The canonical cases.
@@ -185,7 +187,7 @@ impl<V: Exact> Poly<V> {
         ensures cases { result.now ≡ self.now }
         ensures polyvalue { IsPolyvalue HELD_NAMES self.now }
     {
-        &self.cases
+        self.cases.as_slice()
     }
 
     /// An equal polyvalue, which shares nothing with this one. Takes time in proportion to the literals.
@@ -193,7 +195,7 @@ impl<V: Exact> Poly<V> {
         ensures equal { IfOk result (λ copy. copy ≡ self.now) }
     {
         Ok(Poly {
-            cases: copy_cases(alloc, &self.cases)?,
+            cases: self.cases.copy(alloc)?,
         })
     }
 
@@ -206,11 +208,13 @@ impl<V: Exact> Poly<V> {
         requires few_literals { sum (map (λ case. length case.when) cases.items) < 2 ^ 32 }
         ensures answer { Answers (IsKept HELD_NAMES cases.items) (IsCanonicalFault HELD_NAMES cases.items) (λ poly. poly) fault_of result }
     {
-        if is_sure(&cases) {
-            return Ok(Poly { cases });
+        if let Some(value) = sure_value(&cases) {
+            return Ok(Poly {
+                cases: Cases::sure(alloc, value),
+            });
         }
         let poly = Poly::joined(alloc, &cases)?;
-        match first_difference(&cases, &poly.cases) {
+        match first_difference(&cases, poly.cases.as_slice()) {
             None => Ok(poly),
             Some(place) => Err(CaseError::NotReduced(place as u32)),
         }
@@ -248,7 +252,7 @@ impl<V: Exact> Poly<V> {
         requires few { length txns.now ≤ HELD_NAMES }
         ensures values { IfOk result (λ values. AreValues self.now txns.now values.items) }
     {
-        let tree = Tree::read(alloc, &self.cases)?;
+        let tree = Tree::read(alloc, self.cases.as_slice())?;
         let mut values = Vec::new(alloc);
         tree.push_table(txns, &mut values)?;
         Ok(values)
@@ -266,16 +270,9 @@ impl<V: Exact> Poly<V> {
     {
         let tree = Tree::from_table(alloc, txns, values)?;
         Ok(Poly {
-            cases: tree.cases(alloc)?,
+            cases: Cases::of_tree(alloc, &tree)?,
         })
     }
-}
-
-// Whether the cases are only one, which is always met.
-fn is_sure<V: Copy>(cases: &[Case<V>]) -> bool
-    ensures { result ≡ true → (value : V) × (cases.now ≡ record { when = []; value = value } ∷ []) }
-{
-    sure_value(cases).is_some()
 }
 
 // The value of cases that are only one, which is always met.

@@ -13,7 +13,7 @@ ghost use Rattle.pv_model.specs.PossibleAnswers.{sum_at, sums, without_repeats};
 ghost use Rattle.pv_query.specs.AllSums.{count_of, together, AreAllSums};
 ghost use Rattle.pv_query.specs.Sums.{added, totals, IsWithin, AreWithin};
 
-use crate::repeats::push_new;
+use crate::repeats::Distinct;
 use pv_base::{HELD_NAMES, MAX_ITEMS, NoMemory, TxnId};
 use pv_cases::{ordered, push_names};
 use pv_poly::Poly;
@@ -57,8 +57,7 @@ impl From<NoMemory> for SumError {
 ///
 /// There are at most as many values as a catalog has items, [`MAX_ITEMS`]. `OutcomeLimit` has the number of outcomes that the values
 /// name together, where these are more than [`HELD_NAMES`]. Takes time in proportion to the literals, times the
-/// logarithm of their number; for a value without outcomes, one addition; for another one, to the assignments, times its names; and to
-/// the assignments, times the different sums.
+/// logarithm of their number; for a value without outcomes, one addition; and for another one, to the assignments, times its names.
 pub fn sums(alloc: Global, values: &[Poly<i64>]) -> Result<Vec<i128>, SumError>
     requires { length values.now ≤ MAX_ITEMS }
     ensures answer { Answers (AreAllSums HELD_NAMES values.now) (NameTooMany HELD_NAMES (together values.now)) (λ found. found.items) count_of result }
@@ -150,11 +149,11 @@ impl RunningSums {
         requires room { AreWithin (2 ^ 100) self.now }
         ensures { IfOk result (λ found. found.items ≡ without_repeats int_eq (totals self.now)) }
     {
-        let mut found = Vec::new(alloc);
+        let mut found = Distinct::new(alloc);
         for sum in &self.at_each {
-            push_new(&mut found, self.sure + *sum)?;
+            found.push(self.sure + *sum)?;
         }
-        Ok(found)
+        found.list()
     }
 }
 

@@ -6,14 +6,13 @@ ghost use Rattle.pv_base.specs.declared.txn.TxnId.{TxnId};
 ghost use Rattle.pv_base.specs.declared.reply.Reply.{Reply};
 ghost use Rattle.pv_model.specs.PossibleAnswers.{possible, certain};
 
-use crate::repeats::push_new;
+use crate::repeats::Distinct;
 use pv_ast::Reply;
 use pv_base::NoMemory;
 use pv_poly::Poly;
 use std::alloc::Global;
 
-/// Every reply that some outcomes give, each once, in the order of the cases. Takes time in proportion to the cases, times the
-/// different replies.
+/// Every reply that some outcomes give, each once, in the order of the cases. Takes time in proportion to the cases.
 pub fn possible(alloc: Global, reply: &Poly<Reply>) -> Result<Vec<Reply>, NoMemory>
     ensures possible { IfOk result (λ replies. replies.items ≡ possible ⟦<Reply as PartialEq>⟧.eq reply.now) }
 
@@ -23,11 +22,11 @@ pub fn possible(alloc: Global, reply: &Poly<Reply>) -> Result<Vec<Reply>, NoMemo
     ensures every { (assignment : List TxnId) → IfOk result (λ replies. IsSomeAnd (value_at reply.now assignment) (Contains replies.items)) }
     ensures each { IfOk result (λ replies. All (λ possible. (assignment : List TxnId) × (value_at reply.now assignment ≡ Some possible)) replies.items) }
 {
-    let mut replies = Vec::new(alloc);
+    let mut replies = Distinct::new(alloc);
     for case in reply.cases() {
-        push_new(&mut replies, case.value)?;
+        replies.push(case.value)?;
     }
-    Ok(replies)
+    replies.list()
 }
 
 /// The reply that every assignment of outcomes gives, if there is one. Takes the same time whatever the reply is.

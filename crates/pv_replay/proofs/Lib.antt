@@ -1,3 +1,4 @@
+pub mod CaseLemmas
 pub mod OrderLemmas
 pub mod RefusalLemmas
 pub mod ContentLemmas

@@ -2,3 +2,4 @@ pub mod Content
 pub mod Faults
 pub mod Order
 pub mod Values
+pub mod Refused

@@ -1,6 +1,7 @@
 //! The records of a site's journal as bytes, and the polyvalues in them, each with one spelling.
 #![tactic(auto)]
 
+mod choice;
 mod error;
 mod fields;
 mod length;
@@ -9,6 +10,7 @@ mod past;
 mod poly;
 mod reads;
 mod record;
+mod room;
 
 pub use error::{PolyError, ReplayError};
 pub use fields::{put_truth, put_txn, take_count, take_item, take_site, take_truth, take_txn};

@@ -8,6 +8,7 @@ ghost use Rattle.pv_replay.specs.Faults.{fault_of};
 ghost use Rattle.pv_replay.specs.Values.{contents_of, index_of, record_of, records_of};
 
 use crate::record::take_record;
+use crate::room::with_room;
 use crate::{PolyError, Record, ReplayError};
 use pv_base::NoMemory;
 use pv_bytes::Take;
@@ -31,7 +32,7 @@ pub fn replay(alloc: Global, contents: &[Vec<u8>]) -> Result<Past, ReplayError>
 {
     contents_are_bytes(contents);
     let mut epoch = 0;
-    let mut records = Vec::new(alloc);
+    let mut records = with_room(alloc, contents.len())?;
     for content in contents {
         match decode_record(alloc, content)? {
             Some(record) => {

@@ -1,19 +1,25 @@
 // Polyvalues as bytes: the count of the cases, and for each case the count of its literals, the literals and the value.
-ghost use Rattle.std.specs.Prelude.{◌≡◌, ◌++◌, ◌<◌, ◌≤◌, ℕ, ℤ, List, length, All, MatchOption, IfOk, IfErr, OnOk};
+ghost use Rattle.std.specs.Prelude.{◌≡◌, ◌++◌, ◌∷◌, [], ◌<◌, ◌^◌, ◌≤◌, ℕ, ℤ, List, length, map, All, MatchOption, IfOk, IfErr, OnOk};
+ghost use Rattle.std.specs.List.{sum};
 ghost use Rattle.pv_base.specs.Answer.{Answers};
 ghost use Rattle.pv_base.specs.CaseFaults.{fault_of as case_fault_of};
+ghost use Rattle.pv_base.specs.declared.limits.TheConstants.{HELD_NAMES};
 ghost use Rattle.pv_base.specs.declared.literal.Literal.{Literal};
 ghost use Rattle.pv_base.specs.Polyvalue as model;
+ghost use Rattle.pv_cases.specs.JoinedCases.{IsKept};
 ghost use Rattle.pv_format.specs.FirstFault.{PolyvalueFault};
-ghost use Rattle.pv_format.specs.Layout.{case_layout, cases_layout, literal_layout, polyvalue_then, repeated};
-ghost use Rattle.pv_format.specs.PolyvalueSpelling.{BeginsWith, SpellsCase, SpellsCases, SpellsLiteral, SpellsPolyvalue};
+ghost use Rattle.pv_format.specs.Layout.{case_layout, literal_layout, polyvalue_then, repeated};
+ghost use Rattle.pv_format.specs.PolyvalueSpelling.{BeginsWith, SpellsCase, SpellsLiteral, SpellsPolyvalue};
 ghost use Rattle.pv_format.specs.Spelling.{SpellsEach};
 ghost use Rattle.pv_law_fields.specs.Decoding.{Passes, Stops};
 ghost use Rattle.pv_replay.specs.Faults.{fault_of};
+ghost use Rattle.pv_replay.specs.Refused.{IsRefused};
 
 use crate::PolyError;
+use crate::choice::{choice_of, chosen};
 use crate::fields::{put_truth, put_txn, take_truth, take_txn};
 use crate::order::look_canonical;
+use crate::room::{with_room, with_room_for_few};
 use pv_base::{Case, CaseError, Literal, NoMemory};
 use pv_bytes::{Put, Take};
 use pv_cases::no_canonical_fault;
@@ -90,7 +96,40 @@ fn read_poly(alloc: Global, take: &mut Take<'_>) -> Result<Poly<i64>, PolyError>
     ensures stops { IfErr result (λ e. Stops polyvalue_then take.old (fault_of e)) }
 {
     let place = take.place();
-    let cases = take_cases(alloc, take)?;
+    let count = take.u16()?;
+    if count == 1 {
+        // Most values depend on no outcome, and are spelled as one case.
+        let case = take_case(alloc, take)?;
+        return poly_of_case(alloc, case, place);
+    }
+    let cases = take_counted_cases(alloc, take, count)?;
+    poly_of(alloc, cases, place)
+}
+
+// The polyvalue of the only case of the polyvalue at this place. Where it is always met, no list of cases is made.
+fn poly_of_case(alloc: Global, case: Case<i64>, place: usize) -> Result<Poly<i64>, PolyError>
+    requires { length case.when < 256 }
+    ensures kept { IfOk result (IsKept HELD_NAMES (case ∷ [])) }
+    ensures refused { IfErr result (IsRefused (case ∷ []) place) }
+{
+    if case.when.is_empty() {
+        return Ok(Poly::sure(alloc, case.value)?);
+    }
+    let mut only = with_room(alloc, 1)?;
+    only.push(case)?;
+    poly_of(alloc, only, place)
+}
+
+// The polyvalue of these cases of the polyvalue at this place, as they were read.
+fn poly_of(alloc: Global, cases: Vec<Case<i64>>, place: usize) -> Result<Poly<i64>, PolyError>
+    requires few_cases { length cases.items < 2 ^ 32 }
+    requires few_literals { sum (map (λ case. length case.when) cases.items) < 2 ^ 32 }
+    ensures kept { IfOk result (IsKept HELD_NAMES cases.items) }
+    ensures refused { IfErr result (IsRefused cases.items place) }
+{
+    if let Some(choice) = choice_of(&cases) {
+        return Ok(chosen(alloc, choice)?);
+    }
     if !look_canonical(&cases) {
         return Err(PolyError::BadPoly(place));
     }
@@ -111,16 +150,7 @@ fn refusal(cause: &CaseError, place: usize) -> PolyError
     }
 }
 
-// Reads cases, whether or not they are a polyvalue. Room is made for a case when it is read, and not by the count.
-fn take_cases(alloc: Global, take: &mut Take<'_>) -> Result<Vec<Case<i64>>, PolyError>
-    ensures passes { IfOk result (λ cases. Passes (SpellsCases cases.items) cases_layout take.old take.new) }
-    ensures stops { IfErr result (λ e. Stops cases_layout take.old (fault_of e)) }
-{
-    let count = take.u16()?;
-    take_counted_cases(alloc, take, count)
-}
-
-// Reads so many cases.
+// Reads so many cases, whether or not they are a polyvalue.
 fn take_counted_cases(
     alloc: Global,
     take: &mut Take<'_>,
@@ -130,7 +160,7 @@ fn take_counted_cases(
     ensures passes { IfOk result (λ cases. Passes (SpellsEach SpellsCase cases.items) (repeated count case_layout) take.old take.new) }
     ensures stops { IfErr result (λ e. Stops (repeated count case_layout) take.old (fault_of e)) }
 {
-    let mut cases = Vec::new(alloc);
+    let mut cases = with_room_for_few(alloc, usize::from(count))?;
     while cases.len() < usize::from(count) {
         cases.push(take_case(alloc, take)?)?;
     }
@@ -154,7 +184,7 @@ fn take_literals(alloc: Global, take: &mut Take<'_>, count: u8) -> Result<Vec<Li
     ensures passes { IfOk result (λ when. Passes (SpellsEach SpellsLiteral when.items) (repeated count literal_layout) take.old take.new) }
     ensures stops { IfErr result (λ e. Stops (repeated count literal_layout) take.old (fault_of e)) }
 {
-    let mut when = Vec::new(alloc);
+    let mut when = with_room_for_few(alloc, usize::from(count))?;
     while when.len() < usize::from(count) {
         when.push(take_literal(take)?)?;
     }

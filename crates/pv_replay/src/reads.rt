@@ -12,6 +12,7 @@ ghost use Rattle.pv_replay.specs.Faults.{fault_of};
 use crate::PolyError;
 use crate::fields::{take_count, take_item};
 use crate::poly::{put_poly, take_poly};
+use crate::room::with_room_for_few;
 use pv_base::NoMemory;
 use pv_bytes::{Put, Take};
 use pv_poly::Read;
@@ -56,7 +57,7 @@ fn take_counted_reads(alloc: Global, take: &mut Take<'_>, count: u8) -> Result<V
         (entries_layout count polyvalue_then 0) take.old take.new) }
     ensures stops { IfErr result (λ e. Stops (entries_layout count polyvalue_then 0) take.old (fault_of e)) }
 {
-    let mut reads = Vec::new(alloc);
+    let mut reads = with_room_for_few(alloc, usize::from(count))?;
     let mut least = 0;
     while reads.len() < usize::from(count) {
         let item = take_item(take, least)?;

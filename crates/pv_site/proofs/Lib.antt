@@ -21,6 +21,7 @@ pub mod Settling
 pub mod SiteLemmas
 pub mod SortedReads
 pub mod StartLemmas
+pub mod SureLemmas
 pub mod TakenReads
 pub mod TakingLemmas
 pub mod Tied

@@ -6,10 +6,9 @@ use Rattle.std.proofs.lemmas.Bool.{false≢true}
 use Rattle.pv_base.proofs.Basics.{and-right}
 use Rattle.pv_base.specs.Assignment.{is_same_txn}
 use Rattle.pv_base.specs.contracts.reply.ReplyPartialEq.TheImpl as reply_eq
-use Rattle.pv_base.specs.declared.limits.TheConstants.{HELD_NAMES}
 use Rattle.pv_base.specs.declared.reply.Reply.{Reply}
 use Rattle.pv_base.specs.declared.txn.TxnId.{TxnId}
-use Rattle.pv_base.specs.Polyvalue.{Case, IsPolyvalue, IsSettled, value_at, with_outcomes}
+use Rattle.pv_base.specs.Polyvalue.{Case, with_outcomes}
 use Rattle.pv_coord.specs.Answers.{vote_of}
 use Rattle.pv_coord.specs.Coordinator.{CoordMemory, counting, reply_of, voting_work, with_vote_for, with_work, work_of}
 use Rattle.pv_coord.specs.Planned.{sites-planned, vote-planned, votes-planned}
@@ -17,7 +16,6 @@ use Rattle.pv_coord.specs.Work as own
 use Rattle.pv_coord.specs.Work.{Work, txn_of, with_vote}
 use Rattle.pv_coord.specs.declared.answer.Vote.TheVariants as voted
 use Rattle.pv_format.specs.Record.{Record, outcome_known}
-use Rattle.pv_law_polyvalues.proofs.PolyvalueLemmas.{one-canonical}
 use Rattle.pv_law_step.proofs.Appended.{found-passes}
 use Rattle.pv_law_step.proofs.ComputedLemmas.{reply-canonical, reply-value}
 use Rattle.pv_model.specs.Check.{Part}
@@ -26,7 +24,6 @@ use Rattle.pv_model.specs.Replies.{is_same_reply}
 use Rattle.pv_protocol.specs.Coordinate.{is_locking, replies_of, reply_value}
 use Rattle.pv_protocol.specs.Here.{Here, nothing, outcome_sends, participants, remembering, with_entry}
 use Rattle.pv_protocol.specs.Keyed.{with_one}
-use Rattle.pv_protocol.specs.Records.{choice}
 use Rattle.pv_protocol.specs.State as model
 use Rattle.pv_protocol.specs.State.{Entry, committed}
 use Rattle.pv_protocol.specs.Vote.{at_yes, committing, on_yes, others_than, with_votes}
@@ -35,6 +32,7 @@ use Rattle.pv_site.proofs.Entries.{entry_in, first-found, found-txn, voting-of}
 use Rattle.pv_site.proofs.Settling.{reply-told}
 use Rattle.pv_site.proofs.Tied.{here-with, planned-found, stepped, tied-with, work-found}
 use Rattle.pv_site.specs.Answer.{IsAnswer}
+use Rattle.pv_site.specs.Committed.{IsCommitted}
 use Rattle.pv_site.specs.LastVote.{deciding}
 use Rattle.pv_site.specs.Parts.{AreTied, HaveStepped, IsReplyOf, IsWorkOf, here_of}
 use Rattle.pv_site.specs.Values.{note_of, outgoing_of}
@@ -67,22 +65,20 @@ module _ (parts : Parts) (tied : AreTied parts) where
     pub no-reply : None ≡ reply_of (work_of parts.coord.contents txn) → ⊥
     no-reply none = false≢true (ap is_some (none ∙ ap reply_of voting-is) ∙ voting-replies)
 
-    -- What it replies, with the outcome put in and the known ones, is its reply by the records with the outcome.
-    pub reply-settled : (reply known settled : List (Case Reply)) → Some reply ≡ reply_of (work_of parts.coord.contents txn)
-        → ((a : List TxnId) → value_at known a ≡ value_at reply (choice parts.store.records a))
-        → IsSettled (record { txn = txn; commits = true } ∷ []) known settled → IsPolyvalue HELD_NAMES settled
-        → settled ≡ reply_value (parts.store.records ++ outcome_known txn true ∷ []) work.entry
-    reply-settled reply known settled reply-is known-is settled-is polyvalue =
+    -- Its reply by the records with the outcome is what it replies, with the outcome put in and the known ones.
+    pub reply-committed : (reply : List (Case Reply)) → Some reply ≡ reply_of (work_of parts.coord.contents txn)
+        → IsCommitted parts.store.records txn reply (reply_value (parts.store.records ++ outcome_known txn true ∷ []) work.entry)
+    reply-committed reply reply-is =
         let kept : IsReplyOf parts.store.records work.entry (Some reply) =
         subst (IsReplyOf parts.store.records work.entry) (sym (reply-is ∙ ap reply_of voting-is)) voting-work.reply in
         let later : List Record = parts.store.records ++ outcome_known txn true ∷ [] in
-        one-canonical settled (reply_value later work.entry) polyvalue.canonical (reply-canonical later work.entry)
-        (λ a.
-        settled-is.same a
-        ∙ known-is (with_outcomes (record { txn = txn; commits = true } ∷ []) a)
-        ∙ kept.1 (with_outcomes (record { txn = txn; commits = true } ∷ []) a)
-        ∙ ap Some (sym (reply-told parts.store.records (outcome_known txn true) work.entry a))
-        ∙ sym (reply-value later work.entry a))
+        record {
+          value = λ a.
+              reply-value later work.entry a
+              ∙ ap Some (reply-told parts.store.records (outcome_known txn true) work.entry a)
+              ∙ sym (kept.1 (with_outcomes (record { txn = txn; commits = true } ∷ []) a));
+          canonical = reply-canonical later work.entry;
+        }
 
     -- The answer is what is sent and reported when the transaction commits.
     pub commit-told : (answer : Step) (plan : List Part) (settled : List (Case Reply))

@@ -1,6 +1,7 @@
 pub mod Answer
 pub mod Asked
 pub mod Calls
+pub mod Committed
 pub mod Crashes
 pub mod Inputs
 pub mod LastVote

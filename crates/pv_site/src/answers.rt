@@ -25,7 +25,7 @@ pub(crate) fn noting(alloc: Global, note: Note) -> Result<Step, NoMemory>
     ensures notes { IfOk result (λ step. step.notes.items ≡ note ∷ []) }
     ensures locked { IfOk result (λ step. step.locked ≡ None) }
 {
-    let mut notes = Vec::new(alloc);
+    let mut notes = Vec::with_capacity(alloc, 1)?;
     notes.push(note)?;
     Ok(Step {
         sends: Vec::new(alloc),
@@ -40,7 +40,7 @@ pub(crate) fn sending(alloc: Global, to: SiteId, message: Message) -> Result<Ste
     ensures notes { IfOk result (λ step. step.notes.items ≡ []) }
     ensures locked { IfOk result (λ step. step.locked ≡ None) }
 {
-    let mut sends = Vec::new(alloc);
+    let mut sends = Vec::with_capacity(alloc, 1)?;
     sends.push(Outgoing { to, message })?;
     Ok(Step {
         sends,

@@ -1,11 +1,15 @@
 // What a coordinator makes of a yes: with the last one the transaction commits (Gray, 1978).
-ghost use Rattle.std.specs.Prelude.{◌≡◌, ◌++◌, Some, map, true, IfOk, OnOk};
+ghost use Rattle.std.specs.Prelude.{◌≡◌, ◌++◌, List, Some, map, true, IfOk, OnOk};
+ghost use Rattle.pv_base.specs.Polyvalue.{Case};
+ghost use Rattle.pv_base.specs.declared.reply.Reply.{Reply};
 ghost use Rattle.pv_coord.specs.Coordinator.{voting_work};
 ghost use Rattle.pv_coord.specs.Work.{Work};
 ghost use Rattle.pv_model.specs.Check as model;
+ghost use Rattle.pv_model.specs.PossibleAnswers.{possible};
 ghost use Rattle.pv_protocol.specs.Here.{outcome_sends};
 ghost use Rattle.pv_protocol.specs.Vote.{committing, on_yes, others_than};
 ghost use Rattle.pv_site.specs.Answer.{IsAnswer};
+ghost use Rattle.pv_site.specs.Committed.{IsCommitted};
 ghost use Rattle.pv_site.specs.LastVote.{deciding};
 ghost use Rattle.pv_site.specs.OnLog.{AreReady, StepsOnLog};
 ghost use Rattle.pv_site.specs.Parts.{here_of, AreTied};
@@ -14,12 +18,15 @@ ghost use Rattle.pv_site.specs.Values.{outgoing_of};
 use crate::answers::nothing;
 use crate::appending::{Written, write};
 use crate::parts::Parts;
+use crate::sure::is_sure;
 use crate::{Cause, Note, Outgoing, Step, StepError};
-use pv_base::{NoMemory, SiteId, TxnId};
+use pv_base::{NoMemory, Reply, SiteId, TxnId};
 use pv_check::Part;
 use pv_coord::Vote;
 use pv_disk::Log;
+use pv_poly::Poly;
 use pv_query::possible;
+use pv_store::Store;
 use pv_wire::Message;
 use std::alloc::Global;
 
@@ -89,17 +96,33 @@ fn committed(alloc: Global, parts: &Parts, txn: TxnId) -> Result<Step, NoMemory>
     let Some(reply) = parts.coord.reply(txn) else {
         return Ok(nothing(alloc));
     };
-    let mut sends = Vec::new(alloc);
+    let mut sends = Vec::with_capacity(alloc, plan.parts.len())?;
     push_to_others(&mut sends, parts.me, txn, &plan.parts)?;
-    let known = parts.store.settled(alloc, reply)?;
-    let replies = possible(alloc, &known.settle(alloc, txn, true)?)?;
-    let mut notes = Vec::new(alloc);
+    let replies = replies_after(alloc, &parts.store, reply, txn)?;
+    let mut notes = Vec::with_capacity(alloc, 1)?;
     notes.push(Note::Commit { txn, replies })?;
     Ok(Step {
         sends,
         notes,
         locked: None,
     })
+}
+
+// The replies that the transaction may have given, once it has committed.
+fn replies_after(
+    alloc: Global,
+    store: &Store,
+    reply: &Poly<Reply>,
+    txn: TxnId,
+) -> Result<Vec<Reply>, NoMemory>
+    ensures { (settled : List (Case Reply)) → IsCommitted store.now.records txn reply.now settled
+        → IfOk result (λ replies. replies.items ≡ possible ⟦<Reply as PartialEq>⟧.eq settled) }
+{
+    if is_sure(reply) {
+        return possible(alloc, reply);
+    }
+    let known = store.settled(alloc, reply)?;
+    possible(alloc, &known.settle(alloc, txn, true)?)
 }
 
 // Appends that the transaction commits, for the sites of these parts but this one.

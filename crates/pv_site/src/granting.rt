@@ -19,6 +19,7 @@ ghost use Rattle.pv_split.specs.Splitting.{count_of};
 
 use crate::answers::nothing;
 use crate::parts::Parts;
+use crate::sure::is_sure_throughout;
 use crate::{Cause, Outgoing, Step};
 use pv_ast::Program;
 use pv_base::{GrantId, ItemId, NoMemory, SiteId, TxnId, Want};
@@ -106,7 +107,7 @@ fn computed(
 {
     let reads = by_item(reads);
     let joined = split(alloc, program, &reads)?;
-    Ok(settled(alloc, store, &joined)?)
+    Ok(settled(alloc, store, joined)?)
 }
 
 // The reads in the order of their items.
@@ -120,11 +121,22 @@ fn by_item(reads: Vec<Read>) -> Vec<Read>
 }
 
 // What was written and is replied, with the outcomes put in that the site knows.
-fn settled(alloc: Global, store: &Store, joined: &Joined) -> Result<Joined, NoMemory>
+fn settled(alloc: Global, store: &Store, joined: Joined) -> Result<Joined, NoMemory>
+    ensures writes { IfOk result (λ settled. AllZip (IsWritePutIn store.now.records) joined.writes.items settled.writes.items) }
+    ensures reply { IfOk result (λ settled. IsPutIn store.now.records joined.reply settled.reply) }
+{
+    if is_sure_throughout(&joined) {
+        return Ok(joined);
+    }
+    settled_named(alloc, store, &joined)
+}
+
+// The same, where outcomes are named.
+fn settled_named(alloc: Global, store: &Store, joined: &Joined) -> Result<Joined, NoMemory>
     ensures writes { IfOk result (λ settled. AllZip (IsWritePutIn store.now.records) joined.now.writes.items settled.writes.items) }
     ensures reply { IfOk result (λ settled. IsPutIn store.now.records joined.now.reply settled.reply) }
 {
-    let mut writes = Vec::new(alloc);
+    let mut writes = Vec::with_capacity(alloc, joined.writes.len())?;
     for write in &joined.writes {
         writes.push(settled_write(alloc, store, write)?)?;
     }
@@ -159,7 +171,7 @@ fn prepare_sends(
     let Some(plan) = coord.parts(txn) else {
         return Ok(Vec::new(alloc));
     };
-    let mut sends = Vec::new(alloc);
+    let mut sends = Vec::with_capacity(alloc, plan.parts.len())?;
     for part in &plan.parts {
         let grant = grant_with(coord, from, grant, txn, part.site);
         push_prepare(&mut sends, alloc, txn, grant, writes, part)?;
@@ -224,7 +236,7 @@ fn prepare_send(
 fn writes_for(alloc: Global, writes: &[Read], wants: &[Want]) -> Result<Vec<Read>, NoMemory>
     ensures { IfOk result (λ own. own.items ≡ writes_in writes.now (exclusive_items wants.now)) }
 {
-    let mut own = Vec::new(alloc);
+    let mut own = Vec::with_capacity(alloc, wants.len())?;
     for want in wants {
         push_wanted(&mut own, alloc, writes, want)?;
     }

@@ -17,6 +17,7 @@ mod opening;
 mod parts;
 mod refusing;
 mod site;
+mod sure;
 mod taking;
 mod ticking;
 

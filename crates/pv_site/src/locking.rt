@@ -41,7 +41,7 @@ impl Parts {
         };
         let txn = change.txn;
         let sends = lock_sends(alloc, txn, &plan.parts)?;
-        let mut notes = Vec::new(alloc);
+        let mut notes = Vec::with_capacity(alloc, 1)?;
         notes.push(Note::Txn(txn))?;
         self.coord.apply_begin(change);
         Ok(Step {
@@ -74,8 +74,7 @@ impl Parts {
             }
             Ok(GrantPlan::Fresh(change)) => {
                 let values = values_of(alloc, &self.store, wants)?;
-                let mut sends = Vec::new(alloc);
-                sends.reserve(1)?;
+                let mut sends = Vec::with_capacity(alloc, 1)?;
                 let grant = self.locks.apply(change);
                 sends.push_reserved(Outgoing {
                     to: txn.site,
@@ -109,7 +108,7 @@ impl Parts {
 fn lock_sends(alloc: Global, txn: TxnId, parts: &[Part]) -> Result<Vec<Outgoing>, NoMemory>
     ensures { IfOk result (λ sends. map outgoing_of sends.items ≡ lock_sends txn parts.now) }
 {
-    let mut sends = Vec::new(alloc);
+    let mut sends = Vec::with_capacity(alloc, parts.len())?;
     for part in parts {
         sends.push(lock_send(alloc, txn, part)?)?;
     }
@@ -164,7 +163,7 @@ fn values_of(alloc: Global, store: &Store, wants: &[Want]) -> Result<Vec<Read>, 
     requires { IsTrue (list_all (λ (want : Want). is_home store.now.catalog store.now.site want.item) wants.now) }
     ensures { IfOk result (λ values. values.items ≡ shown_values store.now.catalog store.now.records wants.now) }
 {
-    let mut values = Vec::new(alloc);
+    let mut values = Vec::with_capacity(alloc, wants.len())?;
     for want in wants {
         values.push(Read {
             item: want.item,

@@ -3,3 +3,4 @@ pub mod EffectLemmas
 pub mod WriteLemmas
 pub mod SplitLemmas
 pub mod LawLemmas
+pub mod SureLemmas

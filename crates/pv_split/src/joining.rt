@@ -10,6 +10,7 @@ ghost use Rattle.pv_split.specs.Splitting.{count_of, IsJoinedSplit};
 
 use crate::effects::effects_of;
 use crate::outcomes::outcomes_of;
+use crate::sure::{are_sure, split_sure};
 use crate::writes::{reply_over, writes_of};
 use pv_ast::{Program, Reply};
 use pv_base::{NoMemory, READ_NAMES};
@@ -65,6 +66,18 @@ impl From<NoMemory> for SplitError {
 /// alternatives, times the cost of the program and the number of reads; for each item that is written, to the alternatives, times the
 /// outcomes; and to the literals of the reads, times the logarithm of their number.
 pub fn split(alloc: Global, program: &Program, reads: &[Read]) -> Result<Joined, SplitError>
+    requires ascending { AllPairs (λ read later. read.item < later.item) reads.now }
+    requires items { IsTrue (has_all_items (rows_at reads.now []) program.now) }
+    ensures answer { Answers (IsJoinedSplit READ_NAMES program.now reads.now) (NameTooMany READ_NAMES (all_cases reads.now)) (λ joined. (joined.writes.items, joined.reply)) count_of result }
+{
+    if are_sure(reads) {
+        return Ok(split_sure(alloc, program, reads)?);
+    }
+    split_named(alloc, program, reads)
+}
+
+// The same, alternative by alternative.
+fn split_named(alloc: Global, program: &Program, reads: &[Read]) -> Result<Joined, SplitError>
     requires ascending { AllPairs (λ read later. read.item < later.item) reads.now }
     requires items { IsTrue (has_all_items (rows_at reads.now []) program.now) }
     ensures answer { Answers (IsJoinedSplit READ_NAMES program.now reads.now) (NameTooMany READ_NAMES (all_cases reads.now)) (λ joined. (joined.writes.items, joined.reply)) count_of result }

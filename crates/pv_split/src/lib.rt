@@ -6,6 +6,7 @@ mod effects;
 mod joining;
 mod laws;
 mod outcomes;
+mod sure;
 mod writes;
 
 pub use joining::{Joined, SplitError, split};

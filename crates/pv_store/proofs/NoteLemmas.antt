@@ -1,15 +1,22 @@
 -- What is held of transactions, with one more record.
-use Rattle.std.proofs.Common.{◌≡◌, ◌∙◌, Bool, true, false, Some, None, Option, List, [], ◌∷◌, ◌++◌, ◌||◌, ◌&&◌, refl, sym, ap}
+use Rattle.std.proofs.Common.{◌≡◌, ◌<◌, ◌∙◌, Bool, true, false, Some, None, Option, List, [], ◌∷◌, ◌++◌, ◌||◌, ◌&&◌, refl, sym, ap}
 use Rattle.std.specs.Prelude.{if◌then◌else◌, is_none}
 use Rattle.std.specs.Option.{option_or}
 use Rattle.pv_base.specs.Assignment.{is_same_txn}
 use Rattle.pv_base.specs.declared.txn.TxnId.{TxnId}
 use Rattle.pv_base.proofs.AssignmentLemmas.{same-eq}
-use Rattle.pv_format.specs.Record.{Record, prepared, outcome_known}
+use Rattle.pv_format.specs.Record.{Record, epoch_begun, prepared, outcome_known}
 use Rattle.pv_law_shown.proofs.RecordsMore.{known-more, is_prepared-more}
 use Rattle.pv_model.specs.Alternatives.{Read}
 use Rattle.pv_protocol.specs.Records.{is_prepared}
 use Rattle.pv_store.specs.Held.{AreKnown, ArePrepared, is_promised, outcome_in}
+use Rattle.pv_store.specs.Kept.{HasRoom, Room}
+
+-- Where there is room for any record, there is room for this one.
+pub room-for-any : (room : Room) (one : Record) → 0 < room.promises → 0 < room.outcomes → HasRoom room one
+room-for-any room (epoch_begun epoch) promises outcomes = tt
+room-for-any room (prepared txn writes) promises outcomes = promises
+room-for-any room (outcome_known txn commits) promises outcomes = outcomes
 
 or-comm : (a b : Bool) → a || b ≡ b || (a || false)
 or-comm true true = refl

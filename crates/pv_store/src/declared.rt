@@ -14,7 +14,7 @@ pub(crate) fn declared_values(
 ) -> Result<Vec<Option<Poly<i64>>>, NoMemory>
     ensures { IfOk result (λ values. AreShown catalog.now site.0 [] [] values.items) }
 {
-    let mut values = Vec::new(alloc);
+    let mut values = Vec::with_capacity(alloc, catalog.len() as usize)?;
     for item in 0..catalog.len() {
         values.push(declared_value(alloc, catalog, site, ItemId(item))?)?;
     }

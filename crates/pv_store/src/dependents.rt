@@ -83,6 +83,9 @@ impl Dependents {
     pub(crate) fn remove(&mut self, txn: TxnId)
         ensures { (other : TxnId) (item : ℕ) → is_same_txn other txn ≡ false → has_place self.new other item ≡ has_place self.old other item }
     {
+        if self.items.is_empty() {
+            return;
+        }
         let _ = self.items.swap_remove(&txn);
     }
 }

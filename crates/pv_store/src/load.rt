@@ -43,9 +43,9 @@ pub(crate) fn note_all(alloc: Global, records: &[Record]) -> Result<Noted, NoMem
     let mut outcomes = Outcomes::new(alloc);
     let mut unnamed = Dependents::new(alloc);
     let mut history = History::new();
+    promises.reserve(records.len())?;
+    outcomes.reserve(records.len())?;
     for record in records {
-        promises.reserve()?;
-        outcomes.reserve()?;
         note(&mut promises, &mut outcomes, &mut unnamed, record);
         history = history.and(record);
     }
@@ -143,7 +143,7 @@ fn copy_values(
 ) -> Result<Vec<Option<Poly<i64>>>, NoMemory>
     ensures { IfOk result (λ copy. copy.items ≡ values.now) }
 {
-    let mut copy = Vec::new(alloc);
+    let mut copy = Vec::with_capacity(alloc, values.len())?;
     for value in values {
         copy.push(copy_value(alloc, value)?)?;
     }

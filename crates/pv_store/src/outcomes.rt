@@ -1,5 +1,5 @@
 // The outcomes that are known.
-ghost use Rattle.std.specs.Prelude.{◌≡◌, ◌<◌, [], Some, None, is_none, ◌&&◌, if◌then◌else◌, OnOk};
+ghost use Rattle.std.specs.Prelude.{◌≡◌, ◌<◌, ◌≤◌, ◌+◌, [], Some, None, is_none, ◌&&◌, if◌then◌else◌, OnOk};
 ghost use Rattle.pv_base.specs.Assignment.{is_same_txn};
 ghost use Rattle.pv_base.specs.declared.txn.TxnId.{TxnId};
 ghost use Rattle.pv_store.specs.Held.{outcome_in};
@@ -41,19 +41,20 @@ impl Outcomes {
         self.outcomes.get(&txn).copied()
     }
 
-    /// Makes room for one more.
-    pub(crate) fn reserve(&mut self) -> Result<(), NoMemory>
+    /// Makes room for so many more.
+    pub(crate) fn reserve(&mut self, more: usize) -> Result<(), NoMemory>
         ensures same { self.new.outcomes ≡ self.old.outcomes }
-        ensures room { OnOk result (0 < self.new.room) }
+        ensures room { OnOk result (more ≤ self.new.room) }
     {
-        self.outcomes.reserve(1)?;
+        self.outcomes.reserve(more)?;
         Ok(())
     }
 
     /// Takes note of the transaction's outcome, if none is known.
     pub(crate) fn add(&mut self, txn: TxnId, commits: bool)
         requires { 0 < self.old.room }
-        ensures { (other : TxnId) → outcome_in self.new.outcomes other ≡
+        ensures room { self.old.room ≤ self.new.room + 1 }
+        ensures added { (other : TxnId) → outcome_in self.new.outcomes other ≡
             (if is_same_txn other txn && is_none (outcome_in self.old.outcomes txn) then Some commits else outcome_in self.old.outcomes other) }
     {
         if self.get(txn).is_none() {

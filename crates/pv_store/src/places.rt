@@ -6,6 +6,7 @@ ghost use Rattle.pv_store.specs.Kept.{has_place};
 
 use crate::dependents::Dependents;
 use pv_base::{ItemId, NoMemory, TxnId};
+use pv_cases::is_sure;
 use pv_poly::Read;
 use std::alloc::Global;
 
@@ -29,6 +30,9 @@ fn place_value(alloc: Global, dependents: &mut Dependents, value: &Read) -> Resu
     ensures more { (other : TxnId) (there : ℕ) → has_place dependents.old other there ≡ true → has_place dependents.new other there ≡ true }
     ensures placed { OnOk result ((txn : TxnId) → IsTrue (names value.now.cases txn) → has_place dependents.new txn value.now.item ≡ true) }
 {
+    if is_sure(value.value.cases()) {
+        return Ok(());
+    }
     let txns = value.value.names(alloc)?;
     place_at(dependents, &txns, value.item)
 }

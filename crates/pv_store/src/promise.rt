@@ -14,7 +14,7 @@ ghost use Rattle.pv_store.specs.Refusals.{IsRefusedFor, if_too_many, names_count
 use crate::StoreError;
 use crate::outcomes::Outcomes;
 use pv_base::{Exact, Literal, NameError, NoMemory, TxnId};
-use pv_cases::names_of;
+use pv_cases::{is_sure, names_of};
 use pv_poly::Poly;
 use std::alloc::Global;
 
@@ -58,6 +58,9 @@ pub(crate) fn settled<V: Exact>(
         IfOk result (λ settled. (assignment : List TxnId) → value_at settled assignment ≡ value_at value.now (choice records assignment)) }
     ensures polyvalue { IfOk result (IsPolyvalue HELD_NAMES) }
 {
+    if is_sure(value.cases()) {
+        return value.copy(alloc);
+    }
     let txns = names_of(alloc, value.cases())?;
     let known = known_outcomes(alloc, outcomes, &txns)?;
     if known.is_empty() {

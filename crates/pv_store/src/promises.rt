@@ -1,5 +1,5 @@
 // The transactions that are prepared.
-ghost use Rattle.std.specs.Prelude.{◌≡◌, ◌<◌, ◌≤◌, ◌||◌, [], OnOk};
+ghost use Rattle.std.specs.Prelude.{◌≡◌, ◌<◌, ◌≤◌, ◌+◌, ◌||◌, [], OnOk};
 ghost use Rattle.pv_base.specs.Assignment.{is_same_txn};
 ghost use Rattle.pv_base.specs.declared.txn.TxnId.{TxnId};
 ghost use Rattle.pv_store.specs.Held.{is_promised};
@@ -41,19 +41,20 @@ impl Promises {
         self.txns.contains(&txn)
     }
 
-    /// Makes room for one more.
-    pub(crate) fn reserve(&mut self) -> Result<(), NoMemory>
+    /// Makes room for so many more.
+    pub(crate) fn reserve(&mut self, more: usize) -> Result<(), NoMemory>
         ensures same { self.new.txns ≡ self.old.txns }
-        ensures room { OnOk result (0 < self.new.room) }
+        ensures room { OnOk result (more ≤ self.new.room) }
     {
-        self.txns.reserve(1)?;
+        self.txns.reserve(more)?;
         Ok(())
     }
 
     /// Takes note that the transaction is prepared.
     pub(crate) fn add(&mut self, txn: TxnId)
         requires { 0 < self.old.room }
-        ensures { (other : TxnId) → is_promised self.new.txns other ≡ (is_same_txn other txn || is_promised self.old.txns other) }
+        ensures room { self.old.room ≤ self.new.room + 1 }
+        ensures added { (other : TxnId) → is_promised self.new.txns other ≡ (is_same_txn other txn || is_promised self.old.txns other) }
     {
         let _ = self.txns.insert(txn);
     }

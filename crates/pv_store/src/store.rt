@@ -154,7 +154,7 @@ impl Store {
     {
         let values = values_after(self.alloc, &self.outcomes, &self.values, txn, writes)?;
         place_all(self.alloc, &mut self.dependents, &values)?;
-        self.promises.reserve()?;
+        self.promises.reserve(1)?;
         Ok(StoreChange {
             record: Record::Prepared {
                 txn,
@@ -178,7 +178,7 @@ impl Store {
             txn,
             commits,
         )?;
-        self.outcomes.reserve()?;
+        self.outcomes.reserve(1)?;
         Ok(StoreChange {
             record: Record::Outcome { txn, commits },
             values,

@@ -15,8 +15,8 @@ use pv_bytes::Take;
 use pv_replay::{PolyError, take_site, take_txn};
 use std::alloc::Global;
 
-/// The message that the bytes spell, or their first fault in reading order. Room is made for what has been read, never by a count alone. Takes
-/// time in proportion to the bytes.
+/// The message that the bytes spell, or their first fault in reading order. Room is made for what has been read, and by a
+/// count alone for four elements at most. Takes time in proportion to the bytes.
 pub fn decode(alloc: Global, bytes: &[u8]) -> Result<Envelope, WireError>
     ensures answer { Answers (λ envelope. SpellsEnvelope envelope bytes.now) (EnvelopeFault bytes.now) envelope_of fault_of result }
 {

@@ -9,4 +9,4 @@ use Rattle.pv_query.proofs.answers.possible.Given as goal
 
 abbrev pub invariant-loop-case : goal.invariant-loop-case
 invariant-loop-case l =
-    (l.replies.items ++ left_of reply_eq.ghosts.eq l.replies.items (map (λ (case : Case _). case.value) (drop l.case-index l.case-items))) ≡ possible reply_eq.ghosts.eq l.reply
+    (l.replies ++ left_of reply_eq.ghosts.eq l.replies (map (λ (case : Case _). case.value) (drop l.case-index l.case-items))) ≡ possible reply_eq.ghosts.eq l.reply

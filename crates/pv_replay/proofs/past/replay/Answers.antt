@@ -21,9 +21,16 @@ Found content found = MatchOption found (IsNoRecord content) (λ value. SpellsRe
 found : (content : List ℕ) (told is : Option Record) → told ≡ is → Found content told → Found content is
 found content told is same what = subst (Found content) same what
 
+pub returns-in_err-records-clause-answer : goal.returns-in_err-records-clause-answer
+returns-in_err-records-clause-answer c =
+    let p = err_from_is_err_and c.from_residual.result c.from_residual.ensures.1 in
+    rw (p.1, p.2)
+    (answered (λ records. SpellRecords records (contents_of c.args.contents.now)) (IsFirstBadContent (contents_of c.args.contents.now))
+    (one-replay-answer (contents_of c.args.contents.now) c.contents_are_bytes.ensures) (λ (past : Past). records_of past.records.items) index_of (Err NoMemory) tt tt)
+
 pub returns-in_err-record-clause-answer : goal.returns-in_err-record-clause-answer
 returns-in_err-record-clause-answer c =
-    let p = err_from_is_err_and c.from_residual.result c.from_residual.ensures.1 in
+    let p = err_from_is_err_and c.from_residual-in_err-record.result c.from_residual-in_err-record.ensures.1 in
     rw (p.1, p.2)
     (answered (λ records. SpellRecords records (contents_of c.args.contents.now)) (IsFirstBadContent (contents_of c.args.contents.now))
     (one-replay-answer (contents_of c.args.contents.now) c.contents_are_bytes.ensures) (λ (past : Past). records_of past.records.items) index_of (Err NoMemory) tt tt)

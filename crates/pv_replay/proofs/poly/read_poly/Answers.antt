@@ -1,47 +1,64 @@
--- The cases, and then whether they are a polyvalue.
-use Rattle.std.proofs.Common.{◌≡◌, true, false, MatchOption, ◌∙◌, sym, subst, arith}
+-- The count, so many cases, and then whether they are a polyvalue.
+use Rattle.std.proofs.Common.{◌∷◌, [], Some, arith}
 use Rattle.std.proofs.lemmas.Result.{err_from_is_err_and}
-use Rattle.pv_base.specs.Polyvalue.{IsPolyvalue}
-use Rattle.pv_base.specs.declared.limits.TheConstants.{HELD_NAMES}
-use Rattle.pv_replay.specs.declared.error.PolyError.TheVariants.{BadPoly, NoMemory}
-use Rattle.pv_base.specs.CaseFaults.{fault_of as case_fault_of}
+use Rattle.pv_format.specs.FirstFault.{short}
+use Rattle.pv_format.specs.Layout.{any}
 use Rattle.pv_replay.specs.Faults.{fault_of}
-use Rattle.pv_law_fields.proofs.PolyvalueLemmas.{passes_poly, stops_poly, stops_cases, counted_literals}
-use Rattle.pv_replay.proofs.OrderLemmas.{polyvalue_looks}
-use Rattle.pv_replay.proofs.RefusalLemmas.{refused_poly}
+use Rattle.pv_law_fields.proofs.PartLemmas.{stops_at_number, stops_short}
+use Rattle.pv_law_fields.proofs.PolyvalueLemmas.{stops_cases, counted_literals}
+use Rattle.pv_replay.proofs.CaseLemmas.{after_count, cases_pass, cases_stop, case_passes, case_stops, kept_passes, refused_stops}
 use Rattle.pv_replay.proofs.poly.read_poly.Goals as goal
+
+pub returns-in_err-count-clause-stops : goal.returns-in_err-count-clause-stops
+returns-in_err-count-clause-stops c =
+    let p = err_from_is_err_and c.from_residual.result c.from_residual.ensures.1 in
+    rw (p.1, p.2)
+    (stops_cases c.args.take.now (Some (short c.in_err-count.field-0.0.0))
+    (stops_at_number 2 any after_count c.args.take.now (Some (short c.in_err-count.field-0.0.0))
+    (stops_short 2 any c.args.take.now c.u16.new.self c.in_err-count.field-0.0 c.in_err-count.ensures.short)))
+
+pub returns-in_err-case-clause-stops : goal.returns-in_err-case-clause-stops
+returns-in_err-case-clause-stops c =
+    let p = err_from_is_err_and c.from_residual-in_err-case.result c.from_residual-in_err-case.ensures.1 in
+    rw (p.1, p.2)
+    (stops_cases c.args.take.now (fault_of c.in_err-case.field-0.0)
+    (case_stops c.in_ok-count.count c.args.take.now c.u16.new.self c.in_ok-count.ensures.taken (omega arith) (fault_of c.in_err-case.field-0.0) (omega arith) c.in_err-case.ensures.stops))
+
+pub returns-then-count-eq1-clause-passes : goal.returns-then-count-eq1-clause-passes
+returns-then-count-eq1-clause-passes c =
+    kept_passes (c.in_ok-case.case ∷ []) c.args.take.now c.take_case.new.take
+    (case_passes c.in_ok-count.count c.args.take.now c.u16.new.self c.in_ok-count.ensures.taken (omega arith) c.in_ok-case.case c.take_case.new.take (omega arith) c.in_ok-case.ensures.passes)
+    c.poly_of_case.result c.poly_of_case.ensures.kept
+
+pub returns-then-count-eq1-clause-stops : goal.returns-then-count-eq1-clause-stops
+returns-then-count-eq1-clause-stops c =
+    refused_stops (c.in_ok-case.case ∷ []) c.args.take.now c.take_case.new.take
+    (case_passes c.in_ok-count.count c.args.take.now c.u16.new.self c.in_ok-count.ensures.taken (omega arith) c.in_ok-case.case c.take_case.new.take (omega arith) c.in_ok-case.ensures.passes)
+    c.place-place.result c.poly_of_case.result c.place-place.ensures.place c.poly_of_case.ensures.refused
 
 pub returns-in_err-cases-clause-stops : goal.returns-in_err-cases-clause-stops
 returns-in_err-cases-clause-stops c =
-    let p = err_from_is_err_and c.from_residual.result c.from_residual.ensures.1 in
-    rw (p.1, p.2) (stops_cases c.args.take.now (fault_of c.in_err-cases.field-0.0) c.in_err-cases.ensures.stops)
+    let p = err_from_is_err_and c.from_residual-in_err-cases.result c.from_residual-in_err-cases.ensures.1 in
+    rw (p.1, p.2)
+    (stops_cases c.args.take.now (fault_of c.in_err-cases.field-0.0)
+    (cases_stop c.in_ok-count.count c.args.take.now c.u16.new.self c.in_ok-count.ensures.taken (omega arith) (fault_of c.in_err-cases.field-0.0) c.in_err-cases.ensures.stops))
 
-pub returns-then-not-look_canonical-clause-stops : goal.returns-then-not-look_canonical-clause-stops
-returns-then-not-look_canonical-clause-stops c =
-    rw c.place-place.ensures.place
-    (stops_poly c.in_ok-cases.cases.items c.args.take.now c.take_cases.new.take c.in_ok-cases.ensures.passes.taken
-    (λ poly.
-    let order = c.look_canonical.ensures ∙ polyvalue_looks c.deref.result.now (subst (IsPolyvalue HELD_NAMES) (sym c.deref.ensures.value) poly) in
-    let is : c.look_canonical.result ≡ false = c.if-not-look_canonical.true in
-    let both : false ≡ true = sym is ∙ order in
-    cc))
-
-pub from_cases-requires-clause-few_literals : goal.from_cases-requires-clause-few_literals
-from_cases-requires-clause-few_literals c =
-    let cases = c.in_ok-cases.ensures.passes.taken.is in
-    let fits = cases.first.fits in
-    let all = counted_literals c.in_ok-cases.cases.items cases.back cases.second in
+pub poly_of-requires-clause-few_literals : goal.poly_of-requires-clause-few_literals
+poly_of-requires-clause-few_literals c =
+    let counted = c.in_ok-cases.ensures.counted in
+    let all = counted_literals c.in_ok-cases.cases.items c.in_ok-cases.ensures.passes.taken.front c.in_ok-cases.ensures.passes.taken.is in
     omega arith
 
-pub returns-in-Ok-clause-passes : goal.returns-in-Ok-clause-passes
-returns-in-Ok-clause-passes c =
-    rw c.in-Ok.ensures.answer.given.kept
-    (passes_poly c.in_ok-cases.cases.items c.args.take.now c.take_cases.new.take c.in_ok-cases.ensures.passes.taken
-    (subst (IsPolyvalue HELD_NAMES) c.in-Ok.ensures.answer.given.kept c.in-Ok.ensures.answer.given.polyvalue))
+pub returns-clause-passes : goal.returns-clause-passes
+returns-clause-passes c =
+    kept_passes c.in_ok-cases.cases.items c.args.take.now c.take_counted_cases.new.take
+    (cases_pass c.in_ok-count.count c.args.take.now c.u16.new.self c.in_ok-count.ensures.taken (omega arith) c.in_ok-cases.cases.items c.take_counted_cases.new.take
+    c.in_ok-cases.ensures.counted c.in_ok-cases.ensures.passes)
+    c.poly_of.result c.poly_of.ensures.kept
 
-pub returns-in-Err-clause-stops : goal.returns-in-Err-clause-stops
-returns-in-Err-clause-stops c =
-    refused_poly c.in_ok-cases.cases.items c.args.take.now c.take_cases.new.take c.in_ok-cases.ensures.passes.taken
-    (λ fault. c.no_canonical_fault.ensures HELD_NAMES c.in_ok-cases.cases.items fault)
-    (case_fault_of c.in-Err.e) c.refusal.result c.in-Err.ensures.answer.refused
-    (subst (λ place. MatchOption (case_fault_of c.in-Err.e) (c.refusal.result ≡ NoMemory) (λ _. c.refusal.result ≡ BadPoly place)) c.place-place.ensures.place c.refusal.ensures)
+pub returns-clause-stops : goal.returns-clause-stops
+returns-clause-stops c =
+    refused_stops c.in_ok-cases.cases.items c.args.take.now c.take_counted_cases.new.take
+    (cases_pass c.in_ok-count.count c.args.take.now c.u16.new.self c.in_ok-count.ensures.taken (omega arith) c.in_ok-cases.cases.items c.take_counted_cases.new.take
+    c.in_ok-cases.ensures.counted c.in_ok-cases.ensures.passes)
+    c.place-place.result c.poly_of.result c.place-place.ensures.place c.poly_of.ensures.refused

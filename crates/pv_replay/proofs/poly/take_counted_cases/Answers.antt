@@ -9,7 +9,7 @@ use Rattle.pv_replay.proofs.poly.take_counted_cases.Goals as goal
 
 pub loop-alloc-init : goal.loop-alloc-init
 loop-alloc-init c =
-    rw c.new-cases.ensures.items record { few = omega arith; reading = reading_starts SpellsCase case_layout c.args.count c.args.take.now }
+    rw c.in_ok-cases.ensures record { few = omega arith; reading = reading_starts SpellsCase case_layout c.args.count c.args.take.now }
 
 pub loop-alloc-preserved : goal.loop-alloc-preserved
 loop-alloc-preserved c =
@@ -23,7 +23,7 @@ loop-alloc-preserved c =
 
 pub returns-in_err-take_case-clause-stops : goal.returns-in_err-take_case-clause-stops
 returns-in_err-take_case-clause-stops c =
-    let p = err_from_is_err_and c.from_residual.result c.from_residual.ensures.1 in
+    let p = err_from_is_err_and c.from_residual-in_err-take_case.result c.from_residual-in_err-take_case.ensures.1 in
     let some : length c.loop-alloc.cases.items < c.args.count = omega arith in
     rw (p.1, p.2)
     (reading_stops SpellsCase case_layout c.loop-alloc.cases.items c.args.count c.args.take.now c.loop-alloc.take (fault_of c.in_err-take_case.field-0.0) some

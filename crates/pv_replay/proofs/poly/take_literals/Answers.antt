@@ -9,7 +9,7 @@ use Rattle.pv_replay.proofs.poly.take_literals.Goals as goal
 
 pub loop-when-init : goal.loop-when-init
 loop-when-init c =
-    rw c.new-when.ensures.items record { few = omega arith; reading = reading_starts SpellsLiteral literal_layout c.args.count c.args.take.now }
+    rw c.in_ok-when.ensures record { few = omega arith; reading = reading_starts SpellsLiteral literal_layout c.args.count c.args.take.now }
 
 pub loop-when-preserved : goal.loop-when-preserved
 loop-when-preserved c =
@@ -23,7 +23,7 @@ loop-when-preserved c =
 
 pub returns-in_err-take_literal-clause-stops : goal.returns-in_err-take_literal-clause-stops
 returns-in_err-take_literal-clause-stops c =
-    let p = err_from_is_err_and c.from_residual.result c.from_residual.ensures.1 in
+    let p = err_from_is_err_and c.from_residual-in_err-take_literal.result c.from_residual-in_err-take_literal.ensures.1 in
     let some : length c.loop-when.when.items < c.args.count = omega arith in
     rw (p.1, p.2)
     (reading_stops SpellsLiteral literal_layout c.loop-when.when.items c.args.count c.args.take.now c.loop-when.take (fault_of c.in_err-take_literal.field-0.0) some

@@ -11,7 +11,7 @@ use Rattle.pv_replay.proofs.reads.take_counted_reads.Goals as goal
 
 pub loop-alloc-init : goal.loop-alloc-init
 loop-alloc-init c =
-    rw c.new-reads.ensures.items
+    rw c.in_ok-reads.ensures
     record { few = omega arith; small = omega arith; reading = entries_start (λ (entry : Read). SpellsPolyvalue entry.cases) (λ entry. entry.item) polyvalue_then c.args.count c.args.take.now }
 
 pub loop-alloc-preserved : goal.loop-alloc-preserved
@@ -29,7 +29,7 @@ loop-alloc-preserved c =
 
 pub returns-in_err-item-clause-stops : goal.returns-in_err-item-clause-stops
 returns-in_err-item-clause-stops c =
-    let p = err_from_is_err_and c.from_residual.result c.from_residual.ensures.1 in
+    let p = err_from_is_err_and c.from_residual-in_err-item.result c.from_residual-in_err-item.ensures.1 in
     let some : length c.loop-alloc.reads.items < c.args.count = omega arith in
     rw (p.1, p.2)
     (entries_stop_at_item (λ (entry : Read). SpellsPolyvalue entry.cases) (λ entry. entry.item) polyvalue_then c.loop-alloc.reads.items c.args.count c.loop-alloc.least c.args.take.now c.loop-alloc.take

@@ -1,9 +1,11 @@
 -- What is told when a transaction commits.
-use Rattle.std.proofs.Common.{◌∙◌, ◌++◌, List, map, true, ap, refl}
+use Rattle.std.proofs.Common.{◌∙◌, ◌++◌, List, [], ◌∷◌, map, true, ap, refl}
 use Rattle.pv_model.specs.Check.{Part}
+use Rattle.pv_format.specs.Record.{outcome_known}
+use Rattle.pv_protocol.specs.Coordinate.{reply_value}
 use Rattle.pv_protocol.specs.Here.{outcome_sends}
 use Rattle.pv_protocol.specs.Vote.{others_than}
-use Rattle.pv_site.proofs.VoteSteps.{commit-told, no-parts, no-reply, reply-settled}
+use Rattle.pv_site.proofs.VoteSteps.{commit-told, no-parts, no-reply, reply-committed}
 use Rattle.pv_site.specs.Values.{outgoing_of}
 use Rattle.pv_site.specs.declared.input.Outgoing.{Outgoing}
 use Rattle.pv_site.proofs.committing.committed.Goals as goal
@@ -17,10 +19,9 @@ returns-in_default-reply c = λ work is. absurd (no-reply c.args.parts.now c.req
 pub returns : goal.returns
 returns c = λ work is.
     let parts = c.args.parts.now in
-    commit-told parts c.requires c.args.txn work is _ c.in-Some.plan.now.parts.items c.in_ok-settle.field-0 c.in-Some.ensures
-    (reply-settled parts c.requires c.args.txn work is c.in-Some-reply.reply.now c.in_ok-known.known c.in_ok-settle.field-0 c.in-Some-reply.ensures
-    c.in_ok-known.ensures.value c.in_ok-settle.ensures.settled c.in_ok-settle.ensures.polyvalue)
+    let settled = reply_value (parts.store.records ++ outcome_known c.args.txn true ∷ []) work.entry in
+    commit-told parts c.requires c.args.txn work is _ c.in-Some.plan.now.parts.items settled c.in-Some.ensures refl
     (c.in_ok-push_to_others.ensures
-    ∙ ap (λ (before : List Outgoing). map outgoing_of before ++ outcome_sends c.args.txn true (others_than parts.me.0 (map (λ (part : Part). part.site) c.deref.result.now))) c.new-sends.ensures.items
+    ∙ ap (λ (before : List Outgoing). map outgoing_of before ++ outcome_sends c.args.txn true (others_than parts.me.0 (map (λ (part : Part). part.site) c.deref.result.now))) c.in_ok-sends.ensures.items
     ∙ ap (λ (p : List Part). outcome_sends c.args.txn true (others_than parts.me.0 (map (λ (part : Part). part.site) p))) c.deref.ensures.value)
-    (rw (c.in_ok-push.ensures.items, c.new-notes.ensures.items, c.in_ok-replies.ensures.possible) refl) refl
+    (rw (c.in_ok-push.ensures.items, c.in_ok-notes.ensures.items, c.in_ok-replies.ensures settled (reply-committed parts c.requires c.args.txn work is c.in-Some-reply.reply.now c.in-Some-reply.ensures)) refl) refl

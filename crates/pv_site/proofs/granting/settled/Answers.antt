@@ -1,14 +1,14 @@
--- One more write.
-use Rattle.std.proofs.Common.{◌+◌, List, sym, subst, take}
-use Rattle.std.specs.List.{AllZip}
-use Rattle.std.proofs.lemmas.List.Elements.{all_zip_more}
+-- Where no outcome is named, all stays as it is.
+use Rattle.std.proofs.Common.{◌∙◌, sym}
+use Rattle.std.specs.List.{list_all}
+use Rattle.std.proofs.lemmas.Bool.{and_parts}
 use Rattle.pv_model.specs.Alternatives.{Read}
-use Rattle.pv_site.specs.LockPoint.{IsWritePutIn}
+use Rattle.pv_site.proofs.SureLemmas.{sure-writes-put-in}
+use Rattle.pv_cases.specs.Sure.{is_one_case}
 use Rattle.pv_site.proofs.granting.settled.Goals as goal
 
-pub loop-write-preserved : goal.loop-write-preserved
-loop-write-preserved c =
-    let R = IsWritePutIn c.args.store.now.records in
-    subst (λ (written : List Read). AllZip R (take (c.loop-write.write-index + 1) c.deref-write-items.result.now) written) (sym c.in_ok-push.ensures.items)
-    (all_zip_more R c.deref-write-items.result.now c.loop-write.writes.items c.loop-write.write-index c.write-item.result c.in_ok-settled_write.field-0
-    c.loop-write-test.true c.write-item.is c.loop-write.invariant c.in_ok-settled_write.ensures)
+pub returns-then-is_sure_throughout-clause-writes : goal.returns-then-is_sure_throughout-clause-writes
+returns-then-is_sure_throughout-clause-writes c =
+    let writes = c.args.joined.writes.items in
+    sure-writes-put-in c.args.store.now.records writes
+    (and_parts (is_one_case c.args.joined.reply) (list_all (λ (write : Read). is_one_case write.cases) writes) (sym c.is_sure_throughout.ensures ∙ c.if-is_sure_throughout.true)).1

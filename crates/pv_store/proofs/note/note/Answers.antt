@@ -27,7 +27,7 @@ returns-in-Epoch-clause-known c = λ records are txn.
 
 pub returns-in-Prepared-clause-prepared : goal.returns-in-Prepared-clause-prepared
 returns-in-Prepared-clause-prepared c = λ records are txn.
-    prepared-more c.args.promises.now.txns c.add.new.self.txns c.in-Prepared.txn c.add.ensures c.in-Prepared.writes.items records are txn
+    prepared-more c.args.promises.now.txns c.add.new.self.txns c.in-Prepared.txn c.add.ensures.added c.in-Prepared.writes.items records are txn
     ∙ prepared-as records _ _ (ap record_of c.in-Prepared.is) txn
 
 pub returns-in-Prepared-clause-known : goal.returns-in-Prepared-clause-known
@@ -40,5 +40,5 @@ returns-in-Outcome-clause-prepared c = λ records are txn.
 
 pub returns-in-Outcome-clause-known : goal.returns-in-Outcome-clause-known
 returns-in-Outcome-clause-known c = λ records are txn.
-    known-with c.args.outcomes.now.outcomes c.add-in-Outcome.new.self.outcomes c.in-Outcome.txn c.in-Outcome.commits c.add-in-Outcome.ensures records are txn
+    known-with c.args.outcomes.now.outcomes c.add-in-Outcome.new.self.outcomes c.in-Outcome.txn c.in-Outcome.commits c.add-in-Outcome.ensures.added records are txn
     ∙ known-as records _ _ (ap record_of c.in-Outcome.is) txn

@@ -10,7 +10,7 @@ use Rattle.pv_protocol.specs.Keyed.{of_txn, without}
 use Rattle.pv_coord.proofs.coord.Coord.drop_entry.Goals as goal
 
 -- what is left is what isn't of the transaction
-pub removed : (c : goal.After-drop-remove-in-Some-4) → c.remove.new.self.items ≡ without txn_of c.args.txn c.self.inside.entries.items
+pub removed : (c : goal.After-drop-remove-in-Some-3) → c.remove.new.self.items ≡ without txn_of c.args.txn c.self.inside.entries.items
 removed c =
     let at : IsPlace c.self.inside.entries.items c.args.txn c.in-Some.place =
     subst (λ (works : List Work). IsPlace works c.args.txn c.in-Some.place) c.deref.ensures.value c.in-Some.ensures in

@@ -5,5 +5,5 @@ use Rattle.pv_poly.proofs.poly.Poly.at.Goals as goal
 
 pub unreachable-requires : goal.unreachable-requires
 unreachable-requires g c =
-    some-met c.args.self.now c.deref-case-items.result.now c.args.yes.now c.loop-case.case-index
+    some-met c.args.self.now c.as_slice-case-items.result.now c.args.yes.now c.loop-case.case-index
     (subst IsCanonical c.self.view_is c.self.invariant.canonical) c.loop-case.invariant c.loop-case-test.false

@@ -12,7 +12,8 @@ use Rattle.pv_base.proofs.AnswerLemmas.{answered}
 use Rattle.pv_cases.specs.NameLimits.{count_of, IsChosen, ChoiceNamesTooMany}
 use Rattle.pv_cases.proofs.NameLimitLemmas.{one-chosen}
 use Rattle.pv_cases.proofs.RefusedLemmas.{refused-so}
-use Rattle.pv_poly.proofs.SureChoice.{sure-chosen}
+use Rattle.pv_poly.specs.HeldCases.{held_cases}
+use Rattle.pv_cases.proofs.SureChoice.{sure-chosen}
 use Rattle.pv_poly.proofs.poly.Poly.choose.Goals as goal
 
 module _ {V : Type 0} {same : V → V → Bool} (laws : IsExact same) (txn : TxnId) (aborted committed : List (Case V)) (first : IsCanonical aborted) (second : IsCanonical committed) where
@@ -40,8 +41,8 @@ returns-in_err-cases_of_choice g c =
 pub invariant_of-result : goal.invariant_of-result
 invariant_of-result g c =
     (sure-chosen HELD_NAMES c.args.txn c.in-Some.values.0 c.in-Some.values.1 (omega arith) c.in-Some.ensures.1.1 c.args.old.now c.args.new.now c.in_ok-cases_of_choice.field-0.items
-    (sym (c.deref.ensures.value ∙ c.old.view_is) ∙ c.in-Some.ensures.0)
-    (sym (c.deref-2.ensures.value ∙ c.new.view_is) ∙ c.in-Some.ensures.1.0)
+    (sym (c.as_slice.ensures ∙ c.old.view_is) ∙ c.in-Some.ensures.0)
+    (sym (c.as_slice-2.ensures ∙ c.new.view_is) ∙ c.in-Some.ensures.1.0)
     c.in_ok-cases_of_choice.ensures).polyvalue
 
 pub returns-in-Some : goal.returns-in-Some
@@ -51,8 +52,8 @@ returns-in-Some g c =
       answer = given-choice laws c.args.txn c.args.old.now c.args.new.now (subst IsCanonical c.old.view_is c.old.invariant.canonical) (subst IsCanonical c.new.view_is c.new.invariant.canonical)
           c.in_ok-cases_of_choice.field-0.items
           (sure-chosen HELD_NAMES c.args.txn c.in-Some.values.0 c.in-Some.values.1 (omega arith) c.in-Some.ensures.1.1 c.args.old.now c.args.new.now c.in_ok-cases_of_choice.field-0.items
-          (sym (c.deref.ensures.value ∙ c.old.view_is) ∙ c.in-Some.ensures.0)
-          (sym (c.deref-2.ensures.value ∙ c.new.view_is) ∙ c.in-Some.ensures.1.0)
+          (sym (c.as_slice.ensures ∙ c.old.view_is) ∙ c.in-Some.ensures.0)
+          (sym (c.as_slice-2.ensures ∙ c.new.view_is) ∙ c.in-Some.ensures.1.0)
           c.in_ok-cases_of_choice.ensures);
     }
 
@@ -65,13 +66,13 @@ returns-in_err-tree g c =
           c.from_residual-in_err-tree.result c.in_err-tree.field-0.0 (search (rules, is)) c.in_err-tree.ensures.refused;
     }
 
-pub returns-in_err-cases : goal.returns-in_err-cases
-returns-in_err-cases g c =
+pub returns-in_err-of_tree : goal.returns-in_err-of_tree
+returns-in_err-of_tree g c =
     let laws : IsExact g.V.PartialEq.eq = record { exact = g.met.V.Exact.exact; itself = g.met.V.Eq.laws.refl } in
-    let is = err_from_is_err_and c.from_residual-in_err-cases.result c.from_residual-in_err-cases.ensures.1 in
+    let is = err_from_is_err_and c.from_residual-in_err-of_tree.result c.from_residual-in_err-of_tree.ensures.1 in
     record {
       answer = refused-choice laws c.args.txn c.args.old.now c.args.new.now (subst IsCanonical c.old.view_is c.old.invariant.canonical) (subst IsCanonical c.new.view_is c.new.invariant.canonical)
-          c.from_residual-in_err-cases.result NoMemory (search (rules, is)) tt;
+          c.from_residual-in_err-of_tree.result NoMemory (search (rules, is)) tt;
     }
 
 pub returns : goal.returns
@@ -79,5 +80,5 @@ returns g c =
     let laws : IsExact g.V.PartialEq.eq = record { exact = g.met.V.Exact.exact; itself = g.met.V.Eq.laws.refl } in
     record {
       answer = given-choice laws c.args.txn c.args.old.now c.args.new.now (subst IsCanonical c.old.view_is c.old.invariant.canonical) (subst IsCanonical c.new.view_is c.new.invariant.canonical)
-          c.in_ok-cases.field-0.items (subst (IsChosen HELD_NAMES c.args.txn c.args.old.now c.args.new.now) (sym c.in_ok-cases.ensures) c.in_ok-tree.ensures.given);
+          (held_cases c.in_ok-of_tree.field-0) (subst (IsChosen HELD_NAMES c.args.txn c.args.old.now c.args.new.now) (sym c.in_ok-of_tree.ensures) c.in_ok-tree.ensures.given);
     }

@@ -25,16 +25,14 @@ module _ {V : Type 0} {same : V → V → Bool} (laws : IsExact same) (cases : L
   given-kept poly is = answered (IsKept HELD_NAMES cases) (IsCanonicalFault HELD_NAMES cases) (one-kept HELD_NAMES cases laws) (λ poly. poly) fault_of (Ok poly) is tt
 
 pub invariant_of-result : goal.invariant_of-result
-invariant_of-result g c =
-    let only = c.is_sure.ensures c.if-is_sure.true in
-    sure-polyvalue HELD_NAMES only.0 (sym c.deref.ensures.value ∙ only.1)
+invariant_of-result g c = sure-polyvalue HELD_NAMES c.in-Some.value c.sure.ensures
 
-pub returns-then-is_sure : goal.returns-then-is_sure
-returns-then-is_sure g c =
+pub returns-in-Some : goal.returns-in-Some
+returns-in-Some g c =
     let laws : IsExact g.V.PartialEq.eq = record { exact = g.met.V.Exact.exact; itself = g.met.V.Eq.laws.refl } in
-    let only = c.is_sure.ensures c.if-is_sure.true in
     record {
-      answer = given-kept laws c.args.cases.items c.args.cases.items (record { kept = refl; polyvalue = sure-polyvalue HELD_NAMES only.0 (sym c.deref.ensures.value ∙ only.1) });
+      answer = given-kept laws c.args.cases.items _
+          (record { kept = c.sure.ensures ∙ sym c.in-Some.ensures ∙ c.deref.ensures.value; polyvalue = sure-polyvalue HELD_NAMES c.in-Some.value c.sure.ensures });
     }
 
 pub returns-in_err-poly : goal.returns-in_err-poly
@@ -50,7 +48,7 @@ returns-in_err-poly g c =
 pub returns-in-None : goal.returns-in-None
 returns-in-None g c =
     let laws : IsExact g.V.PartialEq.eq = record { exact = g.met.V.Exact.exact; itself = g.met.V.Eq.laws.refl } in
-    let same : c.args.cases.items ≡ c.in_ok-poly.poly = rw (← c.deref-3.ensures.value, ← c.poly.view_is, ← c.deref-4.ensures.value) c.in-None.ensures in
+    let same : c.args.cases.items ≡ c.in_ok-poly.poly = rw (← c.deref-3.ensures.value, ← c.poly.view_is, ← c.as_slice.ensures) c.in-None.ensures in
     record {
       answer = given-kept laws c.args.cases.items c.in_ok-poly.poly (record { kept = sym same; polyvalue = c.in_ok-poly.ensures.answer.given.polyvalue });
     }
@@ -61,6 +59,6 @@ returns g c =
     let joined = c.in_ok-poly.ensures.answer.given in
     record {
       answer = refused-kept laws c.args.cases.items _ _ refl
-          (rw (← c.deref-2.ensures.value) (unreduced-fault HELD_NAMES c.deref-2.result.now joined.sound joined.few c.in_ok-poly.poly joined.polyvalue.canonical joined.values c.in-Some.place
-          (rw (c.deref-2.ensures.value, ← c.deref-3.ensures.value, ← c.poly.view_is, ← c.deref-4.ensures.value) c.in-Some.ensures)));
+          (rw (← c.deref-2.ensures.value) (unreduced-fault HELD_NAMES c.deref-2.result.now joined.sound joined.few c.in_ok-poly.poly joined.polyvalue.canonical joined.values c.in-Some-first_difference.place
+          (rw (c.deref-2.ensures.value, ← c.deref-3.ensures.value, ← c.poly.view_is, ← c.as_slice.ensures) c.in-Some-first_difference.ensures)));
     }

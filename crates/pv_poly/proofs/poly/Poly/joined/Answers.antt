@@ -3,6 +3,7 @@ use Rattle.std.proofs.Common.{◌≡◌, ◌≤◌, ◌^◌, Bool, List, Result,
 use Rattle.std.proofs.lemmas.Result.{err_from_is_err_and}
 use Rattle.pv_base.specs.Answer.{Answers}
 use Rattle.pv_base.specs.Canonical.{IsExact}
+use Rattle.pv_base.specs.Assignment.{AreAscending}
 use Rattle.pv_base.specs.CaseFaults.{fault_of, IsJoinFault}
 use Rattle.pv_base.specs.Polyvalue.{Case}
 use Rattle.pv_base.specs.declared.faults.CaseError.{CaseError}
@@ -26,16 +27,17 @@ module _ {V : Type 0} {same : V → V → Bool} (laws : IsExact same) (cases : L
       → Answers (IsJoined HELD_NAMES cases) (IsJoinFault HELD_NAMES cases) (λ poly. poly) fault_of (Ok poly)
   given-joined poly is = answered (IsJoined HELD_NAMES cases) (IsJoinFault HELD_NAMES cases) (one-joined HELD_NAMES cases laws) (λ poly. poly) fault_of (Ok poly) is tt
 
-pub from_table-requires-clause-few : goal.from_table-requires-clause-few
-from_table-requires-clause-few g c =
-    subst (λ (ts : List TxnId). length ts ≤ HELD_NAMES) (sym c.deref.ensures.value)
-    (c.in_ok-table.ensures.answer.given.few c.in_ok-table.table.txns.items c.in_ok-table.ensures.answer.given.names)
-
-pub from_table-requires-clause-whole : goal.from_table-requires-clause-whole
-from_table-requires-clause-whole g c =
+-- The polyvalue fits in memory, as a value of its type does wherever it is; and what the table's names and values are is what is asked of them.
+pub from_table-requires : goal.from_table-requires
+from_table-requires g c =
+    let given = c.in_ok-table.ensures.answer.given in
+    let few : length c.deref.result.now ≤ HELD_NAMES =
+    subst (λ (ts : List TxnId). length ts ≤ HELD_NAMES) (sym c.deref.ensures.value) (given.few c.in_ok-table.table.txns.items given.names) in
+    let whole : length c.deref-2.result.now ≡ 2 ^ length c.deref.result.now =
     ap (λ (vs : List _). length vs) c.deref-2.ensures.value
-    ∙ length-values c.args.cases.now c.in_ok-table.table.txns.items c.in_ok-table.table.values.items c.in_ok-table.ensures.answer.given.values
-    ∙ ap (λ (ts : List TxnId). 2 ^ length ts) (sym c.deref.ensures.value)
+    ∙ length-values c.args.cases.now c.in_ok-table.table.txns.items c.in_ok-table.table.values.items given.values
+    ∙ ap (λ (ts : List TxnId). 2 ^ length ts) (sym c.deref.ensures.value) in
+    (search rules, (subst AreAscending (sym c.deref.ensures.value) given.names.ascending, (few, whole)))
 
 pub returns-in_err-table : goal.returns-in_err-table
 returns-in_err-table g c =

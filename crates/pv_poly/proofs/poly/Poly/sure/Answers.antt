@@ -4,7 +4,7 @@ use Rattle.pv_cases.proofs.CountLemmas.{sure-polyvalue}
 use Rattle.pv_poly.proofs.poly.Poly.sure.Goals as goal
 
 pub invariant_of-result : goal.invariant_of-result
-invariant_of-result g c = sure-polyvalue HELD_NAMES c.args.value (cc (c.in_ok-cases.ensures, c.sure.ensures))
+invariant_of-result g c = sure-polyvalue HELD_NAMES c.args.value (c.sure.ensures)
 
 pub returns-clause-polyvalue : goal.returns-clause-polyvalue
-returns-clause-polyvalue g c = sure-polyvalue HELD_NAMES c.args.value (cc (c.in_ok-cases.ensures, c.sure.ensures))
+returns-clause-polyvalue g c = sure-polyvalue HELD_NAMES c.args.value (c.sure.ensures)

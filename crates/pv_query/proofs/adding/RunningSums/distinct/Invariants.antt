@@ -9,4 +9,4 @@ use Rattle.pv_query.proofs.adding.RunningSums.distinct.Given as goal
 
 abbrev pub invariant-loop-sum : goal.invariant-loop-sum
 invariant-loop-sum l =
-    (l.found.items ++ left_of int_eq l.found.items (map (λ z. l.self.sure +ℤ z) (drop l.sum-index l.sum-items))) ≡ without_repeats int_eq (totals l.self)
+    (l.found ++ left_of int_eq l.found (map (λ z. l.self.sure +ℤ z) (drop l.sum-index l.sum-items))) ≡ without_repeats int_eq (totals l.self)

@@ -62,14 +62,14 @@ returns-in-Err-Spent c =
     (subst (λ (e : LockError). IfSome (cause_of e) (λ (cause : LockError). answer_to c.args.self.now.locks c.args.txn c.args.wants.now ≡ Err cause)) c.in-Err-Spent.field-0-is
     c.in-Err-Spent.ensures.answer.refused))
 
-pub returns-in_ok-reserve-in-Ok-Fresh : goal.returns-in_ok-reserve-in-Ok-Fresh
-returns-in_ok-reserve-in-Ok-Fresh c =
+pub returns-in_ok-sends-in-Ok-Fresh : goal.returns-in_ok-sends-in-Ok-Fresh
+returns-in_ok-sends-in-Ok-Fresh c =
     let noticed : is_lock_ignored (here_of c.args.self.now) c.args.from.0 c.args.txn c.args.wants.now ≡ false = sym c.ignores_lock.ensures ∙ c.if-ignores_lock.false in
     let step = lock-step c.args.self.now c.args.txn c.args.wants.now c.args.from.0 (Ok (plan.Fresh c.in-Ok-Fresh.change)) noticed
     (c.in-Ok-Fresh.ensures.answer.given ∙ ap Ok c.in-Ok-Fresh.field-0-is) in
     let values = c.in_ok-values-in-Ok-Fresh in
     let sent : map outgoing_of c.push_reserved.new.self.items ≡ only_to c.args.txn.site.0 (granted c.args.txn c.apply-grant.result values.values.items) =
-    rw (c.push_reserved.ensures.items, c.reserve.ensures.items, c.new-sends.ensures.items) refl in
+    rw (c.push_reserved.ensures.items, c.in_ok-sends-in-Ok-Fresh.ensures.items) refl in
     lock-granted c.args.self.now c.args.txn c.args.wants.now c.requires.tied c.apply-grant.new.self c.in-Ok-Fresh.change c.plan_grant.new.self.room _ _ step.0 step.1
     (c.apply-grant.ensures.made ∙ ap (λ (locks : LockTable). record (table.with_grant locks c.in-Ok-Fresh.change) { next = locks.next + 1 }) c.plan_grant.ensures.unchanged)
     (sent ∙ ap (λ (id : GrantId). only_to c.args.txn.site.0 (granted c.args.txn id values.values.items)) c.apply-grant.ensures.number

@@ -24,7 +24,7 @@ returns-in-Err-Spent c =
 
 pub returns : goal.returns
 returns c =
-    let noted : map note_of c.push.new.self.items ≡ began c.change.inside.txn ∷ [] = rw (c.in_ok-push.ensures.items, c.new-notes.ensures.items) refl in
+    let noted : map note_of c.push.new.self.items ≡ began c.change.inside.txn ∷ [] = rw (c.in_ok-push.ensures.items, c.in_ok-notes.ensures.items) refl in
     let txn-is : c.change.inside.txn ≡ c.in-Ok.change.entry.txn = sym c.change.invariant ∙ ap (λ (work : Work). work.entry.txn) c.change.view_is in
     submit-begun c.args.self.now c.requires.tied c.args.program.now c.apply_begin.new.self c.in-Ok.change c.args.plan.now.parts.items _
     c.in-Ok.ensures.refused.accepted c.in-Ok.ensures.change c.requires.plan

@@ -17,8 +17,8 @@ none-by None b says is = refl
 none-by (Some outcome) true says is = sym says
 none-by (Some outcome) false says is = is
 
-pub returns-then-is_none : goal.returns-then-is_none
-returns-then-is_none c = λ other.
+pub returns-then-is_none-clause-added : goal.returns-then-is_none-clause-added
+returns-then-is_none-clause-added c = λ other.
     let old = c.self.inside.outcomes in
     let same = ap (λ (view : KnownOutcomes). outcome_in view.outcomes) c.self.view_is in
     let unknown : is_none (outcome_in c.args.self.now.outcomes c.args.txn) ≡ true =

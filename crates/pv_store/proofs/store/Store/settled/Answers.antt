@@ -18,6 +18,11 @@ names-by : {V E : Type 0} (records : List Record) (before : List (Case V)) (resu
 names-by records before (Ok settled) values is = settled-undecided records before settled is.canonical values
 names-by records before (Err e) values is = tt
 
+pub returns-clause-value : goal.returns-clause-value
+returns-clause-value g c =
+    subst (λ (kept : Kept). IfOk c.settled.result (λ settled. (a : List TxnId) → value_at settled a ≡ value_at c.args.value.now (choice kept.records a))) c.self.view_is
+    (c.settled.ensures.value (records_of c.self.inside.records.items) c.self.invariant.known)
+
 pub returns-clause-names : goal.returns-clause-names
 returns-clause-names g c =
     subst (λ (kept : Kept). IfOk c.settled.result (λ settled. (txn : TxnId) → IsTrue (names settled txn) → IsTrue (is_undecided kept.records txn))) c.self.view_is
