@@ -15,6 +15,3 @@ pub use expr::{Expr, Op, Operand};
 pub use program::{Program, Stmt};
 pub use pv_base::{Decline, Reply};
 pub use rows::Row;
-
-#[cfg(test)]
-mod tests;

@@ -25,9 +25,9 @@ pub use failure::{Failed, NoMemory};
 pub use faults::{CaseError, NameError};
 pub use grant::GrantId;
 pub use limits::{
-    HELD_NAMES, MAX_CALL, MAX_DEPTH, MAX_INPUT, MAX_ITEMS, MAX_JOURNAL, MAX_LENGTH, MAX_LINE,
-    MAX_NAME, MAX_PROGRAM_ITEMS, MAX_PUMP, MAX_SENT, MAX_SITES, MAX_WRITE_END, MIN_JOURNAL,
-    NEVER_GIVEN, READ_NAMES, TICKS,
+    HELD_NAMES, MAX_CALL, MAX_CLIENTS, MAX_DEPTH, MAX_INPUT, MAX_ITEMS, MAX_JOURNAL, MAX_LENGTH,
+    MAX_LINE, MAX_LIVE_LINE, MAX_NAME, MAX_PROGRAM_ITEMS, MAX_PUMP, MAX_REQUESTS, MAX_SENT,
+    MAX_SITES, MAX_WRITE_END, MIN_JOURNAL, NEVER_GIVEN, READ_NAMES, TICKS,
 };
 pub use literal::Literal;
 pub use mode::Mode;
@@ -35,6 +35,3 @@ pub use naming::{continues_name, is_blank, is_name};
 pub use reply::{Decline, Reply};
 pub use txn::{SiteId, TxnId, print_txn, push_txn};
 pub use want::Want;
-
-#[cfg(test)]
-mod tests;

@@ -15,6 +15,15 @@ pub const MAX_NAME: usize = 16;
 /// The greatest length of a line of text, and of a program's text, in bytes.
 pub const MAX_LINE: usize = 1000;
 
+/// The greatest length of a line of a live script, in bytes. A request is then a line of a schedule too, with its client's site.
+pub const MAX_LIVE_LINE: usize = 990;
+
+/// The greatest count of clients in a live script.
+pub const MAX_CLIENTS: usize = 8;
+
+/// The greatest count of requests of one client.
+pub const MAX_REQUESTS: usize = 1000;
+
 /// How deep the tokens of a program may nest: the greatest count of `(`, `{`, `not` and `-` before its one side that are open
 /// round a token.
 pub const MAX_DEPTH: u32 = 32;

@@ -1,3 +1,4 @@
+pub mod AddedNames
 pub mod CanonicalFaultLemmas
 pub mod CaseFaultLemmas
 pub mod CaseSplitLemmas

@@ -1,10 +1,14 @@
--- The transactions of cases, as they stand.
-use Rattle.std.specs.Prelude.{List, [], ◌∷◌, ◌++◌, map}
+-- Transactions in a list, and those of literals.
+use Rattle.std.specs.Prelude.{Bool, List, IsTrue, ◌⊎◌, ◌↔◌}
+use Rattle.std.specs.List.{Contains, list_any}
 use Rattle.pv_base.specs.declared.literal.Literal.{Literal}
 use Rattle.pv_base.specs.declared.txn.TxnId.{TxnId}
-use Rattle.pv_base.specs.Polyvalue.{Case}
+use Rattle.pv_base.specs.Assignment.{is_same_txn}
 
--- the transactions of the literals, in their order, each as often as it stands there
-abbrev pub txns_of : {V : Type 0} → List (Case V) → List TxnId
-txns_of [] = []
-txns_of (case ∷ cases) = map (λ (literal : Literal). literal.txn) case.when ++ txns_of cases
+-- One of the literals is on the transaction.
+abbrev pub mentions : List Literal → TxnId → Bool
+mentions when txn = list_any (λ literal. is_same_txn txn literal.txn) when
+
+-- The new list has what the old one has, and what is in the set, and nothing else. The order is free, and so is how often each stands there.
+abbrev pub Adds : (TxnId → Bool) → List TxnId → List TxnId → Type 0
+Adds set old new = (txn : TxnId) → Contains new txn ↔ (Contains old txn ⊎ IsTrue (set txn))

@@ -2,7 +2,6 @@
 #![tactic(auto)]
 
 mod copy;
-mod count;
 mod difference;
 mod laws;
 mod meetings;
@@ -11,7 +10,6 @@ mod sure;
 mod table;
 
 pub use copy::copy_cases;
-pub use count::count_of_both;
 pub use difference::first_difference;
 pub use laws::{
     equal_cases_are_one, no_canonical_fault, no_join_fault, one_canonical_fault, one_join_fault,
@@ -20,6 +18,3 @@ pub use laws::{
 pub use names::{names_of, ordered, push_names};
 pub use sure::is_sure;
 pub use table::{Table, table_of};
-
-#[cfg(test)]
-mod tests;

@@ -10,6 +10,3 @@ mod scan;
 pub use checking::check;
 pub use fitting::fits;
 pub use plan::{CheckError, Part, Plan};
-
-#[cfg(test)]
-mod tests;

@@ -15,6 +15,3 @@ pub use coord::Coord;
 pub use error::CoordError;
 pub use laws::a_planned_entry_is_the_protocols;
 pub use pv_poly::Read;
-
-#[cfg(test)]
-mod tests;

@@ -10,8 +10,3 @@ mod reading;
 pub use journal::{Journal, format, look};
 pub use memory::{armed_journals, formatted_journals};
 pub use open_log::OpenLog;
-
-#[cfg(test)]
-mod crash_tests;
-#[cfg(test)]
-mod tests;

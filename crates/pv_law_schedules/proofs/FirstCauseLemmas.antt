@@ -3,18 +3,18 @@ use Rattle.std.proofs.Common.{◌≡◌, ◌⊎◌, ⊎_elim, ℕ, suc, ◌<◌,
 use Rattle.std.specs.Prelude.{codes}
 use Rattle.std.specs.List.{list_all, Contains}
 use Rattle.std.proofs.lemmas.Bool.{false≢true}
-use Rattle.pv_base.specs.declared.limits.TheConstants.{MAX_LINE, MAX_PROGRAM_ITEMS}
+use Rattle.pv_base.specs.declared.limits.TheConstants.{MAX_PROGRAM_ITEMS}
 use Rattle.pv_base.specs.Catalog.{place_of}
 use Rattle.pv_base.specs.Name.{is_name}
 use Rattle.pv_model.specs.LineCauses as causes
-use Rattle.pv_model.specs.LineCauses.{Before, or_default, LineCause, line_cause_rank, HasLineCause, IsFirstCause, mode_words}
+use Rattle.pv_model.specs.LineCauses.{Before, or_default, last_requests, IsAsked, LineCause, line_cause_rank, HasLineCause, IsFirstCause, mode_words}
 use Rattle.pv_model.specs.Check.{names_item, has_assignment, has_return}
-use Rattle.pv_model.specs.LineForms.{fields_of, first_word, forms_of, form_of, has_good_number}
+use Rattle.pv_model.specs.LineForms.{live, most_bytes, fields_of, first_word, takes_program, forms_of, form_of, has_good_number}
 use Rattle.pv_model.specs.Syntax.{Program}
 use Rattle.pv_model.specs.Text.{TextLine, is_text_byte}
 use Rattle.pv_law_programs.proofs.ItemLemmas.{some_items}
 use Rattle.pv_law_schedules.proofs.OneCauseLemmas.{says_more, plain_of, plain-cause}
-use Rattle.pv_law_schedules.proofs.SomeCauseLemmas.{Decidable, decide-bool, decide-and, decide-or, decide-not, decide-nothing, decide-empty, decide-bytes, decide-less, decide-contains, decide-mode, decide-name, AtProgram, some-program, decide-fault, decide-program, decide-no_items, NamesMany, decide-many}
+use Rattle.pv_law_schedules.proofs.SomeCauseLemmas.{Decidable, decide-kind, decide-bool, decide-and, decide-or, decide-not, decide-nothing, decide-empty, decide-bytes, decide-less, decide-contains, decide-mode, decide-name, AtProgram, some-program, decide-fault, decide-program, decide-no_items, NamesMany, decide-many}
 
 -- Whether a line has a cause that says nothing more.
 
@@ -31,19 +31,28 @@ decide-as : {P Q : Type 0} → (P → Q) → (Q → P) → Decidable P → Decid
 decide-as to from (inl p) = inl (to p)
 decide-as to from (inr isnt) = inr (λ q. isnt (from q))
 
+decide-asked : (before : Before) (line : TextLine) → Decidable (IsAsked before line)
+decide-asked before line = decide-and (decide-kind before.script live) (decide-bool (takes_program (first_word line)) true)
+
 decide-cause : (before : Before) (line : TextLine) (c : LineCause) → says_more (line_cause_rank c) ≡ false → Decidable (HasLineCause before line c)
-decide-cause before line causes.too_long e = decide-less MAX_LINE (length line)
+decide-cause before line causes.too_long e = decide-less (most_bytes before.script) (length line)
 decide-cause before line causes.not_text e = decide-bool (list_all is_text_byte line) false
 decide-cause before line causes.sites_expected e = decide-and (decide-nothing before.sites) (decide-not (begins (codes "sites") line))
-decide-cause before line causes.unknown_word e = decide-empty (forms_of (first_word line))
+decide-cause before line causes.unknown_word e = decide-empty (forms_of before.script (first_word line))
 decide-cause before line causes.twice e =
-    decide-or (decide-and (begins (codes "sites") line) (decide-not (decide-nothing before.sites))) (decide-and (begins (codes "journal") line) (decide-not (decide-nothing before.journal)))
-decide-cause before line causes.too_late e = decide-and (decide-or (begins (codes "journal") line) (begins (codes "item") line)) (decide-bool before.begun true)
-decide-cause before line causes.wrong_count e = decide-nothing (form_of line)
-decide-cause before line causes.bad_number e = decide-bool (list_all (has_good_number (or_default 0 before.sites)) (fields_of line)) false
-decide-cause before line causes.bad_mode e = decide-mode (λ w. Contains mode_words w → ⊥) (λ w. decide-not (decide-contains mode_words w)) line
-decide-cause before line causes.bad_name e = decide-name (λ w. is_name w ≡ false) (λ w. decide-bool (is_name w) false) line
-decide-cause before line causes.name_taken e = decide-name (λ w. place_of w before.items ≡ None → ⊥) (λ w. decide-not (decide-nothing (place_of w before.items))) line
+    decide-or (decide-and (begins (codes "sites") line) (decide-not (decide-nothing before.sites)))
+    (decide-or (decide-and (begins (codes "journal") line) (decide-not (decide-nothing before.journal))) (decide-and (begins (codes "plan") line) (decide-not (decide-nothing before.fault_plan))))
+decide-cause before line causes.too_late e = decide-and (decide-or (begins (codes "journal") line) (decide-or (begins (codes "item") line) (begins (codes "plan") line))) (decide-bool before.begun true)
+decide-cause before line causes.wrong_count e = decide-nothing (form_of before.script line)
+decide-cause before line causes.client_expected e = decide-and (decide-asked before line) (decide-empty before.clients)
+decide-cause before line causes.too_many_clients e =
+    decide-and (begins (codes "client") line) (decide-as (λ l. omega (arith, l)) (λ l. omega (arith, l)) (decide-less 7 (length before.clients)))
+decide-cause before line causes.too_many_requests e =
+    decide-and (decide-asked before line) (decide-as (λ l. omega (arith, l)) (λ l. omega (arith, l)) (decide-less 999 (last_requests before.clients)))
+decide-cause before line causes.bad_number e = decide-bool (list_all (has_good_number (or_default 0 before.sites)) (fields_of before.script line)) false
+decide-cause before line causes.bad_mode e = decide-mode (λ w. Contains mode_words w → ⊥) (λ w. decide-not (decide-contains mode_words w)) before.script line
+decide-cause before line causes.bad_name e = decide-name (λ w. is_name w ≡ false) (λ w. decide-bool (is_name w) false) before.script line
+decide-cause before line causes.name_taken e = decide-name (λ w. place_of w before.items ≡ None → ⊥) (λ w. decide-not (decide-nothing (place_of w before.items))) before.script line
 decide-cause before line causes.too_many_items e = decide-and (begins (codes "item") line) (decide-as (λ l. omega (arith, l)) (λ l. omega (arith, l)) (decide-less 1023 (length before.items)))
 decide-cause before line (causes.at_program kind column) e = absurd (false≢true (sym e))
 decide-cause before line causes.names_no_item e =
@@ -67,23 +76,23 @@ plain-at before line c plain =
     none (subst (HasLineCause before line) same h.1)))
     (decide-cause before line c plain)
 
-no-fault-at : (before : Before) (line : TextLine) → (AtProgram before line → ⊥) → (c : LineCause) → HasLineCause before line c → line_cause_rank c ≡ 12 → ⊥
+no-fault-at : (before : Before) (line : TextLine) → (AtProgram before line → ⊥) → (c : LineCause) → HasLineCause before line c → line_cause_rank c ≡ 15 → ⊥
 no-fault-at before line none (causes.at_program kind column) has e = none (kind, column, has)
 no-fault-at before line none c has e = omega (arith, e)
 
-fault-at : (before : Before) (line : TextLine) → Decidable (HasAt before line 12)
+fault-at : (before : Before) (line : TextLine) → Decidable (HasAt before line 15)
 fault-at before line =
     ⊎_elim (λ h. inl (causes.at_program h.0 h.1, h.2, refl)) (λ none. inr (λ h. no-fault-at before line none h.0 h.1 h.2)) (decide-fault before line (some-program before line))
 
 abbrev AtMany : Before → TextLine → Type 0
 AtMany before line = (p : Program) × causes.HasProgram before line p × NamesMany p
 
-no-many-at : (before : Before) (line : TextLine) → (AtMany before line → ⊥) → (c : LineCause) → HasLineCause before line c → line_cause_rank c ≡ 14 → ⊥
+no-many-at : (before : Before) (line : TextLine) → (AtMany before line → ⊥) → (c : LineCause) → HasLineCause before line c → line_cause_rank c ≡ 17 → ⊥
 no-many-at before line none (causes.too_many_names n) has e =
     none (has.0, has.1, (has.2, has.3, subst (λ (m : ℕ). MAX_PROGRAM_ITEMS < m) has.4 has.5))
 no-many-at before line none c has e = omega (arith, e)
 
-many-at : (before : Before) (line : TextLine) → Decidable (HasAt before line 14)
+many-at : (before : Before) (line : TextLine) → Decidable (HasAt before line 17)
 many-at before line =
     ⊎_elim (λ h. inl (causes.too_many_names (length h.2.0), (h.0, h.1, h.2.0, h.2.1, refl, h.2.2), refl)) (λ none. inr (λ h. no-many-at before line none h.0 h.1 h.2))
     (decide-program before line NamesMany decide-many (some-program before line))
@@ -104,7 +113,7 @@ first-at before line r (inr none) next from =
     above : (r n : ℕ) → r ≤ n → (n ≡ r → ⊥) → suc r ≤ n
     above r n low isnt = omega (arith, low, isnt)
 
-rank-below : (c : LineCause) → line_cause_rank c ≤ 16
+rank-below : (c : LineCause) → line_cause_rank c ≤ 19
 rank-below causes.too_long = omega arith
 rank-below causes.not_text = omega arith
 rank-below causes.sites_expected = omega arith
@@ -112,6 +121,9 @@ rank-below causes.unknown_word = omega arith
 rank-below causes.twice = omega arith
 rank-below causes.too_late = omega arith
 rank-below causes.wrong_count = omega arith
+rank-below causes.client_expected = omega arith
+rank-below causes.too_many_clients = omega arith
+rank-below causes.too_many_requests = omega arith
 rank-below causes.bad_number = omega arith
 rank-below causes.bad_mode = omega arith
 rank-below causes.bad_name = omega arith
@@ -132,15 +144,18 @@ some-first before line =
     first-at before line 4 (plain-at before line causes.twice refl) (
     first-at before line 5 (plain-at before line causes.too_late refl) (
     first-at before line 6 (plain-at before line causes.wrong_count refl) (
-    first-at before line 7 (plain-at before line causes.bad_number refl) (
-    first-at before line 8 (plain-at before line causes.bad_mode refl) (
-    first-at before line 9 (plain-at before line causes.bad_name refl) (
-    first-at before line 10 (plain-at before line causes.name_taken refl) (
-    first-at before line 11 (plain-at before line causes.too_many_items refl) (
-    first-at before line 12 (fault-at before line) (
-    first-at before line 13 (plain-at before line causes.names_no_item refl) (
-    first-at before line 14 (many-at before line) (
-    first-at before line 15 (plain-at before line causes.query_assigns refl) (
-    first-at before line 16 (plain-at before line causes.no_return refl)
-    (λ from. inr (λ c has. omega (arith, from c has, rank-below c)))))))))))))))))))
+    first-at before line 7 (plain-at before line causes.client_expected refl) (
+    first-at before line 8 (plain-at before line causes.too_many_clients refl) (
+    first-at before line 9 (plain-at before line causes.too_many_requests refl) (
+    first-at before line 10 (plain-at before line causes.bad_number refl) (
+    first-at before line 11 (plain-at before line causes.bad_mode refl) (
+    first-at before line 12 (plain-at before line causes.bad_name refl) (
+    first-at before line 13 (plain-at before line causes.name_taken refl) (
+    first-at before line 14 (plain-at before line causes.too_many_items refl) (
+    first-at before line 15 (fault-at before line) (
+    first-at before line 16 (plain-at before line causes.names_no_item refl) (
+    first-at before line 17 (many-at before line) (
+    first-at before line 18 (plain-at before line causes.query_assigns refl) (
+    first-at before line 19 (plain-at before line causes.no_return refl)
+    (λ from. inr (λ c has. omega (arith, from c has, rank-below c))))))))))))))))))))))
     (λ c has. omega arith)

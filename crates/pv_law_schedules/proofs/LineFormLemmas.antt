@@ -11,7 +11,7 @@ use Rattle.pv_base.specs.Name.{is_digit, is_name}
 use Rattle.pv_model.specs.LineCauses as causes
 use Rattle.pv_model.specs.LineCauses.{Before, or_default, declared_by, LineCause, HasFirstWord, HasLineCause, HasProgram, mode_words}
 use Rattle.pv_model.specs.Check.{names_item, AreItems, has_assignment, has_return}
-use Rattle.pv_model.specs.LineForms.{Field, number, site, value, mode, name, program, leading_word, first_word, forms_of, takes_program, arguments, form_of, fields_of, beside, are_digits, has_good_number}
+use Rattle.pv_model.specs.LineForms.{Script, scheduled, live, most_bytes, Field, number, site, value, mode, name, program, leading_word, first_word, forms_of, takes_program, arguments, form_of, fields_of, beside, are_digits, has_good_number}
 use Rattle.pv_model.specs.ProgramText.{IsProgramText, at_fault}
 use Rattle.pv_model.specs.Schedule.{IsIn, IsDeclaredSite}
 use Rattle.pv_model.specs.Syntax.{Program}
@@ -50,14 +50,17 @@ Suits before word (program, text) = (p : Program) × IsProgramText (declared_by 
 
 -- the line has no cause
 pub record Fits (before : Before) (line : TextLine) : Type 0 where
-  pub text : IsText line
+  pub text : IsText (most_bytes before.script) line
   pub said : before.sites ≡ None → first_word line ≡ codes "sites"
   pub once : HasLineCause before line causes.twice → ⊥
   pub early : HasLineCause before line causes.too_late → ⊥
+  pub asked : HasLineCause before line causes.client_expected → ⊥
+  pub fewer : HasLineCause before line causes.too_many_clients → ⊥
+  pub next : HasLineCause before line causes.too_many_requests → ⊥
   pub form : List Field
-  pub known : forms_of (first_word line) ≡ [] → ⊥
-  pub formed : form_of line ≡ Some form
-  pub each : Each (Suits before (first_word line)) (fields_of line)
+  pub known : forms_of before.script (first_word line) ≡ [] → ⊥
+  pub formed : form_of before.script line ≡ Some form
+  pub each : Each (Suits before (first_word line)) (fields_of before.script line)
   pub room : first_word line ≡ codes "item" → length before.items < MAX_ITEMS
 
 -- numbers that suit
@@ -79,31 +82,36 @@ good-site before w n is =
 
 -- the form of a line, by its first word and what stands behind it
 
-abbrev pub look : List ℕ → ℕ → Option (List Field)
-look word n = find (λ form. length form == n) (forms_of word)
+abbrev pub look : Script → List ℕ → ℕ → Option (List Field)
+look script word n = find (λ form. length form == n) (forms_of script word)
 
-look-known : (word : List ℕ) (n : ℕ) (form : List Field) → look word n ≡ Some form → forms_of word ≡ [] → ⊥
-look-known word n form found none =
+look-known : (script : Script) (word : List ℕ) (n : ℕ) (form : List Field) → look script word n ≡ Some form → forms_of script word ≡ [] → ⊥
+look-known script word n form found none =
     let at : find (λ (form : List Field). length form == n) [] ≡ Some form = subst (λ (forms : List (List Field)). find (λ form. length form == n) forms ≡ Some form) none found in
     let never : ⊥ = cc in never
 
-pub look-known-line : (line : TextLine) (word : List ℕ) (n : ℕ) (form : List Field) → first_word line ≡ word → look word n ≡ Some form → forms_of (first_word line) ≡ [] → ⊥
-look-known-line line word n form first found none = look-known word n form found (ap forms_of (sym first) ∙ none)
+pub look-known-line : (script : Script) (line : TextLine) (word : List ℕ) (n : ℕ) (form : List Field) → first_word line ≡ word → look script word n ≡ Some form
+    → forms_of script (first_word line) ≡ [] → ⊥
+look-known-line script line word n form first found none = look-known script word n form found (ap (forms_of script) (sym first) ∙ none)
 
-pub form_of-look : (line : TextLine) → form_of line ≡ look (first_word line) (length (arguments line))
+pub form_of-look : (script : Script) (line : TextLine) → form_of script line ≡ look script (first_word line) (length (arguments script line))
 unfolding form_of
-form_of-look line = refl
+form_of-look script line = refl
 
-pub arguments-plain : (line : TextLine) (word : List ℕ) (given : List (List ℕ)) → takes_program word ≡ false → words line ≡ word ∷ given → arguments line ≡ given
+pub arguments-plain : (script : Script) (line : TextLine) (word : List ℕ) (given : List (List ℕ)) → takes_program word ≡ false → words line ≡ word ∷ given
+    → arguments script line ≡ given
 unfolding arguments
-arguments-plain line word given plain is = rw is (rw plain refl)
+arguments-plain script line word given plain is = rw is (rw plain refl)
 
-pub form-at : (line : TextLine) (word : List ℕ) (given : List (List ℕ)) (form : Option (List Field)) → first_word line ≡ word → arguments line ≡ given → look word (length given) ≡ form → form_of line ≡ form
-form-at line word given form first are found = form_of-look line ∙ (rw first (rw are found))
+pub form-at : (script : Script) (line : TextLine) (word : List ℕ) (given : List (List ℕ)) (form : Option (List Field)) → first_word line ≡ word
+    → arguments script line ≡ given → look script word (length given) ≡ form → form_of script line ≡ form
+form-at script line word given form first are found = form_of-look script line ∙ (rw first (rw are found))
 
 -- first words that declare something
 abbrev pub is_declaring : List ℕ → Bool
-is_declaring word = bytes_eq word (codes "sites") || (bytes_eq word (codes "journal") || bytes_eq word (codes "item"))
+is_declaring word =
+    bytes_eq word (codes "sites")
+    || (bytes_eq word (codes "journal") || (bytes_eq word (codes "item") || (bytes_eq word (codes "plan") || bytes_eq word (codes "client"))))
 
 pub declares-sites : (word : List ℕ) → is_declaring word ≡ false → word ≡ codes "sites" → ⊥
 declares-sites word isnt is = false≢true (sym isnt ∙ ap is_declaring is)
@@ -114,30 +122,58 @@ declares-journal word isnt is = false≢true (sym isnt ∙ ap is_declaring is)
 pub declares-item : (word : List ℕ) → is_declaring word ≡ false → word ≡ codes "item" → ⊥
 declares-item word isnt is = false≢true (sym isnt ∙ ap is_declaring is)
 
+pub declares-plan : (word : List ℕ) → is_declaring word ≡ false → word ≡ codes "plan" → ⊥
+declares-plan word isnt is = false≢true (sym isnt ∙ ap is_declaring is)
+
+pub declares-client : (word : List ℕ) → is_declaring word ≡ false → word ≡ codes "client" → ⊥
+declares-client word isnt is = false≢true (sym isnt ∙ ap is_declaring is)
+
 pub none-some-sites : (o : Option ℕ) (n : ℕ) → o ≡ Some n → o ≡ None → ⊥
 none-some-sites o n some none = cc
 
--- an event's line
+pub kinds-differ : scheduled ≡ live → ⊥
+kinds-differ e = cc
+
+-- The form of a line in a script of a kind.
+pub look-kind : {form : Option (List Field)} (before : Before) (kind : Script) (word : List ℕ) (n : ℕ) → before.script ≡ kind → look kind word n ≡ form
+    → look before.script word n ≡ form
+look-kind before kind word n is found = ap (λ (s : Script). look s word n) is ∙ found
+
+-- What a request may lack in a live script, the line doesn't.
+pub record IsFree (before : Before) (line : TextLine) : Type 0 where
+  pub asked : HasLineCause before line causes.client_expected → ⊥
+  pub next : HasLineCause before line causes.too_many_requests → ⊥
+
+-- A line of a schedule is no request of a live script.
+pub schedule-free : (before : Before) (line : TextLine) → (before.script ≡ live → ⊥) → IsFree before line
+schedule-free before line isnt = record { asked = λ has. isnt has.0.0; next = λ has. isnt has.0.0 }
+
+-- a line that declares nothing but, maybe, a request
 pub fits-formed : (before : Before) (line : TextLine) (n : ℕ) (word : List ℕ) (form : List Field) (given : List (List ℕ))
-    → IsText line → before.sites ≡ Some n → is_declaring word ≡ false → first_word line ≡ word → arguments line ≡ given
-    → look word (length given) ≡ Some form → Each (Suits before word) (beside form given) → Fits before line
-fits-formed before line n word form given text said isnt first are found each = record {
+    → IsText (most_bytes before.script) line → before.sites ≡ Some n → is_declaring word ≡ false → first_word line ≡ word → arguments before.script line ≡ given
+    → look before.script word (length given) ≡ Some form → Each (Suits before word) (beside form given) → IsFree before line → Fits before line
+fits-formed before line n word form given text said isnt first are found each free = record {
   text = text;
   said = λ none. absurd (none-some-sites before.sites n said none);
-  once = ⊎_elim (λ c. declares-sites word isnt (sym first ∙ c.0)) (λ c. declares-journal word isnt (sym first ∙ c.0));
-  early = λ c. ⊎_elim (λ j. declares-journal word isnt (sym first ∙ j)) (λ i. declares-item word isnt (sym first ∙ i)) c.0;
+  once = ⊎_elim (λ c. declares-sites word isnt (sym first ∙ c.0))
+      (⊎_elim (λ c. declares-journal word isnt (sym first ∙ c.0)) (λ c. declares-plan word isnt (sym first ∙ c.0)));
+  early = λ c. ⊎_elim (λ j. declares-journal word isnt (sym first ∙ j))
+      (⊎_elim (λ i. declares-item word isnt (sym first ∙ i)) (λ p. declares-plan word isnt (sym first ∙ p))) c.0;
+  asked = free.asked;
+  fewer = λ c. declares-client word isnt (sym first ∙ c.0);
+  next = free.next;
   form = form;
-  known = look-known-line line word (length given) form first found;
-  formed = form-at line word given (Some form) first are found;
-  each = rw (form-at line word given (Some form) first are found) (rw first (rw are each));
+  known = look-known-line before.script line word (length given) form first found;
+  formed = form-at before.script line word given (Some form) first are found;
+  each = rw (form-at before.script line word given (Some form) first are found) (rw first (rw are each));
   room = λ item. absurd (declares-item word isnt (sym first ∙ item));
 }
 
 pub fits-plain : (before : Before) (line : TextLine) (n : ℕ) (word : List ℕ) (form : List Field) (given : List (List ℕ))
-    → IsText line → before.sites ≡ Some n → is_declaring word ≡ false → takes_program word ≡ false → look word (length given) ≡ Some form
-    → words line ≡ word ∷ given → Each (Suits before word) (beside form given) → Fits before line
-fits-plain before line n word form given text said isnt plain found is each =
-    fits-formed before line n word form given text said isnt (ap leading_word is) (arguments-plain line word given plain is) found each
+    → IsText (most_bytes before.script) line → before.sites ≡ Some n → is_declaring word ≡ false → takes_program word ≡ false
+    → look before.script word (length given) ≡ Some form → words line ≡ word ∷ given → Each (Suits before word) (beside form given) → IsFree before line → Fits before line
+fits-plain before line n word form given text said isnt plain found is each free =
+    fits-formed before line n word form given text said isnt (ap leading_word is) (arguments-plain before.script line word given plain is) found each free
 
 -- A line that fits has no cause.
 
@@ -153,7 +189,7 @@ suits-good before word ((program, w) ∷ fields) each = both_true refl (suits-go
 -- the program of the line is the one that suits
 fits-program : (before : Before) (line : TextLine) (p : Program) → Fits before line → HasProgram before line p → Runs p (first_word line)
 fits-program before line p fits has =
-    let suits : Suits before (first_word line) (program, has.0) = Each-contains (Suits before (first_word line)) (fields_of line) (program, has.0) fits.each has.1 in
+    let suits : Suits before (first_word line) (program, has.0) = Each-contains (Suits before (first_word line)) (fields_of before.script line) (program, has.0) fits.each has.1 in
     subst (λ (q : Program). Runs q (first_word line)) (one_program_text (declared_by before) has.0 suits.0 p suits.1 has.2) suits.2
 
 pub first-item : (p : Program) (items : List ℕ) → AreItems p items → 0 < length items → ((n : ℕ) → names_item p n ≡ false) → ⊥
@@ -167,18 +203,21 @@ fits-no-cause before line causes.sites_expected fits has = has.1 (fits.said has.
 fits-no-cause before line causes.unknown_word fits has = fits.known has
 fits-no-cause before line causes.twice fits has = fits.once has
 fits-no-cause before line causes.too_late fits has = fits.early has
-fits-no-cause before line causes.wrong_count fits has = let some : form_of line ≡ Some fits.form = fits.formed in let never : ⊥ = cc in never
-fits-no-cause before line causes.bad_number fits has = false≢true (sym has ∙ suits-good before (first_word line) (fields_of line) fits.each)
-fits-no-cause before line causes.bad_mode fits has = has.2 (Each-contains (Suits before (first_word line)) (fields_of line) (mode, has.0) fits.each has.1)
+fits-no-cause before line causes.wrong_count fits has = let some : form_of before.script line ≡ Some fits.form = fits.formed in let never : ⊥ = cc in never
+fits-no-cause before line causes.client_expected fits has = fits.asked has
+fits-no-cause before line causes.too_many_clients fits has = fits.fewer has
+fits-no-cause before line causes.too_many_requests fits has = fits.next has
+fits-no-cause before line causes.bad_number fits has = false≢true (sym has ∙ suits-good before (first_word line) (fields_of before.script line) fits.each)
+fits-no-cause before line causes.bad_mode fits has = has.2 (Each-contains (Suits before (first_word line)) (fields_of before.script line) (mode, has.0) fits.each has.1)
 fits-no-cause before line causes.bad_name fits has =
-    let suits = Each-contains (Suits before (first_word line)) (fields_of line) (name, has.0) fits.each has.1 in
+    let suits = Each-contains (Suits before (first_word line)) (fields_of before.script line) (name, has.0) fits.each has.1 in
     false≢true (sym has.2 ∙ suits.0)
 fits-no-cause before line causes.name_taken fits has =
-    let suits = Each-contains (Suits before (first_word line)) (fields_of line) (name, has.0) fits.each has.1 in
+    let suits = Each-contains (Suits before (first_word line)) (fields_of before.script line) (name, has.0) fits.each has.1 in
     has.2 suits.1
 fits-no-cause before line causes.too_many_items fits has = omega (arith, fits.room has.0, has.1)
 fits-no-cause before line (causes.at_program kind column) fits has =
-    let suits = Each-contains (Suits before (first_word line)) (fields_of line) (program, has.0) fits.each has.1 in
+    let suits = Each-contains (Suits before (first_word line)) (fields_of before.script line) (program, has.0) fits.each has.1 in
     no_refusal (declared_by before) has.0 suits.0 (at_fault kind column) suits.1 has.2
 fits-no-cause before line causes.names_no_item fits has =
     let runs = fits-program before line has.0 fits has.1 in

@@ -4,7 +4,7 @@ use Rattle.std.specs.Prelude.{◌==◌, not, cond, map, filter, find, if◌then�
 use Rattle.std.specs.List.{list_all, Contains}
 use Rattle.std.specs.Cmp.Derive.{both_true}
 use Rattle.std.proofs.lemmas.Bool.{false≢true}
-use Rattle.pv_model.specs.LineForms.{Field, program, line_forms, first_word, forms_of, arguments, form_of, fields_of, fields_in, beside}
+use Rattle.pv_model.specs.LineForms.{Script, scheduled, live, Field, program, line_forms, first_word, forms_of, arguments, form_of, fields_of, fields_in, beside}
 use Rattle.pv_model.specs.Text.{TextLine}
 use Rattle.pv_base.proofs.Basics.{and-left, and-right}
 use Rattle.pv_base.proofs.ContainsLemmas.{Contains-nil, Contains-cases}
@@ -26,10 +26,11 @@ kept-all {K} {X} q p (y ∷ ys) all = go (kept-all q p ys (and-right (q y.1) (li
     go more false = more
 
 -- what holds of each form holds of the line's
-pub form-passes : (q : List Field → Bool) (line : TextLine) (form : List Field) → list_all (λ entry. q entry.1) line_forms ≡ true → form_of line ≡ Some form → q form ≡ true
+pub form-passes : (script : Script) (q : List Field → Bool) (line : TextLine) (form : List Field) → list_all (λ entry. q entry.1) (line_forms script) ≡ true
+    → form_of script line ≡ Some form → q form ≡ true
 unfolding form_of
-form-passes q line form all found =
-    found-in q (λ form. length form == length (arguments line)) (forms_of (first_word line)) form (kept-all q _ line_forms all) found
+form-passes script q line form all found =
+    found-in q (λ form. length form == length (arguments script line)) (forms_of script (first_word line)) form (kept-all q _ (line_forms script) all) found
 
 unfoldable pub is_program : Field → Bool
 is_program program = true
@@ -78,14 +79,16 @@ one-stands (field ∷ form) (w ∷ given) a b one is also =
     go rest true e none = sym (first a none here) ∙ first b none there
     go rest false e more = rest more (behind a e here) (behind b e there)
 
-forms-lone : list_all (λ entry. lone entry.1) line_forms ≡ true
+forms-lone : (script : Script) → list_all (λ entry. lone entry.1) (line_forms script) ≡ true
 unfolding line_forms is_program
-forms-lone = refl
+forms-lone scheduled = refl
+forms-lone live = refl
 
 one-text-in : (form : Option (List Field)) (given : List (List ℕ)) (a b : List ℕ) → ((fields : List Field) → form ≡ Some fields → lone fields ≡ true)
     → Contains (fields_in form given) (program, a) → Contains (fields_in form given) (program, b) → a ≡ b
 one-text-in None given a b one is also = absurd (Contains-nil (program, a) is)
 one-text-in (Some form) given a b one is also = one-stands form given a b (one form refl) is also
 
-pub one-text : (line : TextLine) (a b : List ℕ) → Contains (fields_of line) (program, a) → Contains (fields_of line) (program, b) → a ≡ b
-one-text line a b is also = one-text-in (form_of line) (arguments line) a b (λ form e. form-passes lone line form forms-lone e) is also
+pub one-text : (script : Script) (line : TextLine) (a b : List ℕ) → Contains (fields_of script line) (program, a) → Contains (fields_of script line) (program, b) → a ≡ b
+one-text script line a b is also =
+    one-text-in (form_of script line) (arguments script line) a b (λ form e. form-passes script lone line form (forms-lone script) e) is also

@@ -13,7 +13,7 @@ use Rattle.pv_model.specs.LineCauses as causes
 use Rattle.pv_model.specs.LineCauses.{Before, or_default, declared_by, LineCause, HasLineCause, Has, HasProgram, mode_words}
 use Rattle.pv_model.specs.Check.{AreItems, has_assignment, has_return}
 use Rattle.pv_model.specs.LineForms as fields
-use Rattle.pv_model.specs.LineForms.{Field, line_forms, first_word, forms_of, takes_program, after_blanks, after_word, before_blanks, program_text, site_and_text, later_words, arguments, form_of, fields_of, fields_in, beside, has_good_number}
+use Rattle.pv_model.specs.LineForms.{Script, scheduled, live, most_bytes, Field, line_forms, first_word, forms_of, takes_program, after_blanks, after_word, before_blanks, program_text, site_and_text, text_alone, with_text, later_words, arguments, form_of, fields_of, fields_in, beside, has_good_number}
 use Rattle.pv_model.specs.ProgramText.{Refusal, too_large, at_fault, IsRefused, IsProgramText}
 use Rattle.pv_model.specs.Syntax.{Program}
 use Rattle.pv_model.specs.Text.{TextLine, words, is_text_byte, IsText}
@@ -54,17 +54,26 @@ length-before_blanks [] = omega arith
 length-before_blanks (b ∷ bs) =
     length-cond (list_all is_blank (b ∷ bs)) [] (b ∷ before_blanks bs) (length (b ∷ bs)) (omega arith) (let fewer = length-before_blanks bs in omega (arith, fewer))
 
-length-program_text : (line : TextLine) → length (program_text line) ≤ length line
+length-program_text : (script : Script) (line : TextLine) → length (program_text script line) ≤ length line
 unfolding program_text
-length-program_text line =
+length-program_text scheduled line =
     let a = after_blanks line in
     let b = after_word a in
     let c = after_blanks b in
     let d = after_word c in
     let e = after_blanks d in
     omega (arith, length-after_blanks line, length-after_word a, length-after_blanks b, length-after_word c, length-after_blanks d, length-before_blanks e)
+length-program_text live line =
+    let a = after_blanks line in
+    let b = after_word a in
+    let c = after_blanks b in
+    omega (arith, length-after_blanks line, length-after_word a, length-after_blanks b, length-before_blanks c)
 
--- The text of a program is what stands behind the first two words.
+most_bytes-le : (script : Script) → most_bytes script ≤ MAX_LINE
+most_bytes-le scheduled = omega arith
+most_bytes-le live = omega arith
+
+-- The text of a program is what stands behind the first words.
 
 -- what holds of each entry with this word holds of the forms
 forms-pass : (q : List Field → Bool) (word : List ℕ) (entries : List (List ℕ × List Field)) → Each (λ entry. bytes_eq word entry.0 ≡ true → q entry.1 ≡ true) entries
@@ -88,10 +97,30 @@ either-second : (a b : Bool) → (a || b) ≡ false → b ≡ true → ⊥
 either-second true b e h = false≢true (sym e)
 either-second false b e h = false≢true (sym e ∙ h)
 
-programless-forms : (word : List ℕ) → takes_program word ≡ false → list_all programless (forms_of word) ≡ true
+programless-forms : (script : Script) (word : List ℕ) → takes_program word ≡ false → list_all programless (forms_of script word) ≡ true
 unfolding line_forms takes_program is_program
-programless-forms word plain =
-    forms-pass programless word line_forms (
+programless-forms live word plain =
+    forms-pass programless word (line_forms live) (
+      (λ e. refl),
+      (
+        (λ e. refl),
+        (
+          (λ e. refl),
+          (
+            (λ e. refl),
+            (
+              (λ e. refl),
+              (
+                (λ e. absurd (either-first (bytes_eq word (codes "submit")) (bytes_eq word (codes "query")) plain e)),
+                ((λ e. absurd (either-second (bytes_eq word (codes "submit")) (bytes_eq word (codes "query")) plain e)), tt),
+              ),
+            ),
+          ),
+        ),
+      ),
+    )
+programless-forms scheduled word plain =
+    forms-pass programless word (line_forms scheduled) (
       (λ e. refl),
       (
         (λ e. refl),
@@ -141,10 +170,10 @@ no-program : (form : Option (List Field)) (given : List (List ℕ)) (text : List
 no-program None given text less has = Contains-nil (fields.program, text) has
 no-program (Some form) given text less has = none-stands form given text (less form refl) has
 
-plain-no-program : (line : TextLine) (text : List ℕ) → takes_program (first_word line) ≡ false → Has line fields.program text → ⊥
-plain-no-program line text plain has =
-    no-program (form_of line) (arguments line) text
-    (λ form e. found-in programless _ (forms_of (first_word line)) form (programless-forms (first_word line) plain) (sym (form_of-look line) ∙ e)) has
+plain-no-program : (script : Script) (line : TextLine) (text : List ℕ) → takes_program (first_word line) ≡ false → Has script line fields.program text → ⊥
+plain-no-program script line text plain has =
+    no-program (form_of script line) (arguments script line) text
+    (λ form e. found-in programless _ (forms_of script (first_word line)) form (programless-forms script (first_word line) plain) (sym (form_of-look script line) ∙ e)) has
 
 pub request-words : (word : List ℕ) → takes_program word ≡ true → (word ≡ codes "submit") ⊎ (word ≡ codes "query")
 unfolding takes_program
@@ -165,16 +194,27 @@ one-form k n only form e = go (k == n) refl e
     go true same found = (eqb-true k n same, let is : only ≡ form = cc in is)
     go false same found = let never : ⊥ = cc in absurd never
 
-abbrev RequestForm : TextLine → List Field → Type 0
-RequestForm line form = (2 ≡ length (arguments line)) × (fields.site ∷ fields.program ∷ [] ≡ form)
+-- the form of requests
+abbrev asked_form : Script → List Field
+asked_form scheduled = fields.site ∷ fields.program ∷ []
+asked_form live = fields.program ∷ []
 
-request-form : (line : TextLine) (form : List Field) → takes_program (first_word line) ≡ true → form_of line ≡ Some form → RequestForm line form
+abbrev RequestForm : Script → TextLine → List Field → Type 0
+RequestForm script line form = (length (asked_form script) ≡ length (arguments script line)) × (asked_form script ≡ form)
+
+request-form : (script : Script) (line : TextLine) (form : List Field) → takes_program (first_word line) ≡ true → form_of script line ≡ Some form → RequestForm script line form
 unfolding line_forms
-request-form line form takes found =
-    let at : look (first_word line) (length (arguments line)) ≡ Some form = sym (form_of-look line) ∙ found in
+request-form scheduled line form takes found =
+    let at : look scheduled (first_word line) (length (arguments scheduled line)) ≡ Some form = sym (form_of-look scheduled line) ∙ found in
     ⊎_elim
-    (λ e. one-form 2 (length (arguments line)) (fields.site ∷ fields.program ∷ []) form (subst (λ (w : List ℕ). look w (length (arguments line)) ≡ Some form) e at))
-    (λ e. one-form 2 (length (arguments line)) (fields.site ∷ fields.program ∷ []) form (subst (λ (w : List ℕ). look w (length (arguments line)) ≡ Some form) e at))
+    (λ e. one-form 2 (length (arguments scheduled line)) (fields.site ∷ fields.program ∷ []) form (subst (λ (w : List ℕ). look scheduled w (length (arguments scheduled line)) ≡ Some form) e at))
+    (λ e. one-form 2 (length (arguments scheduled line)) (fields.site ∷ fields.program ∷ []) form (subst (λ (w : List ℕ). look scheduled w (length (arguments scheduled line)) ≡ Some form) e at))
+    (request-words (first_word line) takes)
+request-form live line form takes found =
+    let at : look live (first_word line) (length (arguments live line)) ≡ Some form = sym (form_of-look live line) ∙ found in
+    ⊎_elim
+    (λ e. one-form 1 (length (arguments live line)) (fields.program ∷ []) form (subst (λ (w : List ℕ). look live w (length (arguments live line)) ≡ Some form) e at))
+    (λ e. one-form 1 (length (arguments live line)) (fields.program ∷ []) form (subst (λ (w : List ℕ). look live w (length (arguments live line)) ≡ Some form) e at))
     (request-words (first_word line) takes)
 
 second-text : (text : List ℕ) (said : List (List ℕ)) → 2 ≡ length (site_and_text text said) → (at : List ℕ) × (site_and_text text said ≡ at ∷ text ∷ [])
@@ -182,34 +222,51 @@ second-text text [] e = absurd (omega (arith, e))
 second-text text (at ∷ []) e = absurd (omega (arith, e))
 second-text text (at ∷ word ∷ more) e = (at, refl)
 
-abbrev GivesText : TextLine → Type 0
-GivesText line = (at : List ℕ) × (arguments line ≡ at ∷ program_text line ∷ [])
+only-text : (text : List ℕ) (said : List (List ℕ)) → 1 ≡ length (text_alone text said) → text_alone text said ≡ text ∷ []
+only-text text [] e = absurd (omega (arith, e))
+only-text text (word ∷ more) e = refl
 
-pub arguments-request : (line : TextLine) → takes_program (first_word line) ≡ true → arguments line ≡ site_and_text (program_text line) (later_words (words line))
+pub arguments-request : (script : Script) (line : TextLine) → takes_program (first_word line) ≡ true
+    → arguments script line ≡ with_text script (program_text script line) (later_words (words line))
 unfolding arguments
-arguments-request line takes = rw takes refl
+arguments-request script line takes = rw takes refl
 
-gives-text : (line : TextLine) → takes_program (first_word line) ≡ true → 2 ≡ length (arguments line) → GivesText line
-gives-text line takes two =
-    let is = arguments-request line takes in
-    let second = second-text (program_text line) (later_words (words line)) (two ∙ ap (λ (ws : List (List ℕ)). length ws) is) in
-    (second.0, is ∙ second.1)
+-- the fields of a line, by its form and what stands in it
+fields-are : (script : Script) (line : TextLine) (form : List Field) (given : List (List ℕ)) → form_of script line ≡ Some form → arguments script line ≡ given
+    → fields_of script line ≡ beside form given
+fields-are script line form given found are = rw found (rw are refl)
+
+-- a request has the text
+stands : (script : Script) (line : TextLine) (form : List Field) → takes_program (first_word line) ≡ true → form_of script line ≡ Some form
+    → Has script line fields.program (program_text script line)
+stands scheduled line form takes found =
+    let is = request-form scheduled line form takes found in
+    let same = arguments-request scheduled line takes in
+    let second = second-text (program_text scheduled line) (later_words (words line)) (is.0 ∙ ap (λ (ws : List (List ℕ)). length ws) same) in
+    let given = second.0 ∷ program_text scheduled line ∷ [] in
+    let all : fields_of scheduled line ≡ (fields.site, second.0) ∷ (fields.program, program_text scheduled line) ∷ [] =
+    fields-are scheduled line form given found (same ∙ second.1) ∙ ap (λ (fields : List Field). beside fields given) (sym is.1) in
+    subst (λ (entries : List (Field × List ℕ)). Contains entries (fields.program, program_text scheduled line)) (sym all)
+    (Contains-behind (fields.site, second.0) ((fields.program, program_text scheduled line) ∷ []) (fields.program, program_text scheduled line)
+    (Contains-first (fields.program, program_text scheduled line) []))
+stands live line form takes found =
+    let is = request-form live line form takes found in
+    let same = arguments-request live line takes in
+    let only = only-text (program_text live line) (later_words (words line)) (is.0 ∙ ap (λ (ws : List (List ℕ)). length ws) same) in
+    let given = program_text live line ∷ [] in
+    let all : fields_of live line ≡ (fields.program, program_text live line) ∷ [] =
+    fields-are live line form given found (same ∙ only) ∙ ap (λ (fields : List Field). beside fields given) (sym is.1) in
+    subst (λ (entries : List (Field × List ℕ)). Contains entries (fields.program, program_text live line)) (sym all)
+    (Contains-first (fields.program, program_text live line) [])
 
 -- the text that a line has, where it has a form
-pub text-of : (line : TextLine) (form : List Field) (text : List ℕ) → form_of line ≡ Some form → Has line fields.program text → text ≡ program_text line
-text-of line form text found has = go (takes_program (first_word line)) refl
+pub text-of : (script : Script) (line : TextLine) (form : List Field) (text : List ℕ) → form_of script line ≡ Some form → Has script line fields.program text
+    → text ≡ program_text script line
+text-of script line form text found has = go (takes_program (first_word line)) refl
   where
-    stands : GivesText line → fields.site ∷ fields.program ∷ [] ≡ form → Has line fields.program (program_text line)
-    stands gives same =
-        let all : fields_of line ≡ (fields.site, gives.0) ∷ (fields.program, program_text line) ∷ [] = rw found (rw (← same) (rw gives.1 refl)) in
-        subst (λ (entries : List (Field × List ℕ)). Contains entries (fields.program, program_text line)) (sym all)
-        (Contains-behind (fields.site, gives.0) ((fields.program, program_text line) ∷ []) (fields.program, program_text line) (Contains-first (fields.program, program_text line) []))
-
-    go : (b : Bool) → takes_program (first_word line) ≡ b → text ≡ program_text line
-    go true takes =
-        let is = request-form line form takes found in
-        one-text line text (program_text line) has (stands (gives-text line takes is.0) is.1)
-    go false plain = absurd (plain-no-program line text plain has)
+    go : (b : Bool) → takes_program (first_word line) ≡ b → text ≡ program_text script line
+    go true takes = one-text script line text (program_text script line) has (stands script line form takes found)
+    go false plain = absurd (plain-no-program script line text plain has)
 
 -- What holds of each entry that a list has, element by element.
 
@@ -224,42 +281,42 @@ each-of q (x ∷ xs) all = (and-left (q x) (list_all q xs) all, each-of q xs (an
 abbrev Free : Before → TextLine → Type 0
 Free before line = (c : LineCause) → HasLineCause before line c → ⊥
 
-free-good : (before : Before) (line : TextLine) → Free before line → (x : Field × List ℕ) → Contains (fields_of line) x → has_good_number (or_default 0 before.sites) x ≡ true
+free-good : (before : Before) (line : TextLine) → Free before line → (x : Field × List ℕ) → Contains (fields_of before.script line) x → has_good_number (or_default 0 before.sites) x ≡ true
 free-good before line free x c =
-    let all = isnt-false (list_all (has_good_number (or_default 0 before.sites)) (fields_of line)) (free causes.bad_number) in
-    Each-contains (λ x. has_good_number (or_default 0 before.sites) x ≡ true) (fields_of line) x (each-of (has_good_number (or_default 0 before.sites)) (fields_of line) all) c
+    let all = isnt-false (list_all (has_good_number (or_default 0 before.sites)) (fields_of before.script line)) (free causes.bad_number) in
+    Each-contains (λ x. has_good_number (or_default 0 before.sites) x ≡ true) (fields_of before.script line) x (each-of (has_good_number (or_default 0 before.sites)) (fields_of before.script line) all) c
 
-free-text : (before : Before) (line : TextLine) → Free before line → IsText line
+free-text : (before : Before) (line : TextLine) → Free before line → IsText (most_bytes before.script) line
 free-text before line free = record {
-  short = short (decide-less MAX_LINE (length line));
+  short = short (decide-less (most_bytes before.script) (length line));
   bytes = isnt-false (list_all is_text_byte line) (free causes.not_text);
 }
   where
-    short : Decidable (MAX_LINE < length line) → length line ≤ MAX_LINE
+    short : Decidable (most_bytes before.script < length line) → length line ≤ most_bytes before.script
     short (inl long) = absurd (free causes.too_long long)
-    short (inr isnt) = by (length line) isnt
+    short (inr isnt) = by (most_bytes before.script) (length line) isnt
       where
-        by : (n : ℕ) → (MAX_LINE < n → ⊥) → n ≤ MAX_LINE
-        by n isnt = omega (arith, isnt)
+        by : (m n : ℕ) → (m < n → ⊥) → n ≤ m
+        by m n isnt = omega (arith, isnt)
 
-free-form : (before : Before) (line : TextLine) → Free before line → (form : List Field) × (form_of line ≡ Some form)
-free-form before line free = go (form_of line) refl
+free-form : (before : Before) (line : TextLine) → Free before line → (form : List Field) × (form_of before.script line ≡ Some form)
+free-form before line free = go (form_of before.script line) refl
   where
-    go : (o : Option (List Field)) → form_of line ≡ o → (form : List Field) × (form_of line ≡ Some form)
+    go : (o : Option (List Field)) → form_of before.script line ≡ o → (form : List Field) × (form_of before.script line ≡ Some form)
     go None e = absurd (free causes.wrong_count e)
     go (Some form) e = (form, e)
 
 abbrev SomeOf : Before → TextLine → List ℕ → Type 0
 SomeOf before line text = (p : Program) × IsProgramText (declared_by before) text p
 
-free-program : (before : Before) (line : TextLine) → Free before line → (text : List ℕ) → Has line fields.program text → SomeOf before line text
+free-program : (before : Before) (line : TextLine) → Free before line → (text : List ℕ) → Has before.script line fields.program text → SomeOf before line text
 free-program before line free text has = ⊎_elim (λ p. p) (λ r. absurd (refused r.0 r.1)) (some_answer (declared_by before) text)
   where
     refused : (r : Refusal) → IsRefused (declared_by before) text r → ⊥
     refused (too_large n) is =
         let form = free-form before line free in
-        let same = ap (λ (t : List ℕ). length t) (text-of line form.0 text form.1 has) in
-        omega (arith, same, is.0, is.1, length-program_text line, (free-text before line free).short)
+        let same = ap (λ (t : List ℕ). length t) (text-of before.script line form.0 text form.1 has) in
+        omega (arith, same, is.0, is.1, length-program_text before.script line, (free-text before line free).short, most_bytes-le before.script)
     refused (at_fault kind column) is = free (causes.at_program kind column) (text, has, is)
 
 free-runs : (before : Before) (line : TextLine) → Free before line → (p : Program) → HasProgram before line p → Runs p (first_word line)
@@ -280,7 +337,7 @@ free-runs before line free p has =
     by : (n : ℕ) → (MAX_PROGRAM_ITEMS < n → ⊥) → n ≤ MAX_PROGRAM_ITEMS
     by n isnt = omega (arith, isnt)
 
-free-suits : (before : Before) (line : TextLine) → Free before line → (x : Field × List ℕ) → Contains (fields_of line) x → Suits before (first_word line) x
+free-suits : (before : Before) (line : TextLine) → Free before line → (x : Field × List ℕ) → Contains (fields_of before.script line) x → Suits before (first_word line) x
 free-suits before line free (fields.number least most, w) c = free-good before line free (fields.number least most, w) c
 free-suits before line free (fields.site, w) c = free-good before line free (fields.site, w) c
 free-suits before line free (fields.value, w) c = free-good before line free (fields.value, w) c
@@ -299,10 +356,13 @@ free-fits before line free =
       said = λ none. ⊎_elim (λ is. is) (λ isnt. absurd (free causes.sites_expected (none, isnt))) (decide-bytes (first_word line) (codes "sites"));
       once = free causes.twice;
       early = free causes.too_late;
+      asked = free causes.client_expected;
+      fewer = free causes.too_many_clients;
+      next = free causes.too_many_requests;
       form = form.0;
       known = free causes.unknown_word;
       formed = form.1;
-      each = each-from (Suits before (first_word line)) (fields_of line) (free-suits before line free);
+      each = each-from (Suits before (first_word line)) (fields_of before.script line) (free-suits before line free);
       room = λ item. by (length before.items) (λ many. free causes.too_many_items (item, many));
     }
   where

@@ -10,12 +10,13 @@ use Rattle.pv_model.specs.LineCauses.{Before, declared_by}
 use Rattle.pv_model.specs.Events as events
 use Rattle.pv_model.specs.Events.{Event}
 use Rattle.pv_model.specs.LineForms.{leading_word, later_words, first_word, takes_program}
+use Rattle.pv_model.specs.LiveScript.{Request, FaultPlan}
 use Rattle.pv_model.specs.ProgramText.{IsProgramText}
-use Rattle.pv_model.specs.Schedule.{IsMode, IsOne, IsArm, IsRequest, request_word, Says, IsEvent, DeclaresSites, DeclaresJournal, DeclaresItem, Declares}
+use Rattle.pv_model.specs.Schedule.{IsMode, IsOne, IsArm, IsRequest, request_word, Says, IsEvent, DeclaresSites, DeclaresJournal, DeclaresItem, DeclaresPlan, DeclaresClient, DeclaresRequest, DeclaresLive, Declares, new_client, with_request}
 use Rattle.pv_model.specs.Syntax.{Program}
 use Rattle.pv_model.specs.Text.{TextLine, words, number_of_digits, number_of_signed}
-use Rattle.pv_law_schedules.proofs.LineFormLemmas.{is_declaring, none-some-sites, declares-journal, declares-item}
-use Rattle.pv_law_schedules.proofs.LineLawLemmas.{word-differs}
+use Rattle.pv_law_schedules.proofs.LineFormLemmas.{is_declaring, none-some-sites, kinds-differ, declares-journal, declares-item, declares-plan, declares-client}
+use Rattle.pv_law_schedules.proofs.LineLawLemmas.{word-differs, request-declares}
 use Rattle.pv_law_programs.proofs.ProgramTextLemmas.{one_program_text}
 
 -- The event of a line by its words, unless it is a request.
@@ -176,16 +177,87 @@ one-item before line a b is also =
 journal-item : (before : Before) (line : TextLine) (a b : Before) → DeclaresJournal before line a → DeclaresItem before line b → ⊥
 journal-item before line a b is also = word-differs line (codes "journal") (codes "item") refl refl (ap leading_word is.is.1) (ap leading_word also.is)
 
+-- Declarations of live scripts.
+
+pub one-plan : (before : Before) (line : TextLine) (a b : Before) → DeclaresPlan before line a → DeclaresPlan before line b → a ≡ b
+one-plan before line a b is also =
+    let both = sym is.is ∙ also.is in
+    let dropped : is.dropped ≡ also.dropped = ap second_of both in
+    let doubled : is.doubled ≡ also.doubled = ap third_of both in
+    let m : is.fault_plan.drop_each ≡ also.fault_plan.drop_each = is.drops.0.value ∙ ap number_of_digits dropped ∙ sym also.drops.0.value in
+    let n : is.fault_plan.double_each ≡ also.fault_plan.double_each = is.doubles.0.value ∙ ap number_of_digits doubled ∙ sym also.doubles.0.value in
+    let same : is.fault_plan ≡ also.fault_plan = λ i. record { drop_each = m i; double_each = n i } in
+    is.same ∙ ap (λ (p : FaultPlan). record before { fault_plan = Some p }) same ∙ sym also.same
+
+pub one-client : (before : Before) (line : TextLine) (a b : Before) → DeclaresClient before line a → DeclaresClient before line b → a ≡ b
+one-client before line a b is also =
+    let w : is.is.0 ≡ also.is.0 = ap second_of (sym is.is.1 ∙ also.is.1) in
+    let n : is.site ≡ also.site = is.is.2.0.value ∙ ap number_of_digits w ∙ sym also.is.2.0.value in
+    is.same ∙ ap (λ (m : ℕ). record before { begun = true; clients = before.clients ++ new_client m ∷ [] }) n ∙ sym also.same
+
+pub one-asked : (before : Before) (line : TextLine) (a b : Before) → DeclaresRequest before line a → DeclaresRequest before line b → a ≡ b
+one-asked before line a b is also =
+    let word : request_word is.request.query ≡ request_word also.request.query = ap leading_word (sym is.first ∙ also.first) in
+    let query : is.request.query ≡ also.request.query = sym (query-of is.request.query) ∙ ap query_word word ∙ query-of also.request.query in
+    let text : is.request.text ≡ also.request.text = ap leading_word (sym is.given ∙ also.given) in
+    let program : is.request.program ≡ also.request.program =
+    one_program_text (declared_by before) also.request.text is.request.program also.request.program
+    (subst (λ (t : List ℕ). IsProgramText (declared_by before) t is.request.program) text is.is) also.is in
+    let number : is.request.number ≡ also.request.number = is.number ∙ sym also.number in
+    let same : is.request ≡ also.request = λ i. record { number = number i; query = query i; text = text i; program = program i } in
+    is.same ∙ ap (λ (r : Request). record before { clients = with_request before.clients r }) same ∙ sym also.same
+
+-- a request's first word declares nothing else
+asked-word : (before : Before) (line : TextLine) (a : Before) → DeclaresRequest before line a → is_declaring (first_word line) ≡ false
+asked-word before line a is = ap (λ (ws : List (List ℕ)). is_declaring (leading_word ws)) is.first ∙ request-declares is.request.query
+
+one-live : {before : Before} {line : TextLine} {a b : Before} → DeclaresLive before line a → DeclaresLive before line b → a ≡ b
+one-live {before} {line} {a} {b} (inl x) (inl y) = one-plan before line a b x y
+one-live {before} {line} {a} {b} (inl x) (inr (inl y)) =
+    absurd (word-differs line (codes "plan") (codes "client") refl refl (ap leading_word x.is) (ap leading_word y.is.1))
+one-live {before} {line} {a} {b} (inl x) (inr (inr y)) = absurd (declares-plan (first_word line) (asked-word before line b y) (ap leading_word x.is))
+one-live {before} {line} {a} {b} (inr (inl x)) (inl y) =
+    absurd (word-differs line (codes "plan") (codes "client") refl refl (ap leading_word y.is) (ap leading_word x.is.1))
+one-live {before} {line} {a} {b} (inr (inl x)) (inr (inl y)) = one-client before line a b x y
+one-live {before} {line} {a} {b} (inr (inl x)) (inr (inr y)) = absurd (declares-client (first_word line) (asked-word before line b y) (ap leading_word x.is.1))
+one-live {before} {line} {a} {b} (inr (inr x)) (inl y) = absurd (declares-plan (first_word line) (asked-word before line a x) (ap leading_word y.is))
+one-live {before} {line} {a} {b} (inr (inr x)) (inr (inl y)) = absurd (declares-client (first_word line) (asked-word before line a x) (ap leading_word y.is.1))
+one-live {before} {line} {a} {b} (inr (inr x)) (inr (inr y)) = one-asked before line a b x y
+
+-- What a live script alone declares, nothing else does.
+
+sites-live : {before : Before} {line : TextLine} {a b : Before} → DeclaresSites before line a → DeclaresLive before line b → ⊥
+sites-live {before} x (inl y) = none-some-sites before.sites y.sites y.said x.first
+sites-live {before} x (inr (inl y)) = none-some-sites before.sites y.sites y.said x.first
+sites-live {before} x (inr (inr y)) = none-some-sites before.sites y.sites y.said x.first
+
+journal-live : {before : Before} {line : TextLine} {a b : Before} → DeclaresJournal before line a → DeclaresLive before line b → ⊥
+journal-live {before} {line} x (inl y) = word-differs line (codes "journal") (codes "plan") refl refl (ap leading_word x.is.1) (ap leading_word y.is)
+journal-live {before} {line} x (inr (inl y)) = word-differs line (codes "journal") (codes "client") refl refl (ap leading_word x.is.1) (ap leading_word y.is.1)
+journal-live {before} {line} {a} {b} x (inr (inr y)) = declares-journal (first_word line) (asked-word before line b y) (ap leading_word x.is.1)
+
+item-live : {before : Before} {line : TextLine} {a b : Before} → DeclaresItem before line a → DeclaresLive before line b → ⊥
+item-live {before} {line} x (inl y) = word-differs line (codes "item") (codes "plan") refl refl (ap leading_word x.is) (ap leading_word y.is)
+item-live {before} {line} x (inr (inl y)) = word-differs line (codes "item") (codes "client") refl refl (ap leading_word x.is) (ap leading_word y.is.1)
+item-live {before} {line} {a} {b} x (inr (inr y)) = declares-item (first_word line) (asked-word before line b y) (ap leading_word x.is)
+
 pub one-declared : {before : Before} {line : TextLine} {a b : Before} → Declares before line a → Declares before line b → a ≡ b
 one-declared {before} {line} {a} {b} (inl x) (inl y) = one-sites before line a b x y
 one-declared {before} {line} {a} {b} (inl x) (inr (inl y)) = absurd (none-some-sites before.sites y.sites y.said x.first)
-one-declared {before} {line} {a} {b} (inl x) (inr (inr y)) = absurd (none-some-sites before.sites y.sites y.said x.first)
+one-declared {before} {line} {a} {b} (inl x) (inr (inr (inl y))) = absurd (none-some-sites before.sites y.sites y.said x.first)
+one-declared {before} {line} {a} {b} (inl x) (inr (inr (inr y))) = absurd (sites-live x y)
 one-declared {before} {line} {a} {b} (inr (inl x)) (inl y) = absurd (none-some-sites before.sites x.sites x.said y.first)
 one-declared {before} {line} {a} {b} (inr (inl x)) (inr (inl y)) = one-journal before line a b x y
-one-declared {before} {line} {a} {b} (inr (inl x)) (inr (inr y)) = absurd (journal-item before line a b x y)
-one-declared {before} {line} {a} {b} (inr (inr x)) (inl y) = absurd (none-some-sites before.sites x.sites x.said y.first)
-one-declared {before} {line} {a} {b} (inr (inr x)) (inr (inl y)) = absurd (journal-item before line b a y x)
-one-declared {before} {line} {a} {b} (inr (inr x)) (inr (inr y)) = one-item before line a b x y
+one-declared {before} {line} {a} {b} (inr (inl x)) (inr (inr (inl y))) = absurd (journal-item before line a b x y)
+one-declared {before} {line} {a} {b} (inr (inl x)) (inr (inr (inr y))) = absurd (journal-live x y)
+one-declared {before} {line} {a} {b} (inr (inr (inl x))) (inl y) = absurd (none-some-sites before.sites x.sites x.said y.first)
+one-declared {before} {line} {a} {b} (inr (inr (inl x))) (inr (inl y)) = absurd (journal-item before line b a y x)
+one-declared {before} {line} {a} {b} (inr (inr (inl x))) (inr (inr (inl y))) = one-item before line a b x y
+one-declared {before} {line} {a} {b} (inr (inr (inl x))) (inr (inr (inr y))) = absurd (item-live x y)
+one-declared {before} {line} {a} {b} (inr (inr (inr x))) (inl y) = absurd (sites-live y x)
+one-declared {before} {line} {a} {b} (inr (inr (inr x))) (inr (inl y)) = absurd (journal-live y x)
+one-declared {before} {line} {a} {b} (inr (inr (inr x))) (inr (inr (inl y))) = absurd (item-live y x)
+one-declared {before} {line} {a} {b} (inr (inr (inr x))) (inr (inr (inr y))) = one-live x y
 
 -- An event declares nothing.
 
@@ -213,4 +285,7 @@ says-no-declaring before line events.total is = ap (λ (ws : List (List ℕ)). i
 pub not-both : {before : Before} {line : TextLine} {e : Event} {a : Before} → IsEvent before line e → Declares before line a → ⊥
 not-both {before} {line} {e} {a} is (inl x) = none-some-sites before.sites is.sites is.said x.first
 not-both {before} {line} {e} {a} is (inr (inl x)) = declares-journal (first_word line) (says-no-declaring before line e is.says) (ap leading_word x.is.1)
-not-both {before} {line} {e} {a} is (inr (inr x)) = declares-item (first_word line) (says-no-declaring before line e is.says) (ap leading_word x.is)
+not-both {before} {line} {e} {a} is (inr (inr (inl x))) = declares-item (first_word line) (says-no-declaring before line e is.says) (ap leading_word x.is)
+not-both {before} {line} {e} {a} is (inr (inr (inr (inl x)))) = kinds-differ (sym is.kind ∙ x.kind)
+not-both {before} {line} {e} {a} is (inr (inr (inr (inr (inl x))))) = kinds-differ (sym is.kind ∙ x.kind)
+not-both {before} {line} {e} {a} is (inr (inr (inr (inr (inr x))))) = kinds-differ (sym is.kind ∙ x.kind)

@@ -1,9 +1,11 @@
 -- A text is one schedule at most, or has one first line at fault.
-use Rattle.std.proofs.Common.{◌≡◌, ◌⊎◌, ⊎_elim, ℕ, List, [], ◌∷◌, ◌++◌, inl, inr, refl, sym, ap, subst, ◌∙◌}
+use Rattle.std.proofs.Common.{◌≡◌, ◌⊎◌, ⊎_elim, ℕ, Some, List, [], ◌∷◌, ◌++◌, inl, inr, refl, sym, ap, subst, ◌∙◌}
 use Rattle.pv_model.specs.LineCauses.{Before, at_first, declared_by, LineCause, HasLineCause, IsFirstCause}
 use Rattle.pv_model.specs.Events.{Event, Schedule}
 use Rattle.pv_model.specs.FirstMisplaced.{without_numbers}
-use Rattle.pv_model.specs.Schedule.{IsEvent, Declares, with_event, AreLines, none, declaration, event, IsSchedule, IsMalformedSchedule}
+use Rattle.pv_model.specs.LineForms.{Script, scheduled, live}
+use Rattle.pv_model.specs.LiveScript.{LiveScript}
+use Rattle.pv_model.specs.Schedule.{IsEvent, Declares, with_event, AreLines, none, declaration, event, significant, live_script_by, IsSchedule, IsLiveScript, IsMalformed, IsMalformedSchedule, IsMalformedLiveScript}
 use Rattle.pv_model.specs.Text.{TextLine, numbered}
 use Rattle.pv_law_schedules.proofs.LineFormLemmas.{none-some-sites}
 use Rattle.pv_law_schedules.proofs.LineLawLemmas.{no-cause-event, no-cause-declared}
@@ -51,6 +53,9 @@ one_schedule text s t is also =
     let same = one-lines is.are also.are in
     let catalog : s.catalog ≡ t.catalog = is.catalog ∙ ap declared_by same.1 ∙ sym also.catalog in
     λ i. record { catalog = catalog i; events = same.0 i }
+
+pub one_live_script : (text : List ℕ) (s t : LiveScript) → IsLiveScript text s → IsLiveScript text t → s ≡ t
+one_live_script text s t is also = let same = one-lines is.are also.are in is.is ∙ ap live_script_by same.1 ∙ sym also.is
 
 -- Two faults are at one place.
 
@@ -105,12 +110,12 @@ nothing-split : (all front : Numbered) (x : ℕ × TextLine) (rest : Numbered) �
 nothing-split all [] x rest e split = let never : ⊥ = cc in never
 nothing-split all (y ∷ front) x rest e split = let never : ⊥ = cc in never
 
-pub one_fault : (text : List ℕ) (m n : ℕ) (c d : LineCause) → IsMalformedSchedule text m c → IsMalformedSchedule text n d → (m ≡ n) × (c ≡ d)
-one_fault text m n c d (inl x) (inl y) =
-    one-place at_first x.front y.front m n x.line y.line x.rest y.rest c d (sym x.split ∙ y.split) (x.events, x.before, x.are, x.first) (y.events, y.before, y.are, y.first)
-one_fault text m n c d (inl x) (inr y) = absurd (nothing-split (numbered text) x.front (m, x.line) x.rest y.empty x.split)
-one_fault text m n c d (inr x) (inl y) = absurd (nothing-split (numbered text) y.front (n, y.line) y.rest x.empty y.split)
-one_fault text m n c d (inr x) (inr y) = (x.place ∙ sym y.place, x.is ∙ sym y.is)
+pub one_fault : (kind : Script) (text : List ℕ) (m n : ℕ) (c d : LineCause) → IsMalformed kind text m c → IsMalformed kind text n d → (m ≡ n) × (c ≡ d)
+one_fault kind text m n c d (inl x) (inl y) =
+    one-place (at_first kind) x.front y.front m n x.line y.line x.rest y.rest c d (sym x.split ∙ y.split) (x.events, x.before, x.are, x.first) (y.events, y.before, y.are, y.first)
+one_fault kind text m n c d (inl x) (inr y) = absurd (nothing-split (numbered text) x.front (m, x.line) x.rest y.empty x.split)
+one_fault kind text m n c d (inr x) (inl y) = absurd (nothing-split (numbered text) y.front (n, y.line) y.rest x.empty y.split)
+one_fault kind text m n c d (inr x) (inr y) = (x.place ∙ sym y.place, x.is ∙ sym y.is)
 
 -- A schedule has no line at fault.
 
@@ -123,10 +128,17 @@ all-good before (x ∷ front) number line rest cause events last are is =
     let gone = goes are in
     all-good gone.0 front number line rest cause gone.1 last gone.3 (later before gone.0 x front number line cause gone.2 is)
 
+no-fault : (kind : Script) (text : List ℕ) (events : List Event) (last : Before) (sites n : ℕ) (c : LineCause) → AreLines (at_first kind) (significant text) events last
+    → last.sites ≡ Some sites → IsMalformed kind text n c → ⊥
+no-fault kind text events last sites n c are said (inl x) =
+    all-good (at_first kind) x.front n x.line x.rest c events last
+    (subst (λ (all : Numbered). AreLines (at_first kind) (without_numbers all) events last) x.split are) (x.events, x.before, x.are, x.first)
+no-fault kind text events last sites n c are said (inr x) =
+    let nothing : AreLines (at_first kind) [] events last = subst (λ (all : Numbered). AreLines (at_first kind) (without_numbers all) events last) x.empty are in
+    none-some-sites last.sites sites said (ap (λ (b : Before). b.sites) (sym (stays nothing)))
+
 pub no_fault : (text : List ℕ) (s : Schedule) (n : ℕ) (c : LineCause) → IsSchedule text s → IsMalformedSchedule text n c → ⊥
-no_fault text s n c is (inl x) =
-    all-good at_first x.front n x.line x.rest c s.events is.last
-    (subst (λ (all : Numbered). AreLines at_first (without_numbers all) s.events is.last) x.split is.are) (x.events, x.before, x.are, x.first)
-no_fault text s n c is (inr x) =
-    let nothing : AreLines at_first [] s.events is.last = subst (λ (all : Numbered). AreLines at_first (without_numbers all) s.events is.last) x.empty is.are in
-    none-some-sites is.last.sites is.sites is.said (ap (λ (b : Before). b.sites) (sym (stays nothing)))
+no_fault text s n c is fault = no-fault scheduled text s.events is.last is.sites n c is.are is.said fault
+
+pub no_live_fault : (text : List ℕ) (s : LiveScript) (n : ℕ) (c : LineCause) → IsLiveScript text s → IsMalformedLiveScript text n c → ⊥
+no_live_fault text s n c is fault = no-fault live text [] is.last is.sites n c is.are is.said fault

@@ -10,7 +10,7 @@ use Rattle.pv_model.specs.LineCauses as causes
 use Rattle.pv_model.specs.LineCauses.{Before, or_default, declared_by, HasFirstWord, IsSaid, LineCause, line_cause_rank, HasLineCause, HasProgram, Has, IsFirstCause, mode_words}
 use Rattle.pv_model.specs.Check.{names_item, AreItems}
 use Rattle.pv_model.specs.LineForms as fields
-use Rattle.pv_model.specs.LineForms.{Field, program, fields_of, first_word, forms_of, form_of, has_good_number}
+use Rattle.pv_model.specs.LineForms.{Script, scheduled, live, Field, program, fields_of, first_word, forms_of, form_of, has_good_number}
 use Rattle.pv_model.specs.ProgramText.{Kind, Refusal, too_large, at_fault, IsRefused}
 use Rattle.pv_model.specs.Syntax.{Program}
 use Rattle.pv_model.specs.Text.{TextLine}
@@ -49,6 +49,13 @@ decide-not (inr no_p) = inl no_p
 pub decide-nothing : {X : Type 0} (o : Option X) → Decidable (o ≡ None)
 decide-nothing None = inl refl
 decide-nothing (Some x) = inr (λ e. let never : ⊥ = cc in never)
+
+-- a kind is this one
+pub decide-kind : (script kind : Script) → Decidable (script ≡ kind)
+decide-kind scheduled scheduled = inl refl
+decide-kind scheduled live = inr (λ e. let never : ⊥ = cc in never)
+decide-kind live scheduled = inr (λ e. let never : ⊥ = cc in never)
+decide-kind live live = inl refl
 
 pub decide-empty : {X : Type 0} (xs : List X) → Decidable (xs ≡ [])
 decide-empty [] = inl refl
@@ -95,13 +102,13 @@ in-mode P decide (fields.mode, w) = decide w
 in-mode P decide (fields.name, w) = inr (λ h. h)
 in-mode P decide (fields.program, w) = inr (λ h. h)
 
-from-mode : (P : List ℕ → Type 0) (line : TextLine) (x : Field × List ℕ) → Contains (fields_of line) x → InMode P x → (w : List ℕ) × Has line fields.mode w × P w
-from-mode P line (fields.number least most, w) c h = absurd h
-from-mode P line (fields.site, w) c h = absurd h
-from-mode P line (fields.value, w) c h = absurd h
-from-mode P line (fields.mode, w) c h = (w, c, h)
-from-mode P line (fields.name, w) c h = absurd h
-from-mode P line (fields.program, w) c h = absurd h
+from-mode : (P : List ℕ → Type 0) (script : Script) (line : TextLine) (x : Field × List ℕ) → Contains (fields_of script line) x → InMode P x → (w : List ℕ) × Has script line fields.mode w × P w
+from-mode P script line (fields.number least most, w) c h = absurd h
+from-mode P script line (fields.site, w) c h = absurd h
+from-mode P script line (fields.value, w) c h = absurd h
+from-mode P script line (fields.mode, w) c h = (w, c, h)
+from-mode P script line (fields.name, w) c h = absurd h
+from-mode P script line (fields.program, w) c h = absurd h
 
 abbrev InName : (List ℕ → Type 0) → Field × List ℕ → Type 0
 InName P (fields.name, w) = P w
@@ -115,13 +122,13 @@ in-name P decide (fields.mode, w) = inr (λ h. h)
 in-name P decide (fields.name, w) = decide w
 in-name P decide (fields.program, w) = inr (λ h. h)
 
-from-name : (P : List ℕ → Type 0) (line : TextLine) (x : Field × List ℕ) → Contains (fields_of line) x → InName P x → (w : List ℕ) × Has line fields.name w × P w
-from-name P line (fields.number least most, w) c h = absurd h
-from-name P line (fields.site, w) c h = absurd h
-from-name P line (fields.value, w) c h = absurd h
-from-name P line (fields.mode, w) c h = absurd h
-from-name P line (fields.name, w) c h = (w, c, h)
-from-name P line (fields.program, w) c h = absurd h
+from-name : (P : List ℕ → Type 0) (script : Script) (line : TextLine) (x : Field × List ℕ) → Contains (fields_of script line) x → InName P x → (w : List ℕ) × Has script line fields.name w × P w
+from-name P script line (fields.number least most, w) c h = absurd h
+from-name P script line (fields.site, w) c h = absurd h
+from-name P script line (fields.value, w) c h = absurd h
+from-name P script line (fields.mode, w) c h = absurd h
+from-name P script line (fields.name, w) c h = (w, c, h)
+from-name P script line (fields.program, w) c h = absurd h
 
 abbrev InProgram : Field × List ℕ → Type 0
 InProgram (fields.program, w) = Unit {0}
@@ -135,52 +142,52 @@ in-program (fields.mode, w) = inr (λ h. h)
 in-program (fields.name, w) = inr (λ h. h)
 in-program (fields.program, w) = inl tt
 
-from-program : (line : TextLine) (x : Field × List ℕ) → Contains (fields_of line) x → InProgram x → (w : List ℕ) × Has line fields.program w
-from-program line (fields.number least most, w) c h = absurd h
-from-program line (fields.site, w) c h = absurd h
-from-program line (fields.value, w) c h = absurd h
-from-program line (fields.mode, w) c h = absurd h
-from-program line (fields.name, w) c h = absurd h
-from-program line (fields.program, w) c h = (w, c)
+from-program : (script : Script) (line : TextLine) (x : Field × List ℕ) → Contains (fields_of script line) x → InProgram x → (w : List ℕ) × Has script line fields.program w
+from-program script line (fields.number least most, w) c h = absurd h
+from-program script line (fields.site, w) c h = absurd h
+from-program script line (fields.value, w) c h = absurd h
+from-program script line (fields.mode, w) c h = absurd h
+from-program script line (fields.name, w) c h = absurd h
+from-program script line (fields.program, w) c h = (w, c)
 
-pub decide-mode : (P : List ℕ → Type 0) → ((w : List ℕ) → Decidable (P w)) → (line : TextLine) → Decidable ((w : List ℕ) × Has line fields.mode w × P w)
-decide-mode P decide line =
-    ⊎_elim (λ h. inl (from-mode P line h.0 h.1 h.2)) (λ none. inr (λ h. none ((fields.mode, h.0), h.1, h.2))) (decide-some (InMode P) (in-mode P decide) (fields_of line))
+pub decide-mode : (P : List ℕ → Type 0) → ((w : List ℕ) → Decidable (P w)) → (script : Script) (line : TextLine) → Decidable ((w : List ℕ) × Has script line fields.mode w × P w)
+decide-mode P decide script line =
+    ⊎_elim (λ h. inl (from-mode P script line h.0 h.1 h.2)) (λ none. inr (λ h. none ((fields.mode, h.0), h.1, h.2))) (decide-some (InMode P) (in-mode P decide) (fields_of script line))
 
-pub decide-name : (P : List ℕ → Type 0) → ((w : List ℕ) → Decidable (P w)) → (line : TextLine) → Decidable ((w : List ℕ) × Has line fields.name w × P w)
-decide-name P decide line =
-    ⊎_elim (λ h. inl (from-name P line h.0 h.1 h.2)) (λ none. inr (λ h. none ((fields.name, h.0), h.1, h.2))) (decide-some (InName P) (in-name P decide) (fields_of line))
+pub decide-name : (P : List ℕ → Type 0) → ((w : List ℕ) → Decidable (P w)) → (script : Script) (line : TextLine) → Decidable ((w : List ℕ) × Has script line fields.name w × P w)
+decide-name P decide script line =
+    ⊎_elim (λ h. inl (from-name P script line h.0 h.1 h.2)) (λ none. inr (λ h. none ((fields.name, h.0), h.1, h.2))) (decide-some (InName P) (in-name P decide) (fields_of script line))
 
-pub decide-text : (line : TextLine) → Decidable ((text : List ℕ) × Has line fields.program text)
-decide-text line =
-    ⊎_elim (λ h. inl (from-program line h.0 h.1 h.2)) (λ none. inr (λ h. none ((fields.program, h.0), h.1, tt))) (decide-some InProgram in-program (fields_of line))
+pub decide-text : (script : Script) (line : TextLine) → Decidable ((text : List ℕ) × Has script line fields.program text)
+decide-text script line =
+    ⊎_elim (λ h. inl (from-program script line h.0 h.1 h.2)) (λ none. inr (λ h. none ((fields.program, h.0), h.1, tt))) (decide-some InProgram in-program (fields_of script line))
 
 -- the program of a line, or why it has none
 abbrev IsRefusedIn : Before → TextLine → Type 0
-IsRefusedIn before line = (text : List ℕ) × Has line fields.program text × (refusal : Refusal) × IsRefused (declared_by before) text refusal
+IsRefusedIn before line = (text : List ℕ) × Has before.script line fields.program text × (refusal : Refusal) × IsRefused (declared_by before) text refusal
 
-abbrev HasNoText : TextLine → Type 0
-HasNoText line = (text : List ℕ) × Has line fields.program text → ⊥
+abbrev HasNoText : Script → TextLine → Type 0
+HasNoText script line = (text : List ℕ) × Has script line fields.program text → ⊥
 
 abbrev SomeProgram : Before → TextLine → Type 0
-SomeProgram before line = ((p : Program) × HasProgram before line p) ⊎ (IsRefusedIn before line ⊎ HasNoText line)
+SomeProgram before line = ((p : Program) × HasProgram before line p) ⊎ (IsRefusedIn before line ⊎ HasNoText before.script line)
 
 pub some-program : (before : Before) (line : TextLine) → SomeProgram before line
 some-program before line =
     ⊎_elim
     (λ t. ⊎_elim (λ p. inl (p.0, (t.0, t.1, p.1))) (λ r. inr (inl (t.0, t.1, r.0, r.1))) (some_answer (declared_by before) t.0))
     (λ none. inr (inr none))
-    (decide-text line)
+    (decide-text before.script line)
 
 abbrev pub AtProgram : Before → TextLine → Type 0
 AtProgram before line = (kind : Kind) × (column : ℕ) × HasLineCause before line (causes.at_program kind column)
 
-at-text : (before : Before) (line : TextLine) (text other : List ℕ) (refusal : Refusal) → Has line fields.program text → Has line fields.program other → IsRefused (declared_by before) text refusal → IsRefused (declared_by before) other refusal
-at-text before line text other refusal is also refused = subst (λ (t : List ℕ). IsRefused (declared_by before) t refusal) (one-text line text other is also) refused
+at-text : (before : Before) (line : TextLine) (text other : List ℕ) (refusal : Refusal) → Has before.script line fields.program text → Has before.script line fields.program other → IsRefused (declared_by before) text refusal → IsRefused (declared_by before) other refusal
+at-text before line text other refusal is also refused = subst (λ (t : List ℕ). IsRefused (declared_by before) t refusal) (one-text before.script line text other is also) refused
 
-decide-refused : (before : Before) (line : TextLine) (text : List ℕ) (refusal : Refusal) → Has line fields.program text → IsRefused (declared_by before) text refusal → Decidable (AtProgram before line)
+decide-refused : (before : Before) (line : TextLine) (text : List ℕ) (refusal : Refusal) → Has before.script line fields.program text → IsRefused (declared_by before) text refusal → Decidable (AtProgram before line)
 decide-refused before line text (too_large n) has refused =
-    inr (λ h. let same = ap (λ (t : List ℕ). length t) (one-text line text h.2.0 has h.2.1) in omega (arith, same, refused.0, refused.1, h.2.2.0))
+    inr (λ h. let same = ap (λ (t : List ℕ). length t) (one-text before.script line text h.2.0 has h.2.1) in omega (arith, same, refused.0, refused.1, h.2.2.0))
 decide-refused before line text (at_fault kind column) has refused = inl (kind, column, (text, has, refused))
 
 pub decide-fault : (before : Before) (line : TextLine) → SomeProgram before line → Decidable (AtProgram before line)

@@ -1,11 +1,14 @@
--- Each text is a schedule or is malformed.
+-- Each text is a schedule or is malformed, and is a live script or is malformed as one.
 use Rattle.std.proofs.Common.{◌≡◌, ◌⊎◌, ⊎_elim, ℕ, ◌+◌, Some, List, [], ◌∷◌, ◌++◌, length, inl, inr, refl, sym, ap, subst, ◌∙◌}
 use Rattle.pv_model.specs.LineCauses as causes
 use Rattle.pv_model.specs.LineCauses.{Before, at_first, declared_by, LineCause, IsFirstCause}
 use Rattle.pv_model.specs.Events.{Event, Schedule}
 use Rattle.pv_model.specs.FirstMisplaced.{without_numbers}
-use Rattle.pv_model.specs.Schedule.{IsEvent, Declares, with_event, AreLines, none, declaration, event, IsSchedule, IsMalformedSchedule}
+use Rattle.pv_model.specs.LineForms.{scheduled, live}
+use Rattle.pv_model.specs.LiveScript.{LiveScript}
+use Rattle.pv_model.specs.Schedule.{IsEvent, Declares, with_event, AreLines, none, declaration, event, significant, live_script_by, IsSchedule, IsLiveScript, IsMalformedSchedule, IsMalformedLiveScript}
 use Rattle.pv_model.specs.Text.{TextLine, lines, numbered}
+use Rattle.pv_law_schedules.proofs.LineFormLemmas.{kinds-differ}
 use Rattle.pv_law_schedules.proofs.SomeLineLemmas.{some_line}
 
 -- Numbered lines are all good, or one of them is the first at fault.
@@ -87,7 +90,10 @@ walk before (x ∷ all) =
 keeps : (before after : Before) (line : TextLine) → Declares before line after → SitesIn after
 keeps before after line (inl x) = (x.count, ap (λ (b : Before). b.sites) x.same)
 keeps before after line (inr (inl x)) = (x.sites, ap (λ (b : Before). b.sites) x.same ∙ x.said)
-keeps before after line (inr (inr x)) = (x.sites, ap (λ (b : Before). b.sites) x.same ∙ x.said)
+keeps before after line (inr (inr (inl x))) = (x.sites, ap (λ (b : Before). b.sites) x.same ∙ x.said)
+keeps before after line (inr (inr (inr (inl x)))) = (x.sites, ap (λ (b : Before). b.sites) x.same ∙ x.said)
+keeps before after line (inr (inr (inr (inr (inl x))))) = (x.sites, ap (λ (b : Before). b.sites) x.same ∙ x.said)
+keeps before after line (inr (inr (inr (inr (inr x))))) = (x.sites, ap (λ (b : Before). b.sites) x.same ∙ x.said)
 
 said-from : {before last : Before} {ls : List TextLine} {es : List Event} → SitesIn before → AreLines before ls es last → SitesIn last
 said-from said (none before) = said
@@ -98,12 +104,27 @@ said-behind : {before last : Before} {line : TextLine} {ls : List TextLine} {es 
 said-behind (declaration before after last line ls es d more) = said-from (keeps before after line d) more
 said-behind (event before last line ls e es is more) = said-from (is.sites, is.said) more
 
+-- A live script has no events.
+
+keeps-script : (before after : Before) (line : TextLine) → Declares before line after → after.script ≡ before.script
+keeps-script before after line (inl x) = ap (λ (b : Before). b.script) x.same
+keeps-script before after line (inr (inl x)) = ap (λ (b : Before). b.script) x.same
+keeps-script before after line (inr (inr (inl x))) = ap (λ (b : Before). b.script) x.same
+keeps-script before after line (inr (inr (inr (inl x)))) = ap (λ (b : Before). b.script) x.same
+keeps-script before after line (inr (inr (inr (inr (inl x))))) = ap (λ (b : Before). b.script) x.same
+keeps-script before after line (inr (inr (inr (inr (inr x))))) = ap (λ (b : Before). b.script) x.same
+
+no-events : {before last : Before} {ls : List TextLine} {es : List Event} → before.script ≡ live → AreLines before ls es last → es ≡ []
+no-events kind (none before) = refl
+no-events kind (declaration before after last line ls es d more) = no-events (keeps-script before after line d ∙ kind) more
+no-events kind (event before last line ls e es is more) = absurd (kinds-differ (sym is.kind ∙ kind))
+
 -- Texts.
 
 abbrev Answer : List ℕ → Type 0
 Answer text = ((schedule : Schedule) × IsSchedule text schedule) ⊎ ((number : ℕ) × (cause : LineCause) × IsMalformedSchedule text number cause)
 
-by-lines : (text : List ℕ) (all : List (ℕ × TextLine)) → numbered text ≡ all → AllGood at_first all → Answer text
+by-lines : (text : List ℕ) (all : List (ℕ × TextLine)) → numbered text ≡ all → AllGood (at_first scheduled) all → Answer text
 by-lines text [] empty good = inr (length (lines text) + 1, causes.sites_expected, inr (record { empty = empty; place = refl; is = refl }))
 by-lines text (x ∷ all) whole good =
     let said = said-behind good.2 in
@@ -111,7 +132,7 @@ by-lines text (x ∷ all) whole good =
       record { catalog = declared_by good.1; events = good.0 },
       record {
         last = good.1;
-        are = subst (λ (l : List (ℕ × TextLine)). AreLines at_first (without_numbers l) good.0 good.1) (sym whole) good.2;
+        are = subst (λ (l : List (ℕ × TextLine)). AreLines (at_first scheduled) (without_numbers l) good.0 good.1) (sym whole) good.2;
         sites = said.0;
         said = said.1;
         catalog = refl;
@@ -135,4 +156,42 @@ some_schedule_or_fault text =
         first = at.first;
       }),
     ))
-    (walk at_first (numbered text))
+    (walk (at_first scheduled) (numbered text))
+
+abbrev LiveAnswer : List ℕ → Type 0
+LiveAnswer text = ((script : LiveScript) × IsLiveScript text script) ⊎ ((number : ℕ) × (cause : LineCause) × IsMalformedLiveScript text number cause)
+
+by-live-lines : (text : List ℕ) (all : List (ℕ × TextLine)) → numbered text ≡ all → AllGood (at_first live) all → LiveAnswer text
+by-live-lines text [] empty good = inr (length (lines text) + 1, causes.sites_expected, inr (record { empty = empty; place = refl; is = refl }))
+by-live-lines text (x ∷ all) whole good =
+    let said = said-behind good.2 in
+    let are : AreLines (at_first live) (significant text) good.0 good.1 = subst (λ (l : List (ℕ × TextLine)). AreLines (at_first live) (without_numbers l) good.0 good.1) (sym whole) good.2 in
+    inl (
+      live_script_by good.1,
+      record {
+        last = good.1;
+        are = subst (λ (es : List Event). AreLines (at_first live) (significant text) es good.1) (no-events refl are) are;
+        sites = said.0;
+        said = said.1;
+        is = refl;
+      },
+    )
+
+pub some_live_script_or_fault : (text : List ℕ) → ((script : LiveScript) × IsLiveScript text script) ⊎ ((number : ℕ) × (cause : LineCause) × IsMalformedLiveScript text number cause)
+some_live_script_or_fault text =
+    ⊎_elim (by-live-lines text (numbered text) refl)
+    (λ at. inr (
+      at.number,
+      at.cause,
+      inl (record {
+        front = at.front;
+        line = at.line;
+        rest = at.rest;
+        split = at.split;
+        events = at.events;
+        before = at.last;
+        are = at.are;
+        first = at.first;
+      }),
+    ))
+    (walk (at_first live) (numbered text))

@@ -7,6 +7,7 @@ use Rattle.pv_law_programs.proofs.DeclaredItems.{declared-items}
 use Rattle.pv_law_world.proofs.NumeralLemmas.{small-numbers}
 use Rattle.pv_model.specs.LineCauses.{Before, or_default, declared_by, at_first}
 use Rattle.pv_model.specs.Check.{names_item}
+use Rattle.pv_model.specs.LineForms.{scheduled}
 use Rattle.pv_model.specs.Events.{Event, submit, deliver, pump, lose, drop, tick, stop, start, arm, mend, sent, report, total, Schedule}
 use Rattle.pv_model.specs.Schedule.{IsDeclaredSite, Says, Declares, AreLines, none, declaration, event, with_event, IsSchedule}
 use Rattle.pv_model.specs.Text.{TextLine}
@@ -25,9 +26,15 @@ declared-lasts before after line (inl declares) =
     subst (Lasts before) (sym declares.same)
     (record { sites = λ count said. absurd (none-some declares.first said); items = omega arith })
 declared-lasts before after line (inr (inl declares)) = subst (Lasts before) (sym declares.same) (record { sites = λ count said. said; items = omega arith })
-declared-lasts before after line (inr (inr declares)) =
+declared-lasts before after line (inr (inr (inl declares))) =
     subst (Lasts before) (sym declares.same)
     (record { sites = λ count said. said; items = rw (length-append before.items (declares.item ∷ [])) (omega arith) })
+declared-lasts before after line (inr (inr (inr (inl declares)))) =
+    subst (Lasts before) (sym declares.same) (record { sites = λ count said. said; items = omega arith })
+declared-lasts before after line (inr (inr (inr (inr (inl declares))))) =
+    subst (Lasts before) (sym declares.same) (record { sites = λ count said. said; items = omega arith })
+declared-lasts before after line (inr (inr (inr (inr (inr declares))))) =
+    subst (Lasts before) (sym declares.same) (record { sites = λ count said. said; items = omega arith })
 
 chained : {before mid last : Before} → Lasts before mid → Lasts mid last → Lasts before last
 chained first second = record { sites = λ count said. second.sites count (first.sites count said); items = le_trans first.items second.items }
@@ -83,4 +90,4 @@ lines-well before last lines events (event first end line rest e es is are) =
 
 pub schedule-well : (text : List ℕ) (schedule : Schedule) → IsSchedule text schedule → All (IsWellFormed schedule.catalog) schedule.events
 schedule-well text schedule is =
-    subst (λ (catalog : Declared). All (IsWellFormed catalog) schedule.events) (sym is.catalog) (lines-well at_first is.last _ schedule.events is.are)
+    subst (λ (catalog : Declared). All (IsWellFormed catalog) schedule.events) (sym is.catalog) (lines-well (at_first scheduled) is.last _ schedule.events is.are)

@@ -10,6 +10,7 @@ use Rattle.pv_law_step.proofs.FitLemmas.{fits-from}
 use Rattle.pv_law_world.specs.Ranges.{with_limits}
 use Rattle.pv_model.specs.LineCauses.{Before, or_default, at_first}
 use Rattle.pv_model.specs.Events.{Event, Schedule}
+use Rattle.pv_model.specs.LineForms.{scheduled}
 use Rattle.pv_model.specs.Schedule.{Declares, AreLines, none, declaration, event, with_event, IsSchedule}
 use Rattle.pv_model.specs.Text.{TextLine}
 use Rattle.pv_protocol.specs.Sound.{IsSetupInRange}
@@ -32,7 +33,7 @@ none-before : (before : Before) → before.sites ≡ None → (item : Item) → 
 none-before before unsaid item home =
     let below : item.site < 0 = subst (λ (said : Option ℕ). item.site < or_default 0 said) unsaid home in omega (arith, below)
 
-first-fine : IsSaidInRange at_first
+first-fine : IsSaidInRange (at_first scheduled)
 first-fine = record {
   sites = omega arith;
   items = omega arith;
@@ -64,7 +65,7 @@ declared-fine before after line fine (inr (inl declares)) =
       homes = fine.homes;
       values = fine.values;
     })
-declared-fine before after line fine (inr (inr declares)) =
+declared-fine before after line fine (inr (inr (inl declares))) =
     subst IsSaidInRange (sym declares.same) (record {
       sites = fine.sites;
       items = omega (arith, declares.room, length-append before.items (declares.item ∷ []));
@@ -75,6 +76,15 @@ declared-fine before after line fine (inr (inr declares)) =
       values = All-append (λ (item : Item). FitsSigned w64 item.value) before.items (declares.item ∷ []) fine.values
           (All-cons (λ (item : Item). FitsSigned w64 item.value) declares.item [] (fits-from declares.item.value declares.fits) (All-nil (λ (item : Item). FitsSigned w64 item.value)));
     })
+declared-fine before after line fine (inr (inr (inr (inl declares)))) =
+    subst IsSaidInRange (sym declares.same)
+    (record { sites = fine.sites; items = fine.items; least = fine.least; journal = fine.journal; homes = fine.homes; values = fine.values })
+declared-fine before after line fine (inr (inr (inr (inr (inl declares))))) =
+    subst IsSaidInRange (sym declares.same)
+    (record { sites = fine.sites; items = fine.items; least = fine.least; journal = fine.journal; homes = fine.homes; values = fine.values })
+declared-fine before after line fine (inr (inr (inr (inr (inr declares))))) =
+    subst IsSaidInRange (sym declares.same)
+    (record { sites = fine.sites; items = fine.items; least = fine.least; journal = fine.journal; homes = fine.homes; values = fine.values })
 
 lines-fine : (before last : Before) (lines : List TextLine) (events : List Event) → IsSaidInRange before → AreLines before lines events last → IsSaidInRange last
 lines-fine before last lines events fine (none same) = fine
@@ -87,7 +97,7 @@ lines-fine before last lines events fine (event first end line rest e es is are)
 pub schedule-in-range : (text : List ℕ) (schedule : Schedule) (read_names held_names : ℕ) → IsSchedule text schedule → read_names < held_names → held_names ≤ HELD_NAMES
     → IsSetupInRange (with_limits schedule.catalog read_names held_names)
 schedule-in-range text schedule read_names held_names is apart held =
-    let fine : IsSaidInRange is.last = lines-fine at_first is.last _ schedule.events first-fine is.are in
+    let fine : IsSaidInRange is.last = lines-fine (at_first scheduled) is.last _ schedule.events first-fine is.are in
     subst (λ (catalog : Declared). IsSetupInRange (with_limits catalog read_names held_names)) (sym is.catalog) (record {
       sites = fine.sites;
       items = fine.items;

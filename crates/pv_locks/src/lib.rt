@@ -8,6 +8,3 @@ mod plan;
 
 pub use locks::Locks;
 pub use plan::{Change, GrantPlan, LockError};
-
-#[cfg(test)]
-mod tests;

@@ -7,6 +7,7 @@ pub mod FirstMisplaced
 pub mod Grammar
 pub mod Items
 pub mod LineForms
+pub mod LiveScript
 pub mod Meaning
 pub mod Plan
 pub mod ProgramLaws

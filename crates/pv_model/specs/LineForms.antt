@@ -1,11 +1,23 @@
--- The lines of schedules: which words they have, and what stands after the first.
+-- The lines of scripts of each kind: which words they have, and what stands after the first.
 use Rattle.std.specs.Prelude.{ℕ, ◌^◌, ◌-◌, Bool, true, false, ◌&&◌, ◌||◌, ◌==◌, nat_le, nat_lt, Option, Some, None, List, [], ◌∷◌, length, map, filter, find, if◌then◌else◌, codes}
-use Rattle.pv_base.specs.declared.limits.TheConstants.{MAX_SITES, MIN_JOURNAL, MAX_JOURNAL, MAX_PUMP, MAX_CALL}
+use Rattle.pv_base.specs.declared.limits.TheConstants.{MAX_SITES, MIN_JOURNAL, MAX_JOURNAL, MAX_LINE, MAX_LIVE_LINE, MAX_PUMP, MAX_CALL}
 use Rattle.std.specs.List.{list_all}
 use Rattle.std.specs.Str.{bytes_eq}
 use Rattle.pv_base.specs.Name.{is_blank, is_digit}
 use Rattle.pv_model.specs.Text.{TextLine, number_of_digits, digits_of, number_of_signed, words}
 use Rattle.pv_model.specs.Meaning.{fits_i64}
+
+-- the kinds of scripts
+pub data Script : Type 0 where
+  -- a schedule: events, in the order in which they happen
+  scheduled : Script
+  -- a live script: clients, with what each asks for
+  live : Script
+
+-- the greatest length of a line, in bytes
+abbrev pub most_bytes : Script → ℕ
+most_bytes scheduled = MAX_LINE
+most_bytes live = MAX_LIVE_LINE
 
 -- what may stand after the first word of a line
 pub data Field : Type 0 where
@@ -16,18 +28,31 @@ pub data Field : Type 0 where
   name : Field
   program : Field
 
--- The first words, each with what stands after it. `pump` has two forms.
-unfoldable pub line_forms : List (List ℕ × List Field)
-line_forms =
+-- the forms of the lines that each kind of script has, before others
+abbrev pub with_declarations : List (List ℕ × List Field) → List (List ℕ × List Field)
+with_declarations more =
     (codes "sites", number 1 MAX_SITES ∷ []) ∷ (codes "journal", number MIN_JOURNAL MAX_JOURNAL ∷ [])
     ∷ (codes "item", name ∷ site ∷ value ∷ [])
-    ∷ (codes "submit", site ∷ program ∷ []) ∷ (codes "query", site ∷ program ∷ [])
+    ∷ more
+
+-- The first words, each with what stands after it. `pump` has two forms.
+unfoldable pub line_forms : Script → List (List ℕ × List Field)
+line_forms scheduled =
+    with_declarations (
+    (codes "submit", site ∷ program ∷ []) ∷ (codes "query", site ∷ program ∷ [])
     ∷ (codes "deliver", number 0 (2 ^ 64 - 1) ∷ []) ∷ (codes "lose", number 0 (2 ^ 64 - 1) ∷ [])
     ∷ (codes "pump", []) ∷ (codes "pump", number 1 MAX_PUMP ∷ [])
     ∷ (codes "drop", site ∷ []) ∷ (codes "tick", site ∷ []) ∷ (codes "stop", site ∷ []) ∷ (codes "start", site ∷ [])
     ∷ (codes "mend", site ∷ [])
     ∷ (codes "cut", site ∷ number 1 MAX_CALL ∷ mode ∷ []) ∷ (codes "fail", site ∷ number 1 MAX_CALL ∷ mode ∷ [])
     ∷ (codes "sent", []) ∷ (codes "report", []) ∷ (codes "total", []) ∷ []
+    )
+line_forms live =
+    with_declarations (
+    (codes "plan", number 0 (2 ^ 32 - 1) ∷ number 0 (2 ^ 32 - 1) ∷ [])
+    ∷ (codes "client", site ∷ [])
+    ∷ (codes "submit", program ∷ []) ∷ (codes "query", program ∷ []) ∷ []
+    )
 
 -- the first word of a line that counts
 abbrev pub leading_word : List (List ℕ) → List ℕ
@@ -38,10 +63,10 @@ abbrev pub first_word : TextLine → List ℕ
 first_word line = leading_word (words line)
 
 -- the forms of lines with this first word
-abbrev pub forms_of : List ℕ → List (List Field)
-forms_of word = map (λ form. form.1) (filter (λ form. bytes_eq word form.0) line_forms)
+abbrev pub forms_of : Script → List ℕ → List (List Field)
+forms_of script word = map (λ form. form.1) (filter (λ form. bytes_eq word form.0) (line_forms script))
 
--- Whether a program stands after the site of lines with this first word.
+-- Whether lines with this first word are requests: a program stands at their end.
 unfoldable pub takes_program : List ℕ → Bool
 takes_program word = bytes_eq word (codes "submit") || bytes_eq word (codes "query")
 
@@ -60,26 +85,39 @@ abbrev pub before_blanks : List ℕ → List ℕ
 before_blanks [] = []
 before_blanks (b ∷ bs) = if list_all is_blank (b ∷ bs) then [] else b ∷ before_blanks bs
 
--- The text of a program begins at its first byte after the first two words and the blanks, and ends before the blanks at the line's end.
-unfoldable pub program_text : TextLine → List ℕ
-program_text line = before_blanks (after_blanks (after_word (after_blanks (after_word (after_blanks line)))))
+-- The text of a program begins at its first byte after the words before it and the blanks, and ends before the blanks at the line's end. In a schedule two
+-- words come before it, the second of them the site; in a live script it is one.
+unfoldable pub program_text : Script → TextLine → List ℕ
+program_text scheduled line = before_blanks (after_blanks (after_word (after_blanks (after_word (after_blanks line)))))
+program_text live line = before_blanks (after_blanks (after_word (after_blanks line)))
 
 -- words after the first, where all after the second of them is one text
 abbrev pub site_and_text : List ℕ → List (List ℕ) → List (List ℕ)
 site_and_text text (at ∷ word ∷ more) = at ∷ text ∷ []
 site_and_text text words = words
 
+-- words after the first, where all of them are one text
+abbrev pub text_alone : List ℕ → List (List ℕ) → List (List ℕ)
+text_alone text [] = []
+text_alone text (word ∷ more) = text ∷ []
+
+-- what stands after the first word of a request
+abbrev pub with_text : Script → List ℕ → List (List ℕ) → List (List ℕ)
+with_text scheduled text words = site_and_text text words
+with_text live text words = text_alone text words
+
 abbrev pub later_words : List (List ℕ) → List (List ℕ)
 later_words [] = []
 later_words (word ∷ more) = more
 
 -- What stands after the first word. A program counts as one word.
-unfoldable pub arguments : TextLine → List (List ℕ)
-arguments line = if takes_program (first_word line) then site_and_text (program_text line) (later_words (words line)) else later_words (words line)
+unfoldable pub arguments : Script → TextLine → List (List ℕ)
+arguments script line =
+    if takes_program (first_word line) then with_text script (program_text script line) (later_words (words line)) else later_words (words line)
 
 -- the form that the line has, by the number of its words
-unfoldable pub form_of : TextLine → Option (List Field)
-form_of line = find (λ form. length form == length (arguments line)) (forms_of (first_word line))
+unfoldable pub form_of : Script → TextLine → Option (List Field)
+form_of script line = find (λ form. length form == length (arguments script line)) (forms_of script (first_word line))
 
 -- fields beside the words in their places
 abbrev pub beside : List Field → List (List ℕ) → List (Field × List ℕ)
@@ -92,8 +130,8 @@ fields_in None words = []
 fields_in (Some fields) words = beside fields words
 
 -- each field of the line's form, with what stands there
-abbrev pub fields_of : TextLine → List (Field × List ℕ)
-fields_of line = fields_in (form_of line) (arguments line)
+abbrev pub fields_of : Script → TextLine → List (Field × List ℕ)
+fields_of script line = fields_in (form_of script line) (arguments script line)
 
 -- one or more digits
 abbrev pub are_digits : List ℕ → Bool

@@ -1,15 +1,16 @@
--- The texts that are schedules, line by line, and the first line at fault of another text.
-use Rattle.std.specs.Prelude.{◌≡◌, ℕ, ◌+◌, ◌-◌, ◌^◌, ◌<◌, ◌≤◌, Bool, true, false, Some, None, List, [], ◌∷◌, ◌++◌, length, ◌⊎◌, IsTrue, codes}
-use Rattle.pv_base.specs.declared.limits.TheConstants.{MAX_CALL, MAX_ITEMS, MAX_JOURNAL, MAX_PROGRAM_ITEMS, MAX_PUMP, MAX_SITES, MIN_JOURNAL}
+-- The texts that are scripts of each kind, schedules and live scripts, line by line, and the first line at fault of another text.
+use Rattle.std.specs.Prelude.{◌≡◌, ◌≢◌, ℕ, ◌+◌, ◌-◌, ◌^◌, ◌<◌, ◌≤◌, Bool, true, false, Option, Some, None, List, [], ◌∷◌, ◌++◌, length, ◌⊎◌, IsTrue, codes}
+use Rattle.pv_base.specs.declared.limits.TheConstants.{MAX_CALL, MAX_CLIENTS, MAX_ITEMS, MAX_JOURNAL, MAX_PROGRAM_ITEMS, MAX_PUMP, MAX_REQUESTS, MAX_SITES, MIN_JOURNAL}
 use Rattle.pv_base.specs.Catalog.{Item, place_of}
 use Rattle.pv_base.specs.Name.{is_name}
 use Rattle.pv_base.specs.declared.mode.Mode.{Mode}
 use Rattle.pv_base.specs.declared.mode.Mode.TheVariants.{Lost, Kept, Torn}
-use Rattle.pv_model.specs.LineCauses.{Before, at_first, or_default, declared_by, LineCause, sites_expected, IsFirstCause}
+use Rattle.pv_model.specs.LineCauses.{Before, at_first, or_default, declared_by, last_requests, LineCause, sites_expected, IsFirstCause}
 use Rattle.pv_model.specs.Check.{AreItems, has_assignment, has_return}
 use Rattle.pv_model.specs.Events.{Event, submit, deliver, pump, lose, drop, tick, stop, start, arm, mend, sent, report, total, Schedule}
 use Rattle.pv_model.specs.FirstMisplaced.{without_numbers}
-use Rattle.pv_model.specs.LineForms.{arguments}
+use Rattle.pv_model.specs.LineForms.{Script, scheduled, live, most_bytes, arguments}
+use Rattle.pv_model.specs.LiveScript.{Request, Client, FaultPlan, LiveScript}
 use Rattle.pv_model.specs.Meaning.{fits_i64}
 use Rattle.pv_model.specs.ProgramText.{IsProgramText}
 use Rattle.pv_model.specs.Syntax.{Program}
@@ -59,7 +60,7 @@ pub record IsRequest (before : Before) (site : ℕ) (query : Bool) (text : List 
   pub more : List (List ℕ)
   pub first : words line ≡ request_word query ∷ more
   pub at : List ℕ
-  pub given : arguments line ≡ at ∷ text ∷ []
+  pub given : arguments before.script line ≡ at ∷ text ∷ []
   pub place : IsDeclaredSite before at site
   pub is : IsProgramText (declared_by before) text p
   pub may : MayRun p query
@@ -82,9 +83,10 @@ Says before line sent = IsAlone (codes "sent") line
 Says before line report = IsAlone (codes "report") line
 Says before line total = IsAlone (codes "total") line
 
--- An event is a well-formed line after the count of sites.
+-- An event is a well-formed line of a schedule after the count of sites.
 pub record IsEvent (before : Before) (line : TextLine) (event : Event) : Type 0 where
-  pub text : IsText line
+  pub kind : before.script ≡ scheduled
+  pub text : IsText (most_bytes before.script) line
   pub sites : ℕ
   pub said : before.sites ≡ Some sites
   pub says : Says before line event
@@ -95,7 +97,7 @@ with_event before = record before { begun = true }
 
 -- `sites N`, which comes first
 pub record DeclaresSites (before : Before) (line : TextLine) (after : Before) : Type 0 where
-  pub text : IsText line
+  pub text : IsText (most_bytes before.script) line
   pub first : before.sites ≡ None
   pub count : ℕ
   pub is : IsOne (codes "sites") (λ word. IsIn 1 MAX_SITES word count) line
@@ -103,7 +105,7 @@ pub record DeclaresSites (before : Before) (line : TextLine) (after : Before) : 
 
 -- `journal N`, once and before all events
 pub record DeclaresJournal (before : Before) (line : TextLine) (after : Before) : Type 0 where
-  pub text : IsText line
+  pub text : IsText (most_bytes before.script) line
   pub sites : ℕ
   pub said : before.sites ≡ Some sites
   pub once : before.journal ≡ None
@@ -114,7 +116,7 @@ pub record DeclaresJournal (before : Before) (line : TextLine) (after : Before) 
 
 -- `item NAME SITE VALUE`, with a name that no item has, before all events
 pub record DeclaresItem (before : Before) (line : TextLine) (after : Before) : Type 0 where
-  pub text : IsText line
+  pub text : IsText (most_bytes before.script) line
   pub sites : ℕ
   pub said : before.sites ≡ Some sites
   pub early : before.begun ≡ false
@@ -130,11 +132,74 @@ pub record DeclaresItem (before : Before) (line : TextLine) (after : Before) : T
   pub room : length before.items < MAX_ITEMS
   pub same : after ≡ record before { items = before.items ++ item ∷ [] }
 
+-- `plan D E` in a live script, once and before all clients
+pub record DeclaresPlan (before : Before) (line : TextLine) (after : Before) : Type 0 where
+  pub kind : before.script ≡ live
+  pub text : IsText (most_bytes before.script) line
+  pub sites : ℕ
+  pub said : before.sites ≡ Some sites
+  pub once : before.fault_plan ≡ None
+  pub early : before.begun ≡ false
+  pub fault_plan : FaultPlan
+  pub dropped : List ℕ
+  pub doubled : List ℕ
+  pub is : words line ≡ codes "plan" ∷ dropped ∷ doubled ∷ []
+  pub drops : IsIn 0 (2 ^ 32 - 1) dropped fault_plan.drop_each
+  pub doubles : IsIn 0 (2 ^ 32 - 1) doubled fault_plan.double_each
+  pub same : after ≡ record before { fault_plan = Some fault_plan }
+
+-- a client that has asked for nothing
+abbrev pub new_client : ℕ → Client
+new_client site = record { site = site; requests = [] }
+
+-- a client with one request more
+abbrev pub with_one_more : Client → Request → Client
+with_one_more client request = record client { requests = client.requests ++ request ∷ [] }
+
+-- clients, of which the last has one request more
+abbrev pub with_request : List Client → Request → List Client
+with_request [] request = []
+with_request (client ∷ []) request = with_one_more client request ∷ []
+with_request (client ∷ next ∷ clients) request = client ∷ with_request (next ∷ clients) request
+
+-- `client SITE` in a live script, the last client so far
+pub record DeclaresClient (before : Before) (line : TextLine) (after : Before) : Type 0 where
+  pub kind : before.script ≡ live
+  pub text : IsText (most_bytes before.script) line
+  pub sites : ℕ
+  pub said : before.sites ≡ Some sites
+  pub site : ℕ
+  pub is : IsOne (codes "client") (λ word. IsDeclaredSite before word site) line
+  pub room : length before.clients < MAX_CLIENTS
+  pub same : after ≡ record before { begun = true; clients = before.clients ++ new_client site ∷ [] }
+
+-- `submit PROGRAM` or `query PROGRAM` in a live script, a request of the last client so far, with the text of a program that may run
+pub record DeclaresRequest (before : Before) (line : TextLine) (after : Before) : Type 0 where
+  pub kind : before.script ≡ live
+  pub text : IsText (most_bytes before.script) line
+  pub sites : ℕ
+  pub said : before.sites ≡ Some sites
+  pub request : Request
+  pub more : List (List ℕ)
+  pub first : words line ≡ request_word request.query ∷ more
+  pub given : arguments before.script line ≡ request.text ∷ []
+  pub some : before.clients ≢ []
+  pub room : last_requests before.clients < MAX_REQUESTS
+  pub number : request.number ≡ last_requests before.clients
+  pub is : IsProgramText (declared_by before) request.text request.program
+  pub may : MayRun request.program request.query
+  pub same : after ≡ record before { clients = with_request before.clients request }
+
+-- The line declares something that a live script alone has.
+abbrev pub DeclaresLive : Before → TextLine → Before → Type 0
+DeclaresLive before line after = DeclaresPlan before line after ⊎ (DeclaresClient before line after ⊎ DeclaresRequest before line after)
+
 -- The line declares something.
 abbrev pub Declares : Before → TextLine → Before → Type 0
-Declares before line after = DeclaresSites before line after ⊎ (DeclaresJournal before line after ⊎ DeclaresItem before line after)
+Declares before line after = DeclaresSites before line after ⊎ (DeclaresJournal before line after ⊎ (DeclaresItem before line after ⊎ DeclaresLive before line after))
 
--- Lines after what was said are declarations and events: each one by what those before it said. They end with these events, and with this said.
+-- Lines after what was said are declarations and events: each one by what those before it said. They end with these events, and with this said. Events are of
+-- schedules alone; a live script has declarations alone.
 pub data AreLines : Before → List TextLine → List Event → Before → Type 0 where
   none : (before : Before) → AreLines before [] [] before
   declaration : (before after last : Before) (line : TextLine) (lines : List TextLine) (events : List Event) → Declares before line after
@@ -149,20 +214,37 @@ significant text = without_numbers (numbered text)
 -- A text is a schedule: its significant lines are one, and the count of sites is among them.
 pub record IsSchedule (text : List ℕ) (schedule : Schedule) : Type 0 where
   pub last : Before
-  pub are : AreLines at_first (significant text) schedule.events last
+  pub are : AreLines (at_first scheduled) (significant text) schedule.events last
   pub sites : ℕ
   pub said : last.sites ≡ Some sites
   pub catalog : schedule.catalog ≡ declared_by last
 
--- The first line that has a cause, with its first cause: those before it are lines of a schedule.
-pub record IsAtFault (text : List ℕ) (number : ℕ) (cause : LineCause) : Type 0 where
+-- the fault plan that was said. Where none was, messages between sites don't fail.
+abbrev pub fault_plan_of : Option FaultPlan → FaultPlan
+fault_plan_of None = record { drop_each = 0; double_each = 0 }
+fault_plan_of (Some fault_plan) = fault_plan
+
+-- the live script that was said
+abbrev pub live_script_by : Before → LiveScript
+live_script_by before = record { catalog = declared_by before; fault_plan = fault_plan_of before.fault_plan; clients = before.clients }
+
+-- A text is a live script: its significant lines are one, and the count of sites is among them. There may be no client.
+pub record IsLiveScript (text : List ℕ) (script : LiveScript) : Type 0 where
+  pub last : Before
+  pub are : AreLines (at_first live) (significant text) [] last
+  pub sites : ℕ
+  pub said : last.sites ≡ Some sites
+  pub is : script ≡ live_script_by last
+
+-- The first line that has a cause, with its first cause: those before it are lines of a script of this kind.
+pub record IsAtFault (script : Script) (text : List ℕ) (number : ℕ) (cause : LineCause) : Type 0 where
   pub front : List (ℕ × TextLine)
   pub line : TextLine
   pub rest : List (ℕ × TextLine)
   pub split : numbered text ≡ front ++ (number, line) ∷ rest
   pub events : List Event
   pub before : Before
-  pub are : AreLines at_first (without_numbers front) events before
+  pub are : AreLines (at_first script) (without_numbers front) events before
   pub first : IsFirstCause before line cause
 
 -- A text without significant lines lacks the count of sites after its last line.
@@ -171,6 +253,12 @@ pub record LacksSites (text : List ℕ) (number : ℕ) (cause : LineCause) : Typ
   pub place : number ≡ length (lines text) + 1
   pub is : cause ≡ sites_expected
 
--- A text is malformed at the line of this number, for this cause.
+-- A text that is to be a script of this kind is malformed at the line of this number, for this cause.
+abbrev pub IsMalformed : Script → List ℕ → ℕ → LineCause → Type 0
+IsMalformed script text number cause = IsAtFault script text number cause ⊎ LacksSites text number cause
+
 abbrev pub IsMalformedSchedule : List ℕ → ℕ → LineCause → Type 0
-IsMalformedSchedule text number cause = IsAtFault text number cause ⊎ LacksSites text number cause
+IsMalformedSchedule text number cause = IsMalformed scheduled text number cause
+
+abbrev pub IsMalformedLiveScript : List ℕ → ℕ → LineCause → Type 0
+IsMalformedLiveScript text number cause = IsMalformed live text number cause

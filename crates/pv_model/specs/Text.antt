@@ -1,6 +1,5 @@
 -- Lines, blanks, comments, words and numbers, as each text that polydb reads has them.
 use Rattle.std.specs.Prelude.{◌≡◌, ℕ, ◌+◌, ◌-◌, ◌*◌, ◌^◌, ◌<◌, ◌≤◌, ℤ, pos, Bool, false, not, ◌&&◌, ◌||◌, ◌==◌, nat_le, List, [], ◌∷◌, length, map, filter, find, if◌then◌else◌, IsTrue}
-use Rattle.pv_base.specs.declared.limits.TheConstants.{MAX_LINE}
 use lib.IntN.{neg_ℤ}
 use Rattle.std.specs.List.{slice_split, list_all, enumerate_from}
 use Rattle.std.specs.Option.{option_map_or}
@@ -41,9 +40,9 @@ words line = filter (λ word. not (length word == 0)) (slice_split is_blank line
 abbrev pub is_text_byte : ℕ → Bool
 is_text_byte b = b == 9 || (nat_le 32 b && nat_le b 126)
 
--- A line that counts is well formed where it has at most 1,000 bytes and all of them are printable or tabs.
-pub record IsText (line : TextLine) : Type 0 where
-  pub short : length line ≤ MAX_LINE
+-- A line that counts is well formed where it has at most so many bytes and all of them are printable or tabs.
+pub record IsText (most : ℕ) (line : TextLine) : Type 0 where
+  pub short : length line ≤ most
   pub bytes : IsTrue (list_all is_text_byte line)
 
 -- what digits stand for, each by the weight of its place

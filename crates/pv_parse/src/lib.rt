@@ -12,12 +12,3 @@ mod token;
 
 pub use error::ParseError;
 pub use parsing::parse;
-
-#[cfg(test)]
-mod depth_tests;
-#[cfg(test)]
-mod refusal_tests;
-#[cfg(test)]
-mod tests;
-#[cfg(test)]
-mod token_tests;

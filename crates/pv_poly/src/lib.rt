@@ -14,6 +14,3 @@ pub use laws::equal_polyvalues_are_one;
 pub use poly::Poly;
 pub use pv_base::{Case, CaseError, NameError};
 pub use read::Read;
-
-#[cfg(test)]
-mod tests;

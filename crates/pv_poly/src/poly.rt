@@ -15,7 +15,7 @@ ghost use Rattle.pv_poly.specs.HeldCases.{held_cases};
 use crate::held::Cases;
 use crate::tree::Tree;
 use pv_base::{Case, CaseError, Exact, HELD_NAMES, Literal, NameError, NoMemory, TxnId};
-use pv_cases::{count_of_both, first_difference, names_of, table_of};
+use pv_cases::{first_difference, names_of, ordered, table_of};
 use std::alloc::Global;
 use std::marker::Model;
 
@@ -72,8 +72,9 @@ impl<V: Exact> Poly<V> {
     /// The polyvalue that has the new value where the transaction commits, and else the old one.
     ///
     /// `TooManyOutcomes` has the number of outcomes that it would name, where these are more than [`HELD_NAMES`]. Takes time in proportion to
-    /// the cases of both and of the result, times the names and, to count these, the logarithm of the literals. Where it is refused, the tree
-    /// of the choice hasn't been made. Between two different values that name nothing no tree is made.
+    /// the cases of both and of the result, times the names. These are counted at the tests of both sides, in time in proportion to the tests,
+    /// times the logarithm of their number. Where it is refused, the tree of the choice hasn't been made. Between two different values that
+    /// name nothing no tree is made.
     pub fn choose(
         alloc: Global,
         txn: TxnId,
@@ -173,8 +174,8 @@ impl<V: Exact> Poly<V> {
         tree.settle(alloc, literals)
     }
 
-    /// The transactions that the value depends on, ascending. Takes time in proportion to the literals, times the logarithm of their
-    /// number.
+    /// The transactions that the value depends on, ascending. Takes time in proportion to the literals, and to the tests of the decision tree,
+    /// times the logarithm of their number.
     pub fn names(&self, alloc: Global) -> Result<Vec<TxnId>, NoMemory>
         ensures names { IfOk result (λ txns. AreNames self.now txns.items) }
         ensures few { IfOk result (λ txns. length txns.items ≤ HELD_NAMES) }
@@ -380,10 +381,20 @@ fn count_of_sides<V: Exact>(
     ensures count { IfOk result (λ count. (txns : List TxnId) → AreNames (aborted.now ++ committed.now) txns → length txns ≡ count) }
     ensures few { IfOk result (λ count. count ≤ 2 * HELD_NAMES) }
 {
-    if aborted.is_sure() && committed.is_sure() {
-        return Ok(0);
-    }
-    let aborted = aborted.cases(alloc)?;
-    let committed = committed.cases(alloc)?;
-    count_of_both(alloc, &aborted, &committed)
+    let txns = names_of_sides(alloc, aborted, committed)?;
+    Ok(txns.len() as u32)
+}
+
+// The transactions that both trees name together, ascending, each once.
+fn names_of_sides<V: Exact>(
+    alloc: Global,
+    aborted: &Tree<V>,
+    committed: &Tree<V>,
+) -> Result<Vec<TxnId>, NoMemory>
+    ensures { IfOk result (λ txns. AreNames (aborted.now ++ committed.now) txns.items) }
+{
+    let mut txns = Vec::new(alloc);
+    aborted.push_names(&mut txns)?;
+    committed.push_names(&mut txns)?;
+    Ok(ordered(txns))
 }

@@ -1,7 +1,8 @@
 // Decision trees over ascending transactions: how a polyvalue is worked on (Bryant, 1986). A tree stands for its cases.
-ghost use Rattle.std.specs.Prelude.{◌≡◌, ◌⊎◌, false, true, [], ◌∷◌, IsTrue, IfOk};
+ghost use Rattle.std.specs.Prelude.{◌≡◌, ◌⊎◌, true, [], ◌∷◌, IsTrue, IfOk, OnOk};
 ghost use Rattle.pv_base.specs.Polyvalue.{names, IsCanonical, NamesOnlyAfter, IsChoice};
 ghost use Rattle.pv_base.specs.declared.txn.TxnId.{TxnId};
+ghost use Rattle.pv_cases.specs.Names.{Adds};
 
 use pv_base::{Exact, NoMemory, TxnId};
 use std::alloc::Global;
@@ -80,11 +81,20 @@ impl<V: Exact> Tree<V> {
         })
     }
 
-    /// Whether it tests nothing.
-    pub fn is_sure(&self) -> bool
-        ensures { result ≡ true → (txn : TxnId) → names self.now txn ≡ false }
+    /// Appends the transaction of each test, some of them more than once. After an error some of them stand in the list. Takes time in
+    /// proportion to the tests.
+    pub fn push_names(&self, txns: &mut Vec<TxnId>) -> Result<(), NoMemory>
+        ensures { OnOk result (Adds (names self.now) txns.old.items txns.new.items) }
     {
-        matches!(self.node, Node::Sure(_))
+        match &self.node {
+            Node::Sure(_) => Ok(()),
+            Node::Test(txn, aborted, committed) => {
+                txns.push(*txn)?;
+                aborted.push_names(txns)?;
+                committed.push_names(txns)?;
+                Ok(())
+            }
+        }
     }
 
     /// Whether both trees are equal, which they are exactly where they have the same value at every assignment.

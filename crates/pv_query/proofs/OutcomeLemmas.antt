@@ -1,10 +1,10 @@
 -- The outcomes that several values name together.
-use Rattle.std.proofs.Common.{◌≡◌, ⊎_elim, ℕ, suc, ◌+◌, ◌*◌, ◌<◌, ◌≤◌, List, [], ◌∷◌, length, get_or, take, drop, sym, ap, subst, ◌∙◌, arith}
+use Rattle.std.proofs.Common.{◌≡◌, ⊎_elim, ℕ, suc, ◌+◌, ◌*◌, ◌<◌, ◌≤◌, List, [], ◌∷◌, length, get_or, take, sym, subst, ◌∙◌, arith}
 use Rattle.std.specs.Prelude.{All, ◌++◌, IsTrue}
 use Rattle.std.specs.List.{Contains, list_any}
 use Rattle.std.proofs.Math.Nat.{mul-suc}
 use Rattle.std.proofs.lemmas.Bool.{or_cases, false≢true}
-use Rattle.std.proofs.lemmas.List.{append_assoc, append-nil, at_drop_more, drop_all, take_more, length-append}
+use Rattle.std.proofs.lemmas.List.{take_more, length-append}
 use Rattle.std.proofs.lemmas.List.Elements.{All-append, All-nil, All-cons, All-head, All-tail, Contains-append_left, Contains-append_right}
 use Rattle.std.proofs.lemmas.List.Folds.{list_any-append}
 use Rattle.pv_base.specs.declared.literal.Literal.{Literal}
@@ -12,8 +12,6 @@ use Rattle.pv_base.specs.declared.txn.TxnId.{TxnId}
 use Rattle.pv_base.specs.Assignment.{is_same_txn}
 use Rattle.pv_base.specs.Polyvalue.{Case, names, AreNames, IsPolyvalue}
 use Rattle.pv_query.specs.AllSums.{together}
-use Rattle.pv_cases.specs.Names.{txns_of}
-use Rattle.pv_cases.proofs.OrderedNames.{txns_of-append}
 use Rattle.pv_law_polyvalues.proofs.NameLemmas.{some-names, listed-named}
 use Rattle.pv_law_polyvalues.proofs.AscendingLemmas.{fewer-ascending}
 
@@ -27,24 +25,6 @@ All-take-next P xs i x within is holds before =
     (All-append P (take i xs) (get_or xs i x ∷ []) before (All-cons P (get_or xs i x) [] (subst P is holds) (All-nil P)))
 
 module _ {V : Type 0} where
-  -- One more value is read.
-  pub outcomes-next : (values : List (List (Case V))) (whole txns more : List TxnId) (i : ℕ) (value cases : List (Case V)) → i < length values → value ≡ get_or values i value
-      → cases ≡ value → whole ≡ (txns ++ txns_of (together (drop i values))) → more ≡ (txns ++ txns_of cases)
-      → whole ≡ (more ++ txns_of (together (drop (i + 1) values)))
-  outcomes-next values whole txns more i value cases within is same all read =
-      let rest = together (drop (i + 1) values) in
-      all ∙ at_drop_more (λ (left : List (List (Case V))). txns ++ txns_of (together left)) values i value within
-      ∙ ap (λ (first : List (Case V)). txns ++ txns_of (first ++ rest)) (sym is)
-      ∙ ap (λ (list : List TxnId). txns ++ list) (txns_of-append value rest)
-      ∙ ap (λ (first : List (Case V)). txns ++ (txns_of first ++ txns_of rest)) (sym same)
-      ∙ sym (append_assoc txns (txns_of cases) (txns_of rest))
-      ∙ ap (λ (list : List TxnId). list ++ txns_of rest) (sym read)
-
-  -- All of them are read.
-  pub outcomes-end : (values : List (List (Case V))) (whole txns : List TxnId) (i : ℕ) → length values ≤ i → whole ≡ (txns ++ txns_of (together (drop i values))) → whole ≡ txns
-  outcomes-end values whole txns i past all =
-      all ∙ ap (λ (rest : List (List (Case V))). txns ++ txns_of (together rest)) (drop_all i values past) ∙ append-nil txns
-
   -- Some list no longer than this has all that values name together.
   record AreAmong (count : ℕ) (values : List (List (Case V))) (txns : List TxnId) : Type 0 where
     pub few : length txns ≤ count

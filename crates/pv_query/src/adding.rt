@@ -56,8 +56,9 @@ impl From<NoMemory> for SumError {
 /// the least transaction the most significant.
 ///
 /// There are at most as many values as a catalog has items, [`MAX_ITEMS`]. `OutcomeLimit` has the number of outcomes that the values
-/// name together, where these are more than [`HELD_NAMES`]. Takes time in proportion to the literals, times the
-/// logarithm of their number; for a value without outcomes, one addition; and for another one, to the assignments, times its names.
+/// name together, where these are more than [`HELD_NAMES`]. Takes time in proportion to the literals; to the
+/// tests of the values' decision trees, times the logarithm of their number; for a value without outcomes, one addition; and for another
+/// one, to the assignments, times its names.
 pub fn sums(alloc: Global, values: &[Poly<i64>]) -> Result<Vec<i128>, SumError>
     requires { length values.now ≤ MAX_ITEMS }
     ensures answer { Answers (AreAllSums HELD_NAMES values.now) (NameTooMany HELD_NAMES (together values.now)) (λ found. found.items) count_of result }

@@ -7,6 +7,3 @@ mod repeats;
 
 pub use adding::{SumError, sums};
 pub use answers::{certain, possible};
-
-#[cfg(test)]
-mod tests;

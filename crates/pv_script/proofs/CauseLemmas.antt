@@ -1,14 +1,14 @@
 -- The causes of a line, in their order: where the first ones don't hold, a later one is the first that may.
 use Rattle.std.proofs.Common.{◌≡◌, ◌≢◌, ℕ, ◌<◌, ◌≤◌, true, false, Option, Some, List, [], ◌∷◌, length, refl, sym, ap, ◌∙◌, subst, arith, find}
-use Rattle.std.specs.Prelude.{◌==◌}
+use Rattle.std.specs.Prelude.{◌==◌, codes}
 use Rattle.std.specs.List.{list_all, Contains}
 use Rattle.std.proofs.lemmas.Option.{none-some}
 use Rattle.std.proofs.lemmas.Bool.{both_ways}
-use Rattle.pv_base.specs.declared.limits.TheConstants.{MAX_LINE}
 use Rattle.pv_model.specs.LineCauses as model
-use Rattle.pv_model.specs.LineCauses.{Before, too_long, not_text, sites_expected, unknown_word, twice, too_late, wrong_count, bad_number, bad_mode, bad_name, name_taken, too_many_items, at_program, names_no_item, too_many_names, query_assigns, line_cause_rank, HasLineCause, or_default}
-use Rattle.pv_model.specs.LineForms.{Field, mode, leading_word, first_word, forms_of, takes_program, site_and_text, program_text, arguments, form_of, fields_in, fields_of, has_good_number}
+use Rattle.pv_model.specs.LineCauses.{Before, too_long, not_text, sites_expected, unknown_word, twice, too_late, wrong_count, client_expected, too_many_clients, too_many_requests, bad_number, bad_mode, bad_name, name_taken, too_many_items, at_program, names_no_item, too_many_names, query_assigns, line_cause_rank, HasLineCause, or_default}
+use Rattle.pv_model.specs.LineForms.{Script, scheduled, most_bytes, with_text, Field, mode, leading_word, first_word, forms_of, takes_program, program_text, arguments, form_of, fields_in, fields_of, has_good_number}
 use Rattle.pv_model.specs.ProgramText.{Kind}
+use Rattle.pv_law_schedules.proofs.LineFormLemmas.{kinds-differ}
 use Rattle.pv_model.specs.Text.{TextLine, is_text_byte, IsText, words}
 use Rattle.pv_script.specs.ScriptErrors.{line_cause_of}
 use Rattle.pv_script.specs.LineFaults.{form_among, IsFieldFault, IsLineFault}
@@ -53,41 +53,53 @@ module _ (before : Before) (line : TextLine) where
   none7 none refuted wrong_count has = absurd (refuted has)
   none7 none refuted cause has = let more = none cause has in omega arith
 
-  pub none8 : NoneBefore before line 7 → (HasLineCause before line bad_number → ⊥) → NoneBefore before line 8
-  none8 none refuted bad_number has = absurd (refuted has)
+  pub none8 : NoneBefore before line 7 → (HasLineCause before line client_expected → ⊥) → NoneBefore before line 8
+  none8 none refuted client_expected has = absurd (refuted has)
   none8 none refuted cause has = let more = none cause has in omega arith
 
-  pub none9 : NoneBefore before line 8 → (HasLineCause before line bad_mode → ⊥) → NoneBefore before line 9
-  none9 none refuted bad_mode has = absurd (refuted has)
+  pub none9 : NoneBefore before line 8 → (HasLineCause before line too_many_clients → ⊥) → NoneBefore before line 9
+  none9 none refuted too_many_clients has = absurd (refuted has)
   none9 none refuted cause has = let more = none cause has in omega arith
 
-  pub none10 : NoneBefore before line 9 → (HasLineCause before line bad_name → ⊥) → NoneBefore before line 10
-  none10 none refuted bad_name has = absurd (refuted has)
+  pub none10 : NoneBefore before line 9 → (HasLineCause before line too_many_requests → ⊥) → NoneBefore before line 10
+  none10 none refuted too_many_requests has = absurd (refuted has)
   none10 none refuted cause has = let more = none cause has in omega arith
 
-  pub none11 : NoneBefore before line 10 → (HasLineCause before line name_taken → ⊥) → NoneBefore before line 11
-  none11 none refuted name_taken has = absurd (refuted has)
+  pub none11 : NoneBefore before line 10 → (HasLineCause before line bad_number → ⊥) → NoneBefore before line 11
+  none11 none refuted bad_number has = absurd (refuted has)
   none11 none refuted cause has = let more = none cause has in omega arith
 
-  pub none12 : NoneBefore before line 11 → (HasLineCause before line too_many_items → ⊥) → NoneBefore before line 12
-  none12 none refuted too_many_items has = absurd (refuted has)
+  pub none12 : NoneBefore before line 11 → (HasLineCause before line bad_mode → ⊥) → NoneBefore before line 12
+  none12 none refuted bad_mode has = absurd (refuted has)
   none12 none refuted cause has = let more = none cause has in omega arith
 
-  pub none13 : NoneBefore before line 12 → ((kind : Kind) (column : ℕ) → HasLineCause before line (at_program kind column) → ⊥) → NoneBefore before line 13
-  none13 none refuted (at_program kind column) has = absurd (refuted kind column has)
+  pub none13 : NoneBefore before line 12 → (HasLineCause before line bad_name → ⊥) → NoneBefore before line 13
+  none13 none refuted bad_name has = absurd (refuted has)
   none13 none refuted cause has = let more = none cause has in omega arith
 
-  pub none14 : NoneBefore before line 13 → (HasLineCause before line names_no_item → ⊥) → NoneBefore before line 14
-  none14 none refuted names_no_item has = absurd (refuted has)
+  pub none14 : NoneBefore before line 13 → (HasLineCause before line name_taken → ⊥) → NoneBefore before line 14
+  none14 none refuted name_taken has = absurd (refuted has)
   none14 none refuted cause has = let more = none cause has in omega arith
 
-  pub none15 : NoneBefore before line 14 → ((n : ℕ) → HasLineCause before line (too_many_names n) → ⊥) → NoneBefore before line 15
-  none15 none refuted (too_many_names n) has = absurd (refuted n has)
+  pub none15 : NoneBefore before line 14 → (HasLineCause before line too_many_items → ⊥) → NoneBefore before line 15
+  none15 none refuted too_many_items has = absurd (refuted has)
   none15 none refuted cause has = let more = none cause has in omega arith
 
-  pub none16 : NoneBefore before line 15 → (HasLineCause before line query_assigns → ⊥) → NoneBefore before line 16
-  none16 none refuted query_assigns has = absurd (refuted has)
+  pub none16 : NoneBefore before line 15 → ((kind : Kind) (column : ℕ) → HasLineCause before line (at_program kind column) → ⊥) → NoneBefore before line 16
+  none16 none refuted (at_program kind column) has = absurd (refuted kind column has)
   none16 none refuted cause has = let more = none cause has in omega arith
+
+  pub none17 : NoneBefore before line 16 → (HasLineCause before line names_no_item → ⊥) → NoneBefore before line 17
+  none17 none refuted names_no_item has = absurd (refuted has)
+  none17 none refuted cause has = let more = none cause has in omega arith
+
+  pub none18 : NoneBefore before line 17 → ((n : ℕ) → HasLineCause before line (too_many_names n) → ⊥) → NoneBefore before line 18
+  none18 none refuted (too_many_names n) has = absurd (refuted n has)
+  none18 none refuted cause has = let more = none cause has in omega arith
+
+  pub none19 : NoneBefore before line 18 → (HasLineCause before line query_assigns → ⊥) → NoneBefore before line 19
+  none19 none refuted query_assigns has = absurd (refuted has)
+  none19 none refuted cause has = let more = none cause has in omega arith
 
 -- ---- what is reported first
 
@@ -95,23 +107,23 @@ pub reported : (before : Before) (line : TextLine) (cause : LineCause) → HasLi
     → NoneBefore before line (line_cause_rank (line_cause_of cause)) → IsLineFault before line (At cause)
 reported before line cause has none = record { has = has; first = none }
 
-pub IsLineFault-long : (before : Before) (line : TextLine) → MAX_LINE < length line → IsLineFault before line (At TooLong)
+pub IsLineFault-long : (before : Before) (line : TextLine) → most_bytes before.script < length line → IsLineFault before line (At TooLong)
 IsLineFault-long before line long = reported before line TooLong long (none0 before line)
 
-none-long : (before : Before) (line : TextLine) → length line ≤ MAX_LINE → NoneBefore before line 1
+none-long : (before : Before) (line : TextLine) → length line ≤ most_bytes before.script → NoneBefore before line 1
 none-long before line short = none1 before line (λ has. absurd (omega arith))
 
-pub IsLineFault-bytes : (before : Before) (line : TextLine) → length line ≤ MAX_LINE → list_all is_text_byte line ≡ false → IsLineFault before line (At NotText)
+pub IsLineFault-bytes : (before : Before) (line : TextLine) → length line ≤ most_bytes before.script → list_all is_text_byte line ≡ false → IsLineFault before line (At NotText)
 IsLineFault-bytes before line short bytes = reported before line NotText bytes (none-long before line short)
 
-pub none-text : (before : Before) (line : TextLine) → IsText line → NoneBefore before line 2
+pub none-text : (before : Before) (line : TextLine) → IsText (most_bytes before.script) line → NoneBefore before line 2
 none-text before line is = none2 before line (none-long before line is.short) (λ bytes. both_ways (list_all is_text_byte line) bytes is.bytes)
 
 -- a line behind the count of sites
-pub none-said : (before : Before) (line : TextLine) (sites : ℕ) → IsText line → before.sites ≡ Some sites → NoneBefore before line 3
+pub none-said : (before : Before) (line : TextLine) (sites : ℕ) → IsText (most_bytes before.script) line → before.sites ≡ Some sites → NoneBefore before line 3
 none-said before line sites is said = none3 before line (none-text before line is) (λ has. none-some sites (sym has.0 ∙ said))
 
-pub IsLineFault-unknown : (before : Before) (line : TextLine) (sites : ℕ) → IsText line → before.sites ≡ Some sites → forms_of (first_word line) ≡ []
+pub IsLineFault-unknown : (before : Before) (line : TextLine) (sites : ℕ) → IsText (most_bytes before.script) line → before.sites ≡ Some sites → forms_of before.script (first_word line) ≡ []
     → IsLineFault before line (At UnknownWord)
 IsLineFault-unknown before line sites is said unknown = reported before line UnknownWord unknown (none-said before line sites is said)
 
@@ -120,53 +132,78 @@ IsLineFault-unknown before line sites is said unknown = reported before line Unk
 pub first-line : (line word : List ℕ) (args : List (List ℕ)) → words line ≡ word ∷ args → first_word line ≡ word
 first-line line word args are = ap leading_word are
 
-pub arguments-line : (line word : List ℕ) (args : List (List ℕ)) → words line ≡ word ∷ args → takes_program word ≡ false → arguments line ≡ args
+pub arguments-line : (script : Script) (line word : List ℕ) (args : List (List ℕ)) → words line ≡ word ∷ args → takes_program word ≡ false → arguments script line ≡ args
 unfolding arguments
-arguments-line line word args are plain = rw (are, plain) refl
+arguments-line script line word args are plain = rw (are, plain) refl
 
-pub arguments-request : (line word : List ℕ) (args : List (List ℕ)) → words line ≡ word ∷ args → takes_program word ≡ true
-    → arguments line ≡ site_and_text (program_text line) args
+pub arguments-request : (script : Script) (line word : List ℕ) (args : List (List ℕ)) → words line ≡ word ∷ args → takes_program word ≡ true
+    → arguments script line ≡ with_text script (program_text script line) args
 unfolding arguments
-arguments-request line word args are takes = rw (are, takes) refl
+arguments-request script line word args are takes = rw (are, takes) refl
 
-pub form_of-line : (line word : List ℕ) (args given : List (List ℕ)) → words line ≡ word ∷ args → arguments line ≡ given
-    → form_of line ≡ form_among (forms_of word) given
+pub form_of-line : (script : Script) (line word : List ℕ) (args given : List (List ℕ)) → words line ≡ word ∷ args → arguments script line ≡ given
+    → form_of script line ≡ form_among (forms_of script word) given
 unfolding form_of
-form_of-line line word args given are same =
-    ap (λ (ws : List (List ℕ)). find (λ (form : List Field). length form == length ws) (forms_of (first_word line))) same
-    ∙ ap (λ (w : List ℕ). form_among (forms_of w) given) (first-line line word args are)
+form_of-line script line word args given are same =
+    ap (λ (ws : List (List ℕ)). find (λ (form : List Field). length form == length ws) (forms_of script (first_word line))) same
+    ∙ ap (λ (w : List ℕ). form_among (forms_of script w) given) (first-line line word args are)
 
-pub fields_of-line : (line word : List ℕ) (args given : List (List ℕ)) → words line ≡ word ∷ args → arguments line ≡ given
-    → fields_of line ≡ fields_in (form_among (forms_of word) given) given
-fields_of-line line word args given are same =
-    ap (λ (ws : List (List ℕ)). fields_in (form_of line) ws) same
-    ∙ ap (λ (form : Option (List Field)). fields_in form given) (form_of-line line word args given are same)
+pub fields_of-line : (script : Script) (line word : List ℕ) (args given : List (List ℕ)) → words line ≡ word ∷ args → arguments script line ≡ given
+    → fields_of script line ≡ fields_in (form_among (forms_of script word) given) given
+fields_of-line script line word args given are same =
+    ap (λ (ws : List (List ℕ)). fields_in (form_of script line) ws) same
+    ∙ ap (λ (form : Option (List Field)). fields_in form given) (form_of-line script line word args given are same)
 
 -- A line behind the count of sites has these words; what stands behind the first one is given.
 pub record IsGiven (before : Before) (line : TextLine) (word : List ℕ) (args given : List (List ℕ)) : Type 0 where
   pub head : IsHead before line word args
-  pub same : arguments line ≡ given
-  pub known : forms_of word ≢ []
+  pub same : arguments before.script line ≡ given
+  pub known : forms_of before.script word ≢ []
 
-pub none-known : (before : Before) (line : TextLine) (word : List ℕ) (args : List (List ℕ)) → IsHead before line word args → forms_of word ≢ []
+pub none-known : (before : Before) (line : TextLine) (word : List ℕ) (args : List (List ℕ)) → IsHead before line word args → forms_of before.script word ≢ []
     → NoneBefore before line 4
 none-known before line word args head known =
     none4 before line (none-said before line head.sites head.text head.said)
-    (λ unknown. known (ap forms_of (sym (first-line line word args head.words)) ∙ unknown))
+    (λ unknown. known (ap (forms_of before.script) (sym (first-line line word args head.words)) ∙ unknown))
+
+-- No cause that a live script alone has comes between the count of the words and their numbers.
+abbrev pub NoneBetween : Before → TextLine → Type 0
+NoneBetween before line = NoneBefore before line 7 → NoneBefore before line 10
+
+-- A line whose first word is neither of a request nor `client` has none of these causes.
+pub none-between : (before : Before) (line : TextLine) (word : List ℕ) → first_word line ≡ word → takes_program word ≡ false → (word ≡ codes "client" → ⊥)
+    → NoneBetween before line
+none-between before line word first plain other none =
+    none10 before line
+    (none9 before line
+    (none8 before line none (λ has. both_ways (takes_program word) plain (ap takes_program (sym first) ∙ has.0.1)))
+    (λ has. other (sym first ∙ has.0)))
+    (λ has. both_ways (takes_program word) plain (ap takes_program (sym first) ∙ has.0.1))
+
+-- Nor has a line of a schedule.
+pub none-scheduled : (before : Before) (line : TextLine) (word : List ℕ) → before.script ≡ scheduled → first_word line ≡ word → (word ≡ codes "client" → ⊥)
+    → NoneBetween before line
+none-scheduled before line word kind first other none =
+    none10 before line
+    (none9 before line
+    (none8 before line none (λ has. kinds-differ (sym kind ∙ has.0.0)))
+    (λ has. other (sym first ∙ has.0)))
+    (λ has. kinds-differ (sym kind ∙ has.0.0))
 
 -- Fields are tested in order.
 pub IsLineFault-fields : (before : Before) (line : TextLine) (word : List ℕ) (args given : List (List ℕ)) (cause : LineCause) → words line ≡ word ∷ args
-    → arguments line ≡ given → NoneBefore before line 6 → IsFieldFault (or_default 0 before.sites) (forms_of word) given cause → IsLineFault before line (At cause)
-IsLineFault-fields before line word args given WrongCount are same none fault =
-    reported before line WrongCount (form_of-line line word args given are same ∙ fault) none
-IsLineFault-fields before line word args given BadNumber are same none fault =
+    → arguments before.script line ≡ given → NoneBefore before line 6 → NoneBetween before line
+    → IsFieldFault (or_default 0 before.sites) (forms_of before.script word) given cause → IsLineFault before line (At cause)
+IsLineFault-fields before line word args given WrongCount are same none between fault =
+    reported before line WrongCount (form_of-line before.script line word args given are same ∙ fault) none
+IsLineFault-fields before line word args given BadNumber are same none between fault =
     reported before line BadNumber
-    (ap (list_all (has_good_number (or_default 0 before.sites))) (fields_of-line line word args given are same) ∙ fault.1)
-    (none7 before line none (λ no_form. fault.0 (sym (form_of-line line word args given are same) ∙ no_form)))
-IsLineFault-fields before line word args given BadMode are same none fault =
-    let fields = fields_of-line line word args given are same in
+    (ap (list_all (has_good_number (or_default 0 before.sites))) (fields_of-line before.script line word args given are same) ∙ fault.1)
+    (between (none7 before line none (λ no_form. fault.0 (sym (form_of-line before.script line word args given are same) ∙ no_form))))
+IsLineFault-fields before line word args given BadMode are same none between fault =
+    let fields = fields_of-line before.script line word args given are same in
     reported before line BadMode
     (fault.2, subst (λ (fs : List (Field × List ℕ)). Contains fs (mode, fault.2)) (sym fields) fault.3, fault.4)
-    (none8 before line (none7 before line none (λ no_form. fault.0 (sym (form_of-line line word args given are same) ∙ no_form)))
-    (λ bad. both_ways (list_all (has_good_number (or_default 0 before.sites)) (fields_of line)) bad (ap (list_all (has_good_number (or_default 0 before.sites))) fields ∙ fault.1)))
-IsLineFault-fields before line word args given cause are same none fault = absurd fault
+    (none11 before line (between (none7 before line none (λ no_form. fault.0 (sym (form_of-line before.script line word args given are same) ∙ no_form))))
+    (λ bad. both_ways (list_all (has_good_number (or_default 0 before.sites)) (fields_of before.script line)) bad (ap (list_all (has_good_number (or_default 0 before.sites))) fields ∙ fault.1)))
+IsLineFault-fields before line word args given cause are same none between fault = absurd fault

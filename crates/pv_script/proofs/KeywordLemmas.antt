@@ -1,6 +1,6 @@
 -- Which words lines begin with, and what stands behind each.
 use Rattle.std.proofs.Common.{◌≡◌, ℕ, Bool, true, false, Option, Some, None, List, [], ◌∷◌, map, filter, find, cond, Bor, MatchOption, refl, sym, ap, ◌∙◌}
-use Rattle.std.specs.Prelude.{codes, ◌||◌}
+use Rattle.std.specs.Prelude.{codes, ◌||◌, ◌^◌, ◌-◌}
 use Rattle.std.specs.List.{list_all, list_any}
 use Rattle.std.specs.Option.{option_map}
 use Rattle.std.specs.Str.{bytes_eq}
@@ -8,15 +8,14 @@ use Rattle.std.proofs.lemmas.Option.{none-some}
 use Rattle.std.proofs.lemmas.Bool.{and_parts, both_ways}
 use Rattle.std.proofs.lemmas.Slice.Eq.{bytes_eq-Decides}
 use Rattle.pv_base.specs.declared.limits.TheConstants.{MAX_JOURNAL, MAX_SITES, MIN_JOURNAL}
-use Rattle.pv_model.specs.LineForms.{Field, number, site, value, name, program, line_forms, forms_of, takes_program}
-use Rattle.pv_script.specs.Keywords.{spelled, keyword_beside, command_word, command_forms}
-use Rattle.pv_script.specs.declared.keyword.Keyword.{Keyword}
+use Rattle.pv_model.specs.LineForms.{Script, scheduled, live, Field, number, site, value, name, program, line_forms, forms_of, takes_program}
+use Rattle.pv_script.specs.Keywords.{keyword_beside, command_word, command_forms}
 use Rattle.pv_script.specs.declared.keyword.Command as code
 use Rattle.pv_script.specs.declared.keyword.Command.TheVariants.{Deliver, Pump, Lose, Drop, Tick, Stop, Start, Cut, Fail, Mend, Sent, Report, Total}
 
 -- ---- the forms of each word
 
-pub forms-command : (command : code.Command) → forms_of (command_word command) ≡ command_forms command
+pub forms-command : (command : code.Command) → forms_of scheduled (command_word command) ≡ command_forms command
 unfolding line_forms
 forms-command Deliver = refl
 forms-command Pump = refl
@@ -50,7 +49,9 @@ plain-command Total = refl
 
 -- The word is none of a declaration.
 is_declaration : List ℕ → Bool
-is_declaration word = bytes_eq word (codes "sites") || (bytes_eq word (codes "journal") || bytes_eq word (codes "item"))
+is_declaration word =
+    bytes_eq word (codes "sites")
+    || (bytes_eq word (codes "journal") || (bytes_eq word (codes "item") || (bytes_eq word (codes "plan") || bytes_eq word (codes "client"))))
 
 no_declaration : (command : code.Command) → is_declaration (command_word command) ≡ false
 unfolding is_declaration
@@ -80,6 +81,14 @@ declares-item : is_declaration (codes "item") ≡ true
 unfolding is_declaration
 declares-item = refl
 
+declares-plan : is_declaration (codes "plan") ≡ true
+unfolding is_declaration
+declares-plan = refl
+
+declares-client : is_declaration (codes "client") ≡ true
+unfolding is_declaration
+declares-client = refl
+
 pub command-no_sites : (command : code.Command) → command_word command ≡ codes "sites" → ⊥
 command-no_sites command same = both_ways (is_declaration (command_word command)) (no_declaration command) (ap is_declaration same ∙ declares-sites)
 
@@ -89,25 +98,50 @@ command-no_journal command same = both_ways (is_declaration (command_word comman
 pub command-no_item : (command : code.Command) → command_word command ≡ codes "item" → ⊥
 command-no_item command same = both_ways (is_declaration (command_word command)) (no_declaration command) (ap is_declaration same ∙ declares-item)
 
-pub forms-sites : forms_of (codes "sites") ≡ (number 1 MAX_SITES ∷ []) ∷ []
-unfolding line_forms
-forms-sites = refl
+pub command-no_plan : (command : code.Command) → command_word command ≡ codes "plan" → ⊥
+command-no_plan command same = both_ways (is_declaration (command_word command)) (no_declaration command) (ap is_declaration same ∙ declares-plan)
 
-pub forms-journal : forms_of (codes "journal") ≡ (number MIN_JOURNAL MAX_JOURNAL ∷ []) ∷ []
-unfolding line_forms
-forms-journal = refl
+pub command-no_client : (command : code.Command) → command_word command ≡ codes "client" → ⊥
+command-no_client command same = both_ways (is_declaration (command_word command)) (no_declaration command) (ap is_declaration same ∙ declares-client)
 
-pub forms-item : forms_of (codes "item") ≡ (name ∷ site ∷ value ∷ []) ∷ []
+pub forms-sites : (script : Script) → forms_of script (codes "sites") ≡ (number 1 MAX_SITES ∷ []) ∷ []
 unfolding line_forms
-forms-item = refl
+forms-sites scheduled = refl
+forms-sites live = refl
 
-pub forms-submit : forms_of (codes "submit") ≡ (site ∷ program ∷ []) ∷ []
+pub forms-journal : (script : Script) → forms_of script (codes "journal") ≡ (number MIN_JOURNAL MAX_JOURNAL ∷ []) ∷ []
+unfolding line_forms
+forms-journal scheduled = refl
+forms-journal live = refl
+
+pub forms-item : (script : Script) → forms_of script (codes "item") ≡ (name ∷ site ∷ value ∷ []) ∷ []
+unfolding line_forms
+forms-item scheduled = refl
+forms-item live = refl
+
+pub forms-submit : forms_of scheduled (codes "submit") ≡ (site ∷ program ∷ []) ∷ []
 unfolding line_forms
 forms-submit = refl
 
-pub forms-query : forms_of (codes "query") ≡ (site ∷ program ∷ []) ∷ []
+pub forms-query : forms_of scheduled (codes "query") ≡ (site ∷ program ∷ []) ∷ []
 unfolding line_forms
 forms-query = refl
+
+pub forms-plan : forms_of live (codes "plan") ≡ (number 0 (2 ^ 32 - 1) ∷ number 0 (2 ^ 32 - 1) ∷ []) ∷ []
+unfolding line_forms
+forms-plan = refl
+
+pub forms-client : forms_of live (codes "client") ≡ (site ∷ []) ∷ []
+unfolding line_forms
+forms-client = refl
+
+pub forms-asked_submit : forms_of live (codes "submit") ≡ (program ∷ []) ∷ []
+unfolding line_forms
+forms-asked_submit = refl
+
+pub forms-asked_query : forms_of live (codes "query") ≡ (program ∷ []) ∷ []
+unfolding line_forms
+forms-asked_query = refl
 
 pub plain-sites : takes_program (codes "sites") ≡ false
 unfolding takes_program
@@ -121,6 +155,14 @@ pub plain-item : takes_program (codes "item") ≡ false
 unfolding takes_program
 plain-item = refl
 
+pub plain-plan : takes_program (codes "plan") ≡ false
+unfolding takes_program
+plain-plan = refl
+
+pub plain-client : takes_program (codes "client") ≡ false
+unfolding takes_program
+plain-client = refl
+
 pub takes-submit : takes_program (codes "submit") ≡ true
 unfolding takes_program
 takes-submit = refl
@@ -132,40 +174,40 @@ takes-query = refl
 -- ---- words that are none
 
 -- Bytes that aren't in a table are none of its words.
-unlisted : (bytes : List ℕ) (table : List (Bor (List ℕ) × Keyword)) → keyword_beside bytes table ≡ None → list_any (λ entry. bytes_eq bytes entry.0.now) table ≡ false
+unlisted : {K : Type 0} (bytes : List ℕ) (table : List (Bor (List ℕ) × K)) → keyword_beside bytes table ≡ None → list_any (λ entry. bytes_eq bytes entry.0.now) table ≡ false
 unfolding keyword_beside
 unlisted bytes [] none = refl
-unlisted bytes (e ∷ table) none = go (bytes_eq bytes e.0.now) (unlisted bytes table) none
+unlisted {K} bytes (e ∷ table) none = go (bytes_eq bytes e.0.now) (unlisted bytes table) none
   where
-    go : (b : Bool) → (option_map (λ (entry : Bor (List ℕ) × Keyword). entry.1) (find (λ entry. bytes_eq bytes entry.0.now) table) ≡ None → list_any (λ entry. bytes_eq bytes entry.0.now) table ≡ false)
-        → option_map (λ (entry : Bor (List ℕ) × Keyword). entry.1) (cond b (Some e) (find (λ entry. bytes_eq bytes entry.0.now) table)) ≡ None → b || list_any (λ entry. bytes_eq bytes entry.0.now) table ≡ false
+    go : (b : Bool) → (option_map (λ (entry : Bor (List ℕ) × K). entry.1) (find (λ entry. bytes_eq bytes entry.0.now) table) ≡ None → list_any (λ entry. bytes_eq bytes entry.0.now) table ≡ false)
+        → option_map (λ (entry : Bor (List ℕ) × K). entry.1) (cond b (Some e) (find (λ entry. bytes_eq bytes entry.0.now) table)) ≡ None → b || list_any (λ entry. bytes_eq bytes entry.0.now) table ≡ false
     go true more is = absurd (none-some e.1 (sym is))
     go false more is = more is
 
 -- Where each form's word is in the table, bytes that are none of the table's words have no form.
-no_forms : (bytes : List ℕ) (table : List (Bor (List ℕ) × Keyword)) (forms : List (List ℕ × List Field))
+no_forms : {K : Type 0} (bytes : List ℕ) (table : List (Bor (List ℕ) × K)) (forms : List (List ℕ × List Field))
     → list_all (λ form. list_any (λ entry. bytes_eq form.0 entry.0.now) table) forms ≡ true → list_any (λ entry. bytes_eq bytes entry.0.now) table ≡ false
     → map (λ form. form.1) (filter (λ form. bytes_eq bytes form.0) forms) ≡ []
 no_forms bytes table [] all none = refl
-no_forms bytes table (form ∷ forms) all none = go (bytes_eq bytes form.0) refl (no_forms bytes table forms parts.1 none)
+no_forms {K} bytes table (form ∷ forms) all none = go (bytes_eq bytes form.0) refl (no_forms bytes table forms parts.1 none)
   where
     parts : (list_any (λ entry. bytes_eq form.0 entry.0.now) table ≡ true) × (list_all (λ f. list_any (λ entry. bytes_eq f.0 entry.0.now) table) forms ≡ true)
     parts = and_parts (list_any (λ entry. bytes_eq form.0 entry.0.now) table) (list_all (λ f. list_any (λ entry. bytes_eq f.0 entry.0.now) table) forms) all
 
     go : (b : Bool) → bytes_eq bytes form.0 ≡ b → map (λ f. f.1) (filter (λ f. bytes_eq bytes f.0) forms) ≡ [] → map (λ f. f.1) (cond b (form ∷ filter (λ f. bytes_eq bytes f.0) forms) (filter (λ f. bytes_eq bytes f.0) forms)) ≡ []
-    go true same more = absurd (both_ways (list_any (λ entry. bytes_eq bytes entry.0.now) table) none (ap (λ (w : List ℕ). list_any (λ (entry : Bor (List ℕ) × Keyword). bytes_eq w entry.0.now) table) ((bytes_eq-Decides bytes form.0).0 same) ∙ parts.0))
+    go true same more = absurd (both_ways (list_any (λ entry. bytes_eq bytes entry.0.now) table) none (ap (λ (w : List ℕ). list_any (λ (entry : Bor (List ℕ) × K). bytes_eq w entry.0.now) table) ((bytes_eq-Decides bytes form.0).0 same) ∙ parts.0))
     go false other more = more
 
-pub unlisted-forms : (bytes : List ℕ) (table : List (Bor (List ℕ) × Keyword)) → list_all (λ form. list_any (λ entry. bytes_eq form.0 entry.0.now) table) line_forms ≡ true
-    → keyword_beside bytes table ≡ None → forms_of bytes ≡ []
-unlisted-forms bytes table all none = no_forms bytes table line_forms all (unlisted bytes table none)
+pub unlisted-forms : {K : Type 0} (script : Script) (bytes : List ℕ) (table : List (Bor (List ℕ) × K)) → list_all (λ form. list_any (λ entry. bytes_eq form.0 entry.0.now) table) (line_forms script) ≡ true
+    → keyword_beside bytes table ≡ None → forms_of script bytes ≡ []
+unlisted-forms script bytes table all none = no_forms bytes table (line_forms script) all (unlisted bytes table none)
 
 -- Bytes are spelled as the keyword beside them, where each of the table is.
-pub keyword_beside-spelled : (bytes : List ℕ) (table : List (Bor (List ℕ) × Keyword)) (keyword : Keyword)
+pub keyword_beside-spelled : {K : Type 0} (spelled : K → List ℕ) (bytes : List ℕ) (table : List (Bor (List ℕ) × K)) (keyword : K)
     → list_all (λ entry. bytes_eq entry.0.now (spelled entry.1)) table ≡ true → keyword_beside bytes table ≡ Some keyword → bytes ≡ spelled keyword
 unfolding keyword_beside
-keyword_beside-spelled bytes [] keyword all found = absurd (none-some keyword found)
-keyword_beside-spelled bytes (e ∷ table) keyword all found = go (bytes_eq bytes e.0.now) refl (keyword_beside-spelled bytes table keyword parts.1) found
+keyword_beside-spelled spelled bytes [] keyword all found = absurd (none-some keyword found)
+keyword_beside-spelled {K} spelled bytes (e ∷ table) keyword all found = go (bytes_eq bytes e.0.now) refl (keyword_beside-spelled spelled bytes table keyword parts.1) found
   where
     parts : (bytes_eq e.0.now (spelled e.1) ≡ true) × (list_all (λ entry. bytes_eq entry.0.now (spelled entry.1)) table ≡ true)
     parts = and_parts (bytes_eq e.0.now (spelled e.1)) (list_all (λ entry. bytes_eq entry.0.now (spelled entry.1)) table) all
@@ -174,15 +216,15 @@ keyword_beside-spelled bytes (e ∷ table) keyword all found = go (bytes_eq byte
     same_keyword is = cc
 
     go : (b : Bool) → bytes_eq bytes e.0.now ≡ b
-        → (option_map (λ (entry : Bor (List ℕ) × Keyword). entry.1) (find (λ entry. bytes_eq bytes entry.0.now) table) ≡ Some keyword → bytes ≡ spelled keyword)
-        → option_map (λ (entry : Bor (List ℕ) × Keyword). entry.1) (cond b (Some e) (find (λ entry. bytes_eq bytes entry.0.now) table)) ≡ Some keyword → bytes ≡ spelled keyword
+        → (option_map (λ (entry : Bor (List ℕ) × K). entry.1) (find (λ entry. bytes_eq bytes entry.0.now) table) ≡ Some keyword → bytes ≡ spelled keyword)
+        → option_map (λ (entry : Bor (List ℕ) × K). entry.1) (cond b (Some e) (find (λ entry. bytes_eq bytes entry.0.now) table)) ≡ Some keyword → bytes ≡ spelled keyword
     go true same more is = (bytes_eq-Decides bytes e.0.now).0 same ∙ (bytes_eq-Decides e.0.now (spelled e.1)).0 parts.0 ∙ ap spelled (same_keyword is)
     go false other more is = more is
 
 -- ---- whatever the answer
 
-pub keyword-answer : (bytes : List ℕ) (table : List (Bor (List ℕ) × Keyword)) (found : Option Keyword) → list_all (λ form. list_any (λ entry. bytes_eq form.0 entry.0.now) table) line_forms ≡ true
+pub keyword-answer : {K : Type 0} (script : Script) (spelled : K → List ℕ) (bytes : List ℕ) (table : List (Bor (List ℕ) × K)) (found : Option K) → list_all (λ form. list_any (λ entry. bytes_eq form.0 entry.0.now) table) (line_forms script) ≡ true
     → list_all (λ entry. bytes_eq entry.0.now (spelled entry.1)) table ≡ true → found ≡ keyword_beside bytes table
-    → MatchOption found (forms_of bytes ≡ []) (λ keyword. bytes ≡ spelled keyword)
-keyword-answer bytes table None all each is = unlisted-forms bytes table all (sym is)
-keyword-answer bytes table (Some keyword) all each is = keyword_beside-spelled bytes table keyword each (sym is)
+    → MatchOption found (forms_of script bytes ≡ []) (λ keyword. bytes ≡ spelled keyword)
+keyword-answer script spelled bytes table None all each is = unlisted-forms script bytes table all (sym is)
+keyword-answer script spelled bytes table (Some keyword) all each is = keyword_beside-spelled spelled bytes table keyword each (sym is)

@@ -6,6 +6,8 @@ pub mod HeadLemmas
 pub mod AddLemmas
 pub mod SaidLemmas
 pub mod BlankLemmas
+pub mod LiveRequestLemmas
+pub mod LiveSaidLemmas
 pub mod RequestLemmas
 pub mod FaultLemmas
 pub mod CountLemmas

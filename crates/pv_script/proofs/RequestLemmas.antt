@@ -10,11 +10,11 @@ use Rattle.pv_check.specs.declared.plan.CheckError.TheVariants as check
 use Rattle.pv_parse.specs.declared.error.ParseError.{ParseError}
 use Rattle.pv_parse.specs.declared.error.ParseError.TheVariants as parse
 use Rattle.pv_parse.specs.Refusals.{refusal_of}
-use Rattle.pv_model.specs.LineCauses.{Before, declared_by, HasProgram, HasFirstWord, IsSaid, or_default, Has}
+use Rattle.pv_model.specs.LineCauses.{Before, declared_by, HasProgram, or_default, Has}
 use Rattle.pv_model.specs.Check.{names_item, AreItems, has_assignment, has_return}
-use Rattle.pv_model.specs.LineForms.{Field, site, mode, name, program, forms_of, arguments, takes_program, site_and_text, program_text, form_of, fields_of, fields_in, has_good_number}
+use Rattle.pv_model.specs.LineForms.{Script, scheduled, Field, site, mode, name, program, forms_of, arguments, takes_program, site_and_text, program_text, form_of, fields_of, fields_in, has_good_number}
 use Rattle.pv_model.specs.ProgramText.{IsProgramText, at_fault, IsRefused}
-use Rattle.pv_model.specs.Schedule.{request_word, IsRequest}
+use Rattle.pv_model.specs.Schedule.{request_word, MayRun, IsRequest}
 use Rattle.pv_model.specs.Syntax.{Program}
 use Rattle.pv_model.specs.Text.{TextLine, IsDecimal}
 use Rattle.pv_law_programs.proofs.ItemLemmas.{one_items}
@@ -22,13 +22,13 @@ use Rattle.pv_law_schedules.proofs.SomeCauseLemmas.{names_item-none}
 use Rattle.pv_law_programs.proofs.NoRefusalLemmas.{no_refusal}
 use Rattle.pv_law_programs.proofs.ProgramTextLemmas.{one_program_text}
 use Rattle.pv_script.specs.LineFaults.{texts, form_among, fault_of_parse, fault_of_check, IsFieldFault, IsLineFault}
-use Rattle.pv_script.specs.Said.{IsHead}
+use Rattle.pv_script.specs.Said.{IsHead, IsProgramLine}
 use Rattle.pv_script.specs.declared.fault.Fault.TheVariants.{At}
 use Rattle.pv_script.specs.declared.schedule.LineCause.{LineCause}
 use Rattle.pv_script.specs.declared.schedule.LineCause.TheVariants.{WrongCount, BadNumber, ProgramColumn, UnknownName, TooDeep, NamesNoItem, TooManyNames, QueryAssigns, NoReturn}
-use Rattle.pv_script.proofs.CauseLemmas.{NoneBefore, none5, none6, none7, none8, none9, none10, none11, none12, none13, none14, none15, none16, none-known, reported, first-line, arguments-request, form_of-line, fields_of-line, IsLineFault-fields}
+use Rattle.pv_script.proofs.CauseLemmas.{NoneBefore, none5, none6, none7, none11, none12, none13, none14, none15, none16, none17, none18, none19, none-known, none-scheduled, reported, first-line, arguments-request, form_of-line, fields_of-line, IsLineFault-fields}
 use Rattle.pv_script.proofs.KeywordLemmas.{forms-submit, forms-query, takes-submit, takes-query}
-use Rattle.pv_script.proofs.HeadLemmas.{some_forms, differs, begins, contains-cons, no_field, is_mode, is_name_field}
+use Rattle.pv_script.proofs.HeadLemmas.{some_forms, differs, begins, no-twice, no-late, contains-cons, no_field, is_mode, is_name_field}
 use Rattle.pv_script.proofs.FieldLemmas.{good-site}
 
 -- ---- why a program may not run
@@ -98,11 +98,11 @@ names_item-no_items p (m ∷ items) are empty = absurd (omega (arith, empty))
 abbrev RequestForms : List (List Field)
 RequestForms = (site ∷ program ∷ []) ∷ []
 
-request-forms : (query : Bool) → forms_of (request_word query) ≡ RequestForms
+request-forms : (query : Bool) → forms_of scheduled (request_word query) ≡ RequestForms
 request-forms true = forms-query
 request-forms false = forms-submit
 
-request-takes : (query : Bool) → takes_program (request_word query) ≡ true
+pub request-takes : (query : Bool) → takes_program (request_word query) ≡ true
 request-takes true = takes-query
 request-takes false = takes-submit
 
@@ -114,34 +114,55 @@ request-no_journal : (query : Bool) → request_word query ≡ codes "journal" �
 request-no_journal true = differs (codes "query") (codes "journal") refl
 request-no_journal false = differs (codes "submit") (codes "journal") refl
 
-request-no_item : (query : Bool) → request_word query ≡ codes "item" → ⊥
+pub request-no_item : (query : Bool) → request_word query ≡ codes "item" → ⊥
 request-no_item true = differs (codes "query") (codes "item") refl
 request-no_item false = differs (codes "submit") (codes "item") refl
 
-none-request : (before : Before) (line : TextLine) (query : Bool) (args : List (List ℕ)) → IsHead before line (request_word query) args → NoneBefore before line 6
-none-request before line query args head =
-    let none = none-known before line (request_word query) args head (some_forms (forms_of (request_word query)) (site ∷ program ∷ []) [] (request-forms query)) in
-    none6 before line
-    (none5 before line none
-    (⊎_elim (λ (p : HasFirstWord (codes "sites") line × IsSaid before.sites). begins line (request_word query) (codes "sites") args head.words (request-no_sites query) p.0)
-    (λ (p : HasFirstWord (codes "journal") line × IsSaid before.journal). begins line (request_word query) (codes "journal") args head.words (request-no_journal query) p.0)))
-    (λ late. ⊎_elim (begins line (request_word query) (codes "journal") args head.words (request-no_journal query)) (begins line (request_word query) (codes "item") args head.words (request-no_item query)) late.0)
+pub request-no_plan : (query : Bool) → request_word query ≡ codes "plan" → ⊥
+request-no_plan true = differs (codes "query") (codes "plan") refl
+request-no_plan false = differs (codes "submit") (codes "plan") refl
 
-request-fault : (before : Before) (line : TextLine) (query : Bool) (args given : List (List ℕ)) (cause : LineCause) → IsHead before line (request_word query) args
-    → arguments line ≡ given → IsFieldFault (or_default 0 before.sites) RequestForms given cause → IsLineFault before line (At cause)
-request-fault before line query args given cause head same fault =
-    IsLineFault-fields before line (request_word query) args given cause head.words same (none-request before line query args head) (rw (request-forms query) fault)
+pub request-no_client : (query : Bool) → request_word query ≡ codes "client" → ⊥
+request-no_client true = differs (codes "query") (codes "client") refl
+request-no_client false = differs (codes "submit") (codes "client") refl
+
+-- a line that begins with the word of a request, in a script of either kind
+pub none-request : (before : Before) (line : TextLine) (query : Bool) (args : List (List ℕ)) → forms_of before.script (request_word query) ≢ []
+    → IsHead before line (request_word query) args → NoneBefore before line 6
+none-request before line query args known head =
+    none6 before line
+    (none5 before line (none-known before line (request_word query) args head known)
+    (no-twice before line (request_word query) args head.words (request-no_sites query) (request-no_journal query) (request-no_plan query)))
+    (no-late before line (request_word query) args head.words (request-no_journal query) (request-no_item query) (request-no_plan query))
+
+known-request : (before : Before) (query : Bool) → before.script ≡ scheduled → forms_of before.script (request_word query) ≢ []
+known-request before query kind =
+    some_forms (forms_of before.script (request_word query)) (site ∷ program ∷ []) [] (ap (λ (s : Script). forms_of s (request_word query)) kind ∙ request-forms query)
+
+request-fault : (before : Before) (line : TextLine) (query : Bool) (args given : List (List ℕ)) (cause : LineCause) → before.script ≡ scheduled
+    → IsHead before line (request_word query) args
+    → arguments before.script line ≡ given → IsFieldFault (or_default 0 before.sites) RequestForms given cause → IsLineFault before line (At cause)
+request-fault before line query args given cause kind head same fault =
+    IsLineFault-fields before line (request_word query) args given cause head.words same (none-request before line query args (known-request before query kind) head)
+    (none-scheduled before line (request_word query) kind (first-line line (request_word query) args head.words) (request-no_client query))
+    (rw (kind, request-forms query) fault)
+
+-- what stands behind the first word, in a schedule
+request-arguments : (before : Before) (line : TextLine) (query : Bool) (args : List (List ℕ)) → before.script ≡ scheduled → IsHead before line (request_word query) args
+    → arguments before.script line ≡ site_and_text (program_text scheduled line) args
+request-arguments before line query args kind head =
+    ap (λ (s : Script). arguments s line) kind ∙ arguments-request scheduled line (request_word query) args head.words (request-takes query)
 
 few : (sites : ℕ) (text : List ℕ) (args : List (Bor (List ℕ))) → length args < 2 → IsFieldFault sites RequestForms (site_and_text text (texts args)) WrongCount
 few sites text [] short = refl
 few sites text (a ∷ []) short = refl
 few sites text (a ∷ b ∷ more) short = absurd (omega arith)
 
-pub IsLineFault-short : (before : Before) (line : TextLine) (query : Bool) (args : List (Bor (List ℕ))) → IsHead before line (request_word query) (texts args)
-    → length args < 2 → IsLineFault before line (At WrongCount)
-IsLineFault-short before line query args head short =
-    request-fault before line query (texts args) (site_and_text (program_text line) (texts args)) WrongCount head
-    (arguments-request line (request_word query) (texts args) head.words (request-takes query)) (few (or_default 0 before.sites) (program_text line) args short)
+pub IsLineFault-short : (before : Before) (line : TextLine) (query : Bool) (args : List (Bor (List ℕ))) → before.script ≡ scheduled
+    → IsHead before line (request_word query) (texts args) → length args < 2 → IsLineFault before line (At WrongCount)
+IsLineFault-short before line query args kind head short =
+    request-fault before line query (texts args) (site_and_text (program_text scheduled line) (texts args)) WrongCount kind head
+    (request-arguments before line query (texts args) kind head) (few (or_default 0 before.sites) (program_text scheduled line) args short)
 
 two_parts : (text : List ℕ) (args : List (Bor (List ℕ))) (d : Bor (List ℕ)) → 2 ≤ length args → site_and_text text (texts args) ≡ (get_or args 0 d).now ∷ text ∷ []
 two_parts text [] d some = absurd (omega arith)
@@ -149,54 +170,60 @@ two_parts text (a ∷ []) d some = absurd (omega arith)
 two_parts text (a ∷ b ∷ more) d some = refl
 
 -- what stands behind the first word of a request
-pub request-given : (before : Before) (line : TextLine) (query : Bool) (args : List (Bor (List ℕ))) (d : Bor (List ℕ)) → IsHead before line (request_word query) (texts args)
-    → 2 ≤ length args → arguments line ≡ (get_or args 0 d).now ∷ program_text line ∷ []
-request-given before line query args d head some =
-    arguments-request line (request_word query) (texts args) head.words (request-takes query) ∙ two_parts (program_text line) args d some
+pub request-given : (before : Before) (line : TextLine) (query : Bool) (args : List (Bor (List ℕ))) (d : Bor (List ℕ)) → before.script ≡ scheduled
+    → IsHead before line (request_word query) (texts args) → 2 ≤ length args → arguments before.script line ≡ (get_or args 0 d).now ∷ program_text scheduled line ∷ []
+request-given before line query args d kind head some =
+    request-arguments before line query (texts args) kind head ∙ two_parts (program_text scheduled line) args d some
 
-pub IsLineFault-away : (before : Before) (line : TextLine) (query : Bool) (args : List (Bor (List ℕ))) (d : Bor (List ℕ)) → IsHead before line (request_word query) (texts args)
-    → 2 ≤ length args → has_good_number (or_default 0 before.sites) (site, (get_or args 0 d).now) ≡ false → IsLineFault before line (At BadNumber)
-IsLineFault-away before line query args d head some wrong =
-    request-fault before line query (texts args) ((get_or args 0 d).now ∷ program_text line ∷ []) BadNumber head (request-given before line query args d head some)
+pub IsLineFault-away : (before : Before) (line : TextLine) (query : Bool) (args : List (Bor (List ℕ))) (d : Bor (List ℕ)) → before.script ≡ scheduled
+    → IsHead before line (request_word query) (texts args) → 2 ≤ length args → has_good_number (or_default 0 before.sites) (site, (get_or args 0 d).now) ≡ false → IsLineFault before line (At BadNumber)
+IsLineFault-away before line query args d kind head some wrong =
+    request-fault before line query (texts args) ((get_or args 0 d).now ∷ program_text scheduled line ∷ []) BadNumber kind head
+    (request-given before line query args d kind head some)
     ((λ none. cc), rw wrong refl)
 
 -- The line is a request at a site, with this text of a program.
 pub record IsRequestLine (before : Before) (line : TextLine) (query : Bool) (args : List (List ℕ)) (at text : List ℕ) (n : ℕ) : Type 0 where
+  pub kind : before.script ≡ scheduled
   pub head : IsHead before line (request_word query) args
-  pub given : arguments line ≡ at ∷ text ∷ []
+  pub given : arguments before.script line ≡ at ∷ text ∷ []
   pub site : IsDecimal at n
   pub below : n < or_default 0 before.sites
 
-pub request-line : (before : Before) (line : TextLine) (query : Bool) (args : List (Bor (List ℕ))) (d : Bor (List ℕ)) (text : List ℕ) (n sites : ℕ)
-    → IsHead before line (request_word query) (texts args) → 2 ≤ length args → text ≡ program_text line → IsDecimal (get_or args 0 d).now n → n < sites
+pub request-line : (before : Before) (line : TextLine) (query : Bool) (args : List (Bor (List ℕ))) (d : Bor (List ℕ)) (text : List ℕ) (n sites : ℕ) → before.script ≡ scheduled
+    → IsHead before line (request_word query) (texts args) → 2 ≤ length args → text ≡ program_text scheduled line → IsDecimal (get_or args 0 d).now n → n < sites
     → sites ≡ or_default 0 before.sites → IsRequestLine before line query (texts args) (get_or args 0 d).now text n
-request-line before line query args d text n sites head some same number_is below count =
+request-line before line query args d text n sites kind head some same number_is below count =
     record {
+      kind = kind;
       head = head;
-      given = request-given before line query args d head some ∙ ap (λ (t : List ℕ). (get_or args 0 d).now ∷ t ∷ []) (sym same);
+      given = request-given before line query args d kind head some ∙ ap (λ (t : List ℕ). (get_or args 0 d).now ∷ t ∷ []) (sym same);
       site = number_is;
       below = omega arith;
     }
 
-pub is_program : Field → Bool
+unfoldable pub is_program : Field → Bool
 is_program program = true
 is_program _ = false
 
 module _ (before : Before) (line : TextLine) (query : Bool) (args : List (List ℕ)) (at text : List ℕ) (n : ℕ) (is : IsRequestLine before line query args at text n) where
-  form : form_of line ≡ Some (site ∷ program ∷ [])
+  forms : forms_of before.script (request_word query) ≡ RequestForms
+  forms = ap (λ (s : Script). forms_of s (request_word query)) is.kind ∙ request-forms query
+
+  form : form_of before.script line ≡ Some (site ∷ program ∷ [])
   form =
-      form_of-line line (request_word query) args (at ∷ text ∷ []) is.head.words is.given
-      ∙ ap (λ (forms : List (List Field)). form_among forms (at ∷ text ∷ [])) (request-forms query)
+      form_of-line before.script line (request_word query) args (at ∷ text ∷ []) is.head.words is.given
+      ∙ ap (λ (fs : List (List Field)). form_among fs (at ∷ text ∷ [])) forms
 
-  fields : fields_of line ≡ (site, at) ∷ (program, text) ∷ []
+  fields : fields_of before.script line ≡ (site, at) ∷ (program, text) ∷ []
   fields =
-      fields_of-line line (request_word query) args (at ∷ text ∷ []) is.head.words is.given
-      ∙ ap (λ (forms : List (List Field)). fields_in (form_among forms (at ∷ text ∷ [])) (at ∷ text ∷ [])) (request-forms query)
+      fields_of-line before.script line (request_word query) args (at ∷ text ∷ []) is.head.words is.given
+      ∙ ap (λ (fs : List (List Field)). fields_in (form_among fs (at ∷ text ∷ [])) (at ∷ text ∷ [])) forms
 
-  has_text : Has line program text
+  has_text : Has before.script line program text
   has_text = subst (λ (fs : List (Field × List ℕ)). Contains fs (program, text)) (sym fields) (1, omega arith, refl)
 
-  only_text : (other : List ℕ) → Has line program other → text ≡ other
+  only_text : (other : List ℕ) → Has before.script line program other → text ≡ other
   unfolding is_program
   only_text other has =
       ⊎_elim
@@ -208,67 +235,81 @@ module _ (before : Before) (line : TextLine) (query : Bool) (args : List (List �
       (subst (λ (fs : List (Field × List ℕ)). Contains fs (program, other)) fields has))
 
   no_kind : (p : Field → Bool) (field : Field) (word : List ℕ) → list_all (λ (f : Field × List ℕ). not (p f.0)) ((site, at) ∷ (program, text) ∷ []) ≡ true → p field ≡ true
-      → Has line field word → ⊥
+      → Has before.script line field word → ⊥
   no_kind p field word all of has =
       no_field p ((site, at) ∷ (program, text) ∷ []) field word all of (subst (λ (fs : List (Field × List ℕ)). Contains fs (field, word)) fields has)
 
-  no_mode : (word : List ℕ) → Has line mode word → ⊥
+  no_mode : (word : List ℕ) → Has before.script line mode word → ⊥
   unfolding is_mode
   no_mode word has = no_kind is_mode mode word refl refl has
 
-  no_name : (word : List ℕ) → Has line name word → ⊥
+  no_name : (word : List ℕ) → Has before.script line name word → ⊥
   unfolding is_name_field
   no_name word has = no_kind is_name_field name word refl refl has
 
-  none-fields : NoneBefore before line 12
+  none-fields : NoneBefore before line 15
   none-fields =
       let sites = or_default 0 before.sites in
-      none12 before line
+      none15 before line
+      (none14 before line
+      (none13 before line
+      (none12 before line
       (none11 before line
-      (none10 before line
-      (none9 before line
-      (none8 before line
-      (none7 before line (none-request before line query args is.head)
-      (λ none. let some = form in let never : None ≡ Some (site ∷ program ∷ []) = sym none ∙ some in cc))
-      (λ wrong. both_ways (list_all (has_good_number sites) (fields_of line)) wrong
+      (none-scheduled before line (request_word query) is.kind (first-line line (request_word query) args is.head.words) (request-no_client query)
+      (none7 before line (none-request before line query args (known-request before query is.kind) is.head)
+      (λ none. let some = form in let never : None ≡ Some (site ∷ program ∷ []) = sym none ∙ some in cc)))
+      (λ wrong. both_ways (list_all (has_good_number sites) (fields_of before.script line)) wrong
       (ap (list_all (has_good_number sites)) fields ∙ and_from (has_good_number sites (site, at)) true (good-site sites n at is.site is.below) refl)))
       (λ has. no_mode has.0 has.1))
       (λ has. no_name has.0 has.1))
       (λ has. no_name has.0 has.1))
       (λ has. begins line (request_word query) (codes "item") args is.head.words (request-no_item query) has.0)
 
-  pub IsLineFault-parse : (error : ParseError) → length text ≤ MAX_LINE → IfSome (refusal_of error) (IsRefused (declared_by before) text) → IsLineFault before line (fault_of_parse error)
-  IsLineFault-parse (parse.TooLarge m) short refused = absurd (let same = refused.0 in let large = refused.1 in omega arith)
-  IsLineFault-parse (parse.Malformed column) short refused = reported before line (ProgramColumn column) (text, has_text, refused) none-fields
-  IsLineFault-parse (parse.UnknownName column) short refused = reported before line (UnknownName column) (text, has_text, refused) none-fields
-  IsLineFault-parse (parse.TooDeep column) short refused = reported before line (TooDeep column) (text, has_text, refused) none-fields
-  IsLineFault-parse parse.NoMemory short refused = tt
+  -- Only the program of such a line can be at fault.
+  pub program-line : length text ≤ MAX_LINE → IsProgramLine before line query text
+  program-line short = record {
+    first = first-line line (request_word query) args is.head.words;
+    has = has_text;
+    only = only_text;
+    short = short;
+    rest = none-fields;
+  }
+
+-- ---- faults of programs, in lines of either kind of script
+
+module _ (before : Before) (line : TextLine) (query : Bool) (text : List ℕ) (is : IsProgramLine before line query text) where
+  pub IsLineFault-parse : (error : ParseError) → IfSome (refusal_of error) (IsRefused (declared_by before) text) → IsLineFault before line (fault_of_parse error)
+  IsLineFault-parse (parse.TooLarge m) refused = absurd (let short = is.short in let same = refused.0 in let large = refused.1 in omega arith)
+  IsLineFault-parse (parse.Malformed column) refused = reported before line (ProgramColumn column) (text, is.has, refused) is.rest
+  IsLineFault-parse (parse.UnknownName column) refused = reported before line (UnknownName column) (text, is.has, refused) is.rest
+  IsLineFault-parse (parse.TooDeep column) refused = reported before line (TooDeep column) (text, is.has, refused) is.rest
+  IsLineFault-parse parse.NoMemory refused = tt
 
   module _ (p : Program) (program_is : IsProgramText (declared_by before) text p) where
     has_program : HasProgram before line p
-    has_program = (text, has_text, program_is)
+    has_program = (text, is.has, program_is)
 
     only_program : (q : Program) → HasProgram before line q → p ≡ q
     only_program q has =
         one_program_text (declared_by before) text p q program_is
-        (subst (λ (t : List ℕ). IsProgramText (declared_by before) t q) (sym (only_text has.0 has.1)) has.2)
+        (subst (λ (t : List ℕ). IsProgramText (declared_by before) t q) (sym (is.only has.0 has.1)) has.2)
 
-    none-program : NoneBefore before line 13
+    none-program : NoneBefore before line 16
     none-program =
-        none13 before line none-fields
+        none16 before line is.rest
         (λ kind column has. no_refusal (declared_by before) text p (at_fault kind column) program_is
-        (subst (λ (t : List ℕ). IsRefused (declared_by before) t (at_fault kind column)) (sym (only_text has.0 has.1)) has.2))
+        (subst (λ (t : List ℕ). IsRefused (declared_by before) t (at_fault kind column)) (sym (is.only has.0 has.1)) has.2))
 
-    none-some_name : (items : List ℕ) → AreItems p items → 0 < length items → NoneBefore before line 14
+    none-some_name : (items : List ℕ) → AreItems p items → 0 < length items → NoneBefore before line 17
     none-some_name items are some =
-        none14 before line none-program
+        none17 before line none-program
         (λ has.
         let same = only_program has.0 has.1 in
         both_ways (names_item p (get_or items 0 0)) (ap (λ (q : Program). names_item q (get_or items 0 0)) same ∙ has.2 (get_or items 0 0)) (are.each 0 0 some))
 
-    none-few_names : (items : List ℕ) → AreItems p items → 0 < length items → length items ≤ MAX_PROGRAM_ITEMS → NoneBefore before line 15
+    none-few_names : (items : List ℕ) → AreItems p items → 0 < length items → length items ≤ MAX_PROGRAM_ITEMS → NoneBefore before line 18
     none-few_names items are some small =
-        none15 before line (none-some_name items are some)
+        none18 before line (none-some_name items are some)
         (λ m has.
         let same = only_program has.0 has.1 in
         let all : items ≡ has.2 = one_items p items has.2 are (subst (λ (q : Program). AreItems q has.2) (sym same) has.3) in
@@ -283,12 +324,12 @@ module _ (before : Before) (line : TextLine) (query : Bool) (args : List (List �
         reported before line (TooManyNames (length items)) (p, has_program, items, are, refl, large) (none-some_name items are (omega arith))
     fault-why items are check.Assigns (assigning some small asks assigns) =
         reported before line QueryAssigns
-        (p, has_program, first-line line (request_word query) args is.head.words ∙ ap request_word asks, assigns)
+        (p, has_program, is.first ∙ ap request_word asks, assigns)
         (none-few_names items are some small)
     fault-why items are check.NoReturn (silent some small asks pure quiet) =
         reported before line NoReturn
-        (p, has_program, first-line line (request_word query) args is.head.words ∙ ap request_word asks, quiet)
-        (none16 before line (none-few_names items are some small)
+        (p, has_program, is.first ∙ ap request_word asks, quiet)
+        (none19 before line (none-few_names items are some small)
         (λ has. both_ways (has_assignment p) pure (ap has_assignment (only_program has.0 has.1) ∙ has.3)))
     fault-why items are check.NoMemory never = elim never [ ]
 
@@ -301,15 +342,11 @@ module _ (before : Before) (line : TextLine) (query : Bool) (args : List (List �
     IsLineFault-check items are check.NoReturn cause = fault-why items are check.NoReturn (why (length items) p query check.NoReturn (cause (λ e. cc)))
     IsLineFault-check items are check.NoMemory cause = tt
 
-    pub IsRequest-read : (items : List ℕ) → AreItems p items → check_refusal MAX_PROGRAM_ITEMS (length items) p query ≡ None → IsRequest before n query text p line
-    IsRequest-read items are accepted =
-        let may = why_not (length items) p query accepted in
-        record {
-          more = args;
-          first = is.head.words;
-          at = at;
-          given = is.given;
-          place = (is.site, is.below);
-          is = program_is;
-          may = record { items = items; are = are; some = may.0; few = may.1; answers = may.2 };
-        }
+pub MayRun-read : (p : Program) (query : Bool) (items : List ℕ) → AreItems p items → check_refusal MAX_PROGRAM_ITEMS (length items) p query ≡ None → MayRun p query
+MayRun-read p query items are accepted =
+    let may = why_not (length items) p query accepted in record { items = items; are = are; some = may.0; few = may.1; answers = may.2 }
+
+pub IsRequest-read : (before : Before) (line : TextLine) (query : Bool) (args : List (List ℕ)) (at text : List ℕ) (n : ℕ) (p : Program)
+    → IsRequestLine before line query args at text n → IsProgramText (declared_by before) text p → MayRun p query → IsRequest before n query text p line
+IsRequest-read before line query args at text n p is program_is may =
+    record { more = args; first = is.head.words; at = at; given = is.given; place = (is.site, is.below); is = program_is; may = may }

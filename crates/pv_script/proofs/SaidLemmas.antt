@@ -9,7 +9,7 @@ use Rattle.std.proofs.lemmas.Slice.Eq.{bytes_eq-Decides}
 use Rattle.pv_base.specs.declared.limits.TheConstants.{MAX_SITES}
 use Rattle.pv_model.specs.Schedule.{IsIn}
 use Rattle.pv_model.specs.LineCauses.{Before, at_first}
-use Rattle.pv_model.specs.LineForms.{number, line_forms, forms_of, leading_word}
+use Rattle.pv_model.specs.LineForms.{Script, scheduled, live, most_bytes, number, line_forms, forms_of, leading_word}
 use Rattle.pv_model.specs.Text.{TextLine, IsText, words}
 use Rattle.pv_script.specs.LineFaults.{texts, IsFieldFault, IsLineFault}
 use Rattle.pv_script.specs.declared.fault.Fault.TheVariants.{At}
@@ -19,10 +19,11 @@ use Rattle.pv_script.specs.Said.{IsHead}
 use Rattle.pv_script.proofs.CauseLemmas.{IsLineFault-unknown}
 use Rattle.pv_script.proofs.HeadLemmas.{IsLineFault-no_sites, IsLineFault-sites}
 
-pub unknown-nil : (args : List (Bor (List ℕ))) → length args < 1 → forms_of (leading_word (texts args)) ≡ []
+pub unknown-nil : (script : Script) (args : List (Bor (List ℕ))) → length args < 1 → forms_of script (leading_word (texts args)) ≡ []
 unfolding line_forms
-unknown-nil [] few = refl
-unknown-nil (a ∷ args) few = absurd (omega arith)
+unknown-nil scheduled [] few = refl
+unknown-nil live [] few = refl
+unknown-nil script (a ∷ args) few = absurd (omega arith)
 
 pub first-nil : (args : List (Bor (List ℕ))) → length args < 1 → leading_word (texts args) ≡ codes "sites" → ⊥
 first-nil [] few is = cc
@@ -67,22 +68,22 @@ pub none-said : (said : Option ℕ) (r : Bool) → r ≡ is_some said → r ≡ 
 none-said None r is refuted = refl
 none-said (Some n) r is refuted = absurd (both_ways r refuted is)
 
-pub sites-expected : (line : TextLine) (spelled : List (List ℕ)) → IsText line → spelled ≡ words line → (leading_word spelled ≡ codes "sites" → ⊥) → IsLineFault at_first line (At SitesExpected)
-sites-expected line spelled is same refuted = IsLineFault-no_sites line is (λ first. refuted (ap leading_word same ∙ first))
+pub sites-expected : (kind : Script) (line : TextLine) (spelled : List (List ℕ)) → IsText (most_bytes kind) line → spelled ≡ words line → (leading_word spelled ≡ codes "sites" → ⊥) → IsLineFault (at_first kind) line (At SitesExpected)
+sites-expected kind line spelled is same refuted = IsLineFault-no_sites kind line is (λ first. refuted (ap leading_word same ∙ first))
 
-pub sites-fault : (line : TextLine) (spelled args : List (List ℕ)) (result : Result ℕ LineCause) → IsText line → spelled ≡ words line → spelled ≡ codes "sites" ∷ args
-    → IfErr result (IsFieldFault 0 ((number 1 MAX_SITES ∷ []) ∷ []) args) → IfErr result (λ cause. IsLineFault at_first line (At cause))
-sites-fault line spelled args (Ok n) is same are fault = tt
-sites-fault line spelled args (Err cause) is same are fault = IsLineFault-sites line args cause is (sym same ∙ are) fault
+pub sites-fault : (kind : Script) (line : TextLine) (spelled args : List (List ℕ)) (result : Result ℕ LineCause) → IsText (most_bytes kind) line → spelled ≡ words line → spelled ≡ codes "sites" ∷ args
+    → IfErr result (IsFieldFault 0 ((number 1 MAX_SITES ∷ []) ∷ []) args) → IfErr result (λ cause. IsLineFault (at_first kind) line (At cause))
+sites-fault kind line spelled args (Ok n) is same are fault = tt
+sites-fault kind line spelled args (Err cause) is same are fault = IsLineFault-sites kind line args cause is (sym same ∙ are) fault
 
-pub head-of : (before : Before) (line : TextLine) (items words_now : List (Bor (List ℕ))) (word : List ℕ) (args : List (List ℕ)) (sites : ℕ) → IsText line
+pub head-of : (before : Before) (line : TextLine) (items words_now : List (Bor (List ℕ))) (word : List ℕ) (args : List (List ℕ)) (sites : ℕ) → IsText (most_bytes before.script) line
     → texts items ≡ words line → words_now ≡ items → texts words_now ≡ word ∷ args → before.sites ≡ Some sites → IsHead before line word args
 head-of before line items words_now word args sites is same deref are said =
     record { text = is; sites = sites; said = said; words = sym same ∙ ap texts (sym deref) ∙ are }
 
-pub unknown-fault : (before : Before) (line : TextLine) (items words_now : List (Bor (List ℕ))) (sites : ℕ) (cause : LineCause) → IsText line
-    → texts items ≡ words line → words_now ≡ items → before.sites ≡ Some sites → (cause ≡ UnknownWord) × (forms_of (leading_word (texts words_now)) ≡ [])
+pub unknown-fault : (before : Before) (line : TextLine) (items words_now : List (Bor (List ℕ))) (sites : ℕ) (cause : LineCause) → IsText (most_bytes before.script) line
+    → texts items ≡ words line → words_now ≡ items → before.sites ≡ Some sites → (cause ≡ UnknownWord) × (forms_of before.script (leading_word (texts words_now)) ≡ [])
     → IsLineFault before line (At cause)
 unknown-fault before line items words_now sites cause is same deref said unknown =
     subst (λ (reported : LineCause). IsLineFault before line (At reported)) (sym unknown.0)
-    (IsLineFault-unknown before line sites is said (ap (λ (ws : List (List ℕ)). forms_of (leading_word ws)) (sym same ∙ ap texts (sym deref)) ∙ unknown.1))
+    (IsLineFault-unknown before line sites is said (ap (λ (ws : List (List ℕ)). forms_of before.script (leading_word ws)) (sym same ∙ ap texts (sym deref)) ∙ unknown.1))

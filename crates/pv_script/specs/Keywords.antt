@@ -8,6 +8,8 @@ use Rattle.pv_model.specs.LineForms.{Field, number, site, mode}
 use Rattle.pv_script.specs.declared.keyword.Keyword as code
 use Rattle.pv_script.specs.declared.keyword.Command as code_command
 use Rattle.pv_script.specs.declared.keyword.Keyword.TheVariants.{Sites, Journal, Item, Submit, Query, Command}
+use Rattle.pv_script.specs.declared.keyword.LiveKeyword as code_live
+use Rattle.pv_script.specs.declared.keyword.LiveKeyword.TheVariants as live_word
 use Rattle.pv_script.specs.declared.keyword.Command.TheVariants.{Deliver, Pump, Lose, Drop, Tick, Stop, Start, Cut, Fail, Mend, Sent, Report, Total}
 
 abbrev pub command_word : code_command.Command → List ℕ
@@ -49,6 +51,15 @@ spelled Submit = codes "submit"
 spelled Query = codes "query"
 spelled (Command command) = command_word command
 
+abbrev pub spelled_live : code_live.LiveKeyword → List ℕ
+spelled_live live_word.Sites = codes "sites"
+spelled_live live_word.Journal = codes "journal"
+spelled_live live_word.Item = codes "item"
+spelled_live live_word.Plan = codes "plan"
+spelled_live live_word.Client = codes "client"
+spelled_live live_word.Submit = codes "submit"
+spelled_live live_word.Query = codes "query"
+
 -- the keyword beside the first word of a table that bytes are
-unfoldable pub keyword_beside : List ℕ → List (Bor (List ℕ) × code.Keyword) → Option code.Keyword
+unfoldable pub keyword_beside : {K : Type 0} → List ℕ → List (Bor (List ℕ) × K) → Option K
 keyword_beside bytes table = option_map (λ entry. entry.1) (find (λ entry. bytes_eq bytes entry.0.now) table)

@@ -1,4 +1,7 @@
 pub mod LineView
+pub mod LiveSaid
+pub mod LiveView
+pub mod ScriptKinds
 pub mod LinesLeft
 pub mod ScriptErrors
 pub mod CauseTexts

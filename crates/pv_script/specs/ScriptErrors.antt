@@ -1,10 +1,11 @@
 -- At which line a text is refused, and why.
 use Rattle.std.specs.Prelude.{ℕ, List, Option, Some, None}
 use Rattle.pv_model.specs.LineCauses as model
-use Rattle.pv_model.specs.Schedule.{IsMalformedSchedule}
+use Rattle.pv_model.specs.LineForms.{Script, scheduled, live}
+use Rattle.pv_model.specs.Schedule.{IsMalformed}
 use Rattle.pv_model.specs.ProgramText.{malformed, unknown_name, too_deep}
 use Rattle.pv_script.specs.declared.schedule.LineCause.{LineCause}
-use Rattle.pv_script.specs.declared.schedule.LineCause.TheVariants.{TooLong, NotText, SitesExpected, UnknownWord, Twice, TooLate, WrongCount, BadNumber, BadMode, BadName, NameTaken, TooManyItems, ProgramColumn, UnknownName, TooDeep, NamesNoItem, TooManyNames, QueryAssigns, NoReturn}
+use Rattle.pv_script.specs.declared.schedule.LineCause.TheVariants.{TooLong, NotText, SitesExpected, UnknownWord, Twice, TooLate, WrongCount, ClientExpected, TooManyClients, TooManyRequests, BadNumber, BadMode, BadName, NameTaken, TooManyItems, ProgramColumn, UnknownName, TooDeep, NamesNoItem, TooManyNames, QueryAssigns, NoReturn}
 use Rattle.pv_script.specs.declared.schedule.ScriptError.{ScriptError}
 use Rattle.pv_script.specs.declared.schedule.ScriptError.TheVariants.{Malformed, NoMemory}
 
@@ -17,6 +18,9 @@ line_cause_of UnknownWord = model.unknown_word
 line_cause_of Twice = model.twice
 line_cause_of TooLate = model.too_late
 line_cause_of WrongCount = model.wrong_count
+line_cause_of ClientExpected = model.client_expected
+line_cause_of TooManyClients = model.too_many_clients
+line_cause_of TooManyRequests = model.too_many_requests
 line_cause_of BadNumber = model.bad_number
 line_cause_of BadMode = model.bad_mode
 line_cause_of BadName = model.bad_name
@@ -35,9 +39,17 @@ pub record RefusedLine : Type 0 where
   pub number : ℕ
   pub cause : model.LineCause
 
--- The text is malformed at this line, for this cause.
+-- The text is no script of this kind: it is malformed at this line, for this cause.
+abbrev pub IsMalformedIn : Script → List ℕ → RefusedLine → Type 0
+IsMalformedIn script text refused = IsMalformed script text refused.number refused.cause
+
+-- It is no schedule.
 abbrev pub IsMalformedAt : List ℕ → RefusedLine → Type 0
-IsMalformedAt text refused = IsMalformedSchedule text refused.number refused.cause
+IsMalformedAt text refused = IsMalformedIn scheduled text refused
+
+-- It is no live script.
+abbrev pub IsMalformedLiveAt : List ℕ → RefusedLine → Type 0
+IsMalformedLiveAt text refused = IsMalformedIn live text refused
 
 -- the line that an error names
 abbrev pub refused_line : ScriptError → Option RefusedLine

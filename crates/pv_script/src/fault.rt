@@ -5,7 +5,7 @@ use crate::schedule::{LineCause, ScriptError};
 use pv_base::CatalogError;
 use pv_check::CheckError;
 use pv_parse::ParseError;
-use std::alloc::AllocError;
+use std::alloc::{AllocError, AllocFailed};
 
 /// Why a line isn't read.
 #[derive(Clone, Copy, Debug, PartialEq, Eq)]
@@ -96,6 +96,16 @@ impl From<AllocError> for Fault {
     ghost from_gives = { λ _ f. f ≡ fault.NoMemory };
 
     fn from(_: AllocError) -> Self {
+        Fault::NoMemory
+    }
+}
+
+impl<T: Drop> From<AllocFailed<T>> for Fault {
+    ghost use Rattle.pv_script.specs.declared.fault.Fault.TheVariants as fault;
+
+    ghost from_gives = { λ _ f. f ≡ fault.NoMemory };
+
+    fn from(_: AllocFailed<T>) -> Self {
         Fault::NoMemory
     }
 }

@@ -1,9 +1,9 @@
 // The words that lines begin with.
 ghost use Rattle.std.specs.Prelude.{◌≡◌, [], MatchOption};
-ghost use Rattle.pv_model.specs.LineForms.{forms_of};
-ghost use Rattle.pv_script.specs.Keywords.{spelled, keyword_beside};
+ghost use Rattle.pv_model.specs.LineForms.{scheduled, live, forms_of};
+ghost use Rattle.pv_script.specs.Keywords.{spelled, spelled_live, keyword_beside};
 
-/// A word that a line begins with.
+/// A word that a line of a schedule begins with.
 #[derive(Clone, Copy, Debug, PartialEq, Eq)]
 pub enum Keyword {
     /// `sites`
@@ -51,7 +51,26 @@ pub enum Command {
     Total,
 }
 
-// Each word with what it is.
+/// A word that a line of a live script begins with.
+#[derive(Clone, Copy, Debug, PartialEq, Eq)]
+pub enum LiveKeyword {
+    /// `sites`
+    Sites,
+    /// `journal`
+    Journal,
+    /// `item`
+    Item,
+    /// `plan`
+    Plan,
+    /// `client`
+    Client,
+    /// `submit`
+    Submit,
+    /// `query`
+    Query,
+}
+
+// Each word of schedules with what it is.
 const KEYWORDS: [(&[u8], Keyword); 18] = [
     (b"sites", Keyword::Sites),
     (b"journal", Keyword::Journal),
@@ -73,16 +92,34 @@ const KEYWORDS: [(&[u8], Keyword); 18] = [
     (b"total", Keyword::Command(Command::Total)),
 ];
 
-/// The keyword that a word is.
+// Each word of live scripts with what it is.
+const LIVE_KEYWORDS: [(&[u8], LiveKeyword); 7] = [
+    (b"sites", LiveKeyword::Sites),
+    (b"journal", LiveKeyword::Journal),
+    (b"item", LiveKeyword::Item),
+    (b"plan", LiveKeyword::Plan),
+    (b"client", LiveKeyword::Client),
+    (b"submit", LiveKeyword::Submit),
+    (b"query", LiveKeyword::Query),
+];
+
+/// The keyword of schedules that a word is.
 pub fn keyword_of(word: &[u8]) -> Option<Keyword>
-    ensures { MatchOption result (forms_of word.now ≡ []) (λ keyword. word.now ≡ spelled keyword) }
+    ensures { MatchOption result (forms_of scheduled word.now ≡ []) (λ keyword. word.now ≡ spelled keyword) }
 {
     keyword_in(word, &KEYWORDS)
 }
 
+/// The keyword of live scripts that a word is.
+pub fn live_keyword_of(word: &[u8]) -> Option<LiveKeyword>
+    ensures { MatchOption result (forms_of live word.now ≡ []) (λ keyword. word.now ≡ spelled_live keyword) }
+{
+    keyword_in(word, &LIVE_KEYWORDS)
+}
+
 // The keyword beside a word in a table.
 #[tactic(auto, unfolding(crate::specs::Keywords::keyword_beside))]
-fn keyword_in(word: &[u8], table: &[(&[u8], Keyword)]) -> Option<Keyword>
+fn keyword_in<K: Copy>(word: &[u8], table: &[(&[u8], K)]) -> Option<K>
     ensures { result ≡ keyword_beside word.now table.now }
 {
     table

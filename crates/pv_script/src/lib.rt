@@ -1,4 +1,5 @@
-//! Schedules as texts: what a text says, or its first malformed line and why; long ones that a number makes; and the lines that a run prints, as data.
+//! Schedules and live scripts as texts: what a text says, or its first malformed line and why; long schedules that a number makes; and the lines that a run
+//! prints, as data.
 #![tactic(auto)]
 
 mod arguments;
@@ -9,18 +10,24 @@ mod generator;
 mod keyword;
 mod line;
 mod lines;
+mod live;
+mod live_said;
 mod made_lines;
 mod program;
 mod read;
 mod said;
 mod schedule;
+mod script;
 mod words;
 
 pub use generator::make;
 pub use line::{Line, MessageKind};
 pub use lines::MAX_SCHEDULE;
-pub use read::read_schedule;
+pub use live::{Client, LiveScript, Request};
+pub use read::{read_live, read_schedule};
 pub use schedule::{Event, LineCause, Schedule, ScriptError};
 
+#[cfg(test)]
+mod live_tests;
 #[cfg(test)]
 mod tests;

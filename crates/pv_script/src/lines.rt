@@ -7,7 +7,7 @@ use memchr::memchr;
 use pv_base::is_blank;
 use std::marker::Model;
 
-/// The most bytes that a text may have, so that the number after its last line is one of 32 bits.
+/// The most bytes that the text of a script may have, so that the number after its last line is one of 32 bits.
 pub const MAX_SCHEDULE: usize = 4_294_967_294;
 
 /// A line that counts.

@@ -1,4 +1,4 @@
-// What a schedule says, and why a text is none.
+// What a schedule says, and why a text is no script.
 ghost use Rattle.std.specs.Prelude.{◌≡◌, Some};
 ghost use Rattle.pv_script.specs.CauseTexts.{cause_text, error_text};
 ghost use Rattle.pv_script.specs.ScriptErrors.{line_cause_of};
@@ -73,20 +73,27 @@ pub struct Schedule {
 /// What is wrong with a line, in the order in which it is tested. Columns count the bytes of the program's text, from 1.
 #[derive(Clone, Copy, Debug, PartialEq, Eq, Hash)]
 pub enum LineCause {
-    /// It has more than [`MAX_LINE`](pv_base::MAX_LINE) bytes, without its end.
+    /// It has more than [`MAX_LINE`](pv_base::MAX_LINE) bytes, without its end, or in a live script more than
+    /// [`MAX_LIVE_LINE`](pv_base::MAX_LIVE_LINE).
     TooLong,
     /// A byte isn't printable ASCII, a space or a tab.
     NotText,
     /// The first significant line doesn't begin with `sites`, or there is none.
     SitesExpected,
-    /// The first word isn't one that a line begins with.
+    /// The first word isn't one that a line of such a script begins with.
     UnknownWord,
-    /// A second `sites` or `journal`.
+    /// A second `sites`, `journal` or `plan`.
     Twice,
-    /// A `journal` or an `item` after an event.
+    /// A `journal`, an `item` or a `plan` after an event or a client.
     TooLate,
     /// There are too few or too many words. A program counts as one.
     WrongCount,
+    /// A request before the first client.
+    ClientExpected,
+    /// There are [`MAX_CLIENTS`](pv_base::MAX_CLIENTS) clients.
+    TooManyClients,
+    /// The client has [`MAX_REQUESTS`](pv_base::MAX_REQUESTS) requests.
+    TooManyRequests,
     /// A number isn't one, or isn't in its range.
     BadNumber,
     /// A mode isn't `lost`, `kept` or `torn`.
@@ -114,7 +121,7 @@ pub enum LineCause {
     NoReturn,
 }
 
-/// Why a text wasn't read as a schedule.
+/// Why a text wasn't read as a schedule, or as a live script.
 #[derive(Clone, Copy, Debug, PartialEq, Eq, Hash)]
 pub enum ScriptError {
     /// A line is at fault, and none before it.
@@ -141,6 +148,9 @@ impl fmt::Display for LineCause {
             LineCause::Twice => f.write_str("twice"),
             LineCause::TooLate => f.write_str("too late"),
             LineCause::WrongCount => f.write_str("wrong count"),
+            LineCause::ClientExpected => f.write_str("client expected"),
+            LineCause::TooManyClients => f.write_str("too many clients"),
+            LineCause::TooManyRequests => f.write_str("too many requests"),
             LineCause::BadNumber => f.write_str("bad number"),
             LineCause::BadMode => f.write_str("bad mode"),
             LineCause::BadName => f.write_str("bad name"),

@@ -1,9 +1,7 @@
--- What reads name together, read by read, and that rows depend only on these outcomes.
-use Rattle.std.proofs.Common.{◌≡◌, ℕ, ℤ, ◌+◌, ◌<◌, ◌≤◌, Bool, ◌||◌, List, [], ◌∷◌, ◌++◌, map, take, get_or, length, IsTrue, refl, sym, ap, ◌∙◌, filter}
+-- What reads name together, and that rows depend only on these outcomes.
+use Rattle.std.proofs.Common.{◌≡◌, ℤ, Bool, ◌||◌, List, [], ◌∷◌, map, length, IsTrue, refl, sym, ap, ◌∙◌, filter}
 use Rattle.std.specs.List.{Contains}
 use Rattle.std.proofs.lemmas.Bool.{or_left, or_right}
-use Rattle.std.proofs.lemmas.Grind.{flat_map-append}
-use Rattle.std.proofs.lemmas.List.{append-nil, take_all, take_more}
 use Rattle.std.proofs.lemmas.List.Folds.{list_any-append}
 use Rattle.std.specs.Prelude.{Option, pos}
 use Rattle.std.specs.List.{list_any}
@@ -16,33 +14,6 @@ use Rattle.pv_model.specs.Meaning.{Row}
 use Rattle.pv_base.proofs.MapLemmas.{same-mapped}
 use Rattle.pv_law_polyvalues.proofs.NameLemmas.{one-names}
 use Rattle.pv_law_polyvalues.proofs.TableLemmas.{chosen-is-assignment, value_at-chosen}
-use Rattle.pv_cases.specs.Names.{txns_of}
-use Rattle.pv_cases.proofs.OrderedNames.{txns_of-append}
-
--- The transactions of reads.
-
-reads-more : (reads : List Read) (i : ℕ) (d : Read) → i < length reads
-    → txns_of (all_cases (take (i + 1) reads)) ≡ txns_of (all_cases (take i reads)) ++ txns_of (get_or reads i d).cases
-reads-more reads i d within =
-    let before = all_cases (take i reads) in
-    let read = get_or reads i d in
-    ap (λ (some : List Read). txns_of (all_cases some)) (take_more reads i d within)
-    ∙ ap (λ (cases : List (Case ℤ)). txns_of cases) (flat_map-append (λ (r : Read). r.cases) (take i reads) (read ∷ []))
-    ∙ txns_of-append before (read.cases ++ [])
-    ∙ ap (λ (cases : List (Case ℤ)). txns_of before ++ txns_of cases) (append-nil read.cases)
-
--- The transactions of one more read are appended.
-pub reads-next : (reads : List Read) (i : ℕ) (read : Read) (cases : List (Case ℤ)) (txns more : List TxnId) → i < length reads → read ≡ get_or reads i read
-    → cases ≡ read.cases → txns ≡ txns_of (all_cases (take i reads)) → more ≡ txns ++ txns_of cases → more ≡ txns_of (all_cases (take (i + 1) reads))
-reads-next reads i read cases txns more within is same before behind =
-    behind
-    ∙ ap (λ (some : List TxnId). some ++ txns_of cases) before
-    ∙ ap (λ (these : List (Case ℤ)). txns_of (all_cases (take i reads)) ++ txns_of these) (same ∙ ap (λ (r : Read). r.cases) is)
-    ∙ sym (reads-more reads i read within)
-
--- These are the transactions of all reads.
-pub reads-end : (reads : List Read) (i : ℕ) (txns : List TxnId) → length reads ≤ i → txns ≡ txns_of (all_cases (take i reads)) → txns_of (all_cases reads) ≡ txns
-reads-end reads i txns past all = sym (all ∙ ap (λ (some : List Read). txns_of (all_cases some)) (take_all i reads past))
 
 -- Two lists of what is named have one length.
 pub same_count : (reads : List Read) (txns us : List TxnId) → AreNames (all_cases reads) txns → AreNames (all_cases reads) us → length txns ≡ length us

@@ -64,7 +64,7 @@ impl From<NoMemory> for SplitError {
 ///
 /// `OutcomeLimit` has the number of outcomes that the reads name together, where these are more than [`READ_NAMES`]. Takes time in proportion to the
 /// alternatives, times the cost of the program and the number of reads; for each item that is written, to the alternatives, times the
-/// outcomes; and to the literals of the reads, times the logarithm of their number.
+/// outcomes; to the literals of the reads; and to the tests of their decision trees, times the logarithm of the tests' number.
 pub fn split(alloc: Global, program: &Program, reads: &[Read]) -> Result<Joined, SplitError>
     requires ascending { AllPairs (λ read later. read.item < later.item) reads.now }
     requires items { IsTrue (has_all_items (rows_at reads.now []) program.now) }

@@ -12,8 +12,8 @@ use pv_cases::{ordered, push_names};
 use pv_poly::Read;
 use std::alloc::Global;
 
-/// The outcomes that the reads name together, ascending. Takes time in proportion to the literals of the reads, times the logarithm of their
-/// number.
+/// The outcomes that the reads name together, ascending. Takes time in proportion to the literals of the reads, and to the tests of their
+/// decision trees, times the logarithm of the tests' number.
 pub(crate) fn outcomes_of(alloc: Global, reads: &[Read]) -> Result<Vec<TxnId>, SplitError>
     ensures names { IfOk result (λ txns. AreNames (all_cases reads.now) txns.items) }
     ensures few { IfOk result (λ txns. length txns.items ≤ READ_NAMES) }

@@ -15,6 +15,3 @@ pub use encoding::encode;
 pub use error::WireError;
 pub use message::{Envelope, Message, NoCause};
 pub use pv_poly::Read;
-
-#[cfg(test)]
-mod tests;

@@ -1,7 +1,10 @@
--- The transactions so far come after what the list held.
-use Rattle.std.proofs.Common.{◌≡◌, ◌++◌, map, take}
-use Rattle.pv_base.specs.declared.literal.Literal.{Literal}
+-- The transactions of the literals so far are added; what the list held stands in front.
+use Rattle.std.proofs.Common.{◌≡◌, length, take}
+use Rattle.pv_cases.specs.Names.{mentions, Adds}
 use Rattle.pv_cases.proofs.names.push_txns.Given as goal
 
-abbrev pub invariant-loop-literal : goal.invariant-loop-literal
-invariant-loop-literal l = l.txns.items ≡ l.initial.txns.items ++ map (λ (literal : Literal). literal.txn) (take l.literal-index l.when)
+abbrev pub invariant-loop-place : goal.invariant-loop-place
+invariant-loop-place l = record {
+  added : Adds (mentions (take l.place l.fn.when)) l.initial.txns.items l.txns.items;
+  kept : take (length l.initial.txns.items) l.txns.items ≡ l.initial.txns.items;
+}

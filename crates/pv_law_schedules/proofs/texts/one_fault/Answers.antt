@@ -3,4 +3,4 @@ use Rattle.pv_law_schedules.proofs.OneScheduleLemmas as lemmas
 use Rattle.pv_law_schedules.proofs.texts.one_fault.Goals as goal
 
 pub returns : goal.returns
-returns c = λ text m n a b is also. lemmas.one_fault text m n a b is also
+returns c = λ kind text m n a b is also. lemmas.one_fault kind text m n a b is also

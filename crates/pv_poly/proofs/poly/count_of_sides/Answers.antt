@@ -1,17 +1,19 @@
--- Two sure values name nothing.
-use Rattle.std.proofs.Common.{ap₂, ◌∙◌, ◌||◌, ◌++◌, arith}
-use Rattle.std.proofs.lemmas.List.Folds.{list_any-append}
-use Rattle.std.specs.List.{list_any}
-use Rattle.pv_base.specs.Assignment.{is_same_txn}
-use Rattle.pv_base.specs.Polyvalue.{Case}
-use Rattle.pv_cases.proofs.CountLemmas.{nothing-few}
+-- Both trees together name at most twice what each of them may.
+use Rattle.std.proofs.Common.{arith}
+use Rattle.pv_base.specs.declared.limits.TheConstants.{HELD_NAMES}
+use Rattle.pv_cases.proofs.CountLemmas.{both-few, same-count}
 use Rattle.pv_poly.proofs.poly.count_of_sides.Goals as goal
 
-pub returns-then-is_sure-2-clause-count : goal.returns-then-is_sure-2-clause-count
-returns-then-is_sure-2-clause-count g c txns are =
-    let aborted = c.args.aborted.now in
-    let committed = c.args.committed.now in
-    let few = nothing-few 0 (aborted ++ committed)
-    (λ t. list_any-append (λ (case : Case _). list_any (λ literal. is_same_txn t literal.txn) case.when) aborted committed
-    ∙ ap₂ ◌||◌ (c.is_sure.ensures c.if-is_sure.true t) (c.is_sure-then-is_sure.ensures c.if-is_sure-2.true t)) txns are in
-    omega (arith, few)
+pub overflow_cast-result : goal.overflow_cast-result
+overflow_cast-result g c =
+    let few = both-few HELD_NAMES c.requires.few_aborted c.requires.few_committed c.in_ok-txns.txns.items c.in_ok-txns.ensures in
+    omega (arith, few, c.len.ensures, c.in_ok-txns.txns.ok.0)
+
+pub returns-clause-count : goal.returns-clause-count
+returns-clause-count g c txns are =
+    omega (arith, same-count txns c.in_ok-txns.txns.items are c.in_ok-txns.ensures, c.len.ensures, c.in_ok-txns.txns.ok.0)
+
+pub returns-clause-few : goal.returns-clause-few
+returns-clause-few g c =
+    let few = both-few HELD_NAMES c.requires.few_aborted c.requires.few_committed c.in_ok-txns.txns.items c.in_ok-txns.ensures in
+    omega (arith, few, c.len.ensures, c.in_ok-txns.txns.ok.0)

@@ -3,6 +3,7 @@ use Rattle.std.proofs.Common.{ℕ, List, Err, IfSome, sym, ap, ◌∙◌, refl, 
 use Rattle.std.proofs.lemmas.List.{length-map}
 use Rattle.std.proofs.lemmas.Result.{err_from_is_err_and}
 use Rattle.pv_model.specs.FirstMisplaced.{without_numbers}
+use Rattle.pv_model.specs.LineForms.{scheduled}
 use Rattle.pv_model.specs.Schedule.{AreLines, significant, IsSchedule}
 use Rattle.pv_model.specs.Text.{TextLine}
 use Rattle.pv_base.specs.Answer.{Answers}
@@ -32,8 +33,8 @@ loop-line-init c =
     let declares = c.in_ok-said.ensures.declares in
     let split = sym (ap (λ (left : LinesLeft). left.numbered) c.new-lines.ensures) ∙ declares.2 in (
       c.in_ok-said.ensures.limited,
-      rw c.new-events.ensures.items (λ more last are. lines-first c.args.text.now declares.0 declares.1 c.read_first.new.lines.numbered (before_of c.in_ok-said.said) last more split declares.3 are),
-      λ number cause is. fault-first c.args.text.now declares.0 declares.1 c.read_first.new.lines.numbered (before_of c.in_ok-said.said) number cause split declares.3 is,
+      rw c.new-events.ensures.items (λ more last are. lines-first scheduled c.args.text.now declares.0 declares.1 c.read_first.new.lines.numbered (before_of c.in_ok-said.said) last more split declares.3 are),
+      λ number cause is. fault-first scheduled c.args.text.now declares.0 declares.1 c.read_first.new.lines.numbered (before_of c.in_ok-said.said) number cause split declares.3 is,
       rw c.new-events.ensures.items (λ k d below. absurd (omega arith)),
       λ quiet. c.new-events.ensures.items,
     )
@@ -51,9 +52,9 @@ loop-line-preserved c = (
       (fault-takes (before_of c.loop-line.said) (before_of c.read_line.new.said) c.read_line.new.said.catalog c.loop-line.events.items c.read_line.new.events.items c.in-Some.line.number c.in-Some.line.text.now
       c.next.new.self.numbered number cause c.in_ok-read_line.ensures.takes is)),
   plans-takes (before_of c.loop-line.said) (before_of c.read_line.new.said) c.in-Some.line.text.now c.loop-line.said.catalog c.read_line.new.said.catalog c.loop-line.events.items c.read_line.new.events.items
-      c.loop-line.said.catalog.sites refl refl refl c.loop-line.invariant.4 c.loop-line.invariant.3 c.in_ok-read_line.ensures.takes,
+      c.loop-line.said.catalog.sites refl refl refl refl c.loop-line.invariant.4 c.loop-line.invariant.3 c.in_ok-read_line.ensures.takes,
   begun-takes (before_of c.loop-line.said) (before_of c.read_line.new.said) c.in-Some.line.text.now c.read_line.new.said.catalog c.loop-line.events.items c.read_line.new.events.items
-      c.loop-line.said.catalog.sites refl c.loop-line.invariant.4 c.in_ok-read_line.ensures.takes,
+      c.loop-line.said.catalog.sites refl refl c.loop-line.invariant.4 c.in_ok-read_line.ensures.takes,
 )
 
 pub returns-in_err-read_line-clause-answer : goal.returns-in_err-read_line-clause-answer
@@ -61,7 +62,7 @@ returns-in_err-read_line-clause-answer c =
     let p = err_from_is_err_and c.from_residual-in_err-read_line.result c.from_residual-in_err-read_line.ensures.1 in
     rw (p.1, p.2)
     (refused-so c.args.text.now c.in_err-read_line.field-0.0
-    (refuses-line c.args.text.now (before_of c.loop-line.said) c.in-Some.line.number c.in-Some.line.text.now c.next.new.self.numbered c.in_err-read_line.field-0.0
+    (refuses-line scheduled c.args.text.now (before_of c.loop-line.said) c.in-Some.line.number c.in-Some.line.text.now c.next.new.self.numbered c.in_err-read_line.field-0.0
     (λ n cause is. c.loop-line.invariant.2 n cause (subst (λ (all : List (ℕ × TextLine)). IsAtFaultFrom (before_of c.loop-line.said) all n cause) (sym c.in-Some.ensures.some) is))
     c.in_err-read_line.ensures.fault))
 

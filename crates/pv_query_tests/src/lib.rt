@@ -1,0 +1,5 @@
+//! The tests of pv_query.
+#![tactic(auto)]
+
+#[cfg(test)]
+mod tests;

@@ -1,0 +1,155 @@
+// Worked answers: p is 60 where T commits, and else 50.
+ghost use Rattle.std.specs.Prelude.{◌≡◌, length, IfOk};
+
+use pv_ast::Reply;
+use pv_base::{Exact, NoMemory, SiteId, TxnId};
+use pv_poly::Poly;
+use pv_query::*;
+use std::alloc::Global;
+use std::test::Fail;
+
+const T: TxnId = TxnId {
+    site: SiteId(0),
+    epoch: 1,
+    number: 0,
+};
+
+const U: TxnId = TxnId {
+    site: SiteId(0),
+    epoch: 1,
+    number: 1,
+};
+
+// the transaction of this number
+fn txn(number: u32) -> TxnId {
+    TxnId {
+        site: SiteId(0),
+        epoch: 1,
+        number,
+    }
+}
+
+// the first value where the transaction doesn't commit, and the second one where it does
+fn either<V: Exact>(alloc: Global, txn: TxnId, values: &[V]) -> Result<Poly<V>, NoMemory>
+    requires { length values.now ≡ 2 }
+{
+    Poly::from_table(alloc, &[txn], values)
+}
+
+// ten values, of which the last one names the outcome that the first one names
+fn ten_of_nine_outcomes(alloc: Global) -> Result<Vec<Poly<i64>>, NoMemory>
+    ensures { IfOk result (λ values. length values.items ≡ 10) }
+{
+    let mut values = Vec::new(alloc);
+    for number in 0..10 {
+        values.push(either(alloc, txn(number % 9), &[0, 1])?)?;
+    }
+    Ok(values)
+}
+
+#[test]
+fn both_replies_are_possible_and_none_certain(rt: HostRuntime) -> Result<(), Fail> {
+    let alloc = rt.alloc();
+    let reply = either(alloc, T, &[Reply::Value(50), Reply::Value(60)])?;
+    let replies = possible(alloc, &reply)?;
+    assert_eq!(rt;
+        replies.as_slice(),
+        [Reply::Value(50), Reply::Value(60)].as_slice()
+    );
+    assert_eq!(rt; certain(&reply), None);
+    Ok(())
+}
+
+#[test]
+fn a_sure_reply_is_certain(rt: HostRuntime) -> Result<(), Fail> {
+    let alloc = rt.alloc();
+    let reply = Poly::sure(alloc, Reply::Nothing)?;
+    let replies = possible(alloc, &reply)?;
+    assert_eq!(rt; replies.as_slice(), [Reply::Nothing].as_slice());
+    assert_eq!(rt; certain(&reply), Some(Reply::Nothing));
+    Ok(())
+}
+
+#[test]
+fn a_reply_of_two_cases_is_possible_once(rt: HostRuntime) -> Result<(), Fail> {
+    let alloc = rt.alloc();
+    let values = [
+        Reply::Value(50),
+        Reply::Value(60),
+        Reply::Value(60),
+        Reply::Value(50),
+    ];
+    let reply = Poly::from_table(alloc, &[T, U], &values)?;
+    let replies = possible(alloc, &reply)?;
+    assert_eq!(rt;
+        replies.as_slice(),
+        [Reply::Value(50), Reply::Value(60)].as_slice()
+    );
+    assert_eq!(rt; certain(&reply), None);
+    Ok(())
+}
+
+#[test]
+fn a_sure_value_is_in_each_sum(rt: HostRuntime) -> Result<(), Fail> {
+    let alloc = rt.alloc();
+    let values = [either(alloc, T, &[50, 60])?, Poly::sure(alloc, 100)?];
+    let found = sums(alloc, &values)?;
+    assert_eq!(rt; found.as_slice(), [150i128, 160].as_slice());
+    Ok(())
+}
+
+#[test]
+fn money_that_moves_has_one_sum(rt: HostRuntime) -> Result<(), Fail> {
+    let alloc = rt.alloc();
+    let values = [either(alloc, T, &[50, 60])?, either(alloc, T, &[70, 60])?];
+    let found = sums(alloc, &values)?;
+    assert_eq!(rt; found.as_slice(), [120i128].as_slice());
+    Ok(())
+}
+
+#[test]
+fn sums_follow_the_order_of_the_outcomes(rt: HostRuntime) -> Result<(), Fail> {
+    let alloc = rt.alloc();
+    let values = [either(alloc, txn(1), &[0, 1])?, either(alloc, T, &[0, 10])?];
+    let found = sums(alloc, &values)?;
+    assert_eq!(rt; found.as_slice(), [0i128, 1, 10, 11].as_slice());
+    Ok(())
+}
+
+#[test]
+fn a_sum_may_be_outside_64_bits(rt: HostRuntime) -> Result<(), Fail> {
+    let alloc = rt.alloc();
+    let values = [
+        Poly::sure(alloc, i64::MAX)?,
+        either(alloc, T, &[i64::MAX, i64::MIN])?,
+    ];
+    let found = sums(alloc, &values)?;
+    assert_eq!(rt;
+        found.as_slice(),
+        [18_446_744_073_709_551_614i128, -1].as_slice()
+    );
+    Ok(())
+}
+
+#[test]
+fn no_values_have_the_sum_0(rt: HostRuntime) -> Result<(), Fail> {
+    let found = sums(rt.alloc(), &[])?;
+    assert_eq!(rt; found.as_slice(), [0i128].as_slice());
+    Ok(())
+}
+
+#[test]
+fn nine_outcomes_are_too_many(rt: HostRuntime) -> Result<(), Fail> {
+    let alloc = rt.alloc();
+    let values = ten_of_nine_outcomes(alloc)?;
+    let refused = sums(alloc, &values).err();
+    assert_eq!(rt; refused, Some(SumError::OutcomeLimit(9)));
+    Ok(())
+}
+
+#[test]
+fn each_refusal_has_its_text(rt: HostRuntime) -> Result<(), Fail> {
+    let printed = format!(in rt.alloc(); "{}, {}", SumError::OutcomeLimit(9), SumError::NoMemory)?;
+    assert_eq!(rt; printed.as_str(), "the values name 9 outcomes, no memory");
+    Ok(())
+}
