@@ -16,6 +16,7 @@ pub mod PrepareSends
 pub mod PromiseLemmas
 pub mod Recorded
 pub mod Refused
+pub mod ResumeLemmas
 pub mod RowLemmas
 pub mod Settling
 pub mod SiteLemmas

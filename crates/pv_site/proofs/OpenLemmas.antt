@@ -38,7 +38,6 @@ use Rattle.pv_protocol.specs.Start.{just_started}
 use Rattle.pv_site.specs.Parts.{here_of, running_of, AreTied, IsWorkOf}
 use Rattle.pv_site.specs.SiteState.{setup_of}
 use Rattle.pv_site.specs.declared.parts.Parts.{Parts}
-use Rattle.pv_store.specs.Kept.{Kept}
 use Rattle.pv_store.specs.Refusals.{first_too_many, first_too_many_after, if_too_many, names_count, site_items, too_many_in, width}
 
 sizes : (records : List Record) (contents : Contents) → SpellRecords records contents
@@ -174,27 +173,27 @@ up-to P n below here i within = by (nat_lt i n) refl where
   by false is = let same : i ≡ n = omega (arith, within, ltb-false i n is) in subst P (sym same) here
 
 -- A site that has just begun, with a catalog, locks, a coordinator and a store that are made of these.
-module _ (me : SiteId) (epoch : ℕ) (declared : Declared) (kept : Kept) (parts : Parts) where
+module _ (me : SiteId) (epoch : ℕ) (declared : Declared) (recorded : List Record) (parts : Parts) where
   pub record HaveBegun : Type 0 where
     pub me_is : parts.me ≡ me
     pub catalog : parts.catalog ≡ declared
     pub locks : parts.locks ≡ record { epoch = epoch; next = 0; grants = []; room = record { grants = 0; wants = 0 } }
     pub coord : parts.coord.contents ≡ record { site = me.0; epoch = epoch; next = 0; entries = [] }
-    pub records : parts.store.records ≡ kept.records ++ epoch_begun epoch ∷ []
+    pub records : parts.store.records ≡ recorded
     pub store_site : parts.store.site ≡ me.0
     pub store_catalog : parts.store.catalog ≡ declared
 
   pub begun-here : HaveBegun
-      → here_of parts ≡ record { me = me.0; setup = setup_of declared; records = kept.records ++ epoch_begun epoch ∷ []; running = just_started epoch }
+      → here_of parts ≡ record { me = me.0; setup = setup_of declared; records = recorded; running = just_started epoch }
   begun-here begun =
       ap (λ (m : SiteId). record { me = m.0; setup = setup_of parts.catalog; records = parts.store.records; running = running_of parts.locks parts.coord.contents }) begun.me_is
       ∙ (ap (λ (c : Declared). record { me = me.0; setup = setup_of c; records = parts.store.records; running = running_of parts.locks parts.coord.contents }) begun.catalog
       ∙ (ap (λ (rs : List Record). record { me = me.0; setup = setup_of declared; records = rs; running = running_of parts.locks parts.coord.contents }) begun.records
-      ∙ (ap (λ (l : LockTable). record { me = me.0; setup = setup_of declared; records = kept.records ++ epoch_begun epoch ∷ []; running = running_of l parts.coord.contents }) begun.locks
+      ∙ (ap (λ (l : LockTable). record { me = me.0; setup = setup_of declared; records = recorded; running = running_of l parts.coord.contents }) begun.locks
       ∙ ap (λ (c : Coordinator). record {
         me = me.0;
         setup = setup_of declared;
-        records = kept.records ++ epoch_begun epoch ∷ [];
+        records = recorded;
         running = running_of (record { epoch = epoch; next = 0; grants = []; room = record { grants = 0; wants = 0 } }) c;
       }) begun.coord)))
 

@@ -1,31 +1,26 @@
--- How the parts of an opening join.
-use Rattle.std.proofs.Common.{◌≡◌, inl, inr, refl, sym, subst, ap, ◌∙◌, ℕ, ◌+◌, ◌<◌, ◌≤◌, Bool, true, false, List, [], ◌∷◌, ◌++◌, Some, None, Ok, Err, arith}
-use Rattle.std.specs.Prelude.{nat_le, nat_lt, if◌then◌else◌, All}
+-- When a site starts, and what it then makes of a log that was read.
+use Rattle.std.proofs.Common.{◌≡◌, inl, inr, refl, sym, subst, ap, ◌∙◌, ℕ, ◌+◌, ◌<◌, ◌≤◌, Bool, true, false, List, [], ◌∷◌, ◌++◌, Some, None, Err, arith}
+use Rattle.std.specs.Prelude.{length, nat_le, nat_lt, ◌==◌, if◌then◌else◌}
 use Rattle.std.proofs.lemmas.Bool.Decides.{nat_tests}
 use Rattle.pv_base.specs.Catalog.{Declared}
-use Rattle.pv_base.specs.declared.limits.TheConstants.{NEVER_GIVEN, HELD_NAMES, MAX_SITES}
+use Rattle.pv_base.specs.declared.limits.TheConstants.{NEVER_GIVEN}
 use Rattle.pv_format.specs.Contents.{SpellRecords, greatest_epoch}
-use Rattle.pv_format.specs.Range.{IsRecordWithin}
-use Rattle.pv_protocol.specs.Here.{Here}
 use Rattle.pv_format.specs.Record.{Record, epoch_begun}
 use Rattle.pv_law_disk.specs.LogModel.{LogModel}
 use Rattle.pv_law_disk.proofs.LogLemmas.{Keeps-Adds, Keeps-MayAdd, Keeps-trans}
-use Rattle.pv_law_step.proofs.Lists.{all-from}
 use Rattle.pv_protocol.specs.Records.{journal_bytes, record_bytes}
-use Rattle.pv_protocol.specs.Sound.{IsHereInRange, IsSetupInRange}
 use Rattle.pv_protocol.specs.Start.{just_started, site_start, starting, starts, too_long, no_epoch}
-use Rattle.pv_protocol.specs.State.{Running, Setup}
-use Rattle.pv_protocol.specs.Width.{IsNarrow}
-use Rattle.pv_replay.specs.Values.{records_of}
-use Rattle.pv_site.proofs.LogLemmas.{holds-more, StaysUp-trans, StaysUp-GoesDown}
-use Rattle.pv_site.proofs.OpenLemmas.{narrow-taken, records-in-range, size-journal}
-use Rattle.pv_site.specs.OnLog.{AreReady, HoldsRecords}
-use Rattle.pv_site.specs.Opens.{Begins, HasFound, HasOpened, IsStoreFor, Opens, ReadsPast, ReadsRecords, opened_on, refused_with}
-use Rattle.pv_site.specs.SiteState.{setup_of}
-use Rattle.pv_site.specs.declared.opening.Found.{Found}
+use Rattle.pv_protocol.specs.State.{Setup}
+use Rattle.pv_site.proofs.LogLemmas.{StaysUp-trans, StaysUp-GoesDown}
+use Rattle.pv_site.proofs.OpenLemmas.{size-journal}
+use Rattle.pv_site.specs.OnLog.{HoldsRecords}
+use Rattle.pv_site.specs.Opens.{HasOpened, Opens, ReadsPast, ReadsRecords, refused_with, unopened}
+use Rattle.pv_site.specs.Resumes.{CanResume, HasResumed, Resumes}
+use Rattle.pv_site.specs.SiteState.{SiteState}
+use Rattle.pv_site.specs.declared.error.ResumeError.{ResumeError}
+use Rattle.pv_site.specs.declared.error.ResumeError.TheVariants as resume
 use Rattle.pv_site.specs.declared.opening.Refusal.{Refusal}
 use Rattle.pv_site.specs.declared.opening.Refusal.TheVariants as refusal
-use Rattle.pv_site.specs.declared.parts.Parts.{Parts}
 use Rattle.pv_store.specs.Refusals.{too_many_in}
 
 module _ (setup : Setup) (records : List Record) where
@@ -83,130 +78,70 @@ module _ {W : Type 0} (M : LogModel W) (old mid new : W) (me : ℕ) (catalog : D
   unread (refusal.NotOurs place) read = read
   unread refusal.NoMemory read = (read.0, read.1, record { mid = new; ok = read.2.0; read = read.2.1; room = inl refl })
 
-  -- The store took them not.
-  pub unstored : (found : Found) → HasFound M old new found → (reason : Refusal) → IsStoreFor me catalog (records_of found.past.records.items) (Err reason)
-      → Opens M old me catalog (Err (refused_with new reason))
-  unstored found has refusal.Failed cause = absurd cause
-  unstored found has (refusal.Full length) cause = absurd cause
-  unstored found has refusal.EpochsSpent cause = absurd cause
-  unstored found has (refusal.BadRecord index) cause = absurd cause
-  unstored found has (refusal.TooManyOutcomes count) cause = (records_of found.past.records.items, has.0.0, cause)
-  unstored found has (refusal.NotOurs place) cause = absurd cause
-  unstored found has refusal.NoMemory cause = (has.0.0.up, has.0.0.log, record { mid = new; ok = true; read = has.0.0.call; room = inl refl })
+  module _ (records : List Record) (reads : ReadsRecords M old mid records) where
+    mid-size : M.size mid ≡ journal_bytes records
+    mid-size = reads.log.size ∙ (reads.size ∙ size-journal records reads.contents reads.spelled)
 
-  -- No epoch is left.
-  pub unnumbered : (found : Found) → HasFound M old new found → too_many_in catalog me (records_of found.past.records.items) ≡ None → NEVER_GIVEN ≤ found.past.epoch + 1
-      → Opens M old me catalog (Err (refused_with new refusal.EpochsSpent))
-  unnumbered found has narrow most = (
-    records_of found.past.records.items,
-    has.0.0,
-    (narrow, starts-not (setup_of catalog) (records_of found.past.records.items) (subst (λ epoch. NEVER_GIVEN ≤ epoch + 1) has.1 most)),
-  )
+    held : HoldsRecords M mid records
+    held = record {
+      up = reads.up.is_up;
+      size = mid-size;
+      held = λ contents is. subst (SpellRecords records) (reads.read contents (sym reads.log.contents ∙ is)) reads.spelled;
+    }
 
-  module _ (found : Found) (has : HasFound M old mid found) (limit : M.limit old ≡ catalog.journal) (narrow : too_many_in catalog me (records_of found.past.records.items) ≡ None)
-      (less : found.past.epoch + 1 < NEVER_GIVEN) where
-    mid-size : M.size mid ≡ journal_bytes (records_of found.past.records.items)
-    mid-size = has.0.0.log.size ∙ (has.0.0.size ∙ size-journal (records_of found.past.records.items) has.0.0.contents has.0.0.spelled)
+    -- A site goes on from what was read.
+    pub can-resume : M.is_intact mid → M.limit old ≡ catalog.journal → me < catalog.sites → CanResume M mid (record { me = me; catalog = catalog; records = records })
+    can-resume still limit here = record { intact = still; limit = reads.log.limit ∙ limit; holds = held; site = here }
 
-    less-last : greatest_epoch (records_of found.past.records.items) + 1 < NEVER_GIVEN
-    less-last = subst (λ epoch. epoch + 1 < NEVER_GIVEN) has.1 less
-
-    starts-fitting : M.size mid + record_bytes (epoch_begun (found.past.epoch + 1)) ≤ M.limit mid
-        → site_start (setup_of catalog) (records_of found.past.records.items) ≡ starts (just_started (found.past.epoch + 1)) (epoch_begun (found.past.epoch + 1))
-    starts-fitting fits =
-        subst (λ epoch. site_start (setup_of catalog) (records_of found.past.records.items) ≡ starts (just_started (epoch + 1)) (epoch_begun (epoch + 1))) (sym has.1)
-        (starts-room (setup_of catalog) (records_of found.past.records.items) less-last
-        (omega (arith, subst (λ epoch. M.size mid + record_bytes (epoch_begun (epoch + 1)) ≤ M.limit mid) has.1 fits, mid-size, has.0.0.log.limit, limit)))
-
-    -- The epoch wasn't recorded.
-    pub unbegun : (reason : Refusal) → Begins M mid new me catalog (records_of found.past.records.items) (found.past.epoch + 1) (Err reason)
-        → Opens M old me catalog (Err (refused_with new reason))
-    unbegun refusal.Failed cause = inr (record {
-      contents = has.0.0.contents;
-      records = records_of found.past.records.items;
-      running = just_started (found.past.epoch + 1);
-      epoch = found.past.epoch + 1;
-      content = cause.2.0;
-      read = has.0.0.read;
-      size = has.0.0.size;
-      spelled = has.0.0.spelled;
-      narrow = narrow;
-      starts = starts-fitting cause.0;
-      content_is = cause.2.1;
-      down = StaysUp-GoesDown M old mid new has.0.0.up cause.1;
-      log = Keeps-MayAdd M old mid new intact up has.0.0.log cause.2.0 cause.2.2;
-      mid = mid;
-      kept = has.0.0.log;
-      reading = has.0.0.call;
-      calls = cause.2.3;
-    })
-    unbegun (refusal.Full length) cause = (
-      records_of found.past.records.items,
-      subst (λ log. ReadsRecords M old log (records_of found.past.records.items)) (sym cause.0) has.0.0,
-      (
-        narrow,
-        starts-full (setup_of catalog) (records_of found.past.records.items) less-last length
-            (cause.1 ∙ ap (λ n. n + record_bytes (epoch_begun (found.past.epoch + 1))) mid-size) (subst (λ n. n < length) (has.0.0.log.limit ∙ limit) cause.2),
-      ),
-    )
-    unbegun refusal.EpochsSpent cause = absurd cause
-    unbegun (refusal.BadRecord index) cause = absurd cause
-    unbegun (refusal.TooManyOutcomes count) cause = absurd cause
-    unbegun (refusal.NotOurs place) cause = absurd cause
-    unbegun refusal.NoMemory cause = (
-      StaysUp-trans M old mid new has.0.0.up cause.0,
-      Keeps-trans M old mid new has.0.0.log cause.1,
-      record { mid = mid; ok = true; read = has.0.0.call; room = cause.2 },
-    )
-
-    module _ (parts : Parts) (begun : Begins M mid new me catalog (records_of found.past.records.items) (found.past.epoch + 1) (Ok parts)) where
-      pub starts-now : site_start (setup_of catalog) (records_of found.past.records.items) ≡ starts (just_started (found.past.epoch + 1)) (epoch_begun (found.past.epoch + 1))
-      starts-now = starts-fitting begun.0
-
-      -- The site runs.
-      pub has-opened : HasOpened M old me catalog (opened_on new (record { parts = parts; epoch = found.past.epoch + 1; first = found.first }))
-      has-opened = record {
-        contents = has.0.0.contents;
-        records = records_of found.past.records.items;
-        running = just_started (found.past.epoch + 1);
-        epoch = found.past.epoch + 1;
-        content = begun.4.0;
-        read = has.0.0.read;
-        size = has.0.0.size;
-        spelled = has.0.0.spelled;
+    module _ (narrow : too_many_in catalog me records ≡ None) where
+      -- Where it does, it is opened.
+      pub opened : (first : Bool) → first ≡ (length reads.contents == 0) → (site : SiteState W)
+          → HasResumed M mid (record { me = me; catalog = catalog; records = records }) first site → HasOpened M old me catalog site
+      opened first is site goes = record {
+        contents = reads.contents;
+        records = records;
+        running = goes.running;
+        epoch = goes.epoch;
+        content = goes.content;
+        read = reads.read;
+        size = reads.size;
+        spelled = reads.spelled;
         narrow = narrow;
-        starts = starts-now;
-        site = ap (λ (here : Here). record { me = here.me; catalog = here.setup.catalog; records = here.records; running = Some here.running; epoch = found.past.epoch + 1; first = found.first; log = new }) begun.1
-            ∙ ap (λ (first : Bool). record { me = me; catalog = catalog; records = records_of found.past.records.items ++ epoch_begun (found.past.epoch + 1) ∷ []; running = Some (just_started (found.past.epoch + 1)); epoch = found.past.epoch + 1; first = first; log = new }) has.0.1;
-        content_is = begun.4.1;
-        up = StaysUp-trans M old mid new has.0.0.up begun.3;
-        log = Keeps-Adds M old mid new intact up has.0.0.log begun.4.0 begun.4.2;
-        calls = inr (mid, has.0.0.call, begun.4.3);
+        starts = goes.starts;
+        site = goes.site
+            ∙ ap (λ (empty : Bool). record { me = me; catalog = catalog; records = records ++ epoch_begun goes.epoch ∷ []; running = Some goes.running; epoch = goes.epoch; first = empty; log = site.log }) is;
+        content_is = goes.content_is;
+        up = StaysUp-trans M old mid site.log reads.up goes.up;
+        log = Keeps-Adds M old mid site.log intact up reads.log goes.content goes.log;
+        calls = inr (mid, reads.call, goes.calls);
       }
 
-      held : HoldsRecords M mid (records_of found.past.records.items)
-      held = record {
-        up = has.0.0.up.is_up;
-        size = mid-size;
-        held = λ contents is. subst (SpellRecords (records_of found.past.records.items)) (has.0.0.read contents (sym has.0.0.log.contents ∙ is)) has.0.0.spelled;
-      }
-
-      -- It is ready for its first step.
-      pub begun-ready : M.is_intact new → me < catalog.sites → catalog.sites ≤ MAX_SITES → IsSetupInRange (setup_of catalog)
-          → ((running : Running) (more : Record) → All (IsRecordWithin MAX_SITES) (records_of found.past.records.items) → IsNarrow HELD_NAMES catalog me (records_of found.past.records.items)
-          → site_start (setup_of catalog) (records_of found.past.records.items) ≡ starts running more
-          → IsHereInRange MAX_SITES (record { me = me; setup = setup_of catalog; records = records_of found.past.records.items ++ more ∷ []; running = running }))
-          → AreReady M new parts
-      begun-ready still here most setup law = record {
-        intact = still;
-        limit = begun.4.2.limit ∙ (has.0.0.log.limit ∙ (limit ∙ sym (ap (λ (here : Here). here.setup.catalog.journal) begun.1)));
-        holds = subst (HoldsRecords M new) (sym (ap (λ (here : Here). here.records) begun.1))
-            (holds-more M mid new (records_of found.past.records.items) (epoch_begun (found.past.epoch + 1)) begun.4.0 begun.3 begun.4.2 begun.4.1 held);
-        sound = record {
-          tied = begun.2;
-          range = subst (IsHereInRange MAX_SITES) (sym begun.1)
-              (law (just_started (found.past.epoch + 1)) (epoch_begun (found.past.epoch + 1))
-              (all-from (IsRecordWithin MAX_SITES) (records_of found.past.records.items) (records-in-range (records_of found.past.records.items) has.0.0.contents has.0.0.spelled))
-              (narrow-taken catalog me (records_of found.past.records.items) narrow) starts-now);
-        };
-      }
+      -- And where it doesn't, it isn't.
+      pub unopened-as : (first : Bool) (error : ResumeError W) → Resumes M mid (record { me = me; catalog = catalog; records = records }) first (Err error)
+          → Opens M old me catalog (Err (unopened error))
+      unopened-as first (resume.Failed log left) (same, fails) = inr (record {
+        contents = reads.contents;
+        records = records;
+        running = fails.running;
+        epoch = fails.epoch;
+        content = fails.content;
+        read = reads.read;
+        size = reads.size;
+        spelled = reads.spelled;
+        narrow = narrow;
+        starts = fails.starts;
+        content_is = fails.content_is;
+        down = StaysUp-GoesDown M old mid log reads.up fails.down;
+        log = Keeps-MayAdd M old mid log intact up reads.log fails.content fails.log;
+        mid = mid;
+        kept = reads.log;
+        reading = reads.call;
+        calls = fails.calls;
+      })
+      unopened-as first (resume.Full log left length) refused = (records, subst (λ w. ReadsRecords M old w records) (sym refused.0) reads, (narrow, refused.2))
+      unopened-as first (resume.EpochsSpent log left) refused = (records, subst (λ w. ReadsRecords M old w records) (sym refused.0) reads, (narrow, refused.2))
+      unopened-as first (resume.NoMemory log) stays = (
+        StaysUp-trans M old mid log reads.up stays.0,
+        Keeps-trans M old mid log reads.log stays.1,
+        record { mid = mid; ok = true; read = reads.call; room = stays.2 },
+      )

@@ -1,9 +1,14 @@
 -- What a step is given is in range, and what it leaves is sound.
-use Rattle.std.proofs.Common.{◌≡◌, sym, subst, ℕ, ◌<◌, List, [], ◌∷◌, map, Result, Ok, Err}
-use Rattle.std.specs.Prelude.{All, IfOk}
+use Rattle.std.proofs.Common.{◌≡◌, refl, sym, ap, subst, ◌∙◌, ℕ, ◌<◌, List, [], ◌∷◌, ◌++◌, map, Option, Result, Ok, Err}
+use Rattle.std.specs.Prelude.{All, IfOk, option_to_list}
+use Rattle.std.proofs.lemmas.List.{append-nil}
 use Rattle.std.specs.List.{AllPairs}
 use Rattle.std.proofs.lemmas.List.Elements.{All-contains}
+use Rattle.pv_format.specs.Contents.{greatest_epoch}
+use Rattle.pv_format.specs.Record.{Record, prepared, outcome_known}
+use Rattle.pv_law_step.proofs.EpochLemmas.{epoch-stays}
 use Rattle.pv_law_step.proofs.Lists.{all-from}
+use Rattle.pv_law_step.specs.Appends.{Appends, nothing_at_all, an_outcome, a_promise}
 use Rattle.pv_base.proofs.MapLemmas.{Contains-map}
 use Rattle.pv_base.proofs.OrderLemmas.{pairs-nil, pairs-cons, pairs-first, pairs-tail}
 use Rattle.pv_base.specs.Catalog.{Declared}
@@ -18,7 +23,7 @@ use Rattle.pv_law_disk.specs.LogModel.{LogModel}
 use Rattle.pv_protocol.specs.Here.{Here}
 use Rattle.pv_protocol.specs.Sound.{IsHereInRange, IsInputInRange}
 use Rattle.pv_protocol.specs.State as model
-use Rattle.pv_protocol.specs.Step.{after_step}
+use Rattle.pv_protocol.specs.Step.{after_step, records_after}
 use Rattle.pv_site.specs.Answer.{IsAnswer}
 use Rattle.pv_site.specs.Inputs.{IsInputFor, IsSpelledFrom}
 use Rattle.pv_site.specs.OnLog.{StepsOnLog}
@@ -95,3 +100,23 @@ module _ {W : Type 0} (M : LogModel W) (log_old log_new : W) (old new : Parts) (
       → IfOk result (λ answer. All (IsSpelledFrom me) answer.sends.items)
   spelled-after me (Ok answer) made spelled = sends-spelled me step answer made.1 spelled
   spelled-after me (Err error) made spelled = tt
+
+  -- What a step appends begins no epoch.
+  after-appended : (here : Here) → Appends here step.appended → greatest_epoch (records_after here.records step) ≡ greatest_epoch here.records
+  after-appended here appends = by step.appended appends
+    where
+      by : (more : Option Record) → Appends here more → greatest_epoch (here.records ++ option_to_list more) ≡ greatest_epoch here.records
+      by more nothing_at_all = ap greatest_epoch (append-nil here.records)
+      by more (an_outcome txn commits room) = epoch-stays here.records (outcome_known txn commits) refl
+      by more (a_promise txn writes is room) = epoch-stays here.records (prepared txn writes) refl
+
+  kept-recorded : AreKept old new → greatest_epoch new.store.records ≡ greatest_epoch old.store.records
+  kept-recorded kept = ap (λ (here : Here). greatest_epoch here.records) kept.here
+
+  -- So the greatest epoch stays.
+  pub recorded-after : (result : Result Step StepError) → StepsOnLog M log_old log_new old new step result → Appends (here_of old) step.appended
+      → greatest_epoch new.store.records ≡ greatest_epoch old.store.records
+  recorded-after (Ok answer) made appends = ap (λ (here : Here). greatest_epoch here.records) made.0.here ∙ after-appended (here_of old) appends
+  recorded-after (Err Fault) made appends = kept-recorded made.0
+  recorded-after (Err Down) made appends = absurd made
+  recorded-after (Err NoMemory) made appends = kept-recorded made.0

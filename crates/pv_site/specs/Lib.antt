@@ -11,7 +11,10 @@ pub mod LockPoint
 pub mod OnLog
 pub mod Opens
 pub mod Parts
+pub mod Recovered
+pub mod RecoveredView
 pub mod Refusals
+pub mod Resumes
 pub mod Room
 pub mod Shares
 pub mod SiteState

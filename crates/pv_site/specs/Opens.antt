@@ -1,5 +1,5 @@
 -- What opening a site does, by its answer.
-use Rattle.std.specs.Prelude.{◌≡◌, ◌⊎◌, ℕ, ◌+◌, ◌<◌, ◌≤◌, ◌++◌, ◌∷◌, [], Bool, true, false, List, Some, None, is_some, length, ◌==◌, ◌≢◌, ◌-◌, ◌^◌, min, Result, Ok, Err, ⊤}
+use Rattle.std.specs.Prelude.{◌≡◌, ◌⊎◌, ℕ, ◌++◌, ◌∷◌, [], Bool, true, false, List, Some, None, is_some, length, ◌==◌, ◌≢◌, ◌-◌, ◌^◌, min, Result, Ok, Err}
 use Rattle.pv_base.specs.Catalog.{Declared}
 use Rattle.pv_format.specs.Contents.{SpellRecords, IsFirstBadContent, greatest_epoch}
 use Rattle.pv_format.specs.Record.{Record, epoch_begun}
@@ -8,20 +8,18 @@ use Rattle.pv_law_disk.specs.Calls.{Makes, read_all}
 use Rattle.pv_law_disk.specs.Log.{Keeps, Adds, MayAdd, StaysUp, GoesDown}
 use Rattle.pv_law_disk.specs.LogModel.{LogModel}
 use Rattle.pv_law_disk.specs.Size.{Contents, size_of}
-use Rattle.pv_protocol.specs.Records.{record_bytes}
-use Rattle.pv_protocol.specs.Start.{just_started, site_start, starts, too_long, no_epoch}
+use Rattle.pv_protocol.specs.Start.{site_start, starts, too_long, no_epoch}
 use Rattle.pv_protocol.specs.State.{Running}
-use Rattle.pv_store.specs.Kept.{Kept}
 use Rattle.pv_store.specs.Refusals.{too_many_in}
-use Rattle.pv_site.specs.Calls.{append_calls, AsksFor, FailsToAppend, MayReserve}
+use Rattle.pv_site.specs.Calls.{append_calls, AsksFor, FailsToAppend}
 use Rattle.pv_site.specs.SiteState.{SiteState, setup_of}
 use Rattle.pv_replay.specs.Values.{records_of}
 use Rattle.pv_site.specs.declared.opening.Found.{Found}
-use Rattle.pv_site.specs.declared.opening.Opened.{Opened}
+use Rattle.pv_site.specs.declared.opening.Loaded.{Loaded}
 use Rattle.pv_site.specs.declared.opening.Refusal.{Refusal}
 use Rattle.pv_site.specs.declared.opening.Refusal.TheVariants as refusal
-use Rattle.pv_site.specs.Parts.{here_of, AreTied}
-use Rattle.pv_site.specs.declared.parts.Parts.{Parts}
+use Rattle.pv_site.specs.declared.error.ResumeError.{ResumeError}
+use Rattle.pv_site.specs.declared.error.ResumeError.TheVariants as resume
 use Rattle.pv_site.specs.declared.error.OpenError.{OpenError}
 use Rattle.pv_site.specs.declared.error.OpenError.TheVariants.{Failed, Full, EpochsSpent, BadRecord, TooManyOutcomes, NotOurs, NoMemory}
 
@@ -141,23 +139,6 @@ module _ {W : Type 0} (M : LogModel W) where
       RefusesRecords old me catalog log (λ records. (too_many_in catalog me records ≡ None) × (site_start (setup_of catalog) records ≡ too_long length))
   Opens old me catalog (Err (NoMemory log)) = StaysUp M old log × Keeps M old log × AsksFor M old log
 
-module _ {W : Type 0} (M : LogModel W) where
-  -- A beginning in an epoch, by its answer: the epoch is recorded, and the site has nothing else in memory; or why not.
-  abbrev pub Begins : W → W → ℕ → Declared → List Record → ℕ → Result Parts Refusal → Type 0
-  Begins old new me catalog records epoch (Ok parts) =
-      let more = epoch_begun epoch in
-      (M.size old + record_bytes more ≤ M.limit old)
-      × (here_of parts ≡ record { me = me; setup = setup_of catalog; records = records ++ more ∷ []; running = just_started epoch })
-      × AreTied parts × StaysUp M old new
-      × ((content : List ℕ) × SpellsRecord more content × Adds M old new content × Makes M.goes old (append_calls content) true new)
-  Begins old new me catalog records epoch (Err (refusal.Full length)) =
-      (new ≡ old) × (length ≡ M.size old + record_bytes (epoch_begun epoch)) × (M.limit old < length)
-  Begins old new me catalog records epoch (Err refusal.Failed) =
-      (M.size old + record_bytes (epoch_begun epoch) ≤ M.limit old) × GoesDown M old new
-      × ((content : List ℕ) × SpellsRecord (epoch_begun epoch) content × MayAdd M old new content × FailsToAppend M old new content)
-  Begins old new me catalog records epoch (Err refusal.NoMemory) = StaysUp M old new × Keeps M old new × MayReserve M old new
-  Begins old new me catalog records epoch (Err other) = ⊥
-
 -- the refusal, with which the log comes back
 abbrev pub refused_with : {W : Type 0} → W → Refusal → OpenError W
 refused_with log refusal.Failed = Failed log
@@ -178,27 +159,16 @@ log_in (TooManyOutcomes log count) = log
 log_in (NotOurs log place) = log
 log_in (NoMemory log) = log
 
--- the site that runs over the log
-abbrev pub opened_on : {W : Type 0} → W → Opened → SiteState W
-opened_on log opened = record {
-  me = opened.parts.me.0;
-  catalog = opened.parts.catalog;
-  records = opened.parts.store.records;
-  running = Some (here_of opened.parts).running;
-  epoch = opened.epoch;
-  first = opened.first;
-  log = log;
-}
+-- What the records of a log say, or why a site with this log isn't opened.
+abbrev pub Loads : {W : Type 0} → LogModel W → W → W → ℕ → Declared → Result Loaded Refusal → Type 0
+Loads M old new me catalog (Ok loaded) =
+    (records : List Record) × (loaded.left ≡ record { me = me; catalog = catalog; records = records })
+    × ((read : ReadsRecords M old new records) × (loaded.first ≡ (length read.contents == 0))) × (too_many_in catalog me records ≡ None)
+Loads M old new me catalog (Err reason) = Opens M old me catalog (Err (refused_with new reason))
 
--- An opening, by its answer, where the log is beside it.
-abbrev pub OpensBy : {W : Type 0} → LogModel W → W → W → ℕ → Declared → Result Opened Refusal → Type 0
-OpensBy M old new me catalog (Ok opened) = Opens M old me catalog (Ok (opened_on new opened))
-OpensBy M old new me catalog (Err reason) = Opens M old me catalog (Err (refused_with new reason))
-
--- The store of a site with these records, or why there is none.
-abbrev pub IsStoreFor : ℕ → Declared → List Record → Result Kept Refusal → Type 0
-IsStoreFor me catalog records (Ok store) =
-    (store.site ≡ me) × (store.catalog ≡ catalog) × (store.records ≡ records) × (too_many_in catalog me records ≡ None)
-IsStoreFor me catalog records (Err (refusal.TooManyOutcomes count)) = too_many_in catalog me records ≡ Some count
-IsStoreFor me catalog records (Err refusal.NoMemory) = ⊤
-IsStoreFor me catalog records (Err other) = ⊥
+-- why the site isn't opened, where it doesn't go on from what was read
+abbrev pub unopened : {W : Type 0} → ResumeError W → OpenError W
+unopened (resume.Failed log left) = Failed log
+unopened (resume.Full log left length) = Full log length
+unopened (resume.EpochsSpent log left) = EpochsSpent log
+unopened (resume.NoMemory log) = NoMemory log

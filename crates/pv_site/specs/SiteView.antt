@@ -1,5 +1,6 @@
 -- What the fields of a site say.
 use Rattle.std.specs.Prelude.{◌≡◌, Bool, true, false, [], Option, Some, None}
+use Rattle.pv_format.specs.Contents.{greatest_epoch}
 use Rattle.pv_protocol.specs.State.{Running}
 use Rattle.pv_site.specs.Parts.{here_of, AreSound}
 use Rattle.pv_site.specs.SiteState.{SiteState}
@@ -21,9 +22,10 @@ state_of inside = record {
   log = inside.log;
 }
 
--- The parts are sound, and of the site's epoch. Where the site is down there is nothing in memory.
+-- The parts are sound, and of the site's epoch, which is the greatest of its records. Where the site is down there is nothing in memory.
 pub record IsSite {W : Type 0} (inside : Inside W) : Type 0 where
   pub sound : AreSound inside.parts
   pub epoch : inside.parts.locks.epoch ≡ inside.epoch
+  pub recorded : greatest_epoch inside.parts.store.records ≡ inside.epoch
   pub grants : inside.down ≡ true → inside.parts.locks.grants ≡ []
   pub entries : inside.down ≡ true → inside.parts.coord.contents.entries ≡ []

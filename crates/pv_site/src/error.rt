@@ -1,4 +1,5 @@
 // Why a site made no step.
+use crate::Recovered;
 use pv_base::NoMemory;
 use pv_disk::Log;
 use std::alloc::{AllocError, AllocFailed};
@@ -79,6 +80,20 @@ pub enum OpenError<L: Log> {
     /// What was read isn't the log's: the log said so of this place, or what was read has this length and the log has another. It never comes
     /// from a log of which it is known what it holds.
     NotOurs(L, u64),
+    /// There was no memory.
+    NoMemory(L),
+}
+
+/// Why a site didn't go on from what outlived its memory. The log comes back in each case, and what outlived the memory too, as it was, unless
+/// there was no memory. The causes are tested in the order of [`Site::resume`](crate::Site::resume).
+#[derive(Drop)]
+pub enum ResumeError<L: Log> {
+    /// The log failed, which was counted. It holds the record of the new epoch, or it doesn't.
+    Failed(L, Recovered),
+    /// The log would have this length with the record of the new epoch, above its limit.
+    Full(L, Recovered, u64),
+    /// No epoch is left: the last one is at least 4,294,967,294.
+    EpochsSpent(L, Recovered),
     /// There was no memory.
     NoMemory(L),
 }

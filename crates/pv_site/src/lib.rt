@@ -15,6 +15,7 @@ mod locking;
 mod numbers;
 mod opening;
 mod parts;
+mod recovered;
 mod refusing;
 mod site;
 mod sure;
@@ -22,12 +23,13 @@ mod taking;
 mod ticking;
 
 pub use crashes::crashes_leave_before_or_after;
-pub use error::{OpenError, StepError};
+pub use error::{OpenError, ResumeError, StepError};
 pub use input::{Cause, Input, Note, Outgoing, Shown, Step};
 pub use lists::lists_fail_as_planned;
-pub use opening::setup_is_in_range;
+pub use opening::{logs_tell_of_records, setup_is_in_range};
 pub use pv_poly::Read;
 pub use pv_wire::{Message, NoCause};
+pub use recovered::Recovered;
 pub use site::Site;
 
 #[cfg(test)]

@@ -1,24 +1,21 @@
-// How a site is opened on its log: it goes on from what its records say, in a new epoch.
-ghost use Rattle.std.specs.Prelude.{◌≡◌, ◌<◌, ◌≤◌, ◌+◌, ◌-◌, ◌^◌, ◌==◌, min, length, false, Ok, Err, IfOk};
-ghost use Rattle.pv_format.specs.Contents.{greatest_epoch};
-ghost use Rattle.pv_law_disk.specs.Size.{size_of};
+// What a site that is opened reads of its log, and why it isn't opened.
+ghost use Rattle.std.specs.Prelude.{◌≡◌, ◌+◌, ◌-◌, ◌^◌, min, length, false, All, List};
+ghost use Rattle.pv_format.specs.Contents.{SpellRecords};
+ghost use Rattle.pv_format.specs.Range.{IsRecordInRange};
+ghost use Rattle.pv_format.specs.Record.{Record};
+ghost use Rattle.pv_law_disk.specs.Size.{Contents, size_of};
+ghost use Rattle.pv_protocol.specs.Records.{journal_bytes};
 ghost use Rattle.pv_protocol.specs.Sound.{IsSetupInRange};
-ghost use Rattle.pv_replay.specs.Values.{contents_of, records_of};
-ghost use Rattle.pv_site.specs.OnLog.{AreReady};
-ghost use Rattle.pv_site.specs.Opens.{Begins, IsStoreFor, OpensBy, ReadsPast, refused_with};
+ghost use Rattle.pv_replay.specs.Values.{contents_of};
+ghost use Rattle.pv_site.specs.Opens.{Loads, ReadsPast, refused_with, unopened};
 ghost use Rattle.pv_site.specs.SiteState.{setup_of};
 
-use crate::appending::{Written, write};
-use crate::parts::Parts;
-use crate::{OpenError, StepError};
-use pv_base::{Catalog, ItemId, NEVER_GIVEN, NoMemory, SiteId};
-use pv_coord::Coord;
+use crate::{OpenError, Recovered, ResumeError};
+use pv_base::{Catalog, ItemId, SiteId};
 use pv_disk::{Log, LogError};
-use pv_law_step::starts_are_sound;
-use pv_locks::Locks;
 use pv_replay::{Past, ReplayError, replay};
-use pv_store::{Store, StoreError};
-use std::alloc::{AllocError, Global};
+use pv_store::StoreError;
+use std::alloc::Global;
 
 // Why a site isn't opened, as `OpenError` says, beside the log that comes back.
 #[derive(Clone, Copy, Debug, PartialEq, Eq)]
@@ -56,23 +53,21 @@ impl Refusal {
     }
 }
 
-// A site that runs, beside its log.
-#[derive(Drop)]
-pub(crate) struct Opened {
-    /// What it has in memory, and what its records say.
-    pub(crate) parts: Parts,
-    /// The epoch in which it was opened.
-    pub(crate) epoch: u32,
-    /// Whether nothing was read.
-    pub(crate) first: bool,
-}
-
 // What was read from a log.
 #[derive(Debug, Drop)]
 pub(crate) struct Found {
     /// The records, and the greatest epoch.
     pub(crate) past: Past,
     /// Whether there are none.
+    pub(crate) first: bool,
+}
+
+// What the records of a log say.
+#[derive(Drop)]
+pub(crate) struct Loaded {
+    /// What is left of the site.
+    pub(crate) left: Recovered,
+    /// Whether there are no records.
     pub(crate) first: bool,
 }
 
@@ -122,93 +117,41 @@ fn longer(before: u64, content: &[u8]) -> u64
     before.saturating_add(5 + content.len() as u64)
 }
 
-// The store of the records.
-fn store_of(alloc: Global, site: SiteId, catalog: &Catalog, past: &Past) -> Result<Store, Refusal>
-    ensures { IsStoreFor site.0 catalog.now (records_of past.now.records.items) result }
-{
-    let mut store = Store::new(alloc, catalog, site)?;
-    match store.load(past) {
-        Ok(()) => Ok(store),
-        Err(StoreError::TooManyOutcomes(count)) => Err(Refusal::TooManyOutcomes(count)),
-        Err(StoreError::NoMemory) => Err(Refusal::NoMemory),
-    }
-}
-
-// Records the epoch, and begins in it with nothing in memory.
-fn begin<L: Log>(
+// Reads the records of the log, and loads them.
+pub(crate) fn load<L: Log>(
     log: &mut L,
     alloc: Global,
     site: SiteId,
     catalog: &Catalog,
-    store: Store,
-    epoch: u32,
-) -> Result<Parts, Refusal>
+) -> Result<Loaded, Refusal>
     requires intact { L.model.is_intact log.old }
     requires up { L.model.is_down log.old ≡ false }
-    requires first { 1 ≤ epoch }
-    requires site { store.site ≡ site.0 }
-    requires catalog { store.catalog ≡ catalog.now }
-    ensures begun { Begins L.model log.old log.new site.0 catalog.now store.records epoch result }
+    ensures loaded { Loads L.model log.old log.new site.0 catalog.now result }
     ensures intact { L.model.is_intact log.new }
-{
-    let mut store = store;
-    let catalog = catalog.copy()?;
-    let change = store.plan_epoch(epoch);
-    match write(log, alloc, change.record()) {
-        Ok(Written::Done) => {
-            store.apply(change);
-            Ok(Parts {
-                me: site,
-                catalog,
-                locks: Locks::new(alloc, epoch, 0),
-                coord: Coord::new(alloc, site, epoch, 0),
-                store,
-            })
-        }
-        Ok(Written::Full(length)) => Err(Refusal::Full(length)),
-        Err(StepError::Fault) => Err(Refusal::Failed),
-        Err(StepError::NoMemory) => Err(Refusal::NoMemory),
-        Err(StepError::Down) => unreachable!(),
-    }
-}
-
-// The site runs on what was read of its log, in the epoch after the last one.
-pub(crate) fn start<L: Log>(
-    log: &mut L,
-    alloc: Global,
-    site: SiteId,
-    catalog: &Catalog,
-) -> Result<Opened, Refusal>
-    requires intact { L.model.is_intact log.old }
-    requires up { L.model.is_down log.old ≡ false }
-    requires limit { L.model.limit log.old ≡ catalog.now.journal }
-    requires site { site.0 < catalog.now.sites }
-    ensures opened { OpensBy L.model log.old log.new site.0 catalog.now result }
-    ensures intact { L.model.is_intact log.new }
-    ensures ready { IfOk result (λ opened. AreReady L.model log.new opened.parts) }
-    ensures epoch { IfOk result (λ opened. opened.parts.locks.epoch ≡ opened.epoch) }
 {
     let found = match read_past(log, alloc) {
         Ok(found) => found,
         Err(refusal) => return Err(refusal),
     };
-    let store = match store_of(alloc, site, catalog, &found.past) {
-        Ok(store) => store,
-        Err(refusal) => return Err(refusal),
-    };
-    if found.past.epoch >= NEVER_GIVEN - 1 {
-        return Err(Refusal::EpochsSpent);
-    }
-    let epoch = found.past.epoch + 1;
-    setup_is_in_range(catalog);
-    starts_are_sound();
-    match begin(log, alloc, site, catalog, store, epoch) {
-        Ok(parts) => Ok(Opened {
-            parts,
-            epoch,
+    match Recovered::of(alloc, site, catalog, &found.past) {
+        Ok(left) => Ok(Loaded {
+            left,
             first: found.first,
         }),
-        Err(refusal) => Err(refusal),
+        Err(StoreError::TooManyOutcomes(count)) => Err(Refusal::TooManyOutcomes(count)),
+        Err(StoreError::NoMemory) => Err(Refusal::NoMemory),
+    }
+}
+
+// Why the site isn't opened, where it doesn't go on from what was read.
+pub(crate) fn unopened<L: Log>(error: ResumeError<L>) -> OpenError<L>
+    ensures { result ≡ unopened error }
+{
+    match error {
+        ResumeError::Failed(log, _) => OpenError::Failed(log),
+        ResumeError::Full(log, _, length) => OpenError::Full(log, length),
+        ResumeError::EpochsSpent(log, _) => OpenError::EpochsSpent(log),
+        ResumeError::NoMemory(log) => OpenError::NoMemory(log),
     }
 }
 
@@ -224,13 +167,8 @@ pub fn setup_is_in_range(catalog: &Catalog)
     }
 }
 
-impl From<NoMemory> for Refusal {
-    ghost use Rattle.std.specs.Prelude.{◌≡◌};
-    ghost use Rattle.pv_site.specs.declared.opening.Refusal.TheVariants as refusal;
-
-    ghost from_gives = { λ _ e. e ≡ refusal.NoMemory };
-
-    fn from(_: NoMemory) -> Self {
-        Refusal::NoMemory
-    }
-}
+/// Shows of contents that spell records: a log with them is as long as the records make it, and the records are in range. It computes nothing.
+pub fn logs_tell_of_records()
+    ensures size { (records : List Record) (contents : Contents) → SpellRecords records contents → size_of contents ≡ journal_bytes records }
+    ensures range { (records : List Record) (contents : Contents) → SpellRecords records contents → All IsRecordInRange records }
+{}

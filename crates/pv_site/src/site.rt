@@ -8,18 +8,21 @@ ghost use Rattle.pv_protocol.specs.WellFormed.{CanRun};
 ghost use Rattle.pv_site.specs.Asked.{grant_held, grant_taken, voting_at, IsIdle, Shows};
 ghost use Rattle.pv_site.specs.Inputs.{IsInputFor, IsSpelledFrom};
 ghost use Rattle.pv_site.specs.Opens.{Opens, log_in};
+ghost use Rattle.pv_site.specs.Resumes.{CanResume, Resumes, log_left};
 ghost use Rattle.pv_site.specs.Steps.{IsReady, Steps};
 ghost use Rattle.pv_site.specs.Values.{input_of};
 
 use crate::numbers::has_small_numbers;
-use crate::opening::start;
+use crate::opening::{Loaded, load, setup_is_in_range, unopened};
 use crate::parts::Parts;
+use crate::recovered::{Advanced, Begun};
 use crate::taking::take;
-use crate::{Input, OpenError, Shown, Step, StepError};
+use crate::{Input, OpenError, Recovered, ResumeError, Shown, Step, StepError};
 use pv_ast::Program;
 use pv_base::{Catalog, GrantId, ItemId, SiteId, TxnId};
 use pv_check::{Plan, fits};
 use pv_disk::Log;
+use pv_law_step::starts_are_sound;
 use std::alloc::Global;
 use std::marker::Model;
 
@@ -93,16 +96,65 @@ impl<L: Log> Site<L> {
         ensures intact { IfErr result (λ refused. L.model.is_intact (log_in refused)) }
     {
         let mut log = log;
-        match start(&mut log, alloc, site, catalog) {
-            Ok(opened) => Ok(Site {
-                alloc,
-                log,
-                parts: opened.parts,
-                epoch: opened.epoch,
-                first: opened.first,
-                down: false,
-            }),
-            Err(refusal) => Err(refusal.with(log)),
+        let Loaded { left, first } = match load(&mut log, alloc, site, catalog) {
+            Ok(loaded) => loaded,
+            Err(refusal) => return Err(refusal.with(log)),
+        };
+        match Site::go_on(alloc, log, left, first) {
+            Ok(site) => Ok(site),
+            Err(error) => Err(unopened(error)),
+        }
+    }
+
+    /// The site goes on from what outlived its memory, in the epoch after the last one, which it records. It has no grants and no entries, and it
+    /// reads nothing of the log. Takes the time of one append.
+    ///
+    /// The log is as the site left it: it isn't down, its limit is the catalog's, and it holds the records. It comes back in each refusal, with
+    /// what outlived the memory, as that was:
+    ///
+    /// 1. [`ResumeError::EpochsSpent`]: the last epoch is 4,294,967,294 or more.
+    /// 2. [`ResumeError::Full`]: there is no room for the record of the epoch.
+    /// 3. [`ResumeError::Failed`]: the log failed at that record, which it holds or doesn't.
+    ///
+    /// [`ResumeError::NoMemory`] may come in place of the last two, and has the log alone.
+    pub fn resume(alloc: Global, log: L, left: Recovered) -> Result<Site<L>, ResumeError<L>>
+        requires { CanResume L.model log left }
+        ensures resumed { Resumes L.model log left false result }
+        ensures ready { IfOk result (IsReady L.model) }
+        ensures intact { IfErr result (λ refused. L.model.is_intact (log_left refused)) }
+    {
+        Site::go_on(alloc, log, left, false)
+    }
+
+    // Goes on from what is left. It is said whether the log was found empty.
+    fn go_on(alloc: Global, log: L, left: Recovered, first: bool) -> Result<Site<L>, ResumeError<L>>
+        requires { CanResume L.model log left }
+        ensures resumed { Resumes L.model log left first result }
+        ensures ready { IfOk result (IsReady L.model) }
+        ensures intact { IfErr result (λ refused. L.model.is_intact (log_left refused)) }
+    {
+        setup_is_in_range(&left.catalog);
+        starts_are_sound();
+        let mut log = log;
+        let mut left = left;
+        match left.advance(&mut log, alloc) {
+            Ok(Advanced::Done) => {
+                let Begun { parts, epoch } = left.begin(alloc);
+                Ok(Site {
+                    alloc,
+                    log,
+                    parts,
+                    epoch,
+                    first,
+                    down: false,
+                })
+            }
+            Ok(Advanced::Full(length)) => Err(ResumeError::Full(log, left, length)),
+            Ok(Advanced::Spent) => Err(ResumeError::EpochsSpent(log, left)),
+            Err(StepError::Fault) => Err(ResumeError::Failed(log, left)),
+            Err(StepError::NoMemory) => Err(ResumeError::NoMemory(log)),
+            // The log isn't down.
+            Err(StepError::Down) => unreachable!(),
         }
     }
 
@@ -201,6 +253,13 @@ impl<L: Log> Site<L> {
         self.parts.any_stands() || self.parts.store.any()
     }
 
+    /// The log's length in bytes.
+    pub fn length(&self) -> u64
+        ensures { result ≡ L.model.size self.now.log }
+    {
+        self.log.length()
+    }
+
     /// The epoch in which the site was opened.
     pub fn epoch(&self) -> u32
         ensures { result ≡ self.now.epoch }
@@ -208,7 +267,7 @@ impl<L: Log> Site<L> {
         self.epoch
     }
 
-    /// Whether the opening read no contents: the log was empty.
+    /// Whether the opening read no contents: the log was empty. A site that goes on by [`resume`](Site::resume) says that it is not so.
     pub fn first(&self) -> bool
         ensures { result ≡ self.now.first }
     {
@@ -229,5 +288,34 @@ impl<L: Log> Site<L> {
         ensures { result ≡ self.log }
     {
         self.log
+    }
+
+    /// The log, and what outlives the site's memory, which is given up: [`resume`](Site::resume) goes on from it without reading the log. Of a site
+    /// that is down it says what the records were before the log failed.
+    pub fn leave(self) -> (L, Recovered)
+        ensures log { result.0 ≡ self.log }
+        ensures left { result.1 ≡ record { me = self.me; catalog = self.catalog; records = self.records } }
+    {
+        let Site {
+            log,
+            parts,
+            epoch,
+            ..
+        } = self;
+        let Parts {
+            me,
+            catalog,
+            store,
+            ..
+        } = parts;
+        (
+            log,
+            Recovered {
+                me,
+                catalog,
+                store,
+                epoch,
+            },
+        )
     }
 }

@@ -1,5 +1,6 @@
 // What a site that is up makes of an input.
 ghost use Rattle.std.specs.Prelude.{◌≡◌, All, IfOk};
+ghost use Rattle.pv_format.specs.Contents.{greatest_epoch};
 ghost use Rattle.pv_format.specs.Range.{IsEnvelopeInRange};
 ghost use Rattle.pv_protocol.specs.Step.{on_message, step_on};
 ghost use Rattle.pv_site.specs.Inputs.{IsInputFor, IsSpelledFrom};
@@ -15,7 +16,9 @@ use crate::parts::Parts;
 use crate::{Input, Message, Step, StepError};
 use pv_base::SiteId;
 use pv_disk::Log;
-use pv_law_step::{few_inputs_append, numbers_rise, sends_are_spelled, steps_stay_sound};
+use pv_law_step::{
+    appends_what_it_may, few_inputs_append, numbers_rise, sends_are_spelled, steps_stay_sound,
+};
 use std::alloc::Global;
 
 // The step of the site on the input. Its parts stay sound, and what it sends has spellings.
@@ -31,11 +34,13 @@ pub(crate) fn take<L: Log>(
     ensures intact { L.model.is_intact log.new }
     ensures sound { AreSound parts.new }
     ensures epoch { parts.new.locks.epoch ≡ parts.old.locks.epoch }
+    ensures recorded { greatest_epoch parts.new.store.records ≡ greatest_epoch parts.old.store.records }
     ensures spelled { IfOk result (λ step. All (IsSpelledFrom parts.old.me.0) step.sends.items) }
 {
     steps_stay_sound();
     sends_are_spelled();
     numbers_rise();
+    appends_what_it_may();
     step_on(log, parts, alloc, input)
 }
 

@@ -9,9 +9,9 @@ use Rattle.pv_journal.specs.JournalModel.{journal_model}
 use Rattle.pv_journal.specs.declared.journal.Journal.{Journal}
 use Rattle.pv_protocol.specs.State as model
 use Rattle.pv_protocol.specs.State.{Running}
+use Rattle.pv_site.specs.Recovered.{Remains}
 use Rattle.pv_site.specs.SiteState.{SiteState}
 use Rattle.pv_site.specs.Steps.{HoldsWhatRuns}
-use Rattle.pv_store.specs.Kept.{Kept}
 use Rattle.pv_world.specs.Disks.{Spells, armed_as}
 use Rattle.pv_world.specs.Stands.{IsDown, IsUp}
 
@@ -72,8 +72,8 @@ module _ (catalog : Declared) (n : ℕ) (is : model.Site) (armed : Option model.
       subst (λ (log : Journal MemState). IsUp catalog n (record up { log = log }) (record is { arm = armed })) (sym lent) (up-rearmed up stands)
 
   -- One that is down.
-  pub down-rearmed : (disk : MemState) (store : Kept) → IsDown catalog n disk store is → IsDown catalog n (rearmed disk armed) store (record is { arm = armed })
-  down-rearmed disk store stands = record {
+  pub down-rearmed : (disk : MemState) (left : Remains) → IsDown catalog n disk left is → IsDown catalog n (rearmed disk armed) left (record is { arm = armed })
+  down-rearmed disk left stands = record {
     me = stands.me;
     catalog = stands.catalog;
     records = stands.records;

@@ -2,6 +2,7 @@
 use Rattle.std.proofs.Common.{◌≡◌, ◌⊎◌, inl, inr, ℕ, ℤ, ◌++◌, Bool, true, List, Option, Some, None, Result, Ok, Err, refl, sym, ap, subst, ◌∙◌}
 use Rattle.std.specs.Prelude.{All, IfOk, is_some, option_to_list}
 use Rattle.std.proofs.lemmas.Bool.{true≢false}
+use Rattle.std.proofs.lemmas.List.{append-nil}
 use Rattle.std.proofs.lemmas.Option.{none-some}
 use Rattle.pv_base.specs.Catalog.{Declared}
 use Rattle.pv_base.specs.Polyvalue.{Case}
@@ -16,6 +17,7 @@ use Rattle.pv_protocol.specs.Arms.{Reached, calls_of, fires, reached, record_lef
 use Rattle.pv_protocol.specs.Attempt.{of_step}
 use Rattle.pv_protocol.specs.Committed.{holder_of}
 use Rattle.pv_protocol.specs.Here.{Here}
+use Rattle.pv_protocol.specs.Records.{journal_bytes}
 use Rattle.pv_protocol.specs.Report as report
 use Rattle.pv_protocol.specs.Report.{reading_at, shown_unless_held}
 use Rattle.pv_protocol.specs.Shown.{shown}
@@ -24,15 +26,15 @@ use Rattle.pv_protocol.specs.State.{Arm, Running}
 use Rattle.pv_protocol.specs.Step.{site_step, step_on}
 use Rattle.pv_site.specs.Asked.{Shows}
 use Rattle.pv_site.specs.Inputs.{IsSpelledFrom}
+use Rattle.pv_site.specs.Recovered.{Remains}
 use Rattle.pv_site.specs.SiteState.{SiteState, here_with, setup_of}
-use Rattle.pv_site.specs.Steps.{Breaks, IsReady, Makes, Steps}
+use Rattle.pv_site.specs.Steps.{Breaks, HoldsWhatRuns, IsReady, Makes, Steps}
 use Rattle.pv_site.specs.declared.error.StepError.TheVariants as step_error
 use Rattle.pv_site.specs.declared.input.Shown.TheVariants as answered
 use Rattle.pv_site.specs.declared.input.Shown.{Shown}
 use Rattle.pv_site.specs.declared.input.Step.{Step}
-use Rattle.pv_store.specs.Kept.{Kept}
 use Rattle.pv_world.proofs.StepLemmas.{Appends, Rests, step-broken, step-made}
-use Rattle.pv_world.specs.Cells.{CanBeRead, CanFall, HasFallen, HasStepped, HasStopped, IsDone, IsUpOver, KeepsRecords, site_after, site_after_input}
+use Rattle.pv_world.specs.Cells.{CanFall, HasFallen, HasStepped, HasStopped, IsDone, IsUpOver, left_by, site_after, site_after_input}
 use Rattle.pv_world.specs.Disks.{Spells}
 use Rattle.pv_world.specs.Readings.{reading_in}
 use Rattle.pv_world.specs.Stands.{IsUp, StandsForSite}
@@ -56,6 +58,19 @@ module _ (catalog : Declared) (n : ℕ) (old : SiteState (Journal MemState)) (is
       ap (λ (me : ℕ). record { me = me; setup = setup_of old.catalog; records = old.records; running = running }) up.me
       ∙ (ap (λ (declared : Declared). record { me = n; setup = setup_of declared; records = old.records; running = running }) up.catalog
       ∙ ap (λ (records : List Record). record { me = n; setup = setup_of catalog; records = records; running = running }) up.records)
+
+  -- What outlives its memory.
+  old-left : left_by old ≡ record { me = n; catalog = catalog; records = is.records }
+  old-left = λ i. record { me = up.me i; catalog = up.catalog i; records = up.records i }
+
+  -- Its journal is as long as its records make it.
+  size-known : old.log.length ≡ journal_bytes is.records
+  size-known = by old.running up.runs up.ready.holds ∙ ap journal_bytes up.records
+    where
+      by : (running : Option Running) → is_some running ≡ true → HoldsWhatRuns (journal_model mem_model) old.log old.records running
+          → old.log.length ≡ journal_bytes old.records
+      by None none holds = absurd (true≢false (sym none))
+      by (Some running) some holds = holds.size
 
   -- A step.
 
@@ -112,41 +127,68 @@ module _ (catalog : Declared) (n : ℕ) (old : SiteState (Journal MemState)) (is
         subst (λ (here : Here). Breaks (journal_model mem_model) old new (step_on here input)) (here-same running) breaks in
         step-broken rests appends is.records is.arm old.log new.log up.ready.intact up.disk (site_step (setup_of catalog) n is.records running input) broken.log
 
-    -- It can be taken from memory.
-    pub can-fall : (input : model.Input) → Steps (journal_model mem_model) old new old.running input (Err step_error.Fault)
-        → CanBeReplayed (setup_of catalog) n is.records → CanBeReplayed (setup_of catalog) n (site_after_input catalog n is is.running input).records
-        → CanFall catalog n (Up new)
-    can-fall input steps replayable after = by old.running refl steps
-      where
-        from : (running : Running) → CanBeReplayed (setup_of catalog) n (site_after_input catalog n is (Some running) input).records
-            → BreaksOff (site_step (setup_of catalog) n is.records running input) → CanFall catalog n (Up new)
-        from running then (inl (fired, reaches, disk)) = (
-          is.records ++ option_to_list (record_left 0 (site_step (setup_of catalog) n is.records running input).appended fired),
-          None,
-          Some fired.stops,
-          disk,
-          subst (λ (r : Reached). CanBeReplayed (setup_of catalog) n (site_after is (of_step n (site_step (setup_of catalog) n is.records running input)) r).records) reaches then,
-        )
-        from running then (inr disk) = (is.records, is.arm, None, disk, replayable)
+    -- Its memory is outlived by what was there before the step.
+    left-is : (running : Running) (input : model.Input) → Breaks (journal_model mem_model) old new (step_on (here_with old running) input)
+        → record { me = n; catalog = catalog; records = is.records } ≡ left_by new
+    left-is running input breaks = sym (ap (λ (site : SiteState (Journal MemState)). left_by site) breaks.site ∙ old-left)
 
-        by : (was : Option Running) → old.running ≡ was → Steps (journal_model mem_model) old new was input (Err step_error.Fault) → CanFall catalog n (Up new)
+    -- With its disk.
+    up-over : (running : Running) (input : model.Input) → Breaks (journal_model mem_model) old new (step_on (here_with old running) input)
+        → (added : Option Record) (armed : Option Arm) (fired : Option Bool) → Spells (is.records ++ option_to_list added) armed fired new.log.disk
+        → IsUpOver (record { me = n; catalog = catalog; records = is.records }) added armed fired (Up new)
+    up-over running input breaks added armed fired disk = (left-is running input breaks, disk)
+
+    -- Nothing more is on the disk.
+    none-more : Spells is.records is.arm None new.log.disk → Spells (is.records ++ option_to_list None) is.arm None new.log.disk
+    none-more disk = subst (λ (all : List Record). Spells all is.arm None new.log.disk) (sym (append-nil is.records)) disk
+
+    -- It can be taken from memory.
+    pub can-fall : (input : model.Input) (length : ℕ) → length ≡ old.log.length → Steps (journal_model mem_model) old new old.running input (Err step_error.Fault)
+        → CanBeReplayed (setup_of catalog) n is.records → CanBeReplayed (setup_of catalog) n (site_after_input catalog n is is.running input).records
+        → CanFall length (Up new)
+    can-fall input length asked steps replayable after = by old.running refl steps
+      where
+        from : (running : Running) → Breaks (journal_model mem_model) old new (step_on (here_with old running) input)
+            → CanBeReplayed (setup_of catalog) n (site_after_input catalog n is (Some running) input).records
+            → BreaksOff (site_step (setup_of catalog) n is.records running input) → CanFall length (Up new)
+        from running breaks then (inl (fired, reaches, disk)) = record {
+          left = record { me = n; catalog = catalog; records = is.records };
+          added = record_left 0 (site_step (setup_of catalog) n is.records running input).appended fired;
+          armed = None;
+          fired = Some fired.stops;
+          over = up-over running input breaks (record_left 0 (site_step (setup_of catalog) n is.records running input).appended fired) None (Some fired.stops) disk;
+          size = asked ∙ size-known;
+          replayable = subst (λ (r : Reached). CanBeReplayed (setup_of catalog) n (site_after is (of_step n (site_step (setup_of catalog) n is.records running input)) r).records) reaches then;
+        }
+        from running breaks then (inr disk) = record {
+          left = record { me = n; catalog = catalog; records = is.records };
+          added = None;
+          armed = is.arm;
+          fired = None;
+          over = up-over running input breaks None is.arm None (none-more disk);
+          size = asked ∙ size-known;
+          replayable = subst (CanBeReplayed (setup_of catalog) n) (sym (append-nil is.records)) replayable;
+        }
+
+        by : (was : Option Running) → old.running ≡ was → Steps (journal_model mem_model) old new was input (Err step_error.Fault) → CanFall length (Up new)
         by None none broke = not-down _ none
         by (Some running) at broke =
-            from running
+            from running broke
             (subst (λ (now : Option Running). CanBeReplayed (setup_of catalog) n (site_after_input catalog n is now input).records) (sym up.running ∙ at) after)
             (breaks-off running input broke)
 
     -- Once it is, the step is broken off.
     pub has-broken : {E : Type 0} (input : model.Input) (cell : Cell) (result : Result Stepped E)
         → Steps (journal_model mem_model) old new old.running input (Err step_error.Fault)
-        → ((records : List Record) (armed : Option Arm) (fired : Option Bool) → IsUpOver records armed fired (Up new) → IfOk result (HasFallen catalog n records fired cell))
+        → ((left : Remains) (added : Option Record) (armed : Option Arm) (fired : Option Bool) → IsUpOver left added armed fired (Up new)
+        → IfOk result (HasFallen left added fired cell))
         → IfOk result (HasStepped catalog n (Up old) cell is is.running input)
     has-broken {E = E} input cell result steps fell = by old.running refl steps
       where
         broken : (running : Running) (fired : Arm) → reached (calls_of (of_step n (site_step (setup_of catalog) n is.records running input))) is.arm ≡ fires fired
             → (answer : Result Stepped E)
-            → IfOk answer (HasFallen catalog n (is.records ++ option_to_list (record_left 0 (site_step (setup_of catalog) n is.records running input).appended fired))
-            (Some fired.stops) cell)
+            → IfOk answer (HasFallen (record { me = n; catalog = catalog; records = is.records })
+            (record_left 0 (site_step (setup_of catalog) n is.records running input).appended fired) (Some fired.stops) cell)
             → IfOk answer (HasStepped catalog n (Up old) cell is (Some running) input)
         broken running fired reaches (Err error) has = tt
         broken running fired reaches (Ok stepped.Down) has = absurd has
@@ -154,26 +196,32 @@ module _ (catalog : Declared) (n : ℕ) (old : SiteState (Journal MemState)) (is
         broken running fired reaches (Ok (stepped.Broke stops)) has =
             record { arm = fired; fires = reaches; kind = (let same : fired.stops ≡ stops = cc in same); stands = has.1 }
 
-        unfired : (running : Running) (answer : Result Stepped E) → IfOk answer (HasFallen catalog n is.records None cell)
+        unfired : (running : Running) (answer : Result Stepped E)
+            → IfOk answer (HasFallen (record { me = n; catalog = catalog; records = is.records }) None None cell)
             → IfOk answer (HasStepped catalog n (Up old) cell is (Some running) input)
         unfired running (Err error) has = tt
         unfired running (Ok stepped.Down) has = absurd has
         unfired running (Ok (stepped.Made answer)) has = absurd has
         unfired running (Ok (stepped.Broke stops)) has = absurd (none-some stops has.0)
 
-        from : (running : Running) → BreaksOff (site_step (setup_of catalog) n is.records running input)
+        from : (running : Running) → Breaks (journal_model mem_model) old new (step_on (here_with old running) input)
+            → BreaksOff (site_step (setup_of catalog) n is.records running input)
             → IfOk result (HasStepped catalog n (Up old) cell is (Some running) input)
-        from running (inl (fired, reaches, disk)) =
+        from running breaks (inl (fired, reaches, disk)) =
             broken running fired reaches result
-            (fell (is.records ++ option_to_list (record_left 0 (site_step (setup_of catalog) n is.records running input).appended fired)) None (Some fired.stops) disk)
-        from running (inr disk) = unfired running result (fell is.records is.arm None disk)
+            (fell (record { me = n; catalog = catalog; records = is.records }) (record_left 0 (site_step (setup_of catalog) n is.records running input).appended fired) None
+            (Some fired.stops)
+            (up-over running input breaks (record_left 0 (site_step (setup_of catalog) n is.records running input).appended fired) None (Some fired.stops) disk))
+        from running breaks (inr disk) =
+            unfired running result
+            (fell (record { me = n; catalog = catalog; records = is.records }) None is.arm None (up-over running input breaks None is.arm None (none-more disk)))
 
         by : (was : Option Running) → old.running ≡ was → Steps (journal_model mem_model) old new was input (Err step_error.Fault)
             → IfOk result (HasStepped catalog n (Up old) cell is is.running input)
         by None none broke = not-down _ none
         by (Some running) at broke =
             subst (λ (now : Option Running). IfOk result (HasStepped catalog n (Up old) cell is now input)) (sym at ∙ up.running)
-            (from running (breaks-off running input broke))
+            (from running broke (breaks-off running input broke))
 
   -- It isn't answered that the site is down.
   pub not-down-now : (new : SiteState (Journal MemState)) (input : model.Input) → Steps (journal_model mem_model) old new old.running input (Err step_error.Down) → ⊥
@@ -185,24 +233,20 @@ module _ (catalog : Declared) (n : ℕ) (old : SiteState (Journal MemState)) (is
 
   -- A stop.
 
-  -- Its disk can be read.
-  pub up-can-be-read : CanBeReplayed (setup_of catalog) n is.records → CanBeRead catalog n old.log.disk
-  up-can-be-read replayable = (is.records, is.arm, None, up.disk, replayable)
-
   -- It has stopped.
-  pub has-stopped : (disk : MemState) (store : Kept) → disk ≡ old.log.disk → KeepsRecords catalog n is.records store
-      → HasStopped catalog n (Up old) (Down disk store) is is.running true
-  has-stopped disk store same keeps = by old.running refl
+  pub has-stopped : (disk : MemState) (left : Remains) → disk ≡ old.log.disk → left ≡ record { me = old.me; catalog = old.catalog; records = old.records }
+      → HasStopped catalog n (Up old) (Down disk left) is is.running true
+  has-stopped disk left same leaves = by old.running refl
     where
-      by : (was : Option Running) → old.running ≡ was → HasStopped catalog n (Up old) (Down disk store) is is.running true
+      by : (was : Option Running) → old.running ≡ was → HasStopped catalog n (Up old) (Down disk left) is is.running true
       by None none = not-down _ none
       by (Some running) some =
-          subst (λ (now : Option Running). HasStopped catalog n (Up old) (Down disk store) is now true) (sym some ∙ up.running) (
+          subst (λ (now : Option Running). HasStopped catalog n (Up old) (Down disk left) is now true) (sym some ∙ up.running) (
             refl,
             record {
-              me = keeps.site;
-              catalog = keeps.catalog;
-              records = keeps.records;
+              me = ap (λ (was : Remains). was.me) leaves ∙ up.me;
+              catalog = ap (λ (was : Remains). was.catalog) leaves ∙ up.catalog;
+              records = ap (λ (was : Remains). was.records) leaves ∙ up.records;
               down = refl;
               disk = subst (Spells is.records is.arm None) (sym same) up.disk;
             },

@@ -19,7 +19,7 @@ use Rattle.pv_site.specs.declared.input.Input.{Input}
 use Rattle.pv_world.proofs.GiveLemmas.{broken-off, comes-by, site-given, site-opened}
 use Rattle.pv_world.proofs.StandLemmas.{site-stands, stands-with-site}
 use Rattle.pv_world.proofs.StartLemmas.{halted-down, halted-up, opened-done, opened-down, opened-up, with-own}
-use Rattle.pv_world.specs.Cells.{CanStart, HasBegun, HasEnded, HasStarted, HasStopped, IsReplayable, TakesInput, broken_site, completed_site, start_attempt, start_line}
+use Rattle.pv_world.specs.Cells.{CanStart, HasBegun, HasEnded, HasStarted, HasStopped, TakesInput, broken_site, completed_site, start_attempt, start_line}
 use Rattle.pv_world.specs.Stands.{Stands, StandsForSite}
 use Rattle.pv_world.specs.Steps.{CanGive, Comes, IsSameBeside, lines_of}
 use Rattle.pv_world.specs.declared.cell.Cell.{Cell}
@@ -53,10 +53,6 @@ module _ (old : World) (is : model.World) (stands : Stands old is) (n : ℕ) (wi
 
   there : n < length is.sites
   there = subst (λ (count : ℕ). n < count) (sym stands.count) within
-
-  -- The site can read its records anew.
-  pub own-replayable : AreReplayable (setup_of old.catalog) is → IsReplayable old.catalog n cell
-  own-replayable replayable = (site_at is n, own-stands, replayable n within)
 
   -- It can start.
   pub own-can-start : AreReplayable (setup_of old.catalog) is

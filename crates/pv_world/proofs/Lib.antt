@@ -2,7 +2,9 @@ pub mod ArmLemmas
 pub mod BeginLemmas
 pub mod CellLemmas
 pub mod ChangeLemmas
+pub mod CloseLemmas
 pub mod DeliverLemmas
+pub mod DownLemmas
 pub mod EventLemmas
 pub mod GiveLemmas
 pub mod GiveSteps

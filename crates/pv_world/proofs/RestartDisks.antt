@@ -1,7 +1,6 @@
 -- The disk of a site that is started or was stopped: what it holds is read, and what is added.
 use Rattle.std.proofs.Common.{◌≡◌, ℕ, ◌+◌, ◌-◌, ◌<◌, Bool, true, false, List, [], ◌∷◌, ◌++◌, Option, Some, None, refl, sym, subst, arith}
 use Rattle.std.specs.Prelude.{◌&&◌, if◌then◌else◌, nat_lt, option_to_list}
-use Rattle.std.specs.Option.{option_map}
 use Rattle.std.proofs.lemmas.Bool.Decides.{nat_tests}
 use Rattle.std.proofs.lemmas.List.{append-nil}
 use Rattle.pv_base.specs.declared.mode.Mode.{Mode}
@@ -20,7 +19,6 @@ use Rattle.pv_law_journal.proofs.ContentsLemmas.{contents_of-is}
 use Rattle.pv_law_journal.specs.Format.{IsJournal}
 use Rattle.pv_protocol.specs.Arms.{is_kept, record_left}
 use Rattle.pv_protocol.specs.State.{Arm}
-use Rattle.pv_world.proofs.RecordLemmas.{records-same}
 use Rattle.pv_world.proofs.RestartArms.{later_by}
 use Rattle.pv_world.specs.Disks.{Spells, armed_as}
 
@@ -28,14 +26,6 @@ use Rattle.pv_world.specs.Disks.{Spells, armed_as}
 pub holds-contents : (contents : Contents) (armed : Option disk.Arm) (fired : Option Bool) (journal : Journal MemState) → Holds contents armed fired journal.disk
     → contents_now mem_model journal ≡ Some contents
 holds-contents contents armed fired journal holds = contents_of-is contents journal.disk.image.content holds.journal
-
--- Records that were read of a journal are those that its disk spells.
-pub reads-spelled : (records others : List Record) (contents : Contents) (armed : Option Arm) (fired : Option Bool) (journal : Journal MemState)
-    → Spells records armed fired journal.disk → ((held : Contents) → contents_now mem_model journal ≡ Some held → contents ≡ held) → SpellRecords others contents
-    → others ≡ records
-reads-spelled records others contents armed fired journal spells read spelled =
-    let same : contents ≡ spells.contents = read spells.contents (holds-contents spells.contents (option_map armed_as armed) fired journal spells.holds) in
-    records-same spells.contents others records (subst (SpellRecords others) same spelled) spells.spelled
 
 -- Contents that are read of the disk spell the records.
 pub look-spells : (records : List Record) (armed : Option Arm) (fired : Option Bool) (on : MemState) (read : Contents) → Spells records armed fired on

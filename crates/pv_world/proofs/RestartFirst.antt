@@ -1,5 +1,5 @@
 -- The first start of a site, on an empty journal.
-use Rattle.std.proofs.Common.{◌≡◌, ℕ, ◌≤◌, Bool, true, false, List, [], ◌∷◌, Option, None, refl, sym, subst, arith}
+use Rattle.std.proofs.Common.{◌≡◌, ℕ, ◌≤◌, Bool, true, false, List, [], ◌∷◌, Option, None, refl, sym, ap, subst, arith}
 use Rattle.std.specs.Prelude.{if◌then◌else◌, nat_lt}
 use Rattle.std.proofs.lemmas.Bool.Decides.{nat_tests}
 use Rattle.std.proofs.lemmas.List.Elements.{All-cons, All-nil}
@@ -17,8 +17,8 @@ use Rattle.pv_protocol.specs.Start.{Started, just_started, site_start, starts, t
 use Rattle.pv_protocol.specs.State.{Arm}
 use Rattle.pv_protocol.specs.Width.{IsNarrow}
 use Rattle.pv_protocol.specs.World.{first_site, no_site}
+use Rattle.pv_site.specs.Recovered.{Remains}
 use Rattle.pv_site.specs.SiteState.{setup_of}
-use Rattle.pv_store.specs.Kept.{Kept}
 use Rattle.pv_world.specs.Cells.{CanStart, HasBegun, IsBroken, IsDone, completed_site, site_after, start_attempt}
 use Rattle.pv_world.specs.Disks.{Spells}
 use Rattle.pv_world.specs.Stands.{IsDown, StandsForSite}
@@ -57,9 +57,15 @@ module _ (catalog : Declared) (least : MIN_JOURNAL ≤ catalog.journal) where
       absurd (let wrong : ⊥ = cc in wrong)
 
   -- Before it the site is down and has no records.
-  pub stands-empty : (n : ℕ) (on : MemState) (store : Kept) → Spells [] None None on → store.site ≡ n → store.catalog ≡ catalog → store.records ≡ []
-      → IsDown catalog n on store no_site
-  stands-empty n on store disk site declared records = record { me = site; catalog = declared; records = records; down = refl; disk = disk }
+  pub stands-empty : (n : ℕ) (on : MemState) (left : Remains) → Spells [] None None on → left ≡ record { me = n; catalog = catalog; records = [] }
+      → IsDown catalog n on left no_site
+  stands-empty n on left disk empty = record {
+    me = ap (λ (now : Remains). now.me) empty;
+    catalog = ap (λ (now : Remains). now.catalog) empty;
+    records = ap (λ (now : Remains). now.records) empty;
+    down = refl;
+    disk = disk;
+  }
 
   module _ (n : ℕ) (narrow : IsNarrow HELD_NAMES catalog n []) (narrow_then : IsNarrow HELD_NAMES catalog n (epoch_begun 1 ∷ [])) where
     empty-replayable : CanBeReplayed (setup_of catalog) n []
@@ -79,11 +85,11 @@ module _ (catalog : Declared) (least : MIN_JOURNAL ≤ catalog.journal) where
       narrow = narrow_then;
     }
 
-    pub can-start : (on : MemState) (store : Kept) → Spells [] None None on → store.site ≡ n → store.catalog ≡ catalog → store.records ≡ []
-        → CanStart catalog n (Down on store)
-    can-start on store disk site declared records = record {
+    pub can-start : (on : MemState) (left : Remains) → Spells [] None None on → left ≡ record { me = n; catalog = catalog; records = [] }
+        → CanStart catalog n (Down on left)
+    can-start on left disk empty = record {
       is = no_site;
-      stands = stands-empty n on store disk site declared records;
+      stands = stands-empty n on left disk empty;
       replayable = empty-replayable;
       after = subst (λ (started : Started). CanBeReplayed (setup_of catalog) n (site_after no_site (of_start n started) (reached (calls_of (of_start n started)) None)).records)
           (sym first-start) first-replayable;

@@ -1,5 +1,5 @@
 -- What comes of a start of a site that is down, on a disk that holds its records: the site runs, or is refused, or the start is broken off.
-use Rattle.std.proofs.Common.{◌≡◌, ◌⊎◌, inl, inr, ℕ, ◌+◌, Bool, true, false, List, [], ◌∷◌, ◌++◌, Option, Some, None, Result, Ok, Err, refl, sym, ap, subst, ◌∙◌}
+use Rattle.std.proofs.Common.{◌≡◌, ◌⊎◌, inl, inr, ℕ, ◌+◌, Bool, true, false, List, [], ◌∷◌, ◌++◌, Option, Some, None, ◌<◌, Result, Ok, Err, refl, sym, ap, subst, ◌∙◌}
 use Rattle.std.specs.Prelude.{IfOk, if◌then◌else◌, is_some, length, nat_le, nat_lt, option_to_list}
 use Rattle.std.specs.Option.{option_map}
 use Rattle.std.proofs.lemmas.Bool.{true≢false}
@@ -8,7 +8,7 @@ use Rattle.std.proofs.lemmas.Option.{none-some}
 use Rattle.pv_base.proofs.Basics.{Some_inj}
 use Rattle.pv_base.specs.Catalog.{Declared}
 use Rattle.pv_base.specs.declared.failure.NoMemory.{NoMemory}
-use Rattle.pv_base.specs.declared.limits.TheConstants.{HELD_NAMES, NEVER_GIVEN}
+use Rattle.pv_base.specs.declared.limits.TheConstants.{NEVER_GIVEN}
 use Rattle.pv_disk.specs.MemDisk.{MemGoes, MemState}
 use Rattle.pv_disk.specs.MemLaws.{mem_model}
 use Rattle.pv_disk.specs.declared.arms.Arm as disk
@@ -22,25 +22,23 @@ use Rattle.pv_journal.specs.Opening as opening
 use Rattle.pv_journal.specs.declared.journal.Journal.{Journal}
 use Rattle.pv_journal.specs.declared.open_log.OpenLog.TheVariants as unopened
 use Rattle.pv_law_disk.specs.Calls.{Makes, OnlyReads, read_all, reserve, append}
-use Rattle.pv_law_disk.specs.Size.{Contents}
+use Rattle.pv_law_disk.specs.Size.{Contents, size_of}
 use Rattle.pv_law_events.specs.Replays.{CanBeReplayed}
-use Rattle.pv_protocol.specs.Arms.{Reached, calls_of, fires, reached}
+use Rattle.pv_protocol.specs.Arms.{Reached, calls_of, fires, reached, record_left}
 use Rattle.pv_protocol.specs.Attempt.{Attempt, of_start, refused_start}
 use Rattle.pv_protocol.specs.Lines as protocol
 use Rattle.pv_protocol.specs.Records.{journal_bytes, record_bytes}
 use Rattle.pv_protocol.specs.Start.{Started, just_started, site_start, starts, too_long, no_epoch}
 use Rattle.pv_protocol.specs.State as model
 use Rattle.pv_protocol.specs.State.{Arm, Running, Setup}
-use Rattle.pv_protocol.specs.Width.{IsNarrow}
-use Rattle.pv_site.specs.Opens.{HasOpened, Opens, WereRead}
+use Rattle.pv_site.specs.OnLog.{HoldsRecords}
+use Rattle.pv_site.specs.Recovered.{Remains}
+use Rattle.pv_site.specs.Resumes.{CanResume, FailsToResume, HasResumed, Resumes}
 use Rattle.pv_site.specs.SiteState.{SiteState, setup_of}
 use Rattle.pv_site.specs.Steps.{IsReady}
-use Rattle.pv_site.specs.declared.error.OpenError.TheVariants as refused
-use Rattle.pv_store.specs.Kept.{Kept}
-use Rattle.pv_store.specs.Refusals.{too_many_in}
-use Rattle.pv_world.proofs.RecordLemmas.{narrow-is-taken, none-bad}
+use Rattle.pv_site.specs.declared.error.ResumeError.TheVariants as refused
 use Rattle.pv_world.proofs.RestartArms.{FiresLate, comes-fired, comes-through, fires-early, fires-late, fires-within, later_by, waits-both}
-use Rattle.pv_world.proofs.RestartDisks.{holds-contents, reads-spelled, spell-append, spell-left}
+use Rattle.pv_world.proofs.RestartDisks.{holds-contents, spell-append, spell-left}
 use Rattle.pv_world.specs.Cells.{CanBeRead, CanStart, HasBegun, HasStarted, IsDone, KeepsRecords, broken_site, site_after, site_after_start, start_attempt}
 use Rattle.pv_world.specs.Disks.{Spells, armed_as}
 use Rattle.pv_world.specs.Restarts.{IsSynced}
@@ -69,6 +67,15 @@ Laws = record {
       → opening.Opens mem_model old limit (Err (unopened.NotOurs new place)) → ⊥;
 }
 
+-- A log with contents that spell records is as long as these make it.
+abbrev pub Sizes : Type 0
+Sizes = (records : List Record) (contents : Contents) → SpellRecords records contents → size_of contents ≡ journal_bytes records
+
+-- What outlived the memory of the site, as one record.
+pub keeps-is : (catalog : Declared) (n : ℕ) (records : List Record) (left : Remains) → KeepsRecords catalog n records left
+    → left ≡ record { me = n; catalog = catalog; records = records }
+keeps-is catalog n records left keeps = λ i. record { me = keeps.site i; catalog = keeps.catalog i; records = keeps.records i }
+
 -- Where a start fails.
 
 module _ (catalog : Declared) (n : ℕ) (is : model.Site) where
@@ -82,51 +89,106 @@ module _ (catalog : Declared) (n : ℕ) (is : model.Site) where
   abbrev pub StartFails : MemState → Type 0
   StartFails on = HasFired on ⊎ ((armed : Option Arm) × Spells is.records armed None on)
 
+  -- Nothing more is on the disk.
+  none-more : (armed : Option Arm) (on : MemState) → Spells is.records armed None on → Spells (is.records ++ option_to_list None) armed None on
+  none-more armed on spells = subst (λ (all : List Record). Spells all armed None on) (sym (append-nil is.records)) spells
+
   -- The site can read its records then.
-  pub can-be-read : (on : MemState) → StartFails on → CanBeReplayed (setup_of catalog) n is.records
-      → CanBeReplayed (setup_of catalog) n (site_after_start catalog n is None).records → CanBeRead catalog n on
-  can-be-read on (inl fired) replayable after = (
-    (broken_site is (start_attempt catalog n is) fired.fault).records,
-    None,
-    Some fired.fault.stops,
-    fired.disk,
-    subst (λ (r : Reached). CanBeReplayed (setup_of catalog) n (site_after is (start_attempt catalog n is) r).records) fired.fires after,
-  )
-  can-be-read on (inr (armed, spells)) replayable after = (is.records, armed, None, spells, replayable)
+  pub can-be-read : (left : Remains) (on : MemState) → KeepsRecords catalog n is.records left → StartFails on → CanBeReplayed (setup_of catalog) n is.records
+      → CanBeReplayed (setup_of catalog) n (site_after_start catalog n is None).records → (armed : Option Arm) × (fired : Option Bool) × CanBeRead left armed fired on
+  can-be-read left on keeps fails replayable after =
+      subst (λ (now : Remains). (armed : Option Arm) × (fired : Option Bool) × CanBeRead now armed fired on) (sym (keeps-is catalog n is.records left keeps)) (by fails)
+    where
+      by : StartFails on → (armed : Option Arm) × (fired : Option Bool) × CanBeRead (record { me = n; catalog = catalog; records = is.records }) armed fired on
+      by (inl fired) = (
+        None,
+        Some fired.fault.stops,
+        (
+          record_left (start_attempt catalog n is).syncs (start_attempt catalog n is).appended fired.fault,
+          fired.disk,
+          subst (λ (r : Reached). CanBeReplayed (setup_of catalog) n (site_after is (start_attempt catalog n is) r).records) fired.fires after,
+        ),
+      )
+      by (inr (armed, spells)) = (
+        armed,
+        None,
+        (None, none-more armed on spells, subst (CanBeReplayed (setup_of catalog) n) (sym (append-nil is.records)) replayable),
+      )
 
   -- A site that fell then, as what fired says, has broken off its start.
-  pub is-broken : (on : MemState) (cell : Cell) (stops : Bool) → StartFails on
-      → ((records : List Record) (armed : Option Arm) (fired : Option Bool) → Spells records armed fired on
-      → (fired ≡ Some stops) × StandsForSite catalog n cell (record { records = records; arm = None; running = None }))
+  pub is-broken : (left : Remains) (on : MemState) (cell : Cell) (stops : Bool) → KeepsRecords catalog n is.records left → StartFails on
+      → ((added : Option Record) (armed : Option Arm) (fired : Option Bool) → Spells (left.records ++ option_to_list added) armed fired on
+      → (fired ≡ Some stops)
+      × StandsForSite left.catalog left.me cell (record { records = left.records ++ option_to_list added; arm = None; running = None }))
       → HasBegun catalog n cell is (start.Broke stops)
-  is-broken on cell stops (inl fired) falls =
-      let fell = falls (broken_site is (start_attempt catalog n is) fired.fault).records None (Some fired.fault.stops) fired.disk in
-      record { arm = fired.fault; fires = fired.fires; kind = Some_inj fell.0; stands = fell.1 }
-  is-broken on cell stops (inr (armed, spells)) falls = absurd (none-some stops (falls is.records armed None spells).0)
+  is-broken left on cell stops keeps fails falls =
+      by fails
+      (subst (λ (now : Remains). (added : Option Record) (armed : Option Arm) (fired : Option Bool) → Spells (now.records ++ option_to_list added) armed fired on
+      → (fired ≡ Some stops)
+      × StandsForSite now.catalog now.me cell (record { records = now.records ++ option_to_list added; arm = None; running = None }))
+      (keeps-is catalog n is.records left keeps) falls)
+    where
+      by : StartFails on
+          → ((added : Option Record) (armed : Option Arm) (fired : Option Bool) → Spells (is.records ++ option_to_list added) armed fired on
+          → (fired ≡ Some stops) × StandsForSite catalog n cell (record { records = is.records ++ option_to_list added; arm = None; running = None }))
+          → HasBegun catalog n cell is (start.Broke stops)
+      by (inl fired) fell =
+          let has = fell (record_left (start_attempt catalog n is).syncs (start_attempt catalog n is).appended fired.fault) None (Some fired.fault.stops) fired.disk in
+          record { arm = fired.fault; fires = fired.fires; kind = Some_inj has.0; stands = has.1 }
+      by (inr (armed, spells)) fell = absurd (none-some stops (fell None armed None (none-more armed on spells)).0)
+
+  -- The sync that comes first fails, and leaves no record; or something else failed.
+  abbrev pub FailsEarly : MemState → Type 0
+  FailsEarly on =
+      ((fired : HasFired on) × (record_left (start_attempt catalog n is).syncs (start_attempt catalog n is).appended fired.fault ≡ None))
+      ⊎ ((armed : Option Arm) × Spells is.records armed None on)
+
+  -- A site that is down then over the disk once that is mended, with what outlived its memory, has broken off its start.
+  pub is-broken-early : (left : Remains) (on : MemState) (now : MemState) (stops : Bool) → KeepsRecords catalog n is.records left → FailsEarly on
+      → ((records : List Record) (armed : Option Arm) (fired : Option Bool) → Spells records armed fired on → (fired ≡ Some stops) × Spells records None None now)
+      → HasBegun catalog n (Down now left) is (start.Broke stops)
+  is-broken-early left on now stops keeps (inl (fired, none)) mends =
+      let mended = mends (broken_site is (start_attempt catalog n is) fired.fault).records None (Some fired.fault.stops) fired.disk in
+      record {
+        arm = fired.fault;
+        fires = fired.fires;
+        kind = Some_inj mended.0;
+        stands = record {
+          me = keeps.site;
+          catalog = keeps.catalog;
+          records = keeps.records ∙ sym (ap (λ (added : Option Record). is.records ++ option_to_list added) none ∙ append-nil is.records);
+          down = refl;
+          disk = mended.1;
+        };
+      }
+  is-broken-early left on now stops keeps (inr (armed, spells)) mends = absurd (none-some stops (mends is.records armed None spells).0)
 
   -- The sync that comes first.
   module _ (contents : Contents) (on : MemState) (spelled : SpellRecords is.records contents) where
-    pub sync-fails : SyncsArmed contents (option_map armed_as is.arm) false on ⊎ SyncsArmed contents (option_map armed_as is.arm) true on → StartFails on
+    pub sync-fails : SyncsArmed contents (option_map armed_as is.arm) false on ⊎ SyncsArmed contents (option_map armed_as is.arm) true on → FailsEarly on
     sync-fails (inl fired) =
         let (fault, armed, near, holds) = comes-fired 0 contents (λ arm. contents) on is.arm fired in
         let early = fires-early n (site_start (setup_of catalog) is.records) fault near in
-        inl (record {
-          fault = fault;
-          fires = ap (λ (arm : Option Arm). reached (calls_of (start_attempt catalog n is)) arm) armed ∙ early.0;
-          disk = record {
-            contents = contents;
-            spelled = subst (λ (left : Option Record). SpellRecords (is.records ++ option_to_list left) contents) (sym early.1)
-                (subst (λ (all : List Record). SpellRecords all contents) (sym (append-nil is.records)) spelled);
-            holds = holds;
-          };
-        })
+        inl (
+          record {
+            fault = fault;
+            fires = ap (λ (arm : Option Arm). reached (calls_of (start_attempt catalog n is)) arm) armed ∙ early.0;
+            disk = record {
+              contents = contents;
+              spelled = subst (λ (left : Option Record). SpellRecords (is.records ++ option_to_list left) contents) (sym early.1)
+                  (subst (λ (all : List Record). SpellRecords all contents) (sym (append-nil is.records)) spelled);
+              holds = holds;
+            };
+          },
+          early.1,
+        )
     sync-fails (inr passed) =
         let (armed, still, holds) = comes-through 0 contents (λ arm. contents) on is.arm passed in
         inr (armed, record { contents = contents; spelled = spelled; holds = holds })
 
-    pub sync-passes : (journal : Journal MemState) (store : Kept) → journal.disk ≡ on → KeepsRecords catalog n is.records store → IsIntact mem_model journal → journal.down ≡ false
-        → journal.limit ≡ catalog.journal → SyncsArmed contents (option_map armed_as is.arm) true on → IsSynced catalog n journal store is
-    sync-passes journal store same keeps intact up limit passed =
+    pub sync-passes : (journal : Journal MemState) (left : Remains) → journal.disk ≡ on → KeepsRecords catalog n is.records left → IsIntact mem_model journal → journal.down ≡ false
+        → journal.limit ≡ catalog.journal → SyncsArmed contents (option_map armed_as is.arm) true on → IsSynced catalog n journal left is
+    sync-passes journal left same keeps intact up limit passed =
         let (armed, still, holds) = comes-through 0 contents (λ arm. contents) on is.arm passed in
         record {
           keeps = keeps;
@@ -140,18 +202,18 @@ module _ (catalog : Declared) (n : ℕ) (is : model.Site) where
 
 -- The opening of the journal.
 
-module _ (catalog : Declared) (n : ℕ) (on : MemState) (store : Kept) (is : model.Site) (down : IsDown catalog n on store is) where
+module _ (catalog : Declared) (n : ℕ) (on : MemState) (left : Remains) (is : model.Site) (down : IsDown catalog n on left is) where
   abbrev pub down_arms : Option disk.Arm
   down_arms = option_map armed_as is.arm
 
   pub is-synced : (laws : Laws) (journal : Journal MemState) (limit : ℕ) → limit ≡ catalog.journal → opening.Opens mem_model on limit (Ok journal)
-      → IsSynced catalog n journal store is
-  is-synced laws journal limit within (left, calls, content, intact, up, limited) =
-      sync-passes catalog n is down.disk.contents journal.disk down.disk.spelled journal store refl
+      → IsSynced catalog n journal left is
+  is-synced laws journal limit within (opened, calls, content, intact, up, limited) =
+      sync-passes catalog n is down.disk.contents journal.disk down.disk.spelled journal left refl
       (record { site = down.me; catalog = down.catalog; records = down.records }) intact up (limited ∙ within)
-      (laws.opens down.disk.contents down_arms on limit journal down.disk.holds (left, calls, content, intact, up, limited))
+      (laws.opens down.disk.contents down_arms on limit journal down.disk.holds (opened, calls, content, intact, up, limited))
 
-  pub not-opened : (laws : Laws) (new : MemState) (limit : ℕ) → opening.Opens mem_model on limit (Err (unopened.Failed new)) → StartFails catalog n is new
+  pub not-opened : (laws : Laws) (new : MemState) (limit : ℕ) → opening.Opens mem_model on limit (Err (unopened.Failed new)) → FailsEarly catalog n is new
   not-opened laws new limit failed =
       sync-fails catalog n is down.disk.contents new down.disk.spelled (laws.fails down.disk.contents down_arms on limit new down.disk.holds failed)
 
@@ -161,14 +223,14 @@ module _ (catalog : Declared) (n : ℕ) (on : MemState) (store : Kept) (is : mod
 
   -- A site that is down begins.
   pub started-down : (result : Result (Cell × Start) NoMemory) → IfOk result (λ made. HasBegun catalog n made.0 is made.1)
-      → IfOk result (λ made. HasStarted catalog n (Down on store) made.0 is is.running made.1)
+      → IfOk result (λ made. HasStarted catalog n (Down on left) made.0 is is.running made.1)
   started-down result begun =
-      subst (λ (now : Option Running). IfOk result (λ made. HasStarted catalog n (Down on store) made.0 is now made.1)) (sym down.down) begun
+      subst (λ (now : Option Running). IfOk result (λ made. HasStarted catalog n (Down on left) made.0 is now made.1)) (sym down.down) begun
 
-pub replayable-after : (catalog : Declared) (n : ℕ) (on : MemState) (store : Kept) (can : CanStart catalog n (Down on store))
+pub replayable-after : (catalog : Declared) (n : ℕ) (on : MemState) (left : Remains) (can : CanStart catalog n (Down on left))
     → CanBeReplayed (setup_of catalog) n (site_after_start catalog n can.is None).records
-replayable-after catalog n on store can =
-    let down : IsDown catalog n on store can.is = can.stands in
+replayable-after catalog n on left can =
+    let down : IsDown catalog n on left can.is = can.stands in
     subst (λ (now : Option Running). CanBeReplayed (setup_of catalog) n (site_after_start catalog n can.is now).records) down.down can.after
 
 -- The epoch that is recorded.
@@ -191,7 +253,7 @@ module _ (setup : Setup) (records : List Record) (running : Running) (epoch : �
 
 -- On a journal that was synced.
 
-module _ (laws : Laws) (catalog : Declared) (n : ℕ) (journal : Journal MemState) (store : Kept) (is : model.Site) (synced : IsSynced catalog n journal store is) where
+module _ (laws : Laws) (catalog : Declared) (n : ℕ) (journal : Journal MemState) (left : Remains) (is : model.Site) (synced : IsSynced catalog n journal left is) where
   abbrev held : Contents
   held = synced.disk.contents
 
@@ -204,48 +266,61 @@ module _ (laws : Laws) (catalog : Declared) (n : ℕ) (journal : Journal MemStat
   holds-up : HoldsUp held arms journal
   holds-up = laws.intact held arms journal synced.intact synced.up synced.disk.holds
 
-  -- What was read are the site's records.
-  were-read : (records : List Record) (contents : Contents) → WereRead (journal_model mem_model) journal contents → SpellRecords records contents → records ≡ is.records
-  were-read records contents read spelled = reads-spelled is.records records contents synced.armed None journal synced.disk read spelled
+  -- The journal holds the site's records.
+  holds-records : Sizes → HoldsRecords (journal_model mem_model) journal is.records
+  holds-records sizes = record {
+    up = synced.up;
+    size = (journal_model mem_model).size_is journal held synced.intact synced.up known ∙ sizes is.records held synced.disk.spelled;
+    held = λ contents told. subst (SpellRecords is.records) (Some_inj (sym known ∙ told)) synced.disk.spelled;
+  }
 
-  start-is : (records : List Record) (contents : Contents) (started : Started) → WereRead (journal_model mem_model) journal contents → SpellRecords records contents
-      → site_start (setup_of catalog) records ≡ started → start_attempt catalog n is ≡ of_start n started
-  start-is records contents started read spelled begins =
-      ap (λ (all : List Record). of_start n (site_start (setup_of catalog) all)) (sym (were-read records contents read spelled)) ∙ ap (of_start n) begins
+  left-is : left ≡ record { me = n; catalog = catalog; records = is.records }
+  left-is = keeps-is catalog n is.records left synced.keeps
+
+  -- It is as long as these make it.
+  pub is-long : Sizes → (length : ℕ) → length ≡ journal.length → length ≡ journal_bytes left.records
+  is-long sizes length asked = asked ∙ ((holds-records sizes).size ∙ ap journal_bytes (sym synced.keeps.records))
+
+  -- So the site can go on over it.
+  pub can-resume : Sizes → n < catalog.sites → CanResume (journal_model mem_model) journal left
+  can-resume sizes within =
+      subst (CanResume (journal_model mem_model) journal) (sym left-is) (record { intact = synced.intact; limit = synced.limit; holds = holds-records sizes; site = within })
+
+  start-is : (started : Started) → site_start (setup_of left.catalog) left.records ≡ started → start_attempt catalog n is ≡ of_start n started
+  start-is started begins = ap (λ (now : Remains). of_start n (site_start (setup_of now.catalog) now.records)) (sym left-is) ∙ ap (of_start n) begins
 
   -- The site runs.
-  after-append : (content : List ℕ) (new : Journal MemState) → Makes (JournalGoes mem_model) journal (read_all ∷ reserve (length content) ∷ append content ∷ []) true new
+  after-append : (content : List ℕ) (new : Journal MemState) → Makes (JournalGoes mem_model) journal (reserve (length content) ∷ append content ∷ []) true new
       → AppendsArmed held content arms true new.disk
-  after-append content new (inl (same, gone)) = absurd (true≢false same)
-  after-append content new (inr (mid, reading, makes)) = elim (laws.appends held arms mid new content true ((laws.reads held arms journal mid true holds-up reading).1 refl) makes) [
+  after-append content new makes = elim (laws.appends held arms journal new content true holds-up makes) [
     | inl appends ↦ appends
     | inr (same, holds) ↦ absurd (true≢false same)
   ]
 
-  pub has-begun : (up : SiteState (Journal MemState)) → HasOpened (journal_model mem_model) journal n catalog up → IsReady (journal_model mem_model) up
+  pub has-begun : (up : SiteState (Journal MemState)) → HasResumed (journal_model mem_model) journal left false up → IsReady (journal_model mem_model) up
       → HasBegun catalog n (Up up) is (start.Started up.epoch)
-  has-begun up opened ready =
-      let same : opened.records ≡ is.records = were-read opened.records opened.contents opened.read opened.spelled in
-      let attempt = start-is opened.records opened.contents (starts opened.running (epoch_begun opened.epoch)) opened.read opened.spelled opened.starts in
-      let (later, still, holds) = comes-through 3 (held ++ opened.content ∷ []) (contents_left held opened.content) up.log.disk synced.armed
-      (after-append opened.content up.log opened.calls) in (
+  has-begun up resumed ready =
+      let attempt = start-is (starts resumed.running (epoch_begun resumed.epoch)) resumed.starts in
+      let (later, still, holds) = comes-through 3 (held ++ resumed.content ∷ []) (contents_left held resumed.content) up.log.disk synced.armed
+      (after-append resumed.content up.log resumed.calls) in (
         ap (λ (a : Attempt). a.lines) attempt
             ∙ ap (λ (epoch : ℕ). protocol.Line.started n epoch ∷ [])
-            (epoch-runs (setup_of catalog) opened.records opened.running opened.epoch opened.starts ∙ sym (ap (λ (s : SiteState (Journal MemState)). s.epoch) opened.site)),
+            (epoch-runs (setup_of left.catalog) left.records resumed.running resumed.epoch resumed.starts ∙ sym (ap (λ (s : SiteState (Journal MemState)). s.epoch) resumed.site)),
         subst (IsDone catalog n (Up up) is) (sym attempt)
             (record {
               armed = later;
               waits = waits-both is.arm synced.armed later synced.waits still;
               stands = record {
-                me = ap (λ (s : SiteState (Journal MemState)). s.me) opened.site;
-                catalog = ap (λ (s : SiteState (Journal MemState)). s.catalog) opened.site;
-                records = ap (λ (s : SiteState (Journal MemState)). s.records) opened.site ∙ ap (λ (all : List Record). all ++ epoch_begun opened.epoch ∷ []) same;
-                runs = ap (λ (s : SiteState (Journal MemState)). is_some s.running) opened.site;
-                running = ap (λ (s : SiteState (Journal MemState)). s.running) opened.site;
+                me = ap (λ (s : SiteState (Journal MemState)). s.me) resumed.site ∙ synced.keeps.site;
+                catalog = ap (λ (s : SiteState (Journal MemState)). s.catalog) resumed.site ∙ synced.keeps.catalog;
+                records = ap (λ (s : SiteState (Journal MemState)). s.records) resumed.site
+                    ∙ ap (λ (all : List Record). all ++ epoch_begun resumed.epoch ∷ []) synced.keeps.records;
+                runs = ap (λ (s : SiteState (Journal MemState)). is_some s.running) resumed.site;
+                running = ap (λ (s : SiteState (Journal MemState)). s.running) resumed.site;
                 ready = ready;
                 disk = record {
-                  contents = held ++ opened.content ∷ [];
-                  spelled = spell-append is.records held (epoch_begun opened.epoch) opened.content synced.disk.spelled opened.content_is;
+                  contents = held ++ resumed.content ∷ [];
+                  spelled = spell-append is.records held (epoch_begun resumed.epoch) resumed.content synced.disk.spelled resumed.content_is;
                   holds = holds;
                 };
               };
@@ -253,11 +328,11 @@ module _ (laws : Laws) (catalog : Declared) (n : ℕ) (journal : Journal MemStat
       )
 
   -- It is refused, and is down as it was.
-  is-refused : (new : Journal MemState) (line : protocol.Line) → JournalGoes mem_model journal read_all true new → start_attempt catalog n is ≡ refused_start line
-      → ((start_attempt catalog n is).lines ≡ line ∷ []) × IsDone catalog n (Down new.disk store) is (start_attempt catalog n is)
-  is-refused new line reading attempt = (
+  is-refused : (line : protocol.Line) → start_attempt catalog n is ≡ refused_start line
+      → ((start_attempt catalog n is).lines ≡ line ∷ []) × IsDone catalog n (Down journal.disk left) is (start_attempt catalog n is)
+  is-refused line attempt = (
     ap (λ (a : Attempt). a.lines) attempt,
-    subst (IsDone catalog n (Down new.disk store) is) (sym attempt)
+    subst (IsDone catalog n (Down journal.disk left) is) (sym attempt)
         (record {
           armed = synced.armed;
           waits = synced.waits;
@@ -269,29 +344,35 @@ module _ (laws : Laws) (catalog : Declared) (n : ℕ) (journal : Journal MemStat
             disk = record {
               contents = held;
               spelled = subst (λ (all : List Record). SpellRecords all held) (sym (append-nil is.records)) synced.disk.spelled;
-              holds = (laws.reads held arms journal new true holds-up reading).0;
+              holds = synced.disk.holds;
             };
           };
         }),
   )
 
-  pub has-no-room : (new : Journal MemState) (length : ℕ) → Opens (journal_model mem_model) journal n catalog (Err (refused.Full new length))
-      → HasBegun catalog n (Down new.disk store) is (start.Full length)
-  has-no-room new length (records, reads, cause) =
-      is-refused new (protocol.Line.full n length) reads.call (start-is records reads.contents (too_long length) reads.read reads.spelled cause.1)
+  -- What comes back is what was there.
+  come-back : (new : Journal MemState) (back : Remains) (answer : Start) → new ≡ journal → back ≡ left → HasBegun catalog n (Down journal.disk left) is answer
+      → HasBegun catalog n (Down new.disk back) is answer
+  come-back new back answer same given begun =
+      subst (λ (now : Journal MemState). HasBegun catalog n (Down now.disk back) is answer) (sym same)
+      (subst (λ (now : Remains). HasBegun catalog n (Down journal.disk now) is answer) (sym given) begun)
 
-  pub has-no-epoch : (new : Journal MemState) → Opens (journal_model mem_model) journal n catalog (Err (refused.EpochsSpent new))
-      → HasBegun catalog n (Down new.disk store) is start.Spent
-  has-no-epoch new (records, reads, cause) =
-      is-refused new (protocol.Line.spent n) reads.call (start-is records reads.contents no_epoch reads.read reads.spelled cause.1)
+  pub has-no-room : (new : Journal MemState) (back : Remains) (length : ℕ) → Resumes (journal_model mem_model) journal left false (Err (refused.Full new back length))
+      → HasBegun catalog n (Down new.disk back) is (start.Full length)
+  has-no-room new back length (same, given, cause) =
+      come-back new back (start.Full length) same given (is-refused (protocol.Line.full n length) (start-is (too_long length) cause))
 
-  append-fires : (records : List Record) (contents : Contents) (running : Running) (epoch : ℕ) (content : List ℕ) (new : Journal MemState)
-      → WereRead (journal_model mem_model) journal contents → SpellRecords records contents → site_start (setup_of catalog) records ≡ starts running (epoch_begun epoch)
+  pub has-no-epoch : (new : Journal MemState) (back : Remains) → Resumes (journal_model mem_model) journal left false (Err (refused.EpochsSpent new back))
+      → HasBegun catalog n (Down new.disk back) is start.Spent
+  has-no-epoch new back (same, given, cause) = come-back new back start.Spent same given (is-refused (protocol.Line.spent n) (start-is no_epoch cause))
+
+  append-fires : (running : Running) (epoch : ℕ) (content : List ℕ) (new : Journal MemState)
+      → site_start (setup_of left.catalog) left.records ≡ starts running (epoch_begun epoch)
       → SpellsRecord (epoch_begun epoch) content → AppendsArmed held content arms false new.disk → HasFired catalog n is new.disk
-  append-fires records contents running epoch content new read spelled begins one fired =
+  append-fires running epoch content new begins one fired =
       let (fault, armed, near, holds) = comes-fired 3 (held ++ content ∷ []) (contents_left held content) new.disk synced.armed fired in
       let late : FiresLate is.arm fault = fires-late is.arm synced.armed fault synced.waits armed near in
-      let attempt = start-is records contents (starts running (epoch_begun epoch)) read spelled begins in
+      let attempt = start-is (starts running (epoch_begun epoch)) begins in
       record {
         fault = late.first;
         fires = ap (λ (a : Attempt). reached (calls_of a) is.arm) attempt ∙ (ap (λ (arm : Option Arm). reached 5 arm) late.is ∙ fires-within 4 late.first late.near);
@@ -303,31 +384,12 @@ module _ (laws : Laws) (catalog : Declared) (n : ℕ) (journal : Journal MemStat
             });
       }
 
-  holds-still : (new : Journal MemState) → Holds held arms None new.disk → StartFails catalog n is new.disk
-  holds-still new holds = inr (synced.armed, record { contents = held; spelled = synced.disk.spelled; holds = holds })
-
-  pub opening-fails : (new : Journal MemState) → Opens (journal_model mem_model) journal n catalog (Err (refused.Failed new)) → StartFails catalog n is new.disk
-  opening-fails new (inl reading) = holds-still new (laws.reads held arms journal new false holds-up reading.call).0
-  opening-fails new (inr begin) =
-      let up : HoldsUp held arms begin.mid = (laws.reads held arms journal begin.mid true holds-up begin.reading).1 refl in
-      let calls : Makes (JournalGoes mem_model) begin.mid (reserve (length begin.content) ∷ append begin.content ∷ []) false new =
-      elim begin.calls [ inl (kept, reserves) ↦ inl (refl, reserves) | inr (roomy, kept, reserves, appends) ↦ inr (roomy, reserves, inl (refl, appends)) ] in
-      elim (laws.appends held arms begin.mid new begin.content false up calls) [
-        | inl fired ↦
-            inl (append-fires begin.records begin.contents begin.running begin.epoch begin.content new begin.read begin.spelled begin.starts begin.content_is fired)
-        | inr (same, holds) ↦ holds-still new holds
+  -- Its journal failed at the epoch.
+  pub resuming-fails : (new : Journal MemState) → FailsToResume (journal_model mem_model) journal left new → StartFails catalog n is new.disk
+  resuming-fails new fails =
+      let calls : Makes (JournalGoes mem_model) journal (reserve (length fails.content) ∷ append fails.content ∷ []) false new =
+      elim fails.calls [ inl (kept, reserves) ↦ inl (refl, reserves) | inr (roomy, kept, reserves, appends) ↦ inr (roomy, reserves, inl (refl, appends)) ] in
+      elim (laws.appends held arms journal new fails.content false holds-up calls) [
+        | inl fired ↦ inl (append-fires fails.running fails.epoch fails.content new fails.starts fails.content_is fired)
+        | inr (same, holds) ↦ inr (synced.armed, record { contents = held; spelled = synced.disk.spelled; holds = holds })
       ]
-
-  -- The journal is one, no record is bad, and no value names too many outcomes.
-  pub not-foreign : (new : Journal MemState) (place : ℕ) → Opens (journal_model mem_model) journal n catalog (Err (refused.NotOurs new place)) → ⊥
-  not-foreign new place (up, kept, untold, found) = true≢false (sym (ap (λ (contents : Option Contents). is_some contents) known) ∙ untold)
-
-  pub no-bad-record : (new : Journal MemState) (index : ℕ) → Opens (journal_model mem_model) journal n catalog (Err (refused.BadRecord new index)) → ⊥
-  no-bad-record new index (up, kept, found, call) =
-      none-bad found.0 is.records index (subst (SpellRecords is.records) (sym (found.1 held known)) synced.disk.spelled) found.2
-
-  pub not-too-many : (new : Journal MemState) (count : ℕ) → IsNarrow HELD_NAMES catalog n is.records
-      → Opens (journal_model mem_model) journal n catalog (Err (refused.TooManyOutcomes new count)) → ⊥
-  not-too-many new count narrow (records, reads, cause) =
-      none-some count (sym (narrow-is-taken catalog n is.records narrow)
-      ∙ subst (λ (r : List Record). too_many_in catalog n r ≡ Some count) (were-read records reads.contents reads.read reads.spelled) cause)

@@ -27,7 +27,7 @@ stands-count catalog n [] (site ∷ sites) stands = absurd stands
 stands-count catalog n (cell ∷ cells) [] stands = absurd stands
 stands-count catalog n (cell ∷ cells) (site ∷ sites) stands = ap suc (stands-count catalog (n + 1) cells sites stands.1)
 
-stands-from : (catalog : Declared) (n : ℕ) (cells : List Cell) (sites : List state.Site) (i : ℕ) (d : Cell) → StandForSites catalog n cells sites → i < length cells
+pub stands-from : (catalog : Declared) (n : ℕ) (cells : List Cell) (sites : List state.Site) (i : ℕ) (d : Cell) → StandForSites catalog n cells sites → i < length cells
     → StandsForSite catalog (n + i) (get_or cells i d) (get_or sites i no_site)
 stands-from catalog n [] sites i d stands within = absurd (omega (arith, within))
 stands-from catalog n (cell ∷ cells) [] i d stands within = absurd stands

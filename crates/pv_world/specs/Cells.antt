@@ -3,20 +3,22 @@ use Rattle.std.specs.Prelude.{◌≡◌, ℕ, true, false, Bool, All, List, [], 
 use Rattle.pv_base.specs.Catalog.{Declared}
 use Rattle.pv_disk.specs.MemDisk.{MemState}
 use Rattle.pv_format.specs.Record.{Record}
+use Rattle.pv_journal.specs.declared.journal.Journal.{Journal}
 use Rattle.pv_law_events.specs.Replays.{CanBeReplayed}
 use Rattle.pv_protocol.specs.Arms.{Reached, waits, fires, reached, calls_of, record_left, broken_line}
 use Rattle.pv_protocol.specs.Attempt.{Attempt, of_step, of_start}
 use Rattle.pv_protocol.specs.Lines as protocol
+use Rattle.pv_protocol.specs.Records.{journal_bytes}
 use Rattle.pv_protocol.specs.Start.{site_start}
 use Rattle.pv_protocol.specs.State as model
 use Rattle.pv_protocol.specs.State.{Arm, Running}
 use Rattle.pv_protocol.specs.Step.{site_step}
 use Rattle.pv_site.specs.Answer.{IsAnswer}
 use Rattle.pv_site.specs.Inputs.{IsInputFor, IsSpelledFrom}
-use Rattle.pv_site.specs.SiteState.{setup_of}
+use Rattle.pv_site.specs.Recovered.{Remains}
+use Rattle.pv_site.specs.SiteState.{SiteState, setup_of}
 use Rattle.pv_site.specs.Values.{input_of}
 use Rattle.pv_site.specs.declared.input.Input.{Input}
-use Rattle.pv_store.specs.Kept.{Kept}
 use Rattle.pv_world.specs.Disks.{Spells}
 use Rattle.pv_world.specs.Stands.{StandsForSite}
 use Rattle.pv_world.specs.declared.cell.Cell.{Cell}
@@ -59,10 +61,6 @@ abbrev pub site_after_start : Declared → ℕ → model.Site → Option Running
 site_after_start catalog n is None = let attempt = start_attempt catalog n is in site_after is attempt (reached (calls_of attempt) is.arm)
 site_after_start catalog n is (Some running) = is
 
--- The cell is the site of this number, which can read its records anew.
-abbrev pub IsReplayable : Declared → ℕ → Cell → Type 0
-IsReplayable catalog n cell = (is : model.Site) × StandsForSite catalog n cell is × CanBeReplayed (setup_of catalog) n is.records
-
 -- The cell is the site of this number, and the input is for it. It can read its records anew, now and after the input.
 pub record TakesInput (catalog : Declared) (n : ℕ) (cell : Cell) (input : Input) : Type 0 where
   pub is : model.Site
@@ -78,26 +76,37 @@ pub record CanStart (catalog : Declared) (n : ℕ) (cell : Cell) : Type 0 where
   pub replayable : CanBeReplayed (setup_of catalog) n is.records
   pub after : CanBeReplayed (setup_of catalog) n (site_after_start catalog n is is.running).records
 
--- The disk holds records that the site of this number can read anew.
-abbrev pub CanBeRead : Declared → ℕ → MemState → Type 0
-CanBeRead catalog n disk =
-    (records : List Record) × (armed : Option Arm) × (fired : Option Bool) × Spells records armed fired disk × CanBeReplayed (setup_of catalog) n records
+-- The disk holds the records of what outlived the memory, with one more or none. This is armed there, and this has fired. The site can read them anew.
+abbrev pub CanBeRead : Remains → Option Arm → Option Bool → MemState → Type 0
+CanBeRead left armed fired disk =
+    (added : Option Record) × Spells (left.records ++ option_to_list added) armed fired disk
+    × CanBeReplayed (setup_of left.catalog) left.me (left.records ++ option_to_list added)
 
--- The cell's site is in memory, and its disk holds these records. This is armed there, and this has fired.
-abbrev pub IsUpOver : List Record → Option Arm → Option Bool → Cell → Type 0
-IsUpOver records armed fired (Up up) = Spells records armed fired up.log.disk
-IsUpOver records armed fired other = ⊥
+-- what outlives the memory of the site
+abbrev pub left_by : SiteState (Journal MemState) → Remains
+left_by up = record { me = up.me; catalog = up.catalog; records = up.records }
 
--- The cell's site of this number is in memory, over a disk that holds records that it can read anew.
-abbrev pub CanFall : Declared → ℕ → Cell → Type 0
-CanFall catalog n cell =
-    (records : List Record) × (armed : Option Arm) × (fired : Option Bool) × IsUpOver records armed fired cell × CanBeReplayed (setup_of catalog) n records
+-- The cell's site is in memory, which this outlives, and its disk holds the records of it and this one, if it is one. This is armed there, and this
+-- has fired.
+abbrev pub IsUpOver : Remains → Option Record → Option Arm → Option Bool → Cell → Type 0
+IsUpOver left added armed fired (Up up) = (left ≡ left_by up) × Spells (left.records ++ option_to_list added) armed fired up.log.disk
+IsUpOver left added armed fired other = ⊥
 
--- The store keeps these records of the site of this number.
-pub record KeepsRecords (declared : Declared) (n : ℕ) (recorded : List Record) (store : Kept) : Type 0 where
-  pub site : store.site ≡ n
-  pub catalog : store.catalog ≡ declared
-  pub records : store.records ≡ recorded
+-- The cell's site is in memory, over a disk that holds its records with one more or none, which it can read anew. Its own make a journal this long.
+pub record CanFall (length : ℕ) (cell : Cell) : Type 0 where
+  pub left : Remains
+  pub added : Option Record
+  pub armed : Option Arm
+  pub fired : Option Bool
+  pub over : IsUpOver left added armed fired cell
+  pub size : length ≡ journal_bytes left.records
+  pub replayable : CanBeReplayed (setup_of left.catalog) left.me (left.records ++ option_to_list added)
+
+-- What outlived the memory of the site of this number is of these records.
+pub record KeepsRecords (declared : Declared) (n : ℕ) (recorded : List Record) (left : Remains) : Type 0 where
+  pub site : left.me ≡ n
+  pub catalog : left.catalog ≡ declared
+  pub records : left.records ≡ recorded
 
 -- what a start prints
 abbrev pub start_line : ℕ → Start → protocol.Line
@@ -107,11 +116,12 @@ start_line n (start.Full length) = protocol.Line.full n length
 start_line n start.Spent = protocol.Line.spent n
 start_line n (start.Broke stops) = broken_line n stops
 
--- What fired on the disk stands for a stop or for a fault, as is answered, and the cell is the site of this number, down with these records.
-abbrev pub HasFallen : Declared → ℕ → List Record → Option Bool → Cell → Stepped → Type 0
-HasFallen catalog n records fired new (Broke stops) =
-    (fired ≡ Some stops) × StandsForSite catalog n new (record { records = records; arm = None; running = None })
-HasFallen catalog n records fired new other = ⊥
+-- What fired on the disk stands for a stop or for a fault, as is answered, and the cell is the site whose memory this outlived, down with the records
+-- of it and this one, if it is one.
+abbrev pub HasFallen : Remains → Option Record → Option Bool → Cell → Stepped → Type 0
+HasFallen left added fired new (Broke stops) =
+    (fired ≡ Some stops) × StandsForSite left.catalog left.me new (record { records = left.records ++ option_to_list added; arm = None; running = None })
+HasFallen left added fired new other = ⊥
 
 module _ (catalog : Declared) (n : ℕ) (new : Cell) (is : model.Site) where
   -- All writes and syncs of the attempt are made, and the cell is the site then.

@@ -1,5 +1,5 @@
 -- What the disk of a site holds.
-use Rattle.std.specs.Prelude.{Bool, List, Option}
+use Rattle.std.specs.Prelude.{ℕ, Bool, List, [], ◌∷◌, Option, ⊤}
 use Rattle.std.specs.Option.{option_map}
 use Rattle.pv_disk.specs.MemDisk.{MemState}
 use Rattle.pv_disk.specs.declared.arms.Arm.{Arm}
@@ -7,6 +7,7 @@ use Rattle.pv_format.specs.Contents.{SpellRecords}
 use Rattle.pv_format.specs.Record.{Record}
 use Rattle.pv_journal.specs.Armed.{Holds}
 use Rattle.pv_law_disk.specs.Size.{Contents}
+use Rattle.pv_law_journal.specs.Format.{IsJournal}
 use Rattle.pv_protocol.specs.State as model
 
 -- an armed fault as the disk has it
@@ -18,3 +19,13 @@ pub record Spells (records : List Record) (armed : Option model.Arm) (fired : Op
   pub contents : Contents
   pub spelled : SpellRecords records contents
   pub holds : Holds contents (option_map armed_as armed) fired disk
+
+-- The bytes are a journal of these records.
+abbrev pub IsJournalOf : List Record → List ℕ → Type 0
+IsJournalOf records bytes = (contents : Contents) × IsJournal contents bytes × SpellRecords records contents
+
+-- There is a disk for each of these sites, in their order, and it holds a journal of the site's records.
+abbrev pub HoldSites : List MemState → List model.Site → Type 0
+HoldSites [] [] = ⊤
+HoldSites (disk ∷ disks) (site ∷ sites) = IsJournalOf site.records disk.image.content × HoldSites disks sites
+HoldSites _ _ = ⊥

@@ -1,4 +1,4 @@
--- A site on its journal, between the sync and the reading of its start.
+-- A site on its journal, between the sync and the append of its start.
 use Rattle.std.specs.Prelude.{◌≡◌, ℕ, false, Option, None}
 use Rattle.pv_base.specs.Catalog.{Declared}
 use Rattle.pv_disk.specs.MemDisk.{MemState}
@@ -9,15 +9,15 @@ use Rattle.pv_law_events.specs.Replays.{CanBeReplayed}
 use Rattle.pv_protocol.specs.Arms.{reached, waits}
 use Rattle.pv_protocol.specs.State as model
 use Rattle.pv_protocol.specs.State.{Arm}
+use Rattle.pv_site.specs.Recovered.{Remains}
 use Rattle.pv_site.specs.SiteState.{setup_of}
-use Rattle.pv_store.specs.Kept.{Kept}
 use Rattle.pv_world.specs.Cells.{KeepsRecords, site_after_start}
 use Rattle.pv_world.specs.Disks.{Spells}
 
--- The journal is that of the site of this number, and just opened. It holds the site's records, as the store does. The sync that came first didn't
--- fire, and an armed fault is nearer by it.
-pub record IsSynced (declared : Declared) (n : ℕ) (journal : Journal MemState) (store : Kept) (is : model.Site) : Type 0 where
-  pub keeps : KeepsRecords declared n is.records store
+-- The journal is that of the site of this number, and just opened. It holds the site's records, of which is what outlived its memory. The
+-- sync that came first didn't fire, and an armed fault is nearer by it.
+pub record IsSynced (declared : Declared) (n : ℕ) (journal : Journal MemState) (left : Remains) (is : model.Site) : Type 0 where
+  pub keeps : KeepsRecords declared n is.records left
   pub intact : IsIntact mem_model journal
   pub up : journal.down ≡ false
   pub limit : journal.limit ≡ declared.journal
@@ -26,8 +26,8 @@ pub record IsSynced (declared : Declared) (n : ℕ) (journal : Journal MemState)
   pub disk : Spells is.records armed None journal.disk
 
 -- The journal is that of the site of this number. It can read its records anew, now and after the start.
-pub record CanGoOn (declared : Declared) (n : ℕ) (journal : Journal MemState) (store : Kept) : Type 0 where
+pub record CanGoOn (declared : Declared) (n : ℕ) (journal : Journal MemState) (left : Remains) : Type 0 where
   pub is : model.Site
-  pub synced : IsSynced declared n journal store is
+  pub synced : IsSynced declared n journal left is
   pub replayable : CanBeReplayed (setup_of declared) n is.records
   pub after : CanBeReplayed (setup_of declared) n (site_after_start declared n is None).records

@@ -10,9 +10,9 @@ use Rattle.pv_protocol.specs.Limit.{over_limit}
 use Rattle.pv_protocol.specs.Sound.{IsSetupInRange}
 use Rattle.pv_protocol.specs.State as state
 use Rattle.pv_protocol.specs.World as model
+use Rattle.pv_site.specs.Recovered.{Remains}
 use Rattle.pv_site.specs.SiteState.{SiteState, setup_of}
 use Rattle.pv_site.specs.Steps.{IsReady}
-use Rattle.pv_store.specs.Kept.{Kept}
 use Rattle.pv_world.specs.Carry.{Carry}
 use Rattle.pv_world.specs.Disks.{Spells}
 use Rattle.pv_world.specs.Reached.{IsReached}
@@ -32,19 +32,23 @@ pub record IsUp (declared : Declared) (n : ℕ) (up : SiteState (Journal MemStat
   pub ready : IsReady (journal_model mem_model) up
   pub disk : Spells site.records site.arm None up.log.disk
 
--- The site is down. Its disk holds its records, and the store what they say.
-pub record IsDown (declared : Declared) (n : ℕ) (on : MemState) (store : Kept) (site : state.Site) : Type 0 where
-  pub me : store.site ≡ n
-  pub catalog : store.catalog ≡ declared
-  pub records : store.records ≡ site.records
+-- The site is down. Its disk holds its records, and what outlived its memory is of these.
+pub record IsDown (declared : Declared) (n : ℕ) (on : MemState) (left : Remains) (site : state.Site) : Type 0 where
+  pub me : left.me ≡ n
+  pub catalog : left.catalog ≡ declared
+  pub records : left.records ≡ site.records
   pub down : site.running ≡ None
   pub disk : Spells site.records site.arm None on
 
 -- The cell is the site of this number.
 abbrev pub StandsForSite : Declared → ℕ → Cell → state.Site → Type 0
 StandsForSite catalog n (Up up) site = IsUp catalog n up site
-StandsForSite catalog n (Down disk store) site = IsDown catalog n disk store site
+StandsForSite catalog n (Down disk left) site = IsDown catalog n disk left site
 StandsForSite catalog n Vacant site = ⊥
+
+-- The cell is some site, up or down.
+abbrev pub IsSomeSite : Cell → Type 0
+IsSomeSite cell = (catalog : Declared) × (n : ℕ) × (is : state.Site) × StandsForSite catalog n cell is
 
 -- The cells are the sites that are numbered from here on.
 abbrev pub StandForSites : Declared → ℕ → List Cell → List state.Site → Type 0

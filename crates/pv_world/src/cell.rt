@@ -10,17 +10,18 @@ ghost use Rattle.pv_protocol.specs.Shown.{shown};
 ghost use Rattle.pv_protocol.specs.State as model;
 ghost use Rattle.pv_protocol.specs.World.{first_site};
 ghost use Rattle.pv_site.specs.Asked.{grant_held, grant_taken, voting_at};
+ghost use Rattle.pv_site.specs.Recovered.{Remains};
 ghost use Rattle.pv_site.specs.Values.{input_of};
-ghost use Rattle.pv_world.specs.Cells.{CanFall, CanStart, HasFallen, HasStarted, HasStepped, HasStopped, IsReplayable, IsUpOver, TakesInput};
+ghost use Rattle.pv_world.specs.Cells.{CanFall, CanStart, HasFallen, HasStarted, HasStepped, HasStopped, IsUpOver, TakesInput};
+ghost use Rattle.pv_world.specs.Disks.{IsJournalOf};
 ghost use Rattle.pv_world.specs.Readings.{OwnsItem, reading_in};
-ghost use Rattle.pv_world.specs.Stands.{StandsForSite};
+ghost use Rattle.pv_world.specs.Stands.{IsSomeSite, StandsForSite};
 
-use crate::restart::{fallen, first_started, started, store_of};
+use crate::restart::{fallen, first_started, started};
 use pv_base::{Catalog, GrantId, ItemId, Mode, NoMemory, SiteId, TxnId};
 use pv_disk::MemDisk;
 use pv_journal::{Journal, armed_journals};
-use pv_site::{Input, Shown, Site, Step, StepError};
-use pv_store::Store;
+use pv_site::{Input, Recovered, Shown, Site, Step, StepError};
 use std::alloc::Global;
 use std::mem::replace;
 
@@ -29,8 +30,8 @@ use std::mem::replace;
 pub(crate) enum Cell {
     /// It is up.
     Up(Site<Journal<MemDisk>>),
-    /// It is down: its disk, and what its records say.
-    Down(MemDisk, Store),
+    /// It is down: its disk, and what outlived its memory.
+    Down(MemDisk, Recovered),
     /// It is being stopped or started, or there was no memory for that.
     Vacant,
 }
@@ -76,7 +77,7 @@ impl Cell {
         first_started(alloc, site, catalog)
     }
 
-    /// What the site of this number makes of the input. Where a write or a sync of its disk fires, it reads its records anew, as in a stop.
+    /// What the site of this number makes of the input. Where a write or a sync of its disk fires, it reads its records anew if one was added.
     pub(crate) fn step(
         &mut self,
         alloc: Global,
@@ -92,56 +93,51 @@ impl Cell {
         let Cell::Up(up) = self else {
             return Ok(Stepped::Down);
         };
+        let length = up.length();
         match up.step(input) {
             Ok(step) => Ok(Stepped::Made(step)),
-            Err(StepError::Fault) => self.fall(alloc, site, catalog),
+            Err(StepError::Fault) => self.fall(length, alloc),
             Err(StepError::NoMemory) => Err(NoMemory),
             // The site is up.
             Err(StepError::Down) => unreachable!(),
         }
     }
 
-    // Takes a site from memory whose journal failed.
-    fn fall(&mut self, alloc: Global, site: SiteId, catalog: &Catalog) -> Result<Stepped, NoMemory>
-        requires { CanFall catalog.now site.0 self.old }
-        ensures { (records : List Record) (armed : Option model.Arm) (fired : Option Bool) → IsUpOver records armed fired self.old →
-            IfOk result (HasFallen catalog.now site.0 records fired self.new) }
+    // Takes a site from memory whose journal failed, and had this length before.
+    fn fall(&mut self, length: u64, alloc: Global) -> Result<Stepped, NoMemory>
+        requires { CanFall length self.old }
+        ensures { (left : Remains) (added : Option Record) (armed : Option model.Arm) (fired : Option Bool) → IsUpOver left added armed fired self.old →
+            IfOk result (HasFallen left added fired self.new) }
     {
         let Cell::Up(up) = replace(self, Cell::Vacant) else {
             return Ok(Stepped::Down);
         };
-        let (cell, stops) = fallen(up.close().close(), alloc, site, catalog)?;
+        let (journal, left) = up.leave();
+        let (cell, stops) = fallen(journal.close(), length, left, alloc)?;
         *self = cell;
         Ok(Stepped::Broke { stops })
     }
 
-    /// Stops a site that is up, and answers whether it was. It then reads its records from its disk, in time in proportion to the journal and
-    /// the catalog.
-    pub(crate) fn stop(
-        &mut self,
-        alloc: Global,
-        site: SiteId,
-        catalog: &Catalog,
-    ) -> Result<bool, NoMemory>
-        requires { IsReplayable catalog.now site.0 self.old }
-        ensures { (is : model.Site) → StandsForSite catalog.now site.0 self.old is →
-            IfOk result (HasStopped catalog.now site.0 self.old self.new is is.running) }
+    /// Stops a site that is up, and answers whether it was. What its records say is kept, so that nothing is read.
+    pub(crate) fn stop(&mut self) -> bool
+        ensures { (catalog : Declared) (n : ℕ) (is : model.Site) → StandsForSite catalog n self.old is →
+            HasStopped catalog n self.old self.new is is.running result }
     {
         match replace(self, Cell::Vacant) {
             Cell::Up(up) => {
-                let mut disk = up.close().close();
-                let store = store_of(&mut disk, alloc, site, catalog)?;
-                *self = Cell::Down(disk, store);
-                Ok(true)
+                let (journal, left) = up.leave();
+                *self = Cell::Down(journal.close(), left);
+                true
             }
             down => {
                 *self = down;
-                Ok(false)
+                false
             }
         }
     }
 
-    /// Starts a site that is down. Takes time in proportion to the journal and the catalog.
+    /// Starts a site that is down: its journal is opened, which reads the length of each record, and it goes on from what it kept. Takes time in
+    /// proportion to the records, and where a write or a sync fires, to the journal and the catalog.
     pub(crate) fn start(
         &mut self,
         alloc: Global,
@@ -154,8 +150,8 @@ impl Cell {
             IfOk result (HasStarted catalog.now site.0 self.old self.new is is.running) }
     {
         match replace(self, Cell::Vacant) {
-            Cell::Down(disk, store) => {
-                let (cell, start) = started(disk, store, alloc, site, catalog)?;
+            Cell::Down(disk, left) => {
+                let (cell, start) = started(disk, left, alloc, site, catalog)?;
                 *self = cell;
                 Ok(start)
             }
@@ -189,6 +185,19 @@ impl Cell {
             Cell::Up(up) => up.log().disk().mend(),
             Cell::Down(disk, _) => disk.mend(),
             Cell::Vacant => {}
+        }
+    }
+
+    /// The site's disk.
+    pub(crate) fn close(self) -> MemDisk
+        requires { IsSomeSite self }
+        ensures { (catalog : Declared) (n : ℕ) (is : model.Site) → StandsForSite catalog n self is → IsJournalOf is.records result.image.content }
+    {
+        match self {
+            Cell::Up(up) => up.close().close(),
+            Cell::Down(disk, _) => disk,
+            // It is neither being stopped nor started.
+            Cell::Vacant => unreachable!(),
         }
     }
 
@@ -228,7 +237,7 @@ impl Cell {
     {
         match self {
             Cell::Up(up) => up.prepared(txn),
-            Cell::Down(_, store) => store.prepared(txn),
+            Cell::Down(_, left) => left.prepared(txn),
             Cell::Vacant => false,
         }
     }
@@ -239,7 +248,7 @@ impl Cell {
     {
         match self {
             Cell::Up(up) => up.known(txn),
-            Cell::Down(_, store) => store.known(txn),
+            Cell::Down(_, left) => left.known(txn),
             Cell::Vacant => None,
         }
     }

@@ -167,8 +167,7 @@ impl World {
         ensures { (is : model.World) → StandsFor self.old is →
             Comes self.old self.new lines.old.items lines.new.items (halted is site.0 (site_at is site.0).running) result }
     {
-        reached_worlds_are_lawful();
-        let stopped = self.cells[site.0 as usize].stop(self.alloc, site, &self.catalog)?;
+        let stopped = self.cells[site.0 as usize].stop();
         Ok(lines.push(if stopped {
             Line::Stopped(site)
         } else {

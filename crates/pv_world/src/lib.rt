@@ -11,6 +11,7 @@ mod mail;
 mod order;
 mod report;
 mod restart;
+mod room;
 mod sent;
 mod spelled;
 mod total;

@@ -1,22 +1,23 @@
-// How a site comes from its disk: its first start, its later ones, and what its records say where it is down.
-ghost use Rattle.std.specs.Prelude.{◌≡◌, ◌<◌, Bool, IfOk, List, [], None, Option, Some};
+// How a site starts: for the first time, and later on; and what its records say once its disk has failed.
+ghost use Rattle.std.specs.Prelude.{◌≡◌, ◌<◌, ◌++◌, Bool, IfOk, List, [], None, Option, Some, option_to_list};
 ghost use Rattle.pv_format.specs.Record.{Record};
+ghost use Rattle.pv_protocol.specs.Records.{journal_bytes};
 ghost use Rattle.pv_protocol.specs.State as model;
 ghost use Rattle.pv_protocol.specs.World.{first_site};
-ghost use Rattle.pv_world.specs.Cells.{CanBeRead, CanStart, HasBegun, HasStarted, KeepsRecords};
+ghost use Rattle.pv_world.specs.Cells.{CanBeRead, CanStart, HasBegun, HasStarted};
 ghost use Rattle.pv_world.specs.Disks.{Spells};
 ghost use Rattle.pv_world.specs.Restarts.{CanGoOn, IsSynced};
 ghost use Rattle.pv_world.specs.Stands.{StandsForSite};
 ghost use Rattle.pv_world.specs.declared.cell.Cell.TheVariants.{Down};
 
 use crate::cell::{Cell, Start};
-use pv_base::{Catalog, NoMemory, SiteId};
-use pv_disk::{DiskError, LookError, MemDisk};
+use pv_base::{Catalog, MAX_JOURNAL, NoMemory, SiteId};
+use pv_disk::{DiskError, Log, LookError, MemDisk};
 use pv_journal::{Journal, OpenLog, armed_journals, format, formatted_journals, look};
 use pv_law_step::{no_records_are_narrow, starts_keep_width};
 use pv_replay::{ReplayError, replay};
-use pv_site::{OpenError, Site};
-use pv_store::{Store, StoreError};
+use pv_site::{Recovered, ResumeError, Site, logs_tell_of_records};
+use pv_store::StoreError;
 use std::alloc::Global;
 
 /// The site after its first start, over an empty disk that is made for it.
@@ -33,8 +34,8 @@ pub(crate) fn first_started(
     // The least limit has room for the record of the first epoch.
     let _limit = catalog.journal();
     let disk = formatted(alloc)?;
-    let store = Store::new(alloc, catalog, site)?;
-    let (cell, _) = started(disk, store, alloc, site, catalog)?;
+    let left = Recovered::new(alloc, site, catalog)?;
+    let (cell, _) = started(disk, left, alloc, site, catalog)?;
     Ok(cell)
 }
 
@@ -52,25 +53,26 @@ fn formatted(alloc: Global) -> Result<MemDisk, NoMemory>
     }
 }
 
-/// What comes of starting a site that is down, by its disk, and what its cell is then.
+/// What comes of starting a site that is down, by its disk and what outlived its memory, and what its cell is then.
 pub(crate) fn started(
     disk: MemDisk,
-    store: Store,
+    left: Recovered,
     alloc: Global,
     site: SiteId,
     catalog: &Catalog,
 ) -> Result<(Cell, Start), NoMemory>
-    requires replayable { CanStart catalog.now site.0 (Down disk store) }
+    requires replayable { CanStart catalog.now site.0 (Down disk left) }
     requires site { site.0 < catalog.now.sites }
-    ensures { (is : model.Site) → StandsForSite catalog.now site.0 (Down disk store) is →
-        IfOk result (λ made. HasStarted catalog.now site.0 (Down disk store) made.0 is is.running made.1) }
+    ensures { (is : model.Site) → StandsForSite catalog.now site.0 (Down disk left) is →
+        IfOk result (λ made. HasStarted catalog.now site.0 (Down disk left) made.0 is is.running made.1) }
 {
     armed_journals();
     match Journal::open(alloc, disk, catalog.journal()) {
-        Ok(journal) => opened(journal, store, alloc, site, catalog),
+        Ok(journal) => opened(journal, left, alloc, site, catalog),
         Err(OpenLog::Failed(disk)) => {
-            let (cell, stops) = fallen(disk, alloc, site, catalog)?;
-            Ok((cell, Start::Broke { stops }))
+            // Nothing was written.
+            let (disk, stops) = mended(disk)?;
+            Ok((Cell::Down(disk, left), Start::Broke { stops }))
         }
         Err(OpenLog::NoMemory(_)) => Err(NoMemory),
         // The disk holds a journal.
@@ -81,50 +83,61 @@ pub(crate) fn started(
 // What comes of starting the site on its journal, and what its cell is then.
 fn opened(
     journal: Journal<MemDisk>,
-    store: Store,
+    left: Recovered,
     alloc: Global,
     site: SiteId,
     catalog: &Catalog,
 ) -> Result<(Cell, Start), NoMemory>
-    requires replayable { CanGoOn catalog.now site.0 journal store }
+    requires replayable { CanGoOn catalog.now site.0 journal left }
     requires site { site.0 < catalog.now.sites }
-    ensures { (is : model.Site) → IsSynced catalog.now site.0 journal store is →
+    ensures { (is : model.Site) → IsSynced catalog.now site.0 journal left is →
         IfOk result (λ made. HasBegun catalog.now site.0 made.0 is made.1) }
 {
     armed_journals();
-    match Site::open(alloc, journal, site, catalog) {
+    logs_tell_of_records();
+    let before = journal.length();
+    match Site::resume(alloc, journal, left) {
         Ok(up) => {
             let epoch = up.epoch();
             Ok((Cell::Up(up), Start::Started(epoch)))
         }
-        Err(OpenError::Full(journal, length)) => {
-            Ok((Cell::Down(journal.close(), store), Start::Full(length)))
+        Err(ResumeError::Full(journal, left, length)) => {
+            Ok((Cell::Down(journal.close(), left), Start::Full(length)))
         }
-        Err(OpenError::EpochsSpent(journal)) => {
-            Ok((Cell::Down(journal.close(), store), Start::Spent))
+        Err(ResumeError::EpochsSpent(journal, left)) => {
+            Ok((Cell::Down(journal.close(), left), Start::Spent))
         }
-        Err(OpenError::Failed(journal)) => {
-            let (cell, stops) = fallen(journal.close(), alloc, site, catalog)?;
+        Err(ResumeError::Failed(journal, left)) => {
+            let (cell, stops) = fallen(journal.close(), before, left, alloc)?;
             Ok((cell, Start::Broke { stops }))
         }
-        Err(OpenError::NoMemory(_)) => Err(NoMemory),
-        // The disk holds a journal, and the site can read its records anew.
-        Err(OpenError::NotOurs(..)) => unreachable!(),
-        Err(OpenError::BadRecord(..)) => unreachable!(),
-        Err(OpenError::TooManyOutcomes(..)) => unreachable!(),
+        Err(ResumeError::NoMemory(_)) => Err(NoMemory),
     }
 }
 
-/// The site whose disk failed: its cell once the disk is mended, and whether that stood for a stop.
+/// The site whose disk failed: its cell once the disk is mended, and whether that stood for a stop. The journal had this length before, with the
+/// records of what outlived the memory, and now it has one more or none.
 pub(crate) fn fallen(
     disk: MemDisk,
+    length: u64,
+    left: Recovered,
     alloc: Global,
-    site: SiteId,
-    catalog: &Catalog,
 ) -> Result<(Cell, bool), NoMemory>
-    requires { CanBeRead catalog.now site.0 disk }
+    requires length { length ≡ journal_bytes left.records }
+    requires readable { (armed : Option model.Arm) × (fired : Option Bool) × CanBeRead left armed fired disk }
+    ensures { (added : Option Record) (armed : Option model.Arm) (fired : Option Bool) → Spells (left.records ++ option_to_list added) armed fired disk →
+        IfOk result (λ made. (fired ≡ Some made.1)
+        × StandsForSite left.catalog left.me made.0 (record { records = left.records ++ option_to_list added; arm = None; running = None })) }
+{
+    let (disk, stops) = mended(disk)?;
+    let cell = down(disk, length, left, alloc)?;
+    Ok((cell, stops))
+}
+
+// The disk that failed, once it is mended, and whether that stood for a stop.
+fn mended(disk: MemDisk) -> Result<(MemDisk, bool), NoMemory>
     ensures { (records : List Record) (armed : Option model.Arm) (fired : Option Bool) → Spells records armed fired disk →
-        IfOk result (λ made. (fired ≡ Some made.1) × StandsForSite catalog.now site.0 made.0 (record { records = records; arm = None; running = None })) }
+        IfOk result (λ made. (fired ≡ Some made.1) × Spells records None None made.0) }
 {
     // A disk in memory fails where a write or a sync fires, and nowhere else.
     let Some(stops) = disk.fired() else {
@@ -132,23 +145,43 @@ pub(crate) fn fallen(
     };
     let mut disk = disk;
     disk.mend();
-    let store = store_of(&mut disk, alloc, site, catalog)?;
-    Ok((Cell::Down(disk, store), stops))
+    Ok((disk, stops))
 }
 
-/// What the records of the disk say.
-pub(crate) fn store_of(
-    disk: &mut MemDisk,
-    alloc: Global,
-    site: SiteId,
-    catalog: &Catalog,
-) -> Result<Store, NoMemory>
-    requires { CanBeRead catalog.now site.0 disk.old }
-    ensures same { disk.new ≡ disk.old }
-    ensures store { (records : List Record) (armed : Option model.Arm) (fired : Option Bool) → Spells records armed fired disk.old →
-        IfOk result (KeepsRecords catalog.now site.0 records) }
+// The site that is down over this disk. Where the journal is as long as it was, nothing was added to it, and its records aren't read.
+fn down(disk: MemDisk, length: u64, left: Recovered, alloc: Global) -> Result<Cell, NoMemory>
+    requires length { length ≡ journal_bytes left.records }
+    requires readable { CanBeRead left None None disk }
+    ensures { (added : Option Record) → Spells (left.records ++ option_to_list added) None None disk →
+        IfOk result (λ cell. StandsForSite left.catalog left.me cell (record { records = left.records ++ option_to_list added; arm = None; running = None })) }
 {
     armed_journals();
+    logs_tell_of_records();
+    match Journal::open(alloc, disk, MAX_JOURNAL) {
+        Ok(journal) => {
+            let now = journal.length();
+            let mut disk = journal.close();
+            if now == length {
+                return Ok(Cell::Down(disk, left));
+            }
+            let left = read_again(&mut disk, left, alloc)?;
+            Ok(Cell::Down(disk, left))
+        }
+        // Nothing is armed.
+        Err(OpenLog::Failed(_)) | Err(OpenLog::NoMemory(_)) => Err(NoMemory),
+        // The disk holds a journal.
+        Err(OpenLog::NotOurs(..)) => unreachable!(),
+    }
+}
+
+// What outlives the site's memory, by the records of its disk.
+fn read_again(disk: &mut MemDisk, left: Recovered, alloc: Global) -> Result<Recovered, NoMemory>
+    requires { CanBeRead left None None disk.old }
+    ensures same { disk.new ≡ disk.old }
+    ensures left { (records : List Record) → Spells records None None disk.old → IfOk result (λ now. now ≡ record left { records = records }) }
+{
+    armed_journals();
+    logs_tell_of_records();
     let contents = match look(alloc, disk) {
         Ok(contents) => contents,
         // No read is to fail.
@@ -161,9 +194,8 @@ pub(crate) fn store_of(
         Err(ReplayError::NoMemory) => return Err(NoMemory),
         Err(ReplayError::BadRecord(_)) => unreachable!(),
     };
-    let mut store = Store::new(alloc, catalog, site)?;
-    match store.load(&past) {
-        Ok(()) => Ok(store),
+    match left.again(alloc, &past) {
+        Ok(left) => Ok(left),
         Err(StoreError::NoMemory) => Err(NoMemory),
         Err(StoreError::TooManyOutcomes(_)) => unreachable!(),
     }

@@ -5,6 +5,7 @@ ghost use Rattle.pv_protocol.specs.World.{opening};
 ghost use Rattle.pv_protocol.specs.WellFormed.{IsWellFormed};
 ghost use Rattle.pv_script.specs.ScheduleView.{event_of, HasPlan};
 ghost use Rattle.pv_site.specs.SiteState.{setup_of};
+ghost use Rattle.pv_world.specs.Disks.{HoldSites};
 ghost use Rattle.pv_world.specs.Stands.{StandsFor, StandsForSome};
 ghost use Rattle.pv_world.specs.Steps.{Steps};
 
@@ -12,7 +13,9 @@ use crate::WorldError;
 use crate::cell::Cell;
 use crate::mail::Mail;
 use crate::order::Placed;
+use crate::room::Room;
 use pv_base::{Catalog, NoMemory, SiteId};
+use pv_disk::MemDisk;
 use pv_script::{Event, Line};
 use pv_site::setup_is_in_range;
 use std::alloc::Global;
@@ -32,6 +35,8 @@ pub struct World {
     pub(crate) mail: Mail,
     /// The transactions that reached their lock points, in that order.
     pub(crate) order: Vec<Placed>,
+    /// Where the disks go when the world ends.
+    pub(crate) room: Room,
 }
 
 impl World {
@@ -53,12 +58,13 @@ impl World {
             cells,
             mail: Mail::new(alloc, sent_limit)?,
             order: Vec::new(alloc),
+            room: Room::new(alloc)?,
         })
     }
 
     /// What the event prints; the world is then the one after it. The event's sites are the catalog's, a write or sync that it arms is counted
     /// from 1, and a request has the plan that `check` answers for its program. Takes time in proportion to what the event prints, sends and
-    /// touches; where a site stops or starts besides in proportion to its journal and the items, and a tick to what stands at the site.
+    /// touches; where a site starts, or its disk fails, besides in proportion to its journal and the items, and a tick to what stands at the site.
     ///
     /// - [`WorldError::SentLimit`]: the encoded bytes of all messages, with those of the first one that passes the limit, are so many. The world
     ///   is then to be dropped.
@@ -72,5 +78,14 @@ impl World {
         let mut lines = Vec::new(self.alloc);
         self.happen(event, &mut lines)?;
         Ok(lines)
+    }
+
+    /// The disks of the sites, by their numbers, those of sites that are down too. Each holds a journal of its site's records. It wants no memory.
+    pub fn close(self) -> Vec<MemDisk>
+        requires { StandsForSome self }
+        ensures { (is : model.World) → StandsFor self is → HoldSites result.items is.sites }
+    {
+        let World { cells, room, .. } = self;
+        room.fill(cells)
     }
 }

@@ -1,19 +1,15 @@
-use Rattle.std.proofs.Common.{◌∙◌, None, refl, sym, subst}
-use Rattle.pv_world.proofs.RestartDisks.{spells-mended}
+use Rattle.std.proofs.Common.{◌++◌, Bool, Option}
+use Rattle.std.specs.Prelude.{option_to_list}
+use Rattle.pv_protocol.specs.State.{Arm}
 use Rattle.pv_world.proofs.restart.fallen.Goals as goal
-use Rattle.pv_world.specs.Cells.{KeepsRecords}
-use Rattle.pv_world.specs.Disks.{Spells}
+use Rattle.pv_world.specs.Cells.{CanBeRead}
+
+pub down-requires-clause-readable : goal.down-requires-clause-readable
+down-requires-clause-readable c =
+    let read : (armed : Option Arm) × (fired : Option Bool) × CanBeRead c.args.left armed fired c.args.disk = c.requires.readable in
+    (read.2.0, (c.in_ok-disk.ensures (c.args.left.records ++ option_to_list read.2.0) read.0 read.1 read.2.1).1, read.2.2)
 
 pub returns : goal.returns
-returns c = λ records armed fired spells.
-    let mended : Spells records None None c.mend.new.self = subst (Spells records None None) (sym c.mend.ensures) (spells-mended records armed fired c.args.disk spells) in
-    let keeps : KeepsRecords c.args.catalog.now c.args.site.0 records c.in_ok-store.store = c.in_ok-store.ensures.store records None None mended in (
-      sym spells.holds.fired ∙ (sym c.fired.ensures ∙ c.in-Some.is),
-      record {
-        me = keeps.site;
-        catalog = keeps.catalog;
-        records = keeps.records;
-        down = refl;
-        disk = subst (Spells records None None) (sym c.in_ok-store.ensures.same) mended;
-      },
-    )
+returns c = λ added armed fired spells.
+    let mends = c.in_ok-disk.ensures (c.args.left.records ++ option_to_list added) armed fired spells in
+    (mends.0, c.in_ok-cell.ensures added mends.1)

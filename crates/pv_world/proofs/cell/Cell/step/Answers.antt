@@ -39,7 +39,7 @@ pub fall-requires : goal.fall-requires
 fall-requires c =
     let up = is-up c.args.catalog.now c.args.site.0 c.args.self.now c.in-Up.up c.requires.is c.in-Up.is c.requires.stands in
     can-fall c.args.catalog.now c.args.site.0 c.in-Up.up c.requires.is up c.armed_journals.ensures.intact c.armed_journals.ensures.appends c.step.new.self
-    (input_of c.args.input.now)
+    (input_of c.args.input.now) c.length-length.result c.length-length.ensures
     (subst (λ (e : StepError). Steps (journal_model mem_model) c.in-Up.up c.step.new.self c.in-Up.up.running (input_of c.args.input.now) (Err e))
     c.in-Err-Fault.field-0-is c.in-Err-Fault.ensures.step)
     c.requires.replayable c.requires.after

@@ -1,0 +1,10 @@
+use Rattle.std.proofs.Common.{◌∙◌, None, sym, subst}
+use Rattle.pv_world.proofs.RestartDisks.{spells-mended}
+use Rattle.pv_world.proofs.restart.mended.Goals as goal
+use Rattle.pv_world.specs.Disks.{Spells}
+
+pub returns : goal.returns
+returns c = λ records armed fired spells. (
+  sym spells.holds.fired ∙ (sym c.fired.ensures ∙ c.in-Some.is),
+  subst (Spells records None None) (sym c.mend.ensures) (spells-mended records armed fired c.args.disk spells),
+)
