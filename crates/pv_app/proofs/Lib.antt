@@ -1,7 +1,3 @@
-mod AnswerLemmas
+mod BayLemmas
 mod CommandLemmas
-mod LimitLemmas
-mod LineItems
-mod OutputLemmas
-mod RunLemmas
-mod SummaryLemmas
+mod ShowLemmas

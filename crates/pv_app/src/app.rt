@@ -1,50 +1,54 @@
 // The top call: from the words and the input's bytes to the output's bytes and a status.
-ghost use Rattle.std.specs.Prelude.{◌≡◌, ◌≢◌, ℕ, ◌≤◌, ◌⊎◌, List, [], Some, All, is_ok, length, map, if◌then◌else◌};
+ghost use Rattle.std.specs.Prelude.{◌≡◌, ◌≢◌, ℕ, ◌≤◌, ◌<◌, ◌⊎◌, List, [], Some, length, map};
 ghost use Rattle.std.specs.String.{string_bytes};
 ghost use Rattle.pv_base.specs.Fault.{Rose};
 ghost use Rattle.pv_io.specs.SinkEffects.{HasFailed, Writes, WritesNothing, WritesPrefix};
 ghost use Rattle.pv_model.specs.Events as model;
-ghost use Rattle.pv_model.specs.Schedule.{IsSchedule};
-ghost use Rattle.pv_protocol.specs.WellFormed.{IsWellFormed};
+ghost use Rattle.pv_model.specs.LineCauses.{LineCause};
+ghost use Rattle.pv_model.specs.LiveScript.{LiveScript};
+ghost use Rattle.pv_model.specs.Schedule.{IsLiveScript, IsMalformedLiveScript, IsSchedule};
 ghost use Rattle.pv_script.specs.Generated.{made_text};
-ghost use Rattle.pv_script.specs.ScheduleView.{HasPlan, schedule_of};
-ghost use Rattle.pv_script.specs.ScriptErrors.{line_cause_of};
 ghost use Rattle.pv_site.specs.SiteState.{setup_of};
-ghost use Rattle.pv_app.specs.Commands.{IsCommand};
-ghost use Rattle.pv_app.specs.Headline.{KeepsPromises};
-ghost use Rattle.pv_app.specs.InputAnswers.{Answers, GivesUp, GivesUpOr, IsRunAnswer, IsSummaryAnswer, output_of, output_within, status_of, usage_text, fault_text};
-ghost use Rattle.pv_app.specs.Summary.{summary_of};
+ghost use Rattle.pv_app.specs.Commands.{IsCommand, TouchesBay, usage_text};
+ghost use Rattle.pv_app.specs.ShowEnds.{EndsShow};
+ghost use Rattle.pv_run.specs.Headline.{KeepsPromises};
+ghost use Rattle.pv_run.specs.InputAnswers.{Answers, GivesUpOr, IsRunAnswer, IsSummaryAnswer, fault_text, output_of, output_within};
+ghost use Rattle.pv_run.specs.KeptDisks.{KeepsSites, last_world};
+ghost use Rattle.pv_run.specs.Summary.{summary_of};
+ghost use Rattle.pv_show.specs.Bays.{IsAtRest, OnlyReadsDisks};
 
 use crate::command::{Command, command_of};
-use crate::form::Form;
-use crate::printed::run_to_lines;
-use crate::run::{RunEnd, run};
-use crate::status::Status;
-use crate::summary::sum_up;
-use pv_base::{Failed, MAX_INPUT};
+use crate::showing::read_and_show;
+use pv_base::MAX_INPUT;
+use pv_disk::Bay;
 use pv_io::{ReadEnd, Sink, Source, read_all, write_all};
-use pv_law_answers::{committed_fit, reports_show_each_readable, texts_agree, texts_answer};
-use pv_law_refusals::texts_refuse_for_causes;
-use pv_law_world::schedules_are_well_formed;
-use pv_script::{LineCause, Schedule, ScriptError, make, read_schedule};
+use pv_run::{Form, Status, promises_are_kept, run_text, status_of_write, write_summary_of_number};
+use pv_script::make;
 use std::alloc::Global;
 
-const USAGE: &[u8] = b"usage: polydb run | json | make N | big N\n";
+const USAGE: &[u8] = b"usage: polydb run | json | make N | big N | show\n";
 
-/// The program, over any input and output. `words` are those after the program's name.
+/// The program, over any input, output and disks. `words` are those after the program's name. For `show` no disk of the bay may be out; none is
+/// afterwards, where none was before.
 ///
 /// - `run` reads a schedule from the source to its end, runs it, and writes each event's lines when the event is done; `json` does the same with
-///   each line as a JSON object. Takes time in proportion to the input, what is printed and what the events send and touch.
+///   each line as a JSON object. Takes time in proportion to the input, what is printed and what the events send and touch. At [`Status::Done`] the
+///   bay is given the disks on which the sites kept their journals, each as the run left it, to keep.
 /// - `make N` writes the long schedule of this number, and `big N` makes it, runs it, and writes the summary of what it prints. Neither reads
 ///   anything.
+/// - `show` reads a live script, with or without clients, looks at the bay's disks, and writes of each site what its journal holds and how that shows
+///   the site's items. It changes no disk. Takes time in proportion to the input and the journals, and to the sites times the items.
 ///
 /// The status says how it ended. After [`Status::WriteFault`] and [`Status::NoMemory`] the sink has taken a beginning of what was to be written.
-pub fn polydb<R: Source, W: Sink>(
+pub fn polydb<R: Source, W: Sink, B: Bay>(
     alloc: Global,
     words: &[String],
     source: &mut R,
     sink: &mut W,
+    bay: &mut B,
 ) -> Status
+    requires rest { IsCommand (map string_bytes words.now) Command.Show → IsAtRest B.model bay.old }
+
     // Where a run is `Done` the whole input was read, it is a schedule, and exactly what the run of that prints was written.
     ensures done { result ≡ Status.Done → (form : Form) → IsCommand (map string_bytes words.now) (Command.Run form) →
         (input : List ℕ) → R.left source.old ≡ Some input →
@@ -94,21 +98,59 @@ pub fn polydb<R: Source, W: Sink>(
     ensures too_long { result ≡ Status.TooLong → WritesNothing W.Sink sink.old sink.new }
     ensures short { result ≡ Status.WriteFault → (form : Form) → IsCommand (map string_bytes words.now) (Command.Run form) →
         (input : List ℕ) → R.left source.old ≡ Some input → length input ≤ MAX_INPUT }
+
+    // Of a run that is `Done` the bay keeps a disk for each site of the last world, which holds a journal of the site's records there. A run that ends otherwise leaves the bay
+    // as it was, and so does every other command but `show`, and `show` where its input isn't read to its end or is malformed.
+    ensures kept { result ≡ Status.Done → (form : Form) → IsCommand (map string_bytes words.now) (Command.Run form) →
+        (input : List ℕ) → R.left source.old ≡ Some input →
+        (schedule : model.Schedule) → IsSchedule input schedule → KeepsSites B.model bay.old bay.new (last_world schedule).sites }
+    ensures alone { ((command : Command) → IsCommand (map string_bytes words.now) command → TouchesBay command result → ⊥) → bay.new ≡ bay.old }
+
+    // `show` writes what it found on the disk of each site, where its input is a live script. Another input has its answer, and then the bay is
+    // left as it was.
+    ensures shown { IsCommand (map string_bytes words.now) Command.Show →
+        (input : List ℕ) → R.left source.old ≡ Some input → length input ≤ MAX_INPUT →
+        (script : LiveScript) → IsLiveScript input script →
+        EndsShow B.model B.D.model W.Sink script.catalog bay.old bay.new sink.old sink.new result }
+    ensures show_refused { IsCommand (map string_bytes words.now) Command.Show →
+        (input : List ℕ) → R.left source.old ≡ Some input → length input ≤ MAX_INPUT →
+        (number : ℕ) (cause : LineCause) → IsMalformedLiveScript input number cause →
+        GivesUpOr W.Sink result Status.Malformed (fault_text number cause) sink.old sink.new × (bay.new ≡ bay.old)
+        × (result ≡ Status.Malformed → Writes W.Sink sink.old sink.new (fault_text number cause)) }
+    ensures show_too_long { IsCommand (map string_bytes words.now) Command.Show →
+        (input : List ℕ) → R.left source.old ≡ Some input → MAX_INPUT < length input →
+        GivesUpOr W.Sink result Status.TooLong [] sink.old sink.new × (result ≢ Status.WriteFault) × (bay.new ≡ bay.old) }
+
+    // Where it is done, the whole input was read, and is a live script; where it is `Malformed`, the input is.
+    ensures show_done { result ≡ Status.Done → IsCommand (map string_bytes words.now) Command.Show →
+        (input : List ℕ) → R.left source.old ≡ Some input → (R.left source.new ≡ Some []) × (script : LiveScript) × IsLiveScript input script }
+    ensures show_malformed { result ≡ Status.Malformed → IsCommand (map string_bytes words.now) Command.Show →
+        (input : List ℕ) → R.left source.old ≡ Some input → (number : ℕ) × (cause : LineCause) × IsMalformedLiveScript input number cause }
+
+    // However it ends, `show` only reads disks. The bay's own failure ends `show` alone, where it was counted and nothing was written.
+    ensures only_reads { IsCommand (map string_bytes words.now) Command.Show → OnlyReadsDisks B.model B.D.model bay.old bay.new }
+    ensures bay_fault { result ≡ Status.BayFault → IsCommand (map string_bytes words.now) Command.Show
+        × Rose (B.model.faults bay.old) (B.model.faults bay.new) × WritesNothing W.Sink sink.old sink.new }
+
+    // Every disk that was handed out has been handed back.
+    ensures handed_back { IsAtRest B.model bay.old → IsAtRest B.model bay.new }
 {
     match command_of(words) {
-        Some(Command::Run(form)) => read_and_run(alloc, form, source, sink),
+        Some(Command::Run(form)) => read_and_run(alloc, form, source, sink, bay),
+        Some(Command::Show) => read_and_show(alloc, source, sink, bay),
         Some(Command::Make(number)) => write_made(alloc, number, sink),
         Some(Command::Big(number)) => write_summary_of_number(alloc, number, sink),
-        None => status_of_write(write_all(sink, USAGE), Status::Usage),
+        None => write_usage(sink),
     }
 }
 
 // Reads the input to its end, and answers it.
-fn read_and_run<R: Source, W: Sink>(
+fn read_and_run<R: Source, W: Sink, B: Bay>(
     alloc: Global,
     form: Form,
     source: &mut R,
     sink: &mut W,
+    bay: &mut B,
 ) -> Status
     ensures done { result ≡ Status.Done → (input : List ℕ) → R.left source.old ≡ Some input →
         (R.left source.new ≡ Some []) × (schedule : model.Schedule) × IsSchedule input schedule
@@ -129,32 +171,18 @@ fn read_and_run<R: Source, W: Sink>(
     ensures too_long { result ≡ Status.TooLong → WritesNothing W.Sink sink.old sink.new }
     ensures short { result ≡ Status.WriteFault → (input : List ℕ) → R.left source.old ≡ Some input → length input ≤ MAX_INPUT }
     ensures command { result ≢ Status.Usage }
+    ensures kept { result ≡ Status.Done → (input : List ℕ) → R.left source.old ≡ Some input →
+        (schedule : model.Schedule) → IsSchedule input schedule → KeepsSites B.model bay.old bay.new (last_world schedule).sites }
+    ensures alone { result ≢ Status.Done → bay.new ≡ bay.old }
+    ensures rest { IsAtRest B.model bay.old → IsAtRest B.model bay.new }
+    ensures bay_fault { result ≢ Status.BayFault }
 {
     promises_are_kept();
     match read_all(alloc, source, MAX_INPUT) {
-        Ok(input) => answer(alloc, &input, form, sink),
+        Ok(input) => run_text(alloc, &input, form, sink, bay),
         Err(ReadEnd::Failed) => Status::ReadFault,
         Err(ReadEnd::TooLong) => Status::TooLong,
         Err(ReadEnd::NoMemory) => Status::NoMemory,
-    }
-}
-
-// What a run answers to an input that was read to its end.
-fn answer<W: Sink>(alloc: Global, input: &[u8], form: Form, sink: &mut W) -> Status
-    requires { length input.now ≤ MAX_INPUT }
-    ensures answered { Answers W.Sink (output_of form) (output_within form) input.now result sink.old sink.new }
-    ensures prefix { (status : Status) (output : List ℕ) → IsRunAnswer form input.now status output →
-        WritesPrefix W.Sink sink.old sink.new output }
-    ensures command { result ≢ Status.Usage }
-    ensures read_fault { result ≢ Status.ReadFault }
-    ensures too_long { result ≢ Status.TooLong }
-    ensures write_fault { result ≡ Status.WriteFault → HasFailed W.Sink sink.old sink.new }
-{
-    schedules_are_well_formed();
-    match read_schedule(alloc, input) {
-        Ok(schedule) => status_of_run(run(alloc, &schedule, form, sink)),
-        Err(ScriptError::Malformed { line, cause }) => refuse(alloc, line, cause, sink),
-        Err(ScriptError::NoMemory) => Status::NoMemory,
     }
 }
 
@@ -171,117 +199,12 @@ fn write_made<W: Sink>(alloc: Global, number: u32, sink: &mut W) -> Status
     }
 }
 
-// Makes the schedule of this number, runs it, and writes the summary.
-fn write_summary_of_number<W: Sink>(alloc: Global, number: u32, sink: &mut W) -> Status
-    ensures answered { Answers W.Sink summary_of (λ schedule. []) (made_text number) result sink.old sink.new }
-    ensures prefix { (status : Status) (output : List ℕ) → IsSummaryAnswer (made_text number) status output →
-        WritesPrefix W.Sink sink.old sink.new output }
-    ensures command { result ≢ Status.Usage }
-    ensures read_fault { result ≢ Status.ReadFault }
-    ensures write_fault { result ≡ Status.WriteFault → HasFailed W.Sink sink.old sink.new }
-    ensures too_long { result ≡ Status.TooLong → WritesNothing W.Sink sink.old sink.new }
-{
-    let Ok(text) = make(alloc, number) else {
-        return Status::NoMemory;
-    };
-    if text.len() as u64 > MAX_INPUT {
-        return Status::TooLong;
-    }
-    write_summary_of_text(alloc, &text, sink)
-}
-
-// The summary of the run of a text that is to be a schedule.
-fn write_summary_of_text<W: Sink>(alloc: Global, input: &[u8], sink: &mut W) -> Status
-    requires { length input.now ≤ MAX_INPUT }
-    ensures answered { Answers W.Sink summary_of (λ schedule. []) input.now result sink.old sink.new }
-    ensures prefix { (status : Status) (output : List ℕ) → IsSummaryAnswer input.now status output →
-        WritesPrefix W.Sink sink.old sink.new output }
-    ensures command { result ≢ Status.Usage }
-    ensures read_fault { result ≢ Status.ReadFault }
-    ensures too_long { result ≢ Status.TooLong }
-    ensures write_fault { result ≡ Status.WriteFault → HasFailed W.Sink sink.old sink.new }
-{
-    schedules_are_well_formed();
-    match read_schedule(alloc, input) {
-        Ok(schedule) => write_summary_of_run(alloc, &schedule, sink),
-        Err(ScriptError::Malformed { line, cause }) => refuse(alloc, line, cause, sink),
-        Err(ScriptError::NoMemory) => Status::NoMemory,
-    }
-}
-
-// Writes the summary of the run of a schedule, and nothing where the messages pass the limit.
-fn write_summary_of_run<W: Sink>(alloc: Global, schedule: &Schedule, sink: &mut W) -> Status
-    requires well_formed { All (IsWellFormed schedule.now.catalog) (schedule_of schedule.now).events }
-    requires plans { All (HasPlan schedule.now.catalog) schedule.now.events.items }
-    ensures answered { (input : List ℕ) → length input ≤ MAX_INPUT → IsSchedule input (schedule_of schedule.now) →
-        Answers W.Sink summary_of (λ schedule. []) input result sink.old sink.new }
-    ensures prefix { (input : List ℕ) → length input ≤ MAX_INPUT → IsSchedule input (schedule_of schedule.now) →
-        (status : Status) (output : List ℕ) → IsSummaryAnswer input status output → WritesPrefix W.Sink sink.old sink.new output }
+// Writes the usage line.
+fn write_usage<W: Sink>(sink: &mut W) -> Status
+    ensures written { result ≡ Status.Usage → Writes W.Sink sink.old sink.new usage_text }
+    ensures prefix { WritesPrefix W.Sink sink.old sink.new usage_text }
     ensures fault { result ≡ Status.WriteFault → HasFailed W.Sink sink.old sink.new }
-    ensures others { (result ≡ Status.Done) ⊎ ((result ≡ Status.SentLimit) ⊎ ((result ≡ Status.WriteFault) ⊎ (result ≡ Status.NoMemory))) }
+    ensures others { (result ≡ Status.Usage) ⊎ (result ≡ Status.WriteFault) }
 {
-    let Ok(printed) = run_to_lines(alloc, schedule) else {
-        return Status::NoMemory;
-    };
-    if printed.over.is_some() {
-        return Status::SentLimit;
-    }
-    match sum_up(
-        alloc,
-        schedule.events.len(),
-        &printed.lines,
-        &schedule.catalog,
-    ) {
-        Ok(text) => status_of_write(write_all(sink, &text), Status::Done),
-        Err(_) => Status::NoMemory,
-    }
-}
-
-// Names the line at which the input is refused.
-#[tactic(auto, unfolding(crate::specs::InputAnswers::fault_text))]
-fn refuse<W: Sink>(alloc: Global, line: u32, cause: LineCause, sink: &mut W) -> Status
-    ensures written { result ≡ Status.Malformed → Writes W.Sink sink.old sink.new (fault_text line (line_cause_of cause)) }
-    ensures prefix { WritesPrefix W.Sink sink.old sink.new (fault_text line (line_cause_of cause)) }
-    ensures fault { result ≡ Status.WriteFault → HasFailed W.Sink sink.old sink.new }
-    ensures others { (result ≡ Status.Malformed) ⊎ ((result ≡ Status.WriteFault) ⊎ (result ≡ Status.NoMemory)) }
-{
-    let error = ScriptError::Malformed { line, cause };
-    match format!(in alloc; "{error}\n") {
-        Ok(text) => status_of_write(write_all(sink, text.as_bytes()), Status::Malformed),
-        Err(_) => Status::NoMemory,
-    }
-}
-
-// The status where this was to be written.
-fn status_of_write(written: Result<(), Failed>, status: Status) -> Status
-    ensures { result ≡ (if is_ok written then status else Status.WriteFault) }
-{
-    match written {
-        Ok(()) => status,
-        Err(Failed) => Status::WriteFault,
-    }
-}
-
-// The status of a run that ended so.
-fn status_of_run(end: Result<Option<u64>, RunEnd>) -> Status
-    ensures { result ≡ status_of end }
-{
-    match end {
-        Ok(None) => Status::Done,
-        Ok(Some(_)) => Status::SentLimit,
-        Err(RunEnd::WriteFault) => Status::WriteFault,
-        Err(RunEnd::NoMemory) => Status::NoMemory,
-    }
-}
-
-// What the laws say of the run of every schedule's text.
-fn promises_are_kept()
-    ensures { (input : List ℕ) (schedule : model.Schedule) → IsSchedule input schedule → KeepsPromises (setup_of schedule.catalog) schedule.events }
-{
-    committed_fit();
-    reports_show_each_readable();
-    schedules_are_well_formed();
-    texts_agree();
-    texts_answer();
-    texts_refuse_for_causes();
+    status_of_write(write_all(sink, USAGE), Status::Usage)
 }

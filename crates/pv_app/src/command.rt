@@ -3,8 +3,8 @@ ghost use Rattle.std.specs.Prelude.{◌≡◌, ℕ, ◌≤◌, [], ◌∷◌, ma
 ghost use Rattle.std.specs.String.{string_bytes};
 ghost use Rattle.pv_app.specs.Commands.{IsCommand};
 
-use crate::form::Form;
 use itoa::Buffer;
+use pv_run::Form;
 
 /// The greatest number of a schedule that is made. The generator's numbers are below the one after it, so a greater one would make nothing new.
 pub const MAX_NUMBER: u32 = 2_147_483_647;
@@ -18,6 +18,8 @@ pub enum Command {
     Make(u32),
     /// Make the schedule of this number, at most [`MAX_NUMBER`], run it, and write the summary of what it prints.
     Big(u32),
+    /// Read a live script, and write what the disks of its sites hold.
+    Show,
 }
 
 /// The command that the words are, or `None` where they are no command.
@@ -42,6 +44,9 @@ fn run_by(word: &str) -> Option<Command>
     }
     if word == "json" {
         return Some(Command::Run(Form::Json));
+    }
+    if word == "show" {
+        return Some(Command::Show);
     }
     None
 }

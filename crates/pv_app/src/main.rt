@@ -1,17 +1,15 @@
-//! The program `polydb`: the top call over any input and output, and `main`, which gives it the standard ones.
+//! The program `polydb`: the top call over any input, output and disks, and `main`, which gives it the standard ones and the current folder.
 #![tactic(auto)]
 
 mod app;
 mod command;
-mod form;
-mod printed;
-mod run;
-mod status;
-mod summary;
+mod showing;
 
 use crate::app::polydb;
-use crate::status::Status;
+use pv_disk::FolderBay;
 use pv_io::{StdSink, StdSource};
+use pv_run::Status;
+use std::alloc::AllocError;
 use std::env;
 use std::io::{self, ErrorKind};
 use std::process::ExitCode;
@@ -20,17 +18,19 @@ use std::rt::Env;
 fn main(rt: HostRuntime) -> ExitCode {
     let status = match words_of(&rt) {
         Ok(words) => start(&rt, &words),
-        Err(e) if e.kind() == ErrorKind::OutOfMemory => Status::NoMemory,
+        Err(e) if e.kind() == ErrorKind::OutOfMemory => Ok(Status::NoMemory),
         // Words that aren't text are no command.
         Err(_) => start(&rt, &[]),
     };
-    ExitCode::from(status.code())
+    ExitCode::from(status.unwrap_or(Status::NoMemory).code())
 }
 
-fn start(rt: &HostRuntime, words: &[String]) -> Status {
+// An error is want of memory for the bay's hold on the runtime.
+fn start(rt: &HostRuntime, words: &[String]) -> Result<Status, AllocError> {
     let mut source = StdSource::new(rt.stdin());
     let mut sink = StdSink::new(rt.stdout());
-    polydb(rt.alloc(), words, &mut source, &mut sink)
+    let mut bay = FolderBay::new(rt.alloc(), rt.clone()?);
+    Ok(polydb(rt.alloc(), words, &mut source, &mut sink, &mut bay))
 }
 
 // The words after the program's name.
@@ -42,6 +42,8 @@ fn words_of<R: Env + AllocGlobal>(rt: &R) -> io::Result<Vec<String>> {
     Ok(words)
 }
 
+#[cfg(test)]
+mod bay_tests;
 #[cfg(test)]
 mod tests;
 #[cfg(test)]

@@ -1,12 +1,13 @@
 // The worked examples end to end, and each way to end but for lack of memory and of too many bytes of messages.
 use super::*;
+use crate::bay_tests::bay_of;
 use crate::worked_faults::{
     ARMED_TWICE, COMMIT, COMMIT_STOPS, Group, PROMISE, PROMISE_FAULTS, REFUSED_START,
     REFUSED_START_STOPS, SECOND_ARMS, START, START_STOPS,
 };
 use crate::worked_runs::RUNS;
 use pv_io::{MemSink, MemSource};
-use std::alloc::{AllocError, Global};
+use std::alloc::Global;
 use std::process::Abort;
 use std::test::Fail;
 
@@ -64,7 +65,7 @@ const REPORTS: &str =
 const REPORTS_OUTPUT: &str =
     "order\ncommitted\nopen\nitem a -1\nend\ntxn 0.1.0\ncommit 0.1.0 certain nothing\norder 0.1.0\ncommitted 0.1.0\nopen\nitem a 1\nend\ntxn 0.1.1\ncommit 0.1.1 certain nothing\n";
 
-const USAGE: &str = "usage: polydb run | json | make N | big N\n";
+const USAGE: &str = "usage: polydb run | json | make N | big N | show\n";
 
 const FIRST_JSON: &str = "\
 {\"txn\":\"0.1.0\"}
@@ -83,14 +84,15 @@ fn call(
     input: &[u8],
     read_fails: &[u64],
     write_fails: &[u64],
-) -> Result<(Status, Vec<u8>), AllocError> {
+) -> Result<(Status, Vec<u8>), Fail> {
     let mut list = Vec::new(alloc);
     for word in words {
         list.push(String::from_str(alloc, word)?)?;
     }
     let mut source = MemSource::new(input.to_vec(alloc)?, read_fails.to_vec(alloc)?);
     let mut sink = MemSink::new(alloc, write_fails.to_vec(alloc)?);
-    let status = polydb(alloc, &list, &mut source, &mut sink);
+    let mut bay = bay_of(Vec::new(alloc))?;
+    let status = polydb(alloc, &list, &mut source, &mut sink, &mut bay);
     Ok((status, sink.bytes().to_vec(alloc)?))
 }
 
@@ -197,6 +199,7 @@ fn other_words_are_answered_by_the_usage_line(rt: HostRuntime) -> Result<(), Fai
         &["big", "07"],
         &["big", "+7"],
         &["make", "2147483648"],
+        &["show", "7"],
     ] {
         let (status, written) = call(alloc, words, FIRST.as_bytes(), &[0], &[])?;
         assert_eq!(rt; status, Status::Usage);

@@ -5,8 +5,8 @@ use Rattle.std.proofs.lemmas.Bool.Decides.{Decides-eqb}
 use Rattle.std.proofs.lemmas.Slice.Eq.{slice_eq-Decides}
 use Rattle.pv_app.specs.Commands.{IsCommand, word_of}
 use Rattle.pv_app.specs.declared.command.Command.{Command}
-use Rattle.pv_app.specs.declared.command.Command.TheVariants.{Run, Make, Big}
-use Rattle.pv_app.specs.declared.form.Form.TheVariants.{Text, Json}
+use Rattle.pv_app.specs.declared.command.Command.TheVariants.{Run, Make, Big, Show}
+use Rattle.pv_run.specs.declared.form.Form.TheVariants.{Text, Json}
 use Rattle.pv_app.proofs.command.run_by.Goals as goal
 
 pub returns-then-eq-clause-some : goal.returns-then-eq-clause-some
@@ -19,16 +19,23 @@ unfolding word_of
 returns-then-eq-2-clause-some c =
     ap (λ (w : List ℕ). w ∷ []) ((slice_eq-Decides Decides-eqb c.args.word.now (codes "json") c.eq-2.result c.eq-2.ensures).0 c.if-eq-2.true)
 
--- A word that is neither of the two is no command.
-no-command : (word : List ℕ) → (word ≡ codes "run" → ⊥) → (word ≡ codes "json" → ⊥) → (command : Command) → IsCommand (word ∷ []) command → ⊥
+pub returns-then-eq-3-clause-some : goal.returns-then-eq-3-clause-some
+returns-then-eq-3-clause-some c =
+    ap (λ (w : List ℕ). w ∷ []) ((slice_eq-Decides Decides-eqb c.args.word.now (codes "show") c.eq-3.result c.eq-3.ensures).0 c.if-eq-3.true)
+
+-- A word that is none of the three is no command.
+no-command : (word : List ℕ) → (word ≡ codes "run" → ⊥) → (word ≡ codes "json" → ⊥) → (word ≡ codes "show" → ⊥) → (command : Command) → IsCommand (word ∷ []) command → ⊥
 unfolding word_of
-no-command word no_run no_json (Run Text) is = no_run (let same : word ≡ codes "run" = cc in same)
-no-command word no_run no_json (Run Json) is = no_json (let same : word ≡ codes "json" = cc in same)
-no-command word no_run no_json (Make n) is = let one = is.0 in let wrong : ⊥ = cc in wrong
-no-command word no_run no_json (Big n) is = let one = is.0 in let wrong : ⊥ = cc in wrong
+no-command word no_run no_json no_show (Run Text) is = no_run (let same : word ≡ codes "run" = cc in same)
+no-command word no_run no_json no_show (Run Json) is = no_json (let same : word ≡ codes "json" = cc in same)
+no-command word no_run no_json no_show (Make n) is = let one = is.0 in let wrong : ⊥ = cc in wrong
+no-command word no_run no_json no_show (Big n) is = let one = is.0 in let wrong : ⊥ = cc in wrong
+no-command word no_run no_json no_show Show is = no_show (let same : word ≡ codes "show" = cc in same)
 
 pub returns-clause-none : goal.returns-clause-none
 returns-clause-none c = λ none command is.
     let run = slice_eq-Decides Decides-eqb c.args.word.now (codes "run") c.eq.result c.eq.ensures in
     let json = slice_eq-Decides Decides-eqb c.args.word.now (codes "json") c.eq-2.result c.eq-2.ensures in
-    no-command c.args.word.now (λ same. false≢true (sym c.if-eq.false ∙ run.1 same)) (λ same. false≢true (sym c.if-eq-2.false ∙ json.1 same)) command is
+    let show = slice_eq-Decides Decides-eqb c.args.word.now (codes "show") c.eq-3.result c.eq-3.ensures in
+    no-command c.args.word.now (λ same. false≢true (sym c.if-eq.false ∙ run.1 same)) (λ same. false≢true (sym c.if-eq-2.false ∙ json.1 same))
+    (λ same. false≢true (sym c.if-eq-3.false ∙ show.1 same)) command is

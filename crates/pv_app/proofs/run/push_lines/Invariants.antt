@@ -1,8 +1,0 @@
--- The text so far is that of the lines so far.
-use Rattle.std.proofs.Common.{◌≡◌, ◌++◌, map, take}
-use Rattle.pv_app.specs.Forms.{lines_in}
-use Rattle.pv_script.specs.LineView.{line_of}
-use Rattle.pv_app.proofs.run.push_lines.Given as goal
-
-abbrev pub invariant-loop-line : goal.invariant-loop-line
-invariant-loop-line l = l.text.items ≡ l.initial.text.items ++ lines_in l.form l.catalog (map line_of (take l.line-index l.lines))

@@ -1,0 +1,18 @@
+-- The text is written in one piece. Where it wasn't made, nothing is.
+use Rattle.std.proofs.Common.{rules, Err, List, ℕ, sym, subst}
+use Rattle.pv_app.proofs.ShowLemmas.{shows-written}
+use Rattle.pv_show.specs.Bays.{CountsFaults}
+use Rattle.pv_show.specs.Showing.{ShowsAll}
+use Rattle.pv_show.specs.declared.show_error.ShowError.{ShowError}
+use Rattle.pv_app.proofs.showing.show_sites.Goals as goal
+
+pub returns-in-Ok-clause-shown : goal.returns-in-Ok-clause-shown
+returns-in-Ok-clause-shown g c =
+    shows-written g.B.Bay.model g.B.D.Disk.model g.W.Sink c.args.catalog.now c.write_all.result c.status_of_write.result c.args.bay.now c.show.new.bay c.args.sink.now
+    c.write_all.new.sink c.deref.result.now c.status_of_write.ensures
+    (subst (λ (text : List ℕ). ShowsAll g.B.Bay.model g.B.D.Disk.model c.args.catalog.now c.args.bay.now c.show.new.bay text) (sym c.deref.ensures.value) c.in-Ok.ensures.text)
+    c.write_all.ensures.written c.write_all.ensures.prefix
+
+pub returns-in-Err-BayFault-clause-shown : goal.returns-in-Err-BayFault-clause-shown
+returns-in-Err-BayFault-clause-shown g c =
+    (subst (λ (e : ShowError). CountsFaults g.B.Bay.model {X = ℕ} c.args.bay.now c.show.new.bay (Err e)) c.in-Err-BayFault.field-0-is c.in-Err-BayFault.ensures.faults, search rules)

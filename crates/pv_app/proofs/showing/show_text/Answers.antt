@@ -1,0 +1,94 @@
+-- The text is one live script, or is malformed at one line for one cause.
+use Rattle.std.proofs.Common.{◌≡◌, IfSome, inl, refl, ◌∙◌, ap, sym, subst}
+use Rattle.std.proofs.KnownBytes.{Appends-nil}
+use Rattle.std.specs.Io.KnownBytes.{Appends}
+use Rattle.pv_io.specs.Stream.{AppendsPrefix}
+use Rattle.pv_law_schedules.proofs.OneScheduleLemmas.{no_live_fault, one_fault, one_live_script}
+use Rattle.pv_model.specs.LineForms.{live}
+use Rattle.pv_model.specs.LiveScript.{LiveScript}
+use Rattle.pv_model.specs.Schedule.{IsMalformedLiveScript}
+use Rattle.pv_script.specs.LiveView.{live_script_of}
+use Rattle.pv_script.specs.ScriptErrors.{IsMalformedLiveAt, line_cause_of, refused_line}
+use Rattle.pv_script.specs.declared.schedule.ScriptError.{ScriptError}
+use Rattle.pv_app.proofs.ShowLemmas.{refused-not-done, refused-or-not, touches-bay}
+use Rattle.pv_app.specs.ShowEnds.{EndsShow}
+use Rattle.pv_run.specs.InputAnswers.{fault_text}
+use Rattle.pv_run.specs.declared.status.Status.{Status}
+use Rattle.pv_show.specs.Bays.{OnlyReadsDisks}
+use Rattle.pv_app.proofs.showing.show_text.Goals as goal
+
+pub returns-in-Ok-clause-shown : goal.returns-in-Ok-clause-shown
+returns-in-Ok-clause-shown g c = λ script says.
+    subst (λ (s : LiveScript). EndsShow g.B.Bay.model g.B.D.Disk.model g.W.Sink s.catalog c.args.bay.now c.show_sites.new.bay c.args.sink.now c.show_sites.new.sink c.show_sites.result)
+    (one_live_script c.args.input.now (live_script_of c.in-Ok.script) script c.in-Ok.ensures.answer.given says) c.show_sites.ensures.shown
+
+pub returns-in-Ok-clause-refused : goal.returns-in-Ok-clause-refused
+returns-in-Ok-clause-refused g c = λ number cause is. absurd (no_live_fault c.args.input.now (live_script_of c.in-Ok.script) number cause c.in-Ok.ensures.answer.given is)
+
+pub returns-in-Ok-clause-done : goal.returns-in-Ok-clause-done
+returns-in-Ok-clause-done g c = λ done. (live_script_of c.in-Ok.script, c.in-Ok.ensures.answer.given)
+
+pub returns-in-Ok-clause-malformed : goal.returns-in-Ok-clause-malformed
+returns-in-Ok-clause-malformed g c = λ is.
+    absurd (subst (EndsShow g.B.Bay.model g.B.D.Disk.model g.W.Sink c.in-Ok.script.catalog c.args.bay.now c.show_sites.new.bay c.args.sink.now c.show_sites.new.sink) is c.show_sites.ensures.shown)
+
+pub returns-in-Ok-clause-alone : goal.returns-in-Ok-clause-alone
+returns-in-Ok-clause-alone g c = λ apart.
+    absurd (apart (touches-bay g.B.Bay.model g.B.D.Disk.model g.W.Sink c.in-Ok.script.catalog c.args.bay.now c.show_sites.new.bay c.args.sink.now c.show_sites.new.sink
+    c.show_sites.result c.show_sites.ensures.read_fault c.show_sites.ensures.shown))
+
+pub returns-in-Ok-clause-bay_fault : goal.returns-in-Ok-clause-bay_fault
+returns-in-Ok-clause-bay_fault g c = λ is.
+    subst (EndsShow g.B.Bay.model g.B.D.Disk.model g.W.Sink c.in-Ok.script.catalog c.args.bay.now c.show_sites.new.bay c.args.sink.now c.show_sites.new.sink) is c.show_sites.ensures.shown
+
+pub returns-in-Ok-clause-command : goal.returns-in-Ok-clause-command
+returns-in-Ok-clause-command g c = λ is.
+    subst (EndsShow g.B.Bay.model g.B.D.Disk.model g.W.Sink c.in-Ok.script.catalog c.args.bay.now c.show_sites.new.bay c.args.sink.now c.show_sites.new.sink) is c.show_sites.ensures.shown
+
+pub returns-in-Ok-clause-too_long : goal.returns-in-Ok-clause-too_long
+returns-in-Ok-clause-too_long g c = λ is.
+    subst (EndsShow g.B.Bay.model g.B.D.Disk.model g.W.Sink c.in-Ok.script.catalog c.args.bay.now c.show_sites.new.bay c.args.sink.now c.show_sites.new.sink) is c.show_sites.ensures.shown
+
+pub returns-in-Err-Malformed-clause-shown : goal.returns-in-Err-Malformed-clause-shown
+returns-in-Err-Malformed-clause-shown g c = λ script says.
+    let line = c.in-Err-Malformed.line in
+    let cause = c.in-Err-Malformed.cause in
+    let refused : IsMalformedLiveScript c.args.input.now line (line_cause_of cause) =
+    subst (λ (e : ScriptError). IfSome (refused_line e) (IsMalformedLiveAt c.args.input.now)) c.in-Err-Malformed.field-0-is c.in-Err-Malformed.ensures.answer.refused in
+    absurd (no_live_fault c.args.input.now script line (line_cause_of cause) says refused)
+
+pub returns-in-Err-Malformed-clause-refused : goal.returns-in-Err-Malformed-clause-refused
+returns-in-Err-Malformed-clause-refused g c = λ number reported is.
+    let line = c.in-Err-Malformed.line in
+    let cause = c.in-Err-Malformed.cause in
+    let old = g.W.Sink.held c.args.sink.now in
+    let new = g.W.Sink.held c.refuse.new.sink in
+    let refused : IsMalformedLiveScript c.args.input.now line (line_cause_of cause) =
+    subst (λ (e : ScriptError). IfSome (refused_line e) (IsMalformedLiveAt c.args.input.now)) c.in-Err-Malformed.field-0-is c.in-Err-Malformed.ensures.answer.refused in
+    let same = one_fault live c.args.input.now line number (line_cause_of cause) reported refused is in
+    let first : fault_text _ (line_cause_of _) ≡ fault_text line (line_cause_of cause) = λ i. fault_text (c.in-Err-Malformed.line-is i) (line_cause_of (c.in-Err-Malformed.cause-is i)) in
+    let text : fault_text line (line_cause_of cause) ≡ fault_text number reported = λ i. fault_text (same.0 i) (same.1 i) in (
+      (refused-or-not c.refuse.result c.refuse.ensures.others, subst (AppendsPrefix old new) (first ∙ text) c.refuse.ensures.prefix),
+      refl,
+      λ malformed. subst (Appends old new) (first ∙ text) (c.refuse.ensures.written malformed),
+    )
+
+pub returns-in-Err-Malformed-clause-done : goal.returns-in-Err-Malformed-clause-done
+returns-in-Err-Malformed-clause-done g c = λ done. absurd (refused-not-done c.refuse.result c.refuse.ensures.others done)
+
+pub returns-in-Err-Malformed-clause-malformed : goal.returns-in-Err-Malformed-clause-malformed
+returns-in-Err-Malformed-clause-malformed g c = λ is. (
+  c.in-Err-Malformed.line,
+  line_cause_of c.in-Err-Malformed.cause,
+  subst (λ (e : ScriptError). IfSome (refused_line e) (IsMalformedLiveAt c.args.input.now)) c.in-Err-Malformed.field-0-is c.in-Err-Malformed.ensures.answer.refused,
+)
+
+pub returns-in-Err-Malformed-clause-only_reads : goal.returns-in-Err-Malformed-clause-only_reads
+returns-in-Err-Malformed-clause-only_reads g c = OnlyReadsDisks.none
+
+pub returns-in-Err-NoMemory-clause-refused : goal.returns-in-Err-NoMemory-clause-refused
+returns-in-Err-NoMemory-clause-refused g c = λ number cause is.
+    ((inl tt, (0, Appends-nil (g.W.Sink.held c.args.sink.now))), refl, λ malformed. absurd (let wrong : ⊥ = cc in wrong))
+
+pub returns-in-Err-NoMemory-clause-only_reads : goal.returns-in-Err-NoMemory-clause-only_reads
+returns-in-Err-NoMemory-clause-only_reads g c = OnlyReadsDisks.none

@@ -1,0 +1,8 @@
+-- No disk of a new bay is out.
+use Rattle.std.proofs.Common.{ap, ◌∙◌}
+use Rattle.pv_disk.specs.Folder.{FolderState, folder_bay}
+use Rattle.pv_app.proofs.BayLemmas.{folder-none}
+use Rattle.pv_app.proofs.start.Goals as goal
+
+pub polydb-requires : goal.polydb-requires
+polydb-requires c = record { rest = λ is site. ap (λ (bay : FolderState). (folder_bay.berth bay site).is_out) c.new-bay.ensures ∙ folder-none 256 site }

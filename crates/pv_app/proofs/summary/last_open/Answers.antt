@@ -1,9 +1,0 @@
--- What one more line says comes last.
-use Rattle.pv_app.specs.Summary.{open_in}
-use Rattle.pv_app.proofs.SummaryLemmas.{number-step}
-use Rattle.pv_app.proofs.summary.last_open.Goals as goal
-
-pub loop-line-preserved : goal.loop-line-preserved
-loop-line-preserved c =
-    number-step open_in c.args.lines.now c.loop-line.line-index c.line-item.result c.open_in.result c.loop-line.open c.unwrap_or-open.result c.loop-line-test.true
-    c.line-item.is c.open_in.ensures c.loop-line.invariant c.unwrap_or-open.ensures

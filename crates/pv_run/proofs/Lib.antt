@@ -1,0 +1,7 @@
+mod AnswerLemmas
+mod KeepLemmas
+mod LimitLemmas
+mod LineItems
+mod OutputLemmas
+mod RunLemmas
+mod SummaryLemmas

@@ -1,0 +1,174 @@
+-- Each event's step is one step of the run.
+use Rattle.std.proofs.Common.{◌≤◌, rules, arith, Err, Some, ℕ, All, List, refl, sym, ap, length, map, ◌∙◌, subst, add-one}
+use Rattle.std.proofs.KnownBytes.{Appends-nil}
+use Rattle.std.specs.Io.KnownBytes.{Appends}
+use Rattle.pv_base.specs.Catalog.{Declared}
+use Rattle.pv_io.specs.Stream.{AppendsPrefix}
+use Rattle.pv_protocol.specs.Limit.{Output}
+use Rattle.pv_protocol.specs.Lines.{Line}
+use Rattle.pv_protocol.specs.WellFormed.{IsWellFormed}
+use Rattle.pv_report.specs.NamesOnlyItems.{NamesOnlyItems}
+use Rattle.pv_script.specs.LineView.{line_of}
+use Rattle.pv_script.specs.ScheduleView.{event_of, schedule_of}
+use Rattle.pv_site.specs.SiteState.{setup_of}
+use Rattle.pv_world.specs.Steps.{Steps}
+use Rattle.pv_world.specs.declared.error.WorldError.{WorldError}
+use Rattle.pv_run.specs.Forms.{lines_in}
+use Rattle.pv_run.specs.KeptDisks.{KeepsSites}
+use Rattle.pv_protocol.specs.World as model
+use Rattle.pv_run.proofs.KeepLemmas.{hold-count, last-is}
+use Rattle.pv_run.proofs.LineItems.{lines-name-items}
+use Rattle.pv_run.proofs.OutputLemmas.{AppendsPrefix-none, on_any_err}
+use Rattle.pv_run.proofs.RunLemmas.{IsUnderWay, All-next, drop-events_of, left_at, left-at-end, start, world_at, go_on, give_up, passes, printed-by, stands-after, within-after}
+use Rattle.pv_run.proofs.running.run.Goals as goal
+
+pub loop-event-init : goal.loop-event-init
+loop-event-init g c =
+    start g.W.Sink c.args.form c.args.sink.now (schedule_of c.args.schedule.now) c.in_ok-world.world c.in_ok-world.ensures.stands c.in_ok-world.ensures.catalog c.in_ok-world.ensures.limit
+
+pub step-requires-clause-event : goal.step-requires-clause-event
+step-requires-clause-event g c =
+    let schedule = schedule_of c.args.schedule.now in
+    let events = c.deref-event-items.result.now in
+    let i = c.loop-event.event-index in
+    let event = c.event-item.result in
+    let split = drop-events_of events c.args.schedule.now.events.items c.deref-event-items.ensures.value i event c.loop-event-test.true c.event-item.is in
+    subst (λ (catalog : Declared). IsWellFormed catalog (event_of event)) (sym c.loop-event.invariant.course.catalog)
+    (All-next (IsWellFormed schedule.catalog) schedule.events i (event_of event) _ c.requires.well_formed split)
+
+pub write_lines-requires : goal.write_lines-requires
+write_lines-requires g c =
+    let world = c.loop-event.world in
+    let is = world_at (schedule_of c.args.schedule.now) c.loop-event.event-index in
+    let event = event_of c.event-item.result in
+    let steps = c.in-Ok.ensures is c.loop-event.invariant.course.stands in
+    subst (λ (catalog : Declared). All (NamesOnlyItems catalog) (map line_of c.deref.result.now)) c.loop-event.invariant.course.catalog
+    (subst (All (NamesOnlyItems world.catalog)) (sym (ap (map line_of) c.deref.ensures.value ∙ steps.2)) (lines-name-items (setup_of world.catalog) is event))
+
+pub loop-event-preserved : goal.loop-event-preserved
+loop-event-preserved g c =
+    let first = c.args.sink.now in
+    let now = c.loop-event.sink in
+    let next = c.write_lines.new.sink in
+    let schedule = schedule_of c.args.schedule.now in
+    let events = c.deref-event-items.result.now in
+    let world = c.loop-event.world in
+    let new = c.step.new.self in
+    let i = c.loop-event.event-index in
+    let event = event_of c.event-item.result in
+    let way = c.loop-event.invariant in
+    let split = drop-events_of events c.args.schedule.now.events.items c.deref-event-items.ensures.value i c.event-item.result c.loop-event-test.true c.event-item.is in
+    let steps = c.in-Ok.ensures (world_at schedule i) way.course.stands in
+    let printed = printed-by schedule world i event way.course split (map line_of c.deref.result.now) (ap (map line_of) c.deref.ensures.value ∙ steps.2) in
+    let writes = c.in_ok-write_lines-in-Ok.ensures in
+    let written = subst (λ (ls : List Line). Appends (g.W.Sink.held now) (g.W.Sink.held next) (lines_in c.args.form schedule.catalog ls)) printed writes.written in
+    subst (λ (k : ℕ). IsUnderWay g.W.Sink c.args.form first next schedule new k) (sym (add-one i))
+    (go_on g.W.Sink c.args.form first now next schedule world i event way split (within-after schedule world i event way.course split new steps.0 steps.1)
+    new (stands-after schedule world i event way.course split new steps.0) steps.1 written writes.known writes.counted)
+
+pub returns-in_err-write_lines-in-Ok-clause-writes : goal.returns-in_err-write_lines-in-Ok-clause-writes
+returns-in_err-write_lines-in-Ok-clause-writes g c =
+    let first = c.args.sink.now in
+    let now = c.loop-event.sink in
+    let next = c.write_lines.new.sink in
+    let schedule = schedule_of c.args.schedule.now in
+    let events = c.deref-event-items.result.now in
+    let world = c.loop-event.world in
+    let new = c.step.new.self in
+    let i = c.loop-event.event-index in
+    let event = event_of c.event-item.result in
+    let way = c.loop-event.invariant in
+    let split = drop-events_of events c.args.schedule.now.events.items c.deref-event-items.ensures.value i c.event-item.result c.loop-event-test.true c.event-item.is in
+    let steps = c.in-Ok.ensures (world_at schedule i) way.course.stands in
+    let printed = printed-by schedule world i event way.course split (map line_of c.deref.result.now) (ap (map line_of) c.deref.ensures.value ∙ steps.2) in
+    let failed = c.in_err-write_lines-in-Ok.ensures in
+    let written = subst (λ (ls : List Line). AppendsPrefix (g.W.Sink.held now) (g.W.Sink.held next) (lines_in c.args.form schedule.catalog ls)) printed failed.prefix in
+    record {
+      written = search rules;
+      prefix = on_any_err c.from_residual-in_err-write_lines-in-Ok.result _
+          (give_up g.W.Sink c.args.form first now next schedule world i event way split (within-after schedule world i event way.course split new steps.0 steps.1) written);
+      known = failed.known ∙ way.known;
+      fault = search rules;
+      counted = omega (arith, way.counted, failed.counted);
+    }
+
+pub returns-in-Err-SentLimit-clause-over : goal.returns-in-Err-SentLimit-clause-over
+returns-in-Err-SentLimit-clause-over g c =
+    let schedule = schedule_of c.args.schedule.now in
+    let events = c.deref-event-items.result.now in
+    let i = c.loop-event.event-index in
+    let way = c.loop-event.invariant in
+    let split = drop-events_of events c.args.schedule.now.events.items c.deref-event-items.ensures.value i c.event-item.result c.loop-event-test.true c.event-item.is in
+    let steps = subst (λ (e : WorldError). Steps c.loop-event.world c.step.new.self (event_of c.event-item.result) (world_at schedule i) (Err e)) c.in-Err-SentLimit.field-0-is
+    (c.in-Err-SentLimit.ensures (world_at schedule i) way.course.stands) in
+    let passed = passes schedule c.loop-event.world i (event_of c.event-item.result) way.course split c.in-Err-SentLimit.total steps in
+    ap (λ (total : ℕ). Some total) c.in-Err-SentLimit.total-is ∙ passed.0
+
+pub returns-in-Err-SentLimit-clause-writes : goal.returns-in-Err-SentLimit-clause-writes
+returns-in-Err-SentLimit-clause-writes g c =
+    let now = g.W.Sink.held c.loop-event.sink in
+    let schedule = schedule_of c.args.schedule.now in
+    let events = c.deref-event-items.result.now in
+    let i = c.loop-event.event-index in
+    let way = c.loop-event.invariant in
+    let split = drop-events_of events c.args.schedule.now.events.items c.deref-event-items.ensures.value i c.event-item.result c.loop-event-test.true c.event-item.is in
+    let steps = subst (λ (e : WorldError). Steps c.loop-event.world c.step.new.self (event_of c.event-item.result) (world_at schedule i) (Err e)) c.in-Err-SentLimit.field-0-is
+    (c.in-Err-SentLimit.ensures (world_at schedule i) way.course.stands) in
+    let none = (passes schedule c.loop-event.world i (event_of c.event-item.result) way.course split c.in-Err-SentLimit.total steps).1 in
+    record {
+      written = way.whole now (subst (λ (ls : List Line). Appends now now (lines_in c.args.form schedule.catalog ls)) (sym none) (Appends-nil now));
+      prefix = tt;
+      known = way.known;
+      fault = tt;
+      counted = way.counted;
+    }
+
+pub returns-in-Err-NoMemory-clause-writes : goal.returns-in-Err-NoMemory-clause-writes
+returns-in-Err-NoMemory-clause-writes g c =
+    let now = g.W.Sink.held c.loop-event.sink in
+    let schedule = schedule_of c.args.schedule.now in
+    let way = c.loop-event.invariant in
+    record {
+      written = tt;
+      prefix = way.prefix now (AppendsPrefix-none now (lines_in c.args.form schedule.catalog (left_at schedule c.loop-event.event-index).lines));
+      known = way.known;
+      fault = search rules;
+      counted = way.counted;
+    }
+
+pub returns-clause-writes : goal.returns-clause-writes
+returns-clause-writes g c =
+    let now = g.W.Sink.held c.loop-event.sink in
+    let schedule = schedule_of c.args.schedule.now in
+    let items = c.args.schedule.now.events.items in
+    let same = ap length c.deref-event-items.ensures.value in
+    let end : length items ≤ c.loop-event.event-index = omega (arith, same, c.loop-event-test.false) in
+    let way = c.loop-event.invariant in
+    let none = ap (λ (o : Output). o.lines) (left-at-end schedule items c.loop-event.event-index refl end) in
+    record {
+      written = way.whole now (subst (λ (ls : List Line). Appends now now (lines_in c.args.form schedule.catalog ls)) (sym none) (Appends-nil now));
+      prefix = tt;
+      known = way.known;
+      fault = tt;
+      counted = way.counted;
+    }
+
+-- The disks that the world leaves are those of the last world's sites.
+pub close-requires : goal.close-requires
+close-requires g c = (world_at (schedule_of c.args.schedule.now) c.loop-event.event-index, c.loop-event.invariant.course.stands)
+
+pub keep_all-requires : goal.keep_all-requires
+keep_all-requires g c =
+    let is = world_at (schedule_of c.args.schedule.now) c.loop-event.event-index in
+    let stands = c.loop-event.invariant.course.stands in
+    omega (arith, hold-count c.close.result.items is.sites (c.close.ensures is stands), stands.stands.count, stands.range.sites)
+
+pub returns-clause-kept : goal.returns-clause-kept
+returns-clause-kept g c = λ done.
+    let schedule = schedule_of c.args.schedule.now in
+    let items = c.args.schedule.now.events.items in
+    let same = ap length c.deref-event-items.ensures.value in
+    let end : length items ≤ c.loop-event.event-index = omega (arith, same, c.loop-event-test.false) in
+    let is = world_at schedule c.loop-event.event-index in
+    subst (λ (world : model.World). KeepsSites g.B.Bay.model c.args.bay.now c.keep_all.new.bay world.sites) (last-is schedule items c.loop-event.event-index refl end)
+    (c.keep_all.ensures is.sites (c.close.ensures is c.loop-event.invariant.course.stands))

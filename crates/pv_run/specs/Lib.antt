@@ -1,0 +1,6 @@
+pub mod Forms
+pub mod Headline
+pub mod InputAnswers
+pub mod KeptDisks
+pub mod RunEndView
+pub mod Summary

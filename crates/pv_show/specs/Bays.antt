@@ -1,0 +1,33 @@
+-- What reading the disks of a bay does to it.
+use Rattle.std.specs.Prelude.{◌≡◌, ℕ, false, Result, Err}
+use Rattle.pv_base.specs.Fault.{Rose}
+use Rattle.pv_disk.specs.BayAnswers.{HandsOut, HandsOutNone, TakesBack}
+use Rattle.pv_disk.specs.BayModel.{BayModel}
+use Rattle.pv_law_disk.specs.Calls.{OnlyReads}
+use Rattle.pv_law_disk.specs.DiskModel.{DiskModel}
+use Rattle.pv_show.specs.declared.show_error.ShowError.{ShowError}
+use Rattle.pv_show.specs.declared.show_error.ShowError.TheVariants.{BayFault}
+
+module _ {B : Type 0} (M : BayModel B) where
+  -- No site's disk is out.
+  abbrev pub IsAtRest : B → Type 0
+  IsAtRest bay = (site : ℕ) → (M.berth bay site).is_out ≡ false
+
+  -- The bay's own fault is answered where the bay counted one, and its count is as it was at every other answer.
+  abbrev pub CountsFaults : {X : Type 0} → B → B → Result X ShowError → Type 0
+  CountsFaults old new (Err BayFault) = Rose (M.faults old) (M.faults new)
+  CountsFaults old new result = M.faults new ≡ M.faults old
+
+module _ {B V : Type 0} (M : BayModel B) (D : DiskModel V) where
+  -- The disk of a site was handed out, then only read, and then handed back.
+  pub record ReadsDisk (old new : B) (site : ℕ) (taken given : V) : Type 0 where
+    pub out : B
+    pub hands_out : HandsOut M D old out site taken
+    pub reads : OnlyReads D.goes taken given
+    pub takes_back : TakesBack M D out new site given
+
+  -- Some disks were so read, one after another. Others were asked for and not handed out.
+  pub data OnlyReadsDisks (old : B) : B → Type 0 where
+    none : OnlyReadsDisks old old
+    one_more : (mid new : B) (site : ℕ) (taken given : V) → OnlyReadsDisks old mid → ReadsDisk mid new site taken given → OnlyReadsDisks old new
+    not_handed_out : (mid new : B) → OnlyReadsDisks old mid → HandsOutNone M mid new → OnlyReadsDisks old new

@@ -1,0 +1,4 @@
+pub mod Bays
+pub mod LookText
+pub mod Showing
+pub mod SiteText

@@ -1,0 +1,14 @@
+//! What the disks of a bay hold: the records of each site's journal, and the items as they show them.
+#![tactic(auto)]
+
+mod items;
+mod pieces;
+mod show_error;
+mod site;
+mod sites;
+
+pub use show_error::ShowError;
+pub use sites::show;
+
+#[cfg(test)]
+mod tests;
