@@ -11,6 +11,3 @@ mod pieces;
 
 pub use json_form::{json, push_json};
 pub use line::{print, push_line};
-
-#[cfg(test)]
-mod tests;

@@ -14,6 +14,3 @@ pub use printed::{Printed, run_to_lines};
 pub use running::{RunEnd, run};
 pub use status::Status;
 pub use summary::sum_up;
-
-#[cfg(test)]
-mod tests;

@@ -26,8 +26,3 @@ pub use lines::MAX_SCHEDULE;
 pub use live::{Client, LiveScript, Request};
 pub use read::{read_live, read_schedule};
 pub use schedule::{Event, LineCause, Schedule, ScriptError};
-
-#[cfg(test)]
-mod live_tests;
-#[cfg(test)]
-mod tests;

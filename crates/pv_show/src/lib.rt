@@ -9,6 +9,3 @@ mod sites;
 
 pub use show_error::ShowError;
 pub use sites::show;
-
-#[cfg(test)]
-mod tests;

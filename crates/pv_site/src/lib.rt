@@ -31,14 +31,3 @@ pub use pv_poly::Read;
 pub use pv_wire::{Message, NoCause};
 pub use recovered::Recovered;
 pub use site::Site;
-
-#[cfg(test)]
-mod opening_tests;
-#[cfg(test)]
-mod play_tests;
-#[cfg(test)]
-mod step_tests;
-#[cfg(test)]
-mod stray_tests;
-#[cfg(test)]
-mod tests;

@@ -20,6 +20,3 @@ mod writes;
 pub use change::StoreChange;
 pub use error::StoreError;
 pub use store::Store;
-
-#[cfg(test)]
-mod tests;

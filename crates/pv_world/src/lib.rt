@@ -19,8 +19,3 @@ mod world;
 
 pub use error::WorldError;
 pub use world::World;
-
-#[cfg(test)]
-mod mail_tests;
-#[cfg(test)]
-mod report_tests;

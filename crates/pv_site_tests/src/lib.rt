@@ -1,0 +1,13 @@
+//! The tests of pv_site.
+#![tactic(auto)]
+
+#[cfg(test)]
+mod opening_tests;
+#[cfg(test)]
+mod play_tests;
+#[cfg(test)]
+mod step_tests;
+#[cfg(test)]
+mod stray_tests;
+#[cfg(test)]
+mod tests;

@@ -1,0 +1,165 @@
+// A site opened on logs with worked contents: in which epoch, or why not.
+ghost use Rattle.std.specs.Prelude.{◌≡◌, ◌<◌, ◌≤◌, ◌^◌, false, length, IfOk, OnOk};
+ghost use Rattle.pv_base.specs.declared.limits.TheConstants.{MAX_JOURNAL, MAX_LENGTH, MIN_JOURNAL};
+ghost use Rattle.pv_law_disk.specs.Size.{size_of};
+
+use crate::tests::{HERE, bytes_of, catalog};
+use pv_base::MAX_JOURNAL;
+use pv_disk::{AppendFail, ListLog, Log, LogError};
+use pv_site::{OpenError, Site};
+use std::alloc::Global;
+use std::test::Fail;
+
+/// Why a site isn't opened: its error, without the log that comes back.
+#[derive(Clone, Copy, Debug, PartialEq, Eq)]
+pub(crate) enum Refusal {
+    /// The log failed.
+    Failed,
+    /// The log would have this length.
+    Full(u64),
+    /// No epoch is left.
+    EpochsSpent,
+    /// The content with this index is no record.
+    BadRecord(u64),
+    /// A value would name so many outcomes.
+    TooManyOutcomes(u32),
+    /// What was read isn't the log's.
+    NotOurs(u64),
+    /// There was no memory.
+    NoMemory,
+}
+
+// An append with its room.
+#[tactic(auto, using(pv_law_disk::proofs::LogLemmas::log_joins))]
+fn add<L: Log>(log: &mut L, content: &[u8]) -> Result<(), LogError>
+    requires intact { L.model.is_intact log.old }
+    requires up { L.model.is_down log.old ≡ false }
+    requires small { length content.now < 2 ^ 63 }
+    ensures intact { L.model.is_intact log.new }
+    ensures limit { OnOk result (L.model.limit log.new ≡ L.model.limit log.old) }
+    ensures up { OnOk result (L.model.is_down log.new ≡ false) }
+{
+    log.reserve(content.len() as u64)?;
+    log.append(content)
+}
+
+// Adds these contents, in hexadecimal.
+fn add_all(alloc: Global, log: &mut ListLog, contents: &[&str]) -> Result<(), Fail>
+    requires intact { size_of log.old.contents ≤ MAX_LENGTH }
+    requires up { log.old.is_down ≡ false }
+    ensures intact { size_of log.new.contents ≤ MAX_LENGTH }
+    ensures limit { OnOk result (log.new.limit ≡ log.old.limit) }
+    ensures up { OnOk result (log.new.is_down ≡ false) }
+{
+    for content in contents {
+        let bytes = bytes_of(alloc, content)?;
+        add(log, &bytes)?;
+    }
+    Ok(())
+}
+
+// The log with these contents, in hexadecimal, that fails at the appends planned.
+pub(crate) fn log_of(
+    alloc: Global,
+    journal: u64,
+    fails: Vec<AppendFail>,
+    contents: &[&str],
+) -> Result<ListLog, Fail>
+    requires least { MIN_JOURNAL ≤ journal }
+    requires most { journal ≤ MAX_JOURNAL }
+    ensures intact { IfOk result (λ log. size_of log.contents ≤ MAX_LENGTH) }
+    ensures up { IfOk result (λ log. log.is_down ≡ false) }
+    ensures limit { IfOk result (λ log. log.limit ≡ journal) }
+{
+    let mut log = ListLog::new(alloc, journal, fails);
+    add_all(alloc, &mut log, contents)?;
+    Ok(log)
+}
+
+// why a site wasn't opened
+pub(crate) fn refusal_of(error: &OpenError<ListLog>) -> Refusal {
+    match error {
+        OpenError::Failed(_) => Refusal::Failed,
+        OpenError::Full(_, length) => Refusal::Full(*length),
+        OpenError::EpochsSpent(_) => Refusal::EpochsSpent,
+        OpenError::BadRecord(_, index) => Refusal::BadRecord(*index),
+        OpenError::TooManyOutcomes(_, count) => Refusal::TooManyOutcomes(*count),
+        OpenError::NotOurs(_, place) => Refusal::NotOurs(*place),
+        OpenError::NoMemory(_) => Refusal::NoMemory,
+    }
+}
+
+// In which epoch a site is opened on a log with these contents, or why not.
+fn opening(
+    alloc: Global,
+    journal: u64,
+    fails: &[AppendFail],
+    contents: &[&str],
+) -> Result<Result<u32, Refusal>, Fail>
+    requires least { MIN_JOURNAL ≤ journal }
+    requires most { journal ≤ MAX_JOURNAL }
+{
+    let catalog = catalog(alloc, journal)?;
+    let log = log_of(alloc, journal, fails.to_vec(alloc)?, contents)?;
+    match Site::open(alloc, log, HERE, &catalog) {
+        Ok(site) => Ok(Ok(site.epoch())),
+        Err(error) => Ok(Err(refusal_of(&error))),
+    }
+}
+
+// Contents of a log that may have any length, and what comes of opening a site on it.
+const OPENINGS: [(&[&str], Result<u32, Refusal>); 7] = [
+    (&[], Ok(1)),
+    (&["01 00000001"], Ok(2)),
+    (&["01 00000003", "01 00000002"], Ok(4)),
+    (&["01 fffffffd"], Ok(4_294_967_294)),
+    (&["01 fffffffe"], Err(Refusal::EpochsSpent)),
+    (&["01 ffffffff"], Err(Refusal::EpochsSpent)),
+    (&["01 00000001", "04"], Err(Refusal::BadRecord(1))),
+];
+
+#[test]
+fn a_site_is_opened_in_the_next_epoch(rt: HostRuntime) -> Result<(), Fail> {
+    let alloc = rt.alloc();
+    for (contents, expected) in OPENINGS {
+        assert_eq!(rt; opening(alloc, MAX_JOURNAL, &[], contents)?, expected);
+    }
+    Ok(())
+}
+
+#[test]
+fn no_site_is_opened_without_its_epoch(rt: HostRuntime) -> Result<(), Fail> {
+    let alloc = rt.alloc();
+    let full = opening(alloc, 32, &[], &["01 00000001", "01 00000002"])?;
+    assert_eq!(rt; full, Err(Refusal::Full(39)));
+    let fails = [AppendFail {
+        number: 0,
+        kept: true,
+    }];
+    let failed = opening(alloc, MAX_JOURNAL, &fails, &[])?;
+    assert_eq!(rt; failed, Err(Refusal::Failed));
+    Ok(())
+}
+
+// Promises of nine transactions, each of which assigns a.
+const PROMISES: [&str; 9] = [
+    "02 00 00000001 00000000 01 00000000 0001 00 0000000000000005",
+    "02 00 00000001 00000001 01 00000000 0001 00 0000000000000006",
+    "02 00 00000001 00000002 01 00000000 0001 00 0000000000000007",
+    "02 00 00000001 00000003 01 00000000 0001 00 0000000000000008",
+    "02 00 00000001 00000004 01 00000000 0001 00 0000000000000009",
+    "02 00 00000001 00000005 01 00000000 0001 00 000000000000000a",
+    "02 00 00000001 00000006 01 00000000 0001 00 000000000000000b",
+    "02 00 00000001 00000007 01 00000000 0001 00 000000000000000c",
+    "02 00 00000001 00000008 01 00000000 0001 00 000000000000000d",
+];
+
+#[test]
+fn no_site_is_opened_on_nine_promises(rt: HostRuntime) -> Result<(), Fail> {
+    let alloc = rt.alloc();
+    let eight = opening(alloc, MAX_JOURNAL, &[], &PROMISES[..8])?;
+    assert_eq!(rt; eight, Ok(1));
+    let nine = opening(alloc, MAX_JOURNAL, &[], &PROMISES)?;
+    assert_eq!(rt; nine, Err(Refusal::TooManyOutcomes(9)));
+    Ok(())
+}
