@@ -13,10 +13,10 @@ module _ {B : Type 0} (M : BayModel B) where
   abbrev pub IsAtRest : B → Type 0
   IsAtRest bay = (site : ℕ) → (M.berth bay site).is_out ≡ false
 
-  -- The bay's own fault is answered where the bay counted one, and its count is as it was at every other answer.
-  abbrev pub CountsFaults : {X : Type 0} → B → B → Result X ShowError → Type 0
-  CountsFaults old new (Err BayFault) = Rose (M.faults old) (M.faults new)
-  CountsFaults old new result = M.faults new ≡ M.faults old
+  -- The count of the bay's own faults rose at `BayFault`, and is as it was at every other answer.
+  abbrev pub RisesAtBayFault : {X : Type 0} → B → B → Result X ShowError → Type 0
+  RisesAtBayFault old new (Err BayFault) = Rose (M.faults old) (M.faults new)
+  RisesAtBayFault old new result = M.faults new ≡ M.faults old
 
 module _ {B V : Type 0} (M : BayModel B) (D : DiskModel V) where
   -- The disk of a site was handed out, then only read, and then handed back.

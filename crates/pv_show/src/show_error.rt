@@ -1,5 +1,6 @@
 // Why the disks of a bay aren't shown.
-ghost use Rattle.std.specs.Prelude.{◌≡◌};
+ghost use Rattle.std.specs.Prelude.{◌≡◌, Some};
+ghost use Rattle.pv_show.specs.ShowError.{show_error_text};
 
 use pv_base::NoMemory;
 use std::error::Error;
@@ -15,6 +16,8 @@ pub enum ShowError {
 }
 
 impl fmt::Display for ShowError {
+    ghost output = { λ e. Some (show_error_text e) };
+
     fn fmt<W: fmt::Write>(&self, f: &mut fmt::Formatter<W>) -> fmt::Result {
         f.write_str(match self {
             ShowError::BayFault => "the bay failed",

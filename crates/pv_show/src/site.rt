@@ -2,7 +2,7 @@
 ghost use Rattle.std.specs.Prelude.{◌≡◌, ◌++◌, List, ℕ, OnOk};
 ghost use Rattle.pv_format.specs.Contents.{greatest_epoch};
 ghost use Rattle.pv_replay.specs.Values.{contents_of, records_of};
-ghost use Rattle.pv_show.specs.Bays.{CountsFaults, IsAtRest, OnlyReadsDisks};
+ghost use Rattle.pv_show.specs.Bays.{IsAtRest, OnlyReadsDisks, RisesAtBayFault};
 ghost use Rattle.pv_show.specs.LookText.{IsToldOfLook};
 ghost use Rattle.pv_show.specs.Showing.{ShowsSite};
 ghost use Rattle.pv_show.specs.SiteText.{IsTold, journal, records_text};
@@ -28,7 +28,7 @@ pub(crate) fn show_site<B: Bay>(
     requires rest { IsAtRest B.model bay.old }
     ensures text { OnOk result ((part : List ℕ) × (text.new.items ≡ text.old.items ++ part)
         × ShowsSite B.model B.D.model catalog.now bay.old bay.new site.0 part) }
-    ensures faults { CountsFaults B.model bay.old bay.new result }
+    ensures faults { RisesAtBayFault B.model bay.old bay.new result }
     ensures reads { OnlyReadsDisks B.model B.D.model bay.old bay.new }
     ensures rest { IsAtRest B.model bay.new }
 {

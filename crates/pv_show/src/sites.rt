@@ -1,6 +1,6 @@
 // Site after site, what the disks of a bay hold.
 ghost use Rattle.std.specs.Prelude.{◌≡◌, IfOk};
-ghost use Rattle.pv_show.specs.Bays.{CountsFaults, IsAtRest, OnlyReadsDisks};
+ghost use Rattle.pv_show.specs.Bays.{IsAtRest, OnlyReadsDisks, RisesAtBayFault};
 ghost use Rattle.pv_show.specs.Showing.{ShowsAll};
 
 use crate::ShowError;
@@ -19,7 +19,7 @@ use std::alloc::Global;
 pub fn show<B: Bay>(alloc: Global, catalog: &Catalog, bay: &mut B) -> Result<Vec<u8>, ShowError>
     requires rest { IsAtRest B.model bay.old }
     ensures text { IfOk result (λ text. ShowsAll B.model B.D.model catalog.now bay.old bay.new text.items) }
-    ensures faults { CountsFaults B.model bay.old bay.new result }
+    ensures faults { RisesAtBayFault B.model bay.old bay.new result }
 
     // Also where nothing is shown, no disk is changed, and none is left out.
     ensures reads { OnlyReadsDisks B.model B.D.model bay.old bay.new }

@@ -1,7 +1,7 @@
 -- The text is written in one piece. Where it wasn't made, nothing is.
 use Rattle.std.proofs.Common.{rules, Err, List, ℕ, sym, subst}
 use Rattle.pv_app.proofs.ShowLemmas.{shows-written}
-use Rattle.pv_show.specs.Bays.{CountsFaults}
+use Rattle.pv_show.specs.Bays.{RisesAtBayFault}
 use Rattle.pv_show.specs.Showing.{ShowsAll}
 use Rattle.pv_show.specs.declared.show_error.ShowError.{ShowError}
 use Rattle.pv_app.proofs.showing.show_sites.Goals as goal
@@ -15,4 +15,4 @@ returns-in-Ok-clause-shown g c =
 
 pub returns-in-Err-BayFault-clause-shown : goal.returns-in-Err-BayFault-clause-shown
 returns-in-Err-BayFault-clause-shown g c =
-    (subst (λ (e : ShowError). CountsFaults g.B.Bay.model {X = ℕ} c.args.bay.now c.show.new.bay (Err e)) c.in-Err-BayFault.field-0-is c.in-Err-BayFault.ensures.faults, search rules)
+    (subst (λ (e : ShowError). RisesAtBayFault g.B.Bay.model {X = ℕ} c.args.bay.now c.show.new.bay (Err e)) c.in-Err-BayFault.field-0-is c.in-Err-BayFault.ensures.faults, search rules)
