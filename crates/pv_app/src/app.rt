@@ -73,7 +73,7 @@ pub fn polydb<R: Source, W: Sink, B: Bay>(
         ((result ≡ Status.Usage) ⊎ (result ≡ Status.WriteFault))
         × WritesPrefix W.Sink sink.old sink.new usage_text × (source.new ≡ source.old) }
 
-    // A run gives the input's answer, or gives up. Whatever it wrote is a beginning of that answer.
+    // A run gives the input's answer, or gives up. Whatever it wrote is a beginning of that answer. Where that is empty, no write has failed.
     ensures answered { (form : Form) → IsCommand (map string_bytes words.now) (Command.Run form) →
         (input : List ℕ) → R.left source.old ≡ Some input →
         Answers W.Sink (output_of form) (output_within form) input result sink.old sink.new }
@@ -190,6 +190,7 @@ fn read_and_run<R: Source, W: Sink, B: Bay>(
 fn write_made<W: Sink>(alloc: Global, number: u32, sink: &mut W) -> Status
     ensures written { result ≡ Status.Done → Writes W.Sink sink.old sink.new (made_text number) }
     ensures prefix { WritesPrefix W.Sink sink.old sink.new (made_text number) }
+    ensures some { result ≡ Status.WriteFault → made_text number ≢ [] }
     ensures fault { result ≡ Status.WriteFault → HasFailed W.Sink sink.old sink.new }
     ensures others { (result ≡ Status.Done) ⊎ ((result ≡ Status.WriteFault) ⊎ (result ≡ Status.NoMemory)) }
 {

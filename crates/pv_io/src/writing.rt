@@ -4,7 +4,7 @@ ghost use Rattle.pv_io.specs.SinkEffects.{WritesAll};
 use crate::Sink;
 use pv_base::Failed;
 
-/// Writes all the bytes. After a failure the sink holds what it held and a beginning of `bytes`.
+/// Writes all the bytes. After a failure the sink holds what it held and a beginning of `bytes`. For no bytes the sink isn't called, and nothing fails.
 pub fn write_all<W: Sink>(sink: &mut W, bytes: &[u8]) -> Result<(), Failed>
     ensures { WritesAll W.Sink (λ _. Unit {0}) sink.old sink.new bytes.now result }
 {

@@ -1,7 +1,7 @@
 -- An input has one answer, and what the words are.
-use Rattle.std.proofs.Common.{◌≡◌, ℕ, ◌≤◌, ◌<◌, List, [], ◌∷◌, length, get_or, Option, Some, None, Result, Ok, Err, OnOk, OnErr, IfSome, ◌⊎◌, inl, inr, Bool, false, cond, is_ok, is_some, refl, sym, ap, ◌∙◌, subst, arith}
+use Rattle.std.proofs.Common.{◌≡◌, ◌≢◌, ℕ, ◌≤◌, ◌<◌, List, [], ◌∷◌, length, get_or, Option, Some, None, Result, Ok, Err, OnOk, OnErr, IfSome, ◌⊎◌, inl, inr, Bool, false, cond, is_ok, is_some, refl, sym, ap, ◌∙◌, subst, arith}
 use Rattle.std.specs.Bool.{⊤}
-use Rattle.std.specs.Prelude.{IfOk}
+use Rattle.std.specs.Prelude.{IfErr, IfOk}
 use Rattle.std.specs.Io.KnownBytes.{Appends}
 use Rattle.std.proofs.lemmas.Bool.{false≢true}
 use Rattle.std.proofs.lemmas.List.{append-nil}
@@ -23,6 +23,7 @@ use Rattle.pv_run.specs.InputAnswers.{IsAnswer, IsRunAnswer, IsSummaryAnswer, Gi
 use Rattle.pv_run.specs.declared.form.Form.{Form}
 use Rattle.pv_run.specs.declared.running.RunEnd.{RunEnd}
 use Rattle.pv_run.specs.declared.running.RunEnd.TheVariants as end
+use Rattle.pv_run.specs.RunEndView.{IsWriteFault}
 use Rattle.pv_protocol.specs.Lines.{Line}
 use Rattle.pv_protocol.specs.Run.{printed}
 use Rattle.pv_site.specs.SiteState.{setup_of}
@@ -93,6 +94,24 @@ pub prefix_of_run : {T E : Type 0} (r : Result T E) (old new : Option (List ℕ)
     → OnOk r (Appends old new output) → OnErr r (AppendsPrefix old new output) → AppendsPrefix old new output
 prefix_of_run (Ok done) old new output p q = subst (AppendsPrefix old new) (append-nil output) (AppendsPrefix-whole old new output [] p)
 prefix_of_run (Err e) old new output p q = q
+
+-- what isn't empty in one answer isn't in any
+pub wanted_of_answer : (whole within : Schedule → List ℕ) (input : List ℕ) (one other : Status) (output text : List ℕ)
+    → IsAnswer whole within input one output → output ≢ [] → IsAnswer whole within input other text → text ≢ []
+wanted_of_answer whole within input one other output text a some b none = some ((one_answer whole within input one other output text a b).1 ∙ none)
+
+-- a run whose output failed had some to write
+pub wanted_of_run : (end : Result (Option ℕ) RunEnd) (output : List ℕ) → IfErr end (λ e. IsWriteFault e → output ≢ []) → status_of end ≡ WriteFault → output ≢ []
+wanted_of_run (Ok None) output some is = absurd (let wrong : ⊥ = cc in wrong)
+wanted_of_run (Ok (Some total)) output some is = absurd (let wrong : ⊥ = cc in wrong)
+wanted_of_run (Err end.WriteFault) output some is = some refl
+wanted_of_run (Err end.NoMemory) output some is = absurd (let wrong : ⊥ = cc in wrong)
+
+-- and so had what was to be written in one piece
+pub wanted_of_write : {E : Type 0} (written : Result ⊤ E) (status : Status) (output : List ℕ) → status ≡ cond (is_ok written) Done WriteFault
+    → IfErr written (λ e. Unit {0} → output ≢ []) → status ≡ WriteFault → output ≢ []
+wanted_of_write (Ok taken) status output is some fault = absurd (let wrong : ⊥ = cc in wrong)
+wanted_of_write (Err e) status output is some fault = some tt
 
 -- ---- what the statuses say
 

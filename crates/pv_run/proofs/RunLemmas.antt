@@ -26,7 +26,7 @@ use Rattle.pv_world.specs.declared.world.World.{World}
 use Rattle.pv_run.specs.Forms.{line_in, lines_in}
 use Rattle.pv_run.specs.InputAnswers.{output_within, within_limit}
 use Rattle.pv_run.specs.declared.form.Form.{Form}
-use Rattle.pv_run.proofs.OutputLemmas.{AppendsPrefix-front, AppendsPrefix-after}
+use Rattle.pv_run.proofs.OutputLemmas.{AppendsPrefix-front, AppendsPrefix-after, both-empty}
 
 -- the world after an event, and after several
 abbrev pub after_event : Setup → model.World → Event → model.World
@@ -54,7 +54,7 @@ pub record IsInCourse (schedule : Schedule) (world : World) (done : ℕ) : Type 
   pub limit : world.mail.limit ≡ MAX_SENT
   pub over : (left_at schedule done).over ≡ (within_limit schedule).over
 
--- And what is left to be printed ends where all that is to be printed ends.
+-- And what is left to be printed ends where all that is to be printed ends. Where that is nothing, the sink is as it was.
 pub record IsUnderWay {W : Type 0} (sink : Ghosts W) (form : Form) (first now : W) (schedule : Schedule) (world : World) (done : ℕ) : Type 0 where
   pub course : IsInCourse schedule world done
   pub whole : (end : Option (List ℕ)) → Appends (sink.held now) end (lines_in form schedule.catalog (left_at schedule done).lines)
@@ -63,6 +63,7 @@ pub record IsUnderWay {W : Type 0} (sink : Ghosts W) (form : Form) (first now : 
       → AppendsPrefix (sink.held first) end (output_within form schedule)
   pub known : KnownAlike (sink.held first) (sink.held now)
   pub counted : sink.faults first ≤ sink.faults now
+  pub none : output_within form schedule ≡ [] → (lines_in form schedule.catalog (left_at schedule done).lines ≡ []) × (now ≡ first)
 
 -- And the lines so far, each of which can be printed, are what was to be printed before what is left.
 pub record HasCollected (schedule : Schedule) (world : World) (done : ℕ) (so_far : List Line) : Type 0 where
@@ -134,6 +135,7 @@ start sink form first schedule world stands catalog limit = record {
   prefix = λ end p. p;
   known = refl;
   counted = omega arith;
+  none = λ none. (none, refl);
 }
 
 pub collect-start : (schedule : Schedule) (world : World)
@@ -226,8 +228,9 @@ pub go_on : {W : Type 0} (sink : Ghosts W) (form : Form) (first now next : W) (s
     (within : over_limit MAX_SENT (after schedule world done event way.course split) ≡ None)
     (new : World) → StandsFor new (after schedule world done event way.course split) → IsSameBeside world new
     → Appends (sink.held now) (sink.held next) (lines_in form schedule.catalog (lines schedule world done event way.course split))
-    → KnownAlike (sink.held now) (sink.held next) → sink.faults now ≤ sink.faults next → IsUnderWay sink form first next schedule new (suc done)
-go_on sink form first now next schedule world done event way split within new stands beside written known counted =
+    → KnownAlike (sink.held now) (sink.held next) → sink.faults now ≤ sink.faults next
+    → (lines_in form schedule.catalog (lines schedule world done event way.course split) ≡ [] → next ≡ now) → IsUnderWay sink form first next schedule new (suc done)
+go_on sink form first now next schedule world done event way split within new stands beside written known counted same =
     let text = lines_in form schedule.catalog (lines schedule world done event way.course split) in
     let more = lines_in form schedule.catalog (left_at schedule (suc done)).lines in
     let both = text-within schedule world done event way.course split within form in
@@ -237,6 +240,7 @@ go_on sink form first now next schedule world done event way split within new st
       prefix = λ end p. way.prefix end (subst (AppendsPrefix (sink.held now) end) (sym both) (AppendsPrefix-after (sink.held now) (sink.held next) end text more written p));
       known = known ∙ way.known;
       counted = omega (arith, way.counted, counted);
+      none = λ none. let empty = both-empty text more (sym both ∙ (way.none none).0) in (empty.1, same empty.0 ∙ (way.none none).1);
     }
 
 -- A beginning of the event's lines is written.
@@ -249,6 +253,15 @@ give_up sink form first now next schedule world done event way split within writ
     way.prefix (sink.held next) (subst (AppendsPrefix (sink.held now) (sink.held next)) (sym (text-within schedule world done event way.course split within form))
     (AppendsPrefix-front (sink.held now) (sink.held next) (lines_in form schedule.catalog (lines schedule world done event way.course split))
     (lines_in form schedule.catalog (left_at schedule (suc done)).lines) written))
+
+-- Where nothing is printed in all, nothing is printed of the event.
+pub no_lines : {W : Type 0} (sink : Ghosts W) (form : Form) (first now : W) (schedule : Schedule) (world : World) (done : ℕ) (event : Event)
+    (way : IsUnderWay sink form first now schedule world done) (split : drop done schedule.events ≡ event ∷ drop (suc done) schedule.events)
+    → over_limit MAX_SENT (after schedule world done event way.course split) ≡ None → output_within form schedule ≡ []
+    → lines_in form schedule.catalog (lines schedule world done event way.course split) ≡ []
+no_lines sink form first now schedule world done event way split within none =
+    (both-empty (lines_in form schedule.catalog (lines schedule world done event way.course split)) (lines_in form schedule.catalog (left_at schedule (suc done)).lines)
+    (sym (text-within schedule world done event way.course split within form) ∙ (way.none none).0)).0
 
 -- The event's lines are collected, and the next event comes.
 pub collect_on : (schedule : Schedule) (world : World) (done : ℕ) (so_far : List Line) (event : Event)

@@ -1,5 +1,5 @@
 -- What the program has to answer.
-use Rattle.std.specs.Prelude.{◌≡◌, ◌⊎◌, ℕ, ◌<◌, ◌≤◌, List, [], ◌++◌, length, Option, Some, None, Result, Ok, Err}
+use Rattle.std.specs.Prelude.{◌≡◌, ◌≢◌, ◌⊎◌, ℕ, ◌<◌, ◌≤◌, List, [], ◌++◌, length, Option, Some, None, Result, Ok, Err}
 use Rattle.std.specs.Io.KnownBytes.{Appends}
 use Rattle.pv_base.specs.declared.limits.TheConstants.{MAX_INPUT, MAX_SENT}
 use Rattle.pv_io.specs.SinkEffects.{WritesPrefix}
@@ -75,9 +75,9 @@ module _ {W : Type 0} (sink : Ghosts W) where
   abbrev pub Answers : (whole within : Schedule → List ℕ) → List ℕ → Status → W → W → Type 0
   Answers whole within input status old new = GivesUp status ⊎ GrowsBySome (sink.held old) (sink.held new) (IsAnswer whole within input status)
 
-  -- It gave up, or answered with this status and a beginning of this output.
+  -- It gave up, or answered with this status and a beginning of this output. Where that is empty, no write has failed.
   abbrev pub GivesUpOr : Status → Status → List ℕ → W → W → Type 0
-  GivesUpOr result status output old new = (GivesUp result ⊎ (result ≡ status)) × WritesPrefix sink old new output
+  GivesUpOr result status output old new = (GivesUp result ⊎ (result ≡ status)) × WritesPrefix sink old new output × (result ≡ WriteFault → output ≢ [])
 
 -- the status of a run that wrote all that it had to, by the total that passed the limit
 abbrev pub status_within : Option ℕ → Status

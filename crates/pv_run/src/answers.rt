@@ -72,6 +72,7 @@ fn answer<W: Sink, B: Bay>(
     ensures answered { Answers W.Sink (output_of form) (output_within form) input.now result sink.old sink.new }
     ensures prefix { (status : Status) (output : List ℕ) → IsRunAnswer form input.now status output →
         WritesPrefix W.Sink sink.old sink.new output }
+    ensures some { (status : Status) (output : List ℕ) → IsRunAnswer form input.now status output → result ≡ Status.WriteFault → output ≢ [] }
     ensures command { result ≢ Status.Usage }
     ensures bay_fault { result ≢ Status.BayFault }
     ensures read_fault { result ≢ Status.ReadFault }
@@ -115,6 +116,7 @@ fn write_summary_of_text<W: Sink>(alloc: Global, input: &[u8], sink: &mut W) -> 
     ensures answered { Answers W.Sink summary_of (λ schedule. []) input.now result sink.old sink.new }
     ensures prefix { (status : Status) (output : List ℕ) → IsSummaryAnswer input.now status output →
         WritesPrefix W.Sink sink.old sink.new output }
+    ensures some { (status : Status) (output : List ℕ) → IsSummaryAnswer input.now status output → result ≡ Status.WriteFault → output ≢ [] }
     ensures command { result ≢ Status.Usage }
     ensures bay_fault { result ≢ Status.BayFault }
     ensures read_fault { result ≢ Status.ReadFault }
@@ -137,6 +139,8 @@ fn write_summary_of_run<W: Sink>(alloc: Global, schedule: &Schedule, sink: &mut 
         Answers W.Sink summary_of (λ schedule. []) input result sink.old sink.new }
     ensures prefix { (input : List ℕ) → length input ≤ MAX_INPUT → IsSchedule input (schedule_of schedule.now) →
         (status : Status) (output : List ℕ) → IsSummaryAnswer input status output → WritesPrefix W.Sink sink.old sink.new output }
+    ensures some { (input : List ℕ) → length input ≤ MAX_INPUT → IsSchedule input (schedule_of schedule.now) →
+        (status : Status) (output : List ℕ) → IsSummaryAnswer input status output → result ≡ Status.WriteFault → output ≢ [] }
     ensures fault { result ≡ Status.WriteFault → HasFailed W.Sink sink.old sink.new }
     ensures others { (result ≡ Status.Done) ⊎ ((result ≡ Status.SentLimit) ⊎ ((result ≡ Status.WriteFault) ⊎ (result ≡ Status.NoMemory))) }
 {
@@ -162,6 +166,7 @@ fn write_summary_of_run<W: Sink>(alloc: Global, schedule: &Schedule, sink: &mut 
 pub fn refuse<W: Sink>(alloc: Global, line: u32, cause: LineCause, sink: &mut W) -> Status
     ensures written { result ≡ Status.Malformed → Writes W.Sink sink.old sink.new (fault_text line (line_cause_of cause)) }
     ensures prefix { WritesPrefix W.Sink sink.old sink.new (fault_text line (line_cause_of cause)) }
+    ensures some { result ≡ Status.WriteFault → fault_text line (line_cause_of cause) ≢ [] }
     ensures fault { result ≡ Status.WriteFault → HasFailed W.Sink sink.old sink.new }
     ensures others { (result ≡ Status.Malformed) ⊎ ((result ≡ Status.WriteFault) ⊎ (result ≡ Status.NoMemory)) }
 {

@@ -1,5 +1,5 @@
 -- The words are one command, whose call has these clauses.
-use Rattle.std.proofs.Common.{◌≡◌, ℕ, List, [], ◌⊎◌, map, Some, Option, IfSome, inl, inr, refl, sym, ap, ◌∙◌, subst}
+use Rattle.std.proofs.Common.{◌≡◌, ◌≢◌, ℕ, List, [], ◌⊎◌, map, Some, Option, IfSome, inl, inr, refl, sym, ap, ◌∙◌, subst}
 use Rattle.std.specs.String.{string_bytes}
 use Rattle.pv_io.specs.SinkEffects.{Writes, WritesPrefix}
 use Rattle.pv_model.specs.Events.{Schedule}
@@ -92,6 +92,7 @@ returns-in-Some-Make-clause-made g c = λ n is.
       (
         done-or-not c.write_made.result c.write_made.ensures.others,
         subst (λ (m : ℕ). WritesPrefix g.W.Sink c.args.sink.now c.write_made.new.sink (made_text m)) same c.write_made.ensures.prefix,
+        subst (λ (m : ℕ). c.write_made.result ≡ WriteFault → made_text m ≢ []) same c.write_made.ensures.some,
       ),
       subst (λ (m : ℕ). c.write_made.result ≡ Done → Writes g.W.Sink c.args.sink.now c.write_made.new.sink (made_text m)) same c.write_made.ensures.written,
       refl,

@@ -38,11 +38,11 @@ returns-in-Err-Failed-clause-shown g c = λ input left short script says. (refl,
 
 pub returns-in-Err-Failed-clause-refused : goal.returns-in-Err-Failed-clause-refused
 returns-in-Err-Failed-clause-refused g c = λ input left short number cause is.
-    ((inl tt, (0, Appends-nil (g.W.Sink.held c.args.sink.now))), refl, λ malformed. absurd (let wrong : ⊥ = cc in wrong))
+    ((inl tt, (0, Appends-nil (g.W.Sink.held c.args.sink.now)), λ fault. absurd (let wrong : ⊥ = cc in wrong)), refl, λ malformed. absurd (let wrong : ⊥ = cc in wrong))
 
 pub returns-in-Err-Failed-clause-long : goal.returns-in-Err-Failed-clause-long
 returns-in-Err-Failed-clause-long g c = λ input left long.
-    ((inl tt, (0, Appends-nil (g.W.Sink.held c.args.sink.now))), λ fault. let wrong : ⊥ = cc in wrong, refl)
+    ((inl tt, (0, Appends-nil (g.W.Sink.held c.args.sink.now)), λ fault. absurd (let wrong : ⊥ = cc in wrong)), λ fault. let wrong : ⊥ = cc in wrong, refl)
 
 pub returns-in-Err-Failed-clause-only_reads : goal.returns-in-Err-Failed-clause-only_reads
 returns-in-Err-Failed-clause-only_reads g c = OnlyReadsDisks.none
@@ -57,18 +57,18 @@ returns-in-Err-TooLong-clause-refused g c = λ input left short number cause is.
 
 pub returns-in-Err-TooLong-clause-long : goal.returns-in-Err-TooLong-clause-long
 returns-in-Err-TooLong-clause-long g c = λ input left long.
-    ((inr refl, (0, Appends-nil (g.W.Sink.held c.args.sink.now))), λ fault. let wrong : ⊥ = cc in wrong, refl)
+    ((inr refl, (0, Appends-nil (g.W.Sink.held c.args.sink.now)), λ fault. absurd (let wrong : ⊥ = cc in wrong)), λ fault. let wrong : ⊥ = cc in wrong, refl)
 
 pub returns-in-Err-TooLong-clause-only_reads : goal.returns-in-Err-TooLong-clause-only_reads
 returns-in-Err-TooLong-clause-only_reads g c = OnlyReadsDisks.none
 
 pub returns-in-Err-NoMemory-clause-refused : goal.returns-in-Err-NoMemory-clause-refused
 returns-in-Err-NoMemory-clause-refused g c = λ input left short number cause is.
-    ((inl tt, (0, Appends-nil (g.W.Sink.held c.args.sink.now))), refl, λ malformed. absurd (let wrong : ⊥ = cc in wrong))
+    ((inl tt, (0, Appends-nil (g.W.Sink.held c.args.sink.now)), λ fault. absurd (let wrong : ⊥ = cc in wrong)), refl, λ malformed. absurd (let wrong : ⊥ = cc in wrong))
 
 pub returns-in-Err-NoMemory-clause-long : goal.returns-in-Err-NoMemory-clause-long
 returns-in-Err-NoMemory-clause-long g c = λ input left long.
-    ((inl tt, (0, Appends-nil (g.W.Sink.held c.args.sink.now))), λ fault. let wrong : ⊥ = cc in wrong, refl)
+    ((inl tt, (0, Appends-nil (g.W.Sink.held c.args.sink.now)), λ fault. absurd (let wrong : ⊥ = cc in wrong)), λ fault. let wrong : ⊥ = cc in wrong, refl)
 
 pub returns-in-Err-NoMemory-clause-only_reads : goal.returns-in-Err-NoMemory-clause-only_reads
 returns-in-Err-NoMemory-clause-only_reads g c = OnlyReadsDisks.none

@@ -1,5 +1,5 @@
 -- The text is one live script, or is malformed at one line for one cause.
-use Rattle.std.proofs.Common.{◌≡◌, IfSome, inl, refl, ◌∙◌, ap, sym, subst}
+use Rattle.std.proofs.Common.{◌≡◌, ◌≢◌, List, ℕ, [], IfSome, inl, refl, ◌∙◌, ap, sym, subst}
 use Rattle.std.proofs.KnownBytes.{Appends-nil}
 use Rattle.std.specs.Io.KnownBytes.{Appends}
 use Rattle.pv_io.specs.Stream.{AppendsPrefix}
@@ -68,7 +68,11 @@ returns-in-Err-Malformed-clause-refused g c = λ number reported is.
     let same = one_fault live c.args.input.now line number (line_cause_of cause) reported refused is in
     let first : fault_text _ (line_cause_of _) ≡ fault_text line (line_cause_of cause) = λ i. fault_text (c.in-Err-Malformed.line-is i) (line_cause_of (c.in-Err-Malformed.cause-is i)) in
     let text : fault_text line (line_cause_of cause) ≡ fault_text number reported = λ i. fault_text (same.0 i) (same.1 i) in (
-      (refused-or-not c.refuse.result c.refuse.ensures.others, subst (AppendsPrefix old new) (first ∙ text) c.refuse.ensures.prefix),
+      (
+        refused-or-not c.refuse.result c.refuse.ensures.others,
+        subst (AppendsPrefix old new) (first ∙ text) c.refuse.ensures.prefix,
+        λ fault. subst (λ (t : List ℕ). t ≢ []) (first ∙ text) (c.refuse.ensures.some fault),
+      ),
       refl,
       λ malformed. subst (Appends old new) (first ∙ text) (c.refuse.ensures.written malformed),
     )
@@ -88,7 +92,7 @@ returns-in-Err-Malformed-clause-only_reads g c = OnlyReadsDisks.none
 
 pub returns-in-Err-NoMemory-clause-refused : goal.returns-in-Err-NoMemory-clause-refused
 returns-in-Err-NoMemory-clause-refused g c = λ number cause is.
-    ((inl tt, (0, Appends-nil (g.W.Sink.held c.args.sink.now))), refl, λ malformed. absurd (let wrong : ⊥ = cc in wrong))
+    ((inl tt, (0, Appends-nil (g.W.Sink.held c.args.sink.now)), λ fault. absurd (let wrong : ⊥ = cc in wrong)), refl, λ malformed. absurd (let wrong : ⊥ = cc in wrong))
 
 pub returns-in-Err-NoMemory-clause-only_reads : goal.returns-in-Err-NoMemory-clause-only_reads
 returns-in-Err-NoMemory-clause-only_reads g c = OnlyReadsDisks.none

@@ -1,5 +1,5 @@
 -- The sink grew by what was written before, and then by what this write took of the rest.
-use Rattle.std.proofs.Common.{◌++◌, take, subst, sym, ◌∙◌, ap, arith}
+use Rattle.std.proofs.Common.{◌++◌, length, take, subst, sym, ◌∙◌, ap, arith}
 use Rattle.std.proofs.Math.Seq.{take-add}
 use Rattle.std.proofs.KnownBytes.{Appends-trans}
 use Rattle.std.specs.Io.KnownBytes.{Appends}
@@ -21,4 +21,5 @@ loop-written-preserved g c =
       appended = subst (Appends (held c.args.sink.now) (held c.write.new.self)) both appended;
       known = now.known ∙ before.known;
       counted = omega (arith, now.fault.0);
+      none = λ none. absurd (omega (arith, ap length none, c.loop-written-test.true));
     }

@@ -1,5 +1,5 @@
 -- What was written is a beginning of the one answer that the input has.
-use Rattle.std.proofs.Common.{◌≡◌, refl, sym, ap, ◌∙◌, subst}
+use Rattle.std.proofs.Common.{◌≡◌, ◌≢◌, List, ℕ, [], refl, sym, ap, ◌∙◌, subst}
 use Rattle.std.specs.Io.KnownBytes.{Appends}
 use Rattle.pv_io.specs.Stream.{AppendsPrefix}
 use Rattle.pv_law_schedules.proofs.OneScheduleLemmas.{one_schedule}
@@ -9,7 +9,7 @@ use Rattle.pv_script.specs.ScriptErrors.{line_cause_of}
 use Rattle.pv_run.specs.declared.status.Status.TheVariants.{Malformed}
 use Rattle.pv_run.specs.InputAnswers.{fault_text, output_of, output_within, status_of, status_within, within_limit}
 use Rattle.pv_run.specs.KeptDisks.{KeepsSites, last_world}
-use Rattle.pv_run.proofs.AnswerLemmas.{answer_of_run, answered_refusal, answered_run, prefix_of_answer, prefix_of_run, refusal-not-done, refused-at, run-is-done}
+use Rattle.pv_run.proofs.AnswerLemmas.{answer_of_run, answered_refusal, answered_run, prefix_of_answer, prefix_of_run, refusal-not-done, refused-at, run-is-done, wanted_of_answer, wanted_of_run}
 use Rattle.pv_run.proofs.answers.answer.Goals as goal
 
 pub run-requires-clause-well_formed : goal.run-requires-clause-well_formed
@@ -31,6 +31,15 @@ returns-in-Ok-clause-prefix g c = λ status text is.
     let written = prefix_of_run c.run.result old new (output_within form schedule) c.run.ensures.writes.written c.run.ensures.writes.prefix in
     prefix_of_answer (output_of form) (output_within form) input (status_within (within_limit schedule).over) status (output_within form schedule) text old new
     (answer_of_run form input schedule c.requires c.in-Ok.ensures.answer.given) written is
+
+pub returns-in-Ok-clause-some : goal.returns-in-Ok-clause-some
+returns-in-Ok-clause-some g c = λ status text is fault.
+    let form = c.args.form in
+    let input = c.args.input.now in
+    let schedule = schedule_of c.in-Ok.schedule in
+    wanted_of_answer (output_of form) (output_within form) input (status_within (within_limit schedule).over) status (output_within form schedule) text
+    (answer_of_run form input schedule c.requires c.in-Ok.ensures.answer.given)
+    (wanted_of_run c.run.result (output_within form schedule) c.run.ensures.writes.some (sym c.status_of_run.ensures ∙ fault)) is
 
 pub returns-in-Err-Malformed-clause-answered : goal.returns-in-Err-Malformed-clause-answered
 returns-in-Err-Malformed-clause-answered g c =
@@ -55,6 +64,16 @@ returns-in-Err-Malformed-clause-prefix g c = λ status output is.
     let text : fault_text _ (line_cause_of _) ≡ fault_text line (line_cause_of cause) = λ i. fault_text (c.in-Err-Malformed.line-is i) (line_cause_of (c.in-Err-Malformed.cause-is i)) in
     prefix_of_answer (output_of c.args.form) (output_within c.args.form) input Malformed status (fault_text line (line_cause_of cause)) output old new
     (c.requires, line, line_cause_of cause, refused, refl) (subst (AppendsPrefix old new) text c.refuse.ensures.prefix) is
+
+pub returns-in-Err-Malformed-clause-some : goal.returns-in-Err-Malformed-clause-some
+returns-in-Err-Malformed-clause-some g c = λ status output is fault.
+    let input = c.args.input.now in
+    let line = c.in-Err-Malformed.line in
+    let cause = c.in-Err-Malformed.cause in
+    let refused = refused-at input _ line cause c.in-Err-Malformed.field-0-is c.in-Err-Malformed.ensures.answer.refused in
+    let text : fault_text _ (line_cause_of _) ≡ fault_text line (line_cause_of cause) = λ i. fault_text (c.in-Err-Malformed.line-is i) (line_cause_of (c.in-Err-Malformed.cause-is i)) in
+    wanted_of_answer (output_of c.args.form) (output_within c.args.form) input Malformed status (fault_text line (line_cause_of cause)) output (c.requires, line, line_cause_of cause, refused, refl)
+    (subst (λ (t : List ℕ). t ≢ []) text (c.refuse.ensures.some fault)) is
 
 -- At `Done` the run was that of the schedule which the text is.
 pub returns-in-Ok-clause-kept : goal.returns-in-Ok-clause-kept

@@ -26,5 +26,8 @@ pub returns-clause-exact : goal.returns-clause-exact
 returns-clause-exact g c = λ status output is.
     let form = c.args.form in
     let old = g.W.Sink.held c.args.sink.now in
-    let new = g.W.Sink.held c.answer.new.sink in
-    (status_of_answer (output_of form) (output_within form) c.args.input.now c.answer.result status old new output c.answer.ensures.answered is, c.answer.ensures.prefix status output is)
+    let new = g.W.Sink.held c.answer.new.sink in (
+      status_of_answer (output_of form) (output_within form) c.args.input.now c.answer.result status old new output c.answer.ensures.answered is,
+      c.answer.ensures.prefix status output is,
+      c.answer.ensures.some status output is,
+    )

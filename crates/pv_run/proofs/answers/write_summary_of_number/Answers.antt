@@ -14,4 +14,5 @@ returns-clause-exact g c = λ status output is.
     let new = g.W.Sink.held c.write_summary_of_text.new.sink in (
       status_of_answer summary_of (λ schedule. []) c.deref.result.now c.write_summary_of_text.result status old new output c.write_summary_of_text.ensures.answered answer,
       c.write_summary_of_text.ensures.prefix status output answer,
+      c.write_summary_of_text.ensures.some status output answer,
     )

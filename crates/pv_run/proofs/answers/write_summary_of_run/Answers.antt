@@ -1,5 +1,5 @@
 -- What is written is the summary of exactly what the run prints.
-use Rattle.std.proofs.Common.{◌≡◌, ℕ, List, [], length, map, OnOk, rules, vec_len, refl, sym, ap, ◌∙◌, subst}
+use Rattle.std.proofs.Common.{◌≡◌, ◌≢◌, ℕ, List, [], length, map, OnOk, rules, vec_len, refl, sym, ap, ◌∙◌, subst}
 use Rattle.std.proofs.lemmas.List.{length-map}
 use Rattle.std.specs.Io.KnownBytes.{Appends}
 use Rattle.pv_io.specs.Stream.{AppendsPrefix}
@@ -7,7 +7,7 @@ use Rattle.pv_script.specs.LineView.{line_of}
 use Rattle.pv_script.specs.ScheduleView.{event_of, schedule_of}
 use Rattle.pv_run.specs.Summary.{summary_of}
 use Rattle.pv_run.specs.declared.status.Status.TheVariants.{Done}
-use Rattle.pv_run.proofs.AnswerLemmas.{answered_summary, none-where-false, prefix_of_answer, prefix_of_run, summary-is}
+use Rattle.pv_run.proofs.AnswerLemmas.{answered_summary, none-where-false, prefix_of_answer, prefix_of_run, summary-is, wanted_of_answer, wanted_of_write}
 use Rattle.pv_run.proofs.LimitLemmas.{lines-within-limit}
 use Rattle.pv_run.proofs.answers.write_summary_of_run.Goals as goal
 
@@ -37,3 +37,15 @@ returns-in-Ok-sum_up-clause-prefix g c = λ input short says status output is.
     let written = prefix_of_run c.write_all.result old new c.deref-in-Ok-sum_up.result.now c.write_all.ensures.written c.write_all.ensures.prefix in
     prefix_of_answer summary_of (λ schedule. []) input Done status (summary_of schedule) output old new (short, schedule, says, within, refl)
     (subst (AppendsPrefix old new) (c.deref-in-Ok-sum_up.ensures.value ∙ same) written) is
+
+pub returns-in-Ok-sum_up-clause-some : goal.returns-in-Ok-sum_up-clause-some
+returns-in-Ok-sum_up-clause-some g c = λ input short says status output is fault.
+    let schedule = schedule_of c.args.schedule.now in
+    let within = sym c.in-Ok.ensures.over ∙ none-where-false c.in-Ok.printed.over c.is_some.result c.is_some.ensures c.if-is_some.false in
+    let whole : vec_len c.args.schedule.now.events ≡ length c.args.schedule.now.events.items = search rules in
+    let counted = c.len.ensures ∙ whole ∙ sym (length-map c.args.schedule.now.events.items event_of) in
+    let lines = ap (map line_of) c.deref.ensures.value ∙ c.in-Ok.ensures.lines ∙ lines-within-limit schedule within in
+    let same = summary-is schedule c.len.result (map line_of c.deref.result.now) c.in-Ok-sum_up.text.items counted lines c.in-Ok-sum_up.ensures in
+    let some = wanted_of_write c.write_all.result c.status_of_write.result c.deref-in-Ok-sum_up.result.now c.status_of_write.ensures c.write_all.ensures.some fault in
+    wanted_of_answer summary_of (λ schedule. []) input Done status (summary_of schedule) output (short, schedule, says, within, refl)
+    (subst (λ (text : List ℕ). text ≢ []) (c.deref-in-Ok-sum_up.ensures.value ∙ same) some) is

@@ -1,11 +1,10 @@
 -- One more disk is kept, of the site after those so far.
-use Rattle.std.proofs.Common.{rules, ◌≡◌, ℕ, ◌+◌, List, ◌++◌, ◌∷◌, [], length, sym, ap, subst, ◌∙◌, arith}
+use Rattle.std.proofs.Common.{rules, ◌≡◌, ℕ, List, sym, subst, ◌∙◌, arith}
 use Rattle.std.proofs.lemmas.Iterator.Adapters.{YieldsList-from_vec}
 use Rattle.std.proofs.lemmas.Iterator.Consumers.{YieldsList-end, YieldsList-turn}
 use Rattle.std.proofs.lemmas.List.{map-id}
 use Rattle.pv_disk.specs.BayAnswers.{KeepsDisk}
 use Rattle.pv_disk.specs.MemDisk.{MemState}
-use Rattle.pv_protocol.specs.State.{Site}
 use Rattle.pv_run.proofs.KeepLemmas.{hold-count, hold-split, keeps-next, keeps-none, one-longer}
 use Rattle.pv_run.specs.KeptDisks.{KeepsSites}
 use Rattle.pv_world.specs.Disks.{HoldSites}

@@ -1,5 +1,5 @@
 -- Each event's step is one step of the run.
-use Rattle.std.proofs.Common.{◌≤◌, rules, arith, Err, Some, ℕ, All, List, refl, sym, ap, length, map, ◌∙◌, subst, add-one}
+use Rattle.std.proofs.Common.{◌≡◌, ◌≢◌, ◌≤◌, rules, arith, [], Err, Some, ℕ, All, List, refl, sym, ap, length, map, ◌∙◌, subst, add-one}
 use Rattle.std.proofs.KnownBytes.{Appends-nil}
 use Rattle.std.specs.Io.KnownBytes.{Appends}
 use Rattle.pv_base.specs.Catalog.{Declared}
@@ -14,12 +14,13 @@ use Rattle.pv_site.specs.SiteState.{setup_of}
 use Rattle.pv_world.specs.Steps.{Steps}
 use Rattle.pv_world.specs.declared.error.WorldError.{WorldError}
 use Rattle.pv_run.specs.Forms.{lines_in}
+use Rattle.pv_run.specs.InputAnswers.{output_within}
 use Rattle.pv_run.specs.KeptDisks.{KeepsSites}
 use Rattle.pv_protocol.specs.World as model
 use Rattle.pv_run.proofs.KeepLemmas.{hold-count, last-is}
 use Rattle.pv_run.proofs.LineItems.{lines-name-items}
 use Rattle.pv_run.proofs.OutputLemmas.{AppendsPrefix-none, on_any_err}
-use Rattle.pv_run.proofs.RunLemmas.{IsUnderWay, All-next, drop-events_of, left_at, left-at-end, start, world_at, go_on, give_up, passes, printed-by, stands-after, within-after}
+use Rattle.pv_run.proofs.RunLemmas.{IsUnderWay, All-next, drop-events_of, left_at, left-at-end, no_lines, start, world_at, go_on, give_up, passes, printed-by, stands-after, within-after}
 use Rattle.pv_run.proofs.running.run.Goals as goal
 
 pub loop-event-init : goal.loop-event-init
@@ -62,9 +63,10 @@ loop-event-preserved g c =
     let printed = printed-by schedule world i event way.course split (map line_of c.deref.result.now) (ap (map line_of) c.deref.ensures.value ∙ steps.2) in
     let writes = c.in_ok-write_lines-in-Ok.ensures in
     let written = subst (λ (ls : List Line). Appends (g.W.Sink.held now) (g.W.Sink.held next) (lines_in c.args.form schedule.catalog ls)) printed writes.written in
+    let same = subst (λ (ls : List Line). lines_in c.args.form schedule.catalog ls ≡ [] → next ≡ now) printed writes.none in
     subst (λ (k : ℕ). IsUnderWay g.W.Sink c.args.form first next schedule new k) (sym (add-one i))
     (go_on g.W.Sink c.args.form first now next schedule world i event way split (within-after schedule world i event way.course split new steps.0 steps.1)
-    new (stands-after schedule world i event way.course split new steps.0) steps.1 written writes.known writes.counted)
+    new (stands-after schedule world i event way.course split new steps.0) steps.1 written writes.known writes.counted same)
 
 pub returns-in_err-write_lines-in-Ok-clause-writes : goal.returns-in_err-write_lines-in-Ok-clause-writes
 returns-in_err-write_lines-in-Ok-clause-writes g c =
@@ -83,6 +85,10 @@ returns-in_err-write_lines-in-Ok-clause-writes g c =
     let printed = printed-by schedule world i event way.course split (map line_of c.deref.result.now) (ap (map line_of) c.deref.ensures.value ∙ steps.2) in
     let failed = c.in_err-write_lines-in-Ok.ensures in
     let written = subst (λ (ls : List Line). AppendsPrefix (g.W.Sink.held now) (g.W.Sink.held next) (lines_in c.args.form schedule.catalog ls)) printed failed.prefix in
+    let same = subst (λ (ls : List Line). lines_in c.args.form schedule.catalog ls ≡ [] → next ≡ now) printed failed.none in
+    let empty = no_lines g.W.Sink c.args.form first now schedule world i event way split (within-after schedule world i event way.course split new steps.0 steps.1) in
+    let more : lines_in c.args.form schedule.catalog (map line_of c.deref.result.now) ≢ [] → output_within c.args.form schedule ≢ [] =
+    λ some none. some (ap (lines_in c.args.form schedule.catalog) printed ∙ empty none) in
     record {
       written = search rules;
       prefix = on_any_err c.from_residual-in_err-write_lines-in-Ok.result _
@@ -90,6 +96,8 @@ returns-in_err-write_lines-in-Ok-clause-writes g c =
       known = failed.known ∙ way.known;
       fault = search rules;
       counted = omega (arith, way.counted, failed.counted);
+      none = λ none. same (empty none) ∙ (way.none none).1;
+      some = search (rules, more, failed.some);
     }
 
 pub returns-in-Err-SentLimit-clause-over : goal.returns-in-Err-SentLimit-clause-over
@@ -121,6 +129,8 @@ returns-in-Err-SentLimit-clause-writes g c =
       known = way.known;
       fault = tt;
       counted = way.counted;
+      none = λ none. (way.none none).1;
+      some = tt;
     }
 
 pub returns-in-Err-NoMemory-clause-writes : goal.returns-in-Err-NoMemory-clause-writes
@@ -134,6 +144,8 @@ returns-in-Err-NoMemory-clause-writes g c =
       known = way.known;
       fault = search rules;
       counted = way.counted;
+      none = λ none. (way.none none).1;
+      some = search rules;
     }
 
 pub returns-clause-writes : goal.returns-clause-writes
@@ -151,6 +163,8 @@ returns-clause-writes g c =
       known = way.known;
       fault = tt;
       counted = way.counted;
+      none = λ none. (way.none none).1;
+      some = tt;
     }
 
 -- The disks that the world leaves are those of the last world's sites.
