@@ -1,0 +1,5 @@
+mod HostedLemmas
+mod KeptLemmas
+mod MadeLemmas
+mod OpeningLemmas
+mod RequestLemmas

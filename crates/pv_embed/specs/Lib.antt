@@ -1,0 +1,7 @@
+pub mod Held
+pub mod Hosted
+pub mod HostedView
+pub mod Kept
+pub mod Opening
+pub mod Outputs
+pub mod Requests

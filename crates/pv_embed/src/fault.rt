@@ -1,0 +1,102 @@
+// Why a site with a host refuses what the host asks. Each refusal leaves the site as it was.
+use pv_base::NoMemory;
+use pv_check::CheckError;
+use pv_parse::ParseError;
+use pv_script::LineCause;
+use pv_wire::WireError;
+
+/// Why a site isn't opened. The causes are tested in this order, but for want of memory, which may come at any place.
+#[derive(Clone, Copy, Debug, PartialEq, Eq)]
+pub enum OpenFault {
+    /// The configuration has more than [`MAX_SCHEDULE`](pv_script::MAX_SCHEDULE) bytes.
+    TooLong,
+    /// This line of the configuration is the first that is malformed, for this cause.
+    Malformed {
+        /// The line, from 1.
+        line: u32,
+        /// The cause.
+        cause: LineCause,
+    },
+    /// The configuration has an event.
+    HasEvents,
+    /// The configuration has no such site.
+    NoSite,
+    /// The bytes are no journal, which shows at this place.
+    NotOurs(u64),
+    /// The content with this index, from 0, is no record, and those before it are.
+    BadRecord(u64),
+    /// With its records the value of an item would name this many outcomes.
+    TooManyOutcomes(u32),
+    /// No epoch is left.
+    EpochsSpent,
+    /// The journal would have this length with the record of the new epoch, above its limit.
+    Full(u64),
+    /// There was no memory.
+    NoMemory,
+}
+
+/// Why a request isn't taken.
+#[derive(Clone, Copy, Debug, PartialEq, Eq)]
+pub enum SubmitFault {
+    /// Its text is no program.
+    Text(ParseError),
+    /// The program may not run.
+    Program(CheckError),
+    /// There was no memory.
+    NoMemory,
+}
+
+/// Why a message isn't taken.
+#[derive(Clone, Copy, Debug, PartialEq, Eq)]
+pub enum ReceiveFault {
+    /// The bytes are no message.
+    Malformed(WireError),
+    /// The message goes to another site.
+    NotForHere,
+    /// There is no such site as the message comes from.
+    NoSender,
+    /// There was no memory.
+    NoMemory,
+}
+
+/// Why an item isn't read.
+#[derive(Clone, Copy, Debug, PartialEq, Eq)]
+pub enum ReadFault {
+    /// No item has this name.
+    UnknownName,
+    /// The item is at another site.
+    NotHere,
+}
+
+impl From<NoMemory> for OpenFault {
+    ghost use Rattle.std.specs.Prelude.{◌≡◌};
+    ghost use Rattle.pv_embed.specs.declared.fault.OpenFault.TheVariants as fault;
+
+    ghost from_gives = { λ _ e. e ≡ fault.NoMemory };
+
+    fn from(_: NoMemory) -> Self {
+        OpenFault::NoMemory
+    }
+}
+
+impl From<NoMemory> for SubmitFault {
+    ghost use Rattle.std.specs.Prelude.{◌≡◌};
+    ghost use Rattle.pv_embed.specs.declared.fault.SubmitFault.TheVariants as fault;
+
+    ghost from_gives = { λ _ e. e ≡ fault.NoMemory };
+
+    fn from(_: NoMemory) -> Self {
+        SubmitFault::NoMemory
+    }
+}
+
+impl From<NoMemory> for ReceiveFault {
+    ghost use Rattle.std.specs.Prelude.{◌≡◌};
+    ghost use Rattle.pv_embed.specs.declared.fault.ReceiveFault.TheVariants as fault;
+
+    ghost from_gives = { λ _ e. e ≡ fault.NoMemory };
+
+    fn from(_: NoMemory) -> Self {
+        ReceiveFault::NoMemory
+    }
+}

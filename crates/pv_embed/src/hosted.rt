@@ -1,0 +1,254 @@
+// One site, for a host that carries its messages and writes its journal.
+ghost use Rattle.std.specs.Prelude.{◌≡◌, ◌<◌, ◌≤◌, ℕ, length, Err};
+ghost use Rattle.std.specs.Option.{option_map};
+ghost use Rattle.pv_base.specs.Catalog.{Declared};
+ghost use Rattle.pv_protocol.specs.State as model;
+ghost use Rattle.pv_site.specs.Inputs.{IsInputFor};
+ghost use Rattle.pv_site.specs.Opens.{Opens};
+ghost use Rattle.pv_site.specs.Values.{input_of};
+ghost use Rattle.pv_host.specs.HostLaws.{host_model};
+ghost use Rattle.pv_host.specs.HostLog.{HostState, contents_of, next_write};
+ghost use Rattle.pv_host.specs.HostWrites.{write_of};
+ghost use Rattle.pv_embed.specs.Opening.{IsUnread, OpensHosted, RefusesContents};
+ghost use Rattle.pv_embed.specs.Hosted.{Gives, TakesNext, Writes};
+ghost use Rattle.pv_embed.specs.Requests.{ReceivesBy, SubmitsBy, ReadsBy};
+
+use crate::made::{Made, Output, keep, take_first};
+use crate::{OpenFault, ReadFault, ReceiveFault, SubmitFault, hosted_sites_stay_up};
+use pv_base::{Catalog, NoMemory, SiteId};
+use pv_check::{CheckError, check};
+use pv_disk::{Log, LookError};
+use pv_host::{HostLog, HostWrite};
+use pv_law_programs::{one_plan, some_items};
+use pv_parse::{ParseError, parse};
+use pv_script::{MAX_SCHEDULE, ScriptError, read_schedule};
+use pv_site::{Input, OpenError, Shown, Site, StepError};
+use pv_wire::{WireError, decode};
+use std::alloc::Global;
+use std::collections::VecDeque;
+use std::marker::Model;
+
+/// A site of the database for a host that carries its messages and writes its journal.
+///
+/// The host opens it on the bytes of its journal, a file of the host. It gives it requests, messages and ticks; each is a step of the site. Then it writes what
+/// [`HostedSite::next_write`] says into the file, syncs, and says so by [`HostedSite::written`], until there is nothing to write; and takes
+/// what the site lets out by [`HostedSite::take`]: messages for other sites, and reports. Nothing is let out before all records are in the file that
+/// the site had when it made it.
+///
+/// After a crash of the host the site is opened again on what the file then holds.
+#[derive(Drop)]
+pub struct HostedSite {
+    /// Where its memory comes from.
+    alloc: Global,
+    /// Its number.
+    me: SiteId,
+    /// What is declared.
+    catalog: Catalog,
+    /// The site.
+    site: Site<HostLog>,
+    /// How much of its journal is in the file.
+    stored: u64,
+    /// What its steps made that wasn't let out, the oldest first. In each there is something.
+    made: VecDeque<Made>,
+}
+
+impl Model for HostedSite {
+    ghost use Rattle.pv_embed.specs.Hosted.{HostedState};
+    ghost use Rattle.pv_embed.specs.HostedView.{hosted_of, IsHosted};
+
+    ghost Value = { HostedState };
+
+    ghost use Rattle.std.specs.Coded.{codes};
+    ghost use Rattle.pv_model.specs.SyntaxCodes.{program_code};
+
+    ghost coded = { Prim.hlevel (codes, program_code) };
+
+    ghost view = { hosted_of };
+
+    ghost invariant = { IsHosted };
+}
+
+impl HostedSite {
+    ghost use Rattle.std.specs.Prelude.{⊤};
+    ghost use Rattle.std.specs.Borrow.{sem};
+    ghost use mathlib.Core.Option.{none};
+    ghost use denote.Follow.{follows_so};
+    ghost use Rattle.pv_embed.specs.contracts.hosted.HostedSite.{the_row};
+
+    /// Opens a site. The configuration has the lines `sites`, `journal` and `item` of a schedule, and is the same for all sites; the journal is what the
+    /// host's file holds, [`EMPTY_JOURNAL`](crate::EMPTY_JOURNAL) for a new site. What the host keeps beyond the journal's end doesn't matter.
+    ///
+    /// The site begins in a new epoch, whose record is the first thing to write. Takes time in proportion to the journal and the configuration.
+    pub fn open(
+        alloc: Global,
+        config: &[u8],
+        me: u8,
+        journal: Vec<u8>,
+    ) -> Result<HostedSite, OpenFault>
+        ensures { OpensHosted config.now me journal.items result }
+    {
+        if config.len() > MAX_SCHEDULE {
+            return Err(OpenFault::TooLong);
+        }
+        let schedule = match read_schedule(alloc, config) {
+            Ok(schedule) => schedule,
+            Err(ScriptError::Malformed { line, cause }) => {
+                return Err(OpenFault::Malformed { line, cause });
+            }
+            Err(ScriptError::NoMemory) => return Err(OpenFault::NoMemory),
+        };
+        if !schedule.events.is_empty() {
+            return Err(OpenFault::HasEvents);
+        }
+        let catalog = schedule.catalog;
+        if me >= catalog.sites() {
+            return Err(OpenFault::NoSite);
+        }
+        let me = SiteId(me);
+        let log = match HostLog::open(alloc, journal, catalog.journal()) {
+            Ok(log) => log,
+            Err(LookError::NotOurs(place)) => return Err(OpenFault::NotOurs(place)),
+            Err(LookError::NoMemory) | Err(LookError::Failed) => return Err(OpenFault::NoMemory),
+        };
+        let stored = log.stored();
+        match Site::open(alloc, log, me, &catalog) {
+            Ok(site) => Ok(HostedSite {
+                alloc,
+                me,
+                catalog,
+                site,
+                stored,
+                made: VecDeque::new(alloc),
+            }),
+            Err(error) => Err(fault_of(error)),
+        }
+    }
+
+    /// A request: the program that the text is runs, with this site as its coordinator. A query assigns nothing and has a `return`.
+    pub fn submit(&mut self, text: &[u8], query: bool) -> Result<(), SubmitFault>
+        ensures { SubmitsBy self.old self.new text.now query result }
+    {
+        some_items();
+        one_plan();
+        let program = match parse(self.alloc, text, &self.catalog) {
+            Ok(program) => program,
+            Err(ParseError::NoMemory) => return Err(SubmitFault::NoMemory),
+            Err(error) => return Err(SubmitFault::Text(error)),
+        };
+        let plan = match check(self.alloc, &program, &self.catalog, query) {
+            Ok(plan) => plan,
+            Err(CheckError::NoMemory) => return Err(SubmitFault::NoMemory),
+            Err(error) => return Err(SubmitFault::Program(error)),
+        };
+        Ok(self.step(&Input::Submit { program, plan })?)
+    }
+
+    /// A message comes, as the bytes that another site, or this one, let out.
+    pub fn receive(&mut self, bytes: &[u8]) -> Result<(), ReceiveFault>
+        ensures { ReceivesBy self.old self.new bytes.now result }
+    {
+        let envelope = match decode(self.alloc, bytes) {
+            Ok(envelope) => envelope,
+            Err(WireError::NoMemory) => return Err(ReceiveFault::NoMemory),
+            Err(error) => return Err(ReceiveFault::Malformed(error)),
+        };
+        if envelope.to != self.me {
+            return Err(ReceiveFault::NotForHere);
+        }
+        if envelope.from.0 >= self.catalog.sites() {
+            return Err(ReceiveFault::NoSender);
+        }
+        Ok(self.step(&Input::Take {
+            from: envelope.from,
+            message: envelope.message,
+        })?)
+    }
+
+    /// Time has passed.
+    pub fn tick(&mut self) -> Result<(), NoMemory>
+        ensures { Gives self.old self.new model.tick result }
+    {
+        self.step(&Input::Tick)
+    }
+
+    /// What the host is to write next into its file, if there is something. It is the same until the host has told that it is done.
+    pub fn next_write(&mut self) -> Option<HostWrite<'_>>
+        ensures* unchanged { sem 𝓛 (follows_so the_row the_row self.entry.ghost_name none (λ _ _. ⊤) (λ new. new ≡ self.old)) }
+        ensures write { option_map write_of result ≡ next_write self.old.site.log }
+    {
+        self.site.log().next_write()
+    }
+
+    /// The host has written that, and synced its file. Where there is nothing to write, nothing happens.
+    pub fn written(&mut self)
+        ensures { Writes self.old self.new }
+    {
+        let log = self.site.log();
+        log.written();
+        let stored = log.stored();
+        self.stored = stored;
+    }
+
+    /// The next thing that the site lets out, if there is one: the host's file has all that the log had when it was made.
+    pub fn take(&mut self) -> Option<Output>
+        ensures { TakesNext self.old self.new result }
+    {
+        take_first(&mut self.made, self.me, self.stored)
+    }
+
+    /// What the site shows of its item of this name: its value, or the transaction that holds it.
+    pub fn read(&self, name: &[u8]) -> Result<Shown<'_>, ReadFault>
+        ensures { ReadsBy self.now name.now result }
+    {
+        let Some(item) = self.catalog.find(name) else {
+            return Err(ReadFault::UnknownName);
+        };
+        if self.catalog.site_of(item) != self.me {
+            return Err(ReadFault::NotHere);
+        }
+        Ok(self.site.read(item))
+    }
+
+    /// The epoch in which it was opened.
+    pub fn epoch(&self) -> u32
+        ensures { result ≡ self.now.site.epoch }
+    {
+        self.site.epoch()
+    }
+
+    // The site makes a step of the input. The memory for what it makes is taken before: after the step nothing can fail.
+    fn step(&mut self, input: &Input) -> Result<(), NoMemory>
+        requires { IsInputFor self.old.site.me self.old.site.catalog input.now }
+        ensures { Gives self.old self.new (input_of input.now) result }
+    {
+        hosted_sites_stay_up();
+        self.made.reserve(1)?;
+        match self.site.step(input) {
+            Ok(step) => {
+                let length = self.site.log().length();
+                keep(&mut self.made, Made::of(length, step));
+                Ok(())
+            }
+            Err(StepError::NoMemory) => Err(NoMemory),
+            // No append fails.
+            Err(StepError::Fault) | Err(StepError::Down) => unreachable!(),
+        }
+    }
+}
+
+// Why the site isn't opened on the log.
+fn fault_of(error: OpenError<HostLog>) -> OpenFault
+    requires { (log : HostState) × (me : ℕ) × (catalog : Declared) × IsUnread log × Opens host_model log me catalog (Err error) }
+    ensures { (log : HostState) (me : ℕ) (catalog : Declared) → IsUnread log → Opens host_model log me catalog (Err error) →
+        RefusesContents catalog me (contents_of log) result }
+{
+    match error {
+        OpenError::Full(_, length) => OpenFault::Full(length),
+        OpenError::EpochsSpent(_) => OpenFault::EpochsSpent,
+        OpenError::BadRecord(_, index) => OpenFault::BadRecord(index),
+        OpenError::TooManyOutcomes(_, count) => OpenFault::TooManyOutcomes(count),
+        OpenError::NoMemory(_) => OpenFault::NoMemory,
+        // What the log holds is known, and no call of it fails.
+        OpenError::Failed(_) | OpenError::NotOurs(..) => unreachable!(),
+    }
+}

@@ -1,0 +1,23 @@
+use Rattle.std.proofs.Common.{◌≡◌, [], map, refl, sym, ◌∙◌, ap}
+use Rattle.pv_law_disk.specs.Size.{size_of}
+use Rattle.pv_host.proofs.HostLemmas.{all_found, end_found, told_on}
+use Rattle.pv_host.proofs.host_log.HostLog.open.Goals as goal
+
+pub returns-in-Err-clause-answer : goal.returns-in-Err-clause-answer
+returns-in-Err-clause-answer c = told_on _ _ _ _ _ _ c.in-Err.ensures
+
+pub invariant_of-result : goal.invariant_of-result
+invariant_of-result c =
+    let contents = map (λ it. it.items) c.in-Ok.contents.items in
+    let is : map (λ it. it.items) c.found.result.items ≡ contents = ap (λ l. map (λ it. it.items) l) (c.found.ensures ∙ c.deref-2.ensures.value) in
+    let sized = c.in-Some.ensures c.in-Some.length refl in
+    let size = sized.0 ∙ ap (λ l. size_of (map (λ it. it.items) l)) c.deref.ensures.value in
+    let all = all_found (map (λ it. it.items) c.found.result.items) c.new-3.result.items c.new.result.items contents is c.new-3.ensures c.new.ensures.items in
+    record {
+      end_is = end_found (map (λ it. it.items) c.found.result.items) c.new-3.result.items contents c.in-Some.length is c.new-3.ensures size;
+      length_is = size ∙ ap size_of (sym all);
+      bounded = sized.1;
+      limited = c.requires.most;
+      gate = λ _. refl;
+      unread = sym all;
+    }

@@ -1,0 +1,7 @@
+use Rattle.std.proofs.Common.{◌≡◌, ◌≤◌, map, take}
+use Rattle.pv_base.specs.declared.limits.TheConstants.{MAX_LENGTH}
+use Rattle.pv_law_disk.specs.Size.{size_of}
+use Rattle.pv_host.proofs.host_log.length_of.Given as goal
+
+abbrev pub invariant-loop-content : goal.invariant-loop-content
+invariant-loop-content l = (l.length ≡ size_of (map (λ it. it.items) (take l.content-index l.contents))) × (l.length ≤ MAX_LENGTH)

@@ -1,0 +1,41 @@
+-- Which file a host may hold that writes what it is told, and what a crash leaves of it.
+use Rattle.std.specs.Prelude.{◌≡◌, ◌≢◌, ◌⊎◌, ℕ, ◌≤◌, Bool, true, false, List, [], ◌∷◌, ◌++◌, Some, length, take}
+use Rattle.pv_law_disk.specs.Disk.{Torn}
+use Rattle.pv_law_disk.specs.Size.{Contents, size_of}
+use Rattle.pv_law_journal.specs.Format.{header, framed, records_of, AreShort, IsJournal}
+use Rattle.pv_host.specs.HostLog.{HostState, HostWrite, contents_of, next_write}
+
+-- What stands at the gate after what is stored, and after it, once the host has told that the next record stands behind the gate: it does, and the gate may be open
+-- already.
+abbrev pub StandsBehind : Contents → ℕ → List ℕ → Type 0
+StandsBehind [] gate rest = ⊥
+StandsBehind (content ∷ later) gate rest = (more : List ℕ) × (rest ≡ framed content ++ 0 ∷ more)
+
+-- The same, whether it has told so or not. Before that the gate is closed, and anything may stand behind it.
+abbrev pub StandsAtGate : Contents → Bool → ℕ → List ℕ → Type 0
+StandsAtGate pending false gate rest = gate ≢ 1
+StandsAtGate pending true gate rest = StandsBehind pending gate rest
+
+-- A file that the host may hold: the header, what is stored, a gate and what comes after it.
+pub record IsFile (log : HostState) (file : List ℕ) : Type 0 where
+  pub short : AreShort (contents_of log)
+  pub gate : ℕ
+  pub rest : List ℕ
+  pub is : file ≡ header ++ (records_of log.stored ++ gate ∷ rest)
+  pub at_gate : StandsAtGate log.pending log.behind_gate gate rest
+
+-- What a crash leaves of the file: itself; or where the host is writing, the file with any bytes in the range that it writes.
+abbrev pub MayLeave : HostState → List ℕ → List ℕ → Type 0
+MayLeave log file left = (left ≡ file) ⊎ ((write : HostWrite) × (next_write log ≡ Some write) × Torn write.place (length write.bytes) file left)
+
+-- A journal of what is stored, or of that and the next content.
+abbrev pub IsStored : HostState → List ℕ → Type 0
+IsStored log file = IsJournal log.stored file ⊎ IsJournal (log.stored ++ take 1 log.pending) file
+
+-- The file is a journal of the first of the log's contents, which are all that the host has told to be stored, or more.
+pub record HoldsStored (log : HostState) (file : List ℕ) : Type 0 where
+  pub contents : Contents
+  pub journal : IsJournal contents file
+  pub later : Contents
+  pub first : contents_of log ≡ contents ++ later
+  pub enough : size_of log.stored ≤ size_of contents

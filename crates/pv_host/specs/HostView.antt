@@ -1,0 +1,29 @@
+-- What the fields of a log say whose journal a host writes.
+use Rattle.std.specs.Prelude.{◌≡◌, ◌-◌, ◌≤◌, ◌<◌, ◌^◌, [], false, is_none, length, map, vec_len, vec_capacity, IfSome, All, ◌++◌}
+use Rattle.std.specs.VecDeque.{deque_len, deque_capacity}
+use Rattle.pv_base.specs.declared.limits.TheConstants.{MAX_JOURNAL, MAX_LENGTH}
+use Rattle.pv_law_disk.specs.Size.{size_of}
+use Rattle.pv_law_journal.specs.Format.{end_of}
+use Rattle.pv_host.specs.HostLog.{HostState, contents_of}
+use Rattle.pv_host.specs.declared.host_log.HostLog.TheInside.{Inside}
+
+abbrev pub log_of : Inside → HostState
+log_of inside = record {
+  stored = map (λ it. it.items) inside.found.items ++ inside.stored.items;
+  pending = inside.pending.items;
+  behind_gate = inside.behind_gate;
+  limit = inside.limit;
+  is_down = inside.down;
+  is_read = is_none inside.unread;
+  places = deque_capacity inside.pending - deque_len inside.pending;
+  bytes = vec_capacity inside.next;
+}
+
+-- The numbers are those of the contents, and what isn't read yet is all of them.
+pub record IsHostLog (inside : Inside) : Type 0 where
+  pub end_is : inside.end ≡ end_of (log_of inside).stored
+  pub length_is : inside.length ≡ size_of (contents_of (log_of inside))
+  pub bounded : inside.length ≤ MAX_LENGTH
+  pub limited : inside.limit ≤ MAX_JOURNAL
+  pub gate : inside.pending.items ≡ [] → inside.behind_gate ≡ false
+  pub unread : IfSome inside.unread (λ all. map (λ it. it.items) all.items ≡ contents_of (log_of inside))

@@ -1,0 +1,248 @@
+// A log whose journal a host writes.
+ghost use Rattle.std.specs.Prelude.{◌≡◌, ◌≤◌, ◌<◌, ◌+◌, ◌^◌, ◌++◌, ◌∷◌, [], ℕ, Some, length, map, take, drop, is_ok, vec_len, vec_capacity, IfOk};
+ghost use Rattle.std.specs.Option.{option_map};
+ghost use Rattle.pv_base.specs.Answer.{Answers};
+ghost use Rattle.pv_law_disk.specs.Size.{Contents, size_of};
+ghost use Rattle.pv_law_journal.specs.Format.{framed, IsJournal, IsNotOurs};
+ghost use Rattle.pv_journal.specs.Opening.{contents_in, place_in};
+ghost use Rattle.pv_host.specs.HostLog.{HostState, IsSameBesideRoom, HasPlace, next_write, with_content, with_written};
+ghost use Rattle.pv_host.specs.HostLaws.{host_model};
+ghost use Rattle.pv_host.specs.HostWrites.{IsOpenedOn, write_of};
+
+use crate::HostWrite;
+use crate::frame::Frame;
+use crate::history::History;
+use pv_base::{MAX_JOURNAL, MAX_LENGTH, MIN_JOURNAL};
+use pv_disk::{Log, LogError, LookError, MemDisk};
+use pv_journal::look;
+use pv_law_journal::one_journal;
+use std::alloc::Global;
+use std::collections::VecDeque;
+use std::marker::Model;
+use std::mem::replace;
+
+// An open gate.
+const OPEN: [u8; 1] = [1];
+
+/// A log whose journal is a file of the host.
+///
+/// The host writes what [`HostLog::next_write`] says, syncs, and tells so by [`HostLog::written`]; and so on until there is nothing to write. A
+/// record is written behind the closed gate of what stands in the file, and that gate is opened by a write of its own, so at each
+/// moment the file is a journal.
+///
+/// The log counts an append as done. Its owner lets nothing out that rests on it before the host has written it.
+///
+/// In memory it has what the host hasn't written, and what was in the file when the log was opened, up to the first reading or append.
+#[derive(Drop)]
+pub struct HostLog {
+    /// The records that the host hasn't written, the oldest first.
+    pending: VecDeque<Frame>,
+    /// Whether the first of them stands in the file, and its gate is next.
+    behind_gate: bool,
+    /// The place of the gate before it.
+    end: u64,
+    /// How long the log is, in bytes.
+    length: u64,
+    /// How long it may become.
+    limit: u64,
+    /// The memory of the next record, without any byte of it.
+    next: Vec<u8>,
+    /// What was in the file, unless it was read, or added to.
+    unread: Option<Vec<Vec<u8>>>,
+    /// Whether it was asked for once more.
+    down: bool,
+    /// What was in the file.
+    found: History<Vec<u8>>,
+    /// What the host has written since.
+    stored: History<Frame>,
+}
+
+impl Model for HostLog {
+    ghost use Rattle.pv_host.specs.HostLog.{HostState};
+    ghost use Rattle.pv_host.specs.HostView.{log_of, IsHostLog};
+
+    ghost Value = { HostState };
+
+    ghost view = { log_of };
+
+    ghost invariant = { IsHostLog };
+}
+
+impl HostLog {
+    /// The log on a file of the host that holds these bytes. It may become `limit` bytes long, from 32 to 4,294,967,296; one that is longer already is
+    /// opened too, and takes no more records. Takes time in proportion to the bytes.
+    ///
+    /// - [`LookError::NotOurs`]: the bytes are no journal, which shows at that place.
+    /// - [`LookError::NoMemory`]: there was no memory.
+    /// - [`LookError::Failed`]: doesn't come.
+    #[tactic(auto, using(crate::proofs::HostLemmas::ends))]
+    pub fn open(alloc: Global, bytes: Vec<u8>, limit: u64) -> Result<HostLog, LookError>
+        requires least { MIN_JOURNAL ≤ limit }
+        requires most { limit ≤ MAX_JOURNAL }
+        ensures answer { Answers (λ contents. IsJournal contents bytes.items) (IsNotOurs bytes.items) (λ (log : HostState). log.stored) place_in result }
+        ensures opened { IfOk result (IsOpenedOn bytes.items limit) }
+        ensures bounded { IfOk result (λ log. size_of log.stored ≤ MAX_LENGTH) }
+    {
+        let contents = match journal_in(alloc, bytes) {
+            Ok(contents) => contents,
+            Err(error) => return Err(error),
+        };
+        let length = match length_of(&contents) {
+            Some(length) => length,
+            None => return Err(LookError::NoMemory),
+        };
+        Ok(HostLog {
+            pending: VecDeque::new(alloc),
+            behind_gate: false,
+            end: length - 1,
+            length,
+            limit,
+            next: Vec::new(alloc),
+            found: found(&contents),
+            unread: Some(contents),
+            down: false,
+            stored: History::new(),
+        })
+    }
+
+    /// What the host is to write next, if there is something. It is the same until the host has told that it is done.
+    #[tactic(auto, using(crate::proofs::HostLemmas::ends))]
+    pub fn next_write(&self) -> Option<HostWrite<'_>>
+        ensures { option_map write_of result ≡ next_write self.now }
+    {
+        let frame = self.pending.front()?;
+        if self.behind_gate {
+            return Some(HostWrite {
+                place: self.end,
+                bytes: &OPEN,
+            });
+        }
+        Some(HostWrite {
+            place: self.end + 1,
+            bytes: frame.bytes(),
+        })
+    }
+
+    /// The host has written that, and synced its file. Where there is nothing to write, nothing happens.
+    #[tactic(auto, using(crate::proofs::HostLemmas::ends))]
+    pub fn written(&mut self)
+        ensures { IsSameBesideRoom (with_written self.old) self.new }
+    {
+        if !self.behind_gate {
+            self.behind_gate = !self.pending.is_empty();
+            return;
+        }
+        let Some(frame) = self.pending.pop_front() else {
+            return;
+        };
+        self.behind_gate = false;
+        self.end += frame.bytes().len() as u64;
+        self.stored = self.stored.and(&frame);
+    }
+
+    /// How long the journal in the host's file is, up to and with its closed gate, by what the host has told.
+    #[tactic(auto, using(crate::proofs::HostLemmas::ends))]
+    pub fn stored(&self) -> u64
+        ensures { result ≡ size_of self.now.stored }
+    {
+        self.end + 1
+    }
+}
+
+impl Log for HostLog {
+    ghost model = { host_model };
+
+    fn read_all(&mut self) -> Result<Vec<Vec<u8>>, LogError> {
+        if self.down {
+            return Err(LogError::Down);
+        }
+        match replace(&mut self.unread, None) {
+            Some(all) => Ok(all),
+            None => {
+                self.down = true;
+                Err(LogError::Failed)
+            }
+        }
+    }
+
+    fn reserve(&mut self, content: u64) -> Result<(), LogError> {
+        if self.down {
+            return Err(LogError::Down);
+        }
+        let length = self.length + (5 + content);
+        if length > self.limit {
+            return Err(LogError::Full(length));
+        }
+        self.pending.reserve(1)?;
+        self.next.reserve(5 + content as usize)?;
+        Ok(())
+    }
+
+    #[tactic(auto, using(crate::proofs::HostLemmas::appends))]
+    fn append(&mut self, content: &[u8]) -> Result<(), LogError> {
+        if self.down {
+            return Err(LogError::Down);
+        }
+        self.push(content);
+        Ok(())
+    }
+
+    fn length(&self) -> u64 {
+        self.length
+    }
+}
+
+impl HostLog {
+    // Adds a content in the memory that was made for its record.
+    #[tactic(auto, using(crate::proofs::HostLemmas::appends))]
+    fn push(&mut self, content: &[u8])
+        requires { HasPlace self.old (length content.now) }
+        ensures becomes { IsSameBesideRoom (with_content self.old content.now) self.new }
+        ensures short { length content.now < 2 ^ 32 }
+    {
+        self.unread = None;
+        self.length += 5 + content.len() as u64;
+        let empty = Vec::new(*self.next.allocator());
+        let memory = replace(&mut self.next, empty);
+        self.pending
+            .push_back(Frame::fill(memory, content))
+            .unwrap();
+    }
+}
+
+// The contents of the journal that the bytes are.
+fn journal_in(alloc: Global, bytes: Vec<u8>) -> Result<Vec<Vec<u8>>, LookError>
+    ensures { Answers (λ contents. IsJournal contents bytes.items) (IsNotOurs bytes.items) contents_in place_in result }
+{
+    one_journal();
+    if bytes.len() as u64 > MAX_LENGTH {
+        return Err(LookError::NoMemory);
+    }
+    let mut disk = MemDisk::of(alloc, bytes);
+    look(alloc, &mut disk)
+}
+
+// How long a log with these contents is, unless no log is as long.
+fn length_of(contents: &[Vec<u8>]) -> Option<u64>
+    ensures { (length : ℕ) → result ≡ Some length → (length ≡ size_of (map (λ it. it.items) contents.now)) × (length ≤ MAX_LENGTH) }
+{
+    let mut length = 9;
+    for content in contents {
+        length += 5 + content.len() as u64;
+        if length > MAX_LENGTH {
+            return None;
+        }
+    }
+    Some(length)
+}
+
+// The contents, as what was found.
+fn found(contents: &[Vec<u8>]) -> History<Vec<u8>>
+    ensures { result.items ≡ contents.now }
+{
+    let mut found = History::new();
+    for content in contents {
+        found = found.and(content);
+    }
+    found
+}

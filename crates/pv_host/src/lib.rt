@@ -1,0 +1,15 @@
+//! A log whose journal a host writes: it says which bytes go where in the host's file, and is told when they are there.
+#![tactic(auto)]
+
+mod frame;
+mod history;
+mod host_log;
+mod host_write;
+mod hosts;
+
+pub use host_log::HostLog;
+pub use host_write::HostWrite;
+pub use hosts::{files_are_journals, hosts_never_fail};
+
+/// The file of a new site: a journal without records. The host makes it before it opens the site the first time.
+pub const EMPTY_JOURNAL: [u8; 9] = *b"PVJRNL01\0";

@@ -1,0 +1,5 @@
+//! The tests of pv_host.
+#![tactic(auto)]
+
+#[cfg(test)]
+mod tests;

@@ -1,0 +1,50 @@
+// What the host is told to write, and which file that makes.
+use pv_disk::Log;
+use pv_host::{EMPTY_JOURNAL, HostLog};
+use std::process::Abort;
+use std::test::Fail;
+
+// What two records make of an empty journal, the second of them added while the first was being written.
+const TWO: [u8; 24] = *b"PVJRNL01\x01\0\0\0\x02ab\x01\0\0\0\x03cde\0";
+
+// Writes what comes next, as a host does.
+fn write_next(rt: &impl Abort, log: &mut HostLog, file: &mut Vec<u8>) -> Result<bool, Fail> {
+    let Some(write) = log.next_write() else {
+        return Ok(false);
+    };
+    let place = write.place as usize;
+    let end = place
+        .checked_add(write.bytes.len())
+        .expect(rt, "the end of a file");
+    if file.len() < end {
+        file.resize(end, 0)?;
+    }
+    file[place..end].copy_from_slice(write.bytes);
+    log.written();
+    Ok(true)
+}
+
+#[test]
+fn a_host_writes_two_records(rt: HostRuntime) -> Result<(), Fail> {
+    let alloc = rt.alloc();
+    let mut file = EMPTY_JOURNAL.to_vec(alloc)?;
+    let mut log = HostLog::open(alloc, EMPTY_JOURNAL.to_vec(alloc)?, 32)?;
+    assert_eq!(rt; log.read_all()?.len(), 0);
+    assert_eq!(rt; log.stored(), 9);
+    log.reserve(2)?;
+    log.append(b"ab")?;
+    assert!(rt; write_next(&rt, &mut log, &mut file)?);
+    log.reserve(3)?;
+    log.append(b"cde")?;
+    assert_eq!(rt; log.stored(), 9);
+    assert!(rt; write_next(&rt, &mut log, &mut file)?);
+    assert_eq!(rt; log.stored(), 16);
+    assert!(rt; write_next(&rt, &mut log, &mut file)?);
+    assert!(rt; write_next(&rt, &mut log, &mut file)?);
+    assert!(rt; !write_next(&rt, &mut log, &mut file)?);
+    assert_eq!(rt; log.stored(), 24);
+    assert_eq!(rt; file.as_slice(), TWO.as_slice());
+    let mut again = HostLog::open(alloc, file, 32)?;
+    assert_eq!(rt; again.read_all()?.len(), 2);
+    Ok(())
+}
