@@ -11,6 +11,7 @@ use Rattle.pv_protocol.specs.Lock.{is_of_site}
 use Rattle.pv_protocol.specs.State as model
 use Rattle.pv_protocol.specs.State.{Running}
 use Rattle.pv_protocol.specs.Step.{step_on}
+use Rattle.pv_site.specs.Inputs.{IsSpelledFrom}
 use Rattle.pv_site.specs.OnLog.{Logs}
 use Rattle.pv_site.specs.SiteState.{SiteState, here_with}
 use Rattle.pv_site.specs.Steps as step
@@ -76,10 +77,10 @@ module _ (old new : SiteState HostState) (running : Running) (input : model.Inpu
   still_catalog = ap (λ (site : SiteState HostState). site.catalog) made_step.site
 
   -- The site has stepped, where what the step sends and reports is held with the length that the log has then.
-  pub stepped : (before after : List Held)
+  pub stepped : (before after : List Held) → All (IsSpelledFrom old.me) answer.sends.items
       → after ≡ before ++ map (λ out. record { length = size_of (contents_of new.log); out = out }) (outs old.me (map outgoing_of answer.sends.items) (map note_of answer.notes.items))
       → HasStepped (record { site = old; held = before }) (record { site = new; held = after }) input
-  stepped before after is =
+  stepped before after spelled is =
       let model_step = step_on (here_with old running) input in
       let answered = made_step.answered in
       let same : outs old.me (map outgoing_of answer.sends.items) (map note_of answer.notes.items) ≡ outs new.me model_step.sends model_step.notes =
@@ -91,6 +92,7 @@ module _ (old new : SiteState HostState) (running : Running) (input : model.Inpu
         was = up;
         answer = answer;
         steps = made_step;
+        spelled = spelled;
         held = is ∙ ap (λ (l : List Out). before ++ map (λ out. record { length = size_of (contents_of new.log); out = out }) l) same;
       }
 

@@ -1,6 +1,7 @@
 -- What is held of the steps, as it grows and is let out.
 use Rattle.std.proofs.Common.{◌≡◌, ◌≢◌, ℕ, ◌<◌, ◌≤◌, List, [], ◌∷◌, ◌++◌, Option, Some, None, All, map, length, get_or, set, drop, refl, sym, ◌∙◌, ap, subst, append-nil, length-append, arith}
-use Rattle.std.specs.Prelude.{flat_map}
+use Rattle.std.specs.Prelude.{flat_map, slice_get}
+use Rattle.std.specs.Option.{option_map}
 use Rattle.std.specs.Vec.Iter.{into_iter_items}
 use Rattle.std.proofs.lemmas.Grind.{flat_map-append}
 use Rattle.std.proofs.lemmas.List.{length-map}
@@ -100,3 +101,15 @@ all-later P (made ∷ later) rest after kept left = subst (All P) (sym left) (Al
 pub all-after : (P : Made → Type 0) (items : List Made) (after : Made) → All P items → P after → All P (set items 0 after)
 all-after P [] after kept more = All-nil P
 all-after P (made ∷ later) after kept more = All-cons P after later more (All-tail P made later kept)
+
+-- The first of what is held has the length of the first step.
+first_of : (length : ℕ) (outs : List Out) (later : List Held) → outs ≢ []
+    → Some length ≡ option_map (λ (held : Held). held.length) (slice_get (map (λ out. record { length = length; out = out }) outs ++ later) 0)
+first_of length [] later some = absurd (some refl)
+first_of length (out ∷ outs) later some = refl
+
+pub held_first : (me : ℕ) (items : List Made) (first : Made) → first ≡ get_or items 0 first → 0 < length items → All (λ each. outputs_of me each ≢ []) items
+    → Some first.length ≡ option_map (λ (held : Held). held.length) (slice_get (flat_map (held_of me) items) 0)
+held_first me [] first is there some = absurd (omega (arith, there))
+held_first me (made ∷ later) first is there some =
+    ap (λ (m : Made). Some m.length) is ∙ first_of made.length (outputs_of me made) (flat_map (held_of me) later) (All-head (λ each. outputs_of me each ≢ []) made later some)

@@ -1,8 +1,9 @@
 -- What a site with a host is, and what its steps make of it.
-use Rattle.std.specs.Prelude.{◌≡◌, ℕ, List, ◌++◌, Option, Some, Result, Ok, Err, map}
+use Rattle.std.specs.Prelude.{◌≡◌, ℕ, List, ◌++◌, Option, Some, Result, Ok, Err, map, All}
 use Rattle.pv_law_disk.specs.Size.{size_of}
 use Rattle.pv_protocol.specs.State as model
 use Rattle.pv_protocol.specs.Step.{step_on}
+use Rattle.pv_site.specs.Inputs.{IsSpelledFrom}
 use Rattle.pv_site.specs.SiteState.{SiteState, here_with}
 use Rattle.pv_site.specs.Steps.{Steps}
 use Rattle.pv_site.specs.declared.input.Step.{Step}
@@ -32,12 +33,13 @@ held_after new held step = held ++ map (λ out. record { length = log_length new
 abbrev pub Stays : HostedState → HostedState → Type 0
 Stays old new = IsSameBesideRoom old.site.log new.site.log × (new ≡ record old { site = record old.site { log = new.site.log } })
 
--- The site made the step that it makes of this input, and holds what the step sends and reports.
+-- The site made the step that it makes of this input, and holds what the step sends and reports. Each message that it sends has a spelling.
 pub record HasStepped (old new : HostedState) (input : model.Input) : Type 0 where
   pub running : model.Running
   pub was : old.site.running ≡ Some running
   pub answer : Step
   pub steps : Steps host_model old.site new.site (Some running) input (Ok answer)
+  pub spelled : All (IsSpelledFrom old.site.me) answer.sends.items
   pub held : new.held ≡ held_after new old.held (step_on (here_with old.site running) input)
 
 -- The site is given an input, by the answer.

@@ -4,6 +4,8 @@ use pv_check::CheckError;
 use pv_parse::ParseError;
 use pv_script::LineCause;
 use pv_wire::WireError;
+use std::error::Error;
+use std::fmt;
 
 /// Why a site isn't opened. The causes are tested in this order, but for want of memory, which may come at any place.
 #[derive(Clone, Copy, Debug, PartialEq, Eq)]
@@ -67,6 +69,61 @@ pub enum ReadFault {
     /// The item is at another site.
     NotHere,
 }
+
+impl fmt::Display for OpenFault {
+    fn fmt<W: fmt::Write>(&self, f: &mut fmt::Formatter<W>) -> fmt::Result {
+        match self {
+            OpenFault::TooLong => f.write_str("the configuration is too long"),
+            OpenFault::Malformed { line, cause } => write!(f, "line {line}: {cause}"),
+            OpenFault::HasEvents => f.write_str("the configuration has events"),
+            OpenFault::NoSite => f.write_str("no such site"),
+            OpenFault::NotOurs(place) => write!(f, "no journal: byte {place}"),
+            OpenFault::BadRecord(index) => write!(f, "no record: content {index}"),
+            OpenFault::TooManyOutcomes(count) => write!(f, "too many outcomes: {count}"),
+            OpenFault::EpochsSpent => f.write_str("no epoch is left"),
+            OpenFault::Full(length) => write!(f, "the journal would have {length} bytes"),
+            OpenFault::NoMemory => f.write_str("no memory"),
+        }
+    }
+}
+
+impl Error for OpenFault {}
+
+impl fmt::Display for SubmitFault {
+    fn fmt<W: fmt::Write>(&self, f: &mut fmt::Formatter<W>) -> fmt::Result {
+        match self {
+            SubmitFault::Text(error) => write!(f, "{error}"),
+            SubmitFault::Program(error) => write!(f, "{error}"),
+            SubmitFault::NoMemory => f.write_str("no memory"),
+        }
+    }
+}
+
+impl Error for SubmitFault {}
+
+impl fmt::Display for ReceiveFault {
+    fn fmt<W: fmt::Write>(&self, f: &mut fmt::Formatter<W>) -> fmt::Result {
+        match self {
+            ReceiveFault::Malformed(error) => write!(f, "{error}"),
+            ReceiveFault::NotForHere => f.write_str("the message goes to another site"),
+            ReceiveFault::NoSender => f.write_str("the message comes from no site"),
+            ReceiveFault::NoMemory => f.write_str("no memory"),
+        }
+    }
+}
+
+impl Error for ReceiveFault {}
+
+impl fmt::Display for ReadFault {
+    fn fmt<W: fmt::Write>(&self, f: &mut fmt::Formatter<W>) -> fmt::Result {
+        f.write_str(match self {
+            ReadFault::UnknownName => "unknown name",
+            ReadFault::NotHere => "the item is at another site",
+        })
+    }
+}
+
+impl Error for ReadFault {}
 
 impl From<NoMemory> for OpenFault {
     ghost use Rattle.std.specs.Prelude.{◌≡◌};

@@ -1,5 +1,5 @@
 // One site, for a host that carries its messages and writes its journal.
-ghost use Rattle.std.specs.Prelude.{◌≡◌, ◌<◌, ◌≤◌, ℕ, length, Err};
+ghost use Rattle.std.specs.Prelude.{◌≡◌, ◌<◌, ◌≤◌, ℕ, length, slice_get, Err};
 ghost use Rattle.std.specs.Option.{option_map};
 ghost use Rattle.pv_base.specs.Catalog.{Declared};
 ghost use Rattle.pv_protocol.specs.State as model;
@@ -10,6 +10,7 @@ ghost use Rattle.pv_host.specs.HostLaws.{host_model};
 ghost use Rattle.pv_host.specs.HostLog.{HostState, contents_of, next_write};
 ghost use Rattle.pv_host.specs.HostWrites.{write_of};
 ghost use Rattle.pv_embed.specs.Opening.{IsUnread, OpensHosted, RefusesContents};
+ghost use Rattle.pv_embed.specs.Held.{Held};
 ghost use Rattle.pv_embed.specs.Hosted.{Gives, TakesNext, Writes};
 ghost use Rattle.pv_embed.specs.Requests.{ReceivesBy, SubmitsBy, ReadsBy};
 
@@ -207,6 +208,30 @@ impl HostedSite {
             return Err(ReadFault::NotHere);
         }
         Ok(self.site.read(item))
+    }
+
+    /// How long the journal in the host's file has to be when the next output is let out, if there is one.
+    pub fn waits_for(&self) -> Option<u64>
+        ensures { result ≡ option_map (λ (held : Held). held.length) (slice_get self.now.held 0) }
+    {
+        match self.made.front() {
+            Some(made) => Some(made.length),
+            None => None,
+        }
+    }
+
+    /// Its number.
+    pub fn me(&self) -> SiteId
+        ensures { result.0 ≡ self.now.site.me }
+    {
+        self.me
+    }
+
+    /// What is declared.
+    pub fn catalog(&self) -> &Catalog
+        ensures { result.now ≡ self.now.site.catalog }
+    {
+        &self.catalog
     }
 
     /// The epoch in which it was opened.

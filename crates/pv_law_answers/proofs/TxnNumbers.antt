@@ -19,6 +19,7 @@ use Rattle.pv_law_answers.specs.Numbers.{TxnsAreNew}
 use Rattle.pv_law_answers.specs.Origin.{IsNoted}
 use Rattle.pv_law_events.proofs.EventActs.{then-acts, IsKnown}
 use Rattle.pv_law_events.proofs.RunActs.{AreKnown}
+use Rattle.pv_law_world.proofs.AppendLemmas.{world_after-append}
 use Rattle.pv_law_world.proofs.DisarmLemmas.{site-disarmed}
 use Rattle.pv_law_world.specs.Sites.{AreEpochsRecorded}
 use Rattle.pv_law_world.specs.Transitions.{AreTransitions}
@@ -131,17 +132,13 @@ module _ (setup : Setup) where
       let is = is-transition setup w before t after (subst (AreTransitions setup w) split are) in
       is-given setup now t txn t.world (noted-there setup now t (Line.txn txn) is tt listed) (λ n. refl) (λ n. refl) known.recorded
 
-  world-along : (w : World) (before rest : List Transition) → world_after w (before ++ rest) ≡ world_after (world_after w before) rest
-  world-along w [] rest = refl
-  world-along w (t ∷ before) rest = world-along t.world before rest
-
   pub txns-new : (w : World) (all : List Transition) → AreKnown setup w all → Giving w all → TxnsAreNew all
   txns-new w all known giving before between after first second split txn printed again =
       let start = known-along w before (first ∷ (between ++ second ∷ after)) (subst (AreKnown setup w) split known) in
       let given = giving before first (between ++ second ∷ after) split start.1.0.0 txn printed in
       let on = known-along first.world between (second ∷ after) start.1.1 in
       let longer = before ++ first ∷ between in
-      let at : world_after w longer ≡ world_after first.world between = world-along w before (first ∷ between) in
+      let at : world_after w longer ≡ world_after first.world between = world_after-append w before (first ∷ between) in
       let known_there : IsKnown setup (world_after w longer) = subst (IsKnown setup) (sym at) on.1.0.0 in
       let next = giving longer second after (split ∙ sym (append_assoc before (first ∷ between) (second ∷ after))) known_there txn again in
       next.unpassed (subst (λ u. IsPassed u txn) (sym at) (passed-later setup txn first.world (world_after first.world between) on.0 given.passed))

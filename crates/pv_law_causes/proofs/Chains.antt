@@ -9,6 +9,7 @@ use Rattle.pv_law_causes.specs.Moves.{IsMove}
 use Rattle.pv_law_events.proofs.EventActs.{IsKnown}
 use Rattle.pv_law_events.proofs.RunActs.{AreKnown, run-known, any-run-known}
 use Rattle.std.proofs.lemmas.List.Elements.{All-head, All-tail}
+use Rattle.pv_law_world.proofs.AppendLemmas.{world_after-append}
 use Rattle.pv_law_world.proofs.RunRangeLemmas.{HasGoodEvent, run-good}
 use Rattle.pv_law_world.proofs.TransitionLemmas.{run-transitions}
 use Rattle.pv_law_world.specs.Transitions as transitions
@@ -29,10 +30,6 @@ pub record IsLink (setup : Setup) (world : World) (transition : Transition) : Ty
   pub known : IsKnown setup world
   pub acts : Acts setup world transition.world
   pub move : IsMove setup world transition.event transition.world
-
-pub after-more : (first : World) (earlier : List Transition) (transition : Transition) → world_after first (earlier ++ transition ∷ []) ≡ transition.world
-after-more first [] transition = refl
-after-more first (t ∷ earlier) transition = after-more t.world earlier transition
 
 module _ (setup : Setup) where
   abbrev pub AreLinks : World → List Transition → Type 0
@@ -84,7 +81,7 @@ module _ (setup : Setup) where
         subst (λ (x : Transition). H (earlier ++ x ∷ front)) (heads is)
         (subst H (append_assoc earlier (transition ∷ []) front)
         (along (earlier ++ transition ∷ []) rest front back
-        (subst (λ (w : World). AreLinks w rest) (sym (after-more first earlier transition)) links.1)
+        (subst (λ (w : World). AreLinks w rest) (sym (world_after-append first earlier (transition ∷ []))) links.1)
         (more earlier transition links.0 now) (tails is)))
 
     pub each-front : (transitions : List Transition) → AreLinks first transitions → H [] → (place : Place transitions) → H place.earlier

@@ -16,13 +16,14 @@ use Rattle.pv_law_acts.proofs.StepLemmas.{acts-hold, sent-each}
 use Rattle.pv_law_acts.specs.Acts.{Acts}
 use Rattle.pv_law_acts.specs.Guards.{MaySend}
 use Rattle.pv_law_acts.specs.Seen.{records_at, Sent}
-use Rattle.pv_law_causes.proofs.Chains.{IsLink, after-more, AreLinks, each-front, whole-run}
+use Rattle.pv_law_causes.proofs.Chains.{IsLink, AreLinks, each-front, whole-run}
 use Rattle.pv_law_causes.proofs.Origins.{IsDenial, HasReason, Origin, step-origins}
 use Rattle.pv_law_causes.specs.Histories.{NoCameOf, MessageCameOf, MessagesCameOf}
 use Rattle.pv_law_causes.specs.Moves.{TakesInput, IsSentNow}
 use Rattle.pv_law_events.proofs.StepActs.{here_at}
 use Rattle.pv_law_step.proofs.ConflictLemmas.{least-conflict}
 use Rattle.pv_law_step.proofs.WantRanges.{Ascend, wants-ascend}
+use Rattle.pv_law_world.proofs.AppendLemmas.{world_after-append}
 use Rattle.pv_model.specs.Alternatives.{Read}
 use Rattle.pv_protocol.specs.Conflicts.{IsLeastConflict, WasDenied}
 use Rattle.pv_protocol.specs.Here.{length_with}
@@ -199,7 +200,7 @@ module _ (setup : Setup) where
           ⊎_elim
           (λ old. stays from message (was from to message old))
           (λ new. new-message from to message new)
-          (link.move.sent from to message (subst (λ (v : World). Sent v from to message) (after-more first earlier transition) h))
+          (link.move.sent from to message (subst (λ (v : World). Sent v from to message) (world_after-append first earlier (transition ∷ [])) h))
 
   pub messages-came : (transitions : List Transition) → AreLinks setup (opening setup) transitions → MessagesCameOf setup (opening setup) transitions
   messages-came transitions links =

@@ -9,12 +9,13 @@ use Rattle.pv_base.specs.declared.limits.TheConstants.{TICKS}
 use Rattle.pv_base.specs.declared.txn.TxnId.{TxnId}
 use Rattle.pv_law_acts.proofs.ListLemmas.{none-some}
 use Rattle.pv_law_acts.proofs.PassedLemmas.{opening-each}
-use Rattle.pv_law_causes.proofs.Chains.{IsLink, after-more, AreLinks, each-front, whole-run}
+use Rattle.pv_law_causes.proofs.Chains.{IsLink, AreLinks, each-front, whole-run}
 use Rattle.pv_law_causes.proofs.EntrySteps.{ticks_in, EntryStep, goes_on, begins_stage, Needs, step-entry}
 use Rattle.pv_law_causes.proofs.MessageHistories.{later_place}
 use Rattle.pv_law_causes.specs.Moves.{Comes, TakesInput, SiteAfter, is_as_it_was, has_no_entry, has_stepped}
 use Rattle.pv_law_causes.specs.Waits.{IsWaiting, HasAge, EntriesHaveAge}
 use Rattle.pv_law_events.proofs.StepActs.{IsReady}
+use Rattle.pv_law_world.proofs.AppendLemmas.{world_after-append}
 use Rattle.pv_model.specs.Events.{Event}
 use Rattle.pv_protocol.specs.Committed.{home_of, entry_in, entry_of}
 use Rattle.pv_protocol.specs.Places.{Place}
@@ -125,7 +126,7 @@ module _ (setup : Setup) (first : World) (earlier : List Transition) (transition
 
   ages-more : EntriesHaveAge setup first earlier → EntriesHaveAge setup first More
   ages-more was txn after found =
-      let now : entry_of transition.world txn ≡ Some after = subst (λ (v : World). entry_of v txn ≡ Some after) (after-more first earlier transition) found in
+      let now : entry_of transition.world txn ≡ Some after = subst (λ (v : World). entry_of v txn ≡ Some after) (world_after-append first earlier (transition ∷ [])) found in
       has-age was txn after now (link.move.sites (home_of txn))
 
 module _ (setup : Setup) where

@@ -11,16 +11,13 @@ use Rattle.pv_law_complete.proofs.EndLemmas.{never-open}
 use Rattle.pv_law_complete.proofs.GoneLemmas.{HasGone, AreGone}
 use Rattle.pv_law_complete.specs.Undisturbed.{IsUndisturbed, UndisturbedCommit}
 use Rattle.pv_law_outcomes.proofs.OutcomeLemmas.{committed-after}
+use Rattle.pv_law_world.proofs.AppendLemmas.{world_after-append}
 use Rattle.pv_model.specs.Syntax.{Program}
 use Rattle.pv_protocol.specs.Committed.{entry_of, is_committed}
 use Rattle.pv_protocol.specs.Run.{world_after, worlds_of}
 use Rattle.pv_protocol.specs.State.{Setup}
 use Rattle.pv_protocol.specs.World.{World, opening}
 use Rattle.pv_protocol.specs.WorldStep.{Transition}
-
-world-after : (first : World) (earlier : List Transition) (t : Transition) (later : List Transition) → world_after first (earlier ++ t ∷ later) ≡ world_after t.world later
-world-after first [] t later = refl
-world-after first (e ∷ earlier) t later = world-after e.world earlier t later
 
 module _ (setup : Setup) where
   gone-there : (first : World) (earlier : List Transition) (t : Transition) (later : List Transition) → AreGone setup first (earlier ++ t ∷ later)
@@ -61,7 +58,7 @@ module _ (setup : Setup) where
           absurd (never-open setup room txn program t.world window gone_at.1 links_at.1 _ going is.calm is.delivered
           (λ found works.
           (ages-after setup (earlier ++ t ∷ window) links txn found
-          (subst (λ v. entry_of v txn ≡ Some found) (sym (world-after (opening setup) earlier t window)) works)).waiting)
+          (subst (λ v. entry_of v txn ≡ Some found) (sym (world_after-append (opening setup) earlier (t ∷ window))) works)).waiting)
           lacks)
 
     pub undisturbed-commit : (all : List Transition) → AreGone setup (opening setup) all → AreLinks setup (opening setup) all → UndisturbedCommit setup (opening setup) all
@@ -71,5 +68,5 @@ module _ (setup : Setup) where
         place.split ∙ (ap (λ later. place.earlier ++ t ∷ later) cut ∙ sym (append_assoc place.earlier (t ∷ window) rest)) in
         let parts = links-cut (opening setup) (place.earlier ++ t ∷ window) rest (subst (AreLinks setup (opening setup)) split links) in
         committed-on txn (world_after t.world window) rest
-        (subst (λ w. AreLinks setup w rest) (world-after (opening setup) place.earlier t window) parts.1)
+        (subst (λ w. AreLinks setup w rest) (world_after-append (opening setup) place.earlier (t ∷ window)) parts.1)
         (front-commits place.earlier t window (gone-front (opening setup) (place.earlier ++ t ∷ window) rest (subst (AreGone setup (opening setup)) split gone)) parts.0 txn program is)

@@ -1,4 +1,5 @@
 pub mod AnyRunRangeLemmas
+pub mod AppendLemmas
 pub mod DisarmLemmas
 pub mod EpochLemmas
 pub mod GrowthLemmas

@@ -8,6 +8,7 @@ use Rattle.std.proofs.Math.Seq.{get_or-append_seam}
 use Rattle.pv_disk.specs.BayAnswers.{KeepsDisk}
 use Rattle.pv_disk.specs.BayModel.{BayModel, Berth}
 use Rattle.pv_disk.specs.MemDisk.{MemState}
+use Rattle.pv_law_world.proofs.AppendLemmas.{world_after-append}
 use Rattle.pv_model.specs.Events.{Event, Schedule}
 use Rattle.pv_protocol.specs.Run.{run, transitions_of, world_after}
 use Rattle.pv_protocol.specs.State.{Setup, Site}
@@ -20,17 +21,12 @@ use Rattle.pv_run.specs.KeptDisks.{KeepsSites, last_world}
 
 -- ---- the world in which a run ends
 
--- the world after transitions and then more
-after-both : (world : World) (front back : List Transition) → world_after world (front ++ back) ≡ world_after (world_after world front) back
-after-both world [] back = refl
-after-both world (transition ∷ front) back = after-both transition.world front back
-
 -- The world after all events of a run is the one after its transitions.
 after-run : (setup : Setup) (world : World) (events : List Event) → after_events setup world events ≡ world_after world (run setup world events)
 after-run setup world [] = refl
 after-run setup world (event ∷ events) =
     let now = transitions_of setup world event in
-    after-run setup (world_after world now) events ∙ sym (after-both world now (run setup (world_after world now) events))
+    after-run setup (world_after world now) events ∙ sym (world_after-append world now (run setup (world_after world now) events))
 
 events-count : (items : List code.Event) → length (events_of items) ≡ length items
 events-count [] = refl

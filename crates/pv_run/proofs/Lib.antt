@@ -1,7 +1,6 @@
 mod AnswerLemmas
 mod KeepLemmas
 mod LimitLemmas
-mod LineItems
 mod OutputLemmas
 mod RunLemmas
 mod SummaryLemmas

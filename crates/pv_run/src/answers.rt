@@ -210,3 +210,9 @@ pub fn promises_are_kept()
     texts_answer();
     texts_refuse_for_causes();
 }
+
+/// A text has one answer in each form: one status, and one output with it.
+pub fn answers_are_one()
+    ensures { (form : Form) (input : List ℕ) (one other : Status) (output text : List ℕ) →
+        IsRunAnswer form input one output → IsRunAnswer form input other text → (one ≡ other) × (output ≡ text) }
+{}

@@ -8,7 +8,9 @@ mod running;
 mod status;
 mod summary;
 
-pub use answers::{promises_are_kept, refuse, run_text, status_of_write, write_summary_of_number};
+pub use answers::{
+    answers_are_one, promises_are_kept, refuse, run_text, status_of_write, write_summary_of_number,
+};
 pub use form::Form;
 pub use printed::{Printed, run_to_lines};
 pub use running::{RunEnd, run};

@@ -10,6 +10,7 @@ use Rattle.pv_base.specs.BigEndian.{IsNumber, big_endian}
 use Rattle.pv_law_world.proofs.GrowthLemmas.{transition-grown}
 use Rattle.pv_law_world.proofs.PumpLemmas.{IsLighter, delivery-lighter, more-fuel, none-left}
 use Rattle.pv_law_world.specs.Pumps.{AreMarked, HasFewSites}
+use Rattle.pv_law_world.proofs.AppendLemmas.{world_after-append}
 use Rattle.pv_model.specs.Events.{deliver, pump}
 use Rattle.pv_protocol.specs.Limit.{over_limit}
 use Rattle.pv_protocol.specs.Lines as protocol
@@ -21,7 +22,6 @@ use Rattle.pv_protocol.specs.WorldStep.{Transition, transition_of}
 use Rattle.pv_script.specs.declared.line.Line.{Line}
 use Rattle.pv_site.specs.SiteState.{setup_of}
 use Rattle.pv_world.proofs.MailWorld.{length-carried, next-fresh, over-stays}
-use Rattle.pv_world.proofs.RunLemmas.{world_after-append}
 use Rattle.pv_world.specs.Carry.{Carry}
 use Rattle.pv_world.specs.Mail.{Posted}
 use Rattle.pv_world.specs.Pumping.{is_over, one_less}

@@ -9,21 +9,8 @@ use Rattle.pv_protocol.specs.State.{Setup}
 use Rattle.pv_protocol.specs.WellFormed.{IsWellFormed}
 use Rattle.pv_protocol.specs.World.{World, opening}
 use Rattle.pv_protocol.specs.WorldStep.{Transition}
+use Rattle.pv_law_world.proofs.AppendLemmas.{run-append, world_after-append}
 use Rattle.pv_world.specs.Reached.{IsReached}
-
-pub world_after-append : (world : World) (front back : List Transition) → world_after world (front ++ back) ≡ world_after (world_after world front) back
-world_after-append world [] back = refl
-world_after-append world (transition ∷ front) back = world_after-append transition.world front back
-
-pub run-append : (setup : Setup) (world : World) (events more : List Event)
-    → run setup world (events ++ more) ≡ run setup world events ++ run setup (world_after world (run setup world events)) more
-run-append setup world [] more = refl
-run-append setup world (event ∷ events) more =
-    let now = transitions_of setup world event in
-    let after = world_after world now in
-    ap (λ (rest : List Transition). now ++ rest) (run-append setup after events more)
-    ∙ sym (append_assoc now (run setup after events) (run setup (world_after after (run setup after events)) more))
-    ∙ ap (λ (end : World). (now ++ run setup after events) ++ run setup end more) (sym (world_after-append world now (run setup after events)))
 
 -- The world where a run ends.
 module _ (setup : Setup) (events : List Event) where

@@ -2,6 +2,7 @@
 use Rattle.std.proofs.Common.{◌≡◌, ◌≤◌, ◌+◌, ◌++◌, arith, refl, Err, Some, ℕ, List, [], rules, sym, ap, length, map, ◌∙◌, subst, add-one}
 use Rattle.std.proofs.lemmas.List.{append-nil, map-append}
 use Rattle.pv_base.specs.Catalog.{Declared}
+use Rattle.pv_law_lines.proofs.LineItems.{lines-name-items}
 use Rattle.pv_protocol.specs.Limit.{Output}
 use Rattle.pv_protocol.specs.Lines.{Line}
 use Rattle.pv_protocol.specs.WellFormed.{IsWellFormed}
@@ -11,7 +12,6 @@ use Rattle.pv_script.specs.ScheduleView.{event_of, schedule_of}
 use Rattle.pv_site.specs.SiteState.{setup_of}
 use Rattle.pv_world.specs.Steps.{Steps}
 use Rattle.pv_world.specs.declared.error.WorldError.{WorldError}
-use Rattle.pv_run.proofs.LineItems.{lines-name-items}
 use Rattle.pv_run.proofs.RunLemmas.{HasCollected, All-next, collect-start, collect_on, drop-events_of, left-at-end, lines, passes, printed-by, stands-after, within-after, world_at}
 use Rattle.pv_run.proofs.printed.run_to_lines.Goals as goal
 

@@ -4,6 +4,7 @@ use Rattle.std.proofs.KnownBytes.{Appends-nil}
 use Rattle.std.specs.Io.KnownBytes.{Appends}
 use Rattle.pv_base.specs.Catalog.{Declared}
 use Rattle.pv_io.specs.Stream.{AppendsPrefix}
+use Rattle.pv_law_lines.proofs.LineItems.{lines-name-items}
 use Rattle.pv_protocol.specs.Limit.{Output}
 use Rattle.pv_protocol.specs.Lines.{Line}
 use Rattle.pv_protocol.specs.WellFormed.{IsWellFormed}
@@ -18,7 +19,6 @@ use Rattle.pv_run.specs.InputAnswers.{output_within}
 use Rattle.pv_run.specs.KeptDisks.{KeepsSites}
 use Rattle.pv_protocol.specs.World as model
 use Rattle.pv_run.proofs.KeepLemmas.{hold-count, last-is}
-use Rattle.pv_run.proofs.LineItems.{lines-name-items}
 use Rattle.pv_run.proofs.OutputLemmas.{AppendsPrefix-none, on_any_err}
 use Rattle.pv_run.proofs.RunLemmas.{IsUnderWay, All-next, drop-events_of, left_at, left-at-end, no_lines, start, world_at, go_on, give_up, passes, printed-by, stands-after, within-after}
 use Rattle.pv_run.proofs.running.run.Goals as goal

@@ -25,4 +25,4 @@ returns-in-Ok c =
     (subst (λ (log : HostState). HasStepped (record { site = inside.site; held = flat_map (held_of inside.me.0) inside.made.items })
     (record { site = record site { log = log }; held = flat_map (held_of inside.me.0) c.keep.new.queue.items }) input) (sym c.log.ensures.value)
     (stepped inside.site site c.self.invariant.running input c.in-Ok.step c.self.invariant.up c.in-Ok.ensures.step (flat_map (held_of inside.me.0) inside.made.items)
-    (flat_map (held_of inside.me.0) c.keep.new.queue.items) held))
+    (flat_map (held_of inside.me.0) c.keep.new.queue.items) c.in-Ok.ensures.spelled held))

@@ -1,26 +1,20 @@
 -- The lines of a run name only items of its catalog.
-use Rattle.std.proofs.Common.{◌≡◌, ℕ, ℤ, zero, suc, ◌+◌, ◌≤◌, ◌<◌, Bool, true, false, Some, None, Option, All, List, [], ◌∷◌, ◌++◌, filter, length, refl, arith}
-use Rattle.std.specs.Prelude.{nat_lt, not, ◌||◌, ◌&&◌, ◌==◌, if◌then◌else◌, slice_get}
-use Rattle.std.specs.List.{Contains, flat_map, list_any}
-use Rattle.std.proofs.lemmas.Bool.{eqb-true}
+use Rattle.std.proofs.Common.{ℕ, ℤ, zero, suc, ◌+◌, ◌≤◌, ◌<◌, Bool, true, false, Some, None, Option, All, List, [], ◌∷◌, ◌++◌, filter, length, arith}
+use Rattle.std.specs.Prelude.{nat_lt, if◌then◌else◌, slice_get}
+use Rattle.std.specs.List.{flat_map}
 use Rattle.std.proofs.lemmas.List.Elements.{All-append, All-cons, All-map, All-nil}
 use Rattle.pv_base.specs.Catalog.{Item}
 use Rattle.pv_base.specs.Named.{names_of}
 use Rattle.pv_base.specs.Polyvalue.{Case}
-use Rattle.pv_base.specs.Want.{Want}
 use Rattle.pv_base.specs.declared.txn.TxnId.{TxnId}
-use Rattle.pv_format.specs.Message.{Envelope, grant_lost, journal_full, txn_of}
-use Rattle.pv_law_answers.proofs.RefusalNotes.{Refuses, by_width, by_denial, by_room, by_vote, by_time, refusal-noted}
+use Rattle.pv_format.specs.Message.{Envelope, txn_of}
+use Rattle.pv_law_lines.proofs.NoteItems.{note-fine}
 use Rattle.pv_law_step.proofs.Lists.{all-from}
-use Rattle.pv_model.specs.Check.{names_item}
 use Rattle.pv_model.specs.Events.{Event}
-use Rattle.pv_model.specs.Plan.{want_of, wants_from}
 use Rattle.pv_model.specs.PossibleAnswers.{sums}
-use Rattle.pv_model.specs.Syntax.{Program}
 use Rattle.pv_protocol.specs.Arms.{broken_line, Reached, waits, fires, reached, calls_of, attempted}
 use Rattle.pv_protocol.specs.Attempt.{Attempt, Begun, begun, given, delivered, lost, halted, opened, of_start, of_step}
 use Rattle.pv_protocol.specs.Committed.{is_committed, is_open}
-use Rattle.pv_protocol.specs.Granted.{asked_of, is_unawaited, is_wanted}
 use Rattle.pv_format.specs.Record.{Record}
 use Rattle.pv_protocol.specs.Here.{Here}
 use Rattle.pv_protocol.specs.Lines.{Line, kind_of, line_of, lines_of}
@@ -28,52 +22,11 @@ use Rattle.pv_protocol.specs.Pump.{deliveries, next_fresh, enough, with_fresh}
 use Rattle.pv_protocol.specs.Report.{Reading, cases, locked, down, item_line, item_lines, readings_from, reading_of, total_from, total_of, report_of, sent_from, sent_lines, readings, txns_in_order}
 use Rattle.pv_protocol.specs.Run.{transitions_of, lines_of_transitions}
 use Rattle.pv_protocol.specs.Start.{Started, starts, too_long, no_epoch, site_start}
-use Rattle.pv_protocol.specs.State.{Setup, Running, Input, submit, receive, tick, Note, began, committed, refused, full, spent, Cause}
+use Rattle.pv_protocol.specs.State.{Setup, Running, Input, submit, receive, tick, committed, full, spent}
 use Rattle.pv_protocol.specs.Step.{site_step, step_on}
 use Rattle.pv_protocol.specs.World.{World, site_at, with_done}
 use Rattle.pv_protocol.specs.WorldStep.{transition_of, ended}
-use Rattle.pv_report.specs.NamesOnlyItems.{CauseNamesOnlyItems, NamesOnlyItems}
-
--- What a coordinator asks of a site are items of the catalog.
-
-wanted-here : (item k n : ℕ) (rest : List Want) (first : Bool) → (k == item) ≡ first → (first || list_any (λ (want : Want). want.item == item) rest) ≡ true
-    → (list_any (λ (want : Want). want.item == item) rest ≡ true → item < k + suc n) → item < k + suc n
-wanted-here item k n rest true is wanted behind = let same = eqb-true k item is in omega (arith, same)
-wanted-here item k n rest false is wanted behind = behind wanted
-
-wanted-either : (program : Program) (item k n : ℕ) (rest : List Want) (b : Bool) → list_any (λ (want : Want). want.item == item) (if b then want_of program k ∷ rest else rest) ≡ true
-    → (list_any (λ (want : Want). want.item == item) rest ≡ true → item < k + suc n) → item < k + suc n
-wanted-either program item k n rest true wanted behind = wanted-here item k n rest (k == item) refl wanted behind
-wanted-either program item k n rest false wanted behind = behind wanted
-
-wanted-below : (program : Program) (site item k : ℕ) (items : List Item) → list_any (λ (want : Want). want.item == item) (wants_from program site k items) ≡ true → item < k + length items
-wanted-below program site item k [] wanted = let wrong : ⊥ = cc in absurd wrong
-wanted-below program site item k (declared ∷ items) wanted =
-    wanted-either program item k (length items) (wants_from program site (k + 1) items) (declared.site == site && names_item program k) wanted
-    (λ more. let below = wanted-below program site item (k + 1) items more in omega (arith, below))
-
-wanted-of-two : (unawaited wanted : Bool) → (unawaited || not wanted) ≡ false → wanted ≡ true
-wanted-of-two true wanted is = let wrong : ⊥ = cc in absurd wrong
-wanted-of-two false true is = refl
-wanted-of-two false false is = let wrong : ⊥ = cc in absurd wrong
-
--- A refusal that a step notes names an item of the catalog, if it names one.
-refusal-fine : (here : Here) (t : TxnId) (input : Input) (cause : Cause) → Refuses here t input cause → CauseNamesOnlyItems here.setup.catalog cause
-refusal-fine here t _ _ (by_width from asked grant values entry last own wide is) = tt
-refusal-fine here t _ _ (by_denial from asked item holder entry found own heard is) =
-    let below = wanted-below entry.program from item 0 here.setup.catalog.items (wanted-of-two (is_unawaited here entry from) (is_wanted (asked_of here entry from) item) heard) in
-    omega (arith, below)
-refusal-fine here t _ _ (by_room from asked entry vote own crowded is) = tt
-refusal-fine here t _ _ (by_vote from asked grant_lost entry vote own is) = tt
-refusal-fine here t _ _ (by_vote from asked (journal_full bytes) entry vote own is) = tt
-refusal-fine here t _ _ (by_time late expired own) = tt
-
-note-fine : (here : Here) (input : Input) (n : ℕ) (note : Note) → Contains (step_on here input).notes note → NamesOnlyItems here.setup.catalog (line_of n note)
-note-fine here input n (began t) noted = tt
-note-fine here input n (committed t replies) noted = tt
-note-fine here input n (refused t cause) noted = refusal-fine here t input cause (refusal-noted here t cause input noted)
-note-fine here input n (full bytes) noted = tt
-note-fine here input n spent noted = tt
+use Rattle.pv_report.specs.NamesOnlyItems.{NamesOnlyItems}
 
 module _ (setup : Setup) where
   abbrev Fine : Line → Type 0

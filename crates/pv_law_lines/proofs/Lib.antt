@@ -1,0 +1,2 @@
+pub mod LineItems
+pub mod NoteItems
