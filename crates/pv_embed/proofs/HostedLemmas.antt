@@ -1,5 +1,5 @@
 -- What a site with a host is after a step, a write of its host, and a reading.
-use Rattle.std.proofs.Common.{◌≡◌, inl, inr, ℕ, ◌+◌, ◌<◌, ◌≤◌, Bool, true, false, not, List, [], ◌∷◌, ◌++◌, Option, Some, None, Ok, MatchBool, map, refl, sym, ◌∙◌, ap, subst, append_assoc, eq-eqb, option_map, slice_get, length, ◌^◌, arith}
+use Rattle.std.proofs.Common.{◌≡◌, inl, inr, ℕ, ◌+◌, ◌<◌, ◌≤◌, Bool, true, false, not, List, [], ◌∷◌, ◌++◌, Option, Some, None, Ok, MatchBool, map, refl, sym, ◌∙◌, ap, subst, append_assoc, eq-eqb, option_map, slice_get, length, ◌^◌, arith, All}
 use Rattle.std.specs.Prelude.{flat_map}
 use Rattle.std.proofs.lemmas.Option.{slice_get-map}
 use Rattle.pv_base.specs.Catalog.{Item}

@@ -1,5 +1,5 @@
 -- The first of what is held is the first step's.
-use Rattle.std.proofs.Common.{◌≡◌, Some, subst}
+use Rattle.std.proofs.Common.{◌≡◌, Some, subst, rules}
 use Rattle.std.specs.Option.{option_map}
 use Rattle.std.specs.Prelude.{slice_get}
 use Rattle.pv_embed.proofs.MadeLemmas.{held_first}
