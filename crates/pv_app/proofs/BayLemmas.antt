@@ -5,7 +5,6 @@ use Rattle.pv_disk.specs.BayModel.{BayModel, Berth}
 use Rattle.pv_disk.specs.Folder.{folder_berth_of}
 use Rattle.pv_disk.specs.MemBay.{MemBayState, MemBerth, berth_of, first_berth, mem_bay}
 use Rattle.pv_disk.specs.MemDisk.{MemState}
-use Rattle.pv_disk.specs.declared.folder_bay.FolderBerth.{FolderBerth}
 use Rattle.pv_protocol.specs.State.{Site}
 use Rattle.pv_run.specs.KeptDisks.{KeepsSites}
 use Rattle.pv_run.specs.declared.status.Status.{Status}

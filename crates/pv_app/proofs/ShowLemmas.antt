@@ -1,5 +1,5 @@
 -- What was written for `show`, by the status.
-use Rattle.std.proofs.Common.{◌≡◌, ◌⊎◌, inl, inr, List, ℕ, length, Option, Result, Ok, Err, OnOk, OnErr, cond, is_ok, refl, sym, subst, arith}
+use Rattle.std.proofs.Common.{◌≡◌, ◌⊎◌, inl, inr, List, ℕ, ◌≤◌, length, Option, Result, Ok, Err, OnOk, OnErr, cond, is_ok, refl, sym, subst, arith}
 use Rattle.std.proofs.lemmas.List.{take_all}
 use Rattle.std.specs.Io.KnownBytes.{Appends}
 use Rattle.std.specs.Bool.{⊤}
@@ -15,6 +15,7 @@ use Rattle.pv_law_disk.specs.DiskModel.{DiskModel}
 use Rattle.pv_run.specs.InputAnswers.{GivesUp}
 use Rattle.pv_run.specs.declared.status.Status.{Status}
 use Rattle.pv_run.specs.declared.status.Status.TheVariants.{Done, Usage, Malformed, ReadFault, WriteFault, TooLong, NoMemory, SentLimit, BayFault}
+use Rattle.pv_show.specs.Bays.{OnlyReadsDisks, none, one_more, not_handed_out}
 use Rattle.pv_show.specs.Showing.{ShowsAll}
 
 -- What was written whole, or in part after an error, is a beginning.
@@ -44,6 +45,14 @@ touches-bay M D sink catalog old new before after Usage read ends = ends
 touches-bay M D sink catalog old new before after Malformed read ends = ends
 touches-bay M D sink catalog old new before after TooLong read ends = ends
 touches-bay M D sink catalog old new before after SentLimit read ends = ends
+
+-- Disks of fewer sites are disks of more.
+pub OnlyReadsDisks-wider : {B V : Type 0} (M : BayModel B) (D : DiskModel V) (few many : ℕ) (old new : B) → few ≤ many → OnlyReadsDisks M D few old new → OnlyReadsDisks M D many old new
+OnlyReadsDisks-wider M D few many old new fewer none = none
+OnlyReadsDisks-wider M D few many old new fewer (one_more mid _ site taken given within reads read) =
+    one_more mid new site taken given (omega (arith, within, fewer)) (OnlyReadsDisks-wider M D few many old mid fewer reads) read
+OnlyReadsDisks-wider M D few many old new fewer (not_handed_out mid _ site e within reads asks) =
+    not_handed_out mid new site e (omega (arith, within, fewer)) (OnlyReadsDisks-wider M D few many old mid fewer reads) asks
 
 -- A line was refused, or it gave up.
 pub refused-or-not : (result : Status) → (result ≡ Malformed) ⊎ ((result ≡ WriteFault) ⊎ (result ≡ NoMemory)) → GivesUp result ⊎ (result ≡ Malformed)

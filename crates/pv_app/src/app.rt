@@ -2,6 +2,7 @@
 ghost use Rattle.std.specs.Prelude.{◌≡◌, ◌≢◌, ℕ, ◌≤◌, ◌<◌, ◌⊎◌, List, [], Some, length, map};
 ghost use Rattle.std.specs.String.{string_bytes};
 ghost use Rattle.pv_base.specs.Fault.{Rose};
+ghost use Rattle.pv_base.specs.declared.limits.TheConstants.{MAX_SITES};
 ghost use Rattle.pv_io.specs.SinkEffects.{HasFailed, Writes, WritesNothing, WritesPrefix};
 ghost use Rattle.pv_model.specs.Events as model;
 ghost use Rattle.pv_model.specs.LineCauses.{LineCause};
@@ -127,8 +128,12 @@ pub fn polydb<R: Source, W: Sink, B: Bay>(
     ensures show_malformed { result ≡ Status.Malformed → IsCommand (map string_bytes words.now) Command.Show →
         (input : List ℕ) → R.left source.old ≡ Some input → (number : ℕ) × (cause : LineCause) × IsMalformedLiveScript input number cause }
 
-    // However it ends, `show` only reads disks. The bay's own failure ends `show` alone, where it was counted and nothing was written.
-    ensures only_reads { IsCommand (map string_bytes words.now) Command.Show → OnlyReadsDisks B.model B.D.model bay.old bay.new }
+    // However it ends, `show` only reads disks, and only those of the sites that its script declares. The bay's own failure ends `show` alone, where
+    // it was counted and nothing was written.
+    ensures only_reads { IsCommand (map string_bytes words.now) Command.Show → OnlyReadsDisks B.model B.D.model MAX_SITES bay.old bay.new }
+    ensures only_declared { IsCommand (map string_bytes words.now) Command.Show →
+        (input : List ℕ) → R.left source.old ≡ Some input → (script : LiveScript) → IsLiveScript input script →
+        OnlyReadsDisks B.model B.D.model script.catalog.sites bay.old bay.new }
     ensures bay_fault { result ≡ Status.BayFault → IsCommand (map string_bytes words.now) Command.Show
         × Rose (B.model.faults bay.old) (B.model.faults bay.new) × WritesNothing W.Sink sink.old sink.new }
 

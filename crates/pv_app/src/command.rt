@@ -6,7 +6,7 @@ ghost use Rattle.pv_app.specs.Commands.{IsCommand};
 use itoa::Buffer;
 use pv_run::Form;
 
-/// The greatest number of a schedule that is made. The generator's numbers are below the one after it, so a greater one would make nothing new.
+/// The greatest number of a schedule that is made. The generator's states are below the number after it, so a greater one would make nothing new.
 pub const MAX_NUMBER: u32 = 2_147_483_647;
 
 /// What the program is asked to do.
@@ -28,14 +28,14 @@ pub fn command_of(words: &[String]) -> Option<Command>
     ensures none { result ≡ None → (command : Command) → IsCommand (map string_bytes words.now) command → ⊥ }
 {
     match words {
-        [word] => run_by(word.as_str()),
-        [word, number] => numbered_by(word.as_str(), number.as_str()),
+        [word] => one_word(word.as_str()),
+        [word, number] => word_and_number(word.as_str(), number.as_str()),
         _ => None,
     }
 }
 
 // The command of one word.
-fn run_by(word: &str) -> Option<Command>
+fn one_word(word: &str) -> Option<Command>
     ensures some { IfSome result (IsCommand (word.now ∷ [])) }
     ensures none { result ≡ None → (command : Command) → IsCommand (word.now ∷ []) command → ⊥ }
 {
@@ -52,7 +52,7 @@ fn run_by(word: &str) -> Option<Command>
 }
 
 // The command of a word and a number.
-fn numbered_by(word: &str, text: &str) -> Option<Command>
+fn word_and_number(word: &str, text: &str) -> Option<Command>
     ensures some { IfSome result (IsCommand (word.now ∷ text.now ∷ [])) }
     ensures none { result ≡ None → (command : Command) → IsCommand (word.now ∷ text.now ∷ []) command → ⊥ }
 {

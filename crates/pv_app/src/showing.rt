@@ -4,6 +4,7 @@ ghost use Rattle.pv_app.specs.Commands.{TouchesBay};
 ghost use Rattle.pv_app.specs.ShowEnds.{EndsShow};
 ghost use Rattle.pv_app.specs.declared.command.Command.TheVariants.{Show};
 ghost use Rattle.pv_base.specs.Fault.{Rose};
+ghost use Rattle.pv_base.specs.declared.limits.TheConstants.{MAX_SITES};
 ghost use Rattle.pv_io.specs.SinkEffects.{HasFailed, Writes, WritesNothing};
 ghost use Rattle.pv_model.specs.LineCauses.{LineCause};
 ghost use Rattle.pv_model.specs.LiveScript.{LiveScript};
@@ -39,7 +40,9 @@ pub(crate) fn read_and_show<R: Source, W: Sink, B: Bay>(
         (R.left source.new ≡ Some []) × (script : LiveScript) × IsLiveScript input script }
     ensures malformed { result ≡ Status.Malformed → (input : List ℕ) → R.left source.old ≡ Some input →
         (number : ℕ) × (cause : LineCause) × IsMalformedLiveScript input number cause }
-    ensures only_reads { OnlyReadsDisks B.model B.D.model bay.old bay.new }
+    ensures only_reads { OnlyReadsDisks B.model B.D.model MAX_SITES bay.old bay.new }
+    ensures only_declared { (input : List ℕ) → R.left source.old ≡ Some input → (script : LiveScript) → IsLiveScript input script →
+        OnlyReadsDisks B.model B.D.model script.catalog.sites bay.old bay.new }
     ensures alone { (TouchesBay Show result → ⊥) → bay.new ≡ bay.old }
     ensures rest { IsAtRest B.model bay.new }
     ensures bay_fault { result ≡ Status.BayFault → Rose (B.model.faults bay.old) (B.model.faults bay.new) × WritesNothing W.Sink sink.old sink.new }
@@ -68,7 +71,8 @@ fn show_text<W: Sink, B: Bay>(alloc: Global, input: &[u8], sink: &mut W, bay: &m
         × (result ≡ Status.Malformed → Writes W.Sink sink.old sink.new (fault_text number cause)) }
     ensures done { result ≡ Status.Done → (script : LiveScript) × IsLiveScript input.now script }
     ensures malformed { result ≡ Status.Malformed → (number : ℕ) × (cause : LineCause) × IsMalformedLiveScript input.now number cause }
-    ensures only_reads { OnlyReadsDisks B.model B.D.model bay.old bay.new }
+    ensures only_reads { OnlyReadsDisks B.model B.D.model MAX_SITES bay.old bay.new }
+    ensures only_declared { (script : LiveScript) → IsLiveScript input.now script → OnlyReadsDisks B.model B.D.model script.catalog.sites bay.old bay.new }
     ensures alone { (TouchesBay Show result → ⊥) → bay.new ≡ bay.old }
     ensures rest { IsAtRest B.model bay.new }
     ensures bay_fault { result ≡ Status.BayFault → Rose (B.model.faults bay.old) (B.model.faults bay.new) × WritesNothing W.Sink sink.old sink.new }
@@ -93,7 +97,8 @@ fn show_sites<W: Sink, B: Bay>(
 ) -> Status
     requires { IsAtRest B.model bay.old }
     ensures shown { EndsShow B.model B.D.model W.Sink catalog.now bay.old bay.new sink.old sink.new result }
-    ensures only_reads { OnlyReadsDisks B.model B.D.model bay.old bay.new }
+    ensures only_reads { OnlyReadsDisks B.model B.D.model catalog.now.sites bay.old bay.new }
+    ensures few { catalog.now.sites ≤ MAX_SITES }
     ensures rest { IsAtRest B.model bay.new }
     ensures write_fault { result ≡ Status.WriteFault → HasFailed W.Sink sink.old sink.new }
     ensures read_fault { result ≢ Status.ReadFault }

@@ -209,8 +209,13 @@ fn a_bay_is_on_the_current_folder(rt: HostRuntime) -> Result<(), Fail> {
     disk.reserve(4, 1)?;
     disk.write_at(0, b"that")?;
     bay.back(SiteId(13), disk);
-    bay.keep(SiteId(13), MemDisk::new(alloc));
+
+    // A disk in memory changes no file, and makes none.
+    bay.keep(SiteId(13), MemDisk::of(alloc, b"else".to_vec(alloc)?));
+    bay.keep(SiteId(14), MemDisk::of(alloc, b"else".to_vec(alloc)?));
+    assert!(rt; File::open(&rt, "site-14.pv").is_err());
     let mut disk = bay.disk(SiteId(13))?;
+    assert_eq!(rt; disk.len()?, 4);
     let mut bytes = [0; 4];
     disk.read_at(0, &mut bytes)?;
     assert_eq!(rt; bytes.as_slice(), b"that".as_slice());

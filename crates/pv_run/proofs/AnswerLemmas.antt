@@ -1,9 +1,10 @@
 -- An input has one answer, and what the words are.
-use Rattle.std.proofs.Common.{◌≡◌, ◌≢◌, ℕ, ◌≤◌, ◌<◌, List, [], ◌∷◌, length, get_or, Option, Some, None, Result, Ok, Err, OnOk, OnErr, IfSome, ◌⊎◌, inl, inr, Bool, false, cond, is_ok, is_some, refl, sym, ap, ◌∙◌, subst, arith}
+use Rattle.std.proofs.Common.{◌≡◌, ◌≢◌, ℕ, ◌≤◌, ◌<◌, List, [], ◌∷◌, length, get_or, Option, Some, None, Result, Ok, Err, OnOk, OnErr, IfSome, ◌⊎◌, ⊎_elim, inl, inr, Bool, false, cond, is_ok, is_some, refl, sym, ap, ◌∙◌, subst, arith}
 use Rattle.std.specs.Bool.{⊤}
 use Rattle.std.specs.Prelude.{IfErr, IfOk}
 use Rattle.std.specs.Io.KnownBytes.{Appends}
 use Rattle.std.proofs.lemmas.Bool.{false≢true}
+use Rattle.std.proofs.lemmas.Bool.Decides.{leb_tells}
 use Rattle.std.proofs.lemmas.List.{append-nil}
 use Rattle.pv_base.specs.declared.limits.TheConstants.{MAX_INPUT}
 use Rattle.pv_io.specs.Stream.{AppendsPrefix}
@@ -12,6 +13,7 @@ use Rattle.pv_model.specs.LineForms.{scheduled}
 use Rattle.pv_model.specs.Events.{Schedule}
 use Rattle.pv_model.specs.Schedule.{IsMalformedSchedule, IsSchedule}
 use Rattle.pv_law_schedules.proofs.OneScheduleLemmas.{one_schedule, one_fault, no_fault}
+use Rattle.pv_law_schedules.proofs.SomeScheduleLemmas.{some_schedule_or_fault}
 use Rattle.pv_script.specs.ScriptErrors.{IsMalformedAt, line_cause_of, refused_line}
 use Rattle.pv_script.specs.declared.schedule.ScriptError.{ScriptError}
 use Rattle.pv_script.specs.declared.schedule.ScriptError.TheVariants as errors
@@ -82,6 +84,22 @@ pub one_answer : (whole within : Schedule → List ℕ) (input : List ℕ) (one 
 one_answer whole within input one other output text a b =
     let status = one_status whole within input one other output text a b in
     (status, one_output whole within input other output text (subst (λ (s : Status). IsAnswer whole within input s output) status a) b)
+
+some_answer_of_schedule : (whole within : Schedule → List ℕ) (input : List ℕ) (schedule : Schedule) → length input ≤ MAX_INPUT → IsSchedule input schedule
+    → (status : Status) × (output : List ℕ) × IsAnswer whole within input status output
+some_answer_of_schedule whole within input schedule short says = go (within_limit schedule).over refl
+  where
+    go : (over : Option ℕ) → (within_limit schedule).over ≡ over → (status : Status) × (output : List ℕ) × IsAnswer whole within input status output
+    go None is = (Done, whole schedule, (short, schedule, says, is, refl))
+    go (Some total) is = (SentLimit, within schedule, (short, schedule, says, total, is, refl))
+
+-- An input is too long, or a schedule, or malformed.
+pub some_answer : (whole within : Schedule → List ℕ) (input : List ℕ) → (status : Status) × (output : List ℕ) × IsAnswer whole within input status output
+some_answer whole within input =
+    ⊎_elim
+    (λ short. ⊎_elim (λ schedule. some_answer_of_schedule whole within input schedule.0 short.1 schedule.1)
+    (λ at. (Malformed, fault_text at.0 at.1, (short.1, at.0, at.1, at.2, refl))) (some_schedule_or_fault input))
+    (λ long. (TooLong, [], (long.1, refl))) (leb_tells (length input) MAX_INPUT)
 
 -- what has grown by a beginning of its answer has grown by a beginning of any
 pub prefix_of_answer : (whole within : Schedule → List ℕ) (input : List ℕ) (one other : Status) (output text : List ℕ) (old new : Option (List ℕ))

@@ -13,7 +13,6 @@ use Rattle.pv_model.specs.Events.{Event, Schedule}
 use Rattle.pv_protocol.specs.Run.{run, transitions_of, world_after}
 use Rattle.pv_protocol.specs.State.{Setup, Site}
 use Rattle.pv_protocol.specs.World.{World, opening}
-use Rattle.pv_protocol.specs.WorldStep.{Transition}
 use Rattle.pv_script.specs.declared.schedule.Event as code
 use Rattle.pv_world.specs.Disks.{HoldSites, IsJournalOf}
 use Rattle.pv_run.proofs.RunLemmas.{after_events, events_of, setup_for, world_at}

@@ -62,7 +62,7 @@ or_zero said = option_map_or (λ n. n) said 0
 abbrev pub counted_line : List ℕ → ℕ → List ℕ
 counted_line word n = word ++ (codes " " ++ (decimal n ++ line_feed))
 
--- the summary of so many events that printed these lines
+-- the summary of a run of this many events, which printed these lines
 unfoldable pub summary_text : Declared → ℕ → List Line → List ℕ
 summary_text catalog events lines =
     counted_line (codes "events") events

@@ -161,7 +161,8 @@ fn write_summary_of_run<W: Sink>(alloc: Global, schedule: &Schedule, sink: &mut 
     }
 }
 
-/// Names the line at which the input is refused.
+/// Writes at which line the input is refused, and why. It ends with [`Status::Malformed`] where that was written, with [`Status::WriteFault`] where the
+/// output failed, and with [`Status::NoMemory`] where there was no memory for the text.
 #[tactic(auto, unfolding(crate::specs::InputAnswers::fault_text))]
 pub fn refuse<W: Sink>(alloc: Global, line: u32, cause: LineCause, sink: &mut W) -> Status
     ensures written { result ≡ Status.Malformed → Writes W.Sink sink.old sink.new (fault_text line (line_cause_of cause)) }
@@ -177,7 +178,7 @@ pub fn refuse<W: Sink>(alloc: Global, line: u32, cause: LineCause, sink: &mut W)
     }
 }
 
-/// The status where this was to be written.
+/// `status` where the write succeeded, else [`Status::WriteFault`].
 pub fn status_of_write(written: Result<(), Failed>, status: Status) -> Status
     ensures { result ≡ (if is_ok written then status else Status.WriteFault) }
 {
@@ -215,4 +216,16 @@ pub fn promises_are_kept()
 pub fn answers_are_one()
     ensures { (form : Form) (input : List ℕ) (one other : Status) (output text : List ℕ) →
         IsRunAnswer form input one output → IsRunAnswer form input other text → (one ≡ other) × (output ≡ text) }
+{}
+
+/// A text has one summary as its answer: one status, and one output with it.
+pub fn summaries_are_one()
+    ensures { (input : List ℕ) (one other : Status) (output text : List ℕ) →
+        IsSummaryAnswer input one output → IsSummaryAnswer input other text → (one ≡ other) × (output ≡ text) }
+{}
+
+/// Each text has an answer, in each form and as a summary.
+pub fn answers_exist()
+    ensures some { (form : Form) (input : List ℕ) → (status : Status) × (output : List ℕ) × IsRunAnswer form input status output }
+    ensures some_summary { (input : List ℕ) → (status : Status) × (output : List ℕ) × IsSummaryAnswer input status output }
 {}

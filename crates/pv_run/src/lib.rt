@@ -9,7 +9,8 @@ mod status;
 mod summary;
 
 pub use answers::{
-    answers_are_one, promises_are_kept, refuse, run_text, status_of_write, write_summary_of_number,
+    answers_are_one, answers_exist, promises_are_kept, refuse, run_text, status_of_write,
+    summaries_are_one, write_summary_of_number,
 };
 pub use form::Form;
 pub use printed::{Printed, run_to_lines};

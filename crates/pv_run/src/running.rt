@@ -51,7 +51,14 @@ impl From<NoMemory> for RunEnd {
 }
 
 /// Runs a schedule, and writes what it prints in this form, up to the event whose messages pass the limit on bytes, if there is one. The answer is
-/// how many bytes all messages would have there. Where it isn't passed and nothing failed, the bay is given the disk of each site to keep, as the run left it.
+/// how many bytes all messages would have there, `None` where the limit isn't passed. Then the bay is given the disk of each site to keep, as the run left
+/// it; else, and where the run was given up, the bay is as it was.
+///
+/// Each event has to be well formed over the schedule's catalog, as those of a text are, and to have the plan of its program. Takes time in proportion
+/// to what is printed and what the events send and touch, and memory for the world and for the lines of one event.
+///
+/// - [`RunEnd::WriteFault`]: the output failed.
+/// - [`RunEnd::NoMemory`]: there was no memory.
 pub fn run<W: Sink, B: Bay>(
     alloc: Global,
     schedule: &Schedule,

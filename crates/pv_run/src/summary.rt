@@ -12,7 +12,7 @@ use pv_report::push_line;
 use pv_script::Line;
 use std::alloc::Global;
 
-/// The summary of so many events that printed these lines. Takes time in proportion to the lines.
+/// The summary of a run that printed these lines, where `events` says how many events it had. Takes time in proportion to the lines.
 #[tactic(auto, unfolding(crate::specs::Summary::summary_text))]
 pub fn sum_up(
     alloc: Global,

@@ -1,13 +1,10 @@
 -- What reading the disks of a bay leaves of it.
-use Rattle.std.proofs.Common.{◌≡◌, ◌≢◌, ◌⊎◌, ⊎_elim, inl, inr, ℕ, ◌≤◌, Bool, false, Err, sym, ap, subst, ◌∙◌, arith}
+use Rattle.std.proofs.Common.{◌≡◌, ◌≢◌, ◌⊎◌, ⊎_elim, inl, inr, ℕ, ◌≤◌, Bool, false, sym, ap, subst, ◌∙◌, arith}
 use Rattle.std.specs.Prelude.{◌==◌, if◌then◌else◌}
 use Rattle.std.proofs.lemmas.Bool.{ne_eqb}
 use Rattle.std.proofs.lemmas.Bool.Decides.{eqb_tells}
 use Rattle.pv_base.specs.Fault.{Rose, risen}
-use Rattle.pv_disk.specs.BayAnswers.{Asks}
 use Rattle.pv_disk.specs.BayModel.{BayModel, Berth}
-use Rattle.pv_disk.specs.declared.bay_error.BayError.{BayError}
-use Rattle.pv_disk.specs.declared.bay_error.BayError.TheVariants.{Failed, NoMemory}
 use Rattle.pv_law_disk.specs.DiskModel.{DiskModel}
 use Rattle.pv_show.specs.Bays.{IsAtRest, OnlyReadsDisks, ReadsDisk, none, one_more, not_handed_out}
 
@@ -38,15 +35,10 @@ module _ {B V : Type 0} (M : BayModel B) (D : DiskModel V) where
         ∙ ap (λ (b : Berth). risen b.faults) read.hands_out.is in
         subst (λ (n : ℕ). risen (M.berth old site).faults ≤ n) (sym counted) (omega arith)
 
-  -- A disk was asked for, and not handed out.
-  pub none-out : (old new : B) (site : ℕ) (e : BayError) → Asks M D old new site (Err e) → OnlyReadsDisks M D old new
-  none-out old new site Failed asks = not_handed_out old new none asks.0
-  none-out old new site NoMemory asks = not_handed_out old new none asks.0
-
   -- Readings one after another.
-  pub OnlyReadsDisks-trans : (old mid new : B) → OnlyReadsDisks M D old mid → OnlyReadsDisks M D mid new → OnlyReadsDisks M D old new
-  OnlyReadsDisks-trans old mid new first none = first
-  OnlyReadsDisks-trans old mid new first (one_more from _ site taken given second read) =
-      one_more from new site taken given (OnlyReadsDisks-trans old mid from first second) read
-  OnlyReadsDisks-trans old mid new first (not_handed_out from _ second asks) =
-      not_handed_out from new (OnlyReadsDisks-trans old mid from first second) asks
+  pub OnlyReadsDisks-trans : (sites : ℕ) (old mid new : B) → OnlyReadsDisks M D sites old mid → OnlyReadsDisks M D sites mid new → OnlyReadsDisks M D sites old new
+  OnlyReadsDisks-trans sites old mid new first none = first
+  OnlyReadsDisks-trans sites old mid new first (one_more from _ site taken given within second read) =
+      one_more from new site taken given within (OnlyReadsDisks-trans sites old mid from first second) read
+  OnlyReadsDisks-trans sites old mid new first (not_handed_out from _ site e within second asks) =
+      not_handed_out from new site e within (OnlyReadsDisks-trans sites old mid from first second) asks

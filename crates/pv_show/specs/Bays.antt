@@ -1,8 +1,9 @@
 -- What reading the disks of a bay does to it.
-use Rattle.std.specs.Prelude.{◌≡◌, ℕ, false, Result, Err}
+use Rattle.std.specs.Prelude.{◌≡◌, ℕ, ◌<◌, false, Result, Err}
 use Rattle.pv_base.specs.Fault.{Rose}
-use Rattle.pv_disk.specs.BayAnswers.{HandsOut, HandsOutNone, TakesBack}
+use Rattle.pv_disk.specs.BayAnswers.{Asks, HandsOut, TakesBack}
 use Rattle.pv_disk.specs.BayModel.{BayModel}
+use Rattle.pv_disk.specs.declared.bay_error.BayError.{BayError}
 use Rattle.pv_law_disk.specs.Calls.{OnlyReads}
 use Rattle.pv_law_disk.specs.DiskModel.{DiskModel}
 use Rattle.pv_show.specs.declared.show_error.ShowError.{ShowError}
@@ -26,8 +27,8 @@ module _ {B V : Type 0} (M : BayModel B) (D : DiskModel V) where
     pub reads : OnlyReads D.goes taken given
     pub takes_back : TakesBack M D out new site given
 
-  -- Some disks were so read, one after another. Others were asked for and not handed out.
-  pub data OnlyReadsDisks (old : B) : B → Type 0 where
-    none : OnlyReadsDisks old old
-    one_more : (mid new : B) (site : ℕ) (taken given : V) → OnlyReadsDisks old mid → ReadsDisk mid new site taken given → OnlyReadsDisks old new
-    not_handed_out : (mid new : B) → OnlyReadsDisks old mid → HandsOutNone M mid new → OnlyReadsDisks old new
+  -- Disks of sites below this number were so read, one after another. Others of such sites were asked for and not handed out.
+  pub data OnlyReadsDisks (sites : ℕ) (old : B) : B → Type 0 where
+    none : OnlyReadsDisks sites old old
+    one_more : (mid new : B) (site : ℕ) (taken given : V) → site < sites → OnlyReadsDisks sites old mid → ReadsDisk mid new site taken given → OnlyReadsDisks sites old new
+    not_handed_out : (mid new : B) (site : ℕ) (e : BayError) → site < sites → OnlyReadsDisks sites old mid → Asks M D mid new site (Err e) → OnlyReadsDisks sites old new

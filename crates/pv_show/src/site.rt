@@ -1,5 +1,5 @@
 // What the disk of one site holds.
-ghost use Rattle.std.specs.Prelude.{◌≡◌, ◌++◌, List, ℕ, OnOk};
+ghost use Rattle.std.specs.Prelude.{◌≡◌, ◌<◌, ◌++◌, List, ℕ, OnOk};
 ghost use Rattle.pv_format.specs.Contents.{greatest_epoch};
 ghost use Rattle.pv_replay.specs.Values.{contents_of, records_of};
 ghost use Rattle.pv_show.specs.Bays.{IsAtRest, OnlyReadsDisks, RisesAtBayFault};
@@ -29,7 +29,7 @@ pub(crate) fn show_site<B: Bay>(
     ensures text { OnOk result ((part : List ℕ) × (text.new.items ≡ text.old.items ++ part)
         × ShowsSite B.model B.D.model catalog.now bay.old bay.new site.0 part) }
     ensures faults { RisesAtBayFault B.model bay.old bay.new result }
-    ensures reads { OnlyReadsDisks B.model B.D.model bay.old bay.new }
+    ensures reads { (sites : ℕ) → site.0 < sites → OnlyReadsDisks B.model B.D.model sites bay.old bay.new }
     ensures rest { IsAtRest B.model bay.new }
 {
     let mut disk = match bay.disk(site) {

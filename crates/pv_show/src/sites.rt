@@ -1,5 +1,6 @@
 // Site after site, what the disks of a bay hold.
-ghost use Rattle.std.specs.Prelude.{◌≡◌, IfOk};
+ghost use Rattle.std.specs.Prelude.{◌≡◌, ◌≤◌, IfOk};
+ghost use Rattle.pv_base.specs.declared.limits.TheConstants.{MAX_SITES};
 ghost use Rattle.pv_show.specs.Bays.{IsAtRest, OnlyReadsDisks, RisesAtBayFault};
 ghost use Rattle.pv_show.specs.Showing.{ShowsAll};
 
@@ -21,8 +22,9 @@ pub fn show<B: Bay>(alloc: Global, catalog: &Catalog, bay: &mut B) -> Result<Vec
     ensures text { IfOk result (λ text. ShowsAll B.model B.D.model catalog.now bay.old bay.new text.items) }
     ensures faults { RisesAtBayFault B.model bay.old bay.new result }
 
-    // Also where nothing is shown, no disk is changed, and none is left out.
-    ensures reads { OnlyReadsDisks B.model B.D.model bay.old bay.new }
+    // Also where nothing is shown, no disk is asked for but those of the catalog's sites, none is changed, and none is left out.
+    ensures reads { OnlyReadsDisks B.model B.D.model catalog.now.sites bay.old bay.new }
+    ensures few { catalog.now.sites ≤ MAX_SITES }
     ensures rest { IsAtRest B.model bay.new }
 {
     let mut text = Vec::new(alloc);

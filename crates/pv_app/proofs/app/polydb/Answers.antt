@@ -143,6 +143,10 @@ pub returns-in-Some-Run-clause-only_reads : goal.returns-in-Some-Run-clause-only
 returns-in-Some-Run-clause-only_reads g c = λ is.
     absurd (run-found (map string_bytes c.args.words.now) c.command_of.result c.in-Some-Run.form c.command_of.ensures.some (c.in-Some-Run.is ∙ ap Some c.in-Some-Run.field-0-is) is)
 
+pub returns-in-Some-Run-clause-only_declared : goal.returns-in-Some-Run-clause-only_declared
+returns-in-Some-Run-clause-only_declared g c = λ is.
+    absurd (run-found (map string_bytes c.args.words.now) c.command_of.result c.in-Some-Run.form c.command_of.ensures.some (c.in-Some-Run.is ∙ ap Some c.in-Some-Run.field-0-is) is)
+
 pub returns-in-Some-Run-clause-kept : goal.returns-in-Some-Run-clause-kept
 returns-in-Some-Run-clause-kept g c = λ done form is input left schedule says. c.read_and_run.ensures.kept done input left schedule says
 
@@ -209,6 +213,9 @@ returns-in-Some-Show-clause-show_malformed g c = λ malformed is. c.read_and_sho
 pub returns-in-Some-Show-clause-only_reads : goal.returns-in-Some-Show-clause-only_reads
 returns-in-Some-Show-clause-only_reads g c = λ is. c.read_and_show.ensures.only_reads
 
+pub returns-in-Some-Show-clause-only_declared : goal.returns-in-Some-Show-clause-only_declared
+returns-in-Some-Show-clause-only_declared g c = λ is. c.read_and_show.ensures.only_declared
+
 pub returns-in-Some-Show-clause-bay_fault : goal.returns-in-Some-Show-clause-bay_fault
 returns-in-Some-Show-clause-bay_fault g c = λ fault.
     let words = map string_bytes c.args.words.now in
@@ -256,6 +263,9 @@ returns-in-None-clause-show_too_long g c = λ is. absurd (c.command_of.ensures.n
 
 pub returns-in-None-clause-only_reads : goal.returns-in-None-clause-only_reads
 returns-in-None-clause-only_reads g c = λ is. absurd (c.command_of.ensures.none c.in-None.is Show is)
+
+pub returns-in-None-clause-only_declared : goal.returns-in-None-clause-only_declared
+returns-in-None-clause-only_declared g c = λ is. absurd (c.command_of.ensures.none c.in-None.is Show is)
 
 pub returns-in-None-clause-show_done : goal.returns-in-None-clause-show_done
 returns-in-None-clause-show_done g c = λ done is. absurd (c.command_of.ensures.none c.in-None.is Show is)

@@ -1,5 +1,5 @@
 -- What was read is what the source had left. Where it wasn't read to its end, nothing is shown.
-use Rattle.std.proofs.Common.{rules, ◌≡◌, ◌<◌, ◌≤◌, ℕ, List, length, inl, inr, refl, ap, sym, ◌∙◌, subst, arith}
+use Rattle.std.proofs.Common.{rules, ◌<◌, ℕ, List, length, inl, inr, refl, ap, sym, ◌∙◌, subst, arith}
 use Rattle.std.proofs.KnownBytes.{Appends-nil}
 use Rattle.pv_base.specs.declared.limits.TheConstants.{MAX_INPUT}
 use Rattle.pv_model.specs.Schedule.{IsLiveScript, IsMalformedLiveScript}
@@ -33,6 +33,11 @@ returns-in-Ok-clause-malformed g c = λ is input left.
     let at = c.show_text.ensures.malformed is in
     (at.0, at.1, subst (λ (text : List ℕ). IsMalformedLiveScript text at.0 at.1) (c.deref.ensures.value ∙ whole.0) at.2)
 
+pub returns-in-Ok-clause-only_declared : goal.returns-in-Ok-clause-only_declared
+returns-in-Ok-clause-only_declared g c = λ input left script says.
+    let whole = c.in-Ok.ensures.whole input left in
+    c.show_text.ensures.only_declared script (subst (λ (text : List ℕ). IsLiveScript text script) (sym (c.deref.ensures.value ∙ whole.0)) says)
+
 pub returns-in-Err-Failed-clause-shown : goal.returns-in-Err-Failed-clause-shown
 returns-in-Err-Failed-clause-shown g c = λ input left short script says. (refl, search rules)
 
@@ -46,6 +51,9 @@ returns-in-Err-Failed-clause-long g c = λ input left long.
 
 pub returns-in-Err-Failed-clause-only_reads : goal.returns-in-Err-Failed-clause-only_reads
 returns-in-Err-Failed-clause-only_reads g c = OnlyReadsDisks.none
+
+pub returns-in-Err-Failed-clause-only_declared : goal.returns-in-Err-Failed-clause-only_declared
+returns-in-Err-Failed-clause-only_declared g c = λ input left script says. OnlyReadsDisks.none
 
 pub returns-in-Err-TooLong-clause-shown : goal.returns-in-Err-TooLong-clause-shown
 returns-in-Err-TooLong-clause-shown g c = λ input left short script says.
@@ -62,6 +70,9 @@ returns-in-Err-TooLong-clause-long g c = λ input left long.
 pub returns-in-Err-TooLong-clause-only_reads : goal.returns-in-Err-TooLong-clause-only_reads
 returns-in-Err-TooLong-clause-only_reads g c = OnlyReadsDisks.none
 
+pub returns-in-Err-TooLong-clause-only_declared : goal.returns-in-Err-TooLong-clause-only_declared
+returns-in-Err-TooLong-clause-only_declared g c = λ input left script says. OnlyReadsDisks.none
+
 pub returns-in-Err-NoMemory-clause-refused : goal.returns-in-Err-NoMemory-clause-refused
 returns-in-Err-NoMemory-clause-refused g c = λ input left short number cause is.
     ((inl tt, (0, Appends-nil (g.W.Sink.held c.args.sink.now)), λ fault. absurd (let wrong : ⊥ = cc in wrong)), refl, λ malformed. absurd (let wrong : ⊥ = cc in wrong))
@@ -72,3 +83,6 @@ returns-in-Err-NoMemory-clause-long g c = λ input left long.
 
 pub returns-in-Err-NoMemory-clause-only_reads : goal.returns-in-Err-NoMemory-clause-only_reads
 returns-in-Err-NoMemory-clause-only_reads g c = OnlyReadsDisks.none
+
+pub returns-in-Err-NoMemory-clause-only_declared : goal.returns-in-Err-NoMemory-clause-only_declared
+returns-in-Err-NoMemory-clause-only_declared g c = λ input left script says. OnlyReadsDisks.none

@@ -1,8 +1,9 @@
 -- The text is one live script, or is malformed at one line for one cause.
-use Rattle.std.proofs.Common.{◌≡◌, ◌≢◌, List, ℕ, [], IfSome, inl, refl, ◌∙◌, ap, sym, subst}
+use Rattle.std.proofs.Common.{◌≡◌, ◌≢◌, List, ℕ, [], IfSome, inl, refl, ◌∙◌, subst}
 use Rattle.std.proofs.KnownBytes.{Appends-nil}
 use Rattle.std.specs.Io.KnownBytes.{Appends}
 use Rattle.pv_io.specs.Stream.{AppendsPrefix}
+use Rattle.pv_base.specs.declared.limits.TheConstants.{MAX_SITES}
 use Rattle.pv_law_schedules.proofs.OneScheduleLemmas.{no_live_fault, one_fault, one_live_script}
 use Rattle.pv_model.specs.LineForms.{live}
 use Rattle.pv_model.specs.LiveScript.{LiveScript}
@@ -10,10 +11,9 @@ use Rattle.pv_model.specs.Schedule.{IsMalformedLiveScript}
 use Rattle.pv_script.specs.LiveView.{live_script_of}
 use Rattle.pv_script.specs.ScriptErrors.{IsMalformedLiveAt, line_cause_of, refused_line}
 use Rattle.pv_script.specs.declared.schedule.ScriptError.{ScriptError}
-use Rattle.pv_app.proofs.ShowLemmas.{refused-not-done, refused-or-not, touches-bay}
+use Rattle.pv_app.proofs.ShowLemmas.{OnlyReadsDisks-wider, refused-not-done, refused-or-not, touches-bay}
 use Rattle.pv_app.specs.ShowEnds.{EndsShow}
 use Rattle.pv_run.specs.InputAnswers.{fault_text}
-use Rattle.pv_run.specs.declared.status.Status.{Status}
 use Rattle.pv_show.specs.Bays.{OnlyReadsDisks}
 use Rattle.pv_app.proofs.showing.show_text.Goals as goal
 
@@ -31,6 +31,15 @@ returns-in-Ok-clause-done g c = λ done. (live_script_of c.in-Ok.script, c.in-Ok
 pub returns-in-Ok-clause-malformed : goal.returns-in-Ok-clause-malformed
 returns-in-Ok-clause-malformed g c = λ is.
     absurd (subst (EndsShow g.B.Bay.model g.B.D.Disk.model g.W.Sink c.in-Ok.script.catalog c.args.bay.now c.show_sites.new.bay c.args.sink.now c.show_sites.new.sink) is c.show_sites.ensures.shown)
+
+pub returns-in-Ok-clause-only_reads : goal.returns-in-Ok-clause-only_reads
+returns-in-Ok-clause-only_reads g c =
+    OnlyReadsDisks-wider g.B.Bay.model g.B.D.Disk.model c.in-Ok.script.catalog.sites MAX_SITES c.args.bay.now c.show_sites.new.bay c.show_sites.ensures.few c.show_sites.ensures.only_reads
+
+pub returns-in-Ok-clause-only_declared : goal.returns-in-Ok-clause-only_declared
+returns-in-Ok-clause-only_declared g c = λ script says.
+    subst (λ (s : LiveScript). OnlyReadsDisks g.B.Bay.model g.B.D.Disk.model s.catalog.sites c.args.bay.now c.show_sites.new.bay)
+    (one_live_script c.args.input.now (live_script_of c.in-Ok.script) script c.in-Ok.ensures.answer.given says) c.show_sites.ensures.only_reads
 
 pub returns-in-Ok-clause-alone : goal.returns-in-Ok-clause-alone
 returns-in-Ok-clause-alone g c = λ apart.
@@ -90,9 +99,15 @@ returns-in-Err-Malformed-clause-malformed g c = λ is. (
 pub returns-in-Err-Malformed-clause-only_reads : goal.returns-in-Err-Malformed-clause-only_reads
 returns-in-Err-Malformed-clause-only_reads g c = OnlyReadsDisks.none
 
+pub returns-in-Err-Malformed-clause-only_declared : goal.returns-in-Err-Malformed-clause-only_declared
+returns-in-Err-Malformed-clause-only_declared g c = λ script says. OnlyReadsDisks.none
+
 pub returns-in-Err-NoMemory-clause-refused : goal.returns-in-Err-NoMemory-clause-refused
 returns-in-Err-NoMemory-clause-refused g c = λ number cause is.
     ((inl tt, (0, Appends-nil (g.W.Sink.held c.args.sink.now)), λ fault. absurd (let wrong : ⊥ = cc in wrong)), refl, λ malformed. absurd (let wrong : ⊥ = cc in wrong))
 
 pub returns-in-Err-NoMemory-clause-only_reads : goal.returns-in-Err-NoMemory-clause-only_reads
 returns-in-Err-NoMemory-clause-only_reads g c = OnlyReadsDisks.none
+
+pub returns-in-Err-NoMemory-clause-only_declared : goal.returns-in-Err-NoMemory-clause-only_declared
+returns-in-Err-NoMemory-clause-only_declared g c = λ script says. OnlyReadsDisks.none

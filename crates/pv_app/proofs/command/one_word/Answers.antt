@@ -7,7 +7,7 @@ use Rattle.pv_app.specs.Commands.{IsCommand, word_of}
 use Rattle.pv_app.specs.declared.command.Command.{Command}
 use Rattle.pv_app.specs.declared.command.Command.TheVariants.{Run, Make, Big, Show}
 use Rattle.pv_run.specs.declared.form.Form.TheVariants.{Text, Json}
-use Rattle.pv_app.proofs.command.run_by.Goals as goal
+use Rattle.pv_app.proofs.command.one_word.Goals as goal
 
 pub returns-then-eq-clause-some : goal.returns-then-eq-clause-some
 unfolding word_of
