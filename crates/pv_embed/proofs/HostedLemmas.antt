@@ -1,13 +1,10 @@
--- What a site with a host is after a step, a write of its host, and a reading.
-use Rattle.std.proofs.Common.{◌≡◌, inl, inr, ℕ, ◌+◌, ◌<◌, ◌≤◌, Bool, true, false, not, List, [], ◌∷◌, ◌++◌, Option, Some, None, Ok, MatchBool, map, refl, sym, ◌∙◌, ap, subst, append_assoc, eq-eqb, option_map, slice_get, length, ◌^◌, arith, All}
+-- What a site with a host is after a step and after a write of its host.
+use Rattle.std.proofs.Common.{◌≡◌, inl, inr, ℕ, ◌+◌, ◌<◌, ◌≤◌, Bool, true, false, not, List, [], ◌∷◌, ◌++◌, Option, Some, None, Ok, MatchBool, map, refl, sym, ◌∙◌, ap, subst, append_assoc, length, ◌^◌, arith, All}
 use Rattle.std.specs.Prelude.{flat_map}
-use Rattle.std.proofs.lemmas.Option.{slice_get-map}
-use Rattle.pv_base.specs.Catalog.{Item}
 use Rattle.pv_base.specs.declared.limits.TheConstants.{MAX_LENGTH}
 use Rattle.pv_format.specs.Record.{Record}
 use Rattle.pv_law_disk.specs.Calls.{LogCall, Makes, read_all, reserve, append}
 use Rattle.pv_law_disk.specs.Size.{Contents, size_of}
-use Rattle.pv_protocol.specs.Lock.{is_of_site}
 use Rattle.pv_protocol.specs.State as model
 use Rattle.pv_protocol.specs.State.{Running}
 use Rattle.pv_protocol.specs.Step.{step_on}
@@ -144,25 +141,3 @@ module _ (site : SiteState HostState) (log : HostState) (same : IsSameBesideRoom
         limit = limit ∙ ready.limit;
         holds = holds_still site.log log site.records site.running contents_written down ready.holds;
       }
-
--- The item at a place, by its site.
-declared_at : (item : Option Item) (site : ℕ) → option_map (λ (declared : Item). declared.site) item ≡ Some site → (declared : Item) × (item ≡ Some declared) × (declared.site ≡ site)
-declared_at None site is = absurd (let wrong : ⊥ = cc in wrong)
-declared_at (Some declared) site is = let same : declared.site ≡ site = cc in (declared, refl, same)
-
-pub item_at : (items : List Item) (n site : ℕ) → slice_get (map (λ (declared : Item). declared.site) items) n ≡ Some site
-    → (declared : Item) × (slice_get items n ≡ Some declared) × (declared.site ≡ site)
-item_at items n site is = declared_at (slice_get items n) site (sym (slice_get-map (λ (declared : Item). declared.site) items n) ∙ is)
-
-pub at_home : (items : List Item) (n site : ℕ) → slice_get (map (λ (declared : Item). declared.site) items) n ≡ Some site → is_of_site site (slice_get items n) ≡ true
-at_home items n site is =
-    let found = item_at items n site is in
-    ap (is_of_site site) found.1 ∙ eq-eqb found.0.site site found.2
-
-pub not-equal : (b : Bool) → true ≡ not b → b ≡ false
-not-equal true h = h
-not-equal false h = refl
-
-pub not-unequal : (b : Bool) → false ≡ not b → b ≡ true
-not-unequal true h = refl
-not-unequal false h = h

@@ -1,20 +1,31 @@
 -- What of a site's records stays in its host's file.
-use Rattle.std.proofs.Common.{◌≡◌, inl, inr, ℕ, Bool, true, false, List, length, [], ◌∷◌, ◌++◌, Option, Some, None, Err, refl, sym, ◌∙◌, ap, subst}
+use Rattle.std.proofs.Common.{◌≡◌, inl, inr, ℕ, ◌≤◌, Bool, true, false, List, length, [], ◌∷◌, ◌++◌, Option, Some, None, Result, Ok, Err, map, refl, sym, ◌∙◌, ap, subst, arith}
+use Rattle.std.specs.List.{sum_by}
+use Rattle.std.proofs.lemmas.List.Elements.{All-nil, All-cons}
+use Rattle.std.proofs.lemmas.List.Sums.{sum_by-cons}
+use Rattle.pv_base.specs.Answer.{HasOneAnswer}
 use Rattle.pv_format.specs.Contents.{SpellRecords}
 use Rattle.pv_format.specs.Record.{Record}
 use Rattle.pv_law_disk.specs.Calls.{LogCall, Makes, append, reserve}
-use Rattle.pv_law_disk.specs.Size.{Contents}
+use Rattle.pv_law_disk.specs.Size.{Contents, size_of}
+use Rattle.pv_law_journal.specs.Format.{IsJournal, IsNotOurs}
+use Rattle.pv_protocol.specs.Records.{journal_bytes, record_bytes}
 use Rattle.pv_protocol.specs.State as model
+use Rattle.pv_protocol.specs.Step.{step_on}
 use Rattle.pv_site.specs.OnLog.{Logs}
-use Rattle.pv_site.specs.declared.error.StepError.TheVariants.{Fault}
-use Rattle.pv_site.specs.SiteState.{SiteState}
-use Rattle.pv_site.specs.Steps.{IsReady, Steps}
-use Rattle.pv_host.specs.HostFile as host
-use Rattle.pv_host.specs.HostFile.{IsFile}
+use Rattle.pv_site.specs.declared.error.StepError.{StepError}
+use Rattle.pv_site.specs.declared.error.StepError.TheVariants.{Fault, Down, NoMemory}
+use Rattle.pv_site.specs.declared.input.Step.{Step}
+use Rattle.pv_site.specs.SiteState.{SiteState, here_with}
+use Rattle.pv_site.specs.Steps.{HoldsWhatRuns, IsReady, Steps}
+use Rattle.pv_host.specs.HostFile.{HoldsStored, IsFile, IsStored}
 use Rattle.pv_host.specs.HostLaws.{host_model}
-use Rattle.pv_host.specs.HostLog.{HostGoes, HostState, contents_of}
-use Rattle.pv_embed.specs.Hosted.{HostedState}
-use Rattle.pv_embed.specs.Kept.{HoldsStored}
+use Rattle.pv_host.specs.HostLog.{HostGoes, HostState, IsSameBesideRoom, contents_of, next_write, with_written, write_after, written_to}
+use Rattle.pv_embed.specs.Held.{Held, Out}
+use Rattle.pv_embed.specs.Hosted.{HasStepped, HostedState, TakesNext, log_length, stored_length}
+use Rattle.pv_embed.specs.Kept.{HoldsStoredRecords, RestOn}
+use Rattle.pv_embed.specs.Outputs.{TakesFrom, outs}
+use Rattle.pv_embed.specs.declared.made.Output.{Output}
 
 -- The first of the contents spell the first of the records.
 pub first_spelled : (records : List Record) (contents later : Contents) → SpellRecords records (contents ++ later)
@@ -26,8 +37,11 @@ first_spelled (record_ ∷ records) (content ∷ contents) later spelled =
     (record_ ∷ rest.0, rest.1, (spelled.0, rest.2), ap (λ (l : List Record). record_ ∷ l) rest.3)
 
 -- A file that holds the first of the log's contents holds the first of the site's records.
-pub records_held : (hosted : HostedState) (file : List ℕ) → SpellRecords hosted.site.records (contents_of hosted.site.log) → host.HoldsStored hosted.site.log file → HoldsStored hosted file
-records_held hosted file spelled held =
+pub records_held : (hosted : HostedState) (running : model.Running) (file : List ℕ) → IsReady host_model hosted.site → hosted.site.running ≡ Some running
+    → HoldsStored hosted.site.log file → IsStored hosted.site.log file → HoldsStoredRecords hosted file
+records_held hosted running file ready up held stored =
+    let holds = subst (λ r. HoldsWhatRuns host_model hosted.site.log hosted.site.records r) up ready.holds in
+    let spelled : SpellRecords hosted.site.records (contents_of hosted.site.log) = holds.held (contents_of hosted.site.log) refl in
     let parts = first_spelled hosted.site.records held.contents held.later (subst (SpellRecords hosted.site.records) held.first spelled) in
     record {
       contents = held.contents;
@@ -37,7 +51,75 @@ records_held hosted file spelled held =
       later = parts.1;
       first = parts.3;
       enough = held.enough;
+      stored = stored;
     }
+
+-- Where there is nothing to write the log is the same once the host has told that it is written.
+still_same : (log new : HostState) (pending : Contents) (behind_gate : Bool) → write_after log.stored pending behind_gate ≡ None
+    → IsSameBesideRoom (written_to log pending behind_gate) new → IsSameBesideRoom log new
+still_same log new [] behind_gate none same = same
+still_same log new (content ∷ later) false none same = cc
+still_same log new (content ∷ later) true none same = cc
+
+pub nothing_written : (log new : HostState) → next_write log ≡ None → IsSameBesideRoom (with_written log) new → IsSameBesideRoom log new
+nothing_written log new none same = still_same log new log.pending log.behind_gate none same
+
+-- Of two lists that begin the same records, one whose journal is no longer than the other's begins the other.
+begins : (front records later others : List Record) → front ++ later ≡ records ++ others → sum_by record_bytes front ≤ sum_by record_bytes records
+    → (more : List Record) × (records ≡ front ++ more)
+begins [] records later others same short = (records, refl)
+begins (one ∷ front) [] later others same short = absurd (omega (arith, short, sum_by-cons record_bytes one front))
+begins (one ∷ front) (other ∷ records) later others same short =
+    let first : other ≡ one = cc in
+    let rest : front ++ later ≡ records ++ others = cc in
+    let bytes : record_bytes other ≡ record_bytes one = ap record_bytes first in
+    let found = begins front records later others rest (omega (arith, short, bytes, sum_by-cons record_bytes one front, sum_by-cons record_bytes other records)) in
+    (found.0, ap (λ (l : List Record). other ∷ l) found.1 ∙ ap (λ (r : Record). r ∷ (front ++ found.0)) first)
+
+begins_with : (front records later others : List Record) → front ++ later ≡ records ++ others → journal_bytes front ≤ journal_bytes records
+    → (more : List Record) × (records ≡ front ++ more)
+unfolding journal_bytes
+begins_with front records later others same short = begins front records later others same (omega (arith, short))
+
+module _ (tells : (records : List Record) (contents : Contents) → SpellRecords records contents → size_of contents ≡ journal_bytes records) where
+  -- A file that is a journal as long as one of the first of the records begins with these.
+  pub records_whole : (hosted : HostedState) (file : List ℕ) (contents : Contents) (front later : List Record)
+      → HasOneAnswer (λ contents. IsJournal contents file) (IsNotOurs file) → HoldsStoredRecords hosted file → IsJournal contents file
+      → hosted.site.records ≡ front ++ later → journal_bytes front ≤ size_of contents → (others : List Record) × SpellRecords (front ++ others) contents
+  records_whole hosted file contents front later one held journal is short =
+      let same : held.contents ≡ contents = one.one_value held.contents contents held.journal journal in
+      let spelled : SpellRecords held.records contents = subst (SpellRecords held.records) same held.spelled in
+      let within : journal_bytes front ≤ journal_bytes held.records = omega (arith, short, tells held.records contents spelled) in
+      let found = begins_with front held.records later held.later (sym is ∙ held.first) within in
+      (found.0, subst (λ (records : List Record). SpellRecords records contents) found.1 spelled)
+
+-- What is let out is in the file as far as the log was in it that it rests on.
+pub out_stored : (old new : HostedState) (first : Held) (later : List Held) (output : Output) → old.held ≡ first ∷ later → TakesNext old new (Some output)
+    → first.length ≤ stored_length old
+out_stored old new first later output is takes = (subst (λ (held : List Held). TakesFrom (stored_length old) held new.held (Some output)) is takes.0).0
+
+pub out_in_file : (old : HostedState) (length : ℕ) (file : List ℕ) (contents : Contents) → HasOneAnswer (λ contents. IsJournal contents file) (IsNotOurs file)
+    → HoldsStored old.site.log file → IsJournal contents file → length ≤ stored_length old → length ≤ size_of contents
+out_in_file old length file contents one held journal within =
+    let same : size_of held.contents ≡ size_of contents = ap size_of (one.one_value held.contents contents held.journal journal) in
+    omega (arith, within, held.enough, same)
+
+-- What is held with the length of a journal of these records rests on them.
+all_rest : (records : List Record) (length : ℕ) (made : List Out) → length ≡ journal_bytes records → RestOn records (map (λ out. record { length = length; out = out }) made)
+all_rest records length [] is = All-nil (λ (one : Held). one.length ≡ journal_bytes records)
+all_rest records length (out ∷ made) is =
+    All-cons (λ (one : Held). one.length ≡ journal_bytes records) (record { length = length; out = out }) (map (λ out. record { length = length; out = out }) made) is
+    (all_rest records length made is)
+
+-- What a step makes rests on all records that the site has after it.
+pub step_rests : (old new : HostedState) (input : model.Input) → IsReady host_model new.site → HasStepped old new input
+    → (made : List Held) × (new.held ≡ old.held ++ made) × RestOn new.site.records made
+step_rests old new input ready stepped =
+    let step = step_on (here_with old.site stepped.running) input in
+    let running : new.site.running ≡ Some step.running = ap (λ (site : SiteState HostState). site.running) stepped.steps.site in
+    let holds = subst (λ r. HoldsWhatRuns host_model new.site.log new.site.records r) running ready.holds in
+    let made = outs new.site.me step.sends step.notes in
+    (map (λ out. record { length = log_length new; out = out }) made, stepped.held, all_rest new.site.records (log_length new) made holds.size)
 
 -- Calls of the log, one after another, keep its file one that the host may hold.
 pub file_after : (called : (old new : HostState) (call : LogCall) (ok : Bool) (file : List ℕ) → HostGoes old call ok new → IsFile old file → IsFile new file)
@@ -55,10 +137,10 @@ module _ (called : (old new : HostState) (call : LogCall) (ok : Bool) (file : Li
       file_after called (reserve (length logs.1.0) ∷ append logs.1.0 ∷ []) old new true file logs.1.3 is_file
 
 module _ (appends : (old new : HostState) (content : List ℕ) (ok : Bool) → old.is_down ≡ false → HostGoes old (append content) ok new → (ok ≡ true) × (new.is_down ≡ false)) where
-  -- A site over the log of a host that is up makes a step, or finds no memory.
-  pub never_fails : (old new : SiteState HostState) (running : model.Running) (input : model.Input) → IsReady host_model old → old.running ≡ Some running
-      → Steps host_model old new (Some running) input (Err Fault) → ⊥
-  never_fails old new running input ready up breaks =
+  -- No step of a site over the log of a host fails.
+  pub never_fails : (old new : SiteState HostState) (running : Option model.Running) (input : model.Input) → Steps host_model old new running input (Err Fault) → ⊥
+  never_fails old new None input refuses = let wrong = refuses.0 in cc
+  never_fails old new (Some running) input breaks =
       let was_up : old.log.is_down ≡ false = breaks.log.down.was_up in
       let down : new.log.is_down ≡ true = breaks.log.down.is_down in
       elim breaks.log.calls [
@@ -70,3 +152,11 @@ module _ (appends : (old new : HostState) (content : List ℕ) (ok : Bool) → o
             let wrong : new.log.is_down ≡ false = done.1 in
             cc
       ]
+
+  -- One that is up stays up.
+  pub still_up : (old new : SiteState HostState) (running : model.Running) (input : model.Input) (result : Result Step StepError) → old.running ≡ Some running
+      → Steps host_model old new (Some running) input result → (later : model.Running) × (new.running ≡ Some later)
+  still_up old new running input (Ok answer) up steps = ((step_on (here_with old running) input).running, ap (λ (site : SiteState HostState). site.running) steps.site)
+  still_up old new running input (Err Fault) up steps = absurd (never_fails old new (Some running) input steps)
+  still_up old new running input (Err Down) up steps = absurd steps
+  still_up old new running input (Err NoMemory) up steps = (running, ap (λ (site : SiteState HostState). site.running) steps.site ∙ up)

@@ -1,5 +1,7 @@
 mod HostedLemmas
 mod KeptLemmas
+mod LetOutLemmas
 mod MadeLemmas
 mod OpeningLemmas
+mod ReadLemmas
 mod RequestLemmas

@@ -1,15 +1,17 @@
 -- What is held of the steps, as it grows and is let out.
 use Rattle.std.proofs.Common.{◌≡◌, ◌≢◌, ℕ, ◌<◌, ◌≤◌, List, [], ◌∷◌, ◌++◌, Option, Some, None, All, map, length, get_or, set, drop, refl, sym, ◌∙◌, ap, subst, append-nil, length-append, arith}
-use Rattle.std.specs.Prelude.{flat_map, slice_get}
+use Rattle.std.specs.Prelude.{IfSome, flat_map, slice_get}
 use Rattle.std.specs.Option.{option_map}
 use Rattle.std.specs.Vec.Iter.{into_iter_items}
 use Rattle.std.proofs.lemmas.Grind.{flat_map-append}
 use Rattle.std.proofs.lemmas.List.{length-map}
 use Rattle.std.proofs.lemmas.List.Elements.{All-nil, All-head, All-tail, All-append, All-cons}
 use Rattle.pv_protocol.specs.State as model
+use Rattle.pv_site.specs.Inputs.{IsSpelledFrom}
 use Rattle.pv_site.specs.Values.{outgoing_of, note_of}
+use Rattle.pv_site.specs.declared.input.Outgoing.{Outgoing}
 use Rattle.pv_embed.specs.Held.{Held, Out, message, note}
-use Rattle.pv_embed.specs.Outputs.{TakesFirst, TakesFrom, held_of, out_of, outputs_of}
+use Rattle.pv_embed.specs.Outputs.{AreSpelled, IsSpelled, TakesFirst, TakesFrom, held_of, out_of, outputs_of, outs}
 use Rattle.pv_embed.specs.declared.made.Made.{Made}
 use Rattle.pv_embed.specs.declared.made.Output.{Output}
 
@@ -113,3 +115,35 @@ pub held_first : (me : ℕ) (items : List Made) (first : Made) → first ≡ get
 held_first me [] first is there some = absurd (omega (arith, there))
 held_first me (made ∷ later) first is there some =
     ap (λ (m : Made). Some m.length) is ∙ first_of made.length (outputs_of me made) (flat_map (held_of me) later) (All-head (λ each. outputs_of me each ≢ []) made later some)
+
+-- Where each message that is held has a spelling, so has each that is left, and the one that is let out.
+pub left_spelled : (stored : ℕ) (old new : List Held) (result : Option Output) → TakesFrom stored old new result → AreSpelled old → AreSpelled new
+left_spelled stored [] new result takes spelled = subst AreSpelled (sym takes.1) spelled
+left_spelled stored (first ∷ later) new None takes spelled = subst AreSpelled (sym takes.1) spelled
+left_spelled stored (first ∷ later) new (Some output) takes spelled = subst AreSpelled (sym takes.2) (All-tail (λ (one : Held). IsSpelled one.out) first later spelled)
+
+pub out_spelled : (stored : ℕ) (old new : List Held) (result : Option Output) → TakesFrom stored old new result → AreSpelled old
+    → IfSome result (λ output. IsSpelled (out_of output))
+out_spelled stored [] new None takes spelled = tt
+out_spelled stored [] new (Some output) takes spelled = let none : Some output ≡ None = takes.0 in cc
+out_spelled stored (first ∷ later) new None takes spelled = tt
+out_spelled stored (first ∷ later) new (Some output) takes spelled =
+    subst IsSpelled (sym takes.1) (All-head (λ (one : Held). IsSpelled one.out) first later spelled)
+
+pub ruleset takes_spelled = (left_spelled, out_spelled)
+
+-- What a step sends and reports is held with a spelling for each message, where each that it sends has one.
+notes_spelled : (length : ℕ) (notes : List model.Note) → AreSpelled (map (λ out. record { length = length; out = out }) (map note notes))
+notes_spelled length [] = All-nil (λ (one : Held). IsSpelled one.out)
+notes_spelled length (first ∷ notes) =
+    All-cons (λ (one : Held). IsSpelled one.out) (record { length = length; out = note first }) (map (λ out. record { length = length; out = out }) (map note notes)) tt
+    (notes_spelled length notes)
+
+pub made_spelled : (me length : ℕ) (sends : List Outgoing) (notes : List model.Note) → All (IsSpelledFrom me) sends
+    → AreSpelled (map (λ out. record { length = length; out = out }) (outs me (map outgoing_of sends) notes))
+made_spelled me length [] notes spelled = notes_spelled length notes
+made_spelled me length (sent ∷ sends) notes spelled =
+    All-cons (λ (one : Held). IsSpelled one.out)
+    (record { length = length; out = message (record { from = me; to = (outgoing_of sent).to; message = (outgoing_of sent).message }) })
+    (map (λ out. record { length = length; out = out }) (outs me (map outgoing_of sends) notes)) (All-head (IsSpelledFrom me) sent sends spelled)
+    (made_spelled me length sends notes (All-tail (IsSpelledFrom me) sent sends spelled))

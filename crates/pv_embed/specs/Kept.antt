@@ -1,14 +1,16 @@
 -- What of a site's records is in its host's file, whatever a crash leaves of it.
-use Rattle.std.specs.Prelude.{◌≡◌, ℕ, ◌≤◌, List, ◌++◌}
+use Rattle.std.specs.Prelude.{◌≡◌, ℕ, ◌≤◌, List, ◌++◌, All}
 use Rattle.pv_format.specs.Contents.{SpellRecords}
 use Rattle.pv_format.specs.Record.{Record}
 use Rattle.pv_law_disk.specs.Size.{Contents, size_of}
 use Rattle.pv_law_journal.specs.Format.{IsJournal}
+use Rattle.pv_protocol.specs.Records.{journal_bytes}
+use Rattle.pv_host.specs.HostFile.{IsStored}
+use Rattle.pv_embed.specs.Held.{Held}
 use Rattle.pv_embed.specs.Hosted.{HostedState, stored_length}
 
--- The file is a journal of the first of the site's records, as many as the host has told to be in it, or of these and the next one. So each record is in it that
--- the site had when its log was no longer than what the host has told to be in the file.
-pub record HoldsStored (hosted : HostedState) (file : List ℕ) : Type 0 where
+-- The file is a journal of the first of the site's records: of as many as the host has told to be in it, or of these and the next one.
+pub record HoldsStoredRecords (hosted : HostedState) (file : List ℕ) : Type 0 where
   pub contents : Contents
   pub journal : IsJournal contents file
   pub records : List Record
@@ -16,3 +18,8 @@ pub record HoldsStored (hosted : HostedState) (file : List ℕ) : Type 0 where
   pub later : List Record
   pub first : hosted.site.records ≡ records ++ later
   pub enough : stored_length hosted ≤ size_of contents
+  pub stored : IsStored hosted.site.log file
+
+-- What was made when the site had come to these records, and rests on all of them: it is held with the length of a journal of them.
+abbrev pub RestOn : List Record → List Held → Type 0
+RestOn records made = All (λ (one : Held). one.length ≡ journal_bytes records) made

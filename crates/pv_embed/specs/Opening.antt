@@ -24,9 +24,9 @@ use Rattle.pv_embed.specs.declared.fault.OpenFault.TheVariants as fault
 abbrev pub IsUnread : HostState → Type 0
 IsUnread log = (log.is_down ≡ false) × (log.is_read ≡ false)
 
--- The configuration declares this catalog, and nothing happens in it.
+-- The configuration declares this catalog, nothing happens in it, and it isn't too long.
 abbrev pub Configures : List ℕ → model.Schedule → Type 0
-Configures config schedule = IsSchedule config schedule × (schedule.events ≡ [])
+Configures config schedule = IsSchedule config schedule × (schedule.events ≡ []) × (length config ≤ MAX_SCHEDULE)
 
 -- The site is open, and holds nothing: it went on from the journal's records, over a log on the host's file.
 pub record HasOpenedOn (config : List ℕ) (me : ℕ) (file : List ℕ) (hosted : HostedState) : Type 0 where
@@ -56,13 +56,15 @@ RefusesJournal config me file reason =
     (schedule : model.Schedule) × Configures config schedule × (me < schedule.catalog.sites)
     × ((contents : Contents) × IsJournal contents file × RefusesContents schedule.catalog me contents reason)
 
--- An opening, by its answer.
+-- An opening, by its answer. Each cause excludes those that are tested before it.
 abbrev pub OpensHosted : List ℕ → ℕ → List ℕ → Result HostedState OpenFault → Type 0
 OpensHosted config me file (Ok hosted) = HasOpenedOn config me file hosted
 OpensHosted config me file (Err fault.NoMemory) = ⊤
 OpensHosted config me file (Err fault.TooLong) = MAX_SCHEDULE < length config
-OpensHosted config me file (Err (fault.Malformed line cause)) = IsMalformedAt config (record { number = line; cause = line_cause_of cause })
-OpensHosted config me file (Err fault.HasEvents) = (schedule : model.Schedule) × IsSchedule config schedule × (schedule.events ≢ [])
+OpensHosted config me file (Err (fault.Malformed line cause)) =
+    IsMalformedAt config (record { number = line; cause = line_cause_of cause }) × (length config ≤ MAX_SCHEDULE)
+OpensHosted config me file (Err fault.HasEvents) =
+    (schedule : model.Schedule) × IsSchedule config schedule × (schedule.events ≢ []) × (length config ≤ MAX_SCHEDULE)
 OpensHosted config me file (Err fault.NoSite) = (schedule : model.Schedule) × Configures config schedule × (schedule.catalog.sites ≤ me)
 OpensHosted config me file (Err (fault.NotOurs place)) =
     (schedule : model.Schedule) × Configures config schedule × (me < schedule.catalog.sites) × IsNotOurs file place

@@ -14,9 +14,9 @@ use Rattle.pv_protocol.specs.State.{submit, receive}
 use Rattle.pv_site.specs.Asked.{Shows}
 use Rattle.pv_site.specs.declared.input.Shown.{Shown}
 use Rattle.pv_wire.specs.Faults.{fault_of}
-use Rattle.pv_embed.specs.Hosted.{HostedState, HasStepped, Stays}
+use Rattle.pv_embed.specs.Hosted.{HostedState, HasStepped, Stays, log_length, stored_length}
 use Rattle.pv_embed.specs.declared.fault.ReadFault.{ReadFault}
-use Rattle.pv_embed.specs.declared.fault.ReadFault.TheVariants.{UnknownName, NotHere}
+use Rattle.pv_embed.specs.declared.fault.ReadFault.TheVariants.{UnknownName, NotHere, Unwritten}
 use Rattle.pv_embed.specs.declared.fault.ReceiveFault.{ReceiveFault}
 use Rattle.pv_embed.specs.declared.fault.ReceiveFault.TheVariants as receiving
 use Rattle.pv_embed.specs.declared.fault.SubmitFault.{SubmitFault}
@@ -48,12 +48,16 @@ ReceivesBy old new bytes (Err receiving.NoSender) =
     (new ≡ old) × ((envelope : Envelope) × SpellsEnvelope envelope bytes × (envelope.to ≡ old.site.me) × (old.site.catalog.sites ≤ envelope.from))
 ReceivesBy old new bytes (Err receiving.NoMemory) = Stays old new
 
--- A reading of the item of this name, by its answer.
+-- A reading of the item of this name, by its answer. The site shows something only where all of its log is in the host's file, so that no crash undoes what it
+-- rests on.
 abbrev pub ReadsBy : HostedState → List ℕ → Result Shown ReadFault → Type 0
 ReadsBy hosted name (Ok shown) =
     (n : ℕ) × (item : Item) × (place_of name hosted.site.catalog.items ≡ Some n) × (slice_get hosted.site.catalog.items n ≡ Some item)
-    × (item.site ≡ hosted.site.me) × Shows hosted.site hosted.site.running n shown
+    × (item.site ≡ hosted.site.me) × Shows hosted.site hosted.site.running n shown × (log_length hosted ≤ stored_length hosted)
 ReadsBy hosted name (Err UnknownName) = place_of name hosted.site.catalog.items ≡ None
 ReadsBy hosted name (Err NotHere) =
     (n : ℕ) × (item : Item) × (place_of name hosted.site.catalog.items ≡ Some n) × (slice_get hosted.site.catalog.items n ≡ Some item)
     × (item.site ≢ hosted.site.me)
+ReadsBy hosted name (Err Unwritten) =
+    (n : ℕ) × (item : Item) × (place_of name hosted.site.catalog.items ≡ Some n) × (slice_get hosted.site.catalog.items n ≡ Some item)
+    × (item.site ≡ hosted.site.me) × (stored_length hosted < log_length hosted)

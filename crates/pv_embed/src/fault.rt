@@ -37,7 +37,7 @@ pub enum OpenFault {
     NoMemory,
 }
 
-/// Why a request isn't taken.
+/// Why a request isn't taken. The causes are tested in this order, but for want of memory, which may come at any place.
 #[derive(Clone, Copy, Debug, PartialEq, Eq)]
 pub enum SubmitFault {
     /// Its text is no program.
@@ -48,7 +48,7 @@ pub enum SubmitFault {
     NoMemory,
 }
 
-/// Why a message isn't taken.
+/// Why a message isn't taken. The causes are tested in this order, but for want of memory, which may come at any place.
 #[derive(Clone, Copy, Debug, PartialEq, Eq)]
 pub enum ReceiveFault {
     /// The bytes are no message.
@@ -61,13 +61,15 @@ pub enum ReceiveFault {
     NoMemory,
 }
 
-/// Why an item isn't read.
+/// Why an item isn't read. The causes are tested in this order.
 #[derive(Clone, Copy, Debug, PartialEq, Eq)]
 pub enum ReadFault {
     /// No item has this name.
     UnknownName,
     /// The item is at another site.
     NotHere,
+    /// Records wait to be written into the host's file. What the item shows may rest on them, and a crash may undo it.
+    Unwritten,
 }
 
 impl fmt::Display for OpenFault {
@@ -119,6 +121,7 @@ impl fmt::Display for ReadFault {
         f.write_str(match self {
             ReadFault::UnknownName => "unknown name",
             ReadFault::NotHere => "the item is at another site",
+            ReadFault::Unwritten => "records wait to be written",
         })
     }
 }

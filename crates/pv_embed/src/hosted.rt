@@ -1,17 +1,19 @@
 // One site, for a host that carries its messages and writes its journal.
-ghost use Rattle.std.specs.Prelude.{◌≡◌, ◌<◌, ◌≤◌, ℕ, length, slice_get, Err};
+ghost use Rattle.std.specs.Prelude.{◌≡◌, ◌<◌, ◌≤◌, ℕ, length, slice_get, Some, Err, IfSome};
 ghost use Rattle.std.specs.Option.{option_map};
 ghost use Rattle.pv_base.specs.Catalog.{Declared};
 ghost use Rattle.pv_protocol.specs.State as model;
 ghost use Rattle.pv_site.specs.Inputs.{IsInputFor};
 ghost use Rattle.pv_site.specs.Opens.{Opens};
+ghost use Rattle.pv_site.specs.Steps.{IsReady};
 ghost use Rattle.pv_site.specs.Values.{input_of};
 ghost use Rattle.pv_host.specs.HostLaws.{host_model};
 ghost use Rattle.pv_host.specs.HostLog.{HostState, contents_of, next_write};
 ghost use Rattle.pv_host.specs.HostWrites.{write_of};
 ghost use Rattle.pv_embed.specs.Opening.{IsUnread, OpensHosted, RefusesContents};
 ghost use Rattle.pv_embed.specs.Held.{Held};
-ghost use Rattle.pv_embed.specs.Hosted.{Gives, TakesNext, Writes};
+ghost use Rattle.pv_embed.specs.Hosted.{Gives, TakesNext, Writes, stored_length};
+ghost use Rattle.pv_embed.specs.Outputs.{IsSpelled, out_of};
 ghost use Rattle.pv_embed.specs.Requests.{ReceivesBy, SubmitsBy, ReadsBy};
 
 use crate::made::{Made, Output, keep, take_first};
@@ -34,7 +36,7 @@ use std::marker::Model;
 /// The host opens it on the bytes of its journal, a file of the host. It gives it requests, messages and ticks; each is a step of the site. Then it writes what
 /// [`HostedSite::next_write`] says into the file, syncs, and says so by [`HostedSite::written`], until there is nothing to write; and takes
 /// what the site lets out by [`HostedSite::take`]: messages for other sites, and reports. Nothing is let out before all records are in the file that
-/// the site had when it made it.
+/// the site had when it made it, and nothing is read while a record isn't.
 ///
 /// After a crash of the host the site is opened again on what the file then holds.
 #[derive(Drop)]
@@ -47,7 +49,7 @@ pub struct HostedSite {
     catalog: Catalog,
     /// The site.
     site: Site<HostLog>,
-    /// How much of its journal is in the file.
+    /// How much of its journal is in the file. The log has this number too, but the site lends its log only to be changed, and a reading changes nothing.
     stored: u64,
     /// What its steps made that wasn't let out, the oldest first. In each there is something.
     made: VecDeque<Made>,
@@ -79,7 +81,12 @@ impl HostedSite {
     /// Opens a site. The configuration has the lines `sites`, `journal` and `item` of a schedule, and is the same for all sites; the journal is what the
     /// host's file holds, [`EMPTY_JOURNAL`](crate::EMPTY_JOURNAL) for a new site. What the host keeps beyond the journal's end doesn't matter.
     ///
+    /// Before the host reads the journal's bytes it syncs the file, and for a new one its entry in the folder: a crash of its process alone may leave bytes
+    /// that are written and not synced, and the site counts all that it finds as written.
+    ///
     /// The site begins in a new epoch, whose record is the first thing to write. Takes time in proportion to the journal and the configuration.
+    ///
+    /// [`OpenFault`] has the causes of a refusal.
     pub fn open(
         alloc: Global,
         config: &[u8],
@@ -109,7 +116,9 @@ impl HostedSite {
         let log = match HostLog::open(alloc, journal, catalog.journal()) {
             Ok(log) => log,
             Err(LookError::NotOurs(place)) => return Err(OpenFault::NotOurs(place)),
-            Err(LookError::NoMemory) | Err(LookError::Failed) => return Err(OpenFault::NoMemory),
+            Err(LookError::NoMemory) => return Err(OpenFault::NoMemory),
+            // The bytes are in memory, and are read without fail.
+            Err(LookError::Failed) => unreachable!(),
         };
         let stored = log.stored();
         match Site::open(alloc, log, me, &catalog) {
@@ -125,7 +134,17 @@ impl HostedSite {
         }
     }
 
-    /// A request: the program that the text is runs, with this site as its coordinator. A query assigns nothing and has a `return`.
+    /// A request: the program that the text is runs, with this site as its coordinator. A query assigns nothing and has a `return`. Takes time in proportion
+    /// to the text, besides looking up each name.
+    ///
+    /// What comes of it is let out by [`HostedSite::take`]. The first report is [`Note::Txn`](crate::Note::Txn), or
+    /// [`Note::Spent`](crate::Note::Spent) where no number is left, and then nothing else comes of it.
+    ///
+    /// Each refusal leaves the site as it was, but for room that was made:
+    ///
+    /// - [`SubmitFault::Text`]: the text is no program.
+    /// - [`SubmitFault::Program`]: the program may not run, as a request or as a query.
+    /// - [`SubmitFault::NoMemory`]: there was no memory.
     pub fn submit(&mut self, text: &[u8], query: bool) -> Result<(), SubmitFault>
         ensures { SubmitsBy self.old self.new text.now query result }
     {
@@ -144,7 +163,15 @@ impl HostedSite {
         Ok(self.step(&Input::Submit { program, plan })?)
     }
 
-    /// A message comes, as the bytes that another site, or this one, let out.
+    /// A message comes, as the bytes that [`encode`](crate::encode) made of what another site, or this one, let out. Takes time in proportion to the bytes,
+    /// and to the items and outcomes that the message touches.
+    ///
+    /// Each refusal leaves the site as it was, but for room that was made:
+    ///
+    /// - [`ReceiveFault::Malformed`]: the bytes are no message.
+    /// - [`ReceiveFault::NotForHere`]: the message goes to another site.
+    /// - [`ReceiveFault::NoSender`]: it comes from a site that the configuration hasn't.
+    /// - [`ReceiveFault::NoMemory`]: there was no memory.
     pub fn receive(&mut self, bytes: &[u8]) -> Result<(), ReceiveFault>
         ensures { ReceivesBy self.old self.new bytes.now result }
     {
@@ -165,14 +192,16 @@ impl HostedSite {
         })?)
     }
 
-    /// Time has passed.
+    /// Time has passed. Takes time in proportion to what stands at the site, and to the outcomes that its values name. Where there was no memory the site is
+    /// as it was, but for room that was made.
     pub fn tick(&mut self) -> Result<(), NoMemory>
         ensures { Gives self.old self.new model.tick result }
     {
         self.step(&Input::Tick)
     }
 
-    /// What the host is to write next into its file, if there is something. It is the same until the host has told that it is done.
+    /// What the host is to write next into its file, if there is something. It is the same until the host has told that it is done. The cost is bounded by a
+    /// constant.
     pub fn next_write(&mut self) -> Option<HostWrite<'_>>
         ensures* unchanged { sem 𝓛 (follows_so the_row the_row self.entry.ghost_name none (λ _ _. ⊤) (λ new. new ≡ self.old)) }
         ensures write { option_map write_of result ≡ next_write self.old.site.log }
@@ -180,7 +209,7 @@ impl HostedSite {
         self.site.log().next_write()
     }
 
-    /// The host has written that, and synced its file. Where there is nothing to write, nothing happens.
+    /// The host has written that, and synced its file. Where there is nothing to write, nothing happens. The cost is bounded by a constant.
     pub fn written(&mut self)
         ensures { Writes self.old self.new }
     {
@@ -190,14 +219,24 @@ impl HostedSite {
         self.stored = stored;
     }
 
-    /// The next thing that the site lets out, if there is one: the host's file has all that the log had when it was made.
+    /// The next thing that the site lets out, if there is one: the host's file has all that the log had when it was made. It comes in the order of the steps,
+    /// and of each step the messages come first. The cost is bounded by a constant.
+    ///
+    /// [`encode`](crate::encode) gives the bytes of a message, which the site that it goes to takes by [`HostedSite::receive`].
+    #[tactic(auto, using(crate::proofs::MadeLemmas::takes_spelled))]
     pub fn take(&mut self) -> Option<Output>
-        ensures { TakesNext self.old self.new result }
+        ensures takes { TakesNext self.old self.new result }
+        ensures spelled { IfSome result (λ output. IsSpelled (out_of output)) }
     {
         take_first(&mut self.made, self.me, self.stored)
     }
 
-    /// What the site shows of its item of this name: its value, or the transaction that holds it.
+    /// What the site shows of its item of this name: its value, or the transaction that holds it. Takes time in proportion to the name and to the
+    /// transactions that hold the item, and logarithmic in the locks.
+    ///
+    /// - [`ReadFault::UnknownName`]: no item has this name.
+    /// - [`ReadFault::NotHere`]: the item is at another site.
+    /// - [`ReadFault::Unwritten`]: records wait to be written into the host's file, and what would be shown may rest on them.
     pub fn read(&self, name: &[u8]) -> Result<Shown<'_>, ReadFault>
         ensures { ReadsBy self.now name.now result }
     {
@@ -207,17 +246,24 @@ impl HostedSite {
         if self.catalog.site_of(item) != self.me {
             return Err(ReadFault::NotHere);
         }
+        if self.stored < self.site.length() {
+            return Err(ReadFault::Unwritten);
+        }
         Ok(self.site.read(item))
     }
 
-    /// How long the journal in the host's file has to be when the next output is let out, if there is one.
+    /// How long the journal in the host's file has to be when the next output is let out, if there is one. [`HostedSite::stored`] says how long it is.
     pub fn waits_for(&self) -> Option<u64>
         ensures { result ≡ option_map (λ (held : Held). held.length) (slice_get self.now.held 0) }
     {
-        match self.made.front() {
-            Some(made) => Some(made.length),
-            None => None,
-        }
+        Some(self.made.front()?.length)
+    }
+
+    /// How long the journal in the host's file is, by what the host has told.
+    pub fn stored(&self) -> u64
+        ensures { result ≡ stored_length self.now }
+    {
+        self.stored
     }
 
     /// Its number.
@@ -239,6 +285,15 @@ impl HostedSite {
         ensures { result ≡ self.now.site.epoch }
     {
         self.site.epoch()
+    }
+
+    /// Shows what [`files_hold_what_was_let_out`](crate::files_hold_what_was_let_out) asks of a site, which is so between any two calls: it is up, and its log
+    /// holds its records. It does nothing.
+    pub fn stands_ready(&self)
+        ensures ready { IsReady host_model self.now.site }
+        ensures up { (running : model.Running) × (self.now.site.running ≡ Some running) }
+    {
+        let _ = &self.alloc;
     }
 
     // The site makes a step of the input. The memory for what it makes is taken before: after the step nothing can fail.

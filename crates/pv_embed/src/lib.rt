@@ -12,4 +12,4 @@ pub use laws::{files_hold_what_was_let_out, hosted_sites_stay_up};
 pub use made::Output;
 pub use pv_host::{EMPTY_JOURNAL, HostWrite};
 pub use pv_site::{Note, Shown};
-pub use pv_wire::Envelope;
+pub use pv_wire::{Envelope, encode};

@@ -14,7 +14,8 @@ use std::vec::IntoIter;
 /// What a site lets out.
 #[derive(Debug, Drop)]
 pub enum Output {
-    /// A message, which the host is to carry to the site that it goes to. It may be lost, and may come twice.
+    /// A message, which the host is to carry to the site that it goes to, as the bytes that [`encode`](crate::encode) makes of it. It may be lost, and may come
+    /// twice. It may go to a site that the configuration hasn't, where the journal names a transaction of that site: then it is lost.
     Message(Envelope),
     /// A report.
     Note(Note),

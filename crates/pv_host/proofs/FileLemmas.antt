@@ -1,15 +1,15 @@
 -- What a host's file is before and after each write, and what a crash leaves of it.
-use Rattle.std.proofs.Common.{◌≡◌, ◌≢◌, ◌⊎◌, inl, inr, ⊎_elim, ℕ, ◌+◌, ◌<◌, ◌≤◌, ◌^◌, Bool, true, false, List, [], ◌∷◌, ◌++◌, Option, Some, None, length, take, drop, get_or, arith, refl, sym, ◌∙◌, ap, subst, append_assoc, append-nil, length-append}
+use Rattle.std.proofs.Common.{◌≡◌, ◌≢◌, inl, inr, ⊎_elim, ℕ, ◌+◌, ◌<◌, ◌^◌, Bool, true, false, List, [], ◌∷◌, ◌++◌, Some, length, take, drop, get_or, arith, refl, sym, ◌∙◌, ap, subst, append_assoc, append-nil, length-append}
 use Rattle.std.specs.Prelude.{MatchBool}
 use Rattle.std.proofs.lemmas.List.Sums.{sum_by-append}
 use Rattle.std.proofs.lemmas.List.{take_at, drop_at, take-append-drop, drop_more}
-use Rattle.std.proofs.lemmas.List.Elements.{All-nil, All-cons, All-head, All-tail, All-append, All-push}
+use Rattle.std.proofs.lemmas.List.Elements.{All-nil, All-cons, All-head, All-tail, All-push}
 use Rattle.std.proofs.lemmas.Bool.{cases_eq}
 use Rattle.std.proofs.lemmas.Grind.{flat_map-append}
 use Rattle.pv_law_disk.specs.Disk.{overlaid, Torn}
 use Rattle.pv_law_disk.specs.Calls.{LogCall, read_all, reserve, append}
-use Rattle.pv_law_disk.specs.Size.{Contents, size_of}
-use Rattle.pv_law_journal.specs.Format.{header, framed, record_of, records_of, AreShort, IsJournal, end_of}
+use Rattle.pv_law_disk.specs.Size.{Contents}
+use Rattle.pv_law_journal.specs.Format.{header, framed, record_of, records_of, AreShort, end_of}
 use Rattle.pv_host.specs.HostFile.{StandsAtGate, StandsBehind, IsFile, MayLeave, IsStored, HoldsStored}
 use Rattle.pv_host.specs.HostWrites.{IsOpenedOn}
 use Rattle.pv_host.specs.HostLog.{HostGoes, HostState, HostWrite, IsSameBesideRoom, contents_of, write_after, next_write, written_to, with_written, with_content}

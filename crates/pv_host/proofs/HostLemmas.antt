@@ -1,15 +1,22 @@
 -- How a log whose journal a host writes grows.
-use Rattle.std.proofs.Common.{◌≡◌, ◌⊎◌, inl, inr, ⊎_elim, ℕ, ◌+◌, ◌-◌, ◌<◌, ◌≤◌, List, [], ◌∷◌, ◌++◌, Option, Some, map, length, take, drop, arith, sym, ◌∙◌, ap, append_assoc, append-nil, length-append, refl, Bool, true, false, Err}
-use Rattle.std.specs.Prelude.{MatchBool}
+use Rattle.std.proofs.Common.{◌≡◌, ◌≢◌, ◌⊎◌, inl, inr, ⊎_elim, ℕ, ◌+◌, ◌-◌, ◌≤◌, List, [], ◌∷◌, ◌++◌, Option, Some, None, length, take, drop, arith, sym, ◌∙◌, ap, subst, append_assoc, append-nil, length-append, refl, Bool, true, false, Result, Ok, Err}
+use Rattle.std.specs.Prelude.{MatchBool, IfErr}
 use Rattle.std.proofs.lemmas.List.{take_at, drop_at, take-append-le, take_all}
 use Rattle.std.proofs.lemmas.List.Sums.{sum_by-append, sum_by-cons}
 use Rattle.std.proofs.lemmas.Bool.{cases_lt}
 use Rattle.byteorder.specs.Endian.{big_bytes}
 use Rattle.pv_base.specs.BigEndian.{big_endian}
 use Rattle.pv_base.proofs.BigEndianLemmas.{bytes_high_first-big_endian, length-big_endian}
-use Rattle.pv_law_disk.specs.Size.{Contents, size_of}
 use Rattle.pv_base.specs.Answer.{Answers}
+use Rattle.pv_base.specs.Fault.{Rose}
+use Rattle.pv_disk.specs.MemDisk.{MemGoes, MemState}
+use Rattle.pv_disk.specs.MemLaws.{mem_model}
+use Rattle.pv_disk.specs.declared.disk_error.LookError.{LookError}
+use Rattle.pv_disk.specs.declared.disk_error.LookError.TheVariants.{Failed, NotOurs, NoMemory}
+use Rattle.pv_journal.specs.Reading.{LooksBy}
+use Rattle.pv_law_disk.specs.Calls.{OnlyReads}
 use Rattle.pv_law_disk.specs.Log.{LeavesOnly, IsBeforeOrAfter, Adds, StaysUp}
+use Rattle.pv_law_disk.specs.Size.{Contents, size_of}
 use Rattle.pv_law_journal.specs.Format.{framed, end_of}
 use Rattle.pv_law_journal.proofs.SizeLemmas.{length-framed, end_of-size}
 use Rattle.pv_host.specs.Frames.{content_in, is_frame}
@@ -117,3 +124,14 @@ pub told_on : {V F X Y E : Type 0} (IsValue : V → Type 0) (IsFault : F → Typ
     → Answers IsValue IsFault value_of fault_of (Err e) → Answers IsValue IsFault other_of fault_of (Err e)
 told_on IsValue IsFault value_of other_of fault_of e answer =
     record { one = answer.one; given = tt; gives = answer.gives; refused = answer.refused; refuses = answer.refuses }
+
+-- No reading of a disk in memory fails on which no read is to fail: nothing counts a fault.
+pub never_failed : {X : Type 0} (looks : (old new : MemState) → OnlyReads MemGoes old new → old.arms.fail_read ≡ None → new ≡ old) (old new : MemState) (result : Result X LookError)
+    → old.arms.fail_read ≡ None → old.faults ≡ 0 → LooksBy mem_model old new result → IfErr result (λ error. error ≢ Failed)
+never_failed looks old new (Ok x) unarmed none looked = tt
+never_failed looks old new (Err Failed) unarmed none looked =
+    let same : new.faults ≡ old.faults = ap (λ (disk : MemState). disk.faults) (looks old new looked.0.reads unarmed) in
+    let rose : Rose 0 new.faults = subst (λ faults. Rose faults new.faults) none looked.1 in
+    absurd (omega (arith, rose, same, none))
+never_failed looks old new (Err (NotOurs place)) unarmed none looked = λ is. cc
+never_failed looks old new (Err NoMemory) unarmed none looked = λ is. cc

@@ -1,5 +1,5 @@
 -- What the fields of a log say whose journal a host writes.
-use Rattle.std.specs.Prelude.{◌≡◌, ◌-◌, ◌≤◌, ◌<◌, ◌^◌, [], false, is_none, length, map, vec_len, vec_capacity, IfSome, All, ◌++◌}
+use Rattle.std.specs.Prelude.{◌≡◌, ◌-◌, ◌≤◌, [], false, is_none, map, vec_capacity, IfSome, ◌++◌}
 use Rattle.std.specs.VecDeque.{deque_len, deque_capacity}
 use Rattle.pv_base.specs.declared.limits.TheConstants.{MAX_JOURNAL, MAX_LENGTH}
 use Rattle.pv_law_disk.specs.Size.{size_of}

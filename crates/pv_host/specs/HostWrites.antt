@@ -1,6 +1,5 @@
 -- How the host is told what to write, and how a log is opened on its file.
-use Rattle.std.specs.Prelude.{◌≡◌, ℕ, [], List, Result, Ok, Err, true, false}
-use Rattle.pv_law_disk.specs.Size.{Contents}
+use Rattle.std.specs.Prelude.{◌≡◌, ℕ, [], List, false}
 use Rattle.pv_law_journal.specs.Format.{IsJournal}
 use Rattle.pv_host.specs.HostLog as model
 use Rattle.pv_host.specs.HostLog.{HostState}

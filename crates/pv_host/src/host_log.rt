@@ -1,7 +1,8 @@
 // A log whose journal a host writes.
-ghost use Rattle.std.specs.Prelude.{◌≡◌, ◌≤◌, ◌<◌, ◌+◌, ◌^◌, ◌++◌, ◌∷◌, [], ℕ, Some, length, map, take, drop, is_ok, vec_len, vec_capacity, IfOk};
+ghost use Rattle.std.specs.Prelude.{◌≡◌, ◌≢◌, ◌≤◌, ◌<◌, ◌+◌, ◌^◌, ◌++◌, ◌∷◌, [], ℕ, Some, length, map, take, drop, is_ok, vec_len, vec_capacity, IfOk, IfErr};
 ghost use Rattle.std.specs.Option.{option_map};
 ghost use Rattle.pv_base.specs.Answer.{Answers};
+ghost use Rattle.pv_disk.specs.declared.disk_error.LookError.TheVariants as look;
 ghost use Rattle.pv_law_disk.specs.Size.{Contents, size_of};
 ghost use Rattle.pv_law_journal.specs.Format.{framed, IsJournal, IsNotOurs};
 ghost use Rattle.pv_journal.specs.Opening.{contents_in, place_in};
@@ -14,7 +15,7 @@ use crate::frame::Frame;
 use crate::history::History;
 use pv_base::{MAX_JOURNAL, MAX_LENGTH, MIN_JOURNAL};
 use pv_disk::{Log, LogError, LookError, MemDisk};
-use pv_journal::look;
+use pv_journal::{armed_journals, look};
 use pv_law_journal::one_journal;
 use std::alloc::Global;
 use std::collections::VecDeque;
@@ -32,6 +33,9 @@ const OPEN: [u8; 1] = [1];
 ///
 /// The log counts an append as done. Its owner lets nothing out that rests on it before the host has written it.
 ///
+/// It is read once at most, before anything is appended: a second reading, or a first one after an append, answers [`LogError::Failed`] and takes the log
+/// down.
+///
 /// In memory it has what the host hasn't written, and what was in the file when the log was opened, up to the first reading or append.
 #[derive(Drop)]
 pub struct HostLog {
@@ -47,9 +51,9 @@ pub struct HostLog {
     limit: u64,
     /// The memory of the next record, without any byte of it.
     next: Vec<u8>,
-    /// What was in the file, unless it was read, or added to.
+    /// What was in the file, until it is read or a record is added.
     unread: Option<Vec<Vec<u8>>>,
-    /// Whether it was asked for once more.
+    /// Whether it was read when there was nothing left to read: each call then answers `Down`.
     down: bool,
     /// What was in the file.
     found: History<Vec<u8>>,
@@ -72,14 +76,18 @@ impl HostLog {
     /// The log on a file of the host that holds these bytes. It may become `limit` bytes long, from 32 to 4,294,967,296; one that is longer already is
     /// opened too, and takes no more records. Takes time in proportion to the bytes.
     ///
+    /// Before the host reads the bytes it syncs the file, and for a new one its entry in the folder: a crash of its process alone may leave bytes that are
+    /// written and not synced, and the log counts all that it finds as stored.
+    ///
     /// - [`LookError::NotOurs`]: the bytes are no journal, which shows at that place.
     /// - [`LookError::NoMemory`]: there was no memory.
-    /// - [`LookError::Failed`]: doesn't come.
+    /// - [`LookError::Failed`] doesn't come.
     #[tactic(auto, using(crate::proofs::HostLemmas::ends))]
     pub fn open(alloc: Global, bytes: Vec<u8>, limit: u64) -> Result<HostLog, LookError>
         requires least { MIN_JOURNAL ≤ limit }
         requires most { limit ≤ MAX_JOURNAL }
         ensures answer { Answers (λ contents. IsJournal contents bytes.items) (IsNotOurs bytes.items) (λ (log : HostState). log.stored) place_in result }
+        ensures failed { IfErr result (λ error. error ≢ look.Failed) }
         ensures opened { IfOk result (IsOpenedOn bytes.items limit) }
         ensures bounded { IfOk result (λ log. size_of log.stored ≤ MAX_LENGTH) }
     {
@@ -212,9 +220,11 @@ impl HostLog {
 
 // The contents of the journal that the bytes are.
 fn journal_in(alloc: Global, bytes: Vec<u8>) -> Result<Vec<Vec<u8>>, LookError>
-    ensures { Answers (λ contents. IsJournal contents bytes.items) (IsNotOurs bytes.items) contents_in place_in result }
+    ensures answer { Answers (λ contents. IsJournal contents bytes.items) (IsNotOurs bytes.items) contents_in place_in result }
+    ensures failed { IfErr result (λ error. error ≢ look.Failed) }
 {
     one_journal();
+    armed_journals();
     if bytes.len() as u64 > MAX_LENGTH {
         return Err(LookError::NoMemory);
     }

@@ -23,7 +23,7 @@ pub fn files_are_journals()
 {}
 
 /// A log that isn't down stays up where room is made, and no append fails.
-pub fn hosts_never_fail()
+pub fn host_logs_never_fail()
     ensures appends { (old new : HostState) (content : List ℕ) (ok : Bool) → old.is_down ≡ false → HostGoes old (append content) ok new → (ok ≡ true) × (new.is_down ≡ false) }
     ensures reserves { (old new : HostState) (content : ℕ) (ok : Bool) → old.is_down ≡ false → HostGoes old (reserve content) ok new → new.is_down ≡ false }
 {}

@@ -1,25 +1,34 @@
-use Rattle.std.proofs.Common.{◌≡◌, ◌==◌, ℕ, ap, sym, subst, ◌∙◌}
+use Rattle.std.proofs.Common.{◌≡◌, ◌==◌, ◌<◌, ◌≤◌, ℕ, ap, sym, subst, ◌∙◌, arith}
 use Rattle.std.specs.Prelude.{slice_get}
 use Rattle.std.proofs.lemmas.Bool.{eqb-false, eqb-true}
-use Rattle.pv_base.specs.Catalog.{Declared, place_of}
+use Rattle.pv_base.specs.Catalog.{Declared}
 use Rattle.pv_protocol.specs.Lock.{is_of_site}
 use Rattle.pv_site.specs.Asked.{Shows}
-use Rattle.pv_embed.proofs.HostedLemmas.{at_home, item_at, not-equal, not-unequal}
+use Rattle.pv_embed.proofs.ReadLemmas.{at_home, me_is, named, not-equal, not-unequal}
 use Rattle.pv_embed.proofs.hosted.HostedSite.read.Goals as goal
-use Rattle.pv_embed.specs.Hosted.{HostedState}
+use Rattle.pv_embed.specs.Hosted.{HostedState, log_length, stored_length}
 
 pub returns-then-ne : goal.returns-then-ne
 returns-then-ne c =
     let n = c.in-Some.item.0 in
-    let catalog : c.self.inside.catalog ≡ c.args.self.now.site.catalog = sym c.self.invariant.catalog ∙ ap (λ (hosted : HostedState). hosted.site.catalog) c.self.view_is in
-    let me : c.self.inside.me.0 ≡ c.args.self.now.site.me = sym c.self.invariant.me ∙ ap (λ (hosted : HostedState). hosted.site.me) c.self.view_is in
-    let found = item_at c.self.inside.catalog.items n c.site_of.result.0 c.site_of.ensures in
-    let other = not-equal (c.site_of.result.0 == c.self.inside.me.0) c.if-ne.ensures in (
+    let me = me_is c.self.inside c.args.self.now c.self.view_is c.self.invariant in
+    let found = named c.self.inside c.args.self.now c.self.view_is c.self.invariant c.args.name.now n c.site_of.result.0 c.in-Some.ensures c.site_of.ensures in
+    let other = not-equal (c.site_of.result.0 == c.self.inside.me.0) c.if-ne.ensures in
+    (n, found.0, found.1, found.2, λ same. eqb-false c.site_of.result.0 c.self.inside.me.0 other (sym found.3 ∙ same ∙ sym me))
+
+pub returns-then-self-length : goal.returns-then-self-length
+returns-then-self-length c =
+    let n = c.in-Some.item.0 in
+    let me = me_is c.self.inside c.args.self.now c.self.view_is c.self.invariant in
+    let found = named c.self.inside c.args.self.now c.self.view_is c.self.invariant c.args.name.now n c.site_of.result.0 c.in-Some.ensures c.site_of.ensures in
+    let here : c.site_of.result.0 ≡ c.self.inside.me.0 = eqb-true c.site_of.result.0 c.self.inside.me.0 (not-unequal (c.site_of.result.0 == c.self.inside.me.0) c.if-ne.ensures) in (
       n,
       found.0,
-      ap (λ (declared : Declared). place_of c.args.name.now declared.items) (sym catalog) ∙ sym c.in-Some.ensures,
-      ap (λ (declared : Declared). slice_get declared.items n) (sym catalog) ∙ found.1,
-      λ same. eqb-false c.site_of.result.0 c.self.inside.me.0 other (sym found.2 ∙ same ∙ sym me),
+      found.1,
+      found.2,
+      found.3 ∙ here ∙ me,
+      subst (λ (hosted : HostedState). stored_length hosted < log_length hosted) c.self.view_is
+          (omega (arith, c.if-self-length.true, c.length.ensures, c.self.invariant.stored)),
     )
 
 pub read-requires : goal.read-requires
@@ -34,14 +43,15 @@ read-requires c =
 pub returns : goal.returns
 returns c =
     let n = c.in-Some.item.0 in
-    let catalog : c.self.inside.catalog ≡ c.args.self.now.site.catalog = sym c.self.invariant.catalog ∙ ap (λ (hosted : HostedState). hosted.site.catalog) c.self.view_is in
-    let me : c.self.inside.me.0 ≡ c.args.self.now.site.me = sym c.self.invariant.me ∙ ap (λ (hosted : HostedState). hosted.site.me) c.self.view_is in
-    let found = item_at c.self.inside.catalog.items n c.site_of.result.0 c.site_of.ensures in
+    let me = me_is c.self.inside c.args.self.now c.self.view_is c.self.invariant in
+    let found = named c.self.inside c.args.self.now c.self.view_is c.self.invariant c.args.name.now n c.site_of.result.0 c.in-Some.ensures c.site_of.ensures in
     let here : c.site_of.result.0 ≡ c.self.inside.me.0 = eqb-true c.site_of.result.0 c.self.inside.me.0 (not-unequal (c.site_of.result.0 == c.self.inside.me.0) c.if-ne.ensures) in (
       n,
       found.0,
-      ap (λ (declared : Declared). place_of c.args.name.now declared.items) (sym catalog) ∙ sym c.in-Some.ensures,
-      ap (λ (declared : Declared). slice_get declared.items n) (sym catalog) ∙ found.1,
-      found.2 ∙ here ∙ me,
+      found.1,
+      found.2,
+      found.3 ∙ here ∙ me,
       subst (λ (hosted : HostedState). Shows hosted.site hosted.site.running n c.read.result) c.self.view_is c.read.ensures,
+      subst (λ (hosted : HostedState). log_length hosted ≤ stored_length hosted) c.self.view_is
+          (omega (arith, c.if-self-length.false, c.length.ensures, c.self.invariant.stored)),
     )

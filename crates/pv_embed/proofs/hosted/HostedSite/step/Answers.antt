@@ -1,13 +1,19 @@
-use Rattle.std.proofs.Common.{◌≡◌, ap, sym, subst, ◌∙◌, map}
+use Rattle.std.proofs.Common.{◌≡◌, ◌≢◌, ◌≤◌, [], All, ap, sym, subst, ◌∙◌, map, arith}
 use Rattle.std.specs.Prelude.{flat_map}
+use Rattle.std.proofs.lemmas.List.Elements.{All-append, All-weaker}
 use Rattle.pv_law_disk.specs.Size.{size_of}
-use Rattle.pv_site.specs.SiteState.{SiteState}
+use Rattle.pv_protocol.specs.Step.{step_on}
+use Rattle.pv_site.specs.SiteState.{SiteState, here_with}
 use Rattle.pv_site.specs.Values.{input_of, note_of, outgoing_of}
 use Rattle.pv_host.specs.HostLog.{HostState, contents_of}
-use Rattle.pv_embed.proofs.HostedLemmas.{held_stepped, stepped}
+use Rattle.pv_embed.proofs.HostedLemmas.{as_long, held_stepped, still_catalog, still_me, still_running, still_stored, stepped}
+use Rattle.pv_embed.proofs.MadeLemmas.{made_spelled}
 use Rattle.pv_embed.proofs.hosted.HostedSite.step.Goals as goal
+use Rattle.pv_embed.specs.Held.{Held}
 use Rattle.pv_embed.specs.Hosted.{HasStepped, HostedState}
-use Rattle.pv_embed.specs.Outputs.{held_of, outputs_of, outs}
+use Rattle.pv_embed.specs.HostedView.{IsHosted}
+use Rattle.pv_embed.specs.Outputs.{AreSpelled, IsSpelled, held_of, outputs_of, outs}
+use Rattle.pv_embed.specs.declared.made.Made.{Made}
 
 pub returns-in-Ok : goal.returns-in-Ok
 returns-in-Ok c =
@@ -26,3 +32,42 @@ returns-in-Ok c =
     (record { site = record site { log = log }; held = flat_map (held_of inside.me.0) c.keep.new.queue.items }) input) (sym c.log.ensures.value)
     (stepped inside.site site c.self.invariant.running input c.in-Ok.step c.self.invariant.up c.in-Ok.ensures.step (flat_map (held_of inside.me.0) inside.made.items)
     (flat_map (held_of inside.me.0) c.keep.new.queue.items) c.in-Ok.ensures.spelled held))
+
+pub invariant_of-self-in-Ok : goal.invariant_of-self-in-Ok
+invariant_of-self-in-Ok c =
+    let inside = c.self.inside in
+    let was = c.self.invariant in
+    let site : SiteState HostState = c.step.new.self in
+    let input = input_of c.args.input.now in
+    let answer = c.in-Ok.step in
+    let steps = c.in-Ok.ensures.step in
+    let sends = map outgoing_of answer.sends.items in
+    let notes = map note_of answer.notes.items in
+    let size = size_of (contents_of site.log) in
+    let long : c.of.result.length ≡ size =
+    c.of.ensures.length ∙ c.length-length.ensures ∙ ap (λ (log : HostState). size_of (contents_of log)) c.log.ensures.value in
+    let all : outputs_of inside.me.0 c.of.result ≡ outs inside.site.me sends notes = c.of.ensures.outputs inside.me.0 ∙ ap (λ me. outs me sends notes) (sym was.me) in
+    let held = held_stepped inside.me.0 inside.made.items c.reserve.new.self.items c.keep.new.queue.items c.of.result size (outs inside.site.me sends notes)
+    c.in_ok-reserve.ensures.items (c.keep.ensures.held inside.me.0) long all in
+    let grown : size_of (contents_of inside.site.log) ≤ size = as_long inside.site site was.running input answer was.up steps in
+    let before : All (λ (made : Made). made.length ≤ size) inside.made.items =
+    All-weaker (λ (made : Made). made.length ≤ size_of (contents_of inside.site.log)) (λ (made : Made). made.length ≤ size) (λ made within. omega (arith, within, grown)) inside.made.items
+    was.no_longer in
+    let same : inside.made.items ≡ c.reserve.new.self.items = sym c.in_ok-reserve.ensures.items in
+    subst (λ (log : HostState). IsHosted (record inside { site = record site { log = log }; made = c.keep.new.queue })) (sym c.log.ensures.value)
+    (record {
+      ready = c.in-Ok.ensures.ready;
+      running = (step_on (here_with inside.site was.running) input).running;
+      up = still_running inside.site site was.running input answer was.up steps;
+      me = still_me inside.site site was.running input answer was.up steps ∙ was.me;
+      site = was.site;
+      catalog = still_catalog inside.site site was.running input answer was.up steps ∙ was.catalog;
+      stored = was.stored ∙ ap size_of (sym (still_stored inside.site site was.running input answer was.up steps));
+      some = c.keep.ensures.some inside.me.0 (subst (All (λ (made : Made). outputs_of inside.me.0 made ≢ [])) same was.some);
+      no_longer = c.keep.ensures.lengths size (subst (All (λ (made : Made). made.length ≤ size)) same before) (omega (arith, long));
+      spelled =
+          subst AreSpelled (sym held)
+          (All-append (λ (one : Held). IsSpelled one.out) (flat_map (held_of inside.me.0) inside.made.items)
+          (map (λ out. record { length = size; out = out }) (outs inside.site.me sends notes)) was.spelled
+          (made_spelled inside.site.me size answer.sends.items notes c.in-Ok.ensures.spelled));
+    })

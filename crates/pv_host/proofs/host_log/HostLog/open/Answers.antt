@@ -1,10 +1,10 @@
-use Rattle.std.proofs.Common.{◌≡◌, [], map, refl, sym, ◌∙◌, ap}
+use Rattle.std.proofs.Common.{◌≡◌, map, refl, sym, ◌∙◌, ap}
 use Rattle.pv_law_disk.specs.Size.{size_of}
 use Rattle.pv_host.proofs.HostLemmas.{all_found, end_found, told_on}
 use Rattle.pv_host.proofs.host_log.HostLog.open.Goals as goal
 
 pub returns-in-Err-clause-answer : goal.returns-in-Err-clause-answer
-returns-in-Err-clause-answer c = told_on _ _ _ _ _ _ c.in-Err.ensures
+returns-in-Err-clause-answer c = told_on _ _ _ _ _ _ c.in-Err.ensures.answer
 
 pub invariant_of-result : goal.invariant_of-result
 invariant_of-result c =

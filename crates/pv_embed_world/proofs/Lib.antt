@@ -1,0 +1,4 @@
+mod AnswerLemmas
+mod ReadingLemmas
+mod SameLemmas
+mod StepLemmas
