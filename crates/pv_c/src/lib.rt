@@ -1,0 +1,9 @@
+//! The engine for C and for what calls C: each function is a call of the engine, and gives a number for its answer.
+#![tactic(auto)]
+
+mod given_numbers;
+mod numbers;
+mod run;
+mod site;
+mod status;
+mod world;

@@ -1,0 +1,9 @@
+pub mod ByteLemmas
+pub mod KeepLemmas
+pub mod ReadLemmas
+pub mod SiteBox
+pub mod StepLemmas
+pub mod StoredLemmas
+pub mod TakeLemmas
+pub mod There
+pub mod WorldBox

@@ -1,0 +1,24 @@
+-- A handle with a site owns what a box of that site owns.
+use mir.Syntax.{impl, tnil, dnil}
+use mathlib.Core.List.{[]}
+use denote.Signature.{Slot, plain}
+use Rattle.std_alloc.proofs.BoxSteps.Form.{Bx}
+use Rattle.std_heap.specs.contracts.Global as Heap
+use Rattle.std_heap.specs.contracts.GlobalAllocator.TheImpl.{ghosts, dict}
+use Rattle.std_heap.proofs.Global.TheLaws as heap
+use Rattle.pv_handle.specs.contracts.bytes.ByteSite as Site
+use Rattle.pv_handle.proofs.bytes.ByteSite.TheLaws as site
+use Rattle.pv_handle.specs.contracts.parts.Parts as Parts
+use Rattle.pv_handle.specs.contracts.site.handle.SiteHandle as Handle
+
+abbrev pub E : Bx
+E = record { row = Site.the_row; laws = site.the_row_laws; al = record { row = Heap.the_row; laws = heap.the_row_laws; g = ghosts; d = dict; drops = impl [] tnil dnil } }
+
+abbrev pub FromParts : Slot 0
+FromParts = plain (λ _. Parts.the_row Site.the_row Heap.the_row ghosts)
+
+abbrev pub FromHandle : Slot 0
+FromHandle = plain (λ _. Handle.the_row)
+
+abbrev pub FromAlloc : Slot 0
+FromAlloc = plain (λ _. Heap.the_row)

@@ -1,0 +1,94 @@
+-- What a site in bytes does, by its answers.
+use Rattle.std.specs.Prelude.{◌≡◌, ◌≢◌, ℕ, ◌<◌, ◌≤◌, List, [], ◌∷◌, Option, Some, None, Result, Ok, Err, length, slice_get, ⊤}
+use Rattle.pv_base.specs.Catalog.{Declared, Item, place_of}
+use Rattle.pv_format.specs.MessageSpelling.{SpellsEnvelope}
+use Rattle.pv_protocol.specs.LineText.{line_text}
+use Rattle.pv_protocol.specs.Lines.{line_of}
+use Rattle.pv_protocol.specs.Report.{item_line, reading_at}
+use Rattle.pv_protocol.specs.Shown.{shown}
+use Rattle.pv_report.specs.NamesOnlyItems.{NamesOnlyItems}
+use Rattle.pv_host.specs.HostLog.{HostWrite, next_write}
+use Rattle.pv_embed.specs.Held.{Held, Out, message, note}
+use Rattle.pv_embed.specs.Hosted.{HostedState, Writes, log_length, stored_length}
+use Rattle.pv_handle.specs.Given.{GivesBytes}
+use Rattle.pv_handle.specs.declared.faults.ValueFault.{ValueFault}
+use Rattle.pv_handle.specs.declared.faults.ValueFault.TheVariants.{UnknownName, NotHere, Unwritten, NoMemory}
+use Rattle.pv_handle.specs.declared.given.Given.{Given}
+use Rattle.pv_handle.specs.declared.given.Given.TheVariants.{Nothing, Bytes, TooSmall}
+use Rattle.pv_handle.specs.declared.outputs.TheConstants.{REPORT}
+
+-- What the site of this number lets out has bytes: a message has a spelling, and a report names only items of the catalog.
+abbrev pub CanGive : ℕ → Declared → Out → Type 0
+CanGive me catalog (message envelope) = (bytes : List ℕ) × SpellsEnvelope envelope bytes
+CanGive me catalog (note reported) = NamesOnlyItems catalog (line_of me reported)
+
+-- These are the bytes: they spell the message, or are the line of the report.
+abbrev pub IsOutInBytes : ℕ → Declared → Out → List ℕ → Type 0
+IsOutInBytes me catalog (message envelope) bytes = SpellsEnvelope envelope bytes
+IsOutInBytes me catalog (note reported) bytes = bytes ≡ line_text catalog (line_of me reported)
+
+-- a message goes to a site, and a report to the host
+abbrev pub goes_to : Out → ℕ
+goes_to (message envelope) = envelope.to
+goes_to (note reported) = REPORT
+
+-- What is next of what the site is to let out, and may be let out: so much of the log as there was when it was made is in the host's file.
+pub record IsNext (hosted : HostedState) (next : Held) (later : List Held) : Type 0 where
+  pub held : hosted.held ≡ next ∷ later
+  pub stored : next.length ≤ stored_length hosted
+
+-- There is nothing, or what is next may not be let out yet.
+abbrev pub NothingMayLeave : ℕ → List Held → Type 0
+NothingMayLeave stored [] = ⊤
+NothingMayLeave stored (first ∷ later) = stored < first.length
+
+-- What the site lets out is written, or isn't for want of room.
+pub record GivesOut (me : ℕ) (catalog : Declared) (let_out : Out) (room out : List ℕ) (given : Given) : Type 0 where
+  pub bytes : List ℕ
+  pub are : IsOutInBytes me catalog let_out bytes
+  pub gives : GivesBytes bytes (goes_to let_out) room out given
+
+-- A taking of what is let out. It is taken where it was written, and else the site is as it was.
+abbrev pub TakesBytes : {E : Type 0} → List ℕ → List ℕ → HostedState → HostedState → Result Given E → Type 0
+TakesBytes room out old new (Ok Nothing) = NothingMayLeave (stored_length old) old.held × (new ≡ old) × (out ≡ room)
+TakesBytes room out old new (Ok (Bytes count to)) =
+    (next : Held) × (later : List Held) × IsNext old next later × GivesOut old.site.me old.site.catalog next.out room out (Bytes count to) × (new ≡ record old { held = later })
+TakesBytes room out old new (Ok (TooSmall needed)) =
+    (next : Held) × (later : List Held) × IsNext old next later × GivesOut old.site.me old.site.catalog next.out room out (TooSmall needed) × (new ≡ old)
+TakesBytes room out old new (Err _) = (new ≡ old) × (out ≡ room)
+
+-- What is to be written next is given, if there is something.
+abbrev pub GivesWrite : Option HostWrite → List ℕ → List ℕ → Given → Type 0
+GivesWrite None room out given = (given ≡ Nothing) × (out ≡ room)
+GivesWrite (Some write) room out given = GivesBytes write.bytes write.place room out given
+
+-- So many bytes at this place are what is to be written next.
+abbrev pub IsNextWrite : ℕ → ℕ → Option HostWrite → Type 0
+IsNextWrite place count None = ⊥
+IsNextWrite place count (Some write) = (write.place ≡ place) × (length write.bytes ≡ count)
+
+-- The host tells that it has written so many bytes at this place. That is taken exactly of what is to be written next.
+abbrev pub AcceptsWrite : {X E : Type 0} → ℕ → ℕ → HostedState → HostedState → Result X E → Type 0
+AcceptsWrite place count old new (Ok _) = IsNextWrite place count (next_write old.site.log) × Writes old new
+AcceptsWrite place count old new (Err _) = (IsNextWrite place count (next_write old.site.log) → ⊥) × (new ≡ old)
+
+-- the line that a report has for the item of this number, by what the site shows of it
+abbrev pub item_text : HostedState → ℕ → List ℕ
+item_text hosted n =
+    line_text hosted.site.catalog (item_line n (reading_at hosted.site.me hosted.site.running n (shown hosted.site.catalog hosted.site.records n)))
+
+-- The item of this number has this name, and is declared so.
+pub record IsNamed (hosted : HostedState) (name : List ℕ) (n : ℕ) (item : Item) : Type 0 where
+  pub place : place_of name hosted.site.catalog.items ≡ Some n
+  pub declared : slice_get hosted.site.catalog.items n ≡ Some item
+
+-- A reading of the item of this name. Something is shown only where all of the log is in the host's file.
+abbrev pub ReadsBytes : HostedState → List ℕ → List ℕ → List ℕ → Result Given ValueFault → Type 0
+ReadsBytes hosted name room out (Ok given) =
+    (n : ℕ) × (item : Item) × IsNamed hosted name n item × (item.site ≡ hosted.site.me) × (log_length hosted ≤ stored_length hosted)
+    × GivesBytes (item_text hosted n) 0 room out given
+ReadsBytes hosted name room out (Err UnknownName) = (place_of name hosted.site.catalog.items ≡ None) × (out ≡ room)
+ReadsBytes hosted name room out (Err NotHere) = ((n : ℕ) × (item : Item) × IsNamed hosted name n item × (item.site ≢ hosted.site.me)) × (out ≡ room)
+ReadsBytes hosted name room out (Err Unwritten) =
+    ((n : ℕ) × (item : Item) × IsNamed hosted name n item × (item.site ≡ hosted.site.me) × (stored_length hosted < log_length hosted)) × (out ≡ room)
+ReadsBytes hosted name room out (Err NoMemory) = out ≡ room

@@ -1,0 +1,9 @@
+pub mod ByteSite
+pub mod ByteView
+pub mod Faults
+pub mod Given
+pub mod SiteHandle
+pub mod Slot
+pub mod Waiting
+pub mod World
+pub mod WorldHandle

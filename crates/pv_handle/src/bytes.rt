@@ -1,0 +1,177 @@
+// A site whose messages, reports and values go out as bytes, for a host that has only so much room for them.
+ghost use Rattle.std.specs.Prelude.{◌≡◌, ◌≤◌, IfSome, None};
+ghost use Rattle.pv_protocol.specs.State as model;
+ghost use Rattle.pv_host.specs.HostLog.{next_write};
+ghost use Rattle.pv_embed.specs.Hosted.{Gives, HostedState, stored_length};
+ghost use Rattle.pv_embed.specs.Opening.{OpensHosted};
+ghost use Rattle.pv_embed.specs.Requests.{ReceivesBy, SubmitsBy};
+ghost use Rattle.pv_handle.specs.ByteSite.{AcceptsWrite, GivesWrite, NothingMayLeave, ReadsBytes, TakesBytes};
+ghost use Rattle.pv_handle.specs.Waiting.{left_after, waits_before};
+
+use crate::faults::{NotNext, ValueFault};
+use crate::given::{Given, give};
+use crate::outputs::{give_output, shown_text};
+use pv_base::{Catalog, NoMemory};
+use pv_embed::{HostedSite, OpenFault, Output, ReceiveFault, SubmitFault};
+use std::alloc::Global;
+use std::marker::Model;
+
+/// A site of the database, as [`HostedSite`] is one, whose host takes bytes: what doesn't fit into the room that the host has stays, and comes again.
+#[derive(Drop)]
+pub struct ByteSite {
+    /// Where its memory comes from.
+    alloc: Global,
+    /// The site.
+    site: HostedSite,
+    /// What the site has let out and the host hasn't taken.
+    waiting: Option<Waiting>,
+}
+
+/// What a site has let out, and how long its log was after the step that made it.
+#[derive(Drop)]
+pub(crate) struct Waiting {
+    /// How long the log was.
+    pub(crate) length: u64,
+    /// What was let out.
+    pub(crate) output: Output,
+}
+
+impl Model for ByteSite {
+    ghost use Rattle.pv_embed.specs.Hosted.{HostedState};
+    ghost use Rattle.pv_handle.specs.ByteView.{state_of, IsByteSite};
+
+    ghost Value = { HostedState };
+
+    ghost use Rattle.std.specs.Coded.{codes};
+    ghost use Rattle.pv_model.specs.SyntaxCodes.{program_code};
+
+    ghost coded = { Prim.hlevel (codes, program_code) };
+
+    ghost view = { state_of };
+
+    ghost invariant = { IsByteSite };
+}
+
+impl ByteSite {
+    /// Opens a site on the bytes of its journal, as [`HostedSite::open`] does.
+    pub fn open(alloc: Global, config: &[u8], me: u8, journal: &[u8]) -> Result<ByteSite, OpenFault>
+        ensures { OpensHosted config.now me journal.now result }
+    {
+        let Ok(journal) = Vec::from_slice(alloc, journal) else {
+            return Err(OpenFault::NoMemory);
+        };
+        let site = HostedSite::open(alloc, config, me, journal)?;
+        Ok(ByteSite {
+            alloc,
+            site,
+            waiting: None,
+        })
+    }
+
+    /// A request, as [`HostedSite::submit`] takes it.
+    pub fn submit(&mut self, text: &[u8], query: bool) -> Result<(), SubmitFault>
+        ensures { SubmitsBy self.old self.new text.now query result }
+    {
+        self.site.submit(text, query)
+    }
+
+    /// A message comes, as [`HostedSite::receive`] takes it.
+    pub fn receive(&mut self, bytes: &[u8]) -> Result<(), ReceiveFault>
+        ensures { ReceivesBy self.old self.new bytes.now result }
+    {
+        self.site.receive(bytes)
+    }
+
+    /// Time has passed.
+    pub fn tick(&mut self) -> Result<(), NoMemory>
+        ensures { Gives self.old self.new model.tick result }
+    {
+        self.site.tick()
+    }
+
+    /// What the host is to write next into its file. It is the same until the host has told that it is done.
+    pub fn next_write(&mut self, out: &mut [u8]) -> Given
+        ensures given { GivesWrite (next_write self.old.site.log) out.old out.new result }
+        ensures unchanged { self.new ≡ self.old }
+    {
+        match self.site.next_write() {
+            Some(write) => give(write.bytes, write.place, out),
+            None => Given::Nothing,
+        }
+    }
+
+    /// The host has written so many bytes at this place, and synced its file. That is taken only of what is to be written next.
+    pub fn written(&mut self, place: u64, count: usize) -> Result<(), NotNext>
+        ensures { AcceptsWrite place count self.old self.new result }
+    {
+        let is_next = match self.site.next_write() {
+            Some(write) => write.place == place && write.bytes.len() == count,
+            None => false,
+        };
+        if !is_next {
+            return Err(NotNext);
+        }
+        self.site.written();
+        Ok(())
+    }
+
+    /// The next thing that the site lets out: the bytes of a message, which go to a site, or a report as a line, which goes to [`REPORT`](crate::REPORT).
+    /// It stays until there was room and memory for it.
+    pub fn take(&mut self, out: &mut [u8]) -> Result<Given, NoMemory>
+        ensures { TakesBytes out.old out.new self.old self.new result }
+    {
+        bring(&mut self.site, &mut self.waiting);
+        let Some(waiting) = &self.waiting else {
+            return Ok(Given::Nothing);
+        };
+        let given = give_output(
+            self.alloc,
+            &waiting.output,
+            self.site.me(),
+            self.site.catalog(),
+            out,
+        )?;
+        let_go(&mut self.waiting, given);
+        Ok(given)
+    }
+
+    /// What the site shows of its item of this name, as the line that a report has for it, once all records are in the host's file.
+    pub fn read(&self, name: &[u8], out: &mut [u8]) -> Result<Given, ValueFault>
+        ensures { ReadsBytes self.now name.now out.old out.new result }
+    {
+        let shown = self.site.read(name)?;
+        let catalog = self.site.catalog();
+        let Some(item) = catalog.find(name) else {
+            return Err(ValueFault::UnknownName);
+        };
+        let text = shown_text(self.alloc, item, shown, catalog)?;
+        Ok(give(&text, 0, out))
+    }
+}
+
+// Lets the site let out what is next, unless something waits.
+fn bring(site: &mut HostedSite, waiting: &mut Option<Waiting>)
+    ensures held { waits_before waiting.new site.new.held ≡ waits_before waiting.old site.old.held }
+    ensures site { site.new ≡ record site.old { held = site.new.held } }
+    ensures stored { IfSome waiting.old (λ waits. waits.length ≤ stored_length site.old) → IfSome waiting.new (λ waits. waits.length ≤ stored_length site.old) }
+    ensures nothing { waiting.new ≡ None → NothingMayLeave (stored_length site.old) site.new.held }
+{
+    if waiting.is_some() {
+        return;
+    }
+    let Some(length) = site.waits_for() else {
+        return;
+    };
+    if let Some(output) = site.take() {
+        *waiting = Some(Waiting { length, output });
+    }
+}
+
+// What was written waits no longer.
+fn let_go(waiting: &mut Option<Waiting>, given: Given)
+    ensures { waiting.new ≡ left_after given waiting.old }
+{
+    if let Given::Bytes { .. } = given {
+        *waiting = None;
+    }
+}

@@ -1,0 +1,19 @@
+//! What a program in another language holds of the engine: a slot, closed or with a world or a site in it, which C sees as a flag and a pointer.
+#![tactic(auto)]
+
+mod bytes;
+mod faults;
+mod given;
+mod outputs;
+mod parts;
+mod refused;
+mod site;
+mod world;
+
+pub use bytes::ByteSite;
+pub use faults::{NotNext, ValueFault};
+pub use given::Given;
+pub use outputs::REPORT;
+pub use refused::Refused;
+pub use site::SiteSlot;
+pub use world::WorldSlot;

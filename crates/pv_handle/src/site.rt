@@ -1,0 +1,229 @@
+// The slot of a site.
+mod handle;
+
+ghost use Rattle.std.specs.Prelude.{◌≡◌, Some, None, IsSome, is_some};
+
+use crate::bytes::ByteSite;
+use crate::faults::{NotNext, ValueFault};
+use crate::given::Given;
+use crate::parts::boxed;
+use crate::refused::Refused;
+use handle::SiteHandle;
+use pv_base::NoMemory;
+use pv_embed::{OpenFault, ReceiveFault, SubmitFault};
+use std::alloc::Global;
+
+/// A site or none, as C holds it: zeroes are a closed slot.
+#[repr(C)]
+pub struct SiteSlot {
+    live: bool,
+    pub handle: SiteHandle,
+    pub ghost agrees: { live ≡ is_some handle.site },
+}
+
+impl SiteSlot {
+    ghost use Rattle.std.specs.Prelude.{IfNone, OnErr};
+    ghost use Rattle.pv_protocol.specs.State as model;
+    ghost use Rattle.pv_host.specs.HostLog.{next_write};
+    ghost use Rattle.pv_embed.specs.Hosted.{Gives};
+    ghost use Rattle.pv_embed.specs.Opening.{OpensHosted};
+    ghost use Rattle.pv_embed.specs.Requests.{ReceivesBy, SubmitsBy};
+    ghost use Rattle.pv_handle.specs.ByteSite.{AcceptsWrite, GivesWrite, ReadsBytes, TakesBytes};
+    ghost use Rattle.pv_handle.specs.Slot.{Opens, Calls, Asks};
+
+    /// A slot with no site.
+    pub fn closed(alloc: Global) -> SiteSlot
+        ensures { result.handle.site ≡ None }
+    {
+        SiteSlot {
+            live: false,
+            handle: SiteHandle::none(alloc),
+        }
+    }
+
+    /// Opens a closed slot with a site that goes on from a journal.
+    pub fn open(
+        &mut self,
+        alloc: Global,
+        config: &[u8],
+        me: u8,
+        journal: &[u8],
+    ) -> Result<(), Refused<OpenFault>>
+        ensures { Opens (OpensHosted config.now me journal.now) self.old.handle.site self.new.handle.site result }
+    {
+        if self.live {
+            return Err(Refused::InUse);
+        }
+        let site = match ByteSite::open(alloc, config, me, journal) {
+            Ok(site) => site,
+            Err(fault) => return Err(Refused::Engine(fault)),
+        };
+        let Ok(site) = boxed(alloc, site) else {
+            return Err(Refused::Engine(OpenFault::NoMemory));
+        };
+        self.put(site);
+        Ok(())
+    }
+
+    /// A request.
+    pub fn submit(
+        &mut self,
+        alloc: Global,
+        text: &[u8],
+        query: bool,
+    ) -> Result<(), Refused<SubmitFault>>
+        ensures { Calls (λ old new. SubmitsBy old new text.now query) self.old.handle.site self.new.handle.site result }
+    {
+        if !self.live {
+            return Err(Refused::Closed);
+        }
+        let mut site = self.take_out(alloc);
+        let done = site.submit(text, query);
+        self.put(site);
+        match done {
+            Ok(()) => Ok(()),
+            Err(fault) => Err(Refused::Engine(fault)),
+        }
+    }
+
+    /// A message comes.
+    pub fn receive(&mut self, alloc: Global, bytes: &[u8]) -> Result<(), Refused<ReceiveFault>>
+        ensures { Calls (λ old new. ReceivesBy old new bytes.now) self.old.handle.site self.new.handle.site result }
+    {
+        if !self.live {
+            return Err(Refused::Closed);
+        }
+        let mut site = self.take_out(alloc);
+        let done = site.receive(bytes);
+        self.put(site);
+        match done {
+            Ok(()) => Ok(()),
+            Err(fault) => Err(Refused::Engine(fault)),
+        }
+    }
+
+    /// Time has passed.
+    pub fn tick(&mut self, alloc: Global) -> Result<(), Refused<NoMemory>>
+        ensures { Calls (λ old new. Gives old new model.tick) self.old.handle.site self.new.handle.site result }
+    {
+        if !self.live {
+            return Err(Refused::Closed);
+        }
+        let mut site = self.take_out(alloc);
+        let done = site.tick();
+        self.put(site);
+        match done {
+            Ok(()) => Ok(()),
+            Err(fault) => Err(Refused::Engine(fault)),
+        }
+    }
+
+    /// What the host is to write next into its file. The site stays as it is.
+    pub fn next_write(&mut self, alloc: Global, out: &mut [u8]) -> Option<Given>
+        ensures given { Asks (λ old new given. (new ≡ old) × GivesWrite (next_write old.site.log) out.old out.new given)
+            self.old.handle.site self.new.handle.site result }
+        ensures unchanged { IfNone result (out.new ≡ out.old) }
+    {
+        if !self.live {
+            return None;
+        }
+        let mut site = self.take_out(alloc);
+        let given = site.next_write(out);
+        self.put(site);
+        Some(given)
+    }
+
+    /// The host has written so many bytes at this place, and synced its file.
+    pub fn written(
+        &mut self,
+        alloc: Global,
+        place: u64,
+        count: usize,
+    ) -> Result<(), Refused<NotNext>>
+        ensures { Calls (AcceptsWrite place count) self.old.handle.site self.new.handle.site result }
+    {
+        if !self.live {
+            return Err(Refused::Closed);
+        }
+        let mut site = self.take_out(alloc);
+        let done = site.written(place, count);
+        self.put(site);
+        match done {
+            Ok(()) => Ok(()),
+            Err(fault) => Err(Refused::Engine(fault)),
+        }
+    }
+
+    /// The next thing that the site lets out.
+    pub fn take(&mut self, alloc: Global, out: &mut [u8]) -> Result<Given, Refused<NoMemory>>
+        ensures given { Calls (TakesBytes out.old out.new) self.old.handle.site self.new.handle.site result }
+        ensures unchanged { OnErr result (out.new ≡ out.old) }
+    {
+        if !self.live {
+            return Err(Refused::Closed);
+        }
+        let mut site = self.take_out(alloc);
+        let answer = site.take(out);
+        self.put(site);
+        match answer {
+            Ok(given) => Ok(given),
+            Err(fault) => Err(Refused::Engine(fault)),
+        }
+    }
+
+    /// What the site shows of an item, once all records are in the host's file. The site stays as it is.
+    pub fn read(
+        &mut self,
+        alloc: Global,
+        name: &[u8],
+        out: &mut [u8],
+    ) -> Result<Given, Refused<ValueFault>>
+        ensures read { Calls (λ old new answer. (new ≡ old) × ReadsBytes old name.now out.old out.new answer)
+            self.old.handle.site self.new.handle.site result }
+        ensures unchanged { OnErr result (out.new ≡ out.old) }
+    {
+        if !self.live {
+            return Err(Refused::Closed);
+        }
+        let site = self.take_out(alloc);
+        let answer = site.read(name, out);
+        self.put(site);
+        match answer {
+            Ok(given) => Ok(given),
+            Err(fault) => Err(Refused::Engine(fault)),
+        }
+    }
+
+    /// Closes the slot and frees what it held. A closed slot stays closed.
+    pub fn close(&mut self, alloc: Global)
+        ensures { self.new.handle.site ≡ None }
+    {
+        *self = SiteSlot::closed(alloc);
+    }
+
+    fn take_out(&mut self, alloc: Global) -> Box<ByteSite>
+        requires { IsSome self.old.handle.site }
+        ensures taken { self.old.handle.site ≡ Some result.value }
+        ensures empty { self.new.handle.site ≡ None }
+    {
+        let handle = std::mem::replace(&mut self.handle, SiteHandle::none(alloc));
+        self.live = false;
+        handle.into_box()
+    }
+
+    fn put(&mut self, site: Box<ByteSite>)
+        ensures { self.new.handle.site ≡ Some site.value }
+    {
+        self.handle = SiteHandle::of(site);
+        self.live = true;
+    }
+}
+
+impl Drop for SiteSlot {
+    fn drop(self) {
+        let SiteSlot { live, handle } = self;
+        if live {
+            drop(handle.into_box());
+        }
+    }
+}

@@ -1,0 +1,5 @@
+//! Tests of pv_handle.
+#![tactic(auto)]
+
+#[cfg(test)]
+mod tests;

@@ -1,0 +1,292 @@
+"""Three processes with a site each: the coordinator is killed while a transfer is in doubt, and work goes on with both values.
+
+Each process is a host: it carries its site's messages as datagrams on 127.0.0.1, keeps its journal in a file that it syncs, and takes
+commands as lines on its standard input. What happens:
+
+ 1. Ten go from `a` at site 0 to `b` at site 1, and site 0 is killed (SIGKILL) once it has decided, before anyone hears of it.
+ 2. Site 1 has promised and doesn't know. After a few ticks it lets go of `b` and shows both values, each with its condition.
+ 3. Site 2 takes five off `b` all the same. That commits: with either value there is enough.
+ 4. Site 0 starts again on its file. Site 1 asks, hears of the commit, and the two values become one.
+"""
+
+import os
+import select
+import shutil
+import signal
+import socket
+import subprocess
+import sys
+import tempfile
+import time
+from pathlib import Path
+
+import polydb
+
+CONFIG = """\
+sites 3
+item a 0 100
+item b 1 50
+item c 2 0
+"""
+PATIENCE = 60.0  # seconds until the driver gives up
+
+
+# ---- a host: one process, one site ----
+
+
+class Journal:
+    """A site's file. It is on the disk, with its folder's entry and all that is read of it, before the site is opened."""
+
+    def __init__(self, path):
+        self.file = os.open(path, os.O_RDWR | os.O_CREAT, 0o600)
+        folder = os.open(Path(path).parent, os.O_RDONLY)
+        os.fsync(folder)
+        os.close(folder)
+        os.fsync(self.file)  # a process that was killed may not have come to it
+        self.held = self.read()
+        if self.held != polydb.EMPTY_JOURNAL and polydb.EMPTY_JOURNAL.startswith(self.held):
+            self.held = polydb.EMPTY_JOURNAL
+            self.write(0, self.held)
+
+    def read(self):
+        data = b""
+        while more := os.pread(self.file, 1 << 20, len(data)):
+            data += more
+        return data
+
+    def write(self, place, data):
+        """Writes the bytes into the file, from this place on, and syncs it."""
+        while data:
+            count = os.pwrite(self.file, data, place)
+            data, place = data[count:], place + count
+        os.fsync(self.file)
+
+
+class Host:
+    """Carries the messages of a site, writes its journal, and does what it is told on standard input."""
+
+    def __init__(self, config, me, folder, ports):
+        self.me = me
+        self.ports = ports
+        self.journal = Journal(journal_path(folder, me))
+        self.site = polydb.Site(config, me, self.journal.held)
+        self.socket = socket.socket(socket.AF_INET, socket.SOCK_DGRAM)
+        self.socket.bind(("127.0.0.1", ports[me]))
+        self.commands = b""
+
+    def say(self, line):
+        print(line, flush=True)
+
+    def settle(self):
+        """Writes and syncs what the site's steps have put into its journal, and then carries what it lets out."""
+        while True:
+            while (write := self.site.next_write()) is not None:
+                self.journal.write(write.place, write.bytes)
+                self.site.written(write)
+            let_out = []
+            while (output := self.site.take()) is not None:
+                let_out.append(output)
+            if not let_out:
+                return
+            self.carry(let_out)
+
+    def carry(self, let_out):
+        for output in let_out:
+            if isinstance(output, polydb.Report):
+                self.say("report " + output.line)
+            else:
+                self.send(output)
+
+    def send(self, message):
+        if message.to == self.me:
+            self.hear(message.bytes)
+            return
+        try:
+            self.socket.sendto(message.bytes, ("127.0.0.1", self.ports[message.to]))
+        except OSError:
+            pass  # a message may be lost
+
+    def hear(self, data):
+        try:
+            self.site.receive(data)
+        except polydb.PolydbError:
+            pass  # a stray datagram; or no memory for it, and then it is lost
+
+    def obey(self, line):
+        word, _, rest = line.partition(" ")
+        if word == "submit":
+            self.site.submit(rest)
+        elif word == "tick":
+            self.site.tick()
+        elif word == "read":
+            self.say("value " + self.site.read(rest))
+        else:
+            raise SystemExit(f"no command: {line}")
+
+    def run(self):
+        self.settle()
+        self.say("ready")
+        while True:
+            ready, _, _ = select.select([self.socket, sys.stdin.fileno()], [], [])
+            if self.socket in ready:
+                self.hear(self.socket.recv(65536))
+                self.settle()
+            if sys.stdin.fileno() in ready:
+                data = os.read(sys.stdin.fileno(), 65536)
+                if not data:
+                    self.site.close()
+                    return
+                *lines, self.commands = (self.commands + data).split(b"\n")
+                for line in lines:
+                    self.obey(line.decode())
+                    self.settle()
+
+
+class DoomedHost(Host):
+    """Comes to a stop once its site has decided, before anyone hears of it."""
+
+    def carry(self, let_out):
+        if any(isinstance(output, polydb.Report) and output.line.startswith("commit ") for output in let_out):
+            self.say("decided")
+            signal.pause()  # until it is killed
+        super().carry(let_out)
+
+
+# ---- the driver: starts the hosts, kills one, and looks ----
+
+
+def journal_path(folder, me):
+    return Path(folder) / f"site-{me}.pv"  # as `polydb show` looks for it
+
+
+class Ended(Exception):
+    """A host's process says no more."""
+
+
+class Process:
+    """A host's process, with lines in and out."""
+
+    def __init__(self, words, me):
+        self.me = me
+        self.process = subprocess.Popen([sys.executable, *words], stdin=subprocess.PIPE, stdout=subprocess.PIPE, bufsize=0)
+        self.left = b""
+        self.wait_for("ready")
+
+    def tell(self, line):
+        self.process.stdin.write(line.encode() + b"\n")
+
+    def line(self):
+        """The next line that it says."""
+        end = time.monotonic() + PATIENCE
+        while b"\n" not in self.left:
+            ready, _, _ = select.select([self.process.stdout], [], [], max(0.0, end - time.monotonic()))
+            data = os.read(self.process.stdout.fileno(), 65536) if ready else b""
+            if not data:
+                raise Ended(f"site {self.me} says no more (its status: {self.process.poll()})")
+            self.left += data
+        line, _, self.left = self.left.partition(b"\n")
+        return line.decode()
+
+    def wait_for(self, beginning):
+        """The next line that begins so. Others on the way are passed over."""
+        while not (line := self.line()).startswith(beginning):
+            pass
+        return line
+
+    def read(self, name):
+        self.tell(f"read {name}")
+        return self.wait_for("value ").removeprefix("value ")
+
+    def kill(self):
+        self.process.send_signal(signal.SIGKILL)
+        self.process.wait()
+
+    def end(self):
+        self.process.stdin.close()
+        if self.process.wait(PATIENCE) != 0:
+            raise Ended(f"site {self.me} ended with status {self.process.returncode}")
+
+
+def free_ports(count):
+    """Ports on which nobody listens."""
+    sockets = [socket.socket(socket.AF_INET, socket.SOCK_DGRAM) for _ in range(count)]
+    for one in sockets:
+        one.bind(("127.0.0.1", 0))
+    ports = [one.getsockname()[1] for one in sockets]
+    for one in sockets:
+        one.close()
+    return ports
+
+
+def tick_until(processes, holds):
+    """Lets time pass at these sites until that is so."""
+    end = time.monotonic() + PATIENCE
+    while not holds():
+        if time.monotonic() > end:
+            raise SystemExit("it takes too long")
+        for process in processes:
+            process.tell("tick")
+        time.sleep(0.02)
+
+
+def is_certain(shown):
+    """Whether an item shows one value."""
+    return not shown.startswith("locked") and " if " not in shown
+
+
+def expect(what, found, wanted):
+    print(f"{what}: {found}")
+    if found != wanted:
+        raise SystemExit(f"{what} should be: {wanted}")
+
+
+def drive(folder):
+    ports = free_ports(3)
+
+    def start(me, word="host"):
+        return Process([__file__, word, str(me), folder, ",".join(map(str, ports))], me)
+
+    processes = [start(0, "doomed"), start(1), start(2)]
+    try:
+        processes[0].tell("submit a := a - 10 ; b := b + 10")
+        processes[0].wait_for("decided")
+        processes[0].kill()
+        print("site 0 has decided, and was killed before anyone heard")
+
+        tick_until(processes[1:], lambda: not processes[1].read("b").startswith("locked"))
+        expect("b in doubt", processes[1].read("b"), "50 if -0.1.0 ; 60 if +0.1.0")
+
+        processes[2].tell("submit b := b - 5 ; c := c + 5")
+        print("site 2 takes five off b:", processes[2].wait_for("report commit").removeprefix("report "))
+        tick_until(processes[1:], lambda: not processes[1].read("b").startswith("locked"))
+        expect("b in doubt", processes[1].read("b"), "45 if -0.1.0 ; 55 if +0.1.0")
+
+        processes[0] = start(0)
+        print("site 0 has started again on its journal")
+        items = list(zip("abc", processes))
+        tick_until(processes, lambda: all(is_certain(process.read(name)) for name, process in items))
+        for (name, process), value in zip(items, ["90", "55", "5"]):
+            expect(name, process.read(name), value)
+        for process in processes:
+            process.end()
+    finally:
+        for process in processes:
+            if process.process.poll() is None:
+                process.kill()
+
+
+def main():
+    if len(sys.argv) > 1:
+        word, me, folder, ports = sys.argv[1:]
+        kind = DoomedHost if word == "doomed" else Host
+        kind(CONFIG, int(me), folder, [int(port) for port in ports.split(",")]).run()
+        return
+    folder = tempfile.mkdtemp(prefix="polydb-")
+    try:
+        drive(folder)
+    finally:
+        shutil.rmtree(folder)
+
+
+if __name__ == "__main__":
+    main()

@@ -1,0 +1,338 @@
+/*
+ * polydb in a C program: a database of up to 16 sites, kept in memory, that a host drives step by step.
+ *
+ * Three ways to use it, from the least to the most:
+ *
+ *   polydb_run       a whole schedule in, the text that `polydb run` prints for it out. No state.
+ *   polydb_world     all sites in one handle, driven by the lines of a schedule. What is printed is taken out.
+ *   polydb_site      one site of several, each in a program of its own. The host carries its messages and writes its journal.
+ *
+ * Link with libpolydb.a (`embed/build` makes it), or load libpolydb.so. Nothing else is needed: the library calls malloc, realloc, free, memcpy,
+ * memmove and memset of the C library, and no other function; it opens no file, starts no thread, prints nothing, and never calls the host back.
+ *
+ * Handles. A world and a site live behind a handle that the host keeps. All zeroes are a closed handle:
+ *
+ *     polydb_site site = {0};
+ *
+ * What the host owes, which C can't check:
+ *   - a handle begins as zeroes, is changed by nothing but these calls, and isn't copied: after a copy, closing both frees twice;
+ *   - no handle is used by two calls at once. Two threads with a handle each are fine, and a handle may move from thread to thread;
+ *   - each pointer isn't null and has as many bytes behind it as the call is told; with a length of 0 it is any pointer that isn't null;
+ *   - `out`, what the numbers go to and the handle don't overlap each other or the input;
+ *   - no call is made from a signal handler, or from the child of a fork of a program with threads;
+ *   - malloc, realloc and free are of one allocator, and malloc aligns a block for its size up to 16.
+ *
+ * What the library promises, which is proved: each call ends, and gives one of the statuses written below it, exactly for the cause that is
+ * written beside it, and for the first in that list where several are so (but POLYDB_NO_MEMORY and POLYDB_BROKEN_OFF, which may come wherever they are
+ * listed); with a status other than POLYDB_DONE the world or site is as it was before the call, unless said otherwise; and no call reads or writes outside
+ * what it is given. What else is proved stands in docs/EMBEDDING.md.
+ *
+ * Room. Where a call writes bytes to `out`, they are `room` bytes at most, the rest of `out` stays as it was, and too small a room loses nothing:
+ * POLYDB_TOO_SMALL says in `*written` how many bytes there are, nothing is written, and the same bytes come again. With a status that says nothing else
+ * of it `*written` is 0, and `out` is as it was.
+ */
+#ifndef POLYDB_H
+#define POLYDB_H
+
+#include <stdbool.h>
+#include <stddef.h>
+#include <stdint.h>
+
+#ifdef __cplusplus
+extern "C" {
+#endif
+
+/* ---- statuses ---- */
+
+/* Those below 16 are the exit statuses of the program `polydb`, with its causes. */
+
+/* The call did what it says. */
+#define POLYDB_DONE 0u
+/* A line isn't in the grammar. polydb_run on the same lines says which one, and why. */
+#define POLYDB_MALFORMED 3u
+/* There are more than 16,777,216 bytes. */
+#define POLYDB_TOO_LONG 6u
+/* There was no memory. The call can be made again. */
+#define POLYDB_NO_MEMORY 7u
+/* With the line's messages all that were ever sent would have more than 268,435,456 bytes. A world takes no more steps then. */
+#define POLYDB_SENT_LIMIT 8u
+
+/* Of all handles. */
+
+/* The handle is closed. */
+#define POLYDB_CLOSED 16u
+/* The handle is open already. It stays open, with what it had. */
+#define POLYDB_IN_USE 17u
+/* There are `*written` bytes, and less room. */
+#define POLYDB_TOO_SMALL 18u
+/* There is nothing now. */
+#define POLYDB_NOTHING 19u
+
+/* Of openings. */
+
+/* The lines have an event, and are to declare only. */
+#define POLYDB_HAS_EVENTS 20u
+/* There is no site of this number. */
+#define POLYDB_NO_SITE 21u
+/* The bytes are no journal. */
+#define POLYDB_NOT_OURS 22u
+/* What the journal holds isn't a record. */
+#define POLYDB_BAD_RECORD 23u
+/* With the journal's records the value of an item would name too many outcomes. No site of this configuration writes such a journal. */
+#define POLYDB_TOO_MANY_OUTCOMES 24u
+/* No epoch is left: the site was opened 4,294,967,294 times. */
+#define POLYDB_EPOCHS_SPENT 25u
+/* The journal has no room for the record of the new epoch: its limit is the one of the configuration's line `journal`. */
+#define POLYDB_FULL 26u
+
+/* Of sites. */
+
+/* The text is no program. */
+#define POLYDB_BAD_TEXT 27u
+/* The program may not run: it names no item or more than 16, or it is a query that assigns or has no `return`. */
+#define POLYDB_BAD_PROGRAM 28u
+/* The bytes are no message. */
+#define POLYDB_BAD_MESSAGE 29u
+/* The message goes to another site; or the item is at another one. */
+#define POLYDB_NOT_HERE 30u
+/* There is no such site as the message comes from. */
+#define POLYDB_NO_SENDER 31u
+/* That isn't what the site has asked to be written: it is written already, or was never asked for. */
+#define POLYDB_NOT_NEXT 32u
+/* No item has this name. */
+#define POLYDB_UNKNOWN_NAME 33u
+/* Records wait to be written into the file. What the item shows may rest on them, and a crash may undo it. */
+#define POLYDB_UNWRITTEN 37u
+
+/* Of worlds. */
+
+/* The line is no event, or more than one, or declares something. */
+#define POLYDB_NOT_ONE_EVENT 34u
+/* There was no memory within the step. The world takes no more steps. */
+#define POLYDB_BROKEN_OFF 35u
+/* The world takes no more steps: an earlier one gave POLYDB_SENT_LIMIT or POLYDB_BROKEN_OFF. */
+#define POLYDB_ENDED 36u
+
+/* ---- a world: all sites of a schedule in one handle ---- */
+
+/* Closed if all zeroes. Not to be copied. The fields are the library's. */
+typedef struct {
+    bool live;
+    void *at;
+} polydb_world;
+
+/*
+ * Opens a closed handle with the sites and items of a catalog: lines `sites`, `journal` and `item` of a schedule.
+ *
+ *   POLYDB_DONE        the handle is open, each site has started once, and nothing has happened
+ *   POLYDB_IN_USE      the handle was open
+ *   POLYDB_TOO_LONG    the catalog has more than 16,777,216 bytes
+ *   POLYDB_MALFORMED   a line of it isn't in the grammar
+ *   POLYDB_HAS_EVENTS  it has an event
+ *   POLYDB_NO_MEMORY   there was no memory
+ *
+ * The catalog is copied: the host may free it.
+ */
+uint32_t polydb_world_open(polydb_world *world, const uint8_t *catalog, size_t length);
+
+/*
+ * One event, as a line of a schedule without its end: a request, a delivery, a loss, a tick, a stop. What the event prints is
+ * kept until polydb_world_take hands it out. All that is kept, one step after another, is what `polydb run` prints for these events.
+ *
+ *   POLYDB_DONE           the event happened
+ *   POLYDB_CLOSED         the handle is closed
+ *   POLYDB_ENDED          the world takes no more steps
+ *   POLYDB_TOO_LONG       the catalog, a line feed and the line have more than 16,777,216 bytes together
+ *   POLYDB_MALFORMED      the line isn't in the grammar, or not behind this catalog
+ *   POLYDB_NOT_ONE_EVENT  it is no event, or more than one, or declares something
+ *   POLYDB_NO_MEMORY      there was no memory to read it
+ *
+ * With these two the world takes no more steps. What is kept is still to be taken.
+ *
+ *   POLYDB_SENT_LIMIT     in this event the messages pass their limit, where `polydb run` ends with status 8
+ *   POLYDB_BROKEN_OFF     there was no memory within the step
+ */
+uint32_t polydb_world_step(polydb_world *world, const uint8_t *line, size_t length);
+
+/*
+ * Writes the oldest kept bytes of what was printed to `out`, as many as there are and have room, and drops these alone: with
+ * too small a room nothing is lost, and the next call goes on. `*written` is how many bytes that are, 0 when all were taken.
+ *
+ *   POLYDB_DONE        `*written` bytes were written and dropped; the rest of `out` is as it was
+ *   POLYDB_CLOSED      the handle is closed; `out` is as it was, and `*written` is 0
+ */
+uint32_t polydb_world_take(polydb_world *world, uint8_t *out, size_t room, size_t *written);
+
+/* Closes the handle and frees all that it holds. A closed handle stays closed: closing twice is fine. */
+void polydb_world_close(polydb_world *world);
+
+/* ---- a site: one site of several, for a host that carries its messages and writes its journal ---- */
+
+/*
+ * A host does this, in any order and as often as it likes, but for the two calls of the inner loop, which belong together:
+ *
+ *     open the site on what its file holds
+ *     for ever:
+ *         while polydb_site_take_journal gives a place and bytes:
+ *             write the bytes at the place (pwrite), and sync the file (fdatasync)
+ *             polydb_site_journal_synced
+ *         while polydb_site_take_message gives a message or a report:
+ *             send the message to the site that it goes to; show the report
+ *         give the site what came: a request, a message, a tick
+ *
+ * A message may be lost, may come late and may come twice: the sites agree all the same. Time is the host's: a site that waits for an answer
+ * gives up, lets go of its locks, or asks again after so many ticks, and never without one.
+ *
+ * What the host owes besides:
+ *   - the file, and for a new one its entry in the folder, is synced before its bytes are read for polydb_site_open: the site counts as written all that it
+ *     finds, and of a process that was killed the file may show bytes that aren't on the disk yet;
+ *   - the file holds what was written and synced before polydb_site_journal_synced was called, until the site is opened again. A crash in
+ *     a write leaves any bytes where that write puts its bytes, and all other bytes alone;
+ *   - one open site at a time has the file;
+ *   - bytes that polydb_site_receive is given may be any bytes; but where they spell a message, a site of the same configuration let it out;
+ *   - all sites are opened with the same configuration, and each number is one site's.
+ *
+ * What is proved of it: each call makes of the site what the program's site makes of the same input; nothing is let out before all records
+ * are in the file that the site had when it made it, and nothing is shown while one isn't; and at each moment, and whatever a crash in a write leaves, the file is a journal of the first
+ * records of the site, as many as the host has said to be written, or one more. `polydb show` shows the file as it shows the program's.
+ */
+
+/* Closed if all zeroes. Not to be copied. The fields are the library's. */
+typedef struct {
+    bool live;
+    void *at;
+} polydb_site;
+
+/*
+ * The file of a new site: a journal without records. It is these bytes with the zero behind them, sizeof POLYDB_EMPTY_JOURNAL in all.
+ * The host makes the file, and syncs it and its folder, before it opens the site the first time.
+ */
+#define POLYDB_EMPTY_JOURNAL "PVJRNL01"
+
+/* What polydb_site_take_message gives for `to` where the bytes are no message, but a report. No site has this number. */
+#define POLYDB_REPORT 255u
+
+/*
+ * Opens a closed handle with site `me` of a configuration: lines `sites`, `journal` and `item` of a schedule, the same for all sites. The journal is
+ * what the host's file holds. What the file holds beyond the journal's end doesn't matter. Both are copied.
+ *
+ *   POLYDB_DONE               the site is open. It is in a new epoch, whose record is the first thing to write
+ *   POLYDB_IN_USE             the handle was open
+ *   POLYDB_TOO_LONG           the configuration has more than 16,777,216 bytes
+ *   POLYDB_MALFORMED          a line of it isn't in the grammar
+ *   POLYDB_HAS_EVENTS         it has an event
+ *   POLYDB_NO_SITE            it has no site `me`
+ *   POLYDB_NOT_OURS           the bytes are no journal
+ *   POLYDB_BAD_RECORD         the journal holds what is no record
+ *   POLYDB_TOO_MANY_OUTCOMES  its records give an item too many outcomes
+ *   POLYDB_EPOCHS_SPENT       no epoch is left
+ *   POLYDB_FULL               there is no room for the epoch's record
+ *   POLYDB_NO_MEMORY          there was no memory
+ */
+uint32_t polydb_site_open(polydb_site *site, const uint8_t *config, size_t config_length, uint8_t me, const uint8_t *journal,
+                          size_t journal_length);
+
+/*
+ * A request: the program that the text is runs, with this site as its coordinator. A query assigns nothing and has a `return`. What becomes of it is
+ * reported: `txn ..`, and then `commit ..` or `refuse ..`.
+ *
+ *   POLYDB_DONE         the site has begun it
+ *   POLYDB_CLOSED       the handle is closed
+ *   POLYDB_BAD_TEXT     the text is no program
+ *   POLYDB_BAD_PROGRAM  the program may not run
+ *   POLYDB_NO_MEMORY    there was no memory
+ */
+uint32_t polydb_site_submit(polydb_site *site, const uint8_t *program, size_t length, bool query);
+
+/*
+ * A message comes: bytes that polydb_site_take_message of some site, or of this one, has given.
+ *
+ *   POLYDB_DONE         the site has taken it
+ *   POLYDB_CLOSED       the handle is closed
+ *   POLYDB_BAD_MESSAGE  the bytes are no message
+ *   POLYDB_NOT_HERE     the message goes to another site
+ *   POLYDB_NO_SENDER    the configuration has no such site as it comes from
+ *   POLYDB_NO_MEMORY    there was no memory: give it again, or let it be lost
+ */
+uint32_t polydb_site_receive(polydb_site *site, const uint8_t *message, size_t length);
+
+/*
+ * Time has passed: the site may give up waiting, let go of its locks and show both values, or ask again.
+ *
+ *   POLYDB_DONE        the site has counted it
+ *   POLYDB_CLOSED      the handle is closed
+ *   POLYDB_NO_MEMORY   there was no memory
+ */
+uint32_t polydb_site_tick(polydb_site *site);
+
+/*
+ * What the host is to write next into its file: `*written` bytes at `*place` (from 0), which may lie within the file. Nothing changes in the
+ * site: the same bytes come until polydb_site_journal_synced.
+ *
+ *   POLYDB_DONE        the bytes are in `out`
+ *   POLYDB_CLOSED      the handle is closed
+ *   POLYDB_NOTHING     all is written
+ *   POLYDB_TOO_SMALL   there are `*written` bytes, and less room
+ */
+uint32_t polydb_site_take_journal(polydb_site *site, uint8_t *out, size_t room, size_t *written, uint64_t *place);
+
+/*
+ * The host has written these bytes at this place, as many as polydb_site_take_journal gave, and synced the file. To say so before it is true breaks
+ * what is proved.
+ *
+ *   POLYDB_DONE        the site knows; the next write, if there is one, is now to be taken
+ *   POLYDB_CLOSED      the handle is closed
+ *   POLYDB_NOT_NEXT    so many bytes at this place aren't what is to be written next
+ */
+uint32_t polydb_site_journal_synced(polydb_site *site, uint64_t place, size_t written);
+
+/*
+ * The next thing that the site lets out: the bytes of a message, to be carried to site `*to`; or with `*to` = POLYDB_REPORT a line of text with its
+ * line feed, as a run prints it: `txn 0.1.0`, `commit 0.1.0 certain nothing`, `refuse 0.1.1 conflict 0 a 0.1.0`, `full 0 4096`, `spent 0`.
+ * They come in the order in which the site made them.
+ *
+ *   POLYDB_DONE        it is in `out`, and dropped from the site
+ *   POLYDB_CLOSED      the handle is closed
+ *   POLYDB_NOTHING     there is nothing, or it waits for the file
+ *   POLYDB_TOO_SMALL   it has `*written` bytes, and there is less room
+ *   POLYDB_NO_MEMORY   there was no memory; it comes again
+ */
+uint32_t polydb_site_take_message(polydb_site *site, uint8_t *out, size_t room, size_t *written, uint64_t *to);
+
+/*
+ * What the site shows of its item of this name, as the line with its line feed that a report has for it: `item a 90`,
+ * `item b 50 if -0.1.0 ; 60 if +0.1.0`, or `item a locked 0.1.0`. Nothing changes. It is shown only once all is written that the site has asked for:
+ * else a crash might undo what was shown.
+ *
+ *   POLYDB_DONE          the line is in `out`
+ *   POLYDB_CLOSED        the handle is closed
+ *   POLYDB_UNKNOWN_NAME  no item has this name
+ *   POLYDB_NOT_HERE      the item is at another site
+ *   POLYDB_UNWRITTEN     polydb_site_take_journal has something to write, and the item isn't shown before polydb_site_journal_synced
+ *   POLYDB_TOO_SMALL     the line has `*written` bytes, and there is less room
+ *   POLYDB_NO_MEMORY     there was no memory
+ */
+uint32_t polydb_site_read(polydb_site *site, const uint8_t *name, size_t length, uint8_t *out, size_t room, size_t *written);
+
+/* Closes the handle and frees all that it holds. A closed handle stays closed. The host's file goes on: open the site again on it. */
+void polydb_site_close(polydb_site *site);
+
+/* ---- a whole run, without a handle ---- */
+
+/*
+ * The text that `polydb run` prints for these bytes, and its exit status. No state stays behind.
+ *
+ *   POLYDB_DONE        the whole text is in `out`, `*written` bytes
+ *   POLYDB_TOO_SMALL   the text has `*written` bytes, and there is less room; this comes in place of the statuses below, too
+ *   POLYDB_TOO_LONG    there are more than 16,777,216 bytes
+ *   POLYDB_MALFORMED   a line isn't in the grammar; the text in `out` names the first one and why
+ *   POLYDB_SENT_LIMIT  the messages are too many; the text of the events before is in `out`
+ *   POLYDB_NO_MEMORY   there was no memory
+ */
+uint32_t polydb_run(const uint8_t *input, size_t length, uint8_t *out, size_t room, size_t *written);
+
+#ifdef __cplusplus
+}
+#endif
+
+#endif

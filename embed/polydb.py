@@ -1,0 +1,409 @@
+"""polydb in a Python program, by ctypes.
+
+`World` is a database of up to 16 sites that one program drives event by event. `Site` is one site, for a program that carries its
+messages and writes its journal. `run` gives what `polydb run` prints for a whole schedule. What each call does is written in
+`polydb.h`; a status other than POLYDB_DONE is raised as an exception here, and leaves the world or site as it was.
+
+The library is libpolydb.so beside this file or in `out`, or the file that the environment variable POLYDB_LIBRARY names.
+"""
+
+import ctypes
+import os
+from ctypes import POINTER, byref, c_bool, c_char_p, c_size_t, c_uint8, c_uint32, c_uint64, c_void_p, string_at
+from pathlib import Path
+from threading import Lock
+from typing import NamedTuple, Optional
+
+__all__ = [
+    "EMPTY_JOURNAL",
+    "World",
+    "Site",
+    "JournalWrite",
+    "Message",
+    "Report",
+    "run",
+    "PolydbError",
+    "Malformed",
+    "TooLong",
+    "NoMemory",
+    "SentLimit",
+    "Closed",
+    "InUse",
+    "HasEvents",
+    "NoSite",
+    "NotOurs",
+    "BadRecord",
+    "TooManyOutcomes",
+    "EpochsSpent",
+    "Full",
+    "BadText",
+    "BadProgram",
+    "BadMessage",
+    "NotHere",
+    "NoSender",
+    "NotNext",
+    "UnknownName",
+    "Unwritten",
+    "NotOneEvent",
+    "BrokenOff",
+    "Ended",
+]
+
+_DONE = 0
+_TOO_SMALL = 18
+_NOTHING = 19
+_REPORT = 255
+
+#: The file of a new site: a journal without records.
+EMPTY_JOURNAL = b"PVJRNL01\0"
+
+_FIRST_ROOM = 4096
+
+
+class PolydbError(Exception):
+    """A call was refused, and nothing has changed but where a kind of this error says so."""
+
+
+class Malformed(PolydbError, ValueError):
+    """A line isn't in the grammar."""
+
+
+class TooLong(PolydbError, ValueError):
+    """There are more than 16,777,216 bytes."""
+
+
+class NoMemory(PolydbError, MemoryError):
+    """There was no memory. The call can be made again."""
+
+
+class SentLimit(PolydbError):
+    """All messages together would have more than 268,435,456 bytes. The world takes no more steps."""
+
+
+class Closed(PolydbError):
+    """The world or site is closed."""
+
+
+class InUse(PolydbError):
+    """The world or site is open already."""
+
+
+class HasEvents(PolydbError, ValueError):
+    """The lines have an event, and are to declare only."""
+
+
+class NoSite(PolydbError, ValueError):
+    """There is no site of this number."""
+
+
+class NotOurs(PolydbError):
+    """The bytes are no journal."""
+
+
+class BadRecord(PolydbError):
+    """What the journal holds isn't a record."""
+
+
+class TooManyOutcomes(PolydbError):
+    """With the journal's records the value of an item would name too many outcomes."""
+
+
+class EpochsSpent(PolydbError):
+    """No epoch is left."""
+
+
+class Full(PolydbError):
+    """The journal has no room for the record of the new epoch."""
+
+
+class BadText(PolydbError, ValueError):
+    """The text is no program."""
+
+
+class BadProgram(PolydbError, ValueError):
+    """The program may not run."""
+
+
+class BadMessage(PolydbError, ValueError):
+    """The bytes are no message."""
+
+
+class NotHere(PolydbError):
+    """The message goes to another site, or the item is at another one."""
+
+
+class NoSender(PolydbError):
+    """There is no such site as the message comes from."""
+
+
+class NotNext(PolydbError):
+    """That isn't what the site has asked to be written."""
+
+
+class UnknownName(PolydbError, KeyError):
+    """No item has this name."""
+
+
+class Unwritten(PolydbError):
+    """Records wait to be written into the file. What the item shows may rest on them, and a crash may undo it."""
+
+
+class NotOneEvent(PolydbError, ValueError):
+    """The line is no event, or more than one, or declares something."""
+
+
+class BrokenOff(PolydbError, MemoryError):
+    """There was no memory within the step. The world takes no more steps."""
+
+
+class Ended(PolydbError):
+    """The world takes no more steps."""
+
+
+_ERRORS = {
+    3: Malformed,
+    6: TooLong,
+    7: NoMemory,
+    8: SentLimit,
+    16: Closed,
+    17: InUse,
+    20: HasEvents,
+    21: NoSite,
+    22: NotOurs,
+    23: BadRecord,
+    24: TooManyOutcomes,
+    25: EpochsSpent,
+    26: Full,
+    27: BadText,
+    28: BadProgram,
+    29: BadMessage,
+    30: NotHere,
+    31: NoSender,
+    32: NotNext,
+    33: UnknownName,
+    34: NotOneEvent,
+    35: BrokenOff,
+    36: Ended,
+    37: Unwritten,
+}
+
+
+def _check(status, what):
+    if status != _DONE:
+        error = _ERRORS.get(status, PolydbError)
+        raise error(f"{what}: {error.__doc__ or ''} (status {status})")
+
+
+class _Handle(ctypes.Structure):
+    """A handle as C has it: all zeroes are a closed one."""
+
+    _fields_ = [("live", c_bool), ("at", c_void_p)]
+
+
+def _load():
+    named = os.environ.get("POLYDB_LIBRARY")
+    here = Path(__file__).resolve().parent
+    places = [Path(named)] if named else [here / "libpolydb.so", here / "out" / "libpolydb.so"]
+    for place in places:
+        if place.exists():
+            return ctypes.CDLL(str(place))
+    raise ImportError("no libpolydb.so: run embed/build, or set POLYDB_LIBRARY (looked in " + ", ".join(map(str, places)) + ")")
+
+
+_library = _load()
+
+
+def _declare(name, *arguments, result=c_uint32):
+    call = getattr(_library, name)
+    call.argtypes = arguments
+    call.restype = result
+    return call
+
+
+_handle = POINTER(_Handle)
+_out = POINTER(c_uint8)
+_size = POINTER(c_size_t)
+_place = POINTER(c_uint64)
+
+_run = _declare("polydb_run", c_char_p, c_size_t, _out, c_size_t, _size)
+_world_open = _declare("polydb_world_open", _handle, c_char_p, c_size_t)
+_world_step = _declare("polydb_world_step", _handle, c_char_p, c_size_t)
+_world_take = _declare("polydb_world_take", _handle, _out, c_size_t, _size)
+_world_close = _declare("polydb_world_close", _handle, result=None)
+_site_open = _declare("polydb_site_open", _handle, c_char_p, c_size_t, c_uint8, c_char_p, c_size_t)
+_site_submit = _declare("polydb_site_submit", _handle, c_char_p, c_size_t, c_bool)
+_site_receive = _declare("polydb_site_receive", _handle, c_char_p, c_size_t)
+_site_tick = _declare("polydb_site_tick", _handle)
+_site_take_journal = _declare("polydb_site_take_journal", _handle, _out, c_size_t, _size, _place)
+_site_journal_synced = _declare("polydb_site_journal_synced", _handle, c_uint64, c_size_t)
+_site_take_message = _declare("polydb_site_take_message", _handle, _out, c_size_t, _size, _place)
+_site_read = _declare("polydb_site_read", _handle, c_char_p, c_size_t, _out, c_size_t, _size)
+_site_close = _declare("polydb_site_close", _handle, result=None)
+
+
+def _bytes(text):
+    """The bytes of a text, or bytes as they are."""
+    return text.encode() if isinstance(text, str) else bytes(text)
+
+
+def _fill(call):
+    """What a call writes: it is called with a buffer and its room, and once more with a larger one where it is too small."""
+    room = _FIRST_ROOM
+    while True:
+        out = (c_uint8 * room)()
+        written = c_size_t(0)
+        status = call(out, room, byref(written))
+        if status != _TOO_SMALL:
+            return status, string_at(out, written.value)
+        room = written.value
+
+
+def run(schedule):
+    """The status and the text that `polydb run` gives for a schedule: (0, text) where all of it was run."""
+    text = _bytes(schedule)
+    return _fill(lambda out, room, written: _run(text, len(text), out, room, written))
+
+
+class _Open:
+    """What worlds and sites have in common: a handle, which is closed at the end of a `with` and when nothing refers to it.
+
+    A handle is used by one call at a time, also where several threads share it.
+    """
+
+    _close_call = None
+
+    def __init__(self):
+        self._handle = _Handle()
+        self._lock = Lock()
+
+    def _call(self, call, *arguments):
+        with self._lock:
+            return call(byref(self._handle), *arguments)
+
+    def close(self):
+        """Closes it and frees its memory. It may be closed already."""
+        self._call(self._close_call)
+
+    def __enter__(self):
+        return self
+
+    def __exit__(self, *_):
+        self.close()
+
+    def __del__(self):
+        if hasattr(self, "_lock"):
+            self.close()
+
+    # A copy of a handle would be freed twice.
+    def __copy__(self):
+        raise TypeError("a world or site can't be copied")
+
+    def __deepcopy__(self, _):
+        raise TypeError("a world or site can't be copied")
+
+    def __reduce__(self):
+        raise TypeError("a world or site can't be pickled")
+
+
+class World(_Open):
+    """All sites of a schedule, in memory, driven event by event."""
+
+    _close_call = staticmethod(_world_close)
+
+    def __init__(self, catalog):
+        """A world with the sites and items of a catalog: the first lines of a schedule."""
+        super().__init__()
+        text = _bytes(catalog)
+        _check(self._call(_world_open, text, len(text)), "open")
+
+    def step(self, line):
+        """One event, as a line of a schedule."""
+        text = _bytes(line)
+        _check(self._call(_world_step, text, len(text)), "step")
+
+    def take(self):
+        """All that was printed and not taken, as bytes."""
+        pieces = []
+        out = (c_uint8 * _FIRST_ROOM)()
+        written = c_size_t(0)
+        while True:
+            _check(self._call(_world_take, out, _FIRST_ROOM, byref(written)), "take")
+            if written.value == 0:
+                return b"".join(pieces)
+            pieces.append(string_at(out, written.value))
+
+
+class JournalWrite(NamedTuple):
+    """What is to be written next into a site's journal: these bytes, from this place on."""
+
+    place: int
+    bytes: bytes
+
+
+class Message(NamedTuple):
+    """A message, to be carried to this site, which may be the one that sends it."""
+
+    to: int
+    bytes: bytes
+
+
+class Report(NamedTuple):
+    """A line for the host, as a run prints it: what became of a request."""
+
+    line: str
+
+
+class Site(_Open):
+    """One site, for a host that carries its messages and writes its journal."""
+
+    _close_call = staticmethod(_site_close)
+
+    def __init__(self, config, me, journal=EMPTY_JOURNAL):
+        """Site `me` of a configuration, going on from what the host's file holds."""
+        super().__init__()
+        text = _bytes(config)
+        journal = bytes(journal)
+        _check(self._call(_site_open, text, len(text), me, journal, len(journal)), "open")
+
+    def submit(self, program, query=False):
+        """A request, with this site as its coordinator. A query assigns nothing and has a `return`."""
+        text = _bytes(program)
+        _check(self._call(_site_submit, text, len(text), query), "submit")
+
+    def receive(self, message):
+        """A message that another site, or this one, has let out."""
+        message = bytes(message)
+        _check(self._call(_site_receive, message, len(message)), "receive")
+
+    def tick(self):
+        """Time has passed."""
+        _check(self._call(_site_tick), "tick")
+
+    def next_write(self) -> Optional[JournalWrite]:
+        """What is to be written next into the journal, or None. The same comes until `written`."""
+        place = c_uint64(0)
+        status, data = _fill(lambda out, room, written: self._call(_site_take_journal, out, room, written, byref(place)))
+        if status == _NOTHING:
+            return None
+        _check(status, "next_write")
+        return JournalWrite(place.value, data)
+
+    def written(self, write):
+        """This has been written, and the file was synced."""
+        _check(self._call(_site_journal_synced, write.place, len(write.bytes)), "written")
+
+    def take(self):
+        """The next Message or Report that is let out, or None for now: nothing comes before the journal has what it rests on."""
+        to = c_uint64(0)
+        status, data = _fill(lambda out, room, written: self._call(_site_take_message, out, room, written, byref(to)))
+        if status == _NOTHING:
+            return None
+        _check(status, "take")
+        return Report(data.decode().rstrip("\n")) if to.value == _REPORT else Message(to.value, data)
+
+    def read(self, name):
+        """What the site shows of its item of this name, once all is written: `90`, `50 if -0.1.0 ; 60 if +0.1.0`, or `locked 0.1.0`."""
+        text = _bytes(name)
+        status, line = _fill(lambda out, room, written: self._call(_site_read, text, len(text), out, room, written))
+        _check(status, "read")
+        return line.decode().removeprefix(f"item {text.decode()} ").rstrip("\n")

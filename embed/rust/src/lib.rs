@@ -1,0 +1,444 @@
+//! polydb in a Rust program: a [`World`] of the database, or one [`Site`] of several, as a value that is closed when it is dropped;
+//! and [`run`], for a whole schedule.
+//!
+//! The functions that are called are those of `polydb.h`; what each does is written there. Nothing but `std` is needed.
+#![warn(missing_docs)]
+
+use std::error;
+use std::ffi::c_void;
+use std::fmt;
+use std::io::{self, Write};
+use std::ptr;
+
+mod calls {
+    use super::Handle;
+
+    #[link(name = "polydb", kind = "static")]
+    extern "C" {
+        pub fn polydb_world_open(world: *mut Handle, catalog: *const u8, length: usize) -> u32;
+        pub fn polydb_world_step(world: *mut Handle, line: *const u8, length: usize) -> u32;
+        pub fn polydb_world_take(
+            world: *mut Handle,
+            out: *mut u8,
+            room: usize,
+            written: *mut usize,
+        ) -> u32;
+        pub fn polydb_world_close(world: *mut Handle);
+        pub fn polydb_site_open(
+            site: *mut Handle,
+            config: *const u8,
+            config_length: usize,
+            me: u8,
+            journal: *const u8,
+            journal_length: usize,
+        ) -> u32;
+        pub fn polydb_site_submit(
+            site: *mut Handle,
+            program: *const u8,
+            length: usize,
+            query: bool,
+        ) -> u32;
+        pub fn polydb_site_receive(site: *mut Handle, message: *const u8, length: usize) -> u32;
+        pub fn polydb_site_tick(site: *mut Handle) -> u32;
+        pub fn polydb_site_take_journal(
+            site: *mut Handle,
+            out: *mut u8,
+            room: usize,
+            written: *mut usize,
+            place: *mut u64,
+        ) -> u32;
+        pub fn polydb_site_journal_synced(site: *mut Handle, place: u64, written: usize) -> u32;
+        pub fn polydb_site_take_message(
+            site: *mut Handle,
+            out: *mut u8,
+            room: usize,
+            written: *mut usize,
+            to: *mut u64,
+        ) -> u32;
+        pub fn polydb_site_read(
+            site: *mut Handle,
+            name: *const u8,
+            length: usize,
+            out: *mut u8,
+            room: usize,
+            written: *mut usize,
+        ) -> u32;
+        pub fn polydb_site_close(site: *mut Handle);
+        pub fn polydb_run(
+            input: *const u8,
+            length: usize,
+            out: *mut u8,
+            room: usize,
+            written: *mut usize,
+        ) -> u32;
+    }
+}
+
+/// A handle as C has it. Zeroes are a closed one.
+#[repr(C)]
+struct Handle {
+    live: bool,
+    at: *mut c_void,
+}
+
+impl Handle {
+    const CLOSED: Handle = Handle {
+        live: false,
+        at: ptr::null_mut(),
+    };
+}
+
+/// Why a call was refused. What it was called on is then as it was before, but where it is said otherwise.
+#[derive(Clone, Copy, Debug, PartialEq, Eq)]
+#[non_exhaustive]
+pub enum Error {
+    /// A line isn't in the grammar. [`run`] on the same lines says which one, and why.
+    Malformed,
+    /// There are more than 16,777,216 bytes.
+    TooLong,
+    /// There was no memory. The call can be made again.
+    NoMemory,
+    /// All messages together would have more than 268,435,456 bytes. The world takes no more steps.
+    SentLimit,
+    /// The lines have an event, and are to declare only.
+    HasEvents,
+    /// There is no site of this number.
+    NoSite,
+    /// The bytes are no journal.
+    NotOurs,
+    /// What the journal holds isn't a record.
+    BadRecord,
+    /// With the journal's records the value of an item would name too many outcomes.
+    TooManyOutcomes,
+    /// No epoch is left.
+    EpochsSpent,
+    /// The journal has no room for the record of the new epoch.
+    Full,
+    /// The text is no program.
+    BadText,
+    /// The program may not run.
+    BadProgram,
+    /// The bytes are no message.
+    BadMessage,
+    /// The message goes to another site, or the item is at another one.
+    NotHere,
+    /// There is no such site as the message comes from.
+    NoSender,
+    /// That isn't what the site has asked to be written.
+    NotNext,
+    /// No item has this name.
+    UnknownName,
+    /// Records wait to be written into the file. What the item shows may rest on them, and a crash may undo it.
+    Unwritten,
+    /// The line is no event, or more than one, or declares something.
+    NotOneEvent,
+    /// There was no memory within the step. The world takes no more steps.
+    BrokenOff,
+    /// The world takes no more steps.
+    Ended,
+    /// A status that this wrapper doesn't know.
+    Other(u32),
+}
+
+impl fmt::Display for Error {
+    fn fmt(&self, f: &mut fmt::Formatter<'_>) -> fmt::Result {
+        f.write_str(match self {
+            Error::Malformed => "a line isn't in the grammar",
+            Error::TooLong => "too long",
+            Error::NoMemory => "no memory",
+            Error::SentLimit => "too many messages",
+            Error::HasEvents => "there is an event",
+            Error::NoSite => "no such site",
+            Error::NotOurs => "no journal",
+            Error::BadRecord => "the journal has what is no record",
+            Error::TooManyOutcomes => "the journal gives an item too many outcomes",
+            Error::EpochsSpent => "no epoch is left",
+            Error::Full => "the journal is full",
+            Error::BadText => "no program",
+            Error::BadProgram => "the program may not run",
+            Error::BadMessage => "no message",
+            Error::NotHere => "at another site",
+            Error::NoSender => "no such sender",
+            Error::NotNext => "not what is to be written next",
+            Error::UnknownName => "no such item",
+            Error::Unwritten => "records wait to be written",
+            Error::NotOneEvent => "not one event",
+            Error::BrokenOff => "no memory within the step",
+            Error::Ended => "the world takes no more steps",
+            Error::Other(status) => return write!(f, "status {status}"),
+        })
+    }
+}
+
+impl error::Error for Error {}
+
+const DONE: u32 = 0;
+const TOO_SMALL: u32 = 18;
+const NOTHING: u32 = 19;
+const REPORT: u64 = 255;
+const FIRST_ROOM: usize = 4096;
+
+fn answer(status: u32) -> Result<(), Error> {
+    Err(match status {
+        DONE => return Ok(()),
+        3 => Error::Malformed,
+        6 => Error::TooLong,
+        7 => Error::NoMemory,
+        8 => Error::SentLimit,
+        20 => Error::HasEvents,
+        21 => Error::NoSite,
+        22 => Error::NotOurs,
+        23 => Error::BadRecord,
+        24 => Error::TooManyOutcomes,
+        25 => Error::EpochsSpent,
+        26 => Error::Full,
+        27 => Error::BadText,
+        28 => Error::BadProgram,
+        29 => Error::BadMessage,
+        30 => Error::NotHere,
+        31 => Error::NoSender,
+        32 => Error::NotNext,
+        33 => Error::UnknownName,
+        34 => Error::NotOneEvent,
+        35 => Error::BrokenOff,
+        36 => Error::Ended,
+        37 => Error::Unwritten,
+        other => Error::Other(other),
+    })
+}
+
+/// A world: all sites of a schedule, in memory.
+pub struct World {
+    handle: Handle,
+}
+
+// A handle is used by one call at a time, which `&mut` sees to, and may move from thread to thread.
+unsafe impl Send for World {}
+
+impl World {
+    /// A world with the sites and items of a catalog: the first lines of a schedule.
+    pub fn open(catalog: &[u8]) -> Result<World, Error> {
+        let mut world = World {
+            handle: Handle::CLOSED,
+        };
+        answer(unsafe {
+            calls::polydb_world_open(&mut world.handle, catalog.as_ptr(), catalog.len())
+        })?;
+        Ok(world)
+    }
+
+    /// One event, as a line of a schedule without its end.
+    pub fn step(&mut self, line: &[u8]) -> Result<(), Error> {
+        answer(unsafe { calls::polydb_world_step(&mut self.handle, line.as_ptr(), line.len()) })
+    }
+
+    /// Writes the oldest bytes of what was printed, as far as there is room, and drops these alone. Gives how many they are.
+    pub fn take(&mut self, out: &mut [u8]) -> usize {
+        let mut written = 0;
+        let status = unsafe {
+            calls::polydb_world_take(&mut self.handle, out.as_mut_ptr(), out.len(), &mut written)
+        };
+        debug_assert_eq!(status, DONE, "an open world gives its lines");
+        written
+    }
+
+    /// Writes all that was printed and not taken.
+    pub fn take_into(&mut self, out: &mut impl Write) -> io::Result<()> {
+        let mut piece = [0; 4096];
+        loop {
+            let count = self.take(&mut piece);
+            if count == 0 {
+                return Ok(());
+            }
+            out.write_all(&piece[..count])?;
+        }
+    }
+}
+
+impl Drop for World {
+    fn drop(&mut self) {
+        unsafe { calls::polydb_world_close(&mut self.handle) }
+    }
+}
+
+impl fmt::Debug for World {
+    fn fmt(&self, f: &mut fmt::Formatter<'_>) -> fmt::Result {
+        f.debug_struct("World").finish_non_exhaustive()
+    }
+}
+
+/// The status and the text that `polydb run` gives for a schedule. At status 0 all of it was run.
+pub fn run(schedule: &[u8]) -> (u32, Vec<u8>) {
+    fill(|out, written| unsafe {
+        calls::polydb_run(
+            schedule.as_ptr(),
+            schedule.len(),
+            out.as_mut_ptr(),
+            out.len(),
+            written,
+        )
+    })
+}
+
+// What a call writes: it is called with a buffer, and again with a larger one where that is too small.
+fn fill(mut call: impl FnMut(&mut [u8], &mut usize) -> u32) -> (u32, Vec<u8>) {
+    let mut out = vec![0; FIRST_ROOM];
+    loop {
+        let mut written = 0;
+        let status = call(&mut out, &mut written);
+        if status != TOO_SMALL {
+            out.truncate(written);
+            return (status, out);
+        }
+        out.resize(written, 0);
+    }
+}
+
+/// The file of a new site: a journal without records. The host makes it before it opens the site the first time.
+pub const EMPTY_JOURNAL: &[u8; 9] = b"PVJRNL01\0";
+
+/// What the host is to write next into a site's journal.
+#[derive(Clone, Debug, PartialEq, Eq)]
+pub struct JournalWrite {
+    /// Where the bytes begin, from 0.
+    pub place: u64,
+    /// The bytes.
+    pub bytes: Vec<u8>,
+}
+
+/// What a site lets out.
+#[derive(Clone, Debug, PartialEq, Eq)]
+pub enum Output {
+    /// A message, to be carried to another site, or to this one.
+    Message {
+        /// The site that it goes to, which may be the one that sends it.
+        to: u64,
+        /// Its bytes.
+        bytes: Vec<u8>,
+    },
+    /// A line for the host, with its line feed: what became of a request.
+    Report(Vec<u8>),
+}
+
+/// One site, for a host that carries its messages and writes its journal.
+pub struct Site {
+    handle: Handle,
+}
+
+// A handle is used by one call at a time, which `&mut` sees to, and may move from thread to thread.
+unsafe impl Send for Site {}
+
+impl Site {
+    /// Site `me` of a configuration, going on from what the host's file holds.
+    pub fn open(config: &[u8], me: u8, journal: &[u8]) -> Result<Site, Error> {
+        let mut site = Site {
+            handle: Handle::CLOSED,
+        };
+        answer(unsafe {
+            calls::polydb_site_open(
+                &mut site.handle,
+                config.as_ptr(),
+                config.len(),
+                me,
+                journal.as_ptr(),
+                journal.len(),
+            )
+        })?;
+        Ok(site)
+    }
+
+    /// A request, with this site as its coordinator.
+    pub fn submit(&mut self, program: &[u8], query: bool) -> Result<(), Error> {
+        answer(unsafe {
+            calls::polydb_site_submit(&mut self.handle, program.as_ptr(), program.len(), query)
+        })
+    }
+
+    /// A message that another site, or this one, has let out.
+    pub fn receive(&mut self, message: &[u8]) -> Result<(), Error> {
+        answer(unsafe {
+            calls::polydb_site_receive(&mut self.handle, message.as_ptr(), message.len())
+        })
+    }
+
+    /// Time has passed.
+    pub fn tick(&mut self) -> Result<(), Error> {
+        answer(unsafe { calls::polydb_site_tick(&mut self.handle) })
+    }
+
+    /// What is to be written next into the journal. The same comes until [`Site::written`].
+    pub fn next_write(&mut self) -> Result<Option<JournalWrite>, Error> {
+        let mut place = 0;
+        let (status, bytes) = fill(|out, written| unsafe {
+            calls::polydb_site_take_journal(
+                &mut self.handle,
+                out.as_mut_ptr(),
+                out.len(),
+                written,
+                &mut place,
+            )
+        });
+        if status == NOTHING {
+            return Ok(None);
+        }
+        answer(status)?;
+        Ok(Some(JournalWrite { place, bytes }))
+    }
+
+    /// This has been written, and the file was synced.
+    pub fn written(&mut self, write: &JournalWrite) -> Result<(), Error> {
+        answer(unsafe {
+            calls::polydb_site_journal_synced(&mut self.handle, write.place, write.bytes.len())
+        })
+    }
+
+    /// The next thing that is let out, if there is one now: nothing comes before the journal has what it rests on.
+    pub fn take(&mut self) -> Result<Option<Output>, Error> {
+        let mut to = 0;
+        let (status, bytes) = fill(|out, written| unsafe {
+            calls::polydb_site_take_message(
+                &mut self.handle,
+                out.as_mut_ptr(),
+                out.len(),
+                written,
+                &mut to,
+            )
+        });
+        if status == NOTHING {
+            return Ok(None);
+        }
+        answer(status)?;
+        Ok(Some(match to {
+            REPORT => Output::Report(bytes),
+            site => Output::Message { to: site, bytes },
+        }))
+    }
+
+    /// What the site shows of its item of this name, as the line that a report has for it, once all is written.
+    pub fn read(&mut self, name: &[u8]) -> Result<Vec<u8>, Error> {
+        let (status, line) = fill(|out, written| unsafe {
+            calls::polydb_site_read(
+                &mut self.handle,
+                name.as_ptr(),
+                name.len(),
+                out.as_mut_ptr(),
+                out.len(),
+                written,
+            )
+        });
+        answer(status)?;
+        Ok(line)
+    }
+}
+
+impl Drop for Site {
+    fn drop(&mut self) {
+        unsafe { calls::polydb_site_close(&mut self.handle) }
+    }
+}
+
+impl fmt::Debug for Site {
+    fn fmt(&self, f: &mut fmt::Formatter<'_>) -> fmt::Result {
+        f.debug_struct("Site").finish_non_exhaustive()
+    }
+}

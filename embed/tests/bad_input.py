@@ -1,0 +1,235 @@
+"""Input that is none: closed handles, lengths of 0, bytes that are no message, a journal cut anywhere, and writes that were never asked for.
+
+Each is refused by a status of its own, nothing is lost, and the site goes on.
+"""
+
+import sys
+from ctypes import byref, c_size_t, c_uint8, c_uint64
+from pathlib import Path
+
+sys.path.insert(0, str(Path(__file__).resolve().parent.parent))
+
+import polydb  # noqa: E402
+from polydb import JournalWrite, Message, Report, Site, World, run  # noqa: E402
+
+CONFIG = "sites 2\nitem a 0 100\nitem b 1 50\n"
+TRANSFER = "a := a - 10 ; b := b + 10"
+
+
+def refused(error, call, *arguments):
+    """That the call is refused by exactly this error."""
+    try:
+        call(*arguments)
+    except polydb.PolydbError as found:
+        assert type(found) is error, (error, found)
+    else:
+        raise AssertionError(f"not refused: {error}")
+
+
+class Hosted:
+    """A site, and its file in memory."""
+
+    def __init__(self, me, file=polydb.EMPTY_JOURNAL):
+        self.site = Site(CONFIG, me, file)
+        self.file = bytearray(file)
+        self.writes = []
+
+    def write(self, write, count=None):
+        data = write.bytes[:count]
+        self.file[write.place : write.place + len(data)] = data
+
+    def settle(self):
+        """Writes all that there is, and gives what is let out."""
+        while (write := self.site.next_write()) is not None:
+            self.writes.append((bytes(self.file), write))
+            self.write(write)
+            self.site.written(write)
+        let_out = []
+        while (output := self.site.take()) is not None:
+            let_out.append(output)
+        return let_out
+
+
+def commit(hosts):
+    """One transfer, carried to its end; gives the reports and all messages."""
+    hosts[0].site.submit(TRANSFER)
+    reports, messages = [], []
+    under_way = True
+    while under_way:
+        under_way = False
+        for host in hosts:
+            for output in host.settle():
+                if isinstance(output, Report):
+                    reports.append(output.line)
+                else:
+                    messages.append(output.bytes)
+                    hosts[output.to].site.receive(output.bytes)
+                    under_way = True
+    return reports, messages
+
+
+def closed_handles():
+    site = Site(CONFIG, 0)
+    site.close()
+    site.close()
+    refused(polydb.Closed, site.tick)
+    refused(polydb.Closed, site.submit, TRANSFER)
+    refused(polydb.Closed, site.receive, b"")
+    refused(polydb.Closed, site.next_write)
+    refused(polydb.Closed, site.written, JournalWrite(10, b"1"))
+    refused(polydb.Closed, site.take)
+    refused(polydb.Closed, site.read, "a")
+    world = World(CONFIG)
+    world.close()
+    refused(polydb.Closed, world.step, "tick 0")
+    refused(polydb.Closed, world.take)
+
+
+def lengths_of_zero():
+    refused(polydb.Malformed, World, "")
+    refused(polydb.Malformed, Site, "", 0)
+    refused(polydb.NotOurs, Site, CONFIG, 0, b"")
+    assert run("") == (3, b"line 1: sites expected\n")
+    site = Site(CONFIG, 0)
+    refused(polydb.BadText, site.submit, "")
+    refused(polydb.BadMessage, site.receive, b"")
+    refused(polydb.UnknownName, site.read, "")
+    world = World(CONFIG)
+    refused(polydb.NotOneEvent, world.step, "")
+
+
+def what_is_refused():
+    refused(polydb.NoSite, Site, CONFIG, 2)
+    refused(polydb.HasEvents, Site, CONFIG + "tick 0\n", 0)
+    refused(polydb.HasEvents, World, CONFIG + "tick 0\n")
+    refused(polydb.Malformed, Site, "sites 17\n", 0)
+    refused(polydb.Full, Site, "sites 1\njournal 32\nitem a 0 1\n", 0, journal_of(2))
+    site = Site(CONFIG, 0)
+    refused(polydb.BadText, site.submit, "a := x")
+    refused(polydb.BadProgram, site.submit, "a := 1", True)
+    refused(polydb.BadProgram, site.submit, "return 1", True)
+    refused(polydb.NotHere, site.read, "b")
+    world = World(CONFIG)
+    refused(polydb.Malformed, world.step, "tick 2")
+    refused(polydb.NotOneEvent, world.step, "tick 0\ntick 0")
+
+
+def journal_of(epochs):
+    """The file of a site that was opened so often."""
+    file = polydb.EMPTY_JOURNAL
+    for _ in range(epochs):
+        host = Hosted(0, file)
+        host.settle()
+        file = bytes(host.file)
+    return file
+
+
+def no_messages():
+    hosts = [Hosted(0), Hosted(1)]
+    reports, messages = commit(hosts)
+    assert reports == ["txn 0.1.0", "commit 0.1.0 certain nothing"], reports
+    assert [host.site.read(name) for host, name in zip(hosts, "ab")] == ["90", "60"]
+    for me, host in enumerate(hosts):
+        for message in messages:
+            for cut in range(len(message)):
+                refused(polydb.BadMessage, host.site.receive, message[:cut])
+            refused(polydb.BadMessage, host.site.receive, message + b"\0")
+            # The third byte is the site that it goes to.
+            if message[2] != me:
+                refused(polydb.NotHere, host.site.receive, message)
+        assert host.settle() == []
+    assert [host.site.read(name) for host, name in zip(hosts, "ab")] == ["90", "60"]
+
+
+def cut_journals():
+    hosts = [Hosted(0), Hosted(1)]
+    commit(hosts)
+    for me, (host, name, values) in enumerate([(hosts[0], "a", {"100", "90"}), (hosts[1], "b", {"50", "60"})]):
+        # Cut anywhere, it is a journal of the front records, or none.
+        whole = bytes(host.file)
+        opened = 0
+        for cut in range(len(whole) + 1):
+            try:
+                host = Hosted(me, whole[:cut])
+            except polydb.NotOurs:
+                continue
+            opened += 1
+            host.settle()
+            assert host.site.read(name) in values | {f"{old} if -0.1.0 ; {new} if +0.1.0" for old in values for new in values if old != new}
+        assert opened > 0
+        # As a crash leaves it in any write, it is a journal.
+        for before, write in host.writes:
+            for count in range(len(write.bytes) + 1):
+                left = bytearray(before)
+                left[write.place : write.place + count] = write.bytes[:count]
+                Site(CONFIG, me, left).close()
+                left[write.place : write.place + count] = bytes(255 - byte for byte in write.bytes[:count])
+                Site(CONFIG, me, left).close()
+
+
+def writes_never_asked_for():
+    site = Site(CONFIG, 0)
+    site.submit(TRANSFER)
+    first = site.next_write()
+    for place, data in [(0, b""), (first.place, b""), (first.place, first.bytes + b"\0"), (first.place + 1, first.bytes), (first.place - 1, b"\1")]:
+        refused(polydb.NotNext, site.written, JournalWrite(place, data))
+        assert site.next_write() == first
+        assert site.take() is None
+        refused(polydb.Unwritten, site.read, "a")
+    site.written(first)
+    refused(polydb.NotNext, site.written, first)
+    second = site.next_write()
+    assert second.bytes == b"\1" and second.place == first.place - 1
+    assert site.take() is None
+    refused(polydb.UnknownName, site.read, "c")
+    refused(polydb.NotHere, site.read, "b")
+    refused(polydb.Unwritten, site.read, "a")
+    site.written(second)
+    refused(polydb.NotNext, site.written, second)
+    assert site.next_write() is None
+    assert site.read("a") == "100"
+    assert isinstance(site.take(), Message)
+
+
+def small_rooms():
+    """With too small a room nothing is written and nothing is lost."""
+    host = Hosted(0)
+    host.site.submit(TRANSFER)
+    calls = [
+        (polydb._site_take_journal, lambda: host.site.next_write().bytes),
+        (polydb._site_take_message, None),
+    ]
+    for call, wanted in calls:
+        if wanted is None:
+            while (write := host.site.next_write()) is not None:
+                host.site.written(write)
+        needed = None
+        room = 0
+        while True:
+            out = (c_uint8 * (room + 1))(*[46] * (room + 1))
+            written, number = c_size_t(99), c_uint64(99)
+            status = call(byref(host.site._handle), out, room, byref(written), byref(number))
+            if status == 0:
+                assert room == needed and written.value == needed and out[room] == 46
+                break
+            assert status == 18 and bytes(out) == b"." * (room + 1), (status, room)
+            assert needed in (None, written.value)
+            needed = written.value
+            room += 1
+        if wanted is not None:
+            assert bytes(out[:needed]) == wanted()
+
+
+def main():
+    closed_handles()
+    lengths_of_zero()
+    what_is_refused()
+    no_messages()
+    cut_journals()
+    writes_never_asked_for()
+    small_rooms()
+    print("each is refused, and nothing is lost")
+
+
+if __name__ == "__main__":
+    main()

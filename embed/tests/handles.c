@@ -1,0 +1,288 @@
+/*
+ * What the header says of handles, tried from C: closed handles, closing twice, lengths of 0, small buffers, a site whose messages
+ * wait for its journal, and each allocation failing in turn. Run by `embed/build`; with `--sanitize` a leak or an access outside a block ends the program.
+ *
+ * Link with -Wl,--wrap=malloc,--wrap=realloc: the two functions below then stand for those of the C library.
+ */
+#include <stdio.h>
+#include <stdlib.h>
+#include <string.h>
+
+#include "polydb.h"
+
+/* ---- allocations that fail ---- */
+
+void *__real_malloc(size_t size);
+void *__real_realloc(void *block, size_t size);
+
+/* How many allocations go well before one fails. Below 0 all go well. */
+static long good = -1;
+static long asked;
+
+static bool fails(void) {
+    asked++;
+    return good >= 0 && good-- == 0;
+}
+
+void *__wrap_malloc(size_t size) { return fails() ? NULL : __real_malloc(size); }
+
+void *__wrap_realloc(void *block, size_t size) { return fails() ? NULL : __real_realloc(block, size); }
+
+/* ---- checks ---- */
+
+#define CHECK(holds)                                                            \
+    do {                                                                        \
+        if (!(holds)) {                                                         \
+            fprintf(stderr, "handles: line %d: " #holds "\n", __LINE__);        \
+            exit(1);                                                            \
+        }                                                                       \
+    } while (0)
+
+static const uint8_t CATALOG[] = "sites 2\nitem a 0 100\nitem b 1 50\n";
+static const size_t CATALOG_LENGTH = sizeof CATALOG - 1;
+
+static uint32_t step(polydb_world *world, const char *line) {
+    return polydb_world_step(world, (const uint8_t *)line, strlen(line));
+}
+
+/* All that the world has to say, taken in pieces of so many bytes: how many bytes that are. */
+static size_t take_all(polydb_world *world, uint8_t *out, size_t most, size_t piece) {
+    size_t total = 0;
+    for (;;) {
+        size_t written = 99;
+        size_t room = piece < most - total ? piece : most - total;
+        CHECK(polydb_world_take(world, out + total, room, &written) == POLYDB_DONE);
+        CHECK(written <= room);
+        if (written == 0) {
+            return total;
+        }
+        total += written;
+    }
+}
+
+static void closed_handles(void) {
+    polydb_world world = {0};
+    uint8_t out[8] = "........";
+    size_t written = 99;
+
+    CHECK(step(&world, "tick 0") == POLYDB_CLOSED);
+    CHECK(polydb_world_take(&world, out, sizeof out, &written) == POLYDB_CLOSED);
+    CHECK(written == 0 && memcmp(out, "........", 8) == 0);
+    polydb_world_close(&world);
+    polydb_world_close(&world);
+    CHECK(polydb_world_open(&world, CATALOG, 0) == POLYDB_MALFORMED);
+    CHECK(!world.live && world.at == NULL);
+    CHECK(step(&world, "tick 0") == POLYDB_CLOSED);
+}
+
+static void open_handles(void) {
+    polydb_world world = {0};
+    uint8_t out[1];
+    size_t written = 99;
+
+    CHECK(polydb_world_open(&world, CATALOG, CATALOG_LENGTH) == POLYDB_DONE);
+    void *at = world.at;
+    CHECK(world.live && at != NULL);
+    CHECK(polydb_world_open(&world, CATALOG, CATALOG_LENGTH) == POLYDB_IN_USE);
+    CHECK(world.live && world.at == at);
+    CHECK(polydb_world_take(&world, out, 0, &written) == POLYDB_DONE && written == 0);
+    polydb_world_close(&world);
+    CHECK(!world.live && world.at == NULL);
+    CHECK(polydb_world_open(&world, CATALOG, CATALOG_LENGTH) == POLYDB_DONE);
+    polydb_world_close(&world);
+    polydb_world_close(&world);
+}
+
+/* The same lines come out whatever the size of the pieces. */
+static void small_buffers(void) {
+    static uint8_t whole[65536], pieces[65536];
+    size_t length = 0;
+    for (size_t piece = 1; piece <= 64; piece *= 4) {
+        polydb_world world = {0};
+        CHECK(polydb_world_open(&world, CATALOG, CATALOG_LENGTH) == POLYDB_DONE);
+        for (int i = 0; i < 1000; i++) {
+            CHECK(step(&world, "submit 0 a := a - 1 ; b := b + 1") == POLYDB_DONE);
+            CHECK(step(&world, "pump 20") == POLYDB_DONE);
+            if (i % 100 == 99) {
+                size_t some = take_all(&world, pieces + 0, sizeof pieces, piece);
+                if (piece == 1 && i == 99) {
+                    memcpy(whole, pieces, some);
+                    length = some;
+                } else if (i == 99) {
+                    CHECK(some == length && memcmp(whole, pieces, some) == 0);
+                }
+            }
+        }
+        polydb_world_close(&world);
+    }
+    CHECK(length > 0);
+}
+
+/* Opens a world, makes two steps and closes it. Each call that there was no memory for is made again, unless the world is broken off. */
+static void retried(void) {
+    polydb_world world = {0};
+    uint32_t status;
+    do {
+        status = polydb_world_open(&world, CATALOG, CATALOG_LENGTH);
+        CHECK(status == POLYDB_DONE || status == POLYDB_NO_MEMORY);
+        CHECK(world.live == (status == POLYDB_DONE));
+    } while (status != POLYDB_DONE);
+    const char *const lines[] = {"submit 0 a := a - 10 ; b := b + 10", "pump"};
+    for (int i = 0; i < 2; i++) {
+        do {
+            status = step(&world, lines[i]);
+        } while (status == POLYDB_NO_MEMORY);
+        if (status == POLYDB_BROKEN_OFF) {
+            /* No memory within the step: the world takes no more, and is closed like any other. */
+            CHECK(step(&world, "tick 0") == POLYDB_ENDED);
+            polydb_world_close(&world);
+            return;
+        }
+        CHECK(status == POLYDB_DONE);
+    }
+
+    static uint8_t first[4096];
+    static size_t first_length;
+    uint8_t out[4096];
+    size_t length = take_all(&world, out, sizeof out, sizeof out);
+    if (first_length == 0) {
+        CHECK(length > 0);
+        memcpy(first, out, length);
+        first_length = length;
+    }
+    CHECK(length == first_length && memcmp(first, out, length) == 0);
+    polydb_world_close(&world);
+}
+
+/* ---- sites ---- */
+
+static const uint8_t CONFIG[] = "sites 1\nitem a 0 100\n";
+static const size_t CONFIG_LENGTH = sizeof CONFIG - 1;
+static const uint8_t PROGRAM[] = "a := a - 10";
+static const size_t PROGRAM_LENGTH = sizeof PROGRAM - 1;
+static const uint8_t *const EMPTY = (const uint8_t *)POLYDB_EMPTY_JOURNAL;
+
+static void closed_sites(void) {
+    polydb_site site = {0};
+    uint8_t out[8] = "........";
+    size_t written = 99;
+    uint64_t place = 99;
+
+    CHECK(polydb_site_submit(&site, PROGRAM, PROGRAM_LENGTH, false) == POLYDB_CLOSED);
+    CHECK(polydb_site_receive(&site, out, 0) == POLYDB_CLOSED);
+    CHECK(polydb_site_tick(&site) == POLYDB_CLOSED);
+    CHECK(polydb_site_journal_synced(&site, 10, 1) == POLYDB_CLOSED);
+    CHECK(polydb_site_take_journal(&site, out, sizeof out, &written, &place) == POLYDB_CLOSED && written == 0);
+    written = 99;
+    CHECK(polydb_site_take_message(&site, out, sizeof out, &written, &place) == POLYDB_CLOSED && written == 0);
+    written = 99;
+    CHECK(polydb_site_read(&site, CONFIG, 1, out, sizeof out, &written) == POLYDB_CLOSED && written == 0);
+    CHECK(memcmp(out, "........", 8) == 0);
+    polydb_site_close(&site);
+    polydb_site_close(&site);
+    CHECK(polydb_site_open(&site, CONFIG, 0, 0, EMPTY, sizeof POLYDB_EMPTY_JOURNAL) == POLYDB_MALFORMED);
+    CHECK(!site.live && site.at == NULL);
+}
+
+/* Makes a call again as long as there is no memory for it. */
+#define RETRY(call)                                                             \
+    do {                                                                        \
+        status = (call);                                                        \
+    } while (status == POLYDB_NO_MEMORY)
+
+/* Opens a site, asks it for something and writes its journal down, into memory. Nothing is let out before. */
+static void wait_for_journal(void) {
+    polydb_site site = {0};
+    uint8_t out[4096];
+    uint8_t again[4096];
+    size_t written = 99;
+    uint64_t place = 99;
+    uint64_t to = 99;
+    uint32_t status;
+
+    RETRY(polydb_site_open(&site, CONFIG, CONFIG_LENGTH, 0, EMPTY, sizeof POLYDB_EMPTY_JOURNAL));
+    CHECK(status == POLYDB_DONE && site.live);
+    CHECK(polydb_site_open(&site, CONFIG, CONFIG_LENGTH, 0, EMPTY, sizeof POLYDB_EMPTY_JOURNAL) == POLYDB_IN_USE);
+    RETRY(polydb_site_receive(&site, out, 0));
+    CHECK(status == POLYDB_BAD_MESSAGE);
+    RETRY(polydb_site_read(&site, CONFIG, 0, out, sizeof out, &written));
+    CHECK(status == POLYDB_UNKNOWN_NAME);
+    RETRY(polydb_site_submit(&site, PROGRAM, PROGRAM_LENGTH, false));
+    CHECK(status == POLYDB_DONE);
+
+    int writes = 0;
+    for (;;) {
+        RETRY(polydb_site_take_journal(&site, out, 0, &written, &place));
+        if (status == POLYDB_NOTHING) {
+            CHECK(written == 0);
+            break;
+        }
+        CHECK(status == POLYDB_TOO_SMALL && written > 0 && written <= sizeof out);
+        size_t needed = written;
+        RETRY(polydb_site_take_message(&site, again, sizeof again, &written, &to));
+        CHECK(status == POLYDB_NOTHING && written == 0);
+        RETRY(polydb_site_read(&site, (const uint8_t *)"a", 1, again, sizeof again, &written));
+        CHECK(status == POLYDB_UNWRITTEN && written == 0);
+        RETRY(polydb_site_take_journal(&site, out, needed, &written, &place));
+        CHECK(status == POLYDB_DONE && written == needed);
+        uint64_t first_place = place;
+        RETRY(polydb_site_take_journal(&site, again, sizeof again, &written, &place));
+        CHECK(status == POLYDB_DONE && written == needed && place == first_place && memcmp(out, again, needed) == 0);
+        CHECK(polydb_site_journal_synced(&site, place, needed + 1) == POLYDB_NOT_NEXT);
+        CHECK(polydb_site_journal_synced(&site, place, needed) == POLYDB_DONE);
+        CHECK(polydb_site_journal_synced(&site, place, needed) == POLYDB_NOT_NEXT);
+        writes++;
+    }
+    CHECK(writes > 0);
+
+    RETRY(polydb_site_take_message(&site, out, 0, &written, &to));
+    CHECK(status == POLYDB_TOO_SMALL && written > 0 && written <= sizeof out);
+    size_t needed = written;
+    RETRY(polydb_site_take_message(&site, out, needed, &written, &to));
+    CHECK(status == POLYDB_DONE && written == needed);
+    RETRY(polydb_site_tick(&site));
+    CHECK(status == POLYDB_DONE);
+    RETRY(polydb_site_read(&site, (const uint8_t *)"a", 1, out, 0, &written));
+    CHECK(status == POLYDB_TOO_SMALL && written > 0);
+    needed = written;
+    RETRY(polydb_site_read(&site, (const uint8_t *)"a", 1, out, needed, &written));
+    CHECK(status == POLYDB_DONE && written == needed);
+    polydb_site_close(&site);
+}
+
+/* ---- a whole run ---- */
+
+static void whole_run(void) {
+    static const uint8_t schedule[] = "sites 1\nitem a 0 100\nreport\n";
+    uint8_t out[256];
+    size_t written = 99;
+    CHECK(polydb_run(schedule, sizeof schedule - 1, out, 0, &written) == POLYDB_TOO_SMALL && written > 0 && written <= sizeof out);
+    size_t needed = written;
+    uint32_t status = polydb_run(schedule, sizeof schedule - 1, out, needed, &written);
+    CHECK((status == 0 || status == 7) && written == (status == 0 ? needed : 0));
+}
+
+/* Runs it with no allocation failing, and then with each failing in turn. */
+static void with_failing_allocations(void (*body)(void)) {
+    asked = 0;
+    body();
+    long all = asked;
+    for (long i = 0; i < all; i++) {
+        good = i;
+        body();
+        good = -1;
+    }
+}
+
+int main(void) {
+    closed_handles();
+    open_handles();
+    small_buffers();
+    closed_sites();
+    wait_for_journal();
+    whole_run();
+    with_failing_allocations(retried);
+    with_failing_allocations(wait_for_journal);
+    puts("handles: as the header says");
+    return 0;
+}
