@@ -1,5 +1,8 @@
 // Worked polyvalues; that calls which want memory have their answer where there is some; and a plain slow check of choices,
 // settled values and joins at every assignment. That needs no proof to be read: it asks for values one assignment at a time.
+//
+// Cases stand here as texts: `0- 50; 0+ 1- 60;` are 50 where the first transaction of site 0 doesn't commit, and 60 where it commits and the
+// first one of site 1 doesn't.
 ghost use Rattle.std.specs.Prelude.{◌≡◌, ◌<◌, ◌^◌, true, length, map};
 ghost use Rattle.std.specs.List.{sum};
 
@@ -33,9 +36,34 @@ fn aborts(site: u8) -> Literal {
     }
 }
 
-fn case(alloc: Global, when: &[Literal], value: i64) -> Result<Case<i64>, NoMemory> {
-    let when = Vec::from_slice(alloc, when)?;
-    Ok(Case { when, value })
+// The number so far with this digit after it, or 0 after any other byte.
+fn next_number(number: u8, byte: u8) -> u8 {
+    if byte.is_ascii_digit() {
+        number.wrapping_mul(10).wrapping_add(byte - b'0')
+    } else {
+        0
+    }
+}
+
+// The cases of a text.
+fn case_list(alloc: Global, text: &str) -> Result<Vec<Case<i64>>, NoMemory> {
+    let mut cases = Vec::new(alloc);
+    let mut when = Vec::new(alloc);
+    let mut number = 0;
+    for byte in text.as_bytes() {
+        match *byte {
+            b'-' => when.push(aborts(number))?,
+            b'+' => when.push(commits(number))?,
+            b';' => {
+                let value = i64::from(number);
+                cases.push(Case { when, value })?;
+                when = Vec::new(alloc);
+            },
+            _ => {},
+        }
+        number = next_number(number, *byte);
+    }
+    Ok(cases)
 }
 
 // Whether the cases and their literals are as few as joining them wants; in a test they are.
@@ -55,88 +83,28 @@ fn are_few(cases: &[Case<i64>]) -> bool
     true
 }
 
-// The cases, each with these literals and this value.
-fn case_list(alloc: Global, cases: &[(&[Literal], i64)]) -> Result<Vec<Case<i64>>, NoMemory> {
-    let mut list = Vec::new(alloc);
-    for (when, value) in cases {
-        list.push(case(alloc, when, *value)?)?;
-    }
-    Ok(list)
+fn from_cases(rt: &(impl Abort + AllocGlobal), cases: &str) -> Result<Poly<i64>, CaseError> {
+    let cases = case_list(rt.alloc(), cases)?;
+    assert!(rt; are_few(&cases));
+    Poly::from_cases(rt.alloc(), cases)
 }
 
-fn from_cases(
-    rt: &impl Abort,
-    alloc: Global,
-    cases: &[(&[Literal], i64)],
-) -> Result<Poly<i64>, CaseError> {
-    let cases = case_list(alloc, cases)?;
+fn join(rt: &(impl Abort + AllocGlobal), cases: &str) -> Result<Poly<i64>, CaseError> {
+    let cases = case_list(rt.alloc(), cases)?;
     assert!(rt; are_few(&cases));
-    Poly::from_cases(alloc, cases)
+    Poly::join(rt.alloc(), cases)
 }
 
-fn join(
-    rt: &impl Abort,
-    alloc: Global,
-    cases: &[(&[Literal], i64)],
-) -> Result<Poly<i64>, CaseError> {
-    let cases = case_list(alloc, cases)?;
-    assert!(rt; are_few(&cases));
-    Poly::join(alloc, cases)
+// The polyvalue of this number where the first transaction of the site commits, and else of the old one.
+fn chosen(alloc: Global, site: u8, new: i64, old: &Poly<i64>) -> Result<Poly<i64>, NameError> {
+    let new = Poly::sure(alloc, new)?;
+    Poly::choose(alloc, txn(site), &new, old)
 }
 
 // The polyvalue of 50, or of 60 where the first transaction commits.
 fn fifty_or_sixty(alloc: Global) -> Result<Poly<i64>, NameError> {
     let old = Poly::sure(alloc, 50)?;
-    let new = Poly::sure(alloc, 60)?;
-    Poly::choose(alloc, txn(0), &new, &old)
-}
-
-fn assert_cases(rt: &impl Abort, poly: &Poly<i64>, wanted: &[(&[Literal], i64)]) {
-    assert_eq!(rt; poly.cases().len(), wanted.len());
-    for (case, (when, value)) in poly.cases().iter().zip(wanted) {
-        assert_eq!(rt; case.when.as_slice(), *when);
-        assert_eq!(rt; case.value, *value);
-    }
-}
-
-#[test]
-fn a_choice_has_the_old_case_first(rt: HostRuntime) -> Result<(), Fail> {
-    let alloc = rt.alloc();
-    let poly = fifty_or_sixty(alloc)?;
-    assert_cases(&rt, &poly, &[(&[aborts(0)], 50), (&[commits(0)], 60)]);
-    assert_eq!(rt; poly.at(&[]), 50);
-    assert_eq!(rt; poly.at(&[txn(1), txn(0)]), 60);
-    let same = Poly::choose(alloc, txn(0), &poly, &poly)?;
-    assert_cases(&rt, &same, &[(&[aborts(0)], 50), (&[commits(0)], 60)]);
-    let copy = poly.copy(alloc)?;
-    assert_cases(&rt, &copy, &[(&[aborts(0)], 50), (&[commits(0)], 60)]);
-    Ok(())
-}
-
-#[test]
-fn a_choice_by_a_later_transaction_goes_below(rt: HostRuntime) -> Result<(), Fail> {
-    let alloc = rt.alloc();
-    let old = fifty_or_sixty(alloc)?;
-    let new = Poly::sure(alloc, 60)?;
-    let poly = Poly::choose(alloc, txn(1), &new, &old)?;
-    assert_cases(
-        &rt,
-        &poly,
-        &[
-            (&[aborts(0), aborts(1)], 50),
-            (&[aborts(0), commits(1)], 60),
-            (&[commits(0)], 60),
-        ],
-    );
-    let names = poly.names(alloc)?;
-    assert_eq!(rt; names.as_slice(), [txn(0), txn(1)].as_slice());
-    let settled = poly.settle(alloc, txn(1), true)?;
-    assert_cases(&rt, &settled, &[(&[], 60)]);
-    let settled = poly.settle(alloc, txn(0), false)?;
-    assert_cases(&rt, &settled, &[(&[aborts(1)], 50), (&[commits(1)], 60)]);
-    let settled = poly.settle(alloc, txn(2), true)?;
-    assert_eq!(rt; settled.cases().len(), 3);
-    Ok(())
+    chosen(alloc, 0, 60, &old)
 }
 
 // The polyvalue once two outcomes are known, of which the first is on the earlier transaction.
@@ -151,33 +119,130 @@ fn settle_both(
     poly.settle_all(alloc, &[first, second])
 }
 
+// Asserts that these are the cases of the polyvalue.
+fn assert_cases(rt: &(impl Abort + AllocGlobal), poly: &Poly<i64>, wanted: &str) {
+    let Ok(wanted) = case_list(rt.alloc(), wanted) else {
+        panic!(rt; "no memory");
+    };
+    assert_eq!(rt; poly.cases(), wanted.as_slice());
+}
+
+// Asserts that these are the cases once the outcome is known.
+fn assert_settled(rt: &(impl Abort + AllocGlobal), poly: &Poly<i64>, known: Literal, wanted: &str) {
+    match poly.settle(rt.alloc(), known.txn, known.commits) {
+        Ok(settled) => assert_cases(rt, &settled, wanted),
+        Err(error) => panic!(rt; "{error}"),
+    }
+}
+
+// Asserts that these are the cases once both outcomes are known.
+fn assert_both_settled(
+    rt: &(impl Abort + AllocGlobal),
+    poly: &Poly<i64>,
+    first: Literal,
+    second: Literal,
+    wanted: &str,
+) {
+    match settle_both(rt, rt.alloc(), poly, first, second) {
+        Ok(settled) => assert_cases(rt, &settled, wanted),
+        Err(error) => panic!(rt; "{error}"),
+    }
+}
+
+// Asserts that a polyvalue has been made, of these cases.
+fn assert_made(rt: &(impl Abort + AllocGlobal), made: Result<Poly<i64>, CaseError>, wanted: &str) {
+    match made {
+        Ok(poly) => assert_cases(rt, &poly, wanted),
+        Err(error) => panic!(rt; "{error}"),
+    }
+}
+
+// Asserts that what was made of these cases is a refusal, for the cause that prints so.
+fn assert_refused(
+    rt: &(impl Abort + AllocGlobal),
+    made: Result<Poly<i64>, CaseError>,
+    cases: &str,
+    wanted: &str,
+) {
+    let Err(error) = made else {
+        panic!(rt; "not refused: {cases}");
+    };
+    match format!(in rt.alloc(); "{error}") {
+        Ok(printed) => assert_eq!(rt; printed.as_str(), wanted, "{cases}"),
+        Err(_) => panic!(rt; "no memory"),
+    }
+}
+
+// Asserts that no case is met where exactly these transactions commit, and that this is reported.
+fn assert_incomplete(
+    rt: &(impl Abort + AllocGlobal),
+    made: Result<Poly<i64>, CaseError>,
+    wanted: &[TxnId],
+) {
+    match made {
+        Err(CaseError::NotComplete(yes)) => assert_eq!(rt; yes.as_slice(), wanted),
+        _ => panic!(rt; "not refused as incomplete"),
+    }
+}
+
+// Asserts that the cases aren't canonical, for the cause that prints so, and are joined to these.
+fn assert_joined_alone(rt: &(impl Abort + AllocGlobal), cases: &str, cause: &str, wanted: &str) {
+    assert_refused(rt, from_cases(rt, cases), cases, cause);
+    assert_made(rt, join(rt, cases), wanted);
+}
+
+#[test]
+fn a_choice_has_the_old_case_first(rt: HostRuntime) -> Result<(), Fail> {
+    let poly = fifty_or_sixty(rt.alloc())?;
+    assert_cases(&rt, &poly, "0- 50; 0+ 60;");
+    assert_eq!(rt; poly.at(&[]), 50);
+    assert_eq!(rt; poly.at(&[txn(1), txn(0)]), 60);
+    let same = Poly::choose(rt.alloc(), txn(0), &poly, &poly)?;
+    assert_cases(&rt, &same, "0- 50; 0+ 60;");
+    let copy = poly.copy(rt.alloc())?;
+    assert_cases(&rt, &copy, "0- 50; 0+ 60;");
+    Ok(())
+}
+
+#[test]
+fn a_choice_by_a_later_transaction_goes_below(rt: HostRuntime) -> Result<(), Fail> {
+    let old = fifty_or_sixty(rt.alloc())?;
+    let poly = chosen(rt.alloc(), 1, 60, &old)?;
+    assert_cases(&rt, &poly, "0- 1- 50; 0- 1+ 60; 0+ 60;");
+    let names = poly.names(rt.alloc())?;
+    assert_eq!(rt; names.as_slice(), [txn(0), txn(1)].as_slice());
+    assert_settled(&rt, &poly, commits(1), "60;");
+    assert_settled(&rt, &poly, aborts(0), "1- 50; 1+ 60;");
+    assert_settled(&rt, &poly, commits(2), "0- 1- 50; 0- 1+ 60; 0+ 60;");
+    Ok(())
+}
+
 #[test]
 fn two_outcomes_are_put_in_at_once(rt: HostRuntime) -> Result<(), Fail> {
-    let alloc = rt.alloc();
-    let old = fifty_or_sixty(alloc)?;
-    let new = Poly::sure(alloc, 70)?;
-    let poly = Poly::choose(alloc, txn(1), &new, &old)?;
-    let settled = settle_both(&rt, alloc, &poly, aborts(0), aborts(1))?;
-    assert_cases(&rt, &settled, &[(&[], 50)]);
-    let settled = settle_both(&rt, alloc, &poly, commits(1), commits(2))?;
-    assert_cases(&rt, &settled, &[(&[], 70)]);
-    let settled = settle_both(&rt, alloc, &poly, commits(0), aborts(2))?;
-    assert_cases(&rt, &settled, &[(&[aborts(1)], 60), (&[commits(1)], 70)]);
+    let old = fifty_or_sixty(rt.alloc())?;
+    let poly = chosen(rt.alloc(), 1, 70, &old)?;
+    assert_both_settled(&rt, &poly, aborts(0), aborts(1), "50;");
+    assert_both_settled(&rt, &poly, commits(1), commits(2), "70;");
+    assert_both_settled(&rt, &poly, commits(0), aborts(2), "1- 60; 1+ 70;");
     Ok(())
 }
 
 #[test]
 fn equal_polyvalues_are_equal(rt: HostRuntime) -> Result<(), Fail> {
-    let alloc = rt.alloc();
-    let poly = fifty_or_sixty(alloc)?;
-    let copy = poly.copy(alloc)?;
-    assert!(rt; copy == poly);
-    let other = poly.settle(alloc, txn(0), true)?;
-    assert!(rt; other != poly);
-    let [case] = other.cases() else {
+    let poly = fifty_or_sixty(rt.alloc())?;
+    assert!(rt; poly.copy(rt.alloc())? == poly);
+    assert!(rt; poly.settle(rt.alloc(), txn(0), true)? != poly);
+    Ok(())
+}
+
+#[test]
+fn equal_cases_are_equal(rt: HostRuntime) -> Result<(), Fail> {
+    let poly = fifty_or_sixty(rt.alloc())?;
+    let settled = poly.settle(rt.alloc(), txn(0), true)?;
+    let [case] = settled.cases() else {
         rt.abort();
     };
-    let copy = case.copy(alloc)?;
+    let copy = case.copy(rt.alloc())?;
     assert!(rt; copy == *case);
     for other in poly.cases() {
         assert!(rt; copy != *other);
@@ -187,20 +252,16 @@ fn equal_polyvalues_are_equal(rt: HostRuntime) -> Result<(), Fail> {
 
 #[test]
 fn a_ninth_name_is_refused(rt: HostRuntime) -> Result<(), Fail> {
-    let alloc = rt.alloc();
-    let mut poly = Poly::sure(alloc, 0)?;
+    let mut poly = Poly::sure(rt.alloc(), 0)?;
     for site in 0..8 {
-        let new = Poly::sure(alloc, site as i64 + 1)?;
-        poly = Poly::choose(alloc, txn(site), &new, &poly)?;
+        poly = chosen(rt.alloc(), site, site as i64 + 1, &poly)?;
     }
-    assert_eq!(rt; poly.names(alloc)?.len(), 8);
-    let new = Poly::sure(alloc, 9)?;
-    let refused = Poly::choose(alloc, txn(8), &new, &poly);
+    assert_eq!(rt; poly.names(rt.alloc())?.len(), 8);
+    let refused = chosen(rt.alloc(), 8, 9, &poly);
     assert!(rt; matches!(refused, Err(NameError::TooManyOutcomes(9))));
 
     // The new value has lost every name that the old one had, where the eighth commits.
-    let settled = poly.settle(alloc, txn(7), true)?;
-    assert_cases(&rt, &settled, &[(&[], 8)]);
+    assert_settled(&rt, &poly, commits(7), "8;");
     Ok(())
 }
 
@@ -216,135 +277,105 @@ fn a_read_has_an_item(rt: HostRuntime) -> Result<(), Fail> {
 }
 
 #[test]
-fn canonical_cases_are_taken_as_they_are(rt: HostRuntime) -> Result<(), Fail> {
-    let cases: [(&[Literal], i64); 2] = [(&[aborts(0)], 50), (&[commits(0)], 60)];
-    let poly = from_cases(&rt, rt.alloc(), &cases)?;
-    assert_cases(&rt, &poly, &cases);
-    Ok(())
+fn canonical_cases_are_taken_as_they_are(rt: HostRuntime) {
+    assert_made(&rt, from_cases(&rt, "0- 50; 0+ 60;"), "0- 50; 0+ 60;");
+}
+
+// Cases that are no canonical ones of a polyvalue, and why.
+const REFUSED: &[(&str, &str)] = &[
+    ("0- 1; 0- 2;", "cases 0 and 1 overlap"),
+    // Cases 1 and 2 overlap, and 0 with 3 and with 4: the least first place is reported, and then the least second one.
+    (
+        "0- 1; 0+ 2; 0+ 1+ 3; 0- 1- 4; 0- 5;",
+        "cases 0 and 3 overlap",
+    ),
+    // Overlaps are reported before gaps, and too many names before both.
+    ("0- 1; 0- 1- 2;", "cases 0 and 1 overlap"),
+    (
+        "0- 1- 2- 3- 4- 5- 6- 7- 8- 1; 0- 1- 2- 3- 4- 5- 6- 7- 8- 2;",
+        "the cases name 9 outcomes",
+    ),
+];
+
+// Cases that can't be joined, and why.
+const NOT_JOINED: &[(&str, &str)] = &[
+    ("0- 1- 2- 3- 4- 5- 6- 7- 8- 1;", "the cases name 9 outcomes"),
+    ("1; 3+ 1;", "cases 0 and 1 overlap"),
+];
+
+#[test]
+fn cases_that_are_no_polyvalue_are_refused(rt: HostRuntime) {
+    for (cases, wanted) in REFUSED {
+        assert_refused(&rt, from_cases(&rt, cases), cases, wanted);
+    }
+    for (cases, wanted) in NOT_JOINED {
+        assert_refused(&rt, join(&rt, cases), cases, wanted);
+    }
 }
 
 #[test]
-fn cases_that_are_no_polyvalue_are_refused(rt: HostRuntime) -> Result<(), Fail> {
-    let alloc = rt.alloc();
-    let Err(CaseError::NotComplete(yes)) = from_cases(&rt, alloc, &[]) else {
-        rt.abort();
-    };
-    assert!(rt; yes.is_empty());
-    let Err(CaseError::NotComplete(yes)) = from_cases(&rt, alloc, &[(&[aborts(0)], 1)]) else {
-        rt.abort();
-    };
-    assert_eq!(rt; yes.as_slice(), [txn(0)].as_slice());
-    let refused = from_cases(&rt, alloc, &[(&[aborts(0)], 1), (&[aborts(0)], 2)]);
-    assert!(rt; matches!(refused, Err(CaseError::NotDisjoint(0, 1))));
-
-    // Cases 1 and 2 overlap, and 0 with 3 and with 4: the least first place is reported, and then the least second one.
-    let refused = from_cases(
-        &rt,
-        alloc,
-        &[
-            (&[aborts(0)], 1),
-            (&[commits(0)], 2),
-            (&[commits(0), commits(1)], 3),
-            (&[aborts(0), aborts(1)], 4),
-            (&[aborts(0)], 5),
-        ],
-    );
-    assert!(rt; matches!(refused, Err(CaseError::NotDisjoint(0, 3))));
-
-    // Overlaps are reported before gaps, and too many names before both.
-    let refused = from_cases(
-        &rt,
-        alloc,
-        &[(&[aborts(0)], 1), (&[aborts(0), aborts(1)], 2)],
-    );
-    assert!(rt; matches!(refused, Err(CaseError::NotDisjoint(0, 1))));
-    let nine = [
-        aborts(0),
-        aborts(1),
-        aborts(2),
-        aborts(3),
-        aborts(4),
-        aborts(5),
-        aborts(6),
-        aborts(7),
-        aborts(8),
-    ];
-    let refused = from_cases(&rt, alloc, &[(&nine, 1), (&nine, 2)]);
-    assert!(rt; matches!(refused, Err(CaseError::TooManyOutcomes(9))));
-
-    let refused = join(&rt, alloc, &[(&nine, 1)]);
-    assert!(rt; matches!(refused, Err(CaseError::TooManyOutcomes(9))));
-    let refused = join(&rt, alloc, &[(&[], 1), (&[commits(3)], 1)]);
-    assert!(rt; matches!(refused, Err(CaseError::NotDisjoint(0, 1))));
+fn cases_that_leave_a_gap_are_refused(rt: HostRuntime) {
+    assert_incomplete(&rt, from_cases(&rt, ""), &[]);
+    assert_incomplete(&rt, from_cases(&rt, "0- 1;"), &[txn(0)]);
 
     // The least transaction is the most significant: where the second commits alone comes before where the first does.
-    let cases: [(&[Literal], i64); 1] = [(&[aborts(1), aborts(0)], 1)];
-    let Err(CaseError::NotComplete(yes)) = join(&rt, alloc, &cases) else {
-        rt.abort();
-    };
-    assert_eq!(rt; yes.as_slice(), [txn(1)].as_slice());
-    Ok(())
+    assert_incomplete(&rt, join(&rt, "1- 0- 1;"), &[txn(1)]);
 }
 
 #[test]
-fn cases_that_are_not_canonical_are_joined_alone(rt: HostRuntime) -> Result<(), Fail> {
-    let alloc = rt.alloc();
-    let cases: [(&[Literal], i64); 2] = [(&[aborts(0)], 1), (&[commits(0)], 1)];
-    let refused = from_cases(&rt, alloc, &cases);
-    assert!(rt; matches!(refused, Err(CaseError::NotReduced(0))));
-    assert_cases(&rt, &join(&rt, alloc, &cases)?, &[(&[], 1)]);
-
-    let cases: [(&[Literal], i64); 2] = [(&[commits(0)], 60), (&[aborts(0)], 50)];
-    let refused = from_cases(&rt, alloc, &cases);
-    assert!(rt; matches!(refused, Err(CaseError::NotReduced(0))));
-    assert_cases(
-        &rt,
-        &join(&rt, alloc, &cases)?,
-        &[(&[aborts(0)], 50), (&[commits(0)], 60)],
-    );
+fn cases_that_are_not_canonical_are_joined_alone(rt: HostRuntime) {
+    let first = "case 0 isn't canonical";
+    assert_joined_alone(&rt, "0- 1; 0+ 1;", first, "1;");
+    assert_joined_alone(&rt, "0+ 60; 0- 50;", first, "0- 50; 0+ 60;");
 
     // A case that no assignment meets does no harm, but canonical cases have none.
-    let cases: [(&[Literal], i64); 3] = [
-        (&[aborts(0)], 50),
-        (&[commits(0)], 60),
-        (&[commits(0), aborts(0)], 70),
-    ];
-    let refused = from_cases(&rt, alloc, &cases);
-    assert!(rt; matches!(refused, Err(CaseError::NotReduced(2))));
-    assert_cases(
-        &rt,
-        &join(&rt, alloc, &cases)?,
-        &[(&[aborts(0)], 50), (&[commits(0)], 60)],
-    );
+    let third = "case 2 isn't canonical";
+    assert_joined_alone(&rt, "0- 50; 0+ 60; 0+ 0- 70;", third, "0- 50; 0+ 60;");
+}
+
+// The first transactions of these sites.
+fn first_txns(alloc: Global, sites: &[u8]) -> Result<Vec<TxnId>, NoMemory> {
+    let mut txns = Vec::new(alloc);
+    for site in sites {
+        txns.push(txn(*site))?;
+    }
+    Ok(txns)
+}
+
+// The polyvalue whose table over three transactions is this.
+fn from_table(
+    rt: &(impl Abort + AllocGlobal),
+    sites: &[u8],
+    values: &[i64],
+) -> Result<Poly<i64>, NoMemory> {
+    let txns = ordered(first_txns(rt.alloc(), sites)?);
+    assert!(rt; txns.len() == 3 && values.len() == 8);
+    Poly::from_table(rt.alloc(), &txns, values)
+}
+
+// Asserts that the polyvalue's table over three transactions is this.
+fn assert_table(
+    rt: &(impl Abort + AllocGlobal),
+    poly: &Poly<i64>,
+    sites: &[u8],
+    wanted: &[i64],
+) -> Result<(), Fail> {
+    let txns = ordered(first_txns(rt.alloc(), sites)?);
+    assert_eq!(rt; txns.len(), 3);
+    let table = poly.table(rt.alloc(), &txns)?;
+    assert_eq!(rt; table.as_slice(), wanted);
     Ok(())
 }
 
 #[test]
 fn a_table_is_read_back(rt: HostRuntime) -> Result<(), Fail> {
-    let alloc = rt.alloc();
-    let txns = ordered(Vec::from_slice(alloc, &[txn(0), txn(2), txn(4)])?);
-    assert_eq!(rt; txns.len(), 3);
-    let values = [5i64, 5, 7, 7, 1, 2, 7, 7];
-    let poly = Poly::from_table(alloc, &txns, &values)?;
-    assert_cases(
-        &rt,
-        &poly,
-        &[
-            (&[aborts(0), aborts(2)], 5),
-            (&[aborts(0), commits(2)], 7),
-            (&[commits(0), aborts(2), aborts(4)], 1),
-            (&[commits(0), aborts(2), commits(4)], 2),
-            (&[commits(0), commits(2)], 7),
-        ],
-    );
-    assert_eq!(rt; poly.table(alloc, &txns)?.as_slice(), values.as_slice());
+    let poly = from_table(&rt, &[0, 2, 4], &[5, 5, 7, 7, 1, 2, 7, 7])?;
+    let cases = "0- 2- 5; 0- 2+ 7; 0+ 2- 4- 1; 0+ 2- 4+ 2; 0+ 2+ 7;";
+    assert_cases(&rt, &poly, cases);
+    assert_table(&rt, &poly, &[0, 2, 4], &[5, 5, 7, 7, 1, 2, 7, 7])?;
 
     // A transaction that isn't named changes nothing, and one that is left out doesn't commit.
-    let txns = ordered(Vec::from_slice(alloc, &[txn(1), txn(4), txn(0)])?);
-    assert_eq!(rt; txns.len(), 3);
-    let table = poly.table(alloc, &txns)?;
-    assert_eq!(rt; table.as_slice(), [5i64, 5, 5, 5, 1, 2, 1, 2].as_slice());
-    Ok(())
+    assert_table(&rt, &poly, &[1, 4, 0], &[5, 5, 5, 5, 1, 2, 1, 2])
 }
 
 // Numbers that look as if they were drawn (a linear congruential generator; Knuth, 1981).
@@ -378,6 +409,14 @@ fn assignment(alloc: Global, bits: u64) -> Result<Vec<TxnId>, NoMemory> {
         }
     }
     Ok(yes)
+}
+
+// The value of a polyvalue at such an assignment.
+fn value_at(rt: &(impl Abort + AllocGlobal), poly: &Poly<i64>, bits: u64) -> i64 {
+    match assignment(rt.alloc(), bits) {
+        Ok(yes) => poly.at(&yes),
+        Err(error) => panic!(rt; "{error}"),
+    }
 }
 
 // A polyvalue of at most four names, with few values, so that many sides are equal.
@@ -426,51 +465,120 @@ fn spread(alloc: Global, poly: &Poly<i64>, first: u64) -> Result<Vec<Case<i64>>,
     Ok(cases)
 }
 
+// Asserts that a choice has the value of the first where the site's transaction commits, and else that of the second.
+fn assert_choice(
+    rt: &(impl Abort + AllocGlobal),
+    poly: &Poly<i64>,
+    other: &Poly<i64>,
+    site: u8,
+) -> Result<(), Fail>
+    requires { site < 64 }
+{
+    let choice = Poly::choose(rt.alloc(), txn(site), poly, other)?;
+    for bits in 0..64 {
+        let side = if bits >> site & 1 == 1 { poly } else { other };
+        assert_eq!(rt; value_at(rt, &choice, bits), value_at(rt, side, bits));
+    }
+    Ok(())
+}
+
+// Asserts that the value with an outcome put in is that where the outcome is so, and doesn't name the transaction.
+fn assert_outcome(
+    rt: &(impl Abort + AllocGlobal),
+    poly: &Poly<i64>,
+    site: u8,
+    outcome: bool,
+) -> Result<(), Fail>
+    requires { site < 64 }
+{
+    let settled = poly.settle(rt.alloc(), txn(site), outcome)?;
+    for bits in 0..64 {
+        let known = with(bits, site, outcome);
+        assert_eq!(rt; value_at(rt, &settled, bits), value_at(rt, poly, known));
+    }
+    assert!(rt; !settled.names(rt.alloc())?.contains(&txn(site)));
+    Ok(())
+}
+
+// Asserts the same of this outcome, and the other outcome of the next site's transaction.
+fn assert_outcomes(
+    rt: &(impl Abort + AllocGlobal),
+    poly: &Poly<i64>,
+    site: u8,
+    outcome: bool,
+) -> Result<(), Fail>
+    requires { site < 63 }
+{
+    let first = Literal {
+        txn: txn(site),
+        commits: outcome,
+    };
+    let second = Literal {
+        txn: txn(site + 1),
+        commits: !outcome,
+    };
+    let both = settle_both(rt, rt.alloc(), poly, first, second)?;
+    for bits in 0..64 {
+        let known = with(with(bits, site, outcome), site + 1, !outcome);
+        assert_eq!(rt; value_at(rt, &both, bits), value_at(rt, poly, known));
+    }
+    Ok(())
+}
+
+// Asserts that one case for each assignment makes an equal polyvalue: equal values have equal cases.
+fn assert_joined(
+    rt: &(impl Abort + AllocGlobal),
+    poly: &Poly<i64>,
+    first: u64,
+) -> Result<(), Fail> {
+    let cases = spread(rt.alloc(), poly, first)?;
+    assert!(rt; are_few(&cases));
+    let joined = Poly::join(rt.alloc(), cases)?;
+    for bits in 0..64 {
+        assert_eq!(rt; value_at(rt, &joined, bits), value_at(rt, poly, bits));
+    }
+    assert!(rt; joined == *poly);
+    Ok(())
+}
+
+// Asserts that the polyvalue names the site's transaction exactly where its value changes with it.
+fn assert_named(rt: &(impl Abort + AllocGlobal), poly: &Poly<i64>, site: u8) -> Result<(), Fail>
+    requires { site < 64 }
+{
+    let mut changes = false;
+    for bits in 0..64 {
+        let aborted = value_at(rt, poly, with(bits, site, false));
+        let committed = value_at(rt, poly, with(bits, site, true));
+        changes |= aborted != committed;
+    }
+    assert_eq!(rt; poly.names(rt.alloc())?.contains(&txn(site)), changes);
+    Ok(())
+}
+
+// Asserts all of this of two polyvalues, a site and an outcome.
+fn assert_right(
+    rt: &(impl Abort + AllocGlobal),
+    poly: &Poly<i64>,
+    other: &Poly<i64>,
+    site: u8,
+    round: u64,
+) -> Result<(), Fail> {
+    assert!(rt; site < SITES);
+    assert_choice(rt, poly, other, site)?;
+    assert_outcome(rt, poly, site, round % 2 == 0)?;
+    assert_outcomes(rt, poly, site, round % 2 == 0)?;
+    assert_joined(rt, poly, round)?;
+    assert_named(rt, poly, site)
+}
+
 #[test]
 fn each_assignment_has_the_right_value(rt: HostRuntime) -> Result<(), Fail> {
-    let alloc = rt.alloc();
     let mut draws = Draws { state: 7 };
     for round in 0..240 {
-        let poly = drawn(&rt, alloc, &mut draws)?;
-        let other = drawn(&rt, alloc, &mut draws)?;
+        let poly = drawn(&rt, rt.alloc(), &mut draws)?;
+        let other = drawn(&rt, rt.alloc(), &mut draws)?;
         let site = draws.below(SITES as u64) as u8;
-        assert!(rt; site < SITES);
-        let outcome = round % 2 == 0;
-        let choice = Poly::choose(alloc, txn(site), &poly, &other)?;
-        let settled = poly.settle(alloc, txn(site), outcome)?;
-        let (first, second) = if outcome {
-            (commits(site), aborts(site + 1))
-        } else {
-            (aborts(site), commits(site + 1))
-        };
-        let both = settle_both(&rt, alloc, &poly, first, second)?;
-        let cases = spread(alloc, &poly, round)?;
-        assert!(rt; are_few(&cases));
-        let joined = Poly::join(alloc, cases)?;
-        let mut changes = 0;
-        for bits in 0..64 {
-            let yes = assignment(alloc, bits)?;
-            let commits = bits >> site & 1 == 1;
-            let chosen = if commits {
-                poly.at(&yes)
-            } else {
-                other.at(&yes)
-            };
-            assert_eq!(rt; choice.at(&yes), chosen);
-            let known = assignment(alloc, with(bits, site, outcome))?;
-            assert_eq!(rt; settled.at(&yes), poly.at(&known));
-            let bits_of_both = with(with(bits, site, outcome), site + 1, !outcome);
-            let known = assignment(alloc, bits_of_both)?;
-            assert_eq!(rt; both.at(&yes), poly.at(&known));
-            assert_eq!(rt; joined.at(&yes), poly.at(&yes));
-            let flipped = assignment(alloc, with(bits, site, !commits))?;
-            changes |= (poly.at(&yes) != poly.at(&flipped)) as u32;
-        }
-
-        // What a polyvalue names is what its value changes with, and equal values have equal cases.
-        assert_eq!(rt; poly.names(alloc)?.contains(&txn(site)), changes == 1);
-        assert!(rt; !settled.names(alloc)?.contains(&txn(site)));
-        assert!(rt; joined == poly);
+        assert_right(&rt, &poly, &other, site, round)?;
     }
     Ok(())
 }
