@@ -7,15 +7,20 @@
  *   polydb_world     all sites in one handle, driven by the lines of a schedule. What is printed is taken out.
  *   polydb_site      one site of several, each in a program of its own. The host carries its messages and writes its journal.
  *
- * Link with libpolydb.a (`embed/build` makes it), or load libpolydb.so. Nothing else is needed: the library calls malloc, realloc, free, memcpy,
- * memmove and memset of the C library, and no other function; it opens no file, starts no thread, prints nothing, and never calls the host back.
+ * `embed/build` makes libpolydb.a and libpolydb.so in embed/out, for Linux on x86-64. Link with the one, or load the other:
+ *
+ *     cc -I embed -o program program.c embed/out/libpolydb.a
+ *
+ * Nothing else is needed: the library calls malloc, realloc, free, memcpy, memmove and memset of the C library, and no other function; it opens no
+ * file, starts no thread, prints nothing, and never calls the host back.
  *
  * Handles. A world and a site live behind a handle that the host keeps. All zeroes are a closed handle:
  *
  *     polydb_site site = {0};
  *
  * What the host owes, which C can't check:
- *   - a handle begins as zeroes, is changed by nothing but these calls, and isn't copied: after a copy, closing both frees twice;
+ *   - a handle begins as zeroes, is changed by nothing but these calls, and isn't copied: after a copy, closing both frees twice. It may be moved, if the
+ *     old place is used no more;
  *   - no handle is used by two calls at once. Two threads with a handle each are fine, and a handle may move from thread to thread;
  *   - each pointer isn't null and has as many bytes behind it as the call is told; with a length of 0 it is any pointer that isn't null;
  *   - `out`, what the numbers go to and the handle don't overlap each other or the input;
@@ -24,12 +29,14 @@
  *
  * What the library promises, which is proved: each call ends, and gives one of the statuses written below it, exactly for the cause that is
  * written beside it, and for the first in that list where several are so (but POLYDB_NO_MEMORY and POLYDB_BROKEN_OFF, which may come wherever they are
- * listed); with a status other than POLYDB_DONE the world or site is as it was before the call, unless said otherwise; and no call reads or writes outside
- * what it is given. What else is proved stands in docs/EMBEDDING.md.
+ * listed); with a status other than POLYDB_DONE the world or site is as it was before the call, unless said otherwise; no call reads or writes outside
+ * what it is given; and no pointer is kept after a call: catalog, line, configuration, journal, program, message, name and `out` may then be freed.
+ * What else is proved stands in docs/EMBEDDING.md.
  *
- * Room. Where a call writes bytes to `out`, they are `room` bytes at most, the rest of `out` stays as it was, and too small a room loses nothing:
- * POLYDB_TOO_SMALL says in `*written` how many bytes there are, nothing is written, and the same bytes come again. With a status that says nothing else
- * of it `*written` is 0, and `out` is as it was.
+ * Room. Where a call writes bytes to `out`, they are `room` bytes at most, and too small a room loses nothing: POLYDB_TOO_SMALL says in `*written` how many
+ * bytes there are, nothing is written, and the same bytes come again. But polydb_world_take has no such status: it writes a part, and the next call goes on.
+ * After every call `out` is as it was beyond the bytes that were written. `*written` is 0 but with POLYDB_DONE and POLYDB_TOO_SMALL, and but for polydb_run,
+ * which has a text with other statuses too; `*place` and `*to` are 0 but with POLYDB_DONE.
  */
 #ifndef POLYDB_H
 #define POLYDB_H
@@ -131,7 +138,7 @@ typedef struct {
  *   POLYDB_HAS_EVENTS  it has an event
  *   POLYDB_NO_MEMORY   there was no memory
  *
- * The catalog is copied: the host may free it.
+ * The world keeps a copy of the catalog.
  */
 uint32_t polydb_world_open(polydb_world *world, const uint8_t *catalog, size_t length);
 
@@ -156,7 +163,7 @@ uint32_t polydb_world_step(polydb_world *world, const uint8_t *line, size_t leng
 
 /*
  * Writes the oldest kept bytes of what was printed to `out`, as many as there are and have room, and drops these alone: with
- * too small a room nothing is lost, and the next call goes on. `*written` is how many bytes that are, 0 when all were taken.
+ * too small a room nothing is lost, and the next call goes on. `*written` is how many bytes that are: 0 when all were taken, or `room` is 0.
  *
  *   POLYDB_DONE        `*written` bytes were written and dropped; the rest of `out` is as it was
  *   POLYDB_CLOSED      the handle is closed; `out` is as it was, and `*written` is 0
@@ -180,21 +187,26 @@ void polydb_world_close(polydb_world *world);
  *             send the message to the site that it goes to; show the report
  *         give the site what came: a request, a message, a tick
  *
- * A message may be lost, may come late and may come twice: the sites agree all the same. Time is the host's: a site that waits for an answer
- * gives up, lets go of its locks, or asks again after so many ticks, and never without one.
+ * A message may be lost, may come late and may come twice: the sites agree all the same. Time is the host's: a site that waits for an answer gives up
+ * at its third tick, lets go of its locks at their third, and then asks again at each tick; and never without one.
  *
  * What the host owes besides:
  *   - the file, and for a new one its entry in the folder, is synced before its bytes are read for polydb_site_open: the site counts as written all that it
  *     finds, and of a process that was killed the file may show bytes that aren't on the disk yet;
  *   - the file holds what was written and synced before polydb_site_journal_synced was called, until the site is opened again. A crash in
  *     a write leaves any bytes where that write puts its bytes, and all other bytes alone;
+ *   - where a write or a sync fails, polydb_site_journal_synced isn't called. The host writes the same bytes again (polydb_site_take_journal gives them
+ *     again), and syncs. A later sync that answers 0 without a new write proves nothing: the system may have given up the bytes, and shows them still. That is so
+ *     after a restart, too: a host that can't rule it out opens the site on a copy, all of which it has written and synced, with its entry in the folder;
  *   - one open site at a time has the file;
  *   - bytes that polydb_site_receive is given may be any bytes; but where they spell a message, a site of the same configuration let it out;
- *   - all sites are opened with the same configuration, and each number is one site's.
+ *   - all sites are opened with the same configuration, always, and each number is one site's. The file holds neither the configuration nor `me`: that
+ *     it is opened as another site, or under another configuration, isn't noticed.
  *
- * What is proved of it: each call makes of the site what the program's site makes of the same input; nothing is let out before all records
- * are in the file that the site had when it made it, and nothing is shown while one isn't; and at each moment, and whatever a crash in a write leaves, the file is a journal of the first
- * records of the site, as many as the host has said to be written, or one more. `polydb show` shows the file as it shows the program's.
+ * What is proved of it: each call makes of the site what the program's site makes of the same input; nothing is let out before all records are in the file
+ * that the site had when it made it, and nothing is shown while one isn't; and at each moment, and whatever a crash in a write leaves, the file is a journal
+ * of the first records of the site, as many as the host has said to be written, or one more. `polydb show` shows the file where it is called site-S.pv,
+ * for site S.
  */
 
 /* Closed if all zeroes. Not to be copied. The fields are the library's. */
@@ -214,7 +226,7 @@ typedef struct {
 
 /*
  * Opens a closed handle with site `me` of a configuration: lines `sites`, `journal` and `item` of a schedule, the same for all sites. The journal is
- * what the host's file holds. What the file holds beyond the journal's end doesn't matter. Both are copied.
+ * what the host's file holds. What the file holds beyond the journal's end doesn't matter. The site keeps copies of what it needs.
  *
  *   POLYDB_DONE               the site is open. It is in a new epoch, whose record is the first thing to write
  *   POLYDB_IN_USE             the handle was open
@@ -234,11 +246,14 @@ uint32_t polydb_site_open(polydb_site *site, const uint8_t *config, size_t confi
 
 /*
  * A request: the program that the text is runs, with this site as its coordinator. A query assigns nothing and has a `return`. What becomes of it is
- * reported: `txn ..`, and then `commit ..` or `refuse ..`.
+ * reported. Each request that is taken has one report `txn ..` with its number, in the order of the requests, and later one `commit ..` or `refuse ..` with
+ * that number; or in place of these `spent ..`, where the site has no number left for it, and then nothing more. If the site is closed before, there is
+ * nothing more either: it may have committed or not. (`spent ..` also comes where this site is asked for locks and has no number left for a grant. A site
+ * has 4,294,967,295 numbers of each of the two kinds, and as many again when it is opened again.)
  *
  *   POLYDB_DONE         the site has begun it
  *   POLYDB_CLOSED       the handle is closed
- *   POLYDB_BAD_TEXT     the text is no program
+ *   POLYDB_BAD_TEXT     the text is no program: also where it has more than 1,000 bytes
  *   POLYDB_BAD_PROGRAM  the program may not run
  *   POLYDB_NO_MEMORY    there was no memory
  */
@@ -289,7 +304,8 @@ uint32_t polydb_site_journal_synced(polydb_site *site, uint64_t place, size_t wr
 /*
  * The next thing that the site lets out: the bytes of a message, to be carried to site `*to`; or with `*to` = POLYDB_REPORT a line of text with its
  * line feed, as a run prints it: `txn 0.1.0`, `commit 0.1.0 certain nothing`, `refuse 0.1.1 conflict 0 a 0.1.0`, `full 0 4096`, `spent 0`.
- * They come in the order in which the site made them.
+ * They come in the order in which the site made them. Of a message `*to` is below 16, but may be no site of the configuration, where the file
+ * names a transaction of such a one: there is nobody to carry it to, and the message is lost.
  *
  *   POLYDB_DONE        it is in `out`, and dropped from the site
  *   POLYDB_CLOSED      the handle is closed

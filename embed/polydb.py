@@ -1,8 +1,12 @@
 """polydb in a Python program, by ctypes.
 
 `World` is a database of up to 16 sites that one program drives event by event. `Site` is one site, for a program that carries its
-messages and writes its journal. `run` gives what `polydb run` prints for a whole schedule. What each call does is written in
-`polydb.h`; a status other than POLYDB_DONE is raised as an exception here, and leaves the world or site as it was.
+messages and writes its journal. `run` gives what `polydb run` prints for a whole schedule, with its status. What each call does is written in
+`polydb.h`, and what a host owes.
+
+A status other than POLYDB_DONE is raised here as an exception of its own, and leaves the world or site as it was. But POLYDB_NOTHING is None;
+POLYDB_TOO_SMALL is never seen, as the call is made again with more room; `run` raises nothing, and gives its status; and SentLimit and BrokenOff
+end the world: it takes no more steps, and what it has printed can still be taken.
 
 The library is libpolydb.so beside this file or in `out`, or the file that the environment variable POLYDB_LIBRARY names.
 """
@@ -241,9 +245,16 @@ _site_read = _declare("polydb_site_read", _handle, c_char_p, c_size_t, _out, c_s
 _site_close = _declare("polydb_site_close", _handle, result=None)
 
 
+def _raw(data):
+    """Bytes as they are. A number isn't taken for so many zeroes, as `bytes` takes it, nor a list for bytes."""
+    if not isinstance(data, (bytes, bytearray, memoryview)):
+        raise TypeError(f"bytes are needed, not {type(data).__name__}")
+    return bytes(data)
+
+
 def _bytes(text):
     """The bytes of a text, or bytes as they are."""
-    return text.encode() if isinstance(text, str) else bytes(text)
+    return text.encode() if isinstance(text, str) else _raw(text)
 
 
 def _fill(call):
@@ -267,7 +278,11 @@ def run(schedule):
 class _Open:
     """What worlds and sites have in common: a handle, which is closed at the end of a `with` and when nothing refers to it.
 
-    A handle is used by one call at a time, also where several threads share it.
+    A handle is used by one call of the library at a time, also where several threads share it: the others wait. What follows from that:
+
+    - A signal handler that calls an object within a call of the same object waits for ever. It should note the signal, and leave the call to the program.
+    - The `take` of a world, and where a buffer is too small that of a site, `next_write` and `read`, call the library twice or more, and a call of another
+      thread may come in between. Two threads that both take from one world or site each get some of what there is, in no order between them.
     """
 
     _close_call = None
@@ -358,11 +373,13 @@ class Site(_Open):
 
     _close_call = staticmethod(_site_close)
 
-    def __init__(self, config, me, journal=EMPTY_JOURNAL):
-        """Site `me` of a configuration, going on from what the host's file holds."""
+    def __init__(self, config, me, journal):
+        """Site `me` of a configuration, going on from what the host's file holds: EMPTY_JOURNAL in a new site's, which the host has made and synced."""
         super().__init__()
+        if not 0 <= me <= 255:  # in C it is a byte, and the rest would be cut off
+            raise NoSite(f"open: {NoSite.__doc__} ({me})")
         text = _bytes(config)
-        journal = bytes(journal)
+        journal = _raw(journal)
         _check(self._call(_site_open, text, len(text), me, journal, len(journal)), "open")
 
     def submit(self, program, query=False):
@@ -372,7 +389,7 @@ class Site(_Open):
 
     def receive(self, message):
         """A message that another site, or this one, has let out."""
-        message = bytes(message)
+        message = _raw(message)
         _check(self._call(_site_receive, message, len(message)), "receive")
 
     def tick(self):

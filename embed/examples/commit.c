@@ -12,7 +12,7 @@ static const char *const EVENTS[] = {
     "report",
 };
 
-/* Prints all that the world has printed. */
+/* Prints all that the world has printed. What doesn't get out is lost, and seen at the end of `main`: it is dropped from the world. */
 static uint32_t print_lines(polydb_world *world) {
     uint8_t piece[16];
     size_t written;
@@ -21,7 +21,9 @@ static uint32_t print_lines(polydb_world *world) {
         if (status != POLYDB_DONE) {
             return status;
         }
-        fwrite(piece, 1, written, stdout);
+        if (fwrite(piece, 1, written, stdout) != written) {
+            break;
+        }
     } while (written > 0);
     return POLYDB_DONE;
 }
@@ -42,6 +44,10 @@ int main(void) {
 
     if (status != POLYDB_DONE) {
         fprintf(stderr, "commit: status %u\n", (unsigned)status);
+        return 1;
+    }
+    if (fflush(stdout) != 0 || ferror(stdout)) {
+        perror("commit: standard output");
         return 1;
     }
     return 0;

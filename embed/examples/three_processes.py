@@ -1,7 +1,7 @@
 """Three processes with a site each: the coordinator is killed while a transfer is in doubt, and work goes on with both values.
 
 Each process is a host: it carries its site's messages as datagrams on 127.0.0.1, keeps its journal in a file that it syncs, and takes
-commands as lines on its standard input. What happens:
+commands as lines on its standard input. `Journal` and `Host` are to be copied. What happens:
 
  1. Ten go from `a` at site 0 to `b` at site 1, and site 0 is killed (SIGKILL) once it has decided, before anyone hears of it.
  2. Site 1 has promised and doesn't know. After a few ticks it lets go of `b` and shows both values, each with its condition.
@@ -9,6 +9,7 @@ commands as lines on its standard input. What happens:
  4. Site 0 starts again on its file. Site 1 asks, hears of the commit, and the two values become one.
 """
 
+import fcntl
 import os
 import select
 import shutil
@@ -35,27 +36,26 @@ PATIENCE = 60.0  # seconds until the driver gives up
 
 
 class Journal:
-    """A site's file. It is on the disk, with its folder's entry and all that is read of it, before the site is opened."""
+    """A site's file. What is held of it is on the disk, and so is its entry in the folder, before the site is opened."""
 
     def __init__(self, path):
-        self.file = os.open(path, os.O_RDWR | os.O_CREAT, 0o600)
-        folder = os.open(Path(path).parent, os.O_RDONLY)
+        path = Path(path)
+        # One open site at a time has the file. The lock is on a file of its own, as the journal's is about to be replaced, and goes with the process.
+        self.lock = os.open(path.with_suffix(".lock"), os.O_RDWR | os.O_CREAT, 0o600)
+        fcntl.flock(self.lock, fcntl.LOCK_EX | fcntl.LOCK_NB)
+        # A process that was killed, or a sync that failed, may have left bytes that can be read and aren't on the disk. So what is there is written anew,
+        # under another name, and takes the old file's place once it is synced. A new file is made the same way: it is never there in part.
+        self.held = path.read_bytes() if path.exists() else polydb.EMPTY_JOURNAL
+        copy = path.with_suffix(".new")
+        self.file = os.open(copy, os.O_RDWR | os.O_CREAT | os.O_TRUNC, 0o600)
+        self.write(0, self.held)
+        os.rename(copy, path)
+        folder = os.open(path.parent, os.O_RDONLY)
         os.fsync(folder)
         os.close(folder)
-        os.fsync(self.file)  # a process that was killed may not have come to it
-        self.held = self.read()
-        if self.held != polydb.EMPTY_JOURNAL and polydb.EMPTY_JOURNAL.startswith(self.held):
-            self.held = polydb.EMPTY_JOURNAL
-            self.write(0, self.held)
-
-    def read(self):
-        data = b""
-        while more := os.pread(self.file, 1 << 20, len(data)):
-            data += more
-        return data
 
     def write(self, place, data):
-        """Writes the bytes into the file, from this place on, and syncs it."""
+        """Writes the bytes into the file, from this place on, and syncs it. (Python itself goes on where a signal has come in between.)"""
         while data:
             count = os.pwrite(self.file, data, place)
             data, place = data[count:], place + count
@@ -67,31 +67,46 @@ class Host:
 
     def __init__(self, config, me, folder, ports):
         self.me = me
-        self.ports = ports
+        self.addresses = [("127.0.0.1", port) for port in ports]
         self.journal = Journal(journal_path(folder, me))
         self.site = polydb.Site(config, me, self.journal.held)
         self.socket = socket.socket(socket.AF_INET, socket.SOCK_DGRAM)
-        self.socket.bind(("127.0.0.1", ports[me]))
+        self.socket.bind(self.addresses[me])
         self.commands = b""
 
     def say(self, line):
         print(line, flush=True)
 
-    def settle(self):
-        """Writes and syncs what the site's steps have put into its journal, and then carries what it lets out."""
-        while True:
-            while (write := self.site.next_write()) is not None:
-                self.journal.write(write.place, write.bytes)
-                self.site.written(write)
-            let_out = []
-            while (output := self.site.take()) is not None:
-                let_out.append(output)
-            if not let_out:
-                return
-            self.carry(let_out)
+    def complain(self, line):
+        print(f"site {self.me}: {line}", file=sys.stderr, flush=True)
 
-    def carry(self, let_out):
-        for output in let_out:
+    def settle(self):
+        """Writes and syncs what the site's steps have put into its journal, and then carries what it lets out, until there is nothing.
+
+        A write or sync that fails isn't told to the site. It lets nothing out that rests on it, and asks for the same bytes the next time: they are written
+        again, as a sync that answers without an error after one that failed says nothing of the bytes before.
+        """
+        try:
+            while self.let_out():
+                pass
+        except (OSError, polydb.PolydbError) as error:
+            self.complain(error)
+
+    def let_out(self):
+        """One round of that. Gives whether there was something to carry."""
+        while (write := self.site.next_write()) is not None:
+            self.journal.write(write.place, write.bytes)
+            self.site.written(write)
+        outputs = []
+        try:
+            while (output := self.site.take()) is not None:
+                outputs.append(output)
+        finally:
+            self.carry(outputs)  # also where there was no memory for the next one
+        return bool(outputs)
+
+    def carry(self, outputs):
+        for output in outputs:
             if isinstance(output, polydb.Report):
                 self.say("report " + output.line)
             else:
@@ -102,26 +117,31 @@ class Host:
             self.hear(message.bytes)
             return
         try:
-            self.socket.sendto(message.bytes, ("127.0.0.1", self.ports[message.to]))
-        except OSError:
-            pass  # a message may be lost
+            self.socket.sendto(message.bytes, self.addresses[message.to])
+        except (OSError, IndexError) as error:
+            # A message may be lost. But a datagram has 65,507 bytes at most, and a longer message is lost each time, so its transaction never commits: where
+            # 16 items with many outcomes go in one, a host needs streams.
+            self.complain(f"a message of {len(message.bytes)} bytes to site {message.to} is lost: {error}")
 
     def hear(self, data):
         try:
             self.site.receive(data)
-        except polydb.PolydbError:
-            pass  # a stray datagram; or no memory for it, and then it is lost
+        except polydb.PolydbError as error:
+            self.complain(f"a message is lost: {error}")
 
     def obey(self, line):
         word, _, rest = line.partition(" ")
-        if word == "submit":
-            self.site.submit(rest)
-        elif word == "tick":
-            self.site.tick()
-        elif word == "read":
-            self.say("value " + self.site.read(rest))
-        else:
-            raise SystemExit(f"no command: {line}")
+        try:
+            if word == "submit":
+                self.site.submit(rest)
+            elif word == "tick":
+                self.site.tick()
+            elif word == "read":
+                self.say("value " + self.site.read(rest))
+            else:
+                self.say(f"error no command: {line}")
+        except polydb.PolydbError as error:
+            self.say(f"error {error}")
 
     def run(self):
         self.settle()
@@ -129,8 +149,10 @@ class Host:
         while True:
             ready, _, _ = select.select([self.socket, sys.stdin.fileno()], [], [])
             if self.socket in ready:
-                self.hear(self.socket.recv(65536))
-                self.settle()
+                data, sender = self.socket.recvfrom(65536)
+                if sender in self.addresses:  # anyone may send a datagram, and the site takes a message as a site's
+                    self.hear(data)
+                    self.settle()
             if sys.stdin.fileno() in ready:
                 data = os.read(sys.stdin.fileno(), 65536)
                 if not data:
@@ -138,18 +160,18 @@ class Host:
                     return
                 *lines, self.commands = (self.commands + data).split(b"\n")
                 for line in lines:
-                    self.obey(line.decode())
+                    self.obey(line.decode(errors="replace"))
                     self.settle()
 
 
 class DoomedHost(Host):
     """Comes to a stop once its site has decided, before anyone hears of it."""
 
-    def carry(self, let_out):
-        if any(isinstance(output, polydb.Report) and output.line.startswith("commit ") for output in let_out):
+    def carry(self, outputs):
+        if any(isinstance(output, polydb.Report) and output.line.startswith("commit ") for output in outputs):
             self.say("decided")
             signal.pause()  # until it is killed
-        super().carry(let_out)
+        super().carry(outputs)
 
 
 # ---- the driver: starts the hosts, kills one, and looks ----
@@ -188,9 +210,10 @@ class Process:
         return line.decode()
 
     def wait_for(self, beginning):
-        """The next line that begins so. Others on the way are passed over."""
+        """The next line that begins so. Others on the way are passed over, but not errors."""
         while not (line := self.line()).startswith(beginning):
-            pass
+            if line.startswith("error "):
+                raise SystemExit(f"site {self.me} says: {line}")
         return line
 
     def read(self, name):

@@ -26,6 +26,10 @@ def refused(error, call, *arguments):
         raise AssertionError(f"not refused: {error}")
 
 
+def new_site(me):
+    return Site(CONFIG, me, polydb.EMPTY_JOURNAL)
+
+
 class Hosted:
     """A site, and its file in memory."""
 
@@ -69,7 +73,7 @@ def commit(hosts):
 
 
 def closed_handles():
-    site = Site(CONFIG, 0)
+    site = new_site(0)
     site.close()
     site.close()
     refused(polydb.Closed, site.tick)
@@ -87,10 +91,10 @@ def closed_handles():
 
 def lengths_of_zero():
     refused(polydb.Malformed, World, "")
-    refused(polydb.Malformed, Site, "", 0)
+    refused(polydb.Malformed, Site, "", 0, polydb.EMPTY_JOURNAL)
     refused(polydb.NotOurs, Site, CONFIG, 0, b"")
     assert run("") == (3, b"line 1: sites expected\n")
-    site = Site(CONFIG, 0)
+    site = new_site(0)
     refused(polydb.BadText, site.submit, "")
     refused(polydb.BadMessage, site.receive, b"")
     refused(polydb.UnknownName, site.read, "")
@@ -99,12 +103,13 @@ def lengths_of_zero():
 
 
 def what_is_refused():
-    refused(polydb.NoSite, Site, CONFIG, 2)
-    refused(polydb.HasEvents, Site, CONFIG + "tick 0\n", 0)
+    for me in [2, 255, 256, 257, -1, 1 << 64]:
+        refused(polydb.NoSite, new_site, me)
+    refused(polydb.HasEvents, Site, CONFIG + "tick 0\n", 0, polydb.EMPTY_JOURNAL)
     refused(polydb.HasEvents, World, CONFIG + "tick 0\n")
-    refused(polydb.Malformed, Site, "sites 17\n", 0)
+    refused(polydb.Malformed, Site, "sites 17\n", 0, polydb.EMPTY_JOURNAL)
     refused(polydb.Full, Site, "sites 1\njournal 32\nitem a 0 1\n", 0, journal_of(2))
-    site = Site(CONFIG, 0)
+    site = new_site(0)
     refused(polydb.BadText, site.submit, "a := x")
     refused(polydb.BadProgram, site.submit, "a := 1", True)
     refused(polydb.BadProgram, site.submit, "return 1", True)
@@ -112,6 +117,25 @@ def what_is_refused():
     world = World(CONFIG)
     refused(polydb.Malformed, world.step, "tick 2")
     refused(polydb.NotOneEvent, world.step, "tick 0\ntick 0")
+
+
+def what_is_no_bytes():
+    """A number where bytes are wanted isn't so many zeroes. And a site isn't opened without a journal."""
+    site, world = new_site(0), World(CONFIG)
+    for call in [site.receive, site.submit, site.read, World, world.step, run, lambda journal: Site(CONFIG, 0, journal)]:
+        for given in [5, [80, 86], None]:
+            wrong(call, given)
+    wrong(Site, CONFIG, 0)
+    wrong(site.receive, "text")
+
+
+def wrong(call, *arguments):
+    """That these are no arguments of the call."""
+    try:
+        call(*arguments)
+    except TypeError:
+        return
+    raise AssertionError(f"taken: {arguments}")
 
 
 def journal_of(epochs):
@@ -168,7 +192,7 @@ def cut_journals():
 
 
 def writes_never_asked_for():
-    site = Site(CONFIG, 0)
+    site = new_site(0)
     site.submit(TRANSFER)
     first = site.next_write()
     for place, data in [(0, b""), (first.place, b""), (first.place, first.bytes + b"\0"), (first.place + 1, first.bytes), (first.place - 1, b"\1")]:
@@ -224,6 +248,7 @@ def main():
     closed_handles()
     lengths_of_zero()
     what_is_refused()
+    what_is_no_bytes()
     no_messages()
     cut_journals()
     writes_never_asked_for()

@@ -3,11 +3,12 @@
     many_transfers.py [COUNT [SEED]]
 
 Each process is a host as in the example `three_processes`. At random moments one is killed by SIGKILL, and now and then one dies within a write to
-its journal, of which any bytes are left. It starts again on its file. After COUNT commits (10,000) the killing ends, and once all is known the
+its journal, of which any bytes are left. It starts again on its file. And now and then a write fails, of which a part is left, and is made again. After COUNT commits (10,000) the killing ends, and once all is known the
 items have their first total, and `polydb show` shows each item, by the journals alone, as its site does. The program is looked for where `rt ci`
 leaves it, or in the variable POLYDB_PROGRAM; without it that last look is left out, and the last line says so.
 """
 
+import errno
 import os
 import random
 import select
@@ -33,11 +34,12 @@ TICK = 0.02  # seconds between two ticks
 KILL = 40  # commits between two kills, on average
 STAYS_DOWN = 0.1  # seconds that a killed process stays down at most
 TEARS = 0.0005  # how likely a process dies within a write
+FAILS = 0.005  # how likely a write fails, and is to be made again
 PATIENCE = 120.0  # seconds without a commit until the test gives up
 
 
 class MortalHost(Host):
-    """Dies within a write now and then, and leaves any bytes where that write was to put its own."""
+    """Dies within a write now and then, and leaves any bytes where that write was to put its own; or goes on after a write that has failed."""
 
     def __init__(self, *words, seed):
         self.chance = random.Random(seed)
@@ -51,9 +53,15 @@ class MortalHost(Host):
                     left = data[: len(left)]
                 os.pwrite(self.journal.file, left, place)
                 os.kill(os.getpid(), signal.SIGKILL)
+            if self.chance.random() < FAILS:
+                os.pwrite(self.journal.file, data[: self.chance.randint(0, len(data))], place)
+                raise OSError(errno.EIO, "the disk fails")
             whole(place, data)
 
         self.journal.write = write
+
+    def complain(self, line):
+        pass  # much fails here
 
 
 class Driver:

@@ -210,7 +210,12 @@ fn answer(status: u32) -> Result<(), Error> {
 /// A world: all sites of a schedule, in memory.
 pub struct World {
     handle: Handle,
+    // What was taken and a writer has then refused: it comes first. At most one piece.
+    left: Vec<u8>,
 }
+
+// How much `World::take_into` takes at once.
+const PIECE: usize = 4096;
 
 // A handle is used by one call at a time, which `&mut` sees to, and may move from thread to thread.
 unsafe impl Send for World {}
@@ -220,6 +225,7 @@ impl World {
     pub fn open(catalog: &[u8]) -> Result<World, Error> {
         let mut world = World {
             handle: Handle::CLOSED,
+            left: Vec::new(),
         };
         answer(unsafe {
             calls::polydb_world_open(&mut world.handle, catalog.as_ptr(), catalog.len())
@@ -234,23 +240,42 @@ impl World {
 
     /// Writes the oldest bytes of what was printed, as far as there is room, and drops these alone. Gives how many they are.
     pub fn take(&mut self, out: &mut [u8]) -> usize {
+        let first = out.len().min(self.left.len());
+        out[..first].copy_from_slice(&self.left[..first]);
+        self.left.drain(..first);
+
+        let out = &mut out[first..];
         let mut written = 0;
         let status = unsafe {
             calls::polydb_world_take(&mut self.handle, out.as_mut_ptr(), out.len(), &mut written)
         };
         debug_assert_eq!(status, DONE, "an open world gives its lines");
-        written
+        first + written
     }
 
-    /// Writes all that was printed and not taken.
+    /// Writes all that was printed and not taken. Where the writer fails, what it hasn't taken stays, and comes first the next time.
     pub fn take_into(&mut self, out: &mut impl Write) -> io::Result<()> {
-        let mut piece = [0; 4096];
+        let mut piece = [0; PIECE];
         loop {
             let count = self.take(&mut piece);
             if count == 0 {
                 return Ok(());
             }
-            out.write_all(&piece[..count])?;
+            let mut rest = &piece[..count];
+            while !rest.is_empty() {
+                match out.write(rest) {
+                    Ok(0) => {
+                        self.left = rest.to_vec();
+                        return Err(io::ErrorKind::WriteZero.into());
+                    }
+                    Ok(count) => rest = &rest[count..],
+                    Err(error) if error.kind() == io::ErrorKind::Interrupted => {}
+                    Err(error) => {
+                        self.left = rest.to_vec();
+                        return Err(error);
+                    }
+                }
+            }
         }
     }
 }
@@ -329,7 +354,7 @@ pub struct Site {
 unsafe impl Send for Site {}
 
 impl Site {
-    /// Site `me` of a configuration, going on from what the host's file holds.
+    /// Site `me` of a configuration, going on from what the host's file holds: [`EMPTY_JOURNAL`] in a new site's.
     pub fn open(config: &[u8], me: u8, journal: &[u8]) -> Result<Site, Error> {
         let mut site = Site {
             handle: Handle::CLOSED,
@@ -440,5 +465,70 @@ impl Drop for Site {
 impl fmt::Debug for Site {
     fn fmt(&self, f: &mut fmt::Formatter<'_>) -> fmt::Result {
         f.debug_struct("Site").finish_non_exhaustive()
+    }
+}
+
+#[cfg(test)]
+mod tests {
+    use super::*;
+
+    const CATALOG: &[u8] = b"sites 2\nitem a 0 100\nitem b 1 50\n";
+
+    // Takes so many bytes, in small pieces with interruptions, and then fails.
+    struct Failing {
+        taken: Vec<u8>,
+        room: usize,
+        interrupted: bool,
+    }
+
+    impl Write for Failing {
+        fn write(&mut self, bytes: &[u8]) -> io::Result<usize> {
+            self.interrupted = !self.interrupted;
+            if self.interrupted {
+                return Err(io::ErrorKind::Interrupted.into());
+            }
+            let count = bytes.len().min(self.room).min(7);
+            if count == 0 {
+                return Err(io::ErrorKind::BrokenPipe.into());
+            }
+            self.taken.extend_from_slice(&bytes[..count]);
+            self.room -= count;
+            Ok(count)
+        }
+
+        fn flush(&mut self) -> io::Result<()> {
+            Ok(())
+        }
+    }
+
+    fn reported() -> World {
+        let mut world = World::open(CATALOG).unwrap();
+        for _ in 0..300 {
+            world.step(b"report").unwrap();
+        }
+        world
+    }
+
+    #[test]
+    fn a_writer_that_fails_loses_nothing() {
+        let mut all = Vec::new();
+        reported().take_into(&mut all).unwrap();
+        assert!(all.len() > 2 * PIECE);
+        for room in [0, 1, 4095, 4096, 4097, 5000] {
+            let mut world = reported();
+            let mut out = Failing {
+                taken: Vec::new(),
+                room,
+                interrupted: false,
+            };
+            let error = world.take_into(&mut out).unwrap_err();
+            assert_eq!(error.kind(), io::ErrorKind::BrokenPipe);
+            assert_eq!(out.taken, all[..room]);
+            let mut few = [0; 3];
+            assert_eq!(world.take(&mut few), 3);
+            out.taken.extend_from_slice(&few);
+            world.take_into(&mut out.taken).unwrap();
+            assert_eq!(out.taken, all);
+        }
     }
 }
