@@ -104,7 +104,7 @@ extern "C" {
 #define POLYDB_NOT_HERE 30u
 /* There is no such site as the message comes from. */
 #define POLYDB_NO_SENDER 31u
-/* That isn't what the site has asked to be written: it is written already, or was never asked for. */
+/* That isn't what the site has asked to be written: it is written already, its bytes weren't given since the site was opened, or it was never asked for. */
 #define POLYDB_NOT_NEXT 32u
 /* No item has this name. */
 #define POLYDB_UNKNOWN_NAME 33u
@@ -281,8 +281,8 @@ uint32_t polydb_site_receive(polydb_site *site, const uint8_t *message, size_t l
 uint32_t polydb_site_tick(polydb_site *site);
 
 /*
- * What the host is to write next into its file: `*written` bytes at `*place` (from 0), which may lie within the file. Nothing changes in the
- * site: the same bytes come until polydb_site_journal_synced.
+ * What the host is to write next into its file: `*written` bytes at `*place` (from 0), which may lie within the file. The site only
+ * notes that it gave them: the same bytes come until polydb_site_journal_synced.
  *
  *   POLYDB_DONE        the bytes are in `out`
  *   POLYDB_CLOSED      the handle is closed
@@ -297,7 +297,7 @@ uint32_t polydb_site_take_journal(polydb_site *site, uint8_t *out, size_t room, 
  *
  *   POLYDB_DONE        the site knows; the next write, if there is one, is now to be taken
  *   POLYDB_CLOSED      the handle is closed
- *   POLYDB_NOT_NEXT    so many bytes at this place aren't what is to be written next
+ *   POLYDB_NOT_NEXT    so many bytes at this place aren't what is to be written next, or their bytes weren't given since the site was opened
  */
 uint32_t polydb_site_journal_synced(polydb_site *site, uint64_t place, size_t written);
 

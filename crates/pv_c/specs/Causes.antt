@@ -1,4 +1,4 @@
--- The number of each cause for which the engine refuses.
+-- The number of each cause for which the engine refuses, as embed/polydb.h has it.
 use Rattle.std.specs.Prelude.{ℕ}
 use Rattle.pv_base.specs.declared.failure.NoMemory.{NoMemory}
 use Rattle.pv_embed.specs.declared.fault.OpenFault.{OpenFault}
@@ -12,56 +12,55 @@ use Rattle.pv_embed_world.specs.declared.fault.WorldFault.TheVariants as world
 use Rattle.pv_handle.specs.declared.faults.NotNext.{NotNext}
 use Rattle.pv_handle.specs.declared.faults.ValueFault.{ValueFault}
 use Rattle.pv_handle.specs.declared.faults.ValueFault.TheVariants as value
-use Rattle.pv_c.specs.declared.status.TheConstants.{MALFORMED, TOO_LONG, NO_MEMORY, HAS_EVENTS, NO_SITE, NOT_OURS, BAD_RECORD, TOO_MANY_OUTCOMES, EPOCHS_SPENT, FULL, BAD_TEXT, BAD_PROGRAM, BAD_MESSAGE, NOT_HERE, NO_SENDER, NOT_NEXT, UNKNOWN_NAME, NOT_ONE_EVENT, SENT_LIMIT, BROKEN_OFF, ENDED, UNWRITTEN}
 
 -- why a site isn't opened
 abbrev pub opening_number : OpenFault → ℕ
-opening_number opening.TooLong = TOO_LONG
-opening_number (opening.Malformed line cause) = MALFORMED
-opening_number opening.HasEvents = HAS_EVENTS
-opening_number opening.NoSite = NO_SITE
-opening_number (opening.NotOurs place) = NOT_OURS
-opening_number (opening.BadRecord index) = BAD_RECORD
-opening_number (opening.TooManyOutcomes count) = TOO_MANY_OUTCOMES
-opening_number opening.EpochsSpent = EPOCHS_SPENT
-opening_number (opening.Full length) = FULL
-opening_number opening.NoMemory = NO_MEMORY
+opening_number opening.TooLong = 6
+opening_number (opening.Malformed line cause) = 3
+opening_number opening.HasEvents = 20
+opening_number opening.NoSite = 21
+opening_number (opening.NotOurs place) = 22
+opening_number (opening.BadRecord index) = 23
+opening_number (opening.TooManyOutcomes count) = 24
+opening_number opening.EpochsSpent = 25
+opening_number (opening.Full length) = 26
+opening_number opening.NoMemory = 7
 
 -- why a request isn't taken
 abbrev pub request_number : SubmitFault → ℕ
-request_number (submitting.Text error) = BAD_TEXT
-request_number (submitting.Program error) = BAD_PROGRAM
-request_number submitting.NoMemory = NO_MEMORY
+request_number (submitting.Text error) = 27
+request_number (submitting.Program error) = 28
+request_number submitting.NoMemory = 7
 
 -- why a message isn't taken
 abbrev pub message_number : ReceiveFault → ℕ
-message_number (receiving.Malformed error) = BAD_MESSAGE
-message_number receiving.NotForHere = NOT_HERE
-message_number receiving.NoSender = NO_SENDER
-message_number receiving.NoMemory = NO_MEMORY
+message_number (receiving.Malformed error) = 29
+message_number receiving.NotForHere = 30
+message_number receiving.NoSender = 31
+message_number receiving.NoMemory = 7
 
 -- why an item's value isn't given
 abbrev pub value_number : ValueFault → ℕ
-value_number value.UnknownName = UNKNOWN_NAME
-value_number value.NotHere = NOT_HERE
-value_number value.Unwritten = UNWRITTEN
-value_number value.NoMemory = NO_MEMORY
+value_number value.UnknownName = 33
+value_number value.NotHere = 30
+value_number value.Unwritten = 37
+value_number value.NoMemory = 7
 
 -- why a world doesn't do what is asked
 abbrev pub world_number : WorldFault → ℕ
-world_number world.TooLong = TOO_LONG
-world_number (world.Malformed line cause) = MALFORMED
-world_number world.HasEvents = HAS_EVENTS
-world_number world.NotOneEvent = NOT_ONE_EVENT
-world_number (world.SentLimit total) = SENT_LIMIT
-world_number world.NoMemory = NO_MEMORY
-world_number world.BrokenOff = BROKEN_OFF
-world_number world.Closed = ENDED
+world_number world.TooLong = 6
+world_number (world.Malformed line cause) = 3
+world_number world.HasEvents = 20
+world_number world.NotOneEvent = 34
+world_number (world.SentLimit total) = 8
+world_number world.NoMemory = 7
+world_number world.BrokenOff = 35
+world_number world.Closed = 36
 
 -- where only memory can be wanting
 abbrev pub memory_number : NoMemory → ℕ
-memory_number _ = NO_MEMORY
+memory_number _ = 7
 
 -- where a write isn't the next one
 abbrev pub write_number : NotNext → ℕ
-write_number _ = NOT_NEXT
+write_number _ = 32

@@ -6,7 +6,6 @@ use Rattle.pv_run.specs.declared.form.Form.TheVariants.{Text}
 use Rattle.pv_run.specs.declared.status.Status.{Status}
 use Rattle.pv_embed_world.specs.Run.{Is, IsAnswer}
 use Rattle.pv_embed_world.specs.declared.ran.Ran.{Ran}
-use Rattle.pv_c.specs.declared.status.TheConstants.{NO_MEMORY, TOO_SMALL}
 
 -- A run of this input: the answer of `polydb run`, and no other.
 abbrev pub Runs : List ℕ → Result Ran NoMemory → Type 0
@@ -17,11 +16,11 @@ Runs input (Err _) = ⊤
 pub record PutsText (status : ℕ) (text room out : List ℕ) (count number : ℕ) : Type 0 where
   pub counted : count ≡ length text
   pub fits : length text ≤ length room → (number ≡ status) × (out ≡ text ++ drop (length text) room)
-  pub too_small : length room < length text → (number ≡ TOO_SMALL) × (out ≡ room)
+  pub too_small : length room < length text → (number ≡ 18) × (out ≡ room)
 
 abbrev pub PutsRun : Result Ran NoMemory → List ℕ → List ℕ → ℕ → ℕ → Type 0
 PutsRun (Ok ran) room out count number = PutsText ran.status ran.text.items room out count number
-PutsRun (Err _) room out count number = (number ≡ NO_MEMORY) × (count ≡ 0) × (out ≡ room)
+PutsRun (Err _) room out count number = (number ≡ 7) × (count ≡ 0) × (out ≡ room)
 
 -- C gets what a run of its bytes answers.
 abbrev pub RunsInto : List ℕ → List ℕ → List ℕ → ℕ → ℕ → Type 0

@@ -1,11 +1,10 @@
 // The calls on a slot of a site.
 ghost use Rattle.std.specs.Prelude.{◌≡◌, None};
 ghost use Rattle.pv_protocol.specs.State as model;
-ghost use Rattle.pv_host.specs.HostLog.{next_write};
 ghost use Rattle.pv_embed.specs.Hosted.{Gives};
-ghost use Rattle.pv_embed.specs.Opening.{OpensHosted};
 ghost use Rattle.pv_embed.specs.Requests.{ReceivesBy, SubmitsBy};
-ghost use Rattle.pv_handle.specs.ByteSite.{AcceptsWrite, GivesWrite, ReadsBytes, TakesBytes};
+ghost use Rattle.pv_handle.specs.ByteSite.{AcceptsWrite, ReadsBytes, TakesBytes, TakesWrite};
+ghost use Rattle.pv_handle.specs.ByteState.{OnSite, OpensBytes};
 ghost use Rattle.pv_handle.specs.Slot.{Opens, Calls, Asks};
 ghost use Rattle.pv_c.specs.Answer.{Answers, GivenAs, ReadAs};
 ghost use Rattle.pv_c.specs.Causes.{memory_number, message_number, opening_number, request_number, value_number, write_number};
@@ -26,7 +25,7 @@ pub extern "C" fn polydb_site_open(
     me: u8,
     journal: &[u8],
 ) -> u32
-    ensures { Answers opening_number result (Opens (OpensHosted config.now me journal.now) site.old.handle.site site.new.handle.site) }
+    ensures { Answers opening_number result (Opens (OpensBytes config.now me journal.now) site.old.handle.site site.new.handle.site) }
 {
     status_of_opening(site.open(alloc, config, me, journal))
 }
@@ -39,7 +38,7 @@ pub extern "C" fn polydb_site_submit(
     text: &[u8],
     query: bool,
 ) -> u32
-    ensures { Answers request_number result (Calls (λ old new. SubmitsBy old new text.now query) site.old.handle.site site.new.handle.site) }
+    ensures { Answers request_number result (Calls (OnSite (λ old new. SubmitsBy old new text.now query)) site.old.handle.site site.new.handle.site) }
 {
     status_of_request(site.submit(alloc, text, query))
 }
@@ -47,7 +46,7 @@ pub extern "C" fn polydb_site_submit(
 /// A message comes.
 #[unsafe(no_mangle)]
 pub extern "C" fn polydb_site_receive(alloc: Global, site: &mut SiteSlot, message: &[u8]) -> u32
-    ensures { Answers message_number result (Calls (λ old new. ReceivesBy old new message.now) site.old.handle.site site.new.handle.site) }
+    ensures { Answers message_number result (Calls (OnSite (λ old new. ReceivesBy old new message.now)) site.old.handle.site site.new.handle.site) }
 {
     status_of_message(site.receive(alloc, message))
 }
@@ -55,7 +54,7 @@ pub extern "C" fn polydb_site_receive(alloc: Global, site: &mut SiteSlot, messag
 /// Time has passed.
 #[unsafe(no_mangle)]
 pub extern "C" fn polydb_site_tick(alloc: Global, site: &mut SiteSlot) -> u32
-    ensures { Answers memory_number result (Calls (λ old new. Gives old new model.tick) site.old.handle.site site.new.handle.site) }
+    ensures { Answers memory_number result (Calls (OnSite (λ old new. Gives old new model.tick)) site.old.handle.site site.new.handle.site) }
 {
     status_of_tick(site.tick(alloc))
 }
@@ -70,7 +69,7 @@ pub extern "C" fn polydb_site_take_journal(
     place: &mut u64,
 ) -> u32
     ensures given { GivenAs (record { status = result; count = written.new; to = place.new })
-        (Asks (λ old new given. (new ≡ old) × GivesWrite (next_write old.site.log) out.old out.new given) site.old.handle.site site.new.handle.site) }
+        (Asks (TakesWrite out.old out.new) site.old.handle.site site.new.handle.site) }
     ensures unchanged { site.old.handle.site ≡ None → out.new ≡ out.old }
 {
     let answer = site.next_write(alloc, out);
@@ -103,7 +102,7 @@ pub extern "C" fn polydb_site_take_message(
     to: &mut u64,
 ) -> u32
     ensures given { ReadAs memory_number (record { status = result; count = written.new; to = to.new })
-        (Calls (TakesBytes out.old out.new) site.old.handle.site site.new.handle.site) }
+        (Calls (OnSite (TakesBytes out.old out.new)) site.old.handle.site site.new.handle.site) }
     ensures unchanged { site.old.handle.site ≡ None → out.new ≡ out.old }
 {
     let answer = site.take(alloc, out);
@@ -123,7 +122,7 @@ pub extern "C" fn polydb_site_read(
     written: &mut usize,
 ) -> u32
     ensures read { ReadAs value_number (record { status = result; count = written.new; to = 0 })
-        (Calls (λ old new answer. (new ≡ old) × ReadsBytes old name.now out.old out.new answer) site.old.handle.site site.new.handle.site) }
+        (Calls (λ old new answer. (new ≡ old) × ReadsBytes old.hosted name.now out.old out.new answer) site.old.handle.site site.new.handle.site) }
     ensures unchanged { site.old.handle.site ≡ None → out.new ≡ out.old }
 {
     let answer = site.read(alloc, name, out);

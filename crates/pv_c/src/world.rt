@@ -1,8 +1,9 @@
 // The calls on a slot of a world.
 ghost use Rattle.std.specs.Prelude.{◌≡◌, None};
 ghost use Rattle.pv_embed_world.specs.World as hosted;
+ghost use Rattle.pv_embed_world.specs.World.{StepsByLine};
 ghost use Rattle.pv_handle.specs.Slot.{Opens, Calls, Asks};
-ghost use Rattle.pv_handle.specs.World.{StepsByLine, TakesKept};
+ghost use Rattle.pv_handle.specs.World.{TakesKept};
 ghost use Rattle.pv_c.specs.Answer.{Answers, Counted};
 ghost use Rattle.pv_c.specs.Causes.{world_number};
 

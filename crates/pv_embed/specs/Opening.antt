@@ -9,7 +9,7 @@ use Rattle.pv_model.specs.Events as model
 use Rattle.pv_model.specs.Schedule.{IsSchedule}
 use Rattle.pv_protocol.specs.Start.{site_start, too_long, no_epoch}
 use Rattle.pv_script.specs.ScriptErrors.{IsMalformedAt, line_cause_of}
-use Rattle.pv_script.specs.declared.lines.TheConstants.{MAX_SCHEDULE}
+use Rattle.pv_base.specs.declared.limits.TheConstants.{MAX_INPUT}
 use Rattle.pv_site.specs.Opens.{HasOpened}
 use Rattle.pv_site.specs.SiteState.{setup_of}
 use Rattle.pv_store.specs.Refusals.{too_many_in}
@@ -26,7 +26,7 @@ IsUnread log = (log.is_down ≡ false) × (log.is_read ≡ false)
 
 -- The configuration declares this catalog, nothing happens in it, and it isn't too long.
 abbrev pub Configures : List ℕ → model.Schedule → Type 0
-Configures config schedule = IsSchedule config schedule × (schedule.events ≡ []) × (length config ≤ MAX_SCHEDULE)
+Configures config schedule = IsSchedule config schedule × (schedule.events ≡ []) × (length config ≤ MAX_INPUT)
 
 -- The site is open, and holds nothing: it went on from the journal's records, over a log on the host's file.
 pub record HasOpenedOn (config : List ℕ) (me : ℕ) (file : List ℕ) (hosted : HostedState) : Type 0 where
@@ -60,11 +60,11 @@ RefusesJournal config me file reason =
 abbrev pub OpensHosted : List ℕ → ℕ → List ℕ → Result HostedState OpenFault → Type 0
 OpensHosted config me file (Ok hosted) = HasOpenedOn config me file hosted
 OpensHosted config me file (Err fault.NoMemory) = ⊤
-OpensHosted config me file (Err fault.TooLong) = MAX_SCHEDULE < length config
+OpensHosted config me file (Err fault.TooLong) = MAX_INPUT < length config
 OpensHosted config me file (Err (fault.Malformed line cause)) =
-    IsMalformedAt config (record { number = line; cause = line_cause_of cause }) × (length config ≤ MAX_SCHEDULE)
+    IsMalformedAt config (record { number = line; cause = line_cause_of cause }) × (length config ≤ MAX_INPUT)
 OpensHosted config me file (Err fault.HasEvents) =
-    (schedule : model.Schedule) × IsSchedule config schedule × (schedule.events ≢ []) × (length config ≤ MAX_SCHEDULE)
+    (schedule : model.Schedule) × IsSchedule config schedule × (schedule.events ≢ []) × (length config ≤ MAX_INPUT)
 OpensHosted config me file (Err fault.NoSite) = (schedule : model.Schedule) × Configures config schedule × (schedule.catalog.sites ≤ me)
 OpensHosted config me file (Err (fault.NotOurs place)) =
     (schedule : model.Schedule) × Configures config schedule × (me < schedule.catalog.sites) × IsNotOurs file place

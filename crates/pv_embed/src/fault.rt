@@ -10,7 +10,7 @@ use std::fmt;
 /// Why a site isn't opened. The causes are tested in this order, but for want of memory, which may come at any place.
 #[derive(Clone, Copy, Debug, PartialEq, Eq)]
 pub enum OpenFault {
-    /// The configuration has more than [`MAX_SCHEDULE`](pv_script::MAX_SCHEDULE) bytes.
+    /// The configuration has more than [`MAX_INPUT`](pv_base::MAX_INPUT) bytes.
     TooLong,
     /// This line of the configuration is the first that is malformed, for this cause.
     Malformed {

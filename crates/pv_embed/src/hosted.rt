@@ -18,13 +18,13 @@ ghost use Rattle.pv_embed.specs.Requests.{ReceivesBy, SubmitsBy, ReadsBy};
 
 use crate::made::{Made, Output, keep, take_first};
 use crate::{OpenFault, ReadFault, ReceiveFault, SubmitFault, hosted_sites_stay_up};
-use pv_base::{Catalog, NoMemory, SiteId};
+use pv_base::{Catalog, MAX_INPUT, NoMemory, SiteId};
 use pv_check::{CheckError, check};
 use pv_disk::{Log, LookError};
 use pv_host::{HostLog, HostWrite};
 use pv_law_programs::{one_plan, some_items};
 use pv_parse::{ParseError, parse};
-use pv_script::{MAX_SCHEDULE, ScriptError, read_schedule};
+use pv_script::{ScriptError, read_schedule};
 use pv_site::{Input, OpenError, Shown, Site, StepError};
 use pv_wire::{WireError, decode};
 use std::alloc::Global;
@@ -95,7 +95,7 @@ impl HostedSite {
     ) -> Result<HostedSite, OpenFault>
         ensures { OpensHosted config.now me journal.items result }
     {
-        if config.len() > MAX_SCHEDULE {
+        if config.len() as u64 > MAX_INPUT {
             return Err(OpenFault::TooLong);
         }
         let schedule = match read_schedule(alloc, config) {

@@ -12,6 +12,7 @@ ghost use Rattle.pv_site.specs.Steps.{IsReady, Steps};
 ghost use Rattle.pv_site.specs.declared.error.StepError.{StepError};
 ghost use Rattle.pv_site.specs.declared.error.StepError.TheVariants.{Fault};
 ghost use Rattle.pv_site.specs.declared.input.Step.{Step};
+ghost use Rattle.pv_host.specs.declared.TheConstants.{EMPTY_JOURNAL};
 ghost use Rattle.pv_host.specs.HostFile.{IsFile, MayLeave};
 ghost use Rattle.pv_host.specs.HostLaws.{host_model};
 ghost use Rattle.pv_host.specs.HostLog.{HostState, HostWrite, next_write};
@@ -65,6 +66,11 @@ pub fn files_hold_what_was_let_out()
     crashes_leave_before_or_after::<HostLog>();
     logs_tell_of_records();
 }
+
+/// A new file, [`EMPTY_JOURNAL`](crate::EMPTY_JOURNAL), is a journal without records.
+pub fn new_files_are_journals()
+    ensures { IsJournal [] EMPTY_JOURNAL }
+{}
 
 /// No step of a site over such a log has a fault, and none leaves it down.
 pub fn hosted_sites_stay_up()

@@ -8,7 +8,7 @@ mod made;
 
 pub use fault::{OpenFault, ReadFault, ReceiveFault, SubmitFault};
 pub use hosted::HostedSite;
-pub use laws::{files_hold_what_was_let_out, hosted_sites_stay_up};
+pub use laws::{files_hold_what_was_let_out, hosted_sites_stay_up, new_files_are_journals};
 pub use made::Output;
 pub use pv_host::{EMPTY_JOURNAL, HostWrite};
 pub use pv_site::{Note, Shown};

@@ -24,7 +24,7 @@ use Rattle.pv_run.specs.KeptDisks.{last_world}
 use Rattle.pv_run.specs.declared.form.Form.TheVariants.{Text}
 use Rattle.pv_embed_world.specs.Advance.{Advances, HasAdvanced}
 use Rattle.pv_embed_world.specs.Reading.{IsShort, RefusesLine, SaysEvent, schedule_over}
-use Rattle.pv_embed_world.specs.World.{Hosted, HasOpened, HasRun, Steps, StepsOn}
+use Rattle.pv_embed_world.specs.World.{Hosted, HasOpened, HasRun, Leaves, LeavesOn, Steps, StepsOn}
 use Rattle.pv_embed_world.specs.declared.fault.WorldFault.{WorldFault}
 use Rattle.pv_embed_world.specs.declared.fault.WorldFault.TheVariants.{TooLong, Malformed, HasEvents, NotOneEvent, SentLimit, NoMemory, BrokenOff, Closed}
 
@@ -192,3 +192,29 @@ module _ (old : Hosted) (events : List Event) (taken line : List ℕ) (world : W
         → Steps old (record old { world = None; kept = kept }) events taken line {X = Unit {0}} old.world (Err fault)
     ended next kept fault advances =
         where-up (record old { world = None; kept = kept }) (Err fault) (ended-on next kept fault (advances here stands-here))
+
+-- What a line leaves.
+module _ (old : Hosted) (line : List ℕ) (world : World) (up : old.world ≡ Some world) where
+  pub leaves-up : {X : Type 0} (new : Hosted) (result : Result X WorldFault) → LeavesOn old new line result → Leaves old new line old.world result
+  leaves-up new result on = subst (λ (o : Option World). Leaves old new line o result) (sym up) on
+
+  pub refused-leaves : (new : Hosted) (fault : WorldFault) → RefusesLine old.text old.catalog line fault → new ≡ old → LeavesOn {X = Unit {0}} old new line (Err fault)
+  refused-leaves new TooLong why same = (why, same)
+  refused-leaves new (Malformed number cause) why same = (why, same)
+  refused-leaves new HasEvents why same = absurd why
+  refused-leaves new NotOneEvent why same = (why, same)
+  refused-leaves new (SentLimit total) why same = absurd why
+  refused-leaves new NoMemory why same = (why, same)
+  refused-leaves new BrokenOff why same = absurd why
+  refused-leaves new Closed why same = absurd why
+
+  pub ended-leaves : (next : World) (kept : List ℕ) (event : Event) (now : model.World) (fault : WorldFault)
+      → Advances world next old.kept kept event now {X = Unit {0}} (Err fault) → LeavesOn {X = Unit {0}} old (record old { world = None; kept = kept }) line (Err fault)
+  ended-leaves next kept event now (SentLimit total) advances = ap (λ (k : List ℕ). record old { world = None; kept = k }) advances.1
+  ended-leaves next kept event now BrokenOff advances = ap (λ (k : List ℕ). record old { world = None; kept = k }) advances
+  ended-leaves next kept event now TooLong advances = absurd advances
+  ended-leaves next kept event now (Malformed number cause) advances = absurd advances
+  ended-leaves next kept event now HasEvents advances = absurd advances
+  ended-leaves next kept event now NotOneEvent advances = absurd advances
+  ended-leaves next kept event now NoMemory advances = absurd advances
+  ended-leaves next kept event now Closed advances = absurd advances

@@ -1,5 +1,5 @@
 -- A world that a host steps: how it is opened, and what the lines of its steps make of it.
-use Rattle.std.specs.Prelude.{◌≡◌, ℕ, true, Option, None, Some, is_some, IfSome, Result, Ok, Err, List, [], ◌∷◌, ◌++◌}
+use Rattle.std.specs.Prelude.{◌≡◌, ℕ, true, Option, None, Some, is_some, IfSome, Result, Ok, Err, List, [], ◌∷◌, ◌++◌, ⊤}
 use Rattle.pv_base.specs.Catalog.{Declared}
 use Rattle.pv_base.specs.declared.limits.TheConstants.{MAX_SENT}
 use Rattle.pv_model.specs.Events.{Event}
@@ -72,3 +72,20 @@ module _ (old new : Hosted) (events : List Event) (taken line : List ℕ) where
   abbrev pub Steps : {X : Type 0} → Option World → Result X WorldFault → Type 0
   Steps None result = (result ≡ Err Closed) × (new ≡ old)
   Steps (Some world) result = StepsOn result
+
+-- What a line leaves where the world takes steps, by the answer, and why it is refused.
+abbrev pub LeavesOn : {X : Type 0} → Hosted → Hosted → List ℕ → Result X WorldFault → Type 0
+LeavesOn old new line (Ok _) = ⊤
+LeavesOn old new line (Err (SentLimit total)) = new ≡ closed old
+LeavesOn old new line (Err BrokenOff) = new ≡ closed old
+LeavesOn old new line (Err fault) = RefusesLine old.text old.catalog line fault × (new ≡ old)
+
+abbrev pub Leaves : {X : Type 0} → Hosted → Hosted → List ℕ → Option World → Result X WorldFault → Type 0
+Leaves old new line None result = (result ≡ Err Closed) × (new ≡ old)
+Leaves old new line (Some world) result = LeavesOn old new line result
+
+-- A step: what it leaves, whatever came before it; and what it has done, for each list of events that may have been those of the steps before it, and whatever of
+-- their text was taken.
+abbrev pub StepsByLine : {X : Type 0} → Hosted → Hosted → List ℕ → Result X WorldFault → Type 0
+StepsByLine old new line result =
+    Leaves old new line old.world result × ((events : List Event) (taken : List ℕ) → HasRun old events taken → Steps old new events taken line old.world result)

@@ -6,7 +6,7 @@ ghost use Rattle.pv_protocol.specs.World as model;
 ghost use Rattle.pv_script.specs.ScheduleView.{event_of, HasPlan};
 ghost use Rattle.pv_world.specs.Stands.{StandsFor, StandsForSome};
 ghost use Rattle.pv_embed_world.specs.Advance.{Advances};
-ghost use Rattle.pv_embed_world.specs.World.{HasRun, Opens, Steps};
+ghost use Rattle.pv_embed_world.specs.World.{HasRun, Opens, StepsByLine};
 
 use crate::WorldFault;
 use crate::kept::Kept;
@@ -91,7 +91,7 @@ impl HostedWorld {
     /// - [`WorldFault::SentLimit`]: the messages pass the limit on bytes in this event, as where `polydb run` ends with status 8.
     /// - [`WorldFault::BrokenOff`]: there was no memory within the step.
     pub fn step(&mut self, line: &[u8]) -> Result<(), WorldFault>
-        ensures { (events : List happening.Event) (taken : List ℕ) → HasRun self.old events taken → Steps self.old self.new events taken line.now self.old.world result }
+        ensures { StepsByLine self.old self.new line.now result }
     {
         let Some(world) = &mut self.world else {
             return Err(WorldFault::Closed);

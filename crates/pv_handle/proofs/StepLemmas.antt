@@ -1,9 +1,8 @@
 -- A step of the world in a slot.
 use Rattle.std.proofs.Common.{◌≡◌, sym, subst, ℕ, List, Option, Some, Result, Ok}
-use Rattle.pv_embed_world.specs.World.{Hosted}
+use Rattle.pv_embed_world.specs.World.{Hosted, StepsByLine}
 use Rattle.pv_embed_world.specs.declared.fault.WorldFault.{WorldFault}
 use Rattle.pv_handle.specs.Slot.{Calls}
-use Rattle.pv_handle.specs.World.{StepsByLine}
 
 module _ (line : List ℕ) where
   abbrev Does : Hosted → Hosted → Result (Unit {0}) WorldFault → Type 0

@@ -1,5 +1,5 @@
 -- What a site in bytes does, by its answers.
-use Rattle.std.specs.Prelude.{◌≡◌, ◌≢◌, ℕ, ◌<◌, ◌≤◌, List, [], ◌∷◌, Option, Some, None, Result, Ok, Err, length, slice_get, ⊤}
+use Rattle.std.specs.Prelude.{◌≡◌, ◌≢◌, ℕ, ◌<◌, ◌≤◌, Bool, true, false, List, [], ◌∷◌, Option, Some, None, Result, Ok, Err, length, slice_get, ⊤}
 use Rattle.pv_base.specs.Catalog.{Declared, Item, place_of}
 use Rattle.pv_format.specs.MessageSpelling.{SpellsEnvelope}
 use Rattle.pv_protocol.specs.LineText.{line_text}
@@ -10,12 +10,12 @@ use Rattle.pv_report.specs.NamesOnlyItems.{NamesOnlyItems}
 use Rattle.pv_host.specs.HostLog.{HostWrite, next_write}
 use Rattle.pv_embed.specs.Held.{Held, Out, message, note}
 use Rattle.pv_embed.specs.Hosted.{HostedState, Writes, log_length, stored_length}
+use Rattle.pv_handle.specs.ByteState.{ByteState}
 use Rattle.pv_handle.specs.Given.{GivesBytes}
 use Rattle.pv_handle.specs.declared.faults.ValueFault.{ValueFault}
 use Rattle.pv_handle.specs.declared.faults.ValueFault.TheVariants.{UnknownName, NotHere, Unwritten, NoMemory}
 use Rattle.pv_handle.specs.declared.given.Given.{Given}
 use Rattle.pv_handle.specs.declared.given.Given.TheVariants.{Nothing, Bytes, TooSmall}
-use Rattle.pv_handle.specs.declared.outputs.TheConstants.{REPORT}
 
 -- What the site of this number lets out has bytes: a message has a spelling, and a report names only items of the catalog.
 abbrev pub CanGive : ℕ → Declared → Out → Type 0
@@ -27,10 +27,10 @@ abbrev pub IsOutInBytes : ℕ → Declared → Out → List ℕ → Type 0
 IsOutInBytes me catalog (message envelope) bytes = SpellsEnvelope envelope bytes
 IsOutInBytes me catalog (note reported) bytes = bytes ≡ line_text catalog (line_of me reported)
 
--- a message goes to a site, and a report to the host
+-- a message goes to a site, and a report to the host, which is 255: no site has this number
 abbrev pub goes_to : Out → ℕ
 goes_to (message envelope) = envelope.to
-goes_to (note reported) = REPORT
+goes_to (note reported) = 255
 
 -- What is next of what the site is to let out, and may be let out: so much of the log as there was when it was made is in the host's file.
 pub record IsNext (hosted : HostedState) (next : Held) (later : List Held) : Type 0 where
@@ -62,15 +62,27 @@ abbrev pub GivesWrite : Option HostWrite → List ℕ → List ℕ → Given →
 GivesWrite None room out given = (given ≡ Nothing) × (out ≡ room)
 GivesWrite (Some write) room out given = GivesBytes write.bytes write.place room out given
 
+-- whether the host was given the bytes of what it is to write next: in this answer, or before
+abbrev pub taken_after : Given → Bool → Bool
+taken_after (Bytes count to) taken = true
+taken_after Nothing taken = taken
+taken_after (TooSmall needed) taken = taken
+
+-- What is to be written next is given, and the site is as it was, but that it knows of that.
+abbrev pub TakesWrite : List ℕ → List ℕ → ByteState → ByteState → Given → Type 0
+TakesWrite room out old new given = GivesWrite (next_write old.hosted.site.log) room out given × (new ≡ record old { taken = taken_after given old.taken })
+
 -- So many bytes at this place are what is to be written next.
 abbrev pub IsNextWrite : ℕ → ℕ → Option HostWrite → Type 0
 IsNextWrite place count None = ⊥
 IsNextWrite place count (Some write) = (write.place ≡ place) × (length write.bytes ≡ count)
 
--- The host tells that it has written so many bytes at this place. That is taken exactly of what is to be written next.
-abbrev pub AcceptsWrite : {X E : Type 0} → ℕ → ℕ → HostedState → HostedState → Result X E → Type 0
-AcceptsWrite place count old new (Ok _) = IsNextWrite place count (next_write old.site.log) × Writes old new
-AcceptsWrite place count old new (Err _) = (IsNextWrite place count (next_write old.site.log) → ⊥) × (new ≡ old)
+-- The host tells that it has written so many bytes at this place. That is taken exactly of what is to be written next, where the host was given its bytes; of
+-- what comes after it the host was given nothing yet.
+abbrev pub AcceptsWrite : {X E : Type 0} → ℕ → ℕ → ByteState → ByteState → Result X E → Type 0
+AcceptsWrite place count old new (Ok _) =
+    (old.taken ≡ true) × IsNextWrite place count (next_write old.hosted.site.log) × Writes old.hosted new.hosted × (new.taken ≡ false)
+AcceptsWrite place count old new (Err _) = (old.taken ≡ true → IsNextWrite place count (next_write old.hosted.site.log) → ⊥) × (new ≡ old)
 
 -- the line that a report has for the item of this number, by what the site shows of it
 abbrev pub item_text : HostedState → ℕ → List ℕ

@@ -1,4 +1,5 @@
 pub mod ByteSite
+pub mod ByteState
 pub mod ByteView
 pub mod Faults
 pub mod Given

@@ -1,11 +1,10 @@
 // A site whose messages, reports and values go out as bytes, for a host that has only so much room for them.
 ghost use Rattle.std.specs.Prelude.{◌≡◌, ◌≤◌, IfSome, None};
 ghost use Rattle.pv_protocol.specs.State as model;
-ghost use Rattle.pv_host.specs.HostLog.{next_write};
 ghost use Rattle.pv_embed.specs.Hosted.{Gives, HostedState, stored_length};
-ghost use Rattle.pv_embed.specs.Opening.{OpensHosted};
 ghost use Rattle.pv_embed.specs.Requests.{ReceivesBy, SubmitsBy};
-ghost use Rattle.pv_handle.specs.ByteSite.{AcceptsWrite, GivesWrite, NothingMayLeave, ReadsBytes, TakesBytes};
+ghost use Rattle.pv_handle.specs.ByteSite.{AcceptsWrite, NothingMayLeave, ReadsBytes, TakesBytes, TakesWrite, taken_after};
+ghost use Rattle.pv_handle.specs.ByteState.{OnSite, OpensBytes};
 ghost use Rattle.pv_handle.specs.Waiting.{left_after, waits_before};
 
 use crate::faults::{NotNext, ValueFault};
@@ -25,6 +24,8 @@ pub struct ByteSite {
     site: HostedSite,
     /// What the site has let out and the host hasn't taken.
     waiting: Option<Waiting>,
+    /// Whether the host was given the bytes of what it is to write next.
+    taken: bool,
 }
 
 /// What a site has let out, and how long its log was after the step that made it.
@@ -37,10 +38,10 @@ pub(crate) struct Waiting {
 }
 
 impl Model for ByteSite {
-    ghost use Rattle.pv_embed.specs.Hosted.{HostedState};
+    ghost use Rattle.pv_handle.specs.ByteState.{ByteState};
     ghost use Rattle.pv_handle.specs.ByteView.{state_of, IsByteSite};
 
-    ghost Value = { HostedState };
+    ghost Value = { ByteState };
 
     ghost use Rattle.std.specs.Coded.{codes};
     ghost use Rattle.pv_model.specs.SyntaxCodes.{program_code};
@@ -55,7 +56,7 @@ impl Model for ByteSite {
 impl ByteSite {
     /// Opens a site on the bytes of its journal, as [`HostedSite::open`] does.
     pub fn open(alloc: Global, config: &[u8], me: u8, journal: &[u8]) -> Result<ByteSite, OpenFault>
-        ensures { OpensHosted config.now me journal.now result }
+        ensures { OpensBytes config.now me journal.now result }
     {
         let Ok(journal) = Vec::from_slice(alloc, journal) else {
             return Err(OpenFault::NoMemory);
@@ -65,45 +66,51 @@ impl ByteSite {
             alloc,
             site,
             waiting: None,
+            taken: false,
         })
     }
 
     /// A request, as [`HostedSite::submit`] takes it.
     pub fn submit(&mut self, text: &[u8], query: bool) -> Result<(), SubmitFault>
-        ensures { SubmitsBy self.old self.new text.now query result }
+        ensures { OnSite (λ old new. SubmitsBy old new text.now query) self.old self.new result }
     {
         self.site.submit(text, query)
     }
 
     /// A message comes, as [`HostedSite::receive`] takes it.
     pub fn receive(&mut self, bytes: &[u8]) -> Result<(), ReceiveFault>
-        ensures { ReceivesBy self.old self.new bytes.now result }
+        ensures { OnSite (λ old new. ReceivesBy old new bytes.now) self.old self.new result }
     {
         self.site.receive(bytes)
     }
 
     /// Time has passed.
     pub fn tick(&mut self) -> Result<(), NoMemory>
-        ensures { Gives self.old self.new model.tick result }
+        ensures { OnSite (λ old new. Gives old new model.tick) self.old self.new result }
     {
         self.site.tick()
     }
 
     /// What the host is to write next into its file. It is the same until the host has told that it is done.
     pub fn next_write(&mut self, out: &mut [u8]) -> Given
-        ensures given { GivesWrite (next_write self.old.site.log) out.old out.new result }
-        ensures unchanged { self.new ≡ self.old }
+        ensures { TakesWrite out.old out.new self.old self.new result }
     {
-        match self.site.next_write() {
-            Some(write) => give(write.bytes, write.place, out),
-            None => Given::Nothing,
-        }
+        let Some(write) = self.site.next_write() else {
+            return Given::Nothing;
+        };
+        let given = give(write.bytes, write.place, out);
+        self.taken = taken_after(given, self.taken);
+        given
     }
 
-    /// The host has written so many bytes at this place, and synced its file. That is taken only of what is to be written next.
+    /// The host has written so many bytes at this place, and synced its file. That is taken only of what is to be written next, and only where
+    /// [`ByteSite::next_write`] has given its bytes.
     pub fn written(&mut self, place: u64, count: usize) -> Result<(), NotNext>
         ensures { AcceptsWrite place count self.old self.new result }
     {
+        if !self.taken {
+            return Err(NotNext);
+        }
         let is_next = match self.site.next_write() {
             Some(write) => write.place == place && write.bytes.len() == count,
             None => false,
@@ -112,13 +119,14 @@ impl ByteSite {
             return Err(NotNext);
         }
         self.site.written();
+        self.taken = false;
         Ok(())
     }
 
     /// The next thing that the site lets out: the bytes of a message, which go to a site, or a report as a line, which goes to [`REPORT`](crate::REPORT).
     /// It stays until there was room and memory for it.
     pub fn take(&mut self, out: &mut [u8]) -> Result<Given, NoMemory>
-        ensures { TakesBytes out.old out.new self.old self.new result }
+        ensures { OnSite (TakesBytes out.old out.new) self.old self.new result }
     {
         bring(&mut self.site, &mut self.waiting);
         let Some(waiting) = &self.waiting else {
@@ -137,7 +145,7 @@ impl ByteSite {
 
     /// What the site shows of its item of this name, as the line that a report has for it, once all records are in the host's file.
     pub fn read(&self, name: &[u8], out: &mut [u8]) -> Result<Given, ValueFault>
-        ensures { ReadsBytes self.now name.now out.old out.new result }
+        ensures { ReadsBytes self.now.hosted name.now out.old out.new result }
     {
         let shown = self.site.read(name)?;
         let catalog = self.site.catalog();
@@ -164,6 +172,16 @@ fn bring(site: &mut HostedSite, waiting: &mut Option<Waiting>)
     };
     if let Some(output) = site.take() {
         *waiting = Some(Waiting { length, output });
+    }
+}
+
+// Whether the host was given the bytes of what it is to write next: by this answer, or before.
+fn taken_after(given: Given, before: bool) -> bool
+    ensures { result ≡ taken_after given before }
+{
+    match given {
+        Given::Bytes { .. } => true,
+        Given::Nothing | Given::TooSmall { .. } => before,
     }
 }
 

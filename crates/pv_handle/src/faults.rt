@@ -2,7 +2,7 @@
 use pv_base::NoMemory;
 use pv_embed::ReadFault;
 
-/// Why a write isn't taken as done: it isn't the one that is next. It is done already, or was never asked for.
+/// Why a write isn't taken as done: it isn't the one that is next. It is done already, its bytes were never given, or it was never asked for.
 #[derive(Clone, Copy, Debug, PartialEq, Eq)]
 pub struct NotNext;
 

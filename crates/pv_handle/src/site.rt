@@ -24,11 +24,10 @@ pub struct SiteSlot {
 impl SiteSlot {
     ghost use Rattle.std.specs.Prelude.{IfNone, OnErr};
     ghost use Rattle.pv_protocol.specs.State as model;
-    ghost use Rattle.pv_host.specs.HostLog.{next_write};
     ghost use Rattle.pv_embed.specs.Hosted.{Gives};
-    ghost use Rattle.pv_embed.specs.Opening.{OpensHosted};
     ghost use Rattle.pv_embed.specs.Requests.{ReceivesBy, SubmitsBy};
-    ghost use Rattle.pv_handle.specs.ByteSite.{AcceptsWrite, GivesWrite, ReadsBytes, TakesBytes};
+    ghost use Rattle.pv_handle.specs.ByteSite.{AcceptsWrite, ReadsBytes, TakesBytes, TakesWrite};
+    ghost use Rattle.pv_handle.specs.ByteState.{OnSite, OpensBytes};
     ghost use Rattle.pv_handle.specs.Slot.{Opens, Calls, Asks};
 
     /// A slot with no site.
@@ -49,7 +48,7 @@ impl SiteSlot {
         me: u8,
         journal: &[u8],
     ) -> Result<(), Refused<OpenFault>>
-        ensures { Opens (OpensHosted config.now me journal.now) self.old.handle.site self.new.handle.site result }
+        ensures { Opens (OpensBytes config.now me journal.now) self.old.handle.site self.new.handle.site result }
     {
         if self.live {
             return Err(Refused::InUse);
@@ -72,7 +71,7 @@ impl SiteSlot {
         text: &[u8],
         query: bool,
     ) -> Result<(), Refused<SubmitFault>>
-        ensures { Calls (λ old new. SubmitsBy old new text.now query) self.old.handle.site self.new.handle.site result }
+        ensures { Calls (OnSite (λ old new. SubmitsBy old new text.now query)) self.old.handle.site self.new.handle.site result }
     {
         if !self.live {
             return Err(Refused::Closed);
@@ -88,7 +87,7 @@ impl SiteSlot {
 
     /// A message comes.
     pub fn receive(&mut self, alloc: Global, bytes: &[u8]) -> Result<(), Refused<ReceiveFault>>
-        ensures { Calls (λ old new. ReceivesBy old new bytes.now) self.old.handle.site self.new.handle.site result }
+        ensures { Calls (OnSite (λ old new. ReceivesBy old new bytes.now)) self.old.handle.site self.new.handle.site result }
     {
         if !self.live {
             return Err(Refused::Closed);
@@ -104,7 +103,7 @@ impl SiteSlot {
 
     /// Time has passed.
     pub fn tick(&mut self, alloc: Global) -> Result<(), Refused<NoMemory>>
-        ensures { Calls (λ old new. Gives old new model.tick) self.old.handle.site self.new.handle.site result }
+        ensures { Calls (OnSite (λ old new. Gives old new model.tick)) self.old.handle.site self.new.handle.site result }
     {
         if !self.live {
             return Err(Refused::Closed);
@@ -118,10 +117,9 @@ impl SiteSlot {
         }
     }
 
-    /// What the host is to write next into its file. The site stays as it is.
+    /// What the host is to write next into its file. The site stays as it is, but that it knows of what it gave.
     pub fn next_write(&mut self, alloc: Global, out: &mut [u8]) -> Option<Given>
-        ensures given { Asks (λ old new given. (new ≡ old) × GivesWrite (next_write old.site.log) out.old out.new given)
-            self.old.handle.site self.new.handle.site result }
+        ensures given { Asks (TakesWrite out.old out.new) self.old.handle.site self.new.handle.site result }
         ensures unchanged { IfNone result (out.new ≡ out.old) }
     {
         if !self.live {
@@ -156,7 +154,7 @@ impl SiteSlot {
 
     /// The next thing that the site lets out.
     pub fn take(&mut self, alloc: Global, out: &mut [u8]) -> Result<Given, Refused<NoMemory>>
-        ensures given { Calls (TakesBytes out.old out.new) self.old.handle.site self.new.handle.site result }
+        ensures given { Calls (OnSite (TakesBytes out.old out.new)) self.old.handle.site self.new.handle.site result }
         ensures unchanged { OnErr result (out.new ≡ out.old) }
     {
         if !self.live {
@@ -178,7 +176,7 @@ impl SiteSlot {
         name: &[u8],
         out: &mut [u8],
     ) -> Result<Given, Refused<ValueFault>>
-        ensures read { Calls (λ old new answer. (new ≡ old) × ReadsBytes old name.now out.old out.new answer)
+        ensures read { Calls (λ old new answer. (new ≡ old) × ReadsBytes old.hosted name.now out.old out.new answer)
             self.old.handle.site self.new.handle.site result }
         ensures unchanged { OnErr result (out.new ≡ out.old) }
     {

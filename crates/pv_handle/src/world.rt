@@ -20,8 +20,9 @@ pub struct WorldSlot {
 impl WorldSlot {
     ghost use Rattle.std.specs.Prelude.{IfNone};
     ghost use Rattle.pv_embed_world.specs.World as hosted;
+    ghost use Rattle.pv_embed_world.specs.World.{StepsByLine};
     ghost use Rattle.pv_handle.specs.Slot.{Opens, Calls, Asks};
-    ghost use Rattle.pv_handle.specs.World.{StepsByLine, TakesKept};
+    ghost use Rattle.pv_handle.specs.World.{TakesKept};
 
     /// A slot with no world.
     pub fn closed(alloc: Global) -> WorldSlot

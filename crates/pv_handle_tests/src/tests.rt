@@ -65,6 +65,7 @@ fn sites_wait_for_their_files(rt: HostRuntime) -> Result<(), Fail> {
         slot.next_write(alloc, &mut []),
         Some(Given::TooSmall { needed: 10 })
     );
+    assert_eq!(rt; slot.written(alloc, 9, 10), Err(Refused::Engine(NotNext)));
     assert_eq!(rt;
         slot.next_write(alloc, &mut out),
         Some(Given::Bytes { count: 10, to: 9 })

@@ -5,7 +5,7 @@ use Rattle.pv_law_disk.specs.Calls.{append, read_all, reserve}
 use Rattle.pv_law_disk.specs.Size.{size_of}
 use Rattle.pv_law_journal.specs.Format.{IsNotOurs}
 use Rattle.pv_script.specs.ScheduleView.{schedule_of}
-use Rattle.pv_script.specs.declared.lines.TheConstants.{MAX_SCHEDULE}
+use Rattle.pv_base.specs.declared.limits.TheConstants.{MAX_INPUT}
 use Rattle.pv_site.specs.SiteState.{SiteState}
 use Rattle.pv_host.specs.HostLog.{HostState, contents_of}
 use Rattle.pv_host.specs.HostWrites.{IsOpenedOn}
@@ -19,7 +19,7 @@ use Rattle.pv_embed.specs.declared.made.Made.{Made}
 pub returns-in-Err-NotOurs : goal.returns-in-Err-NotOurs
 returns-in-Err-NotOurs c =
     let none = no_events c.in-Ok.schedule c.if-not-is_empty.ensures in
-    let short : length c.args.config.now ≤ MAX_SCHEDULE = search rules in
+    let short : length c.args.config.now ≤ MAX_INPUT = search rules in
     let known : c.args.me < c.in-Ok.schedule.catalog.sites = search rules in (
       schedule_of c.in-Ok.schedule,
       (c.in-Ok.ensures.answer.given, none, short),
@@ -51,7 +51,7 @@ invariant_of-result c =
 pub returns-in-Ok-open-2 : goal.returns-in-Ok-open-2
 returns-in-Ok-open-2 c =
     let none = no_events c.in-Ok.schedule c.if-not-is_empty.ensures in
-    let short : length c.args.config.now ≤ MAX_SCHEDULE = search rules in
+    let short : length c.args.config.now ≤ MAX_INPUT = search rules in
     let known : c.args.me < c.in-Ok.schedule.catalog.sites = search rules in
     record {
       schedule = schedule_of c.in-Ok.schedule;
@@ -66,7 +66,7 @@ returns-in-Ok-open-2 c =
 pub returns : goal.returns
 returns c =
     let none = no_events c.in-Ok.schedule c.if-not-is_empty.ensures in
-    let short : length c.args.config.now ≤ MAX_SCHEDULE = search rules in
+    let short : length c.args.config.now ≤ MAX_INPUT = search rules in
     let known : c.args.me < c.in-Ok.schedule.catalog.sites = search rules in
     let log = c.in-Ok-open.log in
     let opened = c.in-Ok-open.ensures.opened in

@@ -3,10 +3,10 @@ use Rattle.std.proofs.Common.{◌≡◌, ap, sym, subst, ◌∙◌, ℕ, List, S
 use Rattle.std.specs.Option.{option_map}
 use Rattle.pv_base.specs.Catalog.{Declared, place_of}
 use Rattle.pv_base.specs.declared.catalog.ItemId.{ItemId}
-use Rattle.pv_embed.specs.Hosted.{HostedState}
 use Rattle.pv_handle.proofs.ReadLemmas.{reads}
 use Rattle.pv_handle.proofs.bytes.ByteSite.read.Goals as goal
 use Rattle.pv_handle.specs.ByteSite.{ReadsBytes}
+use Rattle.pv_handle.specs.ByteState.{ByteState}
 use Rattle.pv_handle.specs.Given.{GivesBytes}
 use Rattle.pv_handle.specs.Waiting.{waits_before}
 use Rattle.pv_protocol.specs.LineText.{line_text}
@@ -27,5 +27,5 @@ returns c =
     (c.in_ok-text.ensures hosted.site.me) in
     let gives : GivesBytes c.in_ok-text.text.items 0 c.args.out.now c.give.new.out c.give.result =
     subst (λ (bytes : List ℕ). GivesBytes bytes 0 c.args.out.now c.give.new.out c.give.result) c.deref.ensures.value c.give.ensures in
-    subst (λ (of : HostedState). ReadsBytes of name c.args.out.now c.give.new.out (Ok c.give.result)) c.self.view_is
+    subst (λ (of : ByteState). ReadsBytes of.hosted name c.args.out.now c.give.new.out (Ok c.give.result)) c.self.view_is
     (reads hosted name c.args.out.now c.give.new.out (waits_before c.self.inside.waiting hosted.held) found item c.in_ok-text.text.items c.give.result c.in_ok-shown.ensures place text gives)

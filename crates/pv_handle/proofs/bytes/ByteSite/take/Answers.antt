@@ -8,6 +8,7 @@ use Rattle.pv_handle.proofs.ByteLemmas.{front}
 use Rattle.pv_handle.proofs.TakeLemmas.{brought-is, brought-good, brought-stored, waiting-good, takes, left-keeps}
 use Rattle.pv_handle.proofs.bytes.ByteSite.take.Goals as goal
 use Rattle.pv_handle.specs.ByteSite.{GivesOut, TakesBytes}
+use Rattle.pv_handle.specs.ByteState.{ByteState}
 use Rattle.pv_handle.specs.Waiting.{left_after}
 use Rattle.pv_handle.specs.declared.bytes.Waiting.{Waiting}
 
@@ -26,15 +27,17 @@ returns c =
     let after = c.bring.new.site in
     let waiting = c.in-Some.waiting in
     let given = c.in_ok-given.given in
-    let is : front (Some waiting) after ≡ c.args.self.now =
+    let is : front (Some waiting) after ≡ c.args.self.now.hosted =
     ap (λ (w : Option Waiting). front w after) (sym c.in-Some.is)
-    ∙ (brought-is c.self.inside after c.bring.new.waiting c.self.invariant c.bring.ensures.held c.bring.ensures.site c.bring.ensures.stored ∙ c.self.view_is) in
+    ∙ (brought-is c.self.inside after c.bring.new.waiting c.self.invariant c.bring.ensures.held c.bring.ensures.site c.bring.ensures.stored ∙ ap (λ (state : ByteState). state.hosted) c.self.view_is) in
     let stored : waiting.length ≤ stored_length after =
     subst (λ (w : Option Waiting). IfSome w (λ (waits : Waiting). waits.length ≤ stored_length after)) c.in-Some.is
     (brought-stored c.self.inside after c.bring.new.waiting c.self.invariant c.bring.ensures.held c.bring.ensures.site c.bring.ensures.stored) in
     let gives : GivesOut after.site.me after.site.catalog (out_of waiting.output) c.args.out.now c.give_output.new.out given =
     subst (λ (me : ℕ). GivesOut me after.site.catalog (out_of waiting.output) c.args.out.now c.give_output.new.out given) c.me.ensures
-    (subst (λ (catalog : Declared). GivesOut c.me.result.0 catalog (out_of waiting.output) c.args.out.now c.give_output.new.out given) c.catalog.ensures c.in_ok-given.ensures.given) in
-    subst (λ (w : Option Waiting). TakesBytes {E = NoMemory} c.args.out.now c.give_output.new.out c.args.self.now (front w after) (Ok given))
-    (sym (c.let_go.ensures ∙ ap (left_after given) c.in-Some.is))
-    (takes c.args.self.now after waiting is stored c.args.out.now c.give_output.new.out given gives)
+    (subst (λ (catalog : Declared). GivesOut c.me.result.0 catalog (out_of waiting.output) c.args.out.now c.give_output.new.out given) c.catalog.ensures c.in_ok-given.ensures.given) in (
+      subst (λ (w : Option Waiting). TakesBytes {E = NoMemory} c.args.out.now c.give_output.new.out c.args.self.now.hosted (front w after) (Ok given))
+          (sym (c.let_go.ensures ∙ ap (left_after given) c.in-Some.is))
+          (takes c.args.self.now.hosted after waiting is stored c.args.out.now c.give_output.new.out given gives),
+      ap (λ (state : ByteState). state.taken) c.self.view_is,
+    )
