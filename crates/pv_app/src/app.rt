@@ -4,6 +4,7 @@ ghost use Rattle.std.specs.String.{string_bytes};
 ghost use Rattle.pv_base.specs.Fault.{Rose};
 ghost use Rattle.pv_base.specs.declared.limits.TheConstants.{MAX_SITES};
 ghost use Rattle.pv_io.specs.SinkEffects.{HasFailed, Writes, WritesNothing, WritesPrefix};
+ghost use Rattle.pv_io.specs.Stream.{TakesAtMost};
 ghost use Rattle.pv_model.specs.Events as model;
 ghost use Rattle.pv_model.specs.LineCauses.{LineCause};
 ghost use Rattle.pv_model.specs.LiveScript.{LiveScript};
@@ -91,10 +92,11 @@ pub fn polydb<R: Source, W: Sink, B: Bay>(
     ensures exact_summary { (n : ℕ) → IsCommand (map string_bytes words.now) (Command.Big n) →
         (status : Status) (output : List ℕ) → IsSummaryAnswer (made_text n) status output → GivesUpOr W.Sink result status output sink.old sink.new }
 
-    // It gives up for a fault only where one was counted. What is too long is never written about, and where the input
-    // fails or is too long nothing was written.
+    // It gives up for a fault only where one was counted, and for one of the input only before more than the limit has come. What is too long is never
+    // written about, and where the input fails or is too long nothing was written.
     ensures read_fault { result ≡ Status.ReadFault →
         Rose (R.faults source.old) (R.faults source.new) × WritesNothing W.Sink sink.old sink.new }
+    ensures read_within { result ≡ Status.ReadFault → TakesAtMost (R.left source.old) (R.left source.new) MAX_INPUT }
     ensures write_fault { result ≡ Status.WriteFault → HasFailed W.Sink sink.old sink.new }
     ensures too_long { result ≡ Status.TooLong → WritesNothing W.Sink sink.old sink.new }
     ensures short { result ≡ Status.WriteFault → (form : Form) → IsCommand (map string_bytes words.now) (Command.Run form) →
@@ -172,6 +174,7 @@ fn read_and_run<R: Source, W: Sink, B: Bay>(
         (status : Status) (output : List ℕ) → IsRunAnswer form input status output → GivesUpOr W.Sink result status output sink.old sink.new }
     ensures read_fault { result ≡ Status.ReadFault →
         Rose (R.faults source.old) (R.faults source.new) × WritesNothing W.Sink sink.old sink.new }
+    ensures read_within { result ≡ Status.ReadFault → TakesAtMost (R.left source.old) (R.left source.new) MAX_INPUT }
     ensures write_fault { result ≡ Status.WriteFault → HasFailed W.Sink sink.old sink.new }
     ensures too_long { result ≡ Status.TooLong → WritesNothing W.Sink sink.old sink.new }
     ensures short { result ≡ Status.WriteFault → (input : List ℕ) → R.left source.old ≡ Some input → length input ≤ MAX_INPUT }

@@ -44,6 +44,21 @@ site 1 epoch 1 records 2
 item b 50 if -0.1.0 ; 60 if +0.1.0
 ";
 
+const ONE_SHOWN: &str = "site 0 epoch 1 records 3\nitem a 101\n";
+
+const ONE_SHOWN_OF_TWO: &str = "site 0 epoch 1 records 3\nitem a 101\nsite 1 not-ours 0\n";
+
+// One site's promise meets a fault, and the other stops.
+const STOPPED: &str =
+    "sites 2\nitem a 0 100\nitem b 1 50\nsubmit 0 a := a - 10 ; b := b + 10\npump 5\nfail 1 3 kept\ndeliver 5\nstop 0\n";
+
+const STOPPED_SHOWN: &str = "\
+site 0 epoch 1 records 2
+item a 100 if -0.1.0 ; 90 if +0.1.0
+site 1 epoch 1 records 2
+item b 50 if -0.1.0 ; 60 if +0.1.0
+";
+
 // a bay with these disks
 pub(crate) fn bay_of(disks: Vec<MemDisk>) -> Result<MemBay, NoMemory>
     requires { All (λ disk. disk.faults ≡ 0) disks.items }
@@ -129,6 +144,37 @@ fn call_over(
     Ok((status, sink.bytes().to_vec(alloc)?))
 }
 
+// Asserts that the command is done over the bay.
+fn assert_done(
+    rt: &(impl Abort + AllocGlobal),
+    word: &str,
+    input: &str,
+    bay: &mut MemBay,
+) -> Result<(), Fail>
+    requires { IsAtRest mem_bay bay.old }
+    ensures { IsAtRest mem_bay bay.new }
+{
+    let (status, _) = call_over(rt.alloc(), word, input, &[], bay)?;
+    assert_eq!(rt; status, Status::Done);
+    Ok(())
+}
+
+// Asserts that `show` is done over the bay, and what it writes.
+fn assert_shows(
+    rt: &(impl Abort + AllocGlobal),
+    script: &str,
+    bay: &mut MemBay,
+    output: &str,
+) -> Result<(), Fail>
+    requires { IsAtRest mem_bay bay.old }
+    ensures { IsAtRest mem_bay bay.new }
+{
+    let (status, text) = call_over(rt.alloc(), "show", script, &[], bay)?;
+    assert_eq!(rt; status, Status::Done);
+    assert_eq!(rt; text.as_slice(), output.as_bytes());
+    Ok(())
+}
+
 // Which sites the bay keeps a disk of, with how many writes and syncs were called on each. It keeps none afterwards.
 fn calls_kept(alloc: Global, bay: &mut MemBay) -> Result<Vec<(u8, u64)>, AllocError>
     ensures { IsAtRest mem_bay bay.old → IsAtRest mem_bay bay.new }
@@ -147,15 +193,10 @@ fn a_journal_is_shown(rt: HostRuntime) -> Result<(), Fail> {
     let alloc = rt.alloc();
     let disk = MemDisk::of(alloc, COMMITTED.as_slice().to_vec(alloc)?);
     let mut bay = bay_of_one(alloc, disk)?;
-    let (status, text) = call_over(alloc, "show", ONE_SITE, &[], &mut bay)?;
-    assert_eq!(rt; status, Status::Done);
-    assert_eq!(rt;
-        text.as_slice(),
-        b"site 0 epoch 1 records 3\nitem a 101\n".as_slice()
-    );
+    assert_shows(&rt, ONE_SITE, &mut bay, ONE_SHOWN)?;
     // It is there still, and nothing was written or synced.
     let disk = bay.disk(SiteId(0))?;
-    assert_eq!(rt; disk.calls(), 0);
+    assert!(rt; disk.calls() == 0);
     bay.back(SiteId(0), disk);
     assert!(rt; calls_kept(alloc, &mut bay)?.is_empty());
     Ok(())
@@ -166,16 +207,12 @@ fn a_journal_is_shown(rt: HostRuntime) -> Result<(), Fail> {
 fn a_run_that_is_done_leaves_its_disks(rt: HostRuntime) -> Result<(), Fail> {
     let alloc = rt.alloc();
     let mut bay = bay_of(Vec::new(alloc))?;
-    let (status, _) = call_over(alloc, "run", DOUBT, &[], &mut bay)?;
-    assert_eq!(rt; status, Status::Done);
+    assert_done(&rt, "run", DOUBT, &mut bay)?;
     let first = copy_of_kept(&rt, alloc, &mut bay, 0, 12)?;
     let second = copy_of_kept(&rt, alloc, &mut bay, 1, 8)?;
     assert!(rt; calls_kept(alloc, &mut bay)?.is_empty());
     let mut left = bay_of_two(alloc, first, second)?;
-    let (status, text) = call_over(alloc, "show", TWO_SITES, &[], &mut left)?;
-    assert_eq!(rt; status, Status::Done);
-    assert_eq!(rt; text.as_slice(), DOUBT_SHOWN.as_bytes());
-    Ok(())
+    assert_shows(&rt, TWO_SITES, &mut left, DOUBT_SHOWN)
 }
 
 // Disks are kept by `json` too; and none at another status, or by another command.
@@ -183,14 +220,13 @@ fn a_run_that_is_done_leaves_its_disks(rt: HostRuntime) -> Result<(), Fail> {
 fn disks_are_kept_of_a_run_that_is_done_alone(rt: HostRuntime) -> Result<(), Fail> {
     let alloc = rt.alloc();
     let mut bay = bay_of(Vec::new(alloc))?;
-    let (status, _) = call_over(alloc, "json", DOUBT, &[], &mut bay)?;
-    assert_eq!(rt; status, Status::Done);
-    assert_eq!(rt; calls_kept(alloc, &mut bay)?.len(), 2);
+    assert_done(&rt, "json", DOUBT, &mut bay)?;
+    assert!(rt; calls_kept(alloc, &mut bay)?.len() == 2);
     let (status, _) = call_over(alloc, "run", DOUBT, &[1], &mut bay)?;
-    assert_eq!(rt; status, Status::WriteFault);
+    assert!(rt; status == Status::WriteFault);
     assert!(rt; calls_kept(alloc, &mut bay)?.is_empty());
     let (status, _) = call_over(alloc, "run", "sites 1\nnothing\n", &[], &mut bay)?;
-    assert_eq!(rt; status, Status::Malformed);
+    assert!(rt; status == Status::Malformed);
     assert!(rt; calls_kept(alloc, &mut bay)?.is_empty());
     Ok(())
 }
@@ -200,20 +236,11 @@ fn disks_are_kept_of_a_run_that_is_done_alone(rt: HostRuntime) -> Result<(), Fai
 fn disks_of_sites_that_are_down_are_kept(rt: HostRuntime) -> Result<(), Fail> {
     let alloc = rt.alloc();
     let mut bay = bay_of(Vec::new(alloc))?;
-    let schedule =
-        "sites 2\nitem a 0 100\nitem b 1 50\nsubmit 0 a := a - 10 ; b := b + 10\npump 5\nfail 1 3 kept\ndeliver 5\nstop 0\n";
-    let (status, _) = call_over(alloc, "run", schedule, &[], &mut bay)?;
-    assert_eq!(rt; status, Status::Done);
+    assert_done(&rt, "run", STOPPED, &mut bay)?;
     let first = copy_of_kept(&rt, alloc, &mut bay, 0, 1)?;
     let second = copy_of_kept(&rt, alloc, &mut bay, 1, 1)?;
     let mut left = bay_of_two(alloc, first, second)?;
-    let (status, text) = call_over(alloc, "show", TWO_SITES, &[], &mut left)?;
-    assert_eq!(rt; status, Status::Done);
-    assert_eq!(rt;
-        text.as_slice(),
-        b"site 0 epoch 1 records 2\nitem a 100 if -0.1.0 ; 90 if +0.1.0\nsite 1 epoch 1 records 2\nitem b 50 if -0.1.0 ; 60 if +0.1.0\n".as_slice()
-    );
-    Ok(())
+    assert_shows(&rt, TWO_SITES, &mut left, STOPPED_SHOWN)
 }
 
 // A disk that fails has a line, and the others are shown. A site past the bay's disks ends it, and nothing was written.
@@ -223,21 +250,15 @@ fn disks_and_bays_may_fail(rt: HostRuntime) -> Result<(), Fail> {
     let mut failing = MemDisk::of(alloc, COMMITTED.as_slice().to_vec(alloc)?);
     failing.fail_read(1);
     let mut bay = bay_of_two(alloc, failing, MemDisk::new(alloc))?;
-    let (status, text) = call_over(alloc, "show", TWO_SITES, &[], &mut bay)?;
-    assert_eq!(rt; status, Status::Done);
-    assert_eq!(rt;
-        text.as_slice(),
-        b"site 0 fault\nsite 1 not-ours 0\n".as_slice()
-    );
+    assert_shows(
+        &rt,
+        TWO_SITES,
+        &mut bay,
+        "site 0 fault\nsite 1 not-ours 0\n",
+    )?;
     let (status, text) = call_over(alloc, "show", "sites 3\n", &[], &mut bay)?;
-    assert_eq!(rt; status, Status::BayFault);
+    assert!(rt; status == Status::BayFault);
     assert!(rt; text.is_empty());
     // The disks are back: they are shown again. The fault of the first is over.
-    let (status, text) = call_over(alloc, "show", TWO_SITES, &[], &mut bay)?;
-    assert_eq!(rt; status, Status::Done);
-    assert_eq!(rt;
-        text.as_slice(),
-        b"site 0 epoch 1 records 3\nitem a 101\nsite 1 not-ours 0\n".as_slice()
-    );
-    Ok(())
+    assert_shows(&rt, TWO_SITES, &mut bay, ONE_SHOWN_OF_TWO)
 }

@@ -6,6 +6,7 @@ ghost use Rattle.pv_app.specs.declared.command.Command.TheVariants.{Show};
 ghost use Rattle.pv_base.specs.Fault.{Rose};
 ghost use Rattle.pv_base.specs.declared.limits.TheConstants.{MAX_SITES};
 ghost use Rattle.pv_io.specs.SinkEffects.{HasFailed, Writes, WritesNothing};
+ghost use Rattle.pv_io.specs.Stream.{TakesAtMost};
 ghost use Rattle.pv_model.specs.LineCauses.{LineCause};
 ghost use Rattle.pv_model.specs.LiveScript.{LiveScript};
 ghost use Rattle.pv_model.specs.Schedule.{IsLiveScript, IsMalformedLiveScript};
@@ -48,6 +49,7 @@ pub(crate) fn read_and_show<R: Source, W: Sink, B: Bay>(
     ensures bay_fault { result ≡ Status.BayFault → Rose (B.model.faults bay.old) (B.model.faults bay.new) × WritesNothing W.Sink sink.old sink.new }
     ensures read_fault { result ≡ Status.ReadFault →
         Rose (R.faults source.old) (R.faults source.new) × WritesNothing W.Sink sink.old sink.new }
+    ensures read_within { result ≡ Status.ReadFault → TakesAtMost (R.left source.old) (R.left source.new) MAX_INPUT }
     ensures write_fault { result ≡ Status.WriteFault → HasFailed W.Sink sink.old sink.new }
     ensures too_long { result ≡ Status.TooLong → WritesNothing W.Sink sink.old sink.new }
     ensures command { result ≢ Status.Usage }

@@ -77,6 +77,52 @@ const FIRST_JSON: &str = "\
 {\"end\":true}
 ";
 
+// Texts, with the status and the output of their run.
+const TEXTS: &[(&str, Status, &str)] = &[
+    (FIRST, Status::Done, FIRST_OUTPUT),
+    (OVERFLOW, Status::Done, OVERFLOW_OUTPUT),
+    (REPLIES, Status::Done, REPLIES_OUTPUT),
+    (REPORTS, Status::Done, REPORTS_OUTPUT),
+    ("sites 1\n", Status::Done, ""),
+    ("", Status::Malformed, "line 1: sites expected\n"),
+    (
+        "sites 1\nitem a 0 1\nsubmit 0 a := c\n",
+        Status::Malformed,
+        "line 3: unknown name column 6\n",
+    ),
+    // What stands before a malformed line isn't run.
+    (
+        "sites 1\nstop 0\nfail 0 1 kept\nnothing\n",
+        Status::Malformed,
+        "line 4: unknown word\n",
+    ),
+];
+
+// The same of `json`.
+const JSON_TEXTS: &[(&str, Status, &str)] = &[
+    (FIRST, Status::Done, FIRST_JSON),
+    ("", Status::Malformed, "line 1: sites expected\n"),
+];
+
+// Words that are no command.
+const OTHER_WORDS: &[&[&str]] = &[
+    &[],
+    &["--help"],
+    &["run", "7"],
+    &["make"],
+    &["big", "07"],
+    &["big", "+7"],
+    &["make", "2147483648"],
+    &["show", "7"],
+];
+
+// Which writes fail of a call with these words, and what is written before.
+const WRITE_FAULTS: &[(&[&str], &[u64], &str)] = &[
+    (&["run"], &[0], ""),
+    (&["run"], &[1], "txn 0.1.0\n"),
+    (&["--help"], &[0], ""),
+];
+
 // the status, and what was written, of a call over memory
 fn call(
     alloc: Global,
@@ -96,53 +142,43 @@ fn call(
     Ok((status, sink.bytes().to_vec(alloc)?))
 }
 
+// Asserts what is answered and written by a call that no fault ends.
+fn assert_ends(
+    rt: &(impl Abort + AllocGlobal),
+    words: &[&str],
+    input: &str,
+    status: Status,
+    output: &str,
+) -> Result<(), Fail> {
+    let (answered, written) = call(rt.alloc(), words, input.as_bytes(), &[], &[])?;
+    assert_eq!(rt; answered, status, "at {input}");
+    assert_eq!(rt; written.as_slice(), output.as_bytes(), "at {input}");
+    Ok(())
+}
+
 #[test]
 fn each_text_has_its_answer(rt: HostRuntime) -> Result<(), Fail> {
-    let alloc = rt.alloc();
-    for (input, status, output) in [
-        (FIRST, Status::Done, FIRST_OUTPUT),
-        (OVERFLOW, Status::Done, OVERFLOW_OUTPUT),
-        (REPLIES, Status::Done, REPLIES_OUTPUT),
-        (REPORTS, Status::Done, REPORTS_OUTPUT),
-        ("sites 1\n", Status::Done, ""),
-        ("", Status::Malformed, "line 1: sites expected\n"),
-        (
-            "sites 1\nitem a 0 1\nsubmit 0 a := c\n",
-            Status::Malformed,
-            "line 3: unknown name column 6\n",
-        ),
-        // What stands before a malformed line isn't run.
-        (
-            "sites 1\nstop 0\nfail 0 1 kept\nnothing\n",
-            Status::Malformed,
-            "line 4: unknown word\n",
-        ),
-    ] {
-        let (answered, written) = call(alloc, &["run"], input.as_bytes(), &[], &[])?;
-        assert_eq!(rt; answered, status, "at {input}");
-        assert_eq!(rt; written.as_slice(), output.as_bytes(), "at {input}");
+    for (input, status, output) in TEXTS {
+        assert_ends(&rt, &["run"], input, *status, output)?;
     }
     Ok(())
 }
 
 #[test]
 fn each_run_of_many_sites_prints_its_lines(rt: HostRuntime) -> Result<(), Fail> {
-    let alloc = rt.alloc();
     for (schedule, output) in RUNS {
-        let (status, written) = call(alloc, &["run"], schedule.as_bytes(), &[], &[])?;
-        assert_eq!(rt; status, Status::Done, "at {schedule}");
-        assert_eq!(rt; written.as_slice(), output.as_bytes(), "at {schedule}");
+        assert_ends(&rt, &["run"], schedule, Status::Done, output)?;
     }
     Ok(())
 }
 
 #[test]
 fn each_run_with_a_stop_or_a_fault_in_a_call_prints_its_lines(rt: HostRuntime) -> Result<(), Fail> {
-    assert_prints(&rt, &COMMIT, &COMMIT_STOPS)?;
-    assert_prints(&rt, &PROMISE, &PROMISE_FAULTS)?;
-    assert_prints(&rt, &START, &START_STOPS)?;
-    assert_prints(&rt, &REFUSED_START, &REFUSED_START_STOPS)?;
-    assert_prints(&rt, &ARMED_TWICE, &SECOND_ARMS)
+    assert_prints(&rt, &COMMIT, COMMIT_STOPS)?;
+    assert_prints(&rt, &PROMISE, PROMISE_FAULTS)?;
+    assert_prints(&rt, &START, START_STOPS)?;
+    assert_prints(&rt, &REFUSED_START, REFUSED_START_STOPS)?;
+    assert_prints(&rt, &ARMED_TWICE, SECOND_ARMS)
 }
 
 // Asserts what each schedule of a group prints, by the line that is its own.
@@ -151,26 +187,17 @@ fn assert_prints(
     group: &Group,
     cases: &[(&str, &str)],
 ) -> Result<(), Fail> {
-    let alloc = rt.alloc();
     for (line, output) in cases {
-        let schedule = format!(in alloc; "{}{line}{}", group.before, group.after)?;
-        let (status, written) = call(alloc, &["run"], schedule.as_bytes(), &[], &[])?;
-        assert_eq!(rt; status, Status::Done, "at {schedule}");
-        assert_eq!(rt; written.as_slice(), output.as_bytes(), "at {schedule}");
+        let schedule = format!(in rt.alloc(); "{}{line}{}", group.before, group.after)?;
+        assert_ends(rt, &["run"], schedule.as_str(), Status::Done, output)?;
     }
     Ok(())
 }
 
 #[test]
 fn json_writes_each_line_as_an_object(rt: HostRuntime) -> Result<(), Fail> {
-    let alloc = rt.alloc();
-    for (input, status, output) in [
-        (FIRST, Status::Done, FIRST_JSON),
-        ("", Status::Malformed, "line 1: sites expected\n"),
-    ] {
-        let (answered, written) = call(alloc, &["json"], input.as_bytes(), &[], &[])?;
-        assert_eq!(rt; answered, status, "at {input}");
-        assert_eq!(rt; written.as_slice(), output.as_bytes(), "at {input}");
+    for (input, status, output) in JSON_TEXTS {
+        assert_ends(&rt, &["json"], input, *status, output)?;
     }
     Ok(())
 }
@@ -180,28 +207,21 @@ fn json_writes_each_line_as_an_object(rt: HostRuntime) -> Result<(), Fail> {
 fn a_made_schedule_is_written_and_summarized(rt: HostRuntime) -> Result<(), Fail> {
     let alloc = rt.alloc();
     let (status, made) = call(alloc, &["make", "7"], b"", &[0], &[])?;
-    assert_eq!(rt; status, Status::Done);
+    assert!(rt; status == Status::Done);
     assert!(rt; made.starts_with(b"sites 16\nitem i0 0 1000\n"));
+    let (status, _) = call(alloc, &["make", "2147483647"], b"", &[0], &[])?;
+    assert!(rt; status == Status::Done);
     let (status, summary) = call(alloc, &["big", "7"], b"", &[0], &[])?;
-    assert_eq!(rt; status, Status::Done);
+    assert!(rt; status == Status::Done);
     assert!(rt; summary.starts_with(b"events "));
     Ok(())
 }
 
+// The input isn't read, so its fault isn't met.
 #[test]
 fn other_words_are_answered_by_the_usage_line(rt: HostRuntime) -> Result<(), Fail> {
-    let alloc = rt.alloc();
-    for words in [
-        [].as_slice(),
-        &["--help"],
-        &["run", "7"],
-        &["make"],
-        &["big", "07"],
-        &["big", "+7"],
-        &["make", "2147483648"],
-        &["show", "7"],
-    ] {
-        let (status, written) = call(alloc, words, FIRST.as_bytes(), &[0], &[])?;
+    for words in OTHER_WORDS {
+        let (status, written) = call(rt.alloc(), words, FIRST.as_bytes(), &[0], &[])?;
         assert_eq!(rt; status, Status::Usage);
         assert_eq!(rt; written.as_slice(), USAGE.as_bytes());
     }
@@ -211,23 +231,18 @@ fn other_words_are_answered_by_the_usage_line(rt: HostRuntime) -> Result<(), Fai
 #[test]
 fn a_fault_of_the_input_leaves_the_output_empty(rt: HostRuntime) -> Result<(), Fail> {
     let (status, written) = call(rt.alloc(), &["run"], FIRST.as_bytes(), &[0], &[])?;
-    assert_eq!(rt; status, Status::ReadFault);
+    assert!(rt; status == Status::ReadFault);
     assert!(rt; written.is_empty());
     Ok(())
 }
 
 #[test]
 fn a_fault_of_the_output_leaves_a_beginning(rt: HostRuntime) -> Result<(), Fail> {
-    let alloc = rt.alloc();
-    let (status, written) = call(alloc, &["run"], FIRST.as_bytes(), &[], &[0])?;
-    assert_eq!(rt; status, Status::WriteFault);
-    assert!(rt; written.is_empty());
-    let (status, written) = call(alloc, &["run"], FIRST.as_bytes(), &[], &[1])?;
-    assert_eq!(rt; status, Status::WriteFault);
-    assert_eq!(rt; written.as_slice(), b"txn 0.1.0\n".as_slice());
-    let (status, written) = call(alloc, &["--help"], FIRST.as_bytes(), &[], &[0])?;
-    assert_eq!(rt; status, Status::WriteFault);
-    assert!(rt; written.is_empty());
+    for (words, fails, output) in WRITE_FAULTS {
+        let (status, written) = call(rt.alloc(), words, FIRST.as_bytes(), &[], fails)?;
+        assert_eq!(rt; status, Status::WriteFault);
+        assert_eq!(rt; written.as_slice(), output.as_bytes());
+    }
     Ok(())
 }
 
@@ -236,10 +251,10 @@ fn an_input_may_be_too_long(rt: HostRuntime) -> Result<(), Fail> {
     let alloc = rt.alloc();
     let input = vec![in alloc; b'#'; 16_777_217]?;
     let (status, written) = call(alloc, &["run"], &input, &[], &[])?;
-    assert_eq!(rt; status, Status::TooLong);
+    assert!(rt; status == Status::TooLong);
     assert!(rt; written.is_empty());
     let (status, written) = call(alloc, &["run"], &input[1..], &[], &[])?;
-    assert_eq!(rt; status, Status::Malformed);
-    assert_eq!(rt; written.as_slice(), b"line 2: sites expected\n".as_slice());
+    assert!(rt; status == Status::Malformed);
+    assert!(rt; written.as_slice() == b"line 2: sites expected\n".as_slice());
     Ok(())
 }

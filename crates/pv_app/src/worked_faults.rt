@@ -70,7 +70,7 @@ end
 
 /// Each way to stop there, with what is printed. The record is written by the first call and synced by the second; its gate is
 /// opened by the third and synced by the fourth.
-pub(crate) const COMMIT_STOPS: [(&str, &str); 12] = [
+pub(crate) const COMMIT_STOPS: &[(&str, &str)] = &[
     ("cut 0 1 lost\n", NOT_COMMITTED),
     ("cut 0 1 kept\n", NOT_COMMITTED),
     ("cut 0 1 torn\n", NOT_COMMITTED),
@@ -128,7 +128,7 @@ end
 ";
 
 /// What may be left of the open gate, with what is printed.
-pub(crate) const PROMISE_FAULTS: [(&str, &str); 2] = [
+pub(crate) const PROMISE_FAULTS: &[(&str, &str)] = &[
     ("fail 1 3 kept\n", PROMISED),
     ("fail 1 3 lost\n", NOT_PROMISED),
 ];
@@ -198,7 +198,7 @@ end
 ";
 
 /// Each way to stop there, one way to fail, and one call too many, with what is printed.
-pub(crate) const START_STOPS: [(&str, &str); 17] = [
+pub(crate) const START_STOPS: &[(&str, &str)] = &[
     ("cut 0 1 lost\n", SECOND_EPOCH),
     ("cut 0 1 kept\n", SECOND_EPOCH),
     ("cut 0 1 torn\n", SECOND_EPOCH),
@@ -252,7 +252,7 @@ stopped 0
 ";
 
 /// Which of the two syncs stops the site, with what is printed.
-pub(crate) const REFUSED_START_STOPS: [(&str, &str); 2] = [
+pub(crate) const REFUSED_START_STOPS: &[(&str, &str)] = &[
     ("cut 0 1 lost\n", STOPPED_AND_REFUSED),
     ("cut 0 2 lost\n", REFUSED_AND_STOPPED),
 ];
@@ -310,7 +310,7 @@ end
 ";
 
 /// What the disk is armed with the second time, with what is printed: it takes the place of what was armed before.
-pub(crate) const SECOND_ARMS: [(&str, &str); 2] = [
+pub(crate) const SECOND_ARMS: &[(&str, &str)] = &[
     ("mend 0\n", MENDED),
     ("fail 0 5 kept\n", FIFTH_CALL),
 ];

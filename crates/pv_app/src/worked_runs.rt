@@ -444,7 +444,7 @@ end
 ";
 
 /// Each schedule with what it prints.
-pub(crate) const RUNS: [(&str, &str); 13] = [
+pub(crate) const RUNS: &[(&str, &str)] = &[
     (TRANSFER, TRANSFER_OUTPUT),
     (DOUBT, DOUBT_OUTPUT),
     (DOUBT_READ, DOUBT_READ_OUTPUT),

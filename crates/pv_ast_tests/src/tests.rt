@@ -1,7 +1,7 @@
-// Worked programs and their effects: values from outside, beside what the clauses say of all of them.
-use pv_ast::*;
-use pv_base::{ItemId, NoMemory};
-use std::alloc::Global;
+// Worked programs and their effects, each from its text: values from outside, beside what the clauses say of all of them.
+use pv_ast::{Decline, Effect, Program, Reply, Row, exec};
+use pv_base::{Catalog, ItemId, MIN_JOURNAL, NoMemory, SiteId};
+use pv_parse::parse;
 use std::process::Abort;
 use std::test::Fail;
 
@@ -9,360 +9,272 @@ const A: ItemId = ItemId(0);
 
 const B: ItemId = ItemId(1);
 
-fn minus(alloc: Global, inner: Expr) -> Result<Expr, NoMemory> {
-    Ok(Expr::Minus(Operand::new(alloc, inner)?))
+const REQUIRE: Reply = Reply::Declined(Decline::Require);
+
+const OVERFLOW: Reply = Reply::Declined(Decline::Overflow);
+
+const ZERO_DIVISOR: Reply = Reply::Declined(Decline::ZeroDivisor);
+
+const WITHDRAWAL: &str = "a := a - 10 ; require a >= 0 ; return a";
+
+const BRANCHES: &str = "if a { b := 1 / 0 } else { b := 2 } ; if a = 0 { a := 3 } ; require a > b";
+
+const RETURN_IN_A_BRANCH: &str = "if a { a := 8 ; return b } ; b := 1";
+
+// Programs, each with the values of a and b before it and after it, and with its reply.
+type Worked = (&'static str, (i64, i64), (i64, i64), Reply);
+
+const WITHDRAWALS: &[Worked] = &[
+    (WITHDRAWAL, (100, 1), (90, 1), Reply::Value(90)),
+    (WITHDRAWAL, (10, 1), (0, 1), Reply::Value(0)),
+    (WITHDRAWAL, (5, 1), (5, 1), REQUIRE),
+];
+
+const RETURNS: &[Worked] = &[
+    ("return 7 ; a := 1", (3, 4), (3, 4), Reply::Value(7)),
+    ("a := 1 ; return 7", (3, 4), (1, 4), Reply::Value(7)),
+    ("b := a", (3, 4), (3, 3), Reply::Nothing),
+];
+
+const QUOTIENTS: &[Worked] = &[
+    ("return -7 / 2 ; a := 1", (3, 4), (3, 4), Reply::Value(-3)),
+    ("return -7 % 2 ; a := 1", (3, 4), (3, 4), Reply::Value(-1)),
+];
+
+const TAKEN_BRANCHES: &[Worked] = &[
+    (BRANCHES, (0, 9), (3, 2), Reply::Nothing),
+    (BRANCHES, (1, 9), (1, 9), ZERO_DIVISOR),
+];
+
+const RETURNS_IN_A_BRANCH: &[Worked] = &[
+    (RETURN_IN_A_BRANCH, (-1, 9), (8, 9), Reply::Value(9)),
+    (RETURN_IN_A_BRANCH, (0, 9), (0, 1), Reply::Nothing),
+];
+
+// Expressions with the values of a and b, and their own value.
+const VALUES: &[(&str, i64, i64, i64)] = &[
+    ("a + b", i64::MAX, 0, i64::MAX),
+    ("a + b", i64::MIN, i64::MAX, -1),
+    ("a - b", -1, i64::MAX, i64::MIN),
+    ("a - b", i64::MIN, i64::MIN, 0),
+    ("a * b", i64::MAX, -1, -i64::MAX),
+    ("a * b", i64::MIN, 1, i64::MIN),
+    ("a * b", i64::MIN, 0, 0),
+    ("a / b", i64::MAX, -1, -i64::MAX),
+    ("a / b", i64::MIN, 1, i64::MIN),
+    ("a / b", i64::MIN, i64::MAX, -1),
+    ("a / b", i64::MAX, i64::MIN, 0),
+    ("a / b", 7, 2, 3),
+    ("a / b", 7, -2, -3),
+    ("a / b", -7, -2, 3),
+    ("a % b", 7, -2, 1),
+    ("a % b", -7, -2, -1),
+    ("a % b", -6, 2, 0),
+    ("a % b", i64::MAX, -1, 0),
+    ("a % b", i64::MAX, i64::MIN, i64::MAX),
+    ("a % b", i64::MIN, i64::MAX, -1),
+    ("a % b", i64::MIN, i64::MIN, 0),
+    ("min(a, b)", i64::MIN, i64::MAX, i64::MIN),
+    ("min(a, b)", i64::MAX, i64::MIN, i64::MIN),
+    ("max(a, b)", i64::MIN, i64::MAX, i64::MAX),
+    ("max(a, b)", i64::MAX, i64::MIN, i64::MAX),
+    ("min(a, b)", 3, 3, 3),
+    ("a = b", i64::MIN, i64::MIN, 1),
+    ("a = b", i64::MIN, i64::MAX, 0),
+    ("a <> b", i64::MIN, i64::MIN, 0),
+    ("a <> b", i64::MIN, i64::MAX, 1),
+    ("a < b", i64::MIN, i64::MAX, 1),
+    ("a < b", i64::MAX, i64::MIN, 0),
+    ("a < b", i64::MAX, i64::MAX, 0),
+    ("a <= b", i64::MIN, i64::MAX, 1),
+    ("a <= b", i64::MAX, i64::MIN, 0),
+    ("a <= b", i64::MIN, i64::MIN, 1),
+    ("a > b", i64::MIN, i64::MAX, 0),
+    ("a > b", i64::MAX, i64::MIN, 1),
+    ("a > b", i64::MAX, i64::MAX, 0),
+    ("a >= b", i64::MIN, i64::MAX, 0),
+    ("a >= b", i64::MAX, i64::MIN, 1),
+    ("a >= b", i64::MIN, i64::MIN, 1),
+    ("a and b", i64::MIN, i64::MAX, 1),
+    ("a and b", i64::MAX, 0, 0),
+    ("a and b", 0, i64::MAX, 0),
+    ("a or b", i64::MIN, 0, 1),
+    ("a or b", 0, i64::MAX, 1),
+    ("a or b", 0, i64::MIN, 1),
+    ("a or b", 0, 0, 0),
+];
+
+// Expressions with the values of a and b for which they decline.
+const DECLINES: &[(&str, i64, i64, Decline)] = &[
+    ("a + b", i64::MAX, 1, Decline::Overflow),
+    ("a + b", i64::MIN, -1, Decline::Overflow),
+    ("a - b", i64::MIN, 1, Decline::Overflow),
+    ("a - b", i64::MAX, -1, Decline::Overflow),
+    ("a - b", 0, i64::MIN, Decline::Overflow),
+    ("a * b", i64::MAX, 2, Decline::Overflow),
+    ("a * b", i64::MIN, -1, Decline::Overflow),
+    ("a * b", -1, i64::MIN, Decline::Overflow),
+    ("a / b", i64::MIN, -1, Decline::Overflow),
+    ("a % b", i64::MIN, -1, Decline::Overflow),
+    ("a / b", i64::MIN, 0, Decline::ZeroDivisor),
+    ("a % b", i64::MAX, 0, Decline::ZeroDivisor),
+    ("a / b", 0, 0, Decline::ZeroDivisor),
+    ("a % b", 0, 0, Decline::ZeroDivisor),
+];
+
+// A value of a, with the replies of `return -a` and `return not a`.
+const MINUS_AND_NOT: &[(i64, Reply, i64)] = &[
+    (i64::MIN, OVERFLOW, 0),
+    (i64::MAX, Reply::Value(-i64::MAX), 0),
+    (0, Reply::Value(0), 1),
+    (-1, Reply::Value(1), 0),
+];
+
+// Expressions with a divisor of 0 on one side, the value of a, and the reply.
+const BESIDE_A_FAULT: &[(&str, i64, Reply)] = &[
+    ("a or 1 / 0", 1, Reply::Value(1)),
+    ("a or 1 / 0", -1, Reply::Value(1)),
+    ("a or 1 / 0", 0, ZERO_DIVISOR),
+    ("a and 1 / 0", 0, Reply::Value(0)),
+    ("a and 1 / 0", 1, ZERO_DIVISOR),
+    ("a and 1 / 0", i64::MIN, ZERO_DIVISOR),
+    ("min(a, 1 / 0)", 0, ZERO_DIVISOR),
+    ("a < 1 / 0", 0, ZERO_DIVISOR),
+    // The left side is always looked at, and first.
+    ("1 / 0 or 1", 0, ZERO_DIVISOR),
+    ("1 / 0 and 1", 0, ZERO_DIVISOR),
+    ("1 / 0 + 1", 0, ZERO_DIVISOR),
+    ("9223372036854775807 + 1 + 1 / 0", 0, OVERFLOW),
+];
+
+// the program of a text over a and b
+fn program(rt: &(impl Abort + AllocGlobal), text: &str) -> Program {
+    let mut catalog = Catalog::new(rt.alloc(), 1, MIN_JOURNAL);
+    let a = catalog.add(b"a", SiteId(0), 0);
+    let b = catalog.add(b"b", SiteId(0), 0);
+    assert!(rt; a == Ok(A) && b == Ok(B));
+    match parse(rt.alloc(), text.as_bytes(), &catalog) {
+        Ok(program) => program,
+        Err(error) => panic!(rt; "{error}"),
+    }
 }
 
-fn not(alloc: Global, inner: Expr) -> Result<Expr, NoMemory> {
-    Ok(Expr::Not(Operand::new(alloc, inner)?))
+fn rows(a: i64, b: i64) -> [Row; 2] {
+    [Row { item: A, value: a }, Row { item: B, value: b }]
 }
 
-fn two(alloc: Global, op: Op, left: Expr, right: Expr) -> Result<Expr, NoMemory> {
-    let left = Operand::new(alloc, left)?;
-    let right = Operand::new(alloc, right)?;
-    Ok(Expr::Two { op, left, right })
-}
-
-fn set(item: ItemId, value: Expr) -> Stmt {
-    Stmt::Assign { item, value }
-}
-
-// a program of one statement
-fn only(alloc: Global, stmt: Stmt) -> Result<Program, NoMemory> {
-    let mut stmts = Vec::new(alloc);
-    stmts.push(stmt)?;
-    Ok(Program { stmts })
-}
-
-fn first_and_then(alloc: Global, first: Stmt, second: Stmt) -> Result<Program, NoMemory> {
-    let mut program = only(alloc, first)?;
-    program.stmts.push(second)?;
-    Ok(program)
-}
-
-// `1 / 0`
-fn fault(alloc: Global) -> Result<Expr, NoMemory> {
-    two(alloc, Op::Over, Expr::Number(1), Expr::Number(0))
-}
-
-// what a program does where a and b have these values
-fn effect(
-    rt: &impl Abort,
-    alloc: Global,
-    program: &Program,
-    a: i64,
-    b: i64,
-) -> Result<Effect, NoMemory> {
-    let rows = [Row { item: A, value: a }, Row { item: B, value: b }];
+// what the program of a text does where a and b have these values
+fn effect(rt: &(impl Abort + AllocGlobal), text: &str, a: i64, b: i64) -> Result<Effect, NoMemory> {
+    let program = program(rt, text);
+    let rows = rows(a, b);
     assert!(rt; program.has_items(&rows));
-    exec(alloc, program, &rows)
+    exec(rt.alloc(), &program, &rows)
 }
 
-// the reply of `return EXPR` where a is 5 and b is 0
-fn reply(rt: &impl Abort, alloc: Global, value: Expr) -> Result<Reply, NoMemory> {
-    let program = only(alloc, Stmt::Return(value))?;
-    Ok(effect(rt, alloc, &program, 5, 0)?.reply)
-}
-
-// that this is what the program does where a and b have these values
-fn assert_does(
-    rt: &impl Abort,
-    alloc: Global,
-    program: &Program,
-    before: (i64, i64),
-    after: (i64, i64),
-    reply: Reply,
-) -> Result<(), NoMemory> {
-    let effect = effect(rt, alloc, program, before.0, before.1)?;
-    let rows = [
-        Row {
-            item: A,
-            value: after.0,
-        },
-        Row {
-            item: B,
-            value: after.1,
-        },
-    ];
-    assert_eq!(rt; effect.rows.as_slice(), rows.as_slice());
-    assert_eq!(rt; effect.reply, reply);
-    Ok(())
-}
-
-// `a := a - 10 ; require a >= 0 ; return a`
-fn withdrawal(alloc: Global) -> Result<Program, NoMemory> {
-    let rest = two(alloc, Op::Sub, Expr::Item(A), Expr::Number(10))?;
-    let enough = two(alloc, Op::AtLeast, Expr::Item(A), Expr::Number(0))?;
-    let mut program = first_and_then(alloc, set(A, rest), Stmt::Require(enough))?;
-    program.stmts.push(Stmt::Return(Expr::Item(A)))?;
-    Ok(program)
-}
-
-#[test]
-fn a_withdrawal_is_done_where_there_is_enough(rt: HostRuntime) -> Result<(), Fail> {
-    let alloc = rt.alloc();
-    let program = withdrawal(alloc)?;
-    assert_does(&rt, alloc, &program, (100, 1), (90, 1), Reply::Value(90))?;
-    assert_does(&rt, alloc, &program, (10, 1), (0, 1), Reply::Value(0))?;
-    assert_does(
-        &rt,
-        alloc,
-        &program,
-        (5, 1),
-        (5, 1),
-        Reply::Declined(Decline::Require),
-    )?;
-    Ok(())
-}
-
-#[test]
-fn nothing_runs_after_a_return(rt: HostRuntime) -> Result<(), Fail> {
-    let alloc = rt.alloc();
-    let program = first_and_then(
-        alloc,
-        Stmt::Return(Expr::Number(7)),
-        set(A, Expr::Number(1)),
-    )?;
-    assert_does(&rt, alloc, &program, (3, 4), (3, 4), Reply::Value(7))?;
-    let program = first_and_then(
-        alloc,
-        set(A, Expr::Number(1)),
-        Stmt::Return(Expr::Number(7)),
-    )?;
-    assert_does(&rt, alloc, &program, (3, 4), (1, 4), Reply::Value(7))?;
-    let program = only(alloc, set(B, Expr::Item(A)))?;
-    assert_does(&rt, alloc, &program, (3, 4), (3, 3), Reply::Nothing)?;
-    Ok(())
-}
-
-#[test]
-fn quotients_are_cut_towards_zero(rt: HostRuntime) -> Result<(), Fail> {
-    let alloc = rt.alloc();
-    for (op, wanted) in [(Op::Over, -3), (Op::Rest, -1)] {
-        let seven = minus(alloc, Expr::Number(7))?;
-        let value = two(alloc, op, seven, Expr::Number(2))?;
-        let program = first_and_then(alloc, Stmt::Return(value), set(A, Expr::Number(1)))?;
-        assert_does(&rt, alloc, &program, (3, 4), (3, 4), Reply::Value(wanted))?;
+// Asserts what each program does.
+fn assert_does(rt: &(impl Abort + AllocGlobal), table: &[Worked]) -> Result<(), NoMemory> {
+    for (text, before, after, reply) in table {
+        let effect = effect(rt, text, before.0, before.1)?;
+        assert_eq!(rt;
+            effect.rows.as_slice(),
+            rows(after.0, after.1).as_slice(),
+            "at {text}"
+        );
+        assert_eq!(rt; effect.reply, *reply, "at {text}");
     }
     Ok(())
 }
 
+// Asserts what is replied to the return of an expression where a and b have these values.
+fn assert_replies(
+    rt: &(impl Abort + AllocGlobal),
+    expression: &str,
+    a: i64,
+    b: i64,
+    reply: Reply,
+) -> Result<(), Fail> {
+    let text = format!(in rt.alloc(); "return {expression}")?;
+    let effect = effect(rt, text.as_str(), a, b)?;
+    assert_eq!(rt; effect.reply, reply, "at {text} with {a} and {b}");
+    Ok(())
+}
+
+#[test]
+fn a_withdrawal_is_done_where_there_is_enough(rt: HostRuntime) -> Result<(), NoMemory> {
+    assert_does(&rt, WITHDRAWALS)
+}
+
+#[test]
+fn nothing_runs_after_a_return(rt: HostRuntime) -> Result<(), NoMemory> {
+    assert_does(&rt, RETURNS)
+}
+
+#[test]
+fn quotients_are_cut_towards_zero(rt: HostRuntime) -> Result<(), NoMemory> {
+    assert_does(&rt, QUOTIENTS)
+}
+
+#[test]
+fn only_the_branch_that_is_taken_runs(rt: HostRuntime) -> Result<(), NoMemory> {
+    assert_does(&rt, TAKEN_BRANCHES)
+}
+
+#[test]
+fn a_return_in_a_branch_ends_the_program(rt: HostRuntime) -> Result<(), NoMemory> {
+    assert_does(&rt, RETURNS_IN_A_BRANCH)
+}
+
 #[test]
 fn each_operator_gives_its_value(rt: HostRuntime) -> Result<(), Fail> {
-    let alloc = rt.alloc();
-    let least = i64::MIN;
-    let most = i64::MAX;
-    for (op, x, y, wanted) in [
-        (Op::Plus, most, 0, most),
-        (Op::Plus, least, most, -1),
-        (Op::Sub, -1, most, least),
-        (Op::Sub, least, least, 0),
-        (Op::Times, most, -1, -most),
-        (Op::Times, least, 1, least),
-        (Op::Times, least, 0, 0),
-        (Op::Over, most, -1, -most),
-        (Op::Over, least, 1, least),
-        (Op::Over, least, most, -1),
-        (Op::Over, most, least, 0),
-        (Op::Over, 7, 2, 3),
-        (Op::Over, 7, -2, -3),
-        (Op::Over, -7, -2, 3),
-        (Op::Rest, 7, -2, 1),
-        (Op::Rest, -7, -2, -1),
-        (Op::Rest, -6, 2, 0),
-        (Op::Rest, most, -1, 0),
-        (Op::Rest, most, least, most),
-        (Op::Rest, least, most, -1),
-        (Op::Rest, least, least, 0),
-        (Op::Min, least, most, least),
-        (Op::Min, most, least, least),
-        (Op::Max, least, most, most),
-        (Op::Max, most, least, most),
-        (Op::Min, 3, 3, 3),
-        (Op::Equal, least, least, 1),
-        (Op::Equal, least, most, 0),
-        (Op::Unequal, least, least, 0),
-        (Op::Unequal, least, most, 1),
-        (Op::Less, least, most, 1),
-        (Op::Less, most, least, 0),
-        (Op::Less, most, most, 0),
-        (Op::AtMost, least, most, 1),
-        (Op::AtMost, most, least, 0),
-        (Op::AtMost, least, least, 1),
-        (Op::Greater, least, most, 0),
-        (Op::Greater, most, least, 1),
-        (Op::Greater, most, most, 0),
-        (Op::AtLeast, least, most, 0),
-        (Op::AtLeast, most, least, 1),
-        (Op::AtLeast, least, least, 1),
-        (Op::And, least, most, 1),
-        (Op::And, most, 0, 0),
-        (Op::And, 0, most, 0),
-        (Op::Or, least, 0, 1),
-        (Op::Or, 0, most, 1),
-        (Op::Or, 0, least, 1),
-        (Op::Or, 0, 0, 0),
-    ] {
-        let value = two(alloc, op, Expr::Number(x), Expr::Number(y))?;
-        assert_eq!(rt;
-            reply(&rt, alloc, value)?,
-            Reply::Value(wanted),
-            "at {op:?} of {x} and {y}"
-        );
+    for (expression, a, b, value) in VALUES {
+        assert_replies(&rt, expression, *a, *b, Reply::Value(*value))?;
     }
     Ok(())
 }
 
 #[test]
 fn a_result_outside_64_bits_and_a_divisor_of_0_decline(rt: HostRuntime) -> Result<(), Fail> {
-    let alloc = rt.alloc();
-    let least = i64::MIN;
-    let most = i64::MAX;
-    for (op, x, y, wanted) in [
-        (Op::Plus, most, 1, Decline::Overflow),
-        (Op::Plus, least, -1, Decline::Overflow),
-        (Op::Sub, least, 1, Decline::Overflow),
-        (Op::Sub, most, -1, Decline::Overflow),
-        (Op::Sub, 0, least, Decline::Overflow),
-        (Op::Times, most, 2, Decline::Overflow),
-        (Op::Times, least, -1, Decline::Overflow),
-        (Op::Times, -1, least, Decline::Overflow),
-        (Op::Over, least, -1, Decline::Overflow),
-        (Op::Rest, least, -1, Decline::Overflow),
-        (Op::Over, least, 0, Decline::ZeroDivisor),
-        (Op::Rest, most, 0, Decline::ZeroDivisor),
-        (Op::Over, 0, 0, Decline::ZeroDivisor),
-        (Op::Rest, 0, 0, Decline::ZeroDivisor),
-    ] {
-        let value = two(alloc, op, Expr::Number(x), Expr::Number(y))?;
-        assert_eq!(rt;
-            reply(&rt, alloc, value)?,
-            Reply::Declined(wanted),
-            "at {op:?} of {x} and {y}"
-        );
+    for (expression, a, b, decline) in DECLINES {
+        assert_replies(&rt, expression, *a, *b, Reply::Declined(*decline))?;
     }
     Ok(())
 }
 
 #[test]
 fn minus_and_not_at_the_ends(rt: HostRuntime) -> Result<(), Fail> {
-    let alloc = rt.alloc();
-    let overflow = Reply::Declined(Decline::Overflow);
-    for (number, negative, negation) in [
-        (i64::MIN, overflow, 0),
-        (i64::MAX, Reply::Value(-i64::MAX), 0),
-        (0, Reply::Value(0), 1),
-        (-1, Reply::Value(1), 0),
-    ] {
-        let value = minus(alloc, Expr::Number(number))?;
-        assert_eq!(rt; reply(&rt, alloc, value)?, negative);
-        let value = not(alloc, Expr::Number(number))?;
-        assert_eq!(rt; reply(&rt, alloc, value)?, Reply::Value(negation));
+    for (number, negative, negation) in MINUS_AND_NOT {
+        assert_replies(&rt, "-a", *number, 0, *negative)?;
+        assert_replies(&rt, "not a", *number, 0, Reply::Value(*negation))?;
     }
     Ok(())
 }
 
 #[test]
 fn and_and_or_look_right_only_where_they_must(rt: HostRuntime) -> Result<(), Fail> {
-    let alloc = rt.alloc();
-    let zero_divisor = Reply::Declined(Decline::ZeroDivisor);
-    for (op, left, wanted) in [
-        (Op::Or, 1, Reply::Value(1)),
-        (Op::Or, -1, Reply::Value(1)),
-        (Op::Or, 0, zero_divisor),
-        (Op::And, 0, Reply::Value(0)),
-        (Op::And, 1, zero_divisor),
-        (Op::And, i64::MIN, zero_divisor),
-        (Op::Min, 0, zero_divisor),
-        (Op::Less, 0, zero_divisor),
-    ] {
-        let value = two(alloc, op, Expr::Number(left), fault(alloc)?)?;
-        assert_eq!(rt; reply(&rt, alloc, value)?, wanted, "at {op:?} after {left}");
+    for (expression, a, reply) in BESIDE_A_FAULT {
+        assert_replies(&rt, expression, *a, 0, *reply)?;
     }
-    // The left side is always looked at, and first.
-    for op in [Op::Or, Op::And, Op::Plus] {
-        let value = two(alloc, op, fault(alloc)?, Expr::Number(1))?;
-        assert_eq!(rt; reply(&rt, alloc, value)?, zero_divisor);
-    }
-    let left = two(alloc, Op::Plus, Expr::Number(i64::MAX), Expr::Number(1))?;
-    let value = two(alloc, Op::Plus, left, fault(alloc)?)?;
-    assert_eq!(rt;
-        reply(&rt, alloc, value)?,
-        Reply::Declined(Decline::Overflow)
-    );
-    Ok(())
-}
-
-// `if a { b := 1 / 0 } else { b := 2 } ; if a = 0 { a := 3 } ; require a > b`
-fn branches(alloc: Global) -> Result<Program, NoMemory> {
-    let first = Stmt::If {
-        test: Expr::Item(A),
-        body: only(alloc, set(B, fault(alloc)?))?,
-        other: Some(only(alloc, set(B, Expr::Number(2)))?),
-    };
-    let second = Stmt::If {
-        test: two(alloc, Op::Equal, Expr::Item(A), Expr::Number(0))?,
-        body: only(alloc, set(A, Expr::Number(3)))?,
-        other: None,
-    };
-    let mut program = first_and_then(alloc, first, second)?;
-    let more = two(alloc, Op::Greater, Expr::Item(A), Expr::Item(B))?;
-    program.stmts.push(Stmt::Require(more))?;
-    Ok(program)
-}
-
-#[test]
-fn only_the_branch_that_is_taken_runs(rt: HostRuntime) -> Result<(), Fail> {
-    let alloc = rt.alloc();
-    let program = branches(alloc)?;
-    assert_does(&rt, alloc, &program, (0, 9), (3, 2), Reply::Nothing)?;
-    assert_does(
-        &rt,
-        alloc,
-        &program,
-        (1, 9),
-        (1, 9),
-        Reply::Declined(Decline::ZeroDivisor),
-    )?;
-    Ok(())
-}
-
-#[test]
-fn a_return_in_a_branch_ends_the_program(rt: HostRuntime) -> Result<(), Fail> {
-    let alloc = rt.alloc();
-    let body = first_and_then(alloc, set(A, Expr::Number(8)), Stmt::Return(Expr::Item(B)))?;
-    let choice = Stmt::If {
-        test: Expr::Item(A),
-        body,
-        other: None,
-    };
-    let program = first_and_then(alloc, choice, set(B, Expr::Number(1)))?;
-    assert_does(&rt, alloc, &program, (-1, 9), (8, 9), Reply::Value(9))?;
-    assert_does(&rt, alloc, &program, (0, 9), (0, 1), Reply::Nothing)?;
     Ok(())
 }
 
 #[test]
 fn a_copy_is_equal(rt: HostRuntime) -> Result<(), Fail> {
-    let alloc = rt.alloc();
-    for program in [withdrawal(alloc)?, branches(alloc)?] {
-        let copy = program.copy(alloc)?;
-        let text = format!(in alloc; "{program:?}")?;
-        let again = format!(in alloc; "{copy:?}")?;
-        assert_eq!(rt; text.as_str(), again.as_str());
+    for text in [WITHDRAWAL, BRANCHES] {
+        let program = program(&rt, text);
+        let copy = program.copy(rt.alloc())?;
+        let first = format!(in rt.alloc(); "{program:?}")?;
+        let second = format!(in rt.alloc(); "{copy:?}")?;
+        assert_eq!(rt; first.as_str(), second.as_str());
     }
     Ok(())
 }
 
 #[test]
-fn rows_have_each_item_once(rt: HostRuntime) -> Result<(), Fail> {
-    let alloc = rt.alloc();
-    let a = Row { item: A, value: 1 };
-    let b = Row { item: B, value: 2 };
-    let program = branches(alloc)?;
-    assert!(rt; program.has_items(&[b, a]));
-    assert!(rt; !program.has_items(&[a]));
-    assert!(rt; !program.has_items(&[a, b, a]));
-    assert!(rt; only(alloc, Stmt::Return(Expr::Number(1)))?.has_items(&[]));
-    Ok(())
+fn rows_have_each_item_once(rt: HostRuntime) {
+    let [a, b] = rows(1, 2);
+    let branches = program(&rt, BRANCHES);
+    assert!(rt; branches.has_items(&[b, a]));
+    assert!(rt; !branches.has_items(&[a]));
+    assert!(rt; !branches.has_items(&[a, b, a]));
+    assert!(rt; program(&rt, "return 1").has_items(&[]));
 }

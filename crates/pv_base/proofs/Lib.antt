@@ -5,6 +5,7 @@ pub mod Basics
 pub mod BigEndianLemmas
 pub mod ContainsLemmas
 pub mod EntryLemmas
+pub mod HistorySteps
 pub mod MapLemmas
 pub mod OrderLemmas
 pub mod ResultLemmas

@@ -4,11 +4,13 @@
 mod buffers;
 mod case;
 mod catalog;
+mod decimal;
 mod entries;
 mod exact;
 mod failure;
 mod faults;
 mod grant;
+mod history;
 mod limits;
 mod literal;
 mod mode;
@@ -20,10 +22,12 @@ mod want;
 pub use buffers::buffer;
 pub use case::{Case, meets};
 pub use catalog::{Catalog, CatalogError, ItemId};
+pub use decimal::push_number;
 pub use exact::Exact;
 pub use failure::{Failed, NoMemory};
 pub use faults::{CaseError, NameError};
 pub use grant::GrantId;
+pub use history::History;
 pub use limits::{
     HELD_NAMES, MAX_CALL, MAX_CLIENTS, MAX_DEPTH, MAX_INPUT, MAX_ITEMS, MAX_JOURNAL, MAX_LENGTH,
     MAX_LINE, MAX_LIVE_LINE, MAX_NAME, MAX_PROGRAM_ITEMS, MAX_PUMP, MAX_REQUESTS, MAX_SENT,

@@ -3,10 +3,28 @@
 use pv_base::{
     CaseError, Catalog, CatalogError, Failed, HELD_NAMES, ItemId, Literal, MAX_ITEMS, MAX_JOURNAL,
     MIN_JOURNAL, NameError, NoMemory, READ_NAMES, SiteId, TxnId, is_name, meets, print_txn,
-    push_txn,
+    push_number, push_txn,
 };
 use std::process::Abort;
 use std::test::Fail;
+
+// Refusals of a catalog, with their texts.
+const TEXTS: &[(CatalogError, &str)] = &[
+    (CatalogError::BadName, "not a name"),
+    (CatalogError::NameTaken(ItemId(7)), "the name is taken"),
+    (CatalogError::NoSite, "no such site"),
+    (CatalogError::TooMany, "too many items"),
+    (CatalogError::NoMemory, "no memory"),
+];
+
+// Additions to a catalog of two sites that has the item a, with their refusals.
+const REFUSED: &[(&str, u8, CatalogError)] = &[
+    ("a", 1, CatalogError::NameTaken(ItemId(0))),
+    ("a", 2, CatalogError::NameTaken(ItemId(0))),
+    ("b", 2, CatalogError::NoSite),
+    ("B", 0, CatalogError::BadName),
+    ("min", 0, CatalogError::BadName),
+];
 
 // Asserts that the catalog declares this of the item.
 fn assert_declares(
@@ -18,10 +36,10 @@ fn assert_declares(
     value: i64,
 ) {
     assert!(rt; item < catalog.len());
-    assert_eq!(rt; catalog.find(name), Some(ItemId(item)));
-    assert_eq!(rt; catalog.name(ItemId(item)), name);
-    assert_eq!(rt; catalog.site_of(ItemId(item)), SiteId(site));
-    assert_eq!(rt; catalog.declared(ItemId(item)), value);
+    assert!(rt; catalog.find(name) == Some(ItemId(item)));
+    assert!(rt; catalog.name(ItemId(item)) == name);
+    assert!(rt; catalog.site_of(ItemId(item)) == SiteId(site));
+    assert!(rt; catalog.declared(ItemId(item)) == value);
 }
 
 #[test]
@@ -37,7 +55,7 @@ fn a_transaction_is_printed_with_dots(rt: HostRuntime) -> Result<(), NoMemory> {
 }
 
 #[test]
-fn a_transaction_is_put_after_what_the_buffer_holds(rt: HostRuntime) -> Result<(), Fail> {
+fn what_is_printed_is_put_after_what_the_buffer_holds(rt: HostRuntime) -> Result<(), Fail> {
     let last = TxnId {
         site: SiteId(15),
         epoch: u32::MAX,
@@ -45,22 +63,20 @@ fn a_transaction_is_put_after_what_the_buffer_holds(rt: HostRuntime) -> Result<(
     };
     let mut text = b"txn ".to_vec(rt.alloc())?;
     push_txn(&mut text, last)?;
-    assert_eq!(rt; text.as_slice(), b"txn 15.4294967295.4294967295".as_slice());
+    text.push(b' ')?;
+    push_number(&mut text, u64::MAX)?;
+    assert_eq!(rt;
+        text.as_slice(),
+        b"txn 15.4294967295.4294967295 18446744073709551615".as_slice()
+    );
     Ok(())
 }
 
 #[test]
 fn each_refusal_has_its_text(rt: HostRuntime) -> Result<(), Fail> {
-    let texts = [
-        (CatalogError::BadName, "not a name"),
-        (CatalogError::NameTaken(ItemId(7)), "the name is taken"),
-        (CatalogError::NoSite, "no such site"),
-        (CatalogError::TooMany, "too many items"),
-        (CatalogError::NoMemory, "no memory"),
-    ];
-    for (error, text) in texts {
+    for (error, text) in TEXTS {
         let printed = format!(in rt.alloc(); "{error}")?;
-        assert_eq!(rt; printed.as_str(), text);
+        assert_eq!(rt; printed.as_str(), *text);
     }
     let printed = format!(in rt.alloc(); "{NoMemory}, {Failed}")?;
     assert_eq!(rt; printed.as_str(), "no memory, failed");
@@ -92,33 +108,26 @@ fn what_is_wrong_with_cases_is_printed(rt: HostRuntime) -> Result<(), Fail> {
 
 #[test]
 fn names_have_1_to_16_bytes(rt: HostRuntime) {
-    assert!(rt; is_name(b"a_9".as_slice()));
-    assert!(rt; is_name(b"abcdefghijklmnop".as_slice()));
-    assert!(rt; !is_name(b"abcdefghijklmnopq".as_slice()));
-    assert!(rt; !is_name(b"".as_slice()));
-    assert!(rt; !is_name(b"_a".as_slice()));
-    assert!(rt; !is_name(b"9".as_slice()));
-    assert!(rt; !is_name(b"certain".as_slice()));
-    assert!(rt; is_name(b"certainly".as_slice()));
+    assert!(rt; is_name(b"a_9"));
+    assert!(rt; is_name(b"abcdefghijklmnop"));
+    assert!(rt; !is_name(b"abcdefghijklmnopq"));
+    assert!(rt; !is_name(b""));
+    assert!(rt; !is_name(b"_a"));
+    assert!(rt; !is_name(b"9"));
+    assert!(rt; !is_name(b"certain"));
+    assert!(rt; is_name(b"certainly"));
 }
 
 #[test]
 fn each_refusal_comes_in_its_order(rt: HostRuntime) -> Result<(), CatalogError> {
     let mut catalog = Catalog::new(rt.alloc(), 2, MAX_JOURNAL);
-    assert_eq!(rt; catalog.add(b"a".as_slice(), SiteId(0), 100)?, ItemId(0));
-    let refused = [
-        (b"a".as_slice(), 1, CatalogError::NameTaken(ItemId(0))),
-        (b"a".as_slice(), 2, CatalogError::NameTaken(ItemId(0))),
-        (b"b".as_slice(), 2, CatalogError::NoSite),
-        (b"B".as_slice(), 0, CatalogError::BadName),
-        (b"min".as_slice(), 0, CatalogError::BadName),
-    ];
-    for (name, site, error) in refused {
-        assert_eq!(rt; catalog.add(name, SiteId(site), 1), Err(error));
+    assert!(rt; catalog.add(b"a", SiteId(0), 100)? == ItemId(0));
+    for (name, site, error) in REFUSED {
+        assert_eq!(rt; catalog.add(name.as_bytes(), SiteId(*site), 1), Err(*error));
     }
-    assert_eq!(rt; catalog.len(), 1);
-    assert_eq!(rt; catalog.find(b"b".as_slice()), None);
-    assert_declares(&rt, &catalog, 0, b"a".as_slice(), 0, 100);
+    assert!(rt; catalog.len() == 1);
+    assert!(rt; catalog.find(b"b").is_none());
+    assert_declares(&rt, &catalog, 0, b"a", 0, 100);
     Ok(())
 }
 
@@ -129,26 +138,23 @@ fn a_full_catalog_refuses_one_more(rt: HostRuntime) -> Result<(), Fail> {
         let name = format!(in rt.alloc(); "i{number}")?;
         catalog.add(name.as_bytes(), SiteId(0), -1)?;
     }
-    assert_eq!(rt;
-        catalog.add(b"one_more".as_slice(), SiteId(0), 0),
-        Err(CatalogError::TooMany)
-    );
-    assert_eq!(rt; catalog.len(), 1024);
-    assert_declares(&rt, &catalog, 1023, b"i1023".as_slice(), 0, -1);
+    assert!(rt; catalog.add(b"one_more", SiteId(0), 0) == Err(CatalogError::TooMany));
+    assert!(rt; catalog.len() == 1024);
+    assert_declares(&rt, &catalog, 1023, b"i1023", 0, -1);
     Ok(())
 }
 
 #[test]
 fn a_copy_is_equal(rt: HostRuntime) -> Result<(), Fail> {
     let mut catalog = Catalog::new(rt.alloc(), 3, 4096);
-    catalog.add(b"left".as_slice(), SiteId(2), i64::MIN)?;
-    catalog.add(b"right".as_slice(), SiteId(1), i64::MAX)?;
+    catalog.add(b"left", SiteId(2), i64::MIN)?;
+    catalog.add(b"right", SiteId(1), i64::MAX)?;
     let copy = catalog.copy()?;
-    assert_eq!(rt; copy.sites(), 3);
-    assert_eq!(rt; copy.journal(), 4096);
-    assert_eq!(rt; copy.len(), 2);
-    assert_declares(&rt, &copy, 0, b"left".as_slice(), 2, i64::MIN);
-    assert_declares(&rt, &copy, 1, b"right".as_slice(), 1, i64::MAX);
+    assert!(rt; copy.sites() == 3);
+    assert!(rt; copy.journal() == 4096);
+    assert!(rt; copy.len() == 2);
+    assert_declares(&rt, &copy, 0, b"left", 2, i64::MIN);
+    assert_declares(&rt, &copy, 1, b"right", 1, i64::MAX);
     Ok(())
 }
 
@@ -181,6 +187,6 @@ fn a_condition_is_met_where_each_literal_is(rt: HostRuntime) {
 
 #[test]
 fn the_limits_are_seven_and_eight_outcomes(rt: HostRuntime) {
-    assert_eq!(rt; READ_NAMES, 7);
-    assert_eq!(rt; HELD_NAMES, 8);
+    assert!(rt; READ_NAMES == 7);
+    assert!(rt; HELD_NAMES == 8);
 }

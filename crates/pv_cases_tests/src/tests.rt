@@ -9,7 +9,7 @@ use std::process::Abort;
 use std::test::Fail;
 
 // The first transaction of a site.
-fn txn(site: u8) -> TxnId {
+fn first(site: u8) -> TxnId {
     TxnId {
         site: SiteId(site),
         epoch: 1,
@@ -19,14 +19,14 @@ fn txn(site: u8) -> TxnId {
 
 fn commits(site: u8) -> Literal {
     Literal {
-        txn: txn(site),
+        txn: first(site),
         commits: true,
     }
 }
 
 fn aborts(site: u8) -> Literal {
     Literal {
-        txn: txn(site),
+        txn: first(site),
         commits: false,
     }
 }
@@ -70,14 +70,22 @@ fn case_list(alloc: Global, cases: &[(&[Literal], i64)]) -> Result<Vec<Case<i64>
     Ok(list)
 }
 
+// Asserts that these are the first transactions of the sites.
+fn assert_firsts(rt: &impl Abort, txns: &[TxnId], sites: &[u8]) {
+    assert_eq!(rt; txns.len(), sites.len());
+    for (txn, site) in txns.iter().zip(sites) {
+        assert!(rt; *txn == first(*site));
+    }
+}
+
 #[test]
 fn transactions_are_put_in_order(rt: HostRuntime) -> Result<(), Fail> {
     let mut txns = Vec::new(rt.alloc());
     for site in [2, 0, 2, 1, 0] {
-        txns.push(txn(site))?;
+        txns.push(first(site))?;
     }
     let txns = ordered(txns);
-    assert_eq!(rt; txns.as_slice(), [txn(0), txn(1), txn(2)].as_slice());
+    assert_firsts(&rt, &txns, &[0, 1, 2]);
     Ok(())
 }
 
@@ -94,12 +102,9 @@ fn a_test_is_pushed_once(rt: HostRuntime) -> Result<(), Fail> {
         ],
     )?;
     let mut txns = Vec::new(alloc);
-    txns.push(txn(3))?;
+    txns.push(first(3))?;
     push_names(&mut txns, &leaves)?;
-    assert_eq!(rt;
-        txns.as_slice(),
-        [txn(3), txn(0), txn(1), txn(2)].as_slice()
-    );
+    assert_firsts(&rt, &txns, &[3, 0, 1, 2]);
     Ok(())
 }
 
@@ -136,13 +141,13 @@ fn missing_of(rt: &impl Abort, alloc: Global, left_out: [Literal; 3]) -> Result<
 fn the_assignment_that_meets_no_case_is_reported(rt: HostRuntime) -> Result<(), Fail> {
     let alloc = rt.alloc();
     let none = missing_of(&rt, alloc, [aborts(0), aborts(1), aborts(2)])?;
-    assert!(rt; none.is_empty());
+    assert_firsts(&rt, &none, &[]);
     let last = missing_of(&rt, alloc, [aborts(0), aborts(1), commits(2)])?;
-    assert_eq!(rt; last.as_slice(), [txn(2)].as_slice());
+    assert_firsts(&rt, &last, &[2]);
     let two = missing_of(&rt, alloc, [commits(0), aborts(1), commits(2)])?;
-    assert_eq!(rt; two.as_slice(), [txn(0), txn(2)].as_slice());
+    assert_firsts(&rt, &two, &[0, 2]);
     let all = missing_of(&rt, alloc, [commits(0), commits(1), commits(2)])?;
-    assert_eq!(rt; all.as_slice(), [txn(0), txn(1), txn(2)].as_slice());
+    assert_firsts(&rt, &all, &[0, 1, 2]);
     Ok(())
 }
 
@@ -152,8 +157,8 @@ fn cases_have_a_table(rt: HostRuntime) -> Result<(), Fail> {
     let cases = case_list(alloc, &[(&[commits(1)], 60), (&[aborts(1)], 50)])?;
     assert!(rt; are_few(&cases));
     let table = table_of(alloc, &cases)?;
-    assert_eq!(rt; table.txns.as_slice(), [txn(1)].as_slice());
-    assert_eq!(rt; table.values.as_slice(), [50i64, 60].as_slice());
+    assert_firsts(&rt, &table.txns, &[1]);
+    assert!(rt; table.values.as_slice() == [50i64, 60].as_slice());
     let none: [Case<i64>; 0] = [];
     let refused = table_of(alloc, &none);
     assert!(rt; matches!(refused, Err(CaseError::NotComplete(_))));
@@ -166,8 +171,8 @@ fn both_lists_name_each_transaction_once(rt: HostRuntime) -> Result<(), Fail> {
     let cases = case_list(alloc, &[(&[aborts(0)], 1), (&[commits(0)], 2)])?;
     let others = case_list(alloc, &[(&[aborts(1), aborts(0)], 1)])?;
     let names = names_of(alloc, &cases)?;
-    assert_eq!(rt; names.as_slice(), [txn(0)].as_slice());
-    assert_eq!(rt; first_difference(&cases, &others), Some(0));
-    assert_eq!(rt; first_difference(&cases, &cases), None);
+    assert_firsts(&rt, &names, &[0]);
+    assert!(rt; first_difference(&cases, &others) == Some(0));
+    assert!(rt; first_difference(&cases, &cases).is_none());
     Ok(())
 }

@@ -1,24 +1,60 @@
-// Worked programs and their plans, over a catalog whose item n is at site n % 3.
-ghost use Rattle.std.specs.Prelude.{◌≡◌, ◌<◌, ◌≤◌, ◌||◌, ◌==◌, ℕ, length, IsTrue, IfOk};
-ghost use Rattle.pv_model.specs.Syntax.{end};
-ghost use Rattle.pv_model.specs.Check.{reads, names_item};
-ghost use Rattle.pv_ast.specs.ExprView.{expr_of};
-ghost use Rattle.pv_ast.specs.ProgramView.{followed_by};
-
-use pv_ast::{Expr, Op, Operand, Program, Stmt};
-use pv_base::{Catalog, CatalogError, ItemId, MIN_JOURNAL, NoMemory, SiteId};
+// Worked programs and their plans, each from its text, over a catalog whose item n is at site n % 3.
+use pv_base::{Catalog, CatalogError, MIN_JOURNAL, NoMemory, SiteId};
 use pv_check::*;
+use pv_parse::parse;
 use std::alloc::Global;
+use std::process::Abort;
 use std::test::Fail;
 
-const A: ItemId = ItemId(0);
+// Refusals, with their texts.
+const TEXTS: &[(CheckError, &str)] = &[
+    (CheckError::NoItem, "no item"),
+    (CheckError::TooManyItems(17), "too many items: 17"),
+    (CheckError::Assigns, "a query assigns"),
+    (CheckError::NoReturn, "a query has no return"),
+    (CheckError::NoMemory, "no memory"),
+];
 
-const B: ItemId = ItemId(1);
+// Programs that want the first item for themselves and the second with others.
+const OF_TWO: &[&str] = &["a := b", "if 1 { if b { return 1 } } else { a := 1 }"];
+
+// What they want: the part's site, the item, and whether for itself.
+const TWO_WANTS: &[(u8, u32, bool)] = &[(0, 0, true), (1, 1, false)];
+
+const OF_SIXTEEN: &str = "b := 0 + a + b + c + d + e + f + g + h + i + j + k + l + m + n + o + p";
+
+const OF_SEVENTEEN: &str =
+    "b := 0 + a + b + c + d + e + f + g + h + i + j + k + l + m + n + o + p + q";
+
+const SIXTEEN_WANTS: &[(u8, u32, bool)] = &[
+    (0, 0, false),
+    (0, 3, false),
+    (0, 6, false),
+    (0, 9, false),
+    (0, 12, false),
+    (0, 15, false),
+    (1, 1, true),
+    (1, 4, false),
+    (1, 7, false),
+    (1, 10, false),
+    (1, 13, false),
+    (2, 2, false),
+    (2, 5, false),
+    (2, 8, false),
+    (2, 11, false),
+    (2, 14, false),
+];
+
+// Programs, whether each is a query, and why it is refused.
+const REFUSED: &[(&str, bool, CheckError)] = &[
+    ("return 1", false, CheckError::NoItem),
+    (OF_SEVENTEEN, true, CheckError::TooManyItems(17)),
+    ("a := b", true, CheckError::Assigns),
+    ("require a", true, CheckError::NoReturn),
+];
 
 // the catalog of the items a to q
-fn items_to_q(alloc: Global) -> Result<Catalog, CatalogError>
-    ensures { IfOk result (λ catalog. length catalog.items ≡ 17) }
-{
+fn items_to_q(alloc: Global) -> Result<Catalog, CatalogError> {
     let mut catalog = Catalog::new(alloc, 3, MIN_JOURNAL);
     for n in 0..17 {
         catalog.add(&[b'a' + n], SiteId(n % 3), 0)?;
@@ -26,101 +62,15 @@ fn items_to_q(alloc: Global) -> Result<Catalog, CatalogError>
     Ok(catalog)
 }
 
-// a program of one statement
-fn only(alloc: Global, stmt: Stmt) -> Result<Program, NoMemory>
-    ensures { IfOk result (λ program. program ≡ followed_by stmt end) }
-{
-    let mut stmts = Vec::new(alloc);
-    stmts.push(stmt)?;
-    Ok(Program { stmts })
-}
-
-// `a := b`
-fn a_from_b(alloc: Global) -> Result<Program, NoMemory>
-    ensures { IfOk result (λ program. (n : ℕ) → IsTrue (names_item program n) → n < 17) }
-{
-    only(
-        alloc,
-        Stmt::Assign {
-            item: A,
-            value: Expr::Item(B),
-        },
-    )
-}
-
-// `if 1 { if b { } } else { a := 1 }`
-fn a_in_else_b_in_test(alloc: Global) -> Result<Program, NoMemory>
-    ensures { IfOk result (λ program. (n : ℕ) → IsTrue (names_item program n) → n < 17) }
-{
-    let inner = Stmt::If {
-        test: Expr::Item(B),
-        body: Program {
-            stmts: Vec::new(alloc),
-        },
-        other: None,
+// the plan of the text's program, or why it is refused
+fn plan(rt: &(impl Abort + AllocGlobal), text: &str, query: bool) -> Result<Plan, CheckError> {
+    let Ok(catalog) = items_to_q(rt.alloc()) else {
+        panic!(rt; "no catalog");
     };
-    let assign = Stmt::Assign {
-        item: A,
-        value: Expr::Number(1),
-    };
-    let body = only(alloc, inner)?;
-    let other = only(alloc, assign)?;
-    only(
-        alloc,
-        Stmt::If {
-            test: Expr::Number(1),
-            body,
-            other: Some(other),
-        },
-    )
-}
-
-// `require a`
-fn require_a(alloc: Global) -> Result<Program, NoMemory>
-    ensures { IfOk result (λ program. (n : ℕ) → IsTrue (names_item program n) → n < 17) }
-{
-    only(alloc, Stmt::Require(Expr::Item(A)))
-}
-
-// `return 1`
-fn return_1(alloc: Global) -> Result<Program, NoMemory>
-    ensures { IfOk result (λ program. (n : ℕ) → IsTrue (names_item program n) → n < 17) }
-{
-    only(alloc, Stmt::Return(Expr::Number(1)))
-}
-
-// `b := 0 + a + b + c ..`, over the first items, so many
-fn b_from_sum(alloc: Global, count: u32) -> Result<Program, NoMemory>
-    requires some { 2 ≤ count }
-    requires known { count ≤ 17 }
-    ensures { IfOk result (λ program. (n : ℕ) → IsTrue (names_item program n) → n < 17) }
-{
-    let value = sum(alloc, count)?;
-    only(alloc, Stmt::Assign { item: B, value })
-}
-
-// `0 + a + b + c ..`
-fn sum(alloc: Global, count: u32) -> Result<Expr, NoMemory>
-    ensures { IfOk result (λ sum. (n : ℕ) → IsTrue (reads (expr_of sum) n) → n < count) }
-{
-    let mut sum = Expr::Number(0);
-    for item in 0..count {
-        sum = plus(alloc, sum, ItemId(item))?;
+    match parse(rt.alloc(), text.as_bytes(), &catalog) {
+        Ok(program) => check(rt.alloc(), &program, &catalog, query),
+        Err(error) => panic!(rt; "{error}"),
     }
-    Ok(sum)
-}
-
-// the expression and the item's value
-fn plus(alloc: Global, expr: Expr, item: ItemId) -> Result<Expr, NoMemory>
-    ensures { IfOk result (λ sum. (n : ℕ) → reads (expr_of sum) n ≡ (reads (expr_of expr) n || item.0 == n)) }
-{
-    let left = Operand::new(alloc, expr)?;
-    let right = Operand::new(alloc, Expr::Item(item))?;
-    Ok(Expr::Two {
-        op: Op::Plus,
-        left,
-        right,
-    })
 }
 
 // the plan's wants, each with its part's site
@@ -134,91 +84,48 @@ fn listed(alloc: Global, plan: &Plan) -> Result<Vec<(u8, u32, bool)>, NoMemory> 
     Ok(wants)
 }
 
-// why a program of these items is refused
-fn refusal(alloc: Global, program: &Program, catalog: &Catalog, query: bool) -> Option<CheckError>
-    requires known { (n : ℕ) → IsTrue (names_item program.now n) → n < 17 }
-    requires items { length catalog.now.items ≡ 17 }
-{
-    check(alloc, program, catalog, query).err()
-}
-
-#[test]
-fn each_refusal_has_its_cause(rt: HostRuntime) -> Result<(), Fail> {
-    let alloc = rt.alloc();
-    let catalog = items_to_q(alloc)?;
-    let constant = return_1(alloc)?;
-    let crowded = b_from_sum(alloc, 17)?;
-    let assigning = a_from_b(alloc)?;
-    let testing = require_a(alloc)?;
-    let none = refusal(alloc, &constant, &catalog, false);
-    assert_eq!(rt; none, Some(CheckError::NoItem));
-    let many = refusal(alloc, &crowded, &catalog, true);
-    assert_eq!(rt; many, Some(CheckError::TooManyItems(17)));
-    let assigns = refusal(alloc, &assigning, &catalog, true);
-    assert_eq!(rt; assigns, Some(CheckError::Assigns));
-    let silent = refusal(alloc, &testing, &catalog, true);
-    assert_eq!(rt; silent, Some(CheckError::NoReturn));
+// Asserts how many parts the plan has, and its wants.
+fn assert_wants(
+    rt: &(impl Abort + AllocGlobal),
+    plan: &Plan,
+    parts: usize,
+    expected: &[(u8, u32, bool)],
+) -> Result<(), NoMemory> {
+    let wants = listed(rt.alloc(), plan)?;
+    assert!(rt; plan.parts.len() == parts);
+    assert_eq!(rt; wants.as_slice(), expected);
     Ok(())
 }
 
 #[test]
+fn each_refusal_has_its_cause(rt: HostRuntime) {
+    for (text, query, cause) in REFUSED {
+        assert_eq!(rt; plan(&rt, text, *query).err(), Some(*cause), "at {text}");
+    }
+}
+
+#[test]
 fn a_plan_has_each_item_at_its_site(rt: HostRuntime) -> Result<(), Fail> {
-    let alloc = rt.alloc();
-    let catalog = items_to_q(alloc)?;
-    for program in [a_from_b(alloc)?, a_in_else_b_in_test(alloc)?] {
-        let plan = check(alloc, &program, &catalog, false)?;
-        let copy = plan.copy(alloc)?;
-        for plan in [plan, copy] {
-            let wants = listed(alloc, &plan)?;
-            assert_eq!(rt; plan.parts.len(), 2);
-            assert_eq!(rt; wants.as_slice(), [(0, 0, true), (1, 1, false)].as_slice());
-        }
+    for text in OF_TWO {
+        let plan = plan(&rt, text, false)?;
+        assert_wants(&rt, &plan, 2, TWO_WANTS)?;
+        assert_wants(&rt, &plan.copy(rt.alloc())?, 2, TWO_WANTS)?;
     }
     Ok(())
 }
 
 #[test]
 fn sixteen_items_have_a_plan(rt: HostRuntime) -> Result<(), Fail> {
-    let alloc = rt.alloc();
-    let catalog = items_to_q(alloc)?;
-    let program = b_from_sum(alloc, 16)?;
-    let plan = check(alloc, &program, &catalog, false)?;
-    let wants = listed(alloc, &plan)?;
-    let expected = [
-        (0, 0, false),
-        (0, 3, false),
-        (0, 6, false),
-        (0, 9, false),
-        (0, 12, false),
-        (0, 15, false),
-        (1, 1, true),
-        (1, 4, false),
-        (1, 7, false),
-        (1, 10, false),
-        (1, 13, false),
-        (2, 2, false),
-        (2, 5, false),
-        (2, 8, false),
-        (2, 11, false),
-        (2, 14, false),
-    ];
-    assert_eq!(rt; plan.parts.len(), 3);
-    assert_eq!(rt; wants.as_slice(), expected.as_slice());
+    let plan = plan(&rt, OF_SIXTEEN, false)?;
+    assert_wants(&rt, &plan, 3, SIXTEEN_WANTS)?;
     Ok(())
 }
 
 #[test]
 fn each_refusal_has_its_text(rt: HostRuntime) -> Result<(), Fail> {
-    let texts = [
-        (CheckError::NoItem, "no item"),
-        (CheckError::TooManyItems(17), "too many items: 17"),
-        (CheckError::Assigns, "a query assigns"),
-        (CheckError::NoReturn, "a query has no return"),
-        (CheckError::NoMemory, "no memory"),
-    ];
-    for (error, text) in texts {
+    for (error, text) in TEXTS {
         let printed = format!(in rt.alloc(); "{error}")?;
-        assert_eq!(rt; printed.as_str(), text);
+        assert_eq!(rt; printed.as_str(), *text);
     }
     Ok(())
 }

@@ -1,4 +1,4 @@
-// Where the disks of a run's sites come from and where they go.
+// Where disks come from that are looked at, and where the disks go that runs have left.
 ghost use Rattle.std.specs.Prelude.{◌≡◌, ◌<◌, true, false};
 ghost use Rattle.pv_base.specs.declared.limits.TheConstants.{MAX_SITES};
 ghost use Rattle.pv_disk.specs.BayModel.{BayModel};
@@ -7,8 +7,8 @@ ghost use Rattle.pv_disk.specs.BayAnswers.{Asks, TakesBack, KeepsDisk};
 use crate::{BayError, Disk, MemDisk};
 use pv_base::SiteId;
 
-/// The outside that a run's disks come from: it hands out the disk of each site, takes it back, and may keep the disk in memory that a run has
-/// left.
+/// The outside that holds the disks of sites: it hands out the disk of a site, to be looked at, and takes it back; and it is given the disk in memory
+/// that a run has left of a site, which it may keep.
 ///
 /// What the disks hold may be known, which is for the proof alone: whether it is is fixed when the bay is made.
 pub trait Bay {

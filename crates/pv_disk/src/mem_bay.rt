@@ -1,8 +1,9 @@
 // A bay in memory.
-ghost use Rattle.std.specs.Prelude.{◌≡◌, ◌≤◌, ◌<◌, ◌↔◌, true, false, None, Some, All, map, replicate, length, slice_get, slice_set, unwrap_or, option_map, IfOk, OnErr, IsErr};
+ghost use Rattle.std.specs.Prelude.{◌≡◌, ◌≤◌, ◌<◌, ◌↔◌, true, false, None, Some, All, map, replicate, length, slice_get, slice_set, unwrap_or, option_map, IfOk, IfErr, OnErr, IsErr};
 ghost use Rattle.pv_base.specs.Fault.{risen};
 ghost use Rattle.pv_base.specs.declared.limits.TheConstants.{MAX_SITES};
 ghost use Rattle.pv_disk.specs.BayAnswers.{Asks, TakesBack, KeepsDisk};
+ghost use Rattle.pv_disk.specs.declared.bay_error.BayError.TheVariants.{Failed};
 ghost use Rattle.pv_disk.specs.MemBay.{MemBerth, first_berth, handed_back, mem_bay};
 ghost use Rattle.pv_disk.specs.MemLaws.{mem_model};
 
@@ -72,6 +73,7 @@ impl Bay for MemBay {
         ensures disk { IfOk result (λ disk. option_map (λ berth. berth.last) (slice_get self.old.berths site.0) ≡ Some disk) }
         ensures whole { IfOk result (λ _. (berth : MemBerth) → slice_get self.old.berths site.0 ≡ Some berth →
             self.new ≡ record self.old { berths = slice_set self.old.berths site.0 (record berth { is_out = true }) }) }
+        ensures kind { IfErr result (λ error. error ≡ Failed) }
         ensures failed { OnErr result (self.new ≡ record self.old { faults = risen self.old.faults }) }
     {
         let at = site.0 as usize;

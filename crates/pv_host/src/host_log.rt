@@ -12,8 +12,7 @@ ghost use Rattle.pv_host.specs.HostWrites.{IsOpenedOn, write_of};
 
 use crate::HostWrite;
 use crate::frame::Frame;
-use crate::history::History;
-use pv_base::{MAX_JOURNAL, MAX_LENGTH, MIN_JOURNAL};
+use pv_base::{History, MAX_JOURNAL, MAX_LENGTH, MIN_JOURNAL};
 use pv_disk::{Log, LogError, LookError, MemDisk};
 use pv_journal::{armed_journals, look};
 use pv_law_journal::one_journal;

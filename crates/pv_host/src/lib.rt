@@ -2,7 +2,6 @@
 #![tactic(auto)]
 
 mod frame;
-mod history;
 mod host_log;
 mod host_write;
 mod hosts;

@@ -10,13 +10,14 @@ use Rattle.pv_io.specs.declared.source.Source.{Ghosts}
 
 module _ {R : Type 0} (source : Ghosts R) where
   -- All that the source had left was read, and is no longer than the limit. `TooLong` is answered only where more than the
-  -- limit was left, and `Failed` only where the failure was counted. However it ends, no more than one piece beyond the limit
-  -- was taken. Whether the bytes that are left are known stays, and the count of faults never falls.
+  -- limit was left, and `Failed` only where the failure was counted and no more than the limit had come. However it ends, no more
+  -- than one piece beyond the limit was taken. Whether the bytes that are left are known stays, and the count of faults never falls.
   pub record ReadsAll (limit : ℕ) (old new : R) (result : Result (Vec ℕ) ReadEnd) : Type 0 where
     pub whole : IfOk result (λ bytes. (text : List ℕ) → source.left old ≡ Some text → (bytes.items ≡ text) × (source.left new ≡ Some []))
     pub within : IfOk result (λ bytes. vec_len bytes ≤ limit)
     pub too_long : IsErrOf result TooLong → (text : List ℕ) → source.left old ≡ Some text → limit < length text
     pub fault : IsErrOf result Failed → Rose (source.faults old) (source.faults new)
+    pub failed_within : IsErrOf result Failed → TakesAtMost (source.left old) (source.left new) limit
     pub taken : TakesAtMost (source.left old) (source.left new) (limit + PIECE)
     pub known : KnownAlike (source.left old) (source.left new)
     pub counted : source.faults old ≤ source.faults new

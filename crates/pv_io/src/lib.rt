@@ -17,6 +17,3 @@ pub use sink::Sink;
 pub use source::Source;
 pub use stream::{StdSink, StdSource};
 pub use writing::write_all;
-
-#[cfg(test)]
-mod tests;

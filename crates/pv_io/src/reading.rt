@@ -10,8 +10,8 @@ const PIECE: usize = 65_536;
 
 /// All the bytes that the source has left, where they are no more than `limit`. It reads in pieces of up to 64 KiB.
 ///
-/// - [`ReadEnd::Failed`]: a read failed, and the source counted the fault. What came before is taken from the source,
-///   and the read that failed took nothing.
+/// - [`ReadEnd::Failed`]: a read failed before more than `limit` bytes had come, and the source counted the fault. What came
+///   before is taken from the source, and the read that failed took nothing.
 /// - [`ReadEnd::TooLong`]: more than `limit` bytes came. Up to one piece more than `limit` may have been taken from the
 ///   source, and it may have more left.
 /// - [`ReadEnd::NoMemory`]: there was no memory. Either nothing was taken, where it was missing before the first read,

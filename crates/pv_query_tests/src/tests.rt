@@ -1,11 +1,13 @@
 // Worked answers: p is 60 where T commits, and else 50.
-ghost use Rattle.std.specs.Prelude.{◌≡◌, length, IfOk};
+ghost use Rattle.std.specs.Prelude.{◌≡◌, ◌≤◌, length, IfOk};
+ghost use Rattle.pv_base.specs.declared.limits.TheConstants.{MAX_ITEMS};
 
 use pv_ast::Reply;
 use pv_base::{Exact, NoMemory, SiteId, TxnId};
 use pv_poly::Poly;
 use pv_query::*;
 use std::alloc::Global;
+use std::process::Abort;
 use std::test::Fail;
 
 const T: TxnId = TxnId {
@@ -19,6 +21,8 @@ const U: TxnId = TxnId {
     epoch: 1,
     number: 1,
 };
+
+const BOTH: &[Reply] = &[Reply::Value(50), Reply::Value(60)];
 
 // the transaction of this number
 fn txn(number: u32) -> TxnId {
@@ -47,73 +51,70 @@ fn ten_of_nine_outcomes(alloc: Global) -> Result<Vec<Poly<i64>>, NoMemory>
     Ok(values)
 }
 
+// Asserts which replies are possible, and which one is certain.
+fn assert_replies(
+    rt: &(impl Abort + AllocGlobal),
+    reply: &Poly<Reply>,
+    expected: &[Reply],
+    sure: Option<Reply>,
+) -> Result<(), Fail> {
+    let replies = possible(rt.alloc(), reply)?;
+    assert_eq!(rt; replies.as_slice(), expected);
+    assert_eq!(rt; certain(reply), sure);
+    Ok(())
+}
+
+// Asserts which sums the values have.
+fn assert_sums(
+    rt: &(impl Abort + AllocGlobal),
+    values: &[Poly<i64>],
+    expected: &[i128],
+) -> Result<(), Fail>
+    requires { length values.now ≤ MAX_ITEMS }
+{
+    let found = sums(rt.alloc(), values)?;
+    assert_eq!(rt; found.as_slice(), expected);
+    Ok(())
+}
+
 #[test]
 fn both_replies_are_possible_and_none_certain(rt: HostRuntime) -> Result<(), Fail> {
-    let alloc = rt.alloc();
-    let reply = either(alloc, T, &[Reply::Value(50), Reply::Value(60)])?;
-    let replies = possible(alloc, &reply)?;
-    assert_eq!(rt;
-        replies.as_slice(),
-        [Reply::Value(50), Reply::Value(60)].as_slice()
-    );
-    assert_eq!(rt; certain(&reply), None);
-    Ok(())
+    let reply = either(rt.alloc(), T, BOTH)?;
+    assert_replies(&rt, &reply, BOTH, None)
 }
 
 #[test]
 fn a_sure_reply_is_certain(rt: HostRuntime) -> Result<(), Fail> {
-    let alloc = rt.alloc();
-    let reply = Poly::sure(alloc, Reply::Nothing)?;
-    let replies = possible(alloc, &reply)?;
-    assert_eq!(rt; replies.as_slice(), [Reply::Nothing].as_slice());
-    assert_eq!(rt; certain(&reply), Some(Reply::Nothing));
-    Ok(())
+    let reply = Poly::sure(rt.alloc(), Reply::Nothing)?;
+    assert_replies(&rt, &reply, &[Reply::Nothing], Some(Reply::Nothing))
 }
 
 #[test]
 fn a_reply_of_two_cases_is_possible_once(rt: HostRuntime) -> Result<(), Fail> {
-    let alloc = rt.alloc();
-    let values = [
-        Reply::Value(50),
-        Reply::Value(60),
-        Reply::Value(60),
-        Reply::Value(50),
-    ];
-    let reply = Poly::from_table(alloc, &[T, U], &values)?;
-    let replies = possible(alloc, &reply)?;
-    assert_eq!(rt;
-        replies.as_slice(),
-        [Reply::Value(50), Reply::Value(60)].as_slice()
-    );
-    assert_eq!(rt; certain(&reply), None);
-    Ok(())
+    let [first, second] = [Reply::Value(50), Reply::Value(60)];
+    let reply = Poly::from_table(rt.alloc(), &[T, U], &[first, second, second, first])?;
+    assert_replies(&rt, &reply, BOTH, None)
 }
 
 #[test]
 fn a_sure_value_is_in_each_sum(rt: HostRuntime) -> Result<(), Fail> {
     let alloc = rt.alloc();
     let values = [either(alloc, T, &[50, 60])?, Poly::sure(alloc, 100)?];
-    let found = sums(alloc, &values)?;
-    assert_eq!(rt; found.as_slice(), [150i128, 160].as_slice());
-    Ok(())
+    assert_sums(&rt, &values, &[150, 160])
 }
 
 #[test]
 fn money_that_moves_has_one_sum(rt: HostRuntime) -> Result<(), Fail> {
     let alloc = rt.alloc();
     let values = [either(alloc, T, &[50, 60])?, either(alloc, T, &[70, 60])?];
-    let found = sums(alloc, &values)?;
-    assert_eq!(rt; found.as_slice(), [120i128].as_slice());
-    Ok(())
+    assert_sums(&rt, &values, &[120])
 }
 
 #[test]
 fn sums_follow_the_order_of_the_outcomes(rt: HostRuntime) -> Result<(), Fail> {
     let alloc = rt.alloc();
     let values = [either(alloc, txn(1), &[0, 1])?, either(alloc, T, &[0, 10])?];
-    let found = sums(alloc, &values)?;
-    assert_eq!(rt; found.as_slice(), [0i128, 1, 10, 11].as_slice());
-    Ok(())
+    assert_sums(&rt, &values, &[0, 1, 10, 11])
 }
 
 #[test]
@@ -123,19 +124,12 @@ fn a_sum_may_be_outside_64_bits(rt: HostRuntime) -> Result<(), Fail> {
         Poly::sure(alloc, i64::MAX)?,
         either(alloc, T, &[i64::MAX, i64::MIN])?,
     ];
-    let found = sums(alloc, &values)?;
-    assert_eq!(rt;
-        found.as_slice(),
-        [18_446_744_073_709_551_614i128, -1].as_slice()
-    );
-    Ok(())
+    assert_sums(&rt, &values, &[18_446_744_073_709_551_614, -1])
 }
 
 #[test]
 fn no_values_have_the_sum_0(rt: HostRuntime) -> Result<(), Fail> {
-    let found = sums(rt.alloc(), &[])?;
-    assert_eq!(rt; found.as_slice(), [0i128].as_slice());
-    Ok(())
+    assert_sums(&rt, &[], &[0])
 }
 
 #[test]
@@ -143,7 +137,7 @@ fn nine_outcomes_are_too_many(rt: HostRuntime) -> Result<(), Fail> {
     let alloc = rt.alloc();
     let values = ten_of_nine_outcomes(alloc)?;
     let refused = sums(alloc, &values).err();
-    assert_eq!(rt; refused, Some(SumError::OutcomeLimit(9)));
+    assert!(rt; refused == Some(SumError::OutcomeLimit(9)));
     Ok(())
 }
 

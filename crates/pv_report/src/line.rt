@@ -9,8 +9,8 @@ ghost use Rattle.pv_script.specs.LineView.{kind_of, line_of};
 
 use crate::answers::{push_replies, push_sums};
 use crate::cases::push_cases;
-use crate::pieces::{push_name, push_number, push_numbered, push_txns, push_words};
-use pv_base::{Catalog, ItemId, NoMemory, SiteId, TxnId, push_txn};
+use crate::pieces::{push_name, push_numbered, push_txns, push_words};
+use pv_base::{Catalog, ItemId, NoMemory, SiteId, TxnId, push_number, push_txn};
 use pv_script::{Line, MessageKind};
 use std::alloc::Global;
 

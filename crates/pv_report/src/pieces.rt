@@ -1,12 +1,12 @@
 // The least pieces of lines, each put after what a buffer holds. After an error the buffer still begins with what it held.
-ghost use Rattle.std.specs.Prelude.{◌≡◌, ◌++◌, ◌<◌, length, decimal, OnOk};
+ghost use Rattle.std.specs.Prelude.{◌≡◌, ◌++◌, ◌<◌, length, OnOk};
 ghost use Rattle.std.specs.Fmt.{signed_decimal};
 ghost use Rattle.pv_base.specs.Txn.{txn_text};
 ghost use Rattle.pv_protocol.specs.LineText.{name_of, numbered_text, spaced};
 ghost use Rattle.pv_report.specs.StillHeld.{StillHeld};
 
 use itoa::Buffer;
-use pv_base::{Catalog, ItemId, NoMemory, TxnId, push_txn};
+use pv_base::{Catalog, ItemId, NoMemory, TxnId, push_number, push_txn};
 
 // Words as they stand.
 pub(crate) fn push_words(text: &mut Vec<u8>, words: &[u8]) -> Result<(), NoMemory>
@@ -14,15 +14,6 @@ pub(crate) fn push_words(text: &mut Vec<u8>, words: &[u8]) -> Result<(), NoMemor
     ensures held { StillHeld text.old.items text.new.items }
 {
     Ok(text.extend_from_slice(words)?)
-}
-
-// A number in decimal.
-pub(crate) fn push_number(text: &mut Vec<u8>, number: u64) -> Result<(), NoMemory>
-    ensures text { OnOk result (text.new.items ≡ text.old.items ++ decimal number) }
-    ensures held { StillHeld text.old.items text.new.items }
-{
-    let mut digits = Buffer::new();
-    Ok(text.extend_from_slice(digits.format(number).as_bytes())?)
 }
 
 // A signed number in decimal.

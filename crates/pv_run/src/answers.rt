@@ -90,7 +90,9 @@ fn answer<W: Sink, B: Bay>(
     }
 }
 
-/// Makes the schedule of this number, runs it, and writes the summary of what that prints.
+/// Makes the schedule of this number, runs it, and writes the summary of what that prints. It answers as the run of a text that was read is answered, with
+/// [`Status::TooLong`] where the made text has more than [`MAX_INPUT`](pv_base::MAX_INPUT) bytes; the summary is written when the run has ended, so at
+/// [`Status::SentLimit`] nothing is. Takes the time of the run, and memory in proportion to the lines that it prints.
 pub fn write_summary_of_number<W: Sink>(alloc: Global, number: u32, sink: &mut W) -> Status
     ensures answered { Answers W.Sink summary_of (λ schedule. []) (made_text number) result sink.old sink.new }
     ensures exact { (status : Status) (output : List ℕ) → IsSummaryAnswer (made_text number) status output →

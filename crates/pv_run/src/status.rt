@@ -14,7 +14,7 @@ pub enum Status {
     ReadFault = 4,
     /// The output failed. A beginning of the text was written.
     WriteFault = 5,
-    /// The input is too long. Nothing was written.
+    /// The input is too long, or a text that was made. Nothing was written.
     TooLong = 6,
     /// There was no memory. A beginning of the text was written.
     NoMemory = 7,

@@ -6,8 +6,7 @@ ghost use Rattle.pv_protocol.specs.LineText.{line_text};
 ghost use Rattle.pv_report.specs.NamesOnlyItems.{NamesOnlyItems};
 ghost use Rattle.pv_script.specs.LineView.{line_of};
 
-use itoa::Buffer;
-use pv_base::{Catalog, NoMemory};
+use pv_base::{Catalog, NoMemory, push_number};
 use pv_report::push_line;
 use pv_script::Line;
 use std::alloc::Global;
@@ -37,10 +36,9 @@ pub fn sum_up(
 fn push_counted(text: &mut Vec<u8>, word: &[u8], count: usize) -> Result<(), NoMemory>
     ensures { OnOk result (text.new.items ≡ text.old.items ++ counted_line word.now count) }
 {
-    let mut digits = Buffer::new();
     text.extend_from_slice(word)?;
     text.extend_from_slice(b" ")?;
-    text.extend_from_slice(digits.format(count).as_bytes())?;
+    push_number(text, count as u64)?;
     text.extend_from_slice(b"\n")?;
     Ok(())
 }

@@ -312,14 +312,16 @@ fn a_live_script_has_at_most_1024_items(rt: HostRuntime) -> Result<(), Fail> {
 }
 
 // The three causes that live scripts alone have, as they are printed.
+const TEXTS: &[(LineCause, &str)] = &[
+    (LineCause::ClientExpected, "line 3: client expected"),
+    (LineCause::TooManyClients, "line 3: too many clients"),
+    (LineCause::TooManyRequests, "line 3: too many requests"),
+];
+
 #[test]
 fn a_refusal_of_a_live_script_has_its_text(rt: HostRuntime) {
-    let texts = [
-        (LineCause::ClientExpected, "line 3: client expected"),
-        (LineCause::TooManyClients, "line 3: too many clients"),
-        (LineCause::TooManyRequests, "line 3: too many requests"),
-    ];
-    for (cause, wanted) in texts {
+    for (cause, wanted) in TEXTS {
+        let cause = *cause;
         assert_printed(&rt, ScriptError::Malformed { line: 3, cause }, wanted);
     }
 }

@@ -2,8 +2,7 @@
 ghost use Rattle.std.specs.Prelude.{◌≡◌, ◌++◌, codes, decimal, OnOk};
 ghost use Rattle.pv_show.specs.SiteText.{failure_text, head_text, refusal_text};
 
-use itoa::Buffer;
-use pv_base::{NoMemory, SiteId};
+use pv_base::{NoMemory, SiteId, push_number};
 
 /// The line of a site whose items are shown.
 #[tactic(auto, unfolding(crate::specs::SiteText::head_text))]
@@ -59,13 +58,4 @@ fn push_site(text: &mut Vec<u8>, site: SiteId) -> Result<(), NoMemory>
 {
     text.extend_from_slice(b"site ")?;
     push_number(text, u64::from(site.0))
-}
-
-// A number in decimal.
-fn push_number(text: &mut Vec<u8>, number: u64) -> Result<(), NoMemory>
-    ensures { OnOk result (text.new.items ≡ text.old.items ++ decimal number) }
-{
-    let mut digits = Buffer::new();
-    text.extend_from_slice(digits.format(number).as_bytes())?;
-    Ok(())
 }

@@ -1,4 +1,3 @@
-mod HistorySteps
 mod MapFacts
 mod PutLemmas
 mod HeldLemmas

@@ -5,7 +5,6 @@ mod change;
 mod declared;
 mod dependents;
 mod error;
-mod history;
 mod load;
 mod note;
 mod outcomes;

@@ -10,14 +10,13 @@ ghost use Rattle.pv_store.specs.Writes.{IsPromising};
 
 use crate::StoreError;
 use crate::dependents::Dependents;
-use crate::history::History;
 use crate::note::note;
 use crate::outcomes::Outcomes;
 use crate::places::place_all;
 use crate::promises::Promises;
 use crate::values::put_values;
 use crate::writes::values_after;
-use pv_base::{NoMemory, TxnId};
+use pv_base::{History, NoMemory, TxnId};
 use pv_poly::{Poly, Read};
 use pv_replay::Record;
 use std::alloc::Global;

@@ -15,7 +15,6 @@ ghost use Rattle.pv_replay.specs.Values.{records_of};
 
 use crate::declared::declared_values;
 use crate::dependents::Dependents;
-use crate::history::History;
 use crate::load::{note_all, values_of};
 use crate::note::note;
 use crate::outcomes::Outcomes;
@@ -26,7 +25,7 @@ use crate::settling::settled_values;
 use crate::values::{names_any, put_values, value_of};
 use crate::writes::{copy_reads, values_after};
 use crate::{StoreChange, StoreError};
-use pv_base::{Catalog, Exact, ItemId, NoMemory, SiteId, TxnId};
+use pv_base::{Catalog, Exact, History, ItemId, NoMemory, SiteId, TxnId};
 use pv_cases::ordered;
 use pv_poly::{Poly, Read};
 use pv_replay::{Past, Record};
