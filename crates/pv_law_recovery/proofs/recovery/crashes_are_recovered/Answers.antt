@@ -1,0 +1,18 @@
+use Rattle.std.proofs.Common.{refl, inl, inr}
+use Rattle.pv_law_journal.specs.Contents.{contents_of}
+use Rattle.pv_law_recovery.proofs.RecoveryLemmas.{contents-recover}
+use Rattle.pv_law_recovery.proofs.recovery.crashes_are_recovered.Goals as goal
+use Rattle.pv_law_recovery.specs.Recovery.{IsBeforeOrAfter}
+
+pub returns-clause-at_any_moment : goal.returns-clause-at_any_moment
+returns-clause-at_any_moment g c = λ old new running input result left up steps leaves.
+    let recover = contents-recover g.D.Disk.model c.crashes_leave_before_or_after.ensures.openings c.one_journal.ensures c.contents_are_those_of_the_journal.ensures left (IsBeforeOrAfter old running input) in
+    elim (c.crashes_leave_before_or_after.ensures.steps old new running input result (contents_of left) up steps (left, leaves, refl)) [
+      | inl before ↦ recover _ (inl refl) before
+      | inr after ↦ recover _ (inr refl) after
+    ]
+
+pub returns-clause-once_answered : goal.returns-clause-once_answered
+returns-clause-once_answered g c = λ old new running input answer left up steps leaves.
+    contents-recover g.D.Disk.model c.crashes_leave_before_or_after.ensures.openings c.one_journal.ensures c.contents_are_those_of_the_journal.ensures left (λ records. records ≡ new.records) _ refl
+    (c.crashes_leave_before_or_after.ensures.done old new running input answer (contents_of left) up steps (left, leaves, refl))
