@@ -15,7 +15,7 @@ pub struct SiteId(pub u8);
 pub struct TxnId {
     /// The site that coordinates it.
     pub site: SiteId,
-    /// That site's epoch, which is how often the site has started so far, from 1.
+    /// That site's epoch: one more than the greatest that it had recorded when it started, and so at least 1.
     pub epoch: u32,
     /// The number that the site gave it in that epoch, from 0.
     pub number: u32,

@@ -17,7 +17,8 @@ use pv_base::{Catalog, ItemId, SiteId, Want};
 /// Whether the program names items of the catalog alone, and [`check`](crate::check) answers this plan for it where it is no query and there
 /// is memory. It takes none itself.
 ///
-/// The program is read twice, which recurses as deep as its tree, and the catalog once for each part of the plan and once more for all.
+/// The program is read twice, which recurses as deep as its tree, and the catalog once for each part of the plan and once more for all, each item
+/// beside the plan's parts; a table of 1,024 marks is cleared besides.
 pub fn fits(program: &Program, catalog: &Catalog, plan: &Plan) -> bool
     ensures { (result ≡ true) ↔ HasPlan program.now catalog.now.items plan.now.parts.items }
 {

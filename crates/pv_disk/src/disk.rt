@@ -9,7 +9,7 @@ ghost use Rattle.pv_disk.specs.DiskAnswers.{Reserves};
 use crate::DiskError;
 use pv_base::Failed;
 
-/// Bytes at places from 0 to a length that only grows.
+/// Bytes at places from 0 to a length that grows, but where a call fails.
 ///
 /// Between two syncs each range that was written, and the part past the old end, may hold any bytes after a crash; other
 /// bytes stay. After a sync that succeeds a crash leaves what reads give. After a call that failed, reads give one of the

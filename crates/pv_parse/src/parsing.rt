@@ -18,13 +18,13 @@ use std::alloc::Global;
 ///
 /// 1. `TooLarge`: the text has more than [`MAX_LINE`] bytes. The error says how many.
 /// 2. The leftmost fault, and at one column the first of these. `Malformed`: the token at the column can't follow what
-///    stands before it, or the text ends too early. `UnknownName`: the name at the column is no item's. `TooDeep`: the
+///    stands before it or is a number of 2 to the 63rd power or more, or the text ends too early. `UnknownName`: the name at the column is no item's. `TooDeep`: the
 ///    token at the column is nested deeper than [`MAX_DEPTH`](pv_base::MAX_DEPTH).
 ///
 /// `NoMemory`, out of memory, may come before a fault of the second kind is found.
 ///
-/// Takes time linear in the text, besides looking up each name. Recursion goes as deep as tokens nest, at most
-/// [`MAX_DEPTH`](pv_base::MAX_DEPTH) levels; chains and rows of statements are read in loops.
+/// Takes time linear in the text, besides looking up each name. Recursion goes as deep as tokens nest, at most one
+/// level deeper than [`MAX_DEPTH`](pv_base::MAX_DEPTH) below the outermost; chains and rows of statements are read in loops.
 pub fn parse(alloc: Global, text: &[u8], catalog: &Catalog) -> Result<Program, ParseError>
     ensures answer { Answers (IsProgramText catalog.now text.now) (IsRefused catalog.now text.now) (λ program. program) refusal_of result }
     ensures memory { result ≡ Err ParseError.NoMemory → length text.now ≤ MAX_LINE }

@@ -28,11 +28,11 @@ pub enum Event {
     },
     /// The message of this number is delivered.
     Deliver(u64),
-    /// All messages that haven't been delivered are delivered, or at most so many.
+    /// All messages that were neither delivered nor lost are delivered, or at most so many.
     Pump(Option<u32>),
     /// The message of this number is lost.
     Lose(u64),
-    /// All messages to the site that haven't been delivered are lost.
+    /// All messages to the site that were neither delivered nor lost are lost.
     Drop(SiteId),
     /// The site's clock ticks.
     Tick(SiteId),
