@@ -15,6 +15,7 @@ mod limits;
 mod literal;
 mod mode;
 mod naming;
+mod remembered;
 mod reply;
 mod txn;
 mod want;
@@ -36,6 +37,7 @@ pub use limits::{
 pub use literal::Literal;
 pub use mode::Mode;
 pub use naming::{continues_name, is_blank, is_name};
+pub use remembered::Remembered;
 pub use reply::{Decline, Reply};
 pub use txn::{SiteId, TxnId, print_txn, push_txn};
 pub use want::Want;
