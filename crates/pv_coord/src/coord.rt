@@ -70,13 +70,15 @@ impl Coord {
     /// Plans the entry of the next transaction, of a program and its plan.
     ///
     /// It is refused as `Spent` exactly where the next number is [`NEVER_GIVEN`], and else may want memory. Nothing is changed but the room
-    /// that is made. Takes time in proportion to the program and its plan, and where there was no room, to the number of entries.
+    /// that is made, and what could begin before still can. Takes time in proportion to the program and its plan, and where there was no
+    /// room, to the number of entries.
     pub fn plan_begin(&mut self, program: &Program, plan: &Plan) -> Result<BeginChange, CoordError>
         ensures change { IfOk result (λ change. change ≡ begun (next_txn self.old.contents) program.now plan.now.parts.items) }
         ensures planned { IfOk result (CanBegin self.new) }
 
         ensures refused { Refuses (refusal_of self.old.contents) CoordError.NoMemory result }
         ensures unchanged { self.new.contents ≡ self.old.contents }
+        ensures kept { (work : Work) → CanBegin self.old work → CanBegin self.new work }
     {
         if self.next == NEVER_GIVEN {
             return Err(CoordError::Spent);

@@ -65,7 +65,7 @@ impl Locks {
         }
     }
 
-    /// Plans a grant of these wants, which ascend by item. The grants stay as they are.
+    /// Plans a grant of these wants, which ascend by item. The grants stay as they are, and what was planned on them before can still be made.
     ///
     /// The answer is the first of these that fits:
     ///
@@ -74,7 +74,7 @@ impl Locks {
     /// 3. `Conflict`: another transaction has an item of these, and one of the two is exclusive. It is the least such item, with the least
     ///    transaction that holds it so.
     /// 4. The error `Spent`: no number is left.
-    /// 5. `Fresh`: the grant can be made, and there is memory for it until another is planned.
+    /// 5. `Fresh`: the grant can be made, and there is memory for it as long as the grants stay as they are.
     ///
     /// The error `NoMemory` may come in place of `Fresh`, and of no other. The cost is, for each want, logarithmic in the wants that are held, and linear in the
     /// transactions that hold its item.
@@ -85,6 +85,7 @@ impl Locks {
         ensures memory { result ≡ Err LockError.NoMemory → (change : Grant) × (answer_to self.old txn wants.now ≡ Ok (GrantPlan.Fresh change)) }
         ensures unchanged { self.new ≡ record self.old { room = self.new.room } }
         ensures planned { IfOk result (CanBeMade self.new) }
+        ensures kept { (grant : Grant) → IsPlanned self.old grant → IsPlanned self.new grant }
     {
         if let Some(plan) = standing_answer(&self.grants, &self.holders, txn, wants) {
             return Ok(plan);
@@ -104,6 +105,8 @@ impl Locks {
         ensures grant { IfOk result (λ change. change ≡ new_grant self.old txn wants.now) }
         ensures place { OnOk result (length self.new.grants < self.new.room.grants) }
         ensures places { OnOk result (wants_held self.new.grants + length wants.now ≤ self.new.room.wants) }
+        ensures grants_room { self.old.room.grants ≤ self.new.room.grants }
+        ensures wants_room { self.old.room.wants ≤ self.new.room.wants }
     {
         let wants = Vec::from_slice(*self.grants.allocator(), wants)?;
         self.grants.reserve(1)?;

@@ -45,6 +45,7 @@ impl Outcomes {
     pub(crate) fn reserve(&mut self, more: usize) -> Result<(), NoMemory>
         ensures same { self.new.outcomes ≡ self.old.outcomes }
         ensures room { OnOk result (more ≤ self.new.room) }
+        ensures kept { self.old.room ≤ self.new.room }
     {
         self.outcomes.reserve(more)?;
         Ok(())

@@ -45,6 +45,7 @@ impl Promises {
     pub(crate) fn reserve(&mut self, more: usize) -> Result<(), NoMemory>
         ensures same { self.new.txns ≡ self.old.txns }
         ensures room { OnOk result (more ≤ self.new.room) }
+        ensures kept { self.old.room ≤ self.new.room }
     {
         self.txns.reserve(more)?;
         Ok(())

@@ -83,7 +83,7 @@ impl Model for Store {
 
 impl Store {
     ghost use Rattle.std.specs.Prelude.{◌↔◌, false};
-    ghost use Rattle.pv_store.specs.Kept.{HasSameContents, IsPlannedOn, IsStoreOf};
+    ghost use Rattle.pv_store.specs.Kept.{HasSameContents, IsPlannedOn, IsStoreOf, Planned};
     ghost use Rattle.pv_store.specs.Refusals.{AnswersFor, ReportsWide, too_many_in, too_many_with};
 
     /// The store of a site without records: each of its items is shown as declared. Takes time in proportion to the catalog's items.
@@ -140,7 +140,8 @@ impl Store {
     /// Plans to prepare the transaction: it is to write these values, of ascending items of the site, if it commits.
     ///
     /// `TooManyOutcomes` comes exactly where the value of an item would then name more outcomes than it may; the error has the count of the
-    /// least such item. Takes time in proportion to the cases of the writes and of the values that they change, times the names.
+    /// least such item. What was planned before can still be applied. Takes time in proportion to the cases of the writes and of the values
+    /// that they change, times the names.
     pub fn plan_prepare(&mut self, txn: TxnId, writes: &[Read]) -> Result<StoreChange, StoreError>
         requires here { All (λ write. IsTrue (is_home self.old.catalog self.old.site write.item)) writes.now }
         requires ascending { AllPairs (λ (write later : model.Read). write.item < later.item) writes.now }
@@ -150,6 +151,7 @@ impl Store {
         ensures answer { AnswersFor (too_many_with self.old (prepared txn writes.now)) result }
         ensures wide { (here : Here) → IsStoreOf here self.old → here.setup.held_names ≡ HELD_NAMES → ReportsWide here txn writes.now result }
         ensures unchanged { HasSameContents self.old self.new }
+        ensures kept { (change : Planned) → IsPlannedOn self.old change → IsPlannedOn self.new change }
     {
         let values = values_after(self.alloc, &self.outcomes, &self.values, txn, writes)?;
         place_all(self.alloc, &mut self.dependents, &values)?;
@@ -163,12 +165,13 @@ impl Store {
         })
     }
 
-    /// Plans to take note of the transaction's outcome. An outcome that is known stays as it is. Takes time in proportion to the cases of the
-    /// values that name the transaction, times the names.
+    /// Plans to take note of the transaction's outcome. An outcome that is known stays as it is. What was planned before can still be applied.
+    /// Takes time in proportion to the cases of the values that name the transaction, times the names.
     pub fn plan_settle(&mut self, txn: TxnId, commits: bool) -> Result<StoreChange, NoMemory>
         ensures change { IfOk result (λ change. change.appended ≡ outcome_known txn commits) }
         ensures planned { IfOk result (IsPlannedOn self.new) }
         ensures unchanged { HasSameContents self.old self.new }
+        ensures kept { (change : Planned) → IsPlannedOn self.old change → IsPlannedOn self.new change }
     {
         let values = settled_values(
             self.alloc,
