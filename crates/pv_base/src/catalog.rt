@@ -1,5 +1,7 @@
 // The catalog of items: which there are, at which site, and with which first value.
 ghost use Rattle.std.specs.Prelude.{◌≡◌, ◌≢◌, ◌+◌, ◌<◌, ◌≤◌, Err, Some, None, [], ◌∷◌, ◌++◌, length, map, slice_get, All, OnErr, OnOk, IfOk, IfErr, IfSome, IsTrue};
+ghost use Rattle.std.specs.Int.{w64};
+ghost use Rattle.std.specs.Int.RustNames.{FitsSigned};
 ghost use Rattle.std.specs.Option.{option_map};
 
 use crate::entries::{
@@ -210,10 +212,11 @@ impl Catalog {
         declaration_at(&self.items, item.0 as usize).value
     }
 
-    /// How many items there are.
+    /// How many items there are, each declared with a value of 64 bits.
     pub fn len(&self) -> u32
         ensures count { result ≡ length self.now.items }
         ensures bound { result ≤ MAX_ITEMS }
+        ensures values { All (λ item. FitsSigned w64 item.value) self.now.items }
     {
         count_of(&self.items) as u32
     }
