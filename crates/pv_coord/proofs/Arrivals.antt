@@ -1,11 +1,10 @@
 -- What a grant is to its transaction, by what is tested of it.
 use Rattle.std.proofs.Common.{◌≡◌, Bool, true, false, Some, None, Option, IsTrue, refl, sym, ap, subst, ◌∙◌}
-use Rattle.std.specs.Prelude.{not, ◌||◌, if◌then◌else◌, IfErr, Result, Ok, Err}
-use Rattle.std.proofs.lemmas.Bool.{false≢true}
+use Rattle.std.specs.Prelude.{not, if◌then◌else◌, IfErr, Result, Ok, Err}
 use Rattle.pv_coord.specs.Answers.{Arrival, ignored, waits, last, arrival, arrival_at, CanApply}
-use Rattle.pv_coord.specs.Coordinator.{Coordinator, Grants, locking_work, awaits, CanTake}
-use Rattle.pv_coord.specs.Work.{Work, is_unawaited, is_grant_ignored, has_all_grants, with_grant, asked_of}
-use Rattle.pv_protocol.specs.Coordinate.{reads_of, are_values_of}
+use Rattle.pv_coord.specs.Coordinator.{Coordinator, Grants, locking_work, fits, completes, CanTake, is_last}
+use Rattle.pv_coord.specs.Work.{Work, is_grant_ignored, has_all_grants, with_grant}
+use Rattle.pv_protocol.specs.Coordinate.{reads_of}
 
 -- the arrival by the two tests
 abbrev arrival_by : Bool → Bool → Work → Grants → Arrival
@@ -41,21 +40,18 @@ noticed work grants fit is =
     noticed-by (has_all_grants (with_grant work grants.taken)) work grants
     (sym (ap (λ (b : Bool). arrival_by b (has_all_grants (with_grant work grants.taken)) work grants) fit) ∙ is)
 
-fit-awaited : (a b : Bool) → (a || b) ≡ false → not a ≡ true
-fit-awaited true b is = absurd (false≢true (sym is))
-fit-awaited false b is = refl
-
-apply-by : (coord : Coordinator) (work : Work) (grants : Grants) (unfit whole : Bool) → (unfit ≡ false → CanTake coord grants) → CanApply coord (arrival_by unfit whole work grants)
-apply-by coord work grants true whole may = tt
-apply-by coord work grants false true may = may refl
-apply-by coord work grants false false may = may refl
+apply-by : (coord : Coordinator) (work : Work) (grants : Grants) (unfit whole : Bool) → (unfit ≡ false → CanTake coord grants) → whole ≡ is_last coord grants
+    → CanApply coord (arrival_by unfit whole work grants)
+apply-by coord work grants true whole may all = tt
+apply-by coord work grants false true may all = (may refl, all)
+apply-by coord work grants false false may all = (may refl, all)
 
 apply-held : (coord : Coordinator) (grants : Grants) (held : Option Work) → locking_work coord grants.txn ≡ held → CanApply coord (arrival held grants)
 apply-held coord grants None is = tt
 apply-held coord grants (Some work) is =
     apply-by coord work grants (is_grant_ignored work grants.taken) (has_all_grants (with_grant work grants.taken))
-    (λ fit. subst (λ (held : Option Work). IsTrue (awaits held grants.taken.site)) (sym is)
-    (fit-awaited (is_unawaited work grants.taken.site) (not (are_values_of (asked_of work grants.taken.site) grants.taken.values)) fit))
+    (λ fit. subst (λ (held : Option Work). IsTrue (fits held grants.taken)) (sym is) (ap not fit))
+    (sym (ap (λ (held : Option Work). completes held grants.taken) is))
 
 -- The change of an answer may be applied.
 pub can-apply : (coord : Coordinator) (grants : Grants) → CanApply coord (arrival (locking_work coord grants.txn) grants)

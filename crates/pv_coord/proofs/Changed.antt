@@ -10,9 +10,9 @@ use Rattle.pv_base.specs.declared.limits.TheConstants.{TICKS}
 use Rattle.pv_base.specs.declared.reply.Reply.{Reply}
 use Rattle.pv_base.specs.declared.txn.TxnId.{TxnId}
 use Rattle.pv_coord.proofs.KeyedLemmas.{found-at, found-both, only, with-at}
-use Rattle.pv_coord.specs.Coordinator.{awaits, with_taken_for, with_vote_for}
+use Rattle.pv_coord.specs.Coordinator.{fits, with_taken_for, with_vote_for}
 use Rattle.pv_coord.specs.Place.{IsPlace}
-use Rattle.pv_coord.specs.Work.{Work, txn_of, is_unawaited, is_vote_ignored, after_grant, with_vote}
+use Rattle.pv_coord.specs.Work.{Work, txn_of, is_unawaited, is_grant_ignored, is_vote_ignored, after_grant, with_vote}
 use Rattle.pv_protocol.specs.Coordinate.{is_locking}
 use Rattle.pv_protocol.specs.Keyed.{of_txn, with_one, AreInOrder}
 use Rattle.pv_protocol.specs.State.{Taken}
@@ -55,9 +55,13 @@ counted-young-by work from false young = young
 pub counted-young : (work : Work) (from : ℕ) → work.entry.age < TICKS → (counted work from).entry.age < TICKS
 counted-young work from young = counted-young-by work from (is_locking work.entry.stage || is_vote_ignored work from) young
 
-awaited-by : (b : Bool) (work : Work) (site : ℕ) → IsTrue (awaits (if b then Some work else None) site) → (b ≡ true) × (not (is_unawaited work site) ≡ true)
-awaited-by true work site is = (refl, is)
-awaited-by false work site is = absurd (false≢true is)
+fits-by : (b : Bool) (work : Work) (taken : Taken) → IsTrue (fits (if b then Some work else None) taken) → (b ≡ true) × (not (is_grant_ignored work taken) ≡ true)
+fits-by true work taken is = (refl, is)
+fits-by false work taken is = absurd (false≢true is)
+
+neither-left : (a b : Bool) → (a || b) ≡ false → a ≡ false
+neither-left true b is = absurd (true≢false is)
+neither-left false b is = refl
 
 pub not-true : (b : Bool) → not b ≡ true → b ≡ false
 not-true true is = absurd (false≢true is)
@@ -77,11 +81,11 @@ module _ (works : List Work) (up : AreInOrder txn_of works) (txn : TxnId) (place
   pub held-there : (p : Work → Bool) → held p txn works ≡ (if p work then Some work else None)
   held-there p = found-both txn_of p works up txn ∙ ap (only txn_of p) found
 
-  -- A grant that is awaited is awaited there.
-  pub is-awaited : (site : ℕ) → IsTrue (awaits (held locks txn works) site) → (locks work ≡ true) × (is_unawaited work site ≡ false)
-  is-awaited site waits =
-      let both = awaited-by (locks work) work site (subst (λ (o : Option Work). IsTrue (awaits o site)) (held-there locks) waits) in
-      (both.0, not-true (is_unawaited work site) both.1)
+  -- A grant of which notice is taken is awaited there.
+  pub is-awaited : (taken : Taken) → IsTrue (fits (held locks txn works) taken) → (locks work ≡ true) × (is_unawaited work taken.site ≡ false)
+  is-awaited taken fit =
+      let both = fits-by (locks work) work taken (subst (λ (o : Option Work). IsTrue (fits o taken)) (held-there locks) fit) in
+      (both.0, neither-left (is_unawaited work taken.site) _ (not-true (is_grant_ignored work taken) both.1))
 
   -- The work is changed to one on the same transaction.
   pub put-there : (new : Work) → txn_of new ≡ txn_of work → set works place new ≡ with_one txn_of new works

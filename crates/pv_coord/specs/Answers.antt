@@ -1,7 +1,7 @@
 -- What a coordinator answers.
-use Rattle.std.specs.Prelude.{ℕ, ◌==◌, ⊤, List, Option, Some, None, if◌then◌else◌}
+use Rattle.std.specs.Prelude.{◌≡◌, ℕ, ◌==◌, ⊤, true, false, List, Option, Some, None, if◌then◌else◌}
 use Rattle.pv_base.specs.declared.limits.TheConstants.{NEVER_GIVEN}
-use Rattle.pv_coord.specs.Coordinator.{Coordinator, Grants, CanTake}
+use Rattle.pv_coord.specs.Coordinator.{Coordinator, Grants, CanTake, is_last}
 use Rattle.pv_coord.specs.Work.{Work, is_grant_ignored, is_vote_ignored, has_all_grants, has_all_votes, with_grant, with_vote, awaited}
 use Rattle.pv_coord.specs.declared.answer.Expiry.{Expiry}
 use Rattle.pv_coord.specs.declared.answer.GrantTaken.{GrantTaken}
@@ -46,11 +46,11 @@ arrival_of granted.Ignored = ignored
 arrival_of (granted.Wait change) = waits change
 arrival_of (granted.Last reads program change) = last reads.items program change
 
--- The answer's change, if it has one, may be applied.
+-- The answer's change, if it has one, may be applied: with a reply where it is the last, and else without one.
 abbrev pub CanApply : Coordinator → Arrival → Type 0
 CanApply coord ignored = ⊤
-CanApply coord (waits grants) = CanTake coord grants
-CanApply coord (last reads program grants) = CanTake coord grants
+CanApply coord (waits grants) = CanTake coord grants × (false ≡ is_last coord grants)
+CanApply coord (last reads program grants) = CanTake coord grants × (true ≡ is_last coord grants)
 
 -- what a yes is to this work
 abbrev pub vote_at : Work → ℕ → Vote

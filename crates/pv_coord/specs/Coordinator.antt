@@ -6,7 +6,7 @@ use Rattle.pv_base.specs.declared.grant.GrantId.{GrantId}
 use Rattle.pv_base.specs.declared.limits.TheConstants.{NEVER_GIVEN, TICKS}
 use Rattle.pv_base.specs.declared.reply.Reply.{Reply}
 use Rattle.pv_base.specs.declared.txn.TxnId.{TxnId}
-use Rattle.pv_coord.specs.Work.{Work, txn_of, begun, is_unawaited, is_denial_ignored, is_vote_ignored, after_grant, with_vote, grant_from}
+use Rattle.pv_coord.specs.Work.{Work, txn_of, begun, is_grant_ignored, is_denial_ignored, is_vote_ignored, has_all_grants, with_grant, after_grant, with_vote, grant_from}
 use Rattle.pv_protocol.specs.Coordinate.{is_locking}
 use Rattle.pv_protocol.specs.Keyed.{of_txn, with_one, without, AreInOrder}
 use Rattle.pv_protocol.specs.State.{Taken}
@@ -120,14 +120,23 @@ pub record CanBegin (coord : CoordMemory) (work : Work) : Type 0 where
   pub number : coord.contents.next < NEVER_GIVEN
   pub place : 0 < coord.places
 
--- A grant of the site is awaited for what is held.
-abbrev pub awaits : Option Work → ℕ → Bool
-awaits None site = false
-awaits (Some work) site = not (is_unawaited work site)
+-- Notice is taken of the grant for what is held: it is awaited, and is of the items that were asked for.
+abbrev pub fits : Option Work → Taken → Bool
+fits None taken = false
+fits (Some work) taken = not (is_grant_ignored work taken)
 
--- The grant may be taken: locks are asked for its transaction, and it is awaited of its site.
+-- With the grant, all are granted for what is held.
+abbrev pub completes : Option Work → Taken → Bool
+completes None taken = false
+completes (Some work) taken = has_all_grants (with_grant work taken)
+
+-- The grant may be taken: locks are asked for its transaction, and notice is taken of it.
 abbrev pub CanTake : Coordinator → Grants → Type 0
-CanTake coord grants = IsTrue (awaits (locking_work coord grants.txn) grants.taken.site)
+CanTake coord grants = IsTrue (fits (locking_work coord grants.txn) grants.taken)
+
+-- The grant is the last that its transaction waits for.
+abbrev pub is_last : Coordinator → Grants → Bool
+is_last coord grants = completes (locking_work coord grants.txn) grants.taken
 
 -- What is true of every coordinator.
 

@@ -1,10 +1,10 @@
 // A coordinator, and what is done with its entries.
-ghost use Rattle.std.specs.Prelude.{◌≡◌, ◌≢◌, ◌<◌, ◌++◌, ◌∷◌, not, All, map, length, List, [], Option, Some, None, MatchOption, IfErr, IfOk, OnOk, is_some, ◌==◌, ◌&&◌, find};
+ghost use Rattle.std.specs.Prelude.{◌≡◌, ◌≢◌, ◌<◌, ◌≤◌, ◌+◌, ◌++◌, ◌∷◌, not, All, map, length, List, [], Option, Some, None, MatchOption, IfErr, IfOk, OnOk, is_some, ◌==◌, ◌&&◌, find, vec_len, vec_capacity};
 ghost use Rattle.std.specs.Option.{option_map, option_copied};
 ghost use Rattle.pv_base.specs.Answer.{Refuses};
 ghost use Rattle.pv_base.specs.declared.limits.TheConstants.{NEVER_GIVEN, TICKS};
 ghost use Rattle.pv_coord.specs.Answers.{refusal_of, ignored, arrival, arrival_of, vote_of, expiry_of, CanApply};
-ghost use Rattle.pv_coord.specs.Coordinator.{next_txn, work_of, locking_work, voting_work, is_issued, refuses, grant_of, reply_of, without_work, beginning, taking, counting, older, lasting, expired, CanBegin, CanTake};
+ghost use Rattle.pv_coord.specs.Coordinator.{next_txn, work_of, locking_work, voting_work, is_issued, refuses, grant_of, reply_of, without_work, beginning, taking, counting, older, lasting, expired, is_last, CanBegin, CanTake};
 ghost use Rattle.pv_coord.specs.Place.{IsPlace};
 ghost use Rattle.pv_coord.specs.Work.{Work, txn_of, begun};
 ghost use Rattle.pv_base.specs.Assignment.{is_same_txn};
@@ -94,11 +94,12 @@ impl Coord {
         Ok(BeginChange { txn, entry })
     }
 
-    /// Begins the transaction: its entry asks for locks, with age 0.
+    /// Begins the transaction: its entry asks for locks, with age 0. It takes one place, and no other is given back.
     pub fn apply_begin(&mut self, change: BeginChange) -> TxnId
         requires planned { CanBegin self.old change }
         ensures txn { result ≡ change.entry.txn }
         ensures begun { self.new.contents ≡ beginning self.old.contents change }
+        ensures places { self.old.places ≤ self.new.places + 1 }
     {
         let BeginChange { txn, entry } = change;
         self.entries.push_reserved(entry);
@@ -132,10 +133,11 @@ impl Coord {
         entry.plan_grant(alloc, txn, from, grant, values)
     }
 
-    /// Takes the grant. With a reply, which is what the program replies once all are granted, the entry is at its lock point: from then on
-    /// it asks for votes, with age 0.
+    /// Takes the grant, which was planned on what is known now. With the last one there is a reply, which is what the program replies once
+    /// all are granted, and the entry is at its lock point: from then on it asks for votes, with age 0.
     pub fn apply_granted(&mut self, change: Change, reply: Option<Poly<Reply>>)
         requires planned { CanTake self.old.contents change }
+        requires reply { is_some reply ≡ is_last self.old.contents change }
         ensures { self.new ≡ record self.old { contents = taking self.old.contents change reply } }
     {
         let Change { txn, taken } = change;
@@ -182,9 +184,11 @@ impl Coord {
         }
     }
 
-    /// Drops the entry of the transaction. Where there is none, nothing is changed. The entries behind it are moved.
+    /// Drops the entry of the transaction. Where there is none, nothing is changed. What could begin before still can. The entries behind it are
+    /// moved.
     pub fn drop_entry(&mut self, txn: TxnId)
-        ensures { self.new.contents ≡ without_work self.old.contents txn }
+        ensures dropped { self.new.contents ≡ without_work self.old.contents txn }
+        ensures kept { (work : Work) → CanBegin self.old work → CanBegin self.new work }
     {
         match place_of(&self.entries, txn) {
             Some(place) => {
@@ -205,9 +209,11 @@ impl Coord {
         Ok(expiries)
     }
 
-    /// Each entry is a tick older, and those are dropped that have come to their last tick. Takes time in proportion to the entries.
+    /// Each entry is a tick older, and those are dropped that have come to their last tick. What could begin before still can. Takes time in
+    /// proportion to the entries.
     pub fn apply_tick(&mut self)
-        ensures { self.new.contents ≡ record self.old.contents { entries = lasting (older self.old.contents.entries) } }
+        ensures older { self.new.contents ≡ record self.old.contents { entries = lasting (older self.old.contents.entries) } }
+        ensures kept { (work : Work) → CanBegin self.old work → CanBegin self.new work }
     {
         age(&mut self.entries);
         keep_young(&mut self.entries);
@@ -356,7 +362,9 @@ fn age(entries: &mut [Entry])
 
 // Drops the entries that have come to their last tick.
 fn keep_young(entries: &mut Vec<Entry>)
-    ensures { entries.new.items ≡ lasting entries.old.items }
+    ensures lasting { entries.new.items ≡ lasting entries.old.items }
+    ensures fewer { vec_len entries.new ≤ vec_len entries.old }
+    ensures capacity { vec_capacity entries.new ≡ vec_capacity entries.old }
 {
     entries.retain(|entry| entry.is_young());
 }

@@ -3,7 +3,7 @@ use Rattle.std.proofs.Common.{◌≡◌, ◌<◌, List, None, Option, IsTrue, ge
 use Rattle.pv_base.specs.declared.limits.TheConstants.{TICKS}
 use Rattle.pv_coord.proofs.Changed.{locks, after-txn, after-young, granted-there, is-awaited, same-txn, held-none}
 use Rattle.pv_coord.proofs.Kept.{kept-set}
-use Rattle.pv_coord.specs.Coordinator.{Coordinator, CoordMemory, Grants, awaits, locking_work, taking, with_taken_for}
+use Rattle.pv_coord.specs.Coordinator.{Coordinator, CoordMemory, Grants, fits, locking_work, taking, with_taken_for}
 use Rattle.pv_coord.specs.Place.{IsPlace}
 use Rattle.pv_coord.specs.Work.{Work, txn_of, after_grant}
 use Rattle.pv_protocol.specs.Keyed.{of_txn}
@@ -17,9 +17,9 @@ take-requires c =
     let place : IsPlace entries c.change.inside.txn c.in-Some.place =
     subst (λ (works : List Work). IsPlace works c.change.inside.txn c.in-Some.place) c.deref.ensures.value c.in-Some.ensures in
     let waits =
-    is-awaited entries c.self.invariant.ascending c.change.inside.txn c.in-Some.place place work is c.change.inside.taken.site
-    (subst (λ (memory : CoordMemory). IsTrue (awaits (locking_work memory.contents c.change.inside.txn) c.change.inside.taken.site)) (sym c.self.view_is)
-    (subst (λ (grants : Grants). IsTrue (awaits (locking_work c.args.self.now.contents grants.txn) grants.taken.site)) (sym c.change.view_is) c.requires.planned)) in
+    is-awaited entries c.self.invariant.ascending c.change.inside.txn c.in-Some.place place work is c.change.inside.taken
+    (subst (λ (memory : CoordMemory). IsTrue (fits (locking_work memory.contents c.change.inside.txn) c.change.inside.taken)) (sym c.self.view_is)
+    (subst (λ (grants : Grants). IsTrue (fits (locking_work c.args.self.now.contents grants.txn) grants.taken)) (sym c.change.view_is) c.requires.planned)) in
     record { awaited = waits.1 }
 
 pub invariant_of-self : goal.invariant_of-self
@@ -42,9 +42,9 @@ returns-in-Some c =
     let place : IsPlace entries c.change.inside.txn c.in-Some.place =
     subst (λ (works : List Work). IsPlace works c.change.inside.txn c.in-Some.place) c.deref.ensures.value c.in-Some.ensures in
     let waits =
-    is-awaited entries c.self.invariant.ascending c.change.inside.txn c.in-Some.place place work is c.change.inside.taken.site
-    (subst (λ (memory : CoordMemory). IsTrue (awaits (locking_work memory.contents c.change.inside.txn) c.change.inside.taken.site)) (sym c.self.view_is)
-    (subst (λ (grants : Grants). IsTrue (awaits (locking_work c.args.self.now.contents grants.txn) grants.taken.site)) (sym c.change.view_is) c.requires.planned)) in
+    is-awaited entries c.self.invariant.ascending c.change.inside.txn c.in-Some.place place work is c.change.inside.taken
+    (subst (λ (memory : CoordMemory). IsTrue (fits (locking_work memory.contents c.change.inside.txn) c.change.inside.taken)) (sym c.self.view_is)
+    (subst (λ (grants : Grants). IsTrue (fits (locking_work c.args.self.now.contents grants.txn) grants.taken)) (sym c.change.view_is) c.requires.planned)) in
     rw (c.take.ensures, granted-there entries c.self.invariant.ascending c.change.inside.txn c.in-Some.place place work is c.change.inside.taken c.args.reply waits.0)
     (ap (λ (memory : CoordMemory). record memory { contents = taking memory.contents (record { txn = c.change.inside.txn; taken = c.change.inside.taken }) c.args.reply }) c.self.view_is
     ∙ ap (λ (grants : Grants). record { contents = taking c.args.self.now.contents grants c.args.reply; places = c.args.self.now.places }) c.change.view_is)

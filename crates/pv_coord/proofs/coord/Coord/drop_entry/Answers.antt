@@ -20,11 +20,11 @@ removed c =
 pub invariant_of-self : goal.invariant_of-self
 invariant_of-self c = rw (removed c) (kept-filter _ c.self.invariant (λ (work : Work). not (is_same_txn c.args.txn (txn_of work))))
 
-pub returns-in-Some : goal.returns-in-Some
-returns-in-Some c = rw (removed c) (ap (λ (memory : CoordMemory). without_work memory.contents c.args.txn) c.self.view_is)
+pub returns-in-Some-clause-dropped : goal.returns-in-Some-clause-dropped
+returns-in-Some-clause-dropped c = rw (removed c) (ap (λ (memory : CoordMemory). without_work memory.contents c.args.txn) c.self.view_is)
 
-pub returns-in-None : goal.returns-in-None
-returns-in-None c =
+pub returns-in-None-clause-dropped : goal.returns-in-None-clause-dropped
+returns-in-None-clause-dropped c =
     let entries = c.self.inside.entries.items in
     let none : of_txn txn_of c.args.txn entries ≡ None = subst (λ (works : List Work). of_txn txn_of c.args.txn works ≡ None) c.deref.ensures.value c.in-None.ensures in
     let coord : Coordinator = record { site = c.self.inside.site.0; epoch = c.self.inside.epoch; next = c.self.inside.next; entries = entries } in
