@@ -10,43 +10,33 @@ use crate::entries::{
 use crate::{MAX_ITEMS, MAX_JOURNAL, MAX_SITES, MIN_JOURNAL, NoMemory, SiteId, is_name};
 use indexmap::IndexMap;
 use std::alloc::{AllocError, AllocFailed, Global};
-use std::error::Error;
-use std::fmt;
 use std::marker::Model;
+use thiserror::Error;
 
 /// An item, numbered from 0 in order of declaration.
 #[derive(Clone, Copy, Debug, PartialEq, Eq, PartialOrd, Ord, Hash)]
 pub struct ItemId(pub u32);
 
 /// Why an item wasn't added.
-#[derive(Clone, Copy, Debug, PartialEq, Eq, Hash)]
+#[derive(Clone, Copy, Debug, PartialEq, Eq, Error)]
 pub enum CatalogError {
     /// The text isn't a name: 1 to 16 bytes, a lower-case letter and then lower-case letters, digits and `_`, and no
     /// keyword.
+    #[error("not a name")]
     BadName,
     /// This item has the name.
+    #[error("the name is taken")]
     NameTaken(ItemId),
     /// There is no such site.
+    #[error("no such site")]
     NoSite,
     /// The catalog holds [`MAX_ITEMS`] items.
+    #[error("too many items")]
     TooMany,
     /// There was no memory for the item.
+    #[error("no memory")]
     NoMemory,
 }
-
-impl fmt::Display for CatalogError {
-    fn fmt<W: fmt::Write>(&self, f: &mut fmt::Formatter<W>) -> fmt::Result {
-        f.write_str(match self {
-            CatalogError::BadName => "not a name",
-            CatalogError::NameTaken(_) => "the name is taken",
-            CatalogError::NoSite => "no such site",
-            CatalogError::TooMany => "too many items",
-            CatalogError::NoMemory => "no memory",
-        })
-    }
-}
-
-impl Error for CatalogError {}
 
 impl From<AllocError> for CatalogError {
     ghost use Rattle.pv_base.specs.declared.catalog.CatalogError.TheVariants as error;

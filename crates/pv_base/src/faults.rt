@@ -1,52 +1,41 @@
 // Why cases can't be held as a polyvalue.
 use crate::{NoMemory, TxnId};
-use std::error::Error;
-use std::fmt;
+use thiserror::Error;
 
 /// Why a list of cases isn't a polyvalue. The first cause that holds is reported, in the order in which they stand here; out
 /// of memory may come in place of any.
-#[derive(Debug, Drop)]
+#[derive(Debug, Drop, Error)]
 pub enum CaseError {
     /// The cases name this many outcomes, more than [`crate::HELD_NAMES`].
+    #[error("the cases name {0} outcomes")]
     TooManyOutcomes(u32),
     /// One assignment meets both of the cases at these places. Of all such pairs this one has the least first place, and
     /// then the least second one.
+    #[error("cases {0} and {1} overlap")]
     NotDisjoint(u32, u32),
     /// No case is met where exactly these transactions commit, which are ascending. Of all such assignments of the outcomes
     /// that the cases name, with "doesn't commit" before "commits" and the least transaction the most significant, it is the
     /// first.
+    #[error("an assignment meets no case")]
     NotComplete(Vec<TxnId>),
     /// The list isn't in canonical form: this is the first place where it differs from the canonical cases.
+    #[error("case {0} isn't canonical")]
     NotReduced(u32),
     /// There was no memory.
+    #[error("no memory")]
     NoMemory,
 }
 
 /// Why a polyvalue can't be made.
-#[derive(Clone, Copy, Debug, PartialEq, Eq)]
+#[derive(Clone, Copy, Debug, PartialEq, Eq, Error)]
 pub enum NameError {
     /// It would name this many outcomes, more than [`crate::HELD_NAMES`].
+    #[error("the value names {0} outcomes")]
     TooManyOutcomes(u32),
     /// There was no memory.
+    #[error("no memory")]
     NoMemory,
 }
-
-impl fmt::Display for CaseError {
-    fn fmt<W: fmt::Write>(&self, f: &mut fmt::Formatter<W>) -> fmt::Result {
-        match self {
-            CaseError::TooManyOutcomes(count) => write!(f, "the cases name {count} outcomes"),
-            CaseError::NotDisjoint(first, second) => write!(
-                f,
-                "cases {first} and {second} overlap"
-            ),
-            CaseError::NotComplete(_) => f.write_str("an assignment meets no case"),
-            CaseError::NotReduced(place) => write!(f, "case {place} isn't canonical"),
-            CaseError::NoMemory => f.write_str("no memory"),
-        }
-    }
-}
-
-impl Error for CaseError {}
 
 impl From<NoMemory> for CaseError {
     ghost use Rattle.std.specs.Prelude.{◌≡◌};
@@ -58,17 +47,6 @@ impl From<NoMemory> for CaseError {
         CaseError::NoMemory
     }
 }
-
-impl fmt::Display for NameError {
-    fn fmt<W: fmt::Write>(&self, f: &mut fmt::Formatter<W>) -> fmt::Result {
-        match self {
-            NameError::TooManyOutcomes(count) => write!(f, "the value names {count} outcomes"),
-            NameError::NoMemory => f.write_str("no memory"),
-        }
-    }
-}
-
-impl Error for NameError {}
 
 impl From<NoMemory> for NameError {
     ghost use Rattle.std.specs.Prelude.{◌≡◌};
