@@ -9,8 +9,10 @@ use Rattle.pv_base.specs.Catalog.{Item}
 use Rattle.pv_base.specs.declared.txn.TxnId.{TxnId}
 use Rattle.pv_format.specs.Message.{Envelope}
 use Rattle.pv_format.specs.Record.{Record}
+use Rattle.pv_law_world.proofs.EventView.{view-of-event}
 use Rattle.pv_law_world.proofs.RunRangeLemmas.{HasGoodEvent, run-good}
 use Rattle.pv_law_world.proofs.TransitionLemmas.{run-transitions}
+use Rattle.pv_law_world.specs.EventView.{Beginning, Printed, begun_by}
 use Rattle.pv_law_world.specs.Transitions.{AreTransitions, one_more}
 use Rattle.pv_model.specs.Events.{Event}
 use Rattle.pv_protocol.specs.Anywhere.{MayEnd, whole, without, with_record, MayCome, without_attempt, by_attempt, disarmed_site, disarmed, MayFollow, IsRunWithFaults, ends, goes_on, without_arms}
@@ -21,7 +23,7 @@ use Rattle.pv_protocol.specs.Lines.{Line}
 use Rattle.pv_protocol.specs.Report.{readings_from, report_of, total_of, sent_lines}
 use Rattle.pv_protocol.specs.Run.{run}
 use Rattle.pv_protocol.specs.Start.{site_start}
-use Rattle.pv_protocol.specs.State.{Setup, Running, Site, Arm, Input, submit, receive, tick, TakenGrant, Placed}
+use Rattle.pv_protocol.specs.State.{Setup, Running, Site, Arm, Input, receive, TakenGrant, Placed}
 use Rattle.pv_protocol.specs.Step.{site_step}
 use Rattle.pv_protocol.specs.WellFormed.{IsWellFormed}
 use Rattle.pv_protocol.specs.World.{World, no_site, first_site, site_at, with_site, with_done, opening}
@@ -142,26 +144,29 @@ module _ (setup : Setup) where
       subst (λ (all : List Line). AreSame (at_once lines world) (at_once all (disarmed world))) (sym is)
       (both_settle lines world (disarmed world) (disarmed-twice world))
 
-  begun-same : (world : World) (event : Event) → AreSame (begun setup world event) (begun setup (disarmed world) event)
-  unfolding begun sent_lines
-  begun-same world (Event.submit n query text program) = given-here world n (submit program)
-  begun-same world (Event.deliver number) = delivered-same world number (slice_get world.sent number)
-  begun-same world (Event.pump most) = printed-same world [] [] refl
-  begun-same world (Event.lose number) = lost-same world number (slice_get world.sent number)
-  begun-same world (Event.drop n) = both_settle [] _ _ (ap (λ (sites : List Site). record world { sites = sites; fresh = without_site n world.sent world.fresh }) (sym (twice world.sites)))
-  begun-same world (Event.tick n) = given-here world n tick
-  begun-same world (Event.stop n) =
+  beginning-same : (world : World) (beginning : Beginning) → AreSame (begun_by setup world beginning) (begun_by setup (disarmed world) beginning)
+  unfolding sent_lines
+  beginning-same world (Beginning.gives n input) = given-here world n input
+  beginning-same world (Beginning.delivers number) = delivered-same world number (slice_get world.sent number)
+  beginning-same world (Beginning.loses number) = lost-same world number (slice_get world.sent number)
+  beginning-same world (Beginning.drops n) = both_settle [] _ _ (ap (λ (sites : List Site). record world { sites = sites; fresh = without_site n world.sent world.fresh }) (sym (twice world.sites)))
+  beginning-same world (Beginning.halts n) =
       subst (λ (running : Option Running). AreSame (halted world n (site_at world n).running) (halted (disarmed world) n running))
       (running-same world n) (halted-same world n (site_at world n).running)
-  begun-same world (Event.start n) =
+  beginning-same world (Beginning.opens n) =
       subst (λ (running : Option Running). AreSame (opened setup world n (site_at world n).running) (opened setup (disarmed world) n running))
       (running-same world n) (opened-same world n (site_at world n).running)
-  begun-same world (Event.arm n call mode stops) =
-      both_settle _ _ _ (changed-same world n (λ site. record site { arm = Some (record { call = call; mode = mode; stops = stops }) }) (λ site. refl))
-  begun-same world (Event.mend n) = both_settle _ _ _ (changed-same world n (λ site. record site { arm = None }) (λ site. refl))
-  begun-same world Event.sent = printed-same world _ _ refl
-  begun-same world Event.report = printed-same world _ _ (report-same setup world)
-  begun-same world Event.total = printed-same world _ _ (total-same setup world)
+  beginning-same world (Beginning.arms n arm) = both_settle _ _ _ (changed-same world n (λ site. record site { arm = arm }) (λ site. refl))
+  beginning-same world (Beginning.prints Printed.nothing) = printed-same world [] [] refl
+  beginning-same world (Beginning.prints Printed.messages) = printed-same world _ _ refl
+  beginning-same world (Beginning.prints Printed.reported) = printed-same world _ _ (report-same setup world)
+  beginning-same world (Beginning.prints Printed.summed) = printed-same world _ _ (total-same setup world)
+
+  begun-same : (world : World) (event : Event) → AreSame (begun setup world event) (begun setup (disarmed world) event)
+  begun-same world event =
+      let view = view-of-event event in
+      subst (λ (b : Begun). AreSame b (begun setup (disarmed world) event)) (sym (view.1.same setup world))
+      (subst (AreSame (begun_by setup world view.0)) (sym (view.1.same setup (disarmed world))) (beginning-same world view.0))
 
 -- ---- how an attempt ends
 

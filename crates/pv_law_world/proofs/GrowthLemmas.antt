@@ -5,6 +5,8 @@ use Rattle.std.proofs.lemmas.List.{append-nil, length-set, length-replicate}
 use Rattle.std.proofs.lemmas.List.Elements.{All-nil, All-map}
 use Rattle.pv_format.specs.Message.{Envelope}
 use Rattle.pv_format.specs.Record.{Record}
+use Rattle.pv_law_world.proofs.EventView.{by-beginning, asked-site}
+use Rattle.pv_law_world.specs.EventView.{Beginning, begun_by, IsGuarded}
 use Rattle.pv_law_world.specs.Pumps.{AreMarked}
 use Rattle.pv_law_world.specs.Transitions.{receiver_of, site_of}
 use Rattle.pv_model.specs.Events.{Event}
@@ -12,7 +14,7 @@ use Rattle.pv_protocol.specs.Arms.{Reached, waits, fires, reached, calls_of, rec
 use Rattle.pv_protocol.specs.Attempt.{Attempt, Begun, at_once, attempts, begun, given, delivered, lost, without_site, halted, opened, of_start}
 use Rattle.pv_protocol.specs.Lines.{Line}
 use Rattle.pv_protocol.specs.Start.{Started, starts, too_long, no_epoch, site_start}
-use Rattle.pv_protocol.specs.State.{Setup, Running, Site, Input, submit, receive, tick, Placed}
+use Rattle.pv_protocol.specs.State.{Setup, Running, Site, Input, receive, Placed}
 use Rattle.pv_protocol.specs.World.{World, no_site, site_at, with_site, with_done, from_site}
 use Rattle.pv_protocol.specs.WorldStep.{ended, transition_of}
 
@@ -78,17 +80,17 @@ module _ (setup : Setup) (world : World) where
   delivered-leaves number None = settles _ world keeps-all
   delivered-leaves number (Some envelope) = given-leaves (with_done world number) refl refl refl (length-set world.fresh number false) envelope.to (receive envelope.from envelope.message) _ refl
 
-  lost-leaves : (number : ℕ) (envelope : Option Envelope) → Leaves world None (lost world number envelope)
-  lost-leaves number None = settles _ world keeps-all
-  lost-leaves number (Some envelope) = settles _ _ (record { records = λ n. refl; sent = refl; order = refl; marks = length-set world.fresh number false })
+  lost-leaves : (source : Option ℕ) (number : ℕ) (envelope : Option Envelope) → Leaves world source (lost world number envelope)
+  lost-leaves source number None = settles _ world keeps-all
+  lost-leaves source number (Some envelope) = settles _ _ (record { records = λ n. refl; sent = refl; order = refl; marks = length-set world.fresh number false })
 
   -- a site with other memory, or another armed fault
   put-keeps : (n : ℕ) (site : Site) → site.records ≡ (site_at world n).records → Keeps world (with_site world n site)
   put-keeps n site is = record { records = set-keeps world.sites n site is; sent = refl; order = refl; marks = refl }
 
-  halted-leaves : (n : ℕ) (running : Option Running) → Leaves world (Some n) (halted world n running)
-  halted-leaves n None = settles _ world keeps-all
-  halted-leaves n (Some running) = settles _ _ (put-keeps n _ refl)
+  halted-leaves : (source : Option ℕ) (n : ℕ) (running : Option Running) → Leaves world source (halted world n running)
+  halted-leaves source n None = settles _ world keeps-all
+  halted-leaves source n (Some running) = settles _ _ (put-keeps n _ refl)
 
   start-silent : (n : ℕ) (started : Started) → (of_start n started).sends ≡ []
   start-silent n (starts running epoch) = refl
@@ -99,21 +101,23 @@ module _ (setup : Setup) (world : World) where
   opened-leaves n (Some running) = settles _ world keeps-all
   opened-leaves n None = goes_on world n _ refl refl refl refl refl (inr (start-silent n (site_start setup (site_at world n).records)))
 
+  beginning-leaves : (event : Event) (beginning : Beginning) → IsGuarded event beginning → Leaves world (site_of world event) (begun_by setup world beginning)
+  beginning-leaves event (Beginning.gives n input) guard =
+      subst (λ (source : Option ℕ). Leaves world source (begun_by setup world (Beginning.gives n input))) (sym (asked-site world event n input guard))
+      (given-leaves world refl refl refl refl n input _ refl)
+  beginning-leaves event (Beginning.delivers number) guard =
+      subst (λ (source : Option ℕ). Leaves world source (begun_by setup world (Beginning.delivers number))) (sym (ap (site_of world) guard))
+      (delivered-leaves number (slice_get world.sent number))
+  beginning-leaves event (Beginning.loses number) guard = lost-leaves (site_of world event) number (slice_get world.sent number)
+  beginning-leaves event (Beginning.drops n) guard = settles _ _ (record { records = λ m. refl; sent = refl; order = refl; marks = without-marks n world.sent world.fresh })
+  beginning-leaves event (Beginning.halts n) guard = halted-leaves (site_of world event) n (site_at world n).running
+  beginning-leaves event (Beginning.opens n) guard =
+      subst (λ (source : Option ℕ). Leaves world source (begun_by setup world (Beginning.opens n))) (sym (guard.of world)) (opened-leaves n (site_at world n).running)
+  beginning-leaves event (Beginning.arms n arm) guard = settles _ _ (put-keeps n _ refl)
+  beginning-leaves event (Beginning.prints printed) guard = settles _ world keeps-all
+
   pub begun-leaves : (event : Event) → Leaves world (site_of world event) (begun setup world event)
-  unfolding begun
-  begun-leaves (Event.submit n query text program) = given-leaves world refl refl refl refl n (submit program) _ refl
-  begun-leaves (Event.deliver number) = delivered-leaves number (slice_get world.sent number)
-  begun-leaves (Event.pump most) = settles _ world keeps-all
-  begun-leaves (Event.lose number) = lost-leaves number (slice_get world.sent number)
-  begun-leaves (Event.drop n) = settles _ _ (record { records = λ m. refl; sent = refl; order = refl; marks = without-marks n world.sent world.fresh })
-  begun-leaves (Event.tick n) = given-leaves world refl refl refl refl n tick _ refl
-  begun-leaves (Event.stop n) = halted-leaves n (site_at world n).running
-  begun-leaves (Event.start n) = opened-leaves n (site_at world n).running
-  begun-leaves (Event.arm n call mode stops) = settles _ _ (put-keeps n _ refl)
-  begun-leaves (Event.mend n) = settles _ _ (put-keeps n _ refl)
-  begun-leaves Event.sent = settles _ world keeps-all
-  begun-leaves Event.report = settles _ world keeps-all
-  begun-leaves Event.total = settles _ world keeps-all
+  begun-leaves event = by-beginning (Leaves world (site_of world event)) setup world event (beginning-leaves event)
 
 -- All of that grows, what is sent comes from this site, which was up, and each message is marked.
 pub record Grown (world : World) (source : Option ℕ) (after : World) : Type 0 where

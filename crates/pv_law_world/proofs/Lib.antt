@@ -2,6 +2,7 @@ pub mod AnyRunRangeLemmas
 pub mod AppendLemmas
 pub mod DisarmLemmas
 pub mod EpochLemmas
+pub mod EventView
 pub mod GrowthLemmas
 pub mod NumberLemmas
 pub mod NumeralLemmas

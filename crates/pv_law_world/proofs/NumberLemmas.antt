@@ -9,13 +9,15 @@ use Rattle.pv_format.specs.Record.{Record, epoch_begun}
 use Rattle.pv_law_step.proofs.Appended.{steady}
 use Rattle.pv_law_step.proofs.StepCases.{if_case}
 use Rattle.pv_law_step.specs.Appends.{Rises}
+use Rattle.pv_law_world.proofs.EventView.{by-beginning}
+use Rattle.pv_law_world.specs.EventView.{Beginning, begun_by}
 use Rattle.pv_model.specs.Events.{Event}
 use Rattle.pv_protocol.specs.Arms.{Reached, waits, fires, reached, calls_of, attempted}
 use Rattle.pv_protocol.specs.Attempt.{Attempt, Begun, at_once, attempts, begun, given, delivered, lost, halted, opened, of_step, of_start}
 use Rattle.pv_protocol.specs.Lines.{Line}
 use Rattle.pv_protocol.specs.Records.{record_bytes, journal_bytes}
 use Rattle.pv_protocol.specs.Start.{Started, site_start}
-use Rattle.pv_protocol.specs.State.{Setup, Running, Site, Input, submit, receive, tick}
+use Rattle.pv_protocol.specs.State.{Setup, Running, Site, Input, receive}
 use Rattle.pv_protocol.specs.Step.{site_step}
 use Rattle.pv_protocol.specs.World.{World, no_site, site_at, with_done}
 use Rattle.pv_protocol.specs.WorldStep.{ended, transition_of}
@@ -105,21 +107,18 @@ module _ (setup : Setup) (world : World) where
   opened-rising n (Some running) is = rising-same _
   opened-rising n None is = goes_on world n _ refl (started-later n is)
 
+  beginning-rising : (beginning : Beginning) → Rising world (begun_by setup world beginning)
+  beginning-rising (Beginning.gives n input) = given-rising world refl n input _ refl
+  beginning-rising (Beginning.delivers number) = delivered-rising number (slice_get world.sent number)
+  beginning-rising (Beginning.loses number) = lost-rising number (slice_get world.sent number)
+  beginning-rising (Beginning.drops n) = settles _ _ (λ m. same-later (site_at world m))
+  beginning-rising (Beginning.halts n) = halted-rising n (site_at world n).running
+  beginning-rising (Beginning.opens n) = opened-rising n (site_at world n).running refl
+  beginning-rising (Beginning.arms n arm) = settles _ _ (put-later world.sites n _ (same-later (site_at world n)))
+  beginning-rising (Beginning.prints printed) = rising-same _
+
   begun-rising : (event : Event) → Rising world (begun setup world event)
-  unfolding begun
-  begun-rising (Event.submit n query text program) = given-rising world refl n (submit program) _ refl
-  begun-rising (Event.deliver number) = delivered-rising number (slice_get world.sent number)
-  begun-rising (Event.pump most) = rising-same _
-  begun-rising (Event.lose number) = lost-rising number (slice_get world.sent number)
-  begun-rising (Event.drop n) = settles _ _ (λ m. same-later (site_at world m))
-  begun-rising (Event.tick n) = given-rising world refl n tick _ refl
-  begun-rising (Event.stop n) = halted-rising n (site_at world n).running
-  begun-rising (Event.start n) = opened-rising n (site_at world n).running refl
-  begun-rising (Event.arm n call mode stops) = settles _ _ (put-later world.sites n _ (same-later (site_at world n)))
-  begun-rising (Event.mend n) = settles _ _ (put-later world.sites n _ (same-later (site_at world n)))
-  begun-rising Event.sent = rising-same _
-  begun-rising Event.report = rising-same _
-  begun-rising Event.total = rising-same _
+  begun-rising event = by-beginning (Rising world) setup world event (λ beginning guard. beginning-rising beginning)
 
   -- the site put into a world with the same sites
   put-rising : (before : World) (n : ℕ) (site : Site) → before.sites ≡ world.sites → IsLater (site_at world n) site.running

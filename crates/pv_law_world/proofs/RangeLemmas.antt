@@ -9,6 +9,8 @@ use Rattle.pv_base.specs.declared.limits.TheConstants.{MAX_SITES}
 use Rattle.pv_format.specs.Message.{Envelope}
 use Rattle.pv_format.specs.Range.{IsEnvelopeWithin, IsRecordWithin}
 use Rattle.pv_format.specs.Record.{Record}
+use Rattle.pv_law_world.proofs.EventView.{by-beginning, asked-runs}
+use Rattle.pv_law_world.specs.EventView.{Beginning, begun_by, IsAsked, IsGuarded}
 use Rattle.pv_law_world.specs.Ranges.{IsSiteInRange, IsWorldInRange}
 use Rattle.pv_model.specs.Events.{Event}
 use Rattle.pv_protocol.specs.Arms.{Reached, waits, fires, reached, calls_of, is_kept, attempted}
@@ -225,23 +227,26 @@ module _ (sends_stay : SendsInRange) (sound_stays : StaysSound) (starts_sound : 
   opened-range n None =
       goes_on world n _ fine (started-range n (site_start setup (site_at world n).records) refl) (start-silent n (site_start setup (site_at world n).records))
 
+  -- what an event asks of a site
+  asked-range : (event : Event) (n : ℕ) (input : Input) → IsAsked event n input → IsWellFormed setup.catalog event → (running : Running)
+      → IsInputInRange setup.catalog.sites (here_at setup world n running) input
+  asked-range event n (submit program) asked good running = asked-runs setup.catalog event n program asked good
+  asked-range event n (receive from message) never good running = absurd never
+  asked-range event n tick asked good running = tt
+
+  beginning-range : (event : Event) → IsWellFormed setup.catalog event → (beginning : Beginning) → IsGuarded event beginning → IsBegunInRange setup (begun_by setup world beginning)
+  beginning-range event good (Beginning.gives n input) guard = given-here world fine n input (asked-range event n input guard good)
+  beginning-range event good (Beginning.delivers number) guard = delivered-range number (slice_get world.sent number) refl
+  beginning-range event good (Beginning.loses number) guard = lost-range number (slice_get world.sent number)
+  beginning-range event good (Beginning.drops n) guard = settles _ _ (record { count = fine.count; sites = fine.sites; sent = fine.sent })
+  beginning-range event good (Beginning.halts n) guard = halted-range n (site_at world n).running
+  beginning-range event good (Beginning.opens n) guard = opened-range n (site_at world n).running
+  beginning-range event good (Beginning.arms n arm) guard =
+      settles _ _ (changed-range n _ (λ site. record { records = site.records; narrow = site.narrow; room = site.room; running = site.running }))
+  beginning-range event good (Beginning.prints printed) guard = settles _ world fine
+
   pub begun-range : (event : Event) → IsWellFormed setup.catalog event → IsBegunInRange setup (begun setup world event)
-  unfolding begun
-  begun-range (Event.submit n query text program) good = given-here world fine n (submit program) (λ running. good.1)
-  begun-range (Event.deliver number) good = delivered-range number (slice_get world.sent number) refl
-  begun-range (Event.pump most) good = settles _ world fine
-  begun-range (Event.lose number) good = lost-range number (slice_get world.sent number)
-  begun-range (Event.drop n) good = settles _ _ (record { count = fine.count; sites = fine.sites; sent = fine.sent })
-  begun-range (Event.tick n) good = given-here world fine n tick (λ running. tt)
-  begun-range (Event.stop n) good = halted-range n (site_at world n).running
-  begun-range (Event.start n) good = opened-range n (site_at world n).running
-  begun-range (Event.arm n call mode stops) good =
-      settles _ _ (changed-range n _ (λ site. record { records = site.records; narrow = site.narrow; room = site.room; running = site.running }))
-  begun-range (Event.mend n) good =
-      settles _ _ (changed-range n _ (λ site. record { records = site.records; narrow = site.narrow; room = site.room; running = site.running }))
-  begun-range Event.sent good = settles _ world fine
-  begun-range Event.report good = settles _ world fine
-  begun-range Event.total good = settles _ world fine
+  begun-range event good = by-beginning (IsBegunInRange setup) setup world event (beginning-range event good)
 
   pub transition-range : (event : Event) → IsWellFormed setup.catalog event → IsWorldInRange setup (transition_of setup world event).world
   unfolding transition_of

@@ -6,8 +6,10 @@ use Rattle.std.proofs.lemmas.List.Elements.{All-cons, All-nil, All-get_or, All-f
 use Rattle.pv_format.specs.Message.{Envelope}
 use Rattle.pv_format.specs.Record.{Record, epoch_begun}
 use Rattle.pv_law_world.proofs.DisarmLemmas.{site-disarmed}
+use Rattle.pv_law_world.proofs.EventView.{by-beginning}
 use Rattle.pv_law_world.proofs.RangeLemmas.{put-in-range, up-within}
 use Rattle.pv_law_world.proofs.TransitionLemmas.{run-transitions}
+use Rattle.pv_law_world.specs.EventView.{Beginning, begun_by}
 use Rattle.pv_law_world.specs.Transitions.{AreTransitions, one_more}
 use Rattle.pv_model.specs.Events.{Event}
 use Rattle.pv_protocol.specs.Anywhere as anywhere
@@ -17,7 +19,7 @@ use Rattle.pv_protocol.specs.Attempt.{Attempt, Begun, at_once, attempts, begun, 
 use Rattle.pv_protocol.specs.Lines.{Line}
 use Rattle.pv_protocol.specs.Run.{run, worlds_of}
 use Rattle.pv_protocol.specs.Start.{just_started, site_start}
-use Rattle.pv_protocol.specs.State.{Setup, Running, Site, Input, submit, receive, tick}
+use Rattle.pv_protocol.specs.State.{Setup, Running, Site, Input, receive}
 use Rattle.pv_protocol.specs.Step.{site_step}
 use Rattle.pv_protocol.specs.World.{World, no_site, first_site, site_at, with_site, with_done, opening}
 use Rattle.pv_protocol.specs.WorldStep.{Transition, ended, transition_of}
@@ -75,21 +77,18 @@ module _ (setup : Setup) (P : ℕ → List Record → Option Running → Type 0)
     opened-keeps n None is =
         goes_on world n _ holds (λ within. kept.begins n (site_at world n).records (subst (P n (site_at world n).records) is (holds n within)))
 
+    beginning-keeps : (beginning : Beginning) → KeepsIt (begun_by setup world beginning)
+    beginning-keeps (Beginning.gives n input) = given-keeps world refl n input _ refl
+    beginning-keeps (Beginning.delivers number) = delivered-keeps number (slice_get world.sent number)
+    beginning-keeps (Beginning.loses number) = lost-keeps number (slice_get world.sent number)
+    beginning-keeps (Beginning.drops n) = settles _ _ holds
+    beginning-keeps (Beginning.halts n) = halted-keeps n (site_at world n).running
+    beginning-keeps (Beginning.opens n) = opened-keeps n (site_at world n).running refl
+    beginning-keeps (Beginning.arms n arm) = settles _ _ (put-holds world n _ holds (λ within. holds n within))
+    beginning-keeps (Beginning.prints printed) = settles _ world holds
+
     begun-keeps : (event : Event) → KeepsIt (begun setup world event)
-    unfolding begun
-    begun-keeps (Event.submit n query text program) = given-keeps world refl n (submit program) _ refl
-    begun-keeps (Event.deliver number) = delivered-keeps number (slice_get world.sent number)
-    begun-keeps (Event.pump most) = settles _ world holds
-    begun-keeps (Event.lose number) = lost-keeps number (slice_get world.sent number)
-    begun-keeps (Event.drop n) = settles _ _ holds
-    begun-keeps (Event.tick n) = given-keeps world refl n tick _ refl
-    begun-keeps (Event.stop n) = halted-keeps n (site_at world n).running
-    begun-keeps (Event.start n) = opened-keeps n (site_at world n).running refl
-    begun-keeps (Event.arm n call mode stops) = settles _ _ (put-holds world n _ holds (λ within. holds n within))
-    begun-keeps (Event.mend n) = settles _ _ (put-holds world n _ holds (λ within. holds n within))
-    begun-keeps Event.sent = settles _ world holds
-    begun-keeps Event.report = settles _ world holds
-    begun-keeps Event.total = settles _ world holds
+    begun-keeps event = by-beginning KeepsIt setup world event (λ beginning guard. beginning-keeps beginning)
 
   module _ (before : World) (n : ℕ) (attempt : Attempt) (holds : Holds before)
       (new : n < length before.sites → P n ((site_at before n).records ++ option_to_list attempt.appended) attempt.running) where

@@ -1,8 +1,8 @@
 -- The transitions of a run are what its events do, one after another; a message that is delivered was sent before.
 use Rattle.std.proofs.Common.{◌≡◌, ℕ, zero, suc, Some, None, Option, List, [], ◌∷◌, ◌++◌, refl, sym, ap, ◌∙◌, subst}
-use Rattle.std.specs.Prelude.{slice_get, IsSome, Contains}
+use Rattle.std.specs.Prelude.{slice_get, IsSome, Contains, All}
 use Rattle.std.proofs.lemmas.List.{append_assoc}
-use Rattle.std.proofs.lemmas.List.Elements.{All-contains}
+use Rattle.std.proofs.lemmas.List.Elements.{All-contains, All-cons, All-nil}
 use Rattle.std.proofs.lemmas.Option.{slice_get_within, get_or_from_slice_get}
 use Rattle.pv_format.specs.Message.{Envelope}
 use Rattle.pv_format.specs.Record.{Record}
@@ -13,7 +13,7 @@ use Rattle.pv_base.proofs.Basics.{Some_inj}
 use Rattle.pv_model.specs.Events.{Event, deliver}
 use Rattle.pv_protocol.specs.Places.{Place, world_before}
 use Rattle.pv_protocol.specs.Pump.{next_fresh, with_fresh, deliveries, enough}
-use Rattle.pv_protocol.specs.Run.{transitions_of, world_after, run}
+use Rattle.pv_protocol.specs.Run.{transitions_of, world_after, run, worlds_of}
 use Rattle.pv_protocol.specs.State.{Setup}
 use Rattle.pv_protocol.specs.World.{World, site_at, opening}
 use Rattle.pv_protocol.specs.WorldStep.{Transition, transition_of}
@@ -137,14 +137,11 @@ module _ (setup : Setup) where
       → Extends (site_at world n).records (site_at (world_after world (run setup world events)) n).records
   run-records world events n = transitions-records world (run setup world events) (run-transitions setup world events) n
 
-  transitions-marked : (world : World) (transitions : List Transition) → AreTransitions setup world transitions → AreMarked world → AreMarked (world_after world transitions)
-  transitions-marked world [] are marked = marked
-  transitions-marked world (transition ∷ transitions) (one_more world' transition' transitions' is rest) marked =
+  worlds-marked : (world : World) (transitions : List Transition) → AreTransitions setup world transitions → AreMarked world → All AreMarked (worlds_of world transitions)
+  worlds-marked world [] are marked = All-cons AreMarked world [] marked (All-nil AreMarked)
+  worlds-marked world (transition ∷ transitions) (one_more world' transition' transitions' is rest) marked =
       let grown : Grown world (site_of world transition.event) transition.world = subst (λ (t : Transition). Grown world (site_of world transition.event) t.world) (sym is) (transition-grown setup world transition.event) in
-      transitions-marked transition.world transitions rest (grown.marked marked)
+      All-cons AreMarked world (worlds_of transition.world transitions) marked (worlds-marked transition.world transitions rest (grown.marked marked))
 
-  pub places-marked : (events : List Event) (place : Place (run setup (opening setup) events)) → AreMarked (world_before (opening setup) place)
-  places-marked events place =
-      transitions-marked (opening setup) place.earlier
-      (front-transitions setup (opening setup) place.earlier (place.transition ∷ place.later)
-      (subst (AreTransitions setup (opening setup)) place.split (run-transitions setup (opening setup) events))) refl
+  pub run-marked : (events : List Event) → All AreMarked (worlds_of (opening setup) (run setup (opening setup) events))
+  run-marked events = worlds-marked (opening setup) (run setup (opening setup) events) (run-transitions setup (opening setup) events) refl

@@ -1,3 +1,4 @@
+pub mod EventView
 pub mod ExampleLines
 pub mod Pumps
 pub mod Ranges
