@@ -25,6 +25,8 @@ use Rattle.pv_law_step.proofs.StartLemmas.{start-case}
 use Rattle.pv_law_step.specs.StartCases as of_starts
 use Rattle.pv_law_step.specs.StartCases.{StartCase}
 use Rattle.pv_law_world.proofs.DisarmLemmas.{site-disarmed}
+use Rattle.pv_law_world.proofs.EventView.{by-beginning, asked-runs}
+use Rattle.pv_law_world.specs.EventView.{Beginning, begun_by, IsAsked, IsGuarded}
 use Rattle.pv_law_world.specs.Sites.{AreEpochsRecorded, AreMemoriesInOrder}
 use Rattle.pv_model.specs.Events.{Event}
 use Rattle.pv_protocol.specs.Anywhere as anywhere
@@ -277,21 +279,24 @@ module _ (setup : Setup) where
         (subst (λ (v : World). HasNothingNew v last) (own-site w n)
         (nothing-new w.sites n (site_at w n) (record (site_at w n) { arm = arm }) w.sent w.fresh w.fresh w.order refl (no-more-itself (memory_at w n)))))
 
+    -- what an event asks of a site
+    asked-come : (event : Event) (n : ℕ) (input : Input) → IsAsked event n input → IsWellFormed setup.catalog event → HasCome w n input
+    asked-come event n (submit program) asked well = asked-runs setup.catalog event n program asked well
+    asked-come event n (receive from message) never well = absurd never
+    asked-come event n tick asked well = tt
+
+    beginning-acts : (event : Event) → IsWellFormed setup.catalog event → (beginning : Beginning) → IsGuarded event beginning → IsBegunActs w (begun_by setup w beginning)
+    beginning-acts event well (Beginning.gives n input) guard = given-acts w.fresh n input (asked-come event n input guard well) (memory_at w n) refl
+    beginning-acts event well (Beginning.delivers number) guard = delivered-acts number (slice_get w.sent number) refl
+    beginning-acts event well (Beginning.loses number) guard = lost-acts number (slice_get w.sent number)
+    beginning-acts event well (Beginning.drops n) guard = settles _ _ (marked-acts w _)
+    beginning-acts event well (Beginning.halts n) guard = halted-acts n (memory_at w n)
+    beginning-acts event well (Beginning.opens n) guard = opened-acts n (guard.within setup.catalog well) (memory_at w n) refl
+    beginning-acts event well (Beginning.arms n arm) guard = settles _ _ (armed-acts n arm)
+    beginning-acts event well (Beginning.prints printed) guard = settles _ w (no_act w)
+
     begun-acts : (event : Event) → IsWellFormed setup.catalog event → IsBegunActs w (begun setup w event)
-    unfolding begun
-    begun-acts (Event.submit n query text program) well = given-acts w.fresh n (submit program) well.1 (memory_at w n) refl
-    begun-acts (Event.deliver number) well = delivered-acts number (slice_get w.sent number) refl
-    begun-acts (Event.pump most) well = settles _ w (no_act w)
-    begun-acts (Event.lose number) well = lost-acts number (slice_get w.sent number)
-    begun-acts (Event.drop n) well = settles _ _ (marked-acts w _)
-    begun-acts (Event.tick n) well = given-acts w.fresh n tick tt (memory_at w n) refl
-    begun-acts (Event.stop n) well = halted-acts n (memory_at w n)
-    begun-acts (Event.start n) well = opened-acts n well (memory_at w n) refl
-    begun-acts (Event.arm n call mode stops) well = settles _ _ (armed-acts n _)
-    begun-acts (Event.mend n) well = settles _ _ (armed-acts n _)
-    begun-acts Event.sent well = settles _ w (no_act w)
-    begun-acts Event.report well = settles _ w (no_act w)
-    begun-acts Event.total well = settles _ w (no_act w)
+    begun-acts event well = by-beginning (IsBegunActs w) setup w event (beginning-acts event well)
 
   -- How it ends.
 
