@@ -10,6 +10,8 @@ use Rattle.pv_base.specs.Polyvalue.{Case}
 use Rattle.pv_base.specs.declared.txn.TxnId.{TxnId}
 use Rattle.pv_format.specs.Message.{Envelope}
 use Rattle.pv_law_answers.specs.Origin.{IsTxnLine, Gives, request, delivery, time, Ends, at_once_done, whole, broken, IsNoted}
+use Rattle.pv_law_world.proofs.EventView.{by-beginning}
+use Rattle.pv_law_world.specs.EventView.{Beginning, Printed, lines_printed, begun_by, IsAsked, IsGuarded}
 use Rattle.pv_model.specs.Events.{Event}
 use Rattle.pv_model.specs.PossibleAnswers.{sums}
 use Rattle.pv_protocol.specs.Anywhere as anywhere
@@ -153,11 +155,12 @@ module _ (setup : Setup) (world : World) (line : Line) (decides : IsTxnLine line
   given-noted event n input found gives same None up lines after ends h = absurd (once-quiet (Line.down n ∷ []) found lines after ends (quiet-one (Line.down n) (λ d. d)) h)
   given-noted event n input found gives same (Some running) up lines after ends h = step-noted event n input found gives same running up lines after ends h
 
-  delivered-noted : (number : ℕ) (envelope : Option Envelope) → slice_get world.sent number ≡ envelope → (lines : List Line) (after : World) → Ends (delivered setup world number envelope) lines after
-      → Contains lines line → IsNoted setup world (Event.deliver number) line after
-  delivered-noted number None there lines after ends h = absurd (once-quiet (Line.no_message number ∷ []) world lines after ends (quiet-one (Line.no_message number) (λ d. d)) h)
-  delivered-noted number (Some envelope) there lines after ends h =
-      given-noted (Event.deliver number) envelope.to (receive envelope.from envelope.message) (with_done world number) (delivery number envelope there) refl (site_at world envelope.to).running refl lines after ends h
+  delivered-noted : (event : Event) (number : ℕ) → event ≡ Event.deliver number → (envelope : Option Envelope) → slice_get world.sent number ≡ envelope → (lines : List Line) (after : World) → Ends (delivered setup world number envelope) lines after
+      → Contains lines line → IsNoted setup world event line after
+  delivered-noted event number is None there lines after ends h = absurd (once-quiet (Line.no_message number ∷ []) world lines after ends (quiet-one (Line.no_message number) (λ d. d)) h)
+  delivered-noted event number is (Some envelope) there lines after ends h =
+      given-noted event envelope.to (receive envelope.from envelope.message) (with_done world number)
+      (subst (λ (e : Event). Gives world e envelope.to (receive envelope.from envelope.message) (with_done world number)) (sym is) (delivery number envelope there)) refl (site_at world envelope.to).running refl lines after ends h
 
   lost-quiet : (number : ℕ) (envelope : Option Envelope) (lines : List Line) (after : World) → Ends (lost world number envelope) lines after → Contains lines line → ⊥
   lost-quiet number None lines after ends h = once-quiet (Line.no_message number ∷ []) world lines after ends (quiet-one (Line.no_message number) (λ d. d)) h
@@ -171,20 +174,31 @@ module _ (setup : Setup) (world : World) (line : Line) (decides : IsTxnLine line
   opened-quiet n (Some running) lines after ends h = once-quiet (Line.up n ∷ []) world lines after ends (quiet-one (Line.up n) (λ d. d)) h
   opened-quiet n None lines after ends h = start-quietly n (site_start setup (site_at world n).records) lines after ends h
 
+  asked-gives : (event : Event) (n : ℕ) (input : Input) → IsAsked event n input → Gives world event n input world
+  asked-gives event n (submit program) (query, (text, is)) = subst (λ (e : Event). Gives world e n (submit program) world) (sym is) (request n query text program)
+  asked-gives event n (receive from message) never = absurd never
+  asked-gives event n tick is = subst (λ (e : Event). Gives world e n tick world) (sym is) (time n)
+
+  printed-quiet : (printed : Printed) → AreQuiet (lines_printed setup world printed)
+  printed-quiet Printed.nothing = quiet-nil
+  printed-quiet Printed.messages = sents-quiet world
+  printed-quiet Printed.reported = report-quiet setup world
+  printed-quiet Printed.summed = totals-quiet setup world
+
+  beginning-noted : (event : Event) (beginning : Beginning) → IsGuarded event beginning → (lines : List Line) (after : World) → Ends (begun_by setup world beginning) lines after → Contains lines line
+      → IsNoted setup world event line after
+  beginning-noted event (Beginning.gives n input) guard lines after ends h =
+      given-noted event n input world (asked-gives event n input guard) refl (site_at world n).running refl lines after ends h
+  beginning-noted event (Beginning.delivers number) guard lines after ends h = delivered-noted event number guard (slice_get world.sent number) refl lines after ends h
+  beginning-noted event (Beginning.loses number) guard lines after ends h = absurd (lost-quiet number (slice_get world.sent number) lines after ends h)
+  beginning-noted event (Beginning.drops n) guard lines after ends h = absurd (once-quiet [] _ lines after ends quiet-nil h)
+  beginning-noted event (Beginning.halts n) guard lines after ends h = absurd (halted-quiet n (site_at world n).running lines after ends h)
+  beginning-noted event (Beginning.opens n) guard lines after ends h = absurd (opened-quiet n (site_at world n).running lines after ends h)
+  beginning-noted event (Beginning.arms n arm) guard lines after ends h = absurd (once-quiet [] _ lines after ends quiet-nil h)
+  beginning-noted event (Beginning.prints printed) guard lines after ends h = absurd (once-quiet (lines_printed setup world printed) world lines after ends (printed-quiet printed) h)
+
   -- A line that says so is of a note of a step that ended.
   pub line-noted : (event : Event) (lines : List Line) (after : World) → Ends (begun setup world event) lines after → Contains lines line → IsNoted setup world event line after
-  unfolding begun
-  line-noted (Event.submit n query text program) lines after ends h =
-      given-noted (Event.submit n query text program) n (submit program) world (request n query text program) refl (site_at world n).running refl lines after ends h
-  line-noted (Event.deliver number) lines after ends h = delivered-noted number (slice_get world.sent number) refl lines after ends h
-  line-noted (Event.pump most) lines after ends h = absurd (once-quiet [] world lines after ends quiet-nil h)
-  line-noted (Event.lose number) lines after ends h = absurd (lost-quiet number (slice_get world.sent number) lines after ends h)
-  line-noted (Event.drop n) lines after ends h = absurd (once-quiet [] _ lines after ends quiet-nil h)
-  line-noted (Event.tick n) lines after ends h = given-noted (Event.tick n) n tick world (time n) refl (site_at world n).running refl lines after ends h
-  line-noted (Event.stop n) lines after ends h = absurd (halted-quiet n (site_at world n).running lines after ends h)
-  line-noted (Event.start n) lines after ends h = absurd (opened-quiet n (site_at world n).running lines after ends h)
-  line-noted (Event.arm n call mode stops) lines after ends h = absurd (once-quiet [] _ lines after ends quiet-nil h)
-  line-noted (Event.mend n) lines after ends h = absurd (once-quiet [] _ lines after ends quiet-nil h)
-  line-noted Event.sent lines after ends h = absurd (once-quiet (sent_lines world) world lines after ends (sents-quiet world) h)
-  line-noted Event.report lines after ends h = absurd (once-quiet (report_of setup world) world lines after ends (report-quiet setup world) h)
-  line-noted Event.total lines after ends h = absurd (once-quiet (total_of setup world) world lines after ends (totals-quiet setup world) h)
+  line-noted event =
+      by-beginning (λ (b : Begun). (lines : List Line) (after : World) → Ends b lines after → Contains lines line → IsNoted setup world event line after) setup world event
+      (beginning-noted event)

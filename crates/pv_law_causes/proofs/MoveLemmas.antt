@@ -17,6 +17,8 @@ use Rattle.pv_law_step.proofs.StartLemmas.{start-case}
 use Rattle.pv_law_step.specs.StartCases as of_starts
 use Rattle.pv_law_step.specs.StartCases.{StartCase}
 use Rattle.pv_law_world.proofs.DisarmLemmas.{site-disarmed}
+use Rattle.pv_law_world.proofs.EventView.{by-beginning}
+use Rattle.pv_law_world.specs.EventView.{Beginning, begun_by, IsAsked, IsGuarded}
 use Rattle.pv_model.specs.Events.{Event}
 use Rattle.pv_protocol.specs.Anywhere as anywhere
 use Rattle.pv_protocol.specs.Anywhere.{MayEnd, MayCome, MayFollow, disarmed}
@@ -211,24 +213,32 @@ module _ (setup : Setup) (w : World) (event : Event) where
       end-steps fresh n running input takes untimed lines after ends
   come-move b (opens n started case untimed) lines after (anywhere.by_attempt before' after' n' attempt' lines' ends) = end-opens n started case untimed lines after ends
 
+-- What an event asks of a site comes to it.
+pub asked-comes : (w : World) (event : Event) (n : ℕ) (input : Input) → IsAsked event n input → Comes w event n input
+asked-comes w event n (submit program) asked = asked
+asked-comes w event n (receive from message) never = absurd never
+asked-comes w event n tick asked = asked
+
 module _ (setup : Setup) (w : World) where
+  -- The other sites don't tick.
+  others-untimed : (event : Event) (n : ℕ) (input : Input) → IsAsked event n input → (m : ℕ) → n ≢ m → is_tick_of m event ≡ false
+  others-untimed event n (submit program) (query, (text, is)) m apart = ap (is_tick_of m) is
+  others-untimed event n (receive from message) never m apart = absurd never
+  others-untimed event n tick is m apart = ap (is_tick_of m) is ∙ unequal n m apart
+
+  beginning-makes : (event : Event) (beginning : Beginning) → IsGuarded event beginning → Makes setup w event (begun_by setup w beginning)
+  beginning-makes event (Beginning.gives n input) guard =
+      given-makes setup w event w.fresh n input (asked-comes w event n input guard) (others-untimed event n input guard) (memory_at w n) refl
+  beginning-makes event (Beginning.delivers number) guard = delivered-makes setup w event number guard (λ m. ap (is_tick_of m) guard) (slice_get w.sent number) refl
+  beginning-makes event (Beginning.loses number) guard = lost-makes setup w event number guard (slice_get w.sent number)
+  beginning-makes event (Beginning.drops n) guard = settles _ _ (untouched setup w event _ refl refl guard)
+  beginning-makes event (Beginning.halts n) guard = halted-makes setup w event n guard (memory_at w n)
+  beginning-makes event (Beginning.opens n) guard = opened-makes setup w event n guard.timeless (memory_at w n)
+  beginning-makes event (Beginning.arms n arm) guard = put-makes setup w event _ n _ (as-was setup w event n (guard n)) guard
+  beginning-makes event (Beginning.prints printed) guard = settles _ w (untouched setup w event w refl refl guard)
+
   begun-makes : (event : Event) → Makes setup w event (begun setup w event)
-  unfolding begun
-  begun-makes (Event.submit n query text program) =
-      given-makes setup w (Event.submit n query text program) w.fresh n (submit program) (query, (text, refl)) (λ m apart. refl) (memory_at w n) refl
-  begun-makes (Event.deliver number) = delivered-makes setup w (Event.deliver number) number refl (λ m. refl) (slice_get w.sent number) refl
-  begun-makes (Event.pump most) = settles _ w (untouched setup w (Event.pump most) w refl refl (λ m. refl))
-  begun-makes (Event.lose number) = lost-makes setup w (Event.lose number) number (λ m. refl) (slice_get w.sent number)
-  begun-makes (Event.drop n) = settles _ _ (untouched setup w (Event.drop n) _ refl refl (λ m. refl))
-  begun-makes (Event.tick n) = given-makes setup w (Event.tick n) w.fresh n tick refl (λ m apart. unequal n m apart) (memory_at w n) refl
-  begun-makes (Event.stop n) = halted-makes setup w (Event.stop n) n (λ m. refl) (memory_at w n)
-  begun-makes (Event.start n) = opened-makes setup w (Event.start n) n (λ m. refl) (memory_at w n)
-  begun-makes (Event.arm n call mode stops) =
-      put-makes setup w (Event.arm n call mode stops) _ n _ (as-was setup w (Event.arm n call mode stops) n refl) (λ m. refl)
-  begun-makes (Event.mend n) = put-makes setup w (Event.mend n) _ n _ (as-was setup w (Event.mend n) n refl) (λ m. refl)
-  begun-makes Event.sent = settles _ w (untouched setup w Event.sent w refl refl (λ m. refl))
-  begun-makes Event.report = settles _ w (untouched setup w Event.report w refl refl (λ m. refl))
-  begun-makes Event.total = settles _ w (untouched setup w Event.total w refl refl (λ m. refl))
+  begun-makes event = by-beginning (Makes setup w event) setup w event (beginning-makes event)
 
   pub transition-move : (event : Event) → IsMove setup w event (transition_of setup w event).world
   unfolding transition_of

@@ -5,13 +5,16 @@ use Rattle.std.proofs.lemmas.List.{append-nil, get_or-set_same, get_or-set_other
 use Rattle.pv_format.specs.Message.{Envelope}
 use Rattle.pv_law_acts.proofs.SiteLemmas.{up-within}
 use Rattle.pv_law_acts.specs.Seen.{records_at, memory_at}
+use Rattle.pv_law_causes.proofs.MoveLemmas.{asked-comes}
 use Rattle.pv_law_causes.specs.Moves.{Comes}
 use Rattle.pv_law_world.proofs.DisarmLemmas.{site-disarmed}
+use Rattle.pv_law_world.proofs.EventView.{by-beginning}
+use Rattle.pv_law_world.specs.EventView.{Beginning, begun_by, IsGuarded}
 use Rattle.pv_model.specs.Events.{Event}
 use Rattle.pv_protocol.specs.Anywhere as anywhere
 use Rattle.pv_protocol.specs.Anywhere.{MayEnd, MayCome, MayFollow, disarmed}
 use Rattle.pv_protocol.specs.Arms.{completed}
-use Rattle.pv_protocol.specs.Attempt.{Attempt, at_once, begun, given, delivered, lost, halted, opened, of_start, of_step, without_site}
+use Rattle.pv_protocol.specs.Attempt.{Attempt, Begun, at_once, begun, given, delivered, lost, halted, opened, of_start, of_step, without_site}
 use Rattle.pv_protocol.specs.Lines.{Line}
 use Rattle.pv_protocol.specs.Start.{Started, starts, too_long, no_epoch, site_start}
 use Rattle.pv_protocol.specs.State.{Setup, Site, Arm, Running, Input, submit, receive, tick, Step}
@@ -102,32 +105,32 @@ module _ (setup : Setup) (w : World) where
       step-goes event n input found sites sent comes running up lines left
       (subst (λ rs. MayEnd found n (of_step n (site_step setup n rs running input)) lines left) (ap (λ (all : List Site). (get_or all n no_site).records) sites) ends)
 
-  delivered-goes : (number : ℕ) (envelope : Option Envelope) → slice_get w.sent number ≡ envelope → (lines : List Line) (left : World) → MayCome (delivered setup w number envelope) lines left
-      → Goes setup w (Event.deliver number) left
-  delivered-goes number None there lines left come = once-goes (Event.deliver number) _ w lines left come (stays (same-sites w refl) refl)
-  delivered-goes number (Some envelope) there lines left come =
-      given-goes (Event.deliver number) envelope.to (receive envelope.from envelope.message) (with_done w number) refl refl (number, (refl, there)) (memory_at w envelope.to) refl lines left come
+  delivered-goes : (event : Event) (number : ℕ) → event ≡ Event.deliver number → (envelope : Option Envelope) → slice_get w.sent number ≡ envelope → (lines : List Line) (left : World) → MayCome (delivered setup w number envelope) lines left
+      → Goes setup w event left
+  delivered-goes event number is None there lines left come = once-goes event _ w lines left come (stays (same-sites w refl) refl)
+  delivered-goes event number is (Some envelope) there lines left come =
+      given-goes event envelope.to (receive envelope.from envelope.message) (with_done w number) refl refl (number, (is, there)) (memory_at w envelope.to) refl lines left come
 
-  lost-goes : (number : ℕ) (envelope : Option Envelope) (lines : List Line) (left : World) → MayCome (lost w number envelope) lines left → Goes setup w (Event.lose number) left
-  lost-goes number None lines left come = once-goes (Event.lose number) _ w lines left come (stays (same-sites w refl) refl)
-  lost-goes number (Some envelope) lines left come = once-goes (Event.lose number) _ (with_done w number) lines left come (stays (same-sites (with_done w number) refl) refl)
+  lost-goes : (event : Event) (number : ℕ) (envelope : Option Envelope) (lines : List Line) (left : World) → MayCome (lost w number envelope) lines left → Goes setup w event left
+  lost-goes event number None lines left come = once-goes event _ w lines left come (stays (same-sites w refl) refl)
+  lost-goes event number (Some envelope) lines left come = once-goes event _ (with_done w number) lines left come (stays (same-sites (with_done w number) refl) refl)
 
-  halted-goes : (n : ℕ) (running : Option Running) → memory_at w n ≡ running → (lines : List Line) (left : World) → MayCome (halted w n running) lines left → Goes setup w (Event.stop n) left
-  halted-goes n None up lines left come = once-goes (Event.stop n) _ w lines left come (stays (same-sites w refl) refl)
-  halted-goes n (Some running) up lines left come =
+  halted-goes : (event : Event) (n : ℕ) (running : Option Running) → memory_at w n ≡ running → (lines : List Line) (left : World) → MayCome (halted w n running) lines left → Goes setup w event left
+  halted-goes event n None up lines left come = once-goes event _ w lines left come (stays (same-sites w refl) refl)
+  halted-goes event n (Some running) up lines left come =
       let site : Site = record (site_at w n) { running = None } in
-      once-goes (Event.stop n) _ (with_site w n site) lines left come
+      once-goes event _ (with_site w n site) lines left come
       (halts n (others w refl n site (with_site w n site) refl) (ap (λ (s : Site). s.running) (own-site w refl n running up site)) refl)
 
-  start-goes : (n : ℕ) (attempt : Attempt) → attempt.sends ≡ [] → memory_at w n ≡ None → (lines : List Line) (left : World) → MayEnd w n attempt lines left → Goes setup w (Event.start n) left
-  start-goes n attempt none down lines left anywhere.whole = opens n (others w refl n _ left refl) down (ap (λ sends. w.sent ++ from_site n sends) none ∙ append-nil w.sent)
-  start-goes n attempt none down lines left (anywhere.without stops some) = opens n (others w refl n _ left refl) down refl
-  start-goes n attempt none down lines left (anywhere.with_record stops appended is) = opens n (others w refl n _ left refl) down refl
+  start-goes : (event : Event) (n : ℕ) (attempt : Attempt) → attempt.sends ≡ [] → memory_at w n ≡ None → (lines : List Line) (left : World) → MayEnd w n attempt lines left → Goes setup w event left
+  start-goes event n attempt none down lines left anywhere.whole = opens n (others w refl n _ left refl) down (ap (λ sends. w.sent ++ from_site n sends) none ∙ append-nil w.sent)
+  start-goes event n attempt none down lines left (anywhere.without stops some) = opens n (others w refl n _ left refl) down refl
+  start-goes event n attempt none down lines left (anywhere.with_record stops appended is) = opens n (others w refl n _ left refl) down refl
 
-  opened-goes : (n : ℕ) (running : Option Running) → memory_at w n ≡ running → (lines : List Line) (left : World) → MayCome (opened setup w n running) lines left → Goes setup w (Event.start n) left
-  opened-goes n (Some running) up lines left come = once-goes (Event.start n) _ w lines left come (stays (same-sites w refl) refl)
-  opened-goes n None down lines left (anywhere.by_attempt found' left' n' attempt' lines' ends) =
-      start-goes n (of_start n (site_start setup (records_at w n))) (start-silent n (site_start setup (records_at w n))) down lines left ends
+  opened-goes : (event : Event) (n : ℕ) (running : Option Running) → memory_at w n ≡ running → (lines : List Line) (left : World) → MayCome (opened setup w n running) lines left → Goes setup w event left
+  opened-goes event n (Some running) up lines left come = once-goes event _ w lines left come (stays (same-sites w refl) refl)
+  opened-goes event n None down lines left (anywhere.by_attempt found' left' n' attempt' lines' ends) =
+      start-goes event n (of_start n (site_start setup (records_at w n))) (start-silent n (site_start setup (records_at w n))) down lines left ends
 
   armed-goes : (event : Event) (n : ℕ) (arm : Option Arm) (lines : List Line) (left : World) → MayCome (at_once [] (with_site w n (record (site_at w n) { arm = arm }))) lines left → Goes setup w event left
   armed-goes event n arm lines left come =
@@ -137,23 +140,20 @@ module _ (setup : Setup) (w : World) where
         memory = put-same (λ (s : Site). s.running) w.sites n m (record (site_at w n) { arm = arm }) refl;
       }) refl)
 
+  beginning-goes : (event : Event) (beginning : Beginning) → IsGuarded event beginning → (lines : List Line) (left : World) → MayCome (begun_by setup w beginning) lines left
+      → Goes setup w event left
+  beginning-goes event (Beginning.gives n input) guard lines left come = given-goes event n input w refl refl (asked-comes w event n input guard) (memory_at w n) refl lines left come
+  beginning-goes event (Beginning.delivers number) guard lines left come = delivered-goes event number guard (slice_get w.sent number) refl lines left come
+  beginning-goes event (Beginning.loses number) guard lines left come = lost-goes event number (slice_get w.sent number) lines left come
+  beginning-goes event (Beginning.drops n) guard lines left come =
+      let now : World = record w { fresh = without_site n w.sent w.fresh } in once-goes event [] now lines left come (stays (same-sites now refl) refl)
+  beginning-goes event (Beginning.halts n) guard lines left come = halted-goes event n (memory_at w n) refl lines left come
+  beginning-goes event (Beginning.opens n) guard lines left come = opened-goes event n (memory_at w n) refl lines left come
+  beginning-goes event (Beginning.arms n arm) guard lines left come = armed-goes event n arm lines left come
+  beginning-goes event (Beginning.prints printed) guard lines left come = once-goes event _ w lines left come (stays (same-sites w refl) refl)
+
   begun-goes : (event : Event) (lines : List Line) (left : World) → MayCome (begun setup w event) lines left → Goes setup w event left
-  unfolding begun
-  begun-goes (Event.submit n query text program) lines left come =
-      given-goes (Event.submit n query text program) n (submit program) w refl refl (query, (text, refl)) (memory_at w n) refl lines left come
-  begun-goes (Event.deliver number) lines left come = delivered-goes number (slice_get w.sent number) refl lines left come
-  begun-goes (Event.pump most) lines left come = once-goes (Event.pump most) [] w lines left come (stays (same-sites w refl) refl)
-  begun-goes (Event.lose number) lines left come = lost-goes number (slice_get w.sent number) lines left come
-  begun-goes (Event.drop n) lines left come =
-      let now : World = record w { fresh = without_site n w.sent w.fresh } in once-goes (Event.drop n) [] now lines left come (stays (same-sites now refl) refl)
-  begun-goes (Event.tick n) lines left come = given-goes (Event.tick n) n tick w refl refl refl (memory_at w n) refl lines left come
-  begun-goes (Event.stop n) lines left come = halted-goes n (memory_at w n) refl lines left come
-  begun-goes (Event.start n) lines left come = opened-goes n (memory_at w n) refl lines left come
-  begun-goes (Event.arm n call mode stops) lines left come = armed-goes (Event.arm n call mode stops) n (Some (record { call = call; mode = mode; stops = stops })) lines left come
-  begun-goes (Event.mend n) lines left come = armed-goes (Event.mend n) n None lines left come
-  begun-goes Event.sent lines left come = once-goes Event.sent _ w lines left come (stays (same-sites w refl) refl)
-  begun-goes Event.report lines left come = once-goes Event.report _ w lines left come (stays (same-sites w refl) refl)
-  begun-goes Event.total lines left come = once-goes Event.total _ w lines left come (stays (same-sites w refl) refl)
+  begun-goes event = by-beginning (λ (b : Begun). (lines : List Line) (left : World) → MayCome b lines left → Goes setup w event left) setup w event (beginning-goes event)
 
   -- the same without armed faults
   disarmed-same : (v : World) (n : ℕ) → IsSame w v n → IsSame w (disarmed v) n

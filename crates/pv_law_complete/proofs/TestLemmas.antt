@@ -136,19 +136,8 @@ is_delivery number (Event.deliver n) = n == number
 is_delivery number other = false
 
 delivery-is : (number : ℕ) (event : Event) → is_delivery number event ≡ true → event ≡ Event.deliver number
-delivery-is number (Event.submit n query text program) is = absurd (false≢true is)
 delivery-is number (Event.deliver n) is = ap Event.deliver (eqb-true n number is)
-delivery-is number (Event.pump most) is = absurd (false≢true is)
-delivery-is number (Event.lose n) is = absurd (false≢true is)
-delivery-is number (Event.drop n) is = absurd (false≢true is)
-delivery-is number (Event.tick n) is = absurd (false≢true is)
-delivery-is number (Event.stop n) is = absurd (false≢true is)
-delivery-is number (Event.start n) is = absurd (false≢true is)
-delivery-is number (Event.arm n call mode stops) is = absurd (false≢true is)
-delivery-is number (Event.mend n) is = absurd (false≢true is)
-delivery-is number Event.sent is = absurd (false≢true is)
-delivery-is number Event.report is = absurd (false≢true is)
-delivery-is number Event.total is = absurd (false≢true is)
+delivery-is number other is = absurd (false≢true is)
 
 -- The message of this number is delivered after it was sent.
 abbrev delivers : World → List Transition → ℕ → Bool

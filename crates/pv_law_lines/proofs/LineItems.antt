@@ -10,6 +10,8 @@ use Rattle.pv_base.specs.declared.txn.TxnId.{TxnId}
 use Rattle.pv_format.specs.Message.{Envelope, txn_of}
 use Rattle.pv_law_lines.proofs.NoteItems.{note-fine}
 use Rattle.pv_law_step.proofs.Lists.{all-from}
+use Rattle.pv_law_world.proofs.EventView.{by-beginning}
+use Rattle.pv_law_world.specs.EventView.{Beginning, Printed, lines_printed, begun_by}
 use Rattle.pv_model.specs.Events.{Event}
 use Rattle.pv_model.specs.PossibleAnswers.{sums}
 use Rattle.pv_protocol.specs.Arms.{broken_line, Reached, waits, fires, reached, calls_of, attempted}
@@ -22,7 +24,7 @@ use Rattle.pv_protocol.specs.Pump.{deliveries, next_fresh, enough, with_fresh}
 use Rattle.pv_protocol.specs.Report.{Reading, cases, locked, down, item_line, item_lines, readings_from, reading_of, total_from, total_of, report_of, sent_from, sent_lines, readings, txns_in_order}
 use Rattle.pv_protocol.specs.Run.{transitions_of, lines_of_transitions}
 use Rattle.pv_protocol.specs.Start.{Started, starts, too_long, no_epoch, site_start}
-use Rattle.pv_protocol.specs.State.{Setup, Running, Input, submit, receive, tick, committed, full, spent}
+use Rattle.pv_protocol.specs.State.{Setup, Running, Input, receive, committed, full, spent}
 use Rattle.pv_protocol.specs.Step.{site_step, step_on}
 use Rattle.pv_protocol.specs.World.{World, site_at, with_done}
 use Rattle.pv_protocol.specs.WorldStep.{transition_of, ended}
@@ -138,21 +140,24 @@ module _ (setup : Setup) where
       let attempt = of_start n (site_start setup (site_at world n).records) in
       attempted-fine world n attempt (reached (calls_of attempt) (site_at world n).arm) (start-fine n (site_start setup (site_at world n).records))
 
+  printed-fine : (world : World) (printed : Printed) → All Fine (lines_printed setup world printed)
+  printed-fine world Printed.nothing = All-nil Fine
+  printed-fine world Printed.messages = sents-fine world
+  printed-fine world Printed.reported = report-fine world
+  printed-fine world Printed.summed = totals-fine world
+
+  beginning-fine : (world : World) (beginning : Beginning) → EndsFine (begun_by setup world beginning)
+  beginning-fine world (Beginning.gives n input) = given-fine world n input (site_at world n).running
+  beginning-fine world (Beginning.delivers n) = delivered-fine world n (slice_get world.sent n)
+  beginning-fine world (Beginning.loses n) = lost-fine world n (slice_get world.sent n)
+  beginning-fine world (Beginning.drops n) = All-nil Fine
+  beginning-fine world (Beginning.halts n) = halted-fine world n (site_at world n).running
+  beginning-fine world (Beginning.opens n) = opened-fine world n (site_at world n).running
+  beginning-fine world (Beginning.arms n arm) = All-nil Fine
+  beginning-fine world (Beginning.prints printed) = printed-fine world printed
+
   begun-fine : (world : World) (event : Event) → EndsFine (begun setup world event)
-  unfolding begun
-  begun-fine world (Event.submit n query text program) = given-fine world n (submit program) (site_at world n).running
-  begun-fine world (Event.deliver n) = delivered-fine world n (slice_get world.sent n)
-  begun-fine world (Event.pump most) = All-nil Fine
-  begun-fine world (Event.lose n) = lost-fine world n (slice_get world.sent n)
-  begun-fine world (Event.drop n) = All-nil Fine
-  begun-fine world (Event.tick n) = given-fine world n tick (site_at world n).running
-  begun-fine world (Event.stop n) = halted-fine world n (site_at world n).running
-  begun-fine world (Event.start n) = opened-fine world n (site_at world n).running
-  begun-fine world (Event.arm n call mode stops) = All-nil Fine
-  begun-fine world (Event.mend n) = All-nil Fine
-  begun-fine world Event.sent = sents-fine world
-  begun-fine world Event.report = report-fine world
-  begun-fine world Event.total = totals-fine world
+  begun-fine world event = by-beginning EndsFine setup world event (λ beginning guard. beginning-fine world beginning)
 
   transition-fine : (world : World) (event : Event) → All Fine (transition_of setup world event).lines
   unfolding transition_of
@@ -178,15 +183,4 @@ module _ (setup : Setup) where
   unfolding transitions_of
   lines-name-items world (Event.pump None) = deliveries-fine (enough world) world
   lines-name-items world (Event.pump (Some most)) = deliveries-fine most world
-  lines-name-items world (Event.submit n query text program) = one-fine world (Event.submit n query text program)
-  lines-name-items world (Event.deliver n) = one-fine world (Event.deliver n)
-  lines-name-items world (Event.lose n) = one-fine world (Event.lose n)
-  lines-name-items world (Event.drop n) = one-fine world (Event.drop n)
-  lines-name-items world (Event.tick n) = one-fine world (Event.tick n)
-  lines-name-items world (Event.stop n) = one-fine world (Event.stop n)
-  lines-name-items world (Event.start n) = one-fine world (Event.start n)
-  lines-name-items world (Event.arm n call mode stops) = one-fine world (Event.arm n call mode stops)
-  lines-name-items world (Event.mend n) = one-fine world (Event.mend n)
-  lines-name-items world Event.sent = one-fine world Event.sent
-  lines-name-items world Event.report = one-fine world Event.report
-  lines-name-items world Event.total = one-fine world Event.total
+  lines-name-items world event = one-fine world event
