@@ -1,5 +1,5 @@
 // What the words after the program's name ask for.
-ghost use Rattle.std.specs.Prelude.{◌≡◌, ℕ, ◌≤◌, [], ◌∷◌, map, decimal, None, IfSome};
+ghost use Rattle.std.specs.Prelude.{◌≡◌, ◌^◌, ◌-◌, ℕ, ◌≤◌, [], ◌∷◌, map, decimal, None, IfSome};
 ghost use Rattle.std.specs.String.{string_bytes};
 ghost use Rattle.pv_app.specs.Commands.{IsCommand};
 
@@ -82,3 +82,8 @@ fn number_of(text: &str) -> Option<u32>
         None
     }
 }
+
+/// The greatest number of a schedule is this one. The function does nothing: it states what the contracts call by the constant's name.
+pub fn greatest_number_is_this()
+    ensures { MAX_NUMBER ≡ 2 ^ 31 - 1 }
+{}

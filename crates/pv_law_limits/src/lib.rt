@@ -7,6 +7,7 @@ ghost use Rattle.std.specs.List.{list_any};
 ghost use Rattle.std.specs.Str.{bytes_eq};
 ghost use Rattle.pv_base.specs.Name.{is_keyword};
 ghost use Rattle.pv_base.specs.declared.limits.TheConstants.{HELD_NAMES, MAX_CALL, MAX_CLIENTS, MAX_DEPTH, MAX_INPUT, MAX_ITEMS, MAX_JOURNAL, MAX_LENGTH, MAX_LINE, MAX_LIVE_LINE, MAX_NAME, MAX_PROGRAM_ITEMS, MAX_PUMP, MAX_REQUESTS, MAX_SENT, MAX_SITES, MAX_WRITE_END, MIN_JOURNAL, NEVER_GIVEN, READ_NAMES, TICKS};
+ghost use Rattle.pv_script.specs.declared.lines.TheConstants.{MAX_SCHEDULE};
 
 /// Each limit that definitions and contracts cite is this number.
 pub fn limits_are_these()
@@ -31,6 +32,7 @@ pub fn limits_are_these()
     ensures held_names { HELD_NAMES ≡ 8 }
     ensures ticks { TICKS ≡ 3 }
     ensures never_given { NEVER_GIVEN ≡ 2 ^ 32 - 1 }
+    ensures schedule { MAX_SCHEDULE ≡ 2 ^ 32 - 2 }
 {}
 
 /// The words that name no item are these ten.

@@ -20,7 +20,7 @@ use Rattle.pv_script.specs.declared.fault.Fault.TheVariants.{At}
 use Rattle.pv_script.specs.declared.schedule.LineCause.{LineCause}
 use Rattle.pv_script.specs.declared.schedule.LineCause.TheVariants.{SitesExpected, Twice, TooLate, WrongCount, TooManyClients, BadName, NameTaken, TooManyItems}
 use Rattle.pv_script.proofs.CauseLemmas.{NoneBefore, none3, none4, none5, none6, none7, none8, none9, none10, none11, none12, none13, none14, none-text, none-known, none-between, none-scheduled, reported, first-line, arguments-line, form_of-line, fields_of-line, IsLineFault-fields}
-use Rattle.pv_script.proofs.KeywordLemmas.{forms-command, plain-command, command-no_sites, command-no_journal, command-no_item, command-no_plan, command-no_client, forms-sites, forms-journal, forms-item, forms-plan, forms-client, plain-sites, plain-journal, plain-item, plain-plan, plain-client}
+use Rattle.pv_script.proofs.KeywordLemmas.{forms-command, some-command, plain-command, command-no_sites, command-no_journal, command-no_item, command-no_plan, command-no_client, forms-sites, forms-journal, forms-item, forms-plan, forms-client, plain-sites, plain-journal, plain-item, plain-plan, plain-client}
 use Rattle.pv_script.proofs.FieldLemmas.{good-site, good-value}
 
 pub some_forms : (forms : List (List Field)) (form : List Field) (more : List (List Field)) → forms ≡ form ∷ more → forms ≢ []
@@ -37,22 +37,7 @@ begins line word other args are refuted is = refuted (sym (first-line line word 
 -- ---- commands
 
 known-command : (command : code.Command) → forms_of scheduled (command_word command) ≢ []
-known-command command none = some_command command (sym (forms-command command) ∙ none)
-  where
-    some_command : (c : code.Command) → command_forms c ≡ [] → ⊥
-    some_command code.TheVariants.Deliver e = cc
-    some_command code.TheVariants.Pump e = cc
-    some_command code.TheVariants.Lose e = cc
-    some_command code.TheVariants.Drop e = cc
-    some_command code.TheVariants.Tick e = cc
-    some_command code.TheVariants.Stop e = cc
-    some_command code.TheVariants.Start e = cc
-    some_command code.TheVariants.Cut e = cc
-    some_command code.TheVariants.Fail e = cc
-    some_command code.TheVariants.Mend e = cc
-    some_command code.TheVariants.Sent e = cc
-    some_command code.TheVariants.Report e = cc
-    some_command code.TheVariants.Total e = cc
+known-command command none = some-command command (sym (forms-command command) ∙ none)
 
 -- a line whose first word declares nothing that comes once
 pub no-twice : (before : Before) (line : TextLine) (word : List ℕ) (args : List (List ℕ)) → words line ≡ word ∷ args → (word ≡ codes "sites" → ⊥) → (word ≡ codes "journal" → ⊥)

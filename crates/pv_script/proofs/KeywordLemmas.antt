@@ -31,6 +31,21 @@ forms-command Sent = refl
 forms-command Report = refl
 forms-command Total = refl
 
+pub some-command : (command : code.Command) → command_forms command ≡ [] → ⊥
+some-command Deliver none = cc
+some-command Pump none = cc
+some-command Lose none = cc
+some-command Drop none = cc
+some-command Tick none = cc
+some-command Stop none = cc
+some-command Start none = cc
+some-command Cut none = cc
+some-command Fail none = cc
+some-command Mend none = cc
+some-command Sent none = cc
+some-command Report none = cc
+some-command Total none = cc
+
 pub plain-command : (command : code.Command) → takes_program (command_word command) ≡ false
 unfolding takes_program
 plain-command Deliver = refl

@@ -19,7 +19,7 @@ use Rattle.pv_script.specs.LiveSaid.{before_of_live}
 use Rattle.pv_script.specs.declared.live_said.LiveSaid.{LiveSaid}
 use Rattle.pv_script.specs.declared.said.Said.{Said}
 use Rattle.pv_script.specs.declared.schedule.Event.{Event}
-use Rattle.pv_script.specs.declared.schedule.Event.TheVariants.{Submit, Deliver, Pump, Lose, Drop, Tick, Stop, Start, Arm, Mend, Sent, Report, Total}
+use Rattle.pv_script.specs.declared.schedule.Event.TheVariants.{Submit}
 use Rattle.pv_script.proofs.FaultLemmas.{IsAtFaultFrom, fault-whole, fault-declares}
 use Rattle.pv_law_schedules.proofs.LineFormLemmas.{kinds-differ}
 use Rattle.pv_law_schedules.proofs.OneScheduleLemmas.{one_schedule, one_live_script, one_fault, no_fault, no_live_fault}
@@ -48,18 +48,7 @@ fault-first kind text k line left after number cause split declares is =
 
 HasPlan-items : (e : Event) (a b : Declared) → a.items ≡ b.items → HasPlan a e → HasPlan b e
 HasPlan-items (Submit site query text program plan) a b same has = subst (λ (items : List Item). IsPlan program items plan.parts.items) same has
-HasPlan-items (Deliver n) a b same has = tt
-HasPlan-items (Pump most) a b same has = tt
-HasPlan-items (Lose n) a b same has = tt
-HasPlan-items (Drop site) a b same has = tt
-HasPlan-items (Tick site) a b same has = tt
-HasPlan-items (Stop site) a b same has = tt
-HasPlan-items (Start site) a b same has = tt
-HasPlan-items (Arm site k mode stop) a b same has = tt
-HasPlan-items (Mend site) a b same has = tt
-HasPlan-items Sent a b same has = tt
-HasPlan-items Report a b same has = tt
-HasPlan-items Total a b same has = tt
+HasPlan-items other a b same has = tt
 
 All-one_more : (P : Event → Type 0) (old : List Event) (e : Event) → All P old → P e → All P (old ++ e ∷ [])
 All-one_more P [] e each last zero d below = last
