@@ -4,10 +4,10 @@ ghost use Rattle.pv_disk.specs.MemBay.{mem_bay};
 ghost use Rattle.pv_show.specs.Bays.{IsAtRest};
 
 use super::*;
-use pv_base::{NoMemory, SiteId};
+use pv_base::SiteId;
 use pv_disk::{Bay, Disk, MemBay, MemDisk};
 use pv_io::{MemSink, MemSource};
-use std::alloc::{AllocError, Global};
+use std::alloc::{AllocError, AllocFailed, Global};
 use std::process::Abort;
 use std::test::Fail;
 
@@ -60,7 +60,7 @@ item b 50 if -0.1.0 ; 60 if +0.1.0
 ";
 
 // a bay with these disks
-pub(crate) fn bay_of(disks: Vec<MemDisk>) -> Result<MemBay, NoMemory>
+pub(crate) fn bay_of(disks: Vec<MemDisk>) -> Result<MemBay, AllocFailed<Vec<MemDisk>>>
     requires { All (λ disk. disk.faults ≡ 0) disks.items }
     ensures { IfOk result (IsAtRest mem_bay) }
 {

@@ -12,6 +12,3 @@ pub use laws::{
 pub use put::Put;
 pub use short::Short;
 pub use take::Take;
-
-#[cfg(test)]
-mod tests;

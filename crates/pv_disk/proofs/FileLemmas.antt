@@ -26,6 +26,7 @@ write_done faults place bytes x = record {
   room = omega arith;
   writes = omega arith;
   fault = (omega arith, tt);
+  uncounted = refl;
 }
 
 module _ {X : Type 0} (old new : ℕ) (rises : old ≤ new) (counted : new ≡ risen old) (e : Fault) where
@@ -37,6 +38,7 @@ module _ {X : Type 0} (old new : ℕ) (rises : old ≤ new) (counted : new ≡ r
     room = omega arith;
     writes = omega arith;
     fault = (rises, omega (arith, counted));
+    uncounted = tt;
   }
 
   pub sync_failed : Syncs file_disk {X = X} old new (Err e)
@@ -50,4 +52,5 @@ module _ {X : Type 0} (old new : ℕ) (rises : old ≤ new) (counted : new ≡ r
     room = omega arith;
     writes = omega arith;
     fault = (rises, omega (arith, counted));
+    uncounted = tt;
   }

@@ -140,6 +140,7 @@ module _ {X : Type 0} (old new : MemState) (made : IsMade old.image) (room : old
           room = room;
           writes = free;
           fault = (omega (arith, faults), tt);
+          uncounted = faults;
         };
         durable = λ held is left may.
             let same : old.image.content ≡ held = cc in
@@ -158,6 +159,7 @@ module _ {X : Type 0} (old new : MemState) (made : IsMade old.image) (room : old
           room = room;
           writes = free;
           fault = (rises, omega (arith, counted));
+          uncounted = tt;
         };
         durable = tt;
       }
@@ -173,6 +175,7 @@ module _ {X : Type 0} (old new : MemState) (place : ℕ) (bytes : List ℕ) (mad
     room = room;
     writes = free;
     fault = (omega (arith, faults), tt);
+    uncounted = faults;
   }
 
   -- The write was made, and then the crash of the mode.
@@ -196,4 +199,5 @@ module _ {X : Type 0} (old new : MemState) (place : ℕ) (bytes : List ℕ) (mad
         room = room;
         writes = free;
         fault = (rises, omega (arith, counted));
+        uncounted = tt;
       }

@@ -10,5 +10,6 @@ module _ {W : Type 0} (M : DiskModel W) where
   -- What making room for so many bytes in so many writes does, by its answer.
   abbrev pub Reserves : {X : Type 0} → W → W → ℕ → ℕ → Result X DiskError → Type 0
   Reserves old new bytes writes (Ok _) = MakesRoom M old new × (M.content new ≡ M.content old) × (bytes ≤ M.room new) × (writes ≤ M.writes new)
+      × (M.faults new ≡ M.faults old)
   Reserves old new bytes writes (Err Failed) = MakesRoom M old new × Rose (M.faults old) (M.faults new)
-  Reserves old new bytes writes (Err NoMemory) = MakesRoom M old new × (M.content new ≡ M.content old)
+  Reserves old new bytes writes (Err NoMemory) = MakesRoom M old new × (M.content new ≡ M.content old) × (M.faults new ≡ M.faults old)

@@ -36,7 +36,7 @@ impl FileDisk {
     }
 
     /// How many calls have failed.
-    pub(crate) fn faults(&self) -> u64
+    pub fn faults(&self) -> u64
         ensures { result ≡ self.now }
     {
         self.faults

@@ -27,6 +27,3 @@ pub use log::Log;
 pub use log_error::LogError;
 pub use mem_bay::MemBay;
 pub use mem_disk::MemDisk;
-
-#[cfg(test)]
-mod tests;

@@ -9,7 +9,8 @@ ghost use Rattle.pv_disk.specs.MemLaws.{mem_model};
 
 use crate::berth::Berth;
 use crate::{Bay, BayError, MemDisk};
-use pv_base::{NoMemory, SiteId};
+use pv_base::SiteId;
+use std::alloc::AllocFailed;
 use std::marker::Model;
 
 /// A bay in memory, which has a disk for each site up to some number. What its disks hold is known.
@@ -32,14 +33,17 @@ impl Model for MemBay {
 }
 
 impl MemBay {
-    /// A bay with these disks, of which no call has failed, in the order of their sites. It keeps none. Where it finds no memory, the disks are gone.
-    pub fn new(disks: Vec<MemDisk>) -> Result<Self, NoMemory>
+    /// A bay with these disks, of which no call has failed, in the order of their sites. It keeps none. Where it finds no memory, the disks come back.
+    pub fn new(disks: Vec<MemDisk>) -> Result<Self, AllocFailed<Vec<MemDisk>>>
         requires { All (λ disk. disk.faults ≡ 0) disks.items }
-        ensures { IfOk result (λ bay. bay ≡ record { berths = map first_berth disks.items; kept = replicate 16 None; faults = 0 }) }
+        ensures bay { IfOk result (λ bay. bay ≡ record { berths = map first_berth disks.items; kept = replicate 16 None; faults = 0 }) }
+        ensures back { IfErr result (λ failed. failed.value ≡ disks) }
     {
-        let mut berths = Vec::new(*disks.allocator());
+        let Ok(mut berths) = Vec::with_capacity(*disks.allocator(), disks.len()) else {
+            return Err(AllocFailed { value: disks });
+        };
         for disk in disks {
-            berths.push(Berth::new(disk))?;
+            berths.push_reserved(Berth::new(disk));
         }
         Ok(MemBay {
             berths,

@@ -97,7 +97,7 @@ impl MemDisk {
     }
 
     /// How many calls have failed.
-    pub(crate) fn faults(&self) -> u64
+    pub fn faults(&self) -> u64
         ensures { result ≡ self.now.faults }
     {
         self.faults

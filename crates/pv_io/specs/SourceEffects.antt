@@ -11,7 +11,8 @@ use Rattle.pv_io.specs.declared.source.Source.{Ghosts}
 module _ {R : Type 0} (source : Ghosts R) where
   -- All that the source had left was read, and is no longer than the limit. `TooLong` is answered only where more than the
   -- limit was left, and `Failed` only where the failure was counted and no more than the limit had come. However it ends, no more
-  -- than one piece beyond the limit was taken. Whether the bytes that are left are known stays, and the count of faults never falls.
+  -- than one piece beyond the limit was taken. Whether the bytes that are left are known stays. The count of faults never falls, and stays
+  -- unless the answer is `Failed`.
   pub record ReadsAll (limit : ℕ) (old new : R) (result : Result (Vec ℕ) ReadEnd) : Type 0 where
     pub whole : IfOk result (λ bytes. (text : List ℕ) → source.left old ≡ Some text → (bytes.items ≡ text) × (source.left new ≡ Some []))
     pub within : IfOk result (λ bytes. vec_len bytes ≤ limit)
@@ -21,3 +22,4 @@ module _ {R : Type 0} (source : Ghosts R) where
     pub taken : TakesAtMost (source.left old) (source.left new) (limit + PIECE)
     pub known : KnownAlike (source.left old) (source.left new)
     pub counted : source.faults old ≤ source.faults new
+    pub uncounted : (IsErrOf result Failed → ⊥) → source.faults new ≡ source.faults old

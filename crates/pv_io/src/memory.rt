@@ -77,6 +77,7 @@ impl Source for MemSource {
         ensures bytes { ReadConsumes (Some self.old.left) (Some self.new.left) result into.new }
         ensures known { KnownAlike (Some self.old.left) (Some self.new.left) }
         ensures fault { FaultCounted self.old.faults self.new.faults result }
+        ensures uncounted { OnOk result (self.new.faults ≡ self.old.faults) }
 
         ensures fails { IsErr result ↔ Contains self.old.fails self.old.calls }
         ensures failed { OnErr result (self.new ≡ failed_source self.old) }
@@ -168,6 +169,7 @@ impl Sink for MemSink {
         ensures bytes { WriteAppends (Some self.old.held) (Some self.new.held) result bytes.now }
         ensures known { KnownAlike (Some self.old.held) (Some self.new.held) }
         ensures fault { FaultCounted self.old.faults self.new.faults result }
+        ensures uncounted { OnOk result (self.new.faults ≡ self.old.faults) }
 
         ensures fails { Contains self.old.fails self.old.calls → IsErr result }
         // A write of nothing wants no memory.

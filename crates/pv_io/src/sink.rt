@@ -11,7 +11,7 @@ pub trait Sink {
     /// The bytes that the sink holds, where they are known.
     ghost held: { Self → Option (List ℕ) };
 
-    /// How many calls have failed. It never falls; at u64's greatest value it stays.
+    /// How many calls have failed. It never falls, and no call that succeeds changes it; at u64's greatest value it stays.
     ghost faults: { Self → ℕ };
 
     /// Takes some bytes from the front of `bytes` and answers how many: at least one where there is one. A call that
@@ -21,5 +21,6 @@ pub trait Sink {
         ensures some { IfOk result (λ n. 0 < length bytes.now → 0 < n) }
         ensures bytes { WriteAppends (held self.old) (held self.new) result bytes.now }
         ensures known { KnownAlike (held self.old) (held self.new) }
-        ensures fault { FaultCounted (faults self.old) (faults self.new) result };
+        ensures fault { FaultCounted (faults self.old) (faults self.new) result }
+        ensures uncounted { OnOk result (faults self.new ≡ faults self.old) };
 }

@@ -1,5 +1,5 @@
 // Where input comes from.
-ghost use Rattle.std.specs.Prelude.{◌≡◌, ℕ, ◌+◌, ◌<◌, ◌≤◌, List, [], Option, Some, Result, length, vec_len, IfOk, IsErrOf};
+ghost use Rattle.std.specs.Prelude.{◌≡◌, ℕ, ◌+◌, ◌<◌, ◌≤◌, List, [], Option, Some, Result, length, vec_len, IfOk, OnOk, IsErrOf};
 ghost use Rattle.std.specs.Io.KnownBytes.{ReadConsumes};
 ghost use Rattle.pv_base.specs.Fault.{FaultCounted, Rose};
 ghost use Rattle.pv_io.specs.Stream.{KnownAlike};
@@ -11,7 +11,7 @@ pub trait Source {
     /// The bytes that are left to read, where they are known.
     ghost left: { Self → Option (List ℕ) };
 
-    /// How many calls have failed. It never falls; at u64's greatest value it stays.
+    /// How many calls have failed. It never falls, and no call that succeeds changes it; at u64's greatest value it stays.
     ghost faults: { Self → ℕ };
 
     /// Reads some of the bytes that are left to the front of `into`, and answers how many. `Ok(0)` for an `into` that
@@ -20,5 +20,6 @@ pub trait Source {
         ensures bound { IfOk result (λ n. n ≤ length into.new) }
         ensures bytes { ReadConsumes (left self.old) (left self.new) result into.new }
         ensures known { KnownAlike (left self.old) (left self.new) }
-        ensures fault { FaultCounted (faults self.old) (faults self.new) result };
+        ensures fault { FaultCounted (faults self.old) (faults self.new) result }
+        ensures uncounted { OnOk result (faults self.new ≡ faults self.old) };
 }

@@ -1,5 +1,5 @@
 // A source over a reader of std, and a sink over a writer of std.
-ghost use Rattle.std.specs.Prelude.{◌≡◌, ◌<◌, ◌≤◌, Some, length, IsSome, IfSome, IfOk};
+ghost use Rattle.std.specs.Prelude.{◌≡◌, ◌<◌, ◌≤◌, Some, length, IsSome, IfSome, IfOk, OnOk};
 ghost use Rattle.std.specs.Option.{ForSome};
 ghost use Rattle.std.specs.Io.KnownBytes.{ReadConsumes, WriteAppends};
 ghost use Rattle.pv_base.specs.Fault.{FaultCounted};
@@ -58,6 +58,8 @@ impl<R: Read> Source for StdSource<R> {
             (⟦<StdSource<R> as Source>⟧.left self.new) }
         ensures fault { FaultCounted (⟦<StdSource<R> as Source>⟧.faults self.old)
             (⟦<StdSource<R> as Source>⟧.faults self.new) result }
+        ensures uncounted { OnOk result (⟦<StdSource<R> as Source>⟧.faults self.new
+            ≡ ⟦<StdSource<R> as Source>⟧.faults self.old) }
         ensures counts { CountsFaults (⟦<StdSource<R> as Source>⟧.faults self.old)
             (⟦<StdSource<R> as Source>⟧.faults self.new) result }
     {
@@ -122,6 +124,8 @@ impl<W: Write> Sink for StdSink<W> {
             (⟦<StdSink<W> as Sink>⟧.held self.new) }
         ensures fault { FaultCounted (⟦<StdSink<W> as Sink>⟧.faults self.old)
             (⟦<StdSink<W> as Sink>⟧.faults self.new) result }
+        ensures uncounted { OnOk result (⟦<StdSink<W> as Sink>⟧.faults self.new
+            ≡ ⟦<StdSink<W> as Sink>⟧.faults self.old) }
         ensures counts { CountsFaults (⟦<StdSink<W> as Sink>⟧.faults self.old)
             (⟦<StdSink<W> as Sink>⟧.faults self.new) result }
     {

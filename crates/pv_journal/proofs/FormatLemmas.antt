@@ -39,7 +39,7 @@ module _ {D : Type 0} (M : DiskModel D) (old : D) where
       (record { known = reserves.0.known; any_moment = after_room new reserves.0; faults = reserves.0.faults; calls = inl (refl, goes) }, reserves.1)
   no_room Y new NoMemory result is reserves goes =
       subst (Formats M old new) (sym is)
-      (record { known = reserves.0.known; any_moment = after_room new reserves.0; faults = reserves.0.faults; calls = inl (refl, goes) }, reserves.1, reserves.0.any_moment)
+      (record { known = reserves.0.known; any_moment = after_room new reserves.0; faults = reserves.0.faults; calls = inl (refl, goes) }, reserves.1, reserves.0.any_moment, reserves.2)
 
   -- The disk failed later.
   pub disk_failed : {X : Type 0} (new : D) (result : Result X DiskError) → result ≡ Err Failed → Formatted M old new false → Rose (M.faults old) (M.faults new) → Formats M {X = X} old new result

@@ -10,7 +10,7 @@ use Rattle.pv_law_disk.proofs.DiskLemmas.{LeavesOnly-none, LeavesOnly-trans}
 use Rattle.pv_disk.specs.declared.disk_error.LookError.{LookError}
 use Rattle.pv_disk.specs.declared.disk_error.LookError.TheVariants.{Failed, NotOurs, NoMemory}
 use Rattle.pv_journal.specs.Opening.{place_in}
-use Rattle.pv_journal.specs.Reading.{Looks, LooksBy}
+use Rattle.pv_journal.specs.Reading.{Looks, LooksOn, LooksBy}
 
 module _ {D : Type 0} (M : DiskModel D) where
   -- What a crash may leave after calls that only read, it might have left before them.
@@ -56,43 +56,43 @@ module _ {D : Type 0} (M : DiskModel D) where
 
   -- A reading after calls that only read.
   pub looked : {X Y : Type 0} (old mid new : D) (x : X) (result : Result Y LookError) → LooksBy M {X = X} old mid (Ok x) → LooksBy M {X = Y} mid new result → LooksBy M {X = Y} old new result
-  looked old mid new x (Ok y) first second = (Looks-trans old mid new first.0 second.0, second.1 ∙ first.1)
+  looked old mid new x (Ok y) first second = (Looks-trans old mid new first.0 second.0, second.1 ∙ first.1, second.2 ∙ first.2)
   looked old mid new x (Err Failed) first second = (Looks-trans old mid new first.0 second.0, omega (arith, first.0.faults, second.1))
-  looked old mid new x (Err (NotOurs place)) first second = (Looks-trans old mid new first.0 second.0, second.1 ∙ first.1)
-  looked old mid new x (Err NoMemory) first second = (Looks-trans old mid new first.0 second.0, second.1 ∙ first.1)
+  looked old mid new x (Err (NotOurs place)) first second = (Looks-trans old mid new first.0 second.0, second.1 ∙ first.1, second.2 ∙ first.2)
+  looked old mid new x (Err NoMemory) first second = (Looks-trans old mid new first.0 second.0, second.1 ∙ first.1, second.2 ∙ first.2)
 
   -- The same where both are known to have succeeded.
-  pub looked_ok : (old mid new : D) → Looks M old mid × (M.content mid ≡ M.content old) → Looks M mid new × (M.content new ≡ M.content mid) → Looks M old new × (M.content new ≡ M.content old)
-  looked_ok old mid new first second = (Looks-trans old mid new first.0 second.0, second.1 ∙ first.1)
+  pub looked_ok : (old mid new : D) → LooksOn M old mid → LooksOn M mid new → LooksOn M old new
+  looked_ok old mid new first second = (Looks-trans old mid new first.0 second.0, second.1 ∙ first.1, second.2 ∙ first.2)
 
   -- The error of a reading is passed on.
   pub looked_err : {X Y : Type 0} (old mid new : D) (e : LookError) (result : Result X LookError) (other : Result Y LookError) → result ≡ Err e → other ≡ Err e
-      → Looks M old mid × (M.content mid ≡ M.content old) → LooksBy M {X = X} mid new result → LooksBy M {X = Y} old new other
+      → LooksOn M old mid → LooksBy M {X = X} mid new result → LooksBy M {X = Y} old new other
   looked_err old mid new Failed result other is same first second =
       let failed = subst (LooksBy M mid new) is second in
       subst (LooksBy M old new) (sym same) (Looks-trans old mid new first.0 failed.0, omega (arith, first.0.faults, failed.1))
   looked_err old mid new (NotOurs place) result other is same first second =
       let failed = subst (LooksBy M mid new) is second in
-      subst (LooksBy M old new) (sym same) (Looks-trans old mid new first.0 failed.0, failed.1 ∙ first.1)
+      subst (LooksBy M old new) (sym same) (Looks-trans old mid new first.0 failed.0, failed.1 ∙ first.1, failed.2 ∙ first.2)
   looked_err old mid new NoMemory result other is same first second =
       let failed = subst (LooksBy M mid new) is second in
-      subst (LooksBy M old new) (sym same) (Looks-trans old mid new first.0 failed.0, failed.1 ∙ first.1)
+      subst (LooksBy M old new) (sym same) (Looks-trans old mid new first.0 failed.0, failed.1 ∙ first.1, failed.2 ∙ first.2)
 
   -- A call of the disk that reads.
   pub looks_ok : {X : Type 0} (old new : D) (call : DiskCall) (x : X) → IsRead call → M.goes old call true new → Observes M {X = X} old new (Ok x)
-      → Looks M old new × (M.content new ≡ M.content old)
-  looks_ok old new call x is_read goes observes = (Looks-call old new call true (Ok x) is_read goes observes, observes.content)
+      → LooksOn M old new
+  looks_ok old new call x is_read goes observes = (Looks-call old new call true (Ok x) is_read goes observes, observes.content, observes.uncounted)
 
   pub looks_failed : {X : Type 0} (old new : D) (call : DiskCall) (e : Fault) → IsRead call → M.goes old call false new → Observes M {X = X} old new (Err e)
       → Looks M old new × Rose (M.faults old) (M.faults new)
   looks_failed old new call e is_read goes observes = (Looks-call old new call false (Err e) is_read goes observes, observes.fault.1)
 
-  pub looks_none : (disk : D) → Looks M disk disk × (M.content disk ≡ M.content disk)
-  looks_none disk = (Looks-none disk, refl)
+  pub looks_none : (disk : D) → LooksOn M disk disk
+  looks_none disk = (Looks-none disk, refl, refl)
 
 module _ {D : Type 0} (M : DiskModel D) where
   -- There was no memory for what was read.
-  pub looked_in_vain : {Y : Type 0} (old new : D) (other : Result Y LookError) → other ≡ Err NoMemory → Looks M old new × (M.content new ≡ M.content old) → LooksBy M {X = Y} old new other
+  pub looked_in_vain : {Y : Type 0} (old new : D) (other : Result Y LookError) → other ≡ Err NoMemory → LooksOn M old new → LooksBy M {X = Y} old new other
   looked_in_vain old new other is looks = subst (LooksBy M old new) (sym is) looks
 
 pub ruleset looking = (looked_ok, looked_err, looked_in_vain, looks_ok, looks_failed, looks_none)

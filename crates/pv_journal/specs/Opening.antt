@@ -42,14 +42,16 @@ module _ {D : Type 0} (M : DiskModel D) where
     pub faults : M.faults old ≤ M.faults new
 
   -- An opening, by its answer. A sync comes first, and where it succeeds calls that only read. The journal has the contents of the disk's bytes, or they are none, and it shows at that place.
+  -- The count of faults rose where the disk failed, and else it stays.
   abbrev pub Opens : D → ℕ → Result (Journal D) (OpenLog D) → Type 0
   Opens old limit (Ok journal) =
       Opened old journal.disk × SyncsAndReads old journal.disk × (M.content journal.disk ≡ M.content old) × IsIntact M journal × (journal.down ≡ false)
-      × (journal.limit ≡ limit)
+      × (journal.limit ≡ limit) × (M.faults journal.disk ≡ M.faults old)
   Opens old limit (Err (Failed disk)) = Opened old disk × (M.goes old sync false disk ⊎ SyncsAndReads old disk) × Rose (M.faults old) (M.faults disk)
   Opens old limit (Err (NotOurs disk place)) =
       Opened old disk × SyncsAndReads old disk × (M.content disk ≡ M.content old) × ((bytes : List ℕ) → M.content old ≡ Some bytes → IsNotOurs bytes place)
-  Opens old limit (Err (NoMemory disk)) = Opened old disk × SyncsAndReads old disk × (M.content disk ≡ M.content old)
+      × (M.faults disk ≡ M.faults old)
+  Opens old limit (Err (NoMemory disk)) = Opened old disk × SyncsAndReads old disk × (M.content disk ≡ M.content old) × (M.faults disk ≡ M.faults old)
 
   -- What making an empty journal asks of the disk.
   abbrev pub format_calls : List DiskCall
@@ -63,9 +65,10 @@ module _ {D : Type 0} (M : DiskModel D) where
     pub calls : Makes M.goes old format_calls ok new
 
   -- Making an empty journal on an empty disk, by its answer: it is there, and each crash from now on leaves it; or the disk failed; or it is empty still, and so is
-  -- what a crash leaves, if it was.
+  -- what a crash leaves, if it was. The count of faults rose where the disk failed, and else it stays.
   abbrev pub Formats : {X : Type 0} → D → D → Result X DiskError → Type 0
   Formats old new (Ok _) =
       Formatted old new true × ((held : List ℕ) → M.content old ≡ Some held → (M.content new ≡ Some empty_journal) × Only empty_journal (M.may_leave new))
+      × (M.faults new ≡ M.faults old)
   Formats old new (Err DiskFailed) = Formatted old new false × Rose (M.faults old) (M.faults new)
-  Formats old new (Err DiskNoMemory) = Formatted old new false × (M.content new ≡ M.content old) × LeavesOnly M old new (M.may_leave old)
+  Formats old new (Err DiskNoMemory) = Formatted old new false × (M.content new ≡ M.content old) × LeavesOnly M old new (M.may_leave old) × (M.faults new ≡ M.faults old)

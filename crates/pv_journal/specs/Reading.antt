@@ -22,12 +22,17 @@ module _ {D : Type 0} (M : DiskModel D) where
     pub faults : M.faults old ≤ M.faults new
     pub reads : OnlyReads M.goes old new
 
-  -- A reading, by its answer: the content stays, but where the disk failed it is one that a crash might have left.
+  -- And the content and the count of faults stay.
+  abbrev pub LooksOn : D → D → Type 0
+  LooksOn old new = Looks old new × (M.content new ≡ M.content old) × (M.faults new ≡ M.faults old)
+
+  -- A reading, by its answer: the content stays, and so does the count of faults. Where the disk failed the content is one that a crash might have left, and the
+  -- count rose.
   abbrev pub LooksBy : {X : Type 0} → D → D → Result X LookError → Type 0
-  LooksBy old new (Ok _) = Looks old new × (M.content new ≡ M.content old)
+  LooksBy old new (Ok _) = LooksOn old new
   LooksBy old new (Err Failed) = Looks old new × Rose (M.faults old) (M.faults new)
-  LooksBy old new (Err (NotOurs _)) = Looks old new × (M.content new ≡ M.content old)
-  LooksBy old new (Err NoMemory) = Looks old new × (M.content new ≡ M.content old)
+  LooksBy old new (Err (NotOurs _)) = LooksOn old new
+  LooksBy old new (Err NoMemory) = LooksOn old new
 
 -- Up to this place the bytes are the header and records of these contents, and there are more.
 pub record ReadsTo (contents : Contents) (bytes : List ℕ) (place : ℕ) : Type 0 where

@@ -1,5 +1,5 @@
 // A journal as a log.
-ghost use Rattle.std.specs.Prelude.{◌≡◌, ℕ, ◌+◌, ◌≤◌, ◌^◌, ◌<◌, ◌++◌, ◌∷◌, [], List, Some, length, is_ok, is_some, vec_len, vec_capacity};
+ghost use Rattle.std.specs.Prelude.{◌≡◌, ℕ, ◌+◌, ◌≤◌, ◌^◌, ◌<◌, ◌++◌, ◌∷◌, [], List, Some, length, is_ok, is_some, vec_len, vec_capacity, OnOk};
 ghost use Rattle.pv_base.specs.declared.limits.TheConstants.{MAX_WRITE_END};
 ghost use Rattle.pv_base.specs.Fault.{FaultCounted};
 ghost use Rattle.pv_base.specs.BigEndian.{big_endian};
@@ -88,6 +88,7 @@ fn write_record<D: Disk>(disk: &mut D, end: u64, frame: &[u8]) -> Result<(), Fai
     ensures known { is_some (D.model.content disk.new) ≡ is_some (D.model.content disk.old) }
     ensures calls { Makes D.model.goes disk.old (frame_calls end frame.now) (is_ok result) disk.new }
     ensures fault { FaultCounted (D.model.faults disk.old) (D.model.faults disk.new) result }
+    ensures uncounted { OnOk result (D.model.faults disk.new ≡ D.model.faults disk.old) }
 {
     disk.write_at(end + 1, frame)?;
     disk.sync()?;

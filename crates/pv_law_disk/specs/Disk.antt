@@ -32,7 +32,7 @@ module _ {W : Type 0} (M : DiskModel W) where
   abbrev pub LeftTorn : W → ℕ → ℕ → List ℕ → Type 0
   LeftTorn old place count left = (from : List ℕ) × M.may_leave old from × Torn place count from left
 
-  -- A call that reads: the content stays. After a fault it is one of those that a crash might have left.
+  -- A call that reads: the content stays. After a fault it is one of those that a crash might have left. The count of faults stays unless the call fails.
   pub record Observes {X : Type 0} (old new : W) (result : Result X Fault) : Type 0 where
     pub content : OnOk result (M.content new ≡ M.content old)
     pub known : is_some (M.content new) ≡ is_some (M.content old)
@@ -40,8 +40,9 @@ module _ {W : Type 0} (M : DiskModel W) where
     pub room : M.room old ≤ M.room new
     pub writes : M.writes old ≤ M.writes new
     pub fault : FaultCounted (M.faults old) (M.faults new) result
+    pub uncounted : OnOk result (M.faults new ≡ M.faults old)
 
-  -- A write: the content is the old one with these bytes. After a fault it is one of those that a crash might have left.
+  -- A write: the content is the old one with these bytes. After a fault it is one of those that a crash might have left. The count of faults stays unless the call fails.
   pub record Writes {X : Type 0} (old new : W) (place : ℕ) (bytes : List ℕ) (result : Result X Fault) : Type 0 where
     pub content : OnOk result ((was : List ℕ) → M.content old ≡ Some was → M.content new ≡ Some (overlaid was place bytes))
     pub known : is_some (M.content new) ≡ is_some (M.content old)
@@ -49,6 +50,7 @@ module _ {W : Type 0} (M : DiskModel W) where
     pub room : M.room old ≤ M.room new + length bytes
     pub writes : M.writes old ≤ M.writes new + 1
     pub fault : FaultCounted (M.faults old) (M.faults new) result
+    pub uncounted : OnOk result (M.faults new ≡ M.faults old)
 
   -- A sync: the content stays, and from now on a crash leaves it alone. A fault is as that of a read.
   pub record Syncs {X : Type 0} (old new : W) (result : Result X Fault) : Type 0 where

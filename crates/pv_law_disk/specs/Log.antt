@@ -43,11 +43,11 @@ module _ {W : Type 0} (M : LogModel W) where
     pub limit : M.limit new ≡ M.limit old
     pub any_moment : (was : Contents) → M.contents old ≡ Some was → LeavesOnly old new (IsBeforeOrAfter was content)
 
-  -- The log isn't down, before and after.
+  -- The log isn't down, before and after, and nothing that it stands on was counted as failed.
   pub record StaysUp (old new : W) : Type 0 where
     pub was_up : M.is_down old ≡ false
     pub is_up : M.is_down new ≡ false
-    pub faults : M.faults old ≤ M.faults new
+    pub faults : M.faults new ≡ M.faults old
 
   -- What the log stands on failed, which was counted, and the log is down from now on.
   pub record GoesDown (old new : W) : Type 0 where

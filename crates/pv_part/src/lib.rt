@@ -4,6 +4,3 @@
 mod cases;
 
 pub use cases::{OutcomeCase, PrepareCase, on_lock, on_outcome, on_prepare};
-
-#[cfg(test)]
-mod tests;

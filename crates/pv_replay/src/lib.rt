@@ -20,6 +20,3 @@ pub use poly::{put_poly, take_poly};
 pub use pv_poly::Read;
 pub use reads::{put_reads, take_reads};
 pub use record::{Record, encode_record};
-
-#[cfg(test)]
-mod tests;

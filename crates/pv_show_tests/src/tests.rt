@@ -5,11 +5,11 @@ ghost use Rattle.pv_disk.specs.MemBay.{mem_bay};
 ghost use Rattle.pv_script.specs.declared.lines.TheConstants.{MAX_SCHEDULE};
 ghost use Rattle.pv_show.specs.Bays.{IsAtRest};
 
-use pv_base::{NoMemory, SiteId};
+use pv_base::SiteId;
 use pv_disk::{Bay, MemBay, MemDisk};
 use pv_script::read_live;
 use pv_show::*;
-use std::alloc::Global;
+use std::alloc::{AllocFailed, Global};
 use std::test::Fail;
 
 // Epoch 1, 0.1.0 prepared with 101 for item 0, and its commit.
@@ -55,7 +55,7 @@ fn disk_of(alloc: Global, bytes: &[u8]) -> Result<MemDisk, Fail>
 }
 
 // A bay with these disks.
-fn bay_of(disks: Vec<MemDisk>) -> Result<MemBay, NoMemory>
+fn bay_of(disks: Vec<MemDisk>) -> Result<MemBay, AllocFailed<Vec<MemDisk>>>
     requires { All (λ disk. disk.faults ≡ 0) disks.items }
     ensures { IfOk result (IsAtRest mem_bay) }
 {

@@ -5,4 +5,4 @@ use Rattle.pv_app.proofs.app.write_usage.Goals as goal
 
 pub returns-clause-prefix : goal.returns-clause-prefix
 returns-clause-prefix g c =
-    prefix-either c.write_all.result (g.W.Sink.held c.args.sink.now) (g.W.Sink.held c.write_all.new.sink) usage_text c.write_all.ensures.written c.write_all.ensures.prefix
+    prefix-either c.write_all.result (g.W.Sink.held c.args.sink.now) (g.W.Sink.held c.write_all.new.sink) usage_text c.write_all.ensures.writes.written c.write_all.ensures.writes.prefix

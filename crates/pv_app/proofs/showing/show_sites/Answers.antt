@@ -11,7 +11,7 @@ returns-in-Ok-clause-shown g c =
     shows-written g.B.Bay.model g.B.D.Disk.model g.W.Sink c.args.catalog.now c.write_all.result c.status_of_write.result c.args.bay.now c.show.new.bay c.args.sink.now
     c.write_all.new.sink c.deref.result.now c.status_of_write.ensures
     (subst (λ (text : List ℕ). ShowsAll g.B.Bay.model g.B.D.Disk.model c.args.catalog.now c.args.bay.now c.show.new.bay text) (sym c.deref.ensures.value) c.in-Ok.ensures.text)
-    c.write_all.ensures.written c.write_all.ensures.prefix
+    c.write_all.ensures.writes.written c.write_all.ensures.writes.prefix
 
 pub returns-in-Err-BayFault-clause-shown : goal.returns-in-Err-BayFault-clause-shown
 returns-in-Err-BayFault-clause-shown g c =

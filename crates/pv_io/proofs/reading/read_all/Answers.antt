@@ -29,6 +29,7 @@ returns-then-count-eq0 g c =
       taken = search (rules, before, read);
       known = read.known ∙ before.known;
       counted = omega (arith, before.counted, read.fault.0);
+      uncounted = λ _. read.uncounted ∙ before.counted;
     }
 
 pub loop-piece-preserved : goal.loop-piece-preserved
@@ -47,7 +48,7 @@ loop-piece-preserved g c =
       within = omega (arith, extended.len);
       consumed = Consumes-grown _ _ _ _ _ _ before.consumed read.bytes.0 grown;
       known = read.known ∙ before.known;
-      counted = omega (arith, read.fault.0);
+      counted = read.uncounted ∙ before.counted;
     }
 
 -- The read that passed the limit took one piece more.
@@ -67,6 +68,7 @@ returns-then-count-limit g c =
       taken = taken_twice _ _ _ _ _ before.consumed read.bytes.0 (omega (arith, before.within, before.room, read.bound, size, c.deref_mut.ensures.len, c.loop-piece.bytes.ok.0));
       known = read.known ∙ before.known;
       counted = omega (arith, before.counted, read.fault.0);
+      uncounted = λ _. read.uncounted ∙ before.counted;
     }
 
 -- So did the read for whose bytes there was no memory.
@@ -84,4 +86,5 @@ returns-in_err-extend_from_slice g c =
       taken = taken_twice _ _ _ _ _ before.consumed read.bytes.0 (omega (arith, before.within, before.room, read.bound, size, c.deref_mut.ensures.len, c.loop-piece.bytes.ok.0));
       known = read.known ∙ before.known;
       counted = omega (arith, before.counted, read.fault.0);
+      uncounted = λ _. read.uncounted ∙ before.counted;
     }

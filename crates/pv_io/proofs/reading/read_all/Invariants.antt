@@ -11,7 +11,7 @@ invariant-loop-piece g l = record {
   within : vec_len l.bytes ≤ l.limit;
   consumed : Consumes (g.R.Source.left l.initial.source) (g.R.Source.left l.source) l.bytes.items;
   known : KnownAlike (g.R.Source.left l.initial.source) (g.R.Source.left l.source);
-  counted : g.R.Source.faults l.initial.source ≤ g.R.Source.faults l.source;
+  counted : g.R.Source.faults l.source ≡ g.R.Source.faults l.initial.source;
 }
 
 abbrev pub decreases-loop-piece : goal.decreases-loop-piece

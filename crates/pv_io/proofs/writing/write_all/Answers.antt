@@ -20,6 +20,6 @@ loop-written-preserved g c =
       within = omega (arith, now.bound);
       appended = subst (Appends (held c.args.sink.now) (held c.write.new.self)) both appended;
       known = now.known ∙ before.known;
-      counted = omega (arith, now.fault.0);
+      counted = now.uncounted ∙ before.counted;
       none = λ none. absurd (omega (arith, ap length none, c.loop-written-test.true));
     }

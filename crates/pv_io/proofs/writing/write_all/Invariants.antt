@@ -9,7 +9,7 @@ invariant-loop-written g l = record {
   within : l.written ≤ length l.bytes;
   appended : Appends (g.W.Sink.held l.initial.sink) (g.W.Sink.held l.sink) (take l.written l.bytes);
   known : KnownAlike (g.W.Sink.held l.initial.sink) (g.W.Sink.held l.sink);
-  counted : g.W.Sink.faults l.initial.sink ≤ g.W.Sink.faults l.sink;
+  counted : g.W.Sink.faults l.sink ≡ g.W.Sink.faults l.initial.sink;
   none : l.bytes ≡ [] → l.sink ≡ l.initial.sink;
 }
 

@@ -53,4 +53,5 @@ returns g c =
           let made : M.content c.write_at.new.self ≡ Some empty_journal =
           c.in_ok-write_at.ensures.effect.content held (c.in_ok-reserve.ensures.effect.1 ∙ is) ∙ ap (λ (l : List ℕ). Some (empty_journal ++ drop 9 l)) empty in
           (c.in_ok-sync.ensures.effect.observes.content ∙ made, λ left may. c.in_ok-sync.ensures.effect.durable empty_journal made left may),
+      c.in_ok-sync.ensures.effect.observes.uncounted ∙ c.in_ok-write_at.ensures.effect.uncounted ∙ c.in_ok-reserve.ensures.effect.4,
     )

@@ -15,7 +15,7 @@ returns-in_err-gate_at-clause-not_ours g c place known bytes is =
 
 pub returns-in-Closed-clause-effect : goal.returns-in-Closed-clause-effect
 returns-in-Closed-clause-effect g c =
-    looked_ok g.D.Disk.model c.args.disk.now c.loop-count.disk c.gate_at.new.disk (c.loop-count.invariant.0, c.loop-count.invariant.1) c.in_ok-gate_at.ensures.effect
+    looked_ok g.D.Disk.model c.args.disk.now c.loop-count.disk c.gate_at.new.disk (c.loop-count.invariant.0, c.loop-count.invariant.1, c.loop-count.invariant.5) c.in_ok-gate_at.ensures.effect
 
 pub returns-in-Closed-clause-found : goal.returns-in-Closed-clause-found
 returns-in-Closed-clause-found g c bytes is =
@@ -27,7 +27,7 @@ returns-in-Closed-clause-found g c bytes is =
 
 pub loop-count-preserved : goal.loop-count-preserved
 loop-count-preserved g c =
-    let both = looked_ok g.D.Disk.model c.args.disk.now c.loop-count.disk c.gate_at.new.disk (c.loop-count.invariant.0, c.loop-count.invariant.1) c.in_ok-gate_at.ensures.effect in
+    let both = looked_ok g.D.Disk.model c.args.disk.now c.loop-count.disk c.gate_at.new.disk (c.loop-count.invariant.0, c.loop-count.invariant.1, c.loop-count.invariant.5) c.in_ok-gate_at.ensures.effect in
     let count = c.in-Open.count in
     let ends : EndsBefore (Open count) (c.in_ok-size.size - c.loop-count.place) = subst (λ (gate : Gate). EndsBefore gate (c.in_ok-size.size - c.loop-count.place)) c.in-Open.is c.in_ok-gate_at.ensures.ends in (
       both.0,
@@ -41,4 +41,5 @@ loop-count-preserved g c =
           ),
       omega (arith, ends.0, c.from.ensures),
       omega (arith, c.loop-count.invariant.4),
+      both.2,
     )

@@ -7,7 +7,7 @@ abbrev pub invariant-loop-count : goal.invariant-loop-count
 invariant-loop-count g l =
     Looks g.D.Disk.model l.fn.disk l.disk × (g.D.Disk.model.content l.disk ≡ g.D.Disk.model.content l.fn.disk)
     × ((bytes : List ℕ) → g.D.Disk.model.content l.fn.disk ≡ Some bytes → (contents : Contents) × ReadsTo contents bytes l.place)
-    × (l.place < l.size) × (8 ≤ l.place)
+    × (l.place < l.size) × (8 ≤ l.place) × (g.D.Disk.model.faults l.disk ≡ g.D.Disk.model.faults l.fn.disk)
 
 abbrev pub decreases-loop-count : goal.decreases-loop-count
 decreases-loop-count g l = l.size - l.place

@@ -15,7 +15,7 @@ returns-in_err-content-clause-not_ours g c place known bytes is =
 
 pub returns-in_default-clause-effect : goal.returns-in_default-clause-effect
 returns-in_default-clause-effect g c =
-    looked_ok g.D.Disk.model c.args.disk.now c.loop-all.disk c.read_record.new.disk (c.loop-all.invariant.0, c.loop-all.invariant.1) c.in_ok-content.ensures.effect
+    looked_ok g.D.Disk.model c.args.disk.now c.loop-all.disk c.read_record.new.disk (c.loop-all.invariant.0, c.loop-all.invariant.1, c.loop-all.invariant.4) c.in_ok-content.ensures.effect
 
 pub returns-in_default-clause-found : goal.returns-in_default-clause-found
 returns-in_default-clause-found g c bytes is =
@@ -26,7 +26,7 @@ returns-in_default-clause-found g c bytes is =
 
 pub loop-all-preserved : goal.loop-all-preserved
 loop-all-preserved g c =
-    let both = looked_ok g.D.Disk.model c.args.disk.now c.loop-all.disk c.read_record.new.disk (c.loop-all.invariant.0, c.loop-all.invariant.1) c.in_ok-content.ensures.effect in
+    let both = looked_ok g.D.Disk.model c.args.disk.now c.loop-all.disk c.read_record.new.disk (c.loop-all.invariant.0, c.loop-all.invariant.1, c.loop-all.invariant.4) c.in_ok-content.ensures.effect in
     let f = λ (it : Vec ℕ Global). it.items in
     let all = map f c.loop-all.all.items in
     let content = c.in-Some.content in
@@ -41,9 +41,10 @@ loop-all-preserved g c =
           rw (grown, length_is)
           (read_open all bytes content.items stands.1 c.loop-all.place (vec_len content) stands.0 (c.loop-all.invariant.2 bytes is) size ends.1 stands.2),
       omega (arith, ends.0, length_is),
+      both.2,
     )
 
 pub returns-in_err-push-clause-effect : goal.returns-in_err-push-clause-effect
 returns-in_err-push-clause-effect g c =
     looked_in_vain g.D.Disk.model c.args.disk.now c.read_record.new.disk c.from_residual-in_err-push.result (search rules)
-    (looked_ok g.D.Disk.model c.args.disk.now c.loop-all.disk c.read_record.new.disk (c.loop-all.invariant.0, c.loop-all.invariant.1) c.in_ok-content.ensures.effect)
+    (looked_ok g.D.Disk.model c.args.disk.now c.loop-all.disk c.read_record.new.disk (c.loop-all.invariant.0, c.loop-all.invariant.1, c.loop-all.invariant.4) c.in_ok-content.ensures.effect)

@@ -44,7 +44,7 @@ returns-in-Ok-clause-effect g c =
     let new : Journal g.row.D.Denot =
     record { disk = c.write_record.new.disk; frame = c.make_frame.new.frame; length = old.length + (5 + length c.args.content.now); limit = old.limit; down = old.down } in
     let frame_is = c.deref.ensures.value ∙ c.make_frame.ensures in (
-      record { was_up = c.if-self.false; is_up = c.if-self.false; faults = c.write_record.ensures.fault.0 },
+      record { was_up = c.if-self.false; is_up = c.if-self.false; faults = c.in-Ok.ensures.uncounted },
       adds M old new c.args.content.now c.deref.result.now c.requires.intact c.if-self.false (c.requires.room c.if-self.false) frame_is c.write_record.ensures.known refl
           tt c.in-Ok.ensures.crash refl,
     )

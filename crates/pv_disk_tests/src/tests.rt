@@ -2,8 +2,8 @@
 ghost use Rattle.std.specs.Prelude.{◌≡◌, ◌<◌, ◌≤◌, ◌+◌, ◌^◌, ◌++◌, false, List, ℕ, None, length, IfOk, OnOk};
 ghost use Rattle.pv_law_disk.specs.Log.{Adds};
 
-use super::*;
 use pv_base::{Failed, Mode, SiteId};
+use pv_disk::*;
 use std::alloc::Global;
 use std::fs;
 use std::fs::{File, OpenOptions};

@@ -1,7 +1,7 @@
 // Each case of each message.
-use super::*;
 use pv_base::{GrantId, ItemId, SiteId, TxnId, Want};
 use pv_locks::{GrantPlan, Locks};
+use pv_part::*;
 use std::test::Fail;
 
 // A transaction, its site, and another site.

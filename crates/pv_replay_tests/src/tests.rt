@@ -1,9 +1,8 @@
 // Worked records and polyvalues, byte for byte; each with every beginning and many changed bytes; and many cases that overlap.
-use crate::past::decode_record;
-use crate::*;
 use pv_base::{NoMemory, TxnId};
 use pv_bytes::{Put, Take};
 use pv_poly::Poly;
+use pv_replay::*;
 use std::alloc::{AllocFailed, Global};
 use std::test::Fail;
 
@@ -52,6 +51,17 @@ fn bytes_of(alloc: Global, text: &str) -> Result<Vec<u8>, AllocFailed<u8>> {
         }
     }
     Ok(bytes)
+}
+
+// The record that the content is, if it is one.
+fn decode_record(alloc: Global, content: &[u8]) -> Result<Option<Record>, NoMemory> {
+    let mut contents = Vec::new(alloc);
+    contents.push(content.to_vec(alloc)?)?;
+    match replay(alloc, &contents) {
+        Ok(mut past) => Ok(past.records.pop()),
+        Err(ReplayError::BadRecord(_)) => Ok(None),
+        Err(ReplayError::NoMemory) => Err(NoMemory),
+    }
 }
 
 // The content read and written again, if it is a record.

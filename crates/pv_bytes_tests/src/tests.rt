@@ -1,5 +1,5 @@
 // Numbers written and read back, byte for byte.
-use super::*;
+use pv_bytes::*;
 use std::test::Fail;
 
 #[test]
