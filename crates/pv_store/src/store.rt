@@ -25,13 +25,12 @@ use crate::settling::settled_values;
 use crate::values::{names_any, put_values, value_of};
 use crate::writes::{copy_reads, values_after};
 use crate::{StoreChange, StoreError};
-use pv_base::{Catalog, Exact, History, ItemId, NoMemory, SiteId, TxnId};
+use pv_base::{Catalog, Exact, History, ItemId, NoMemory, Remembered, SiteId, TxnId};
 use pv_cases::ordered;
 use pv_poly::{Poly, Read};
 use pv_replay::{Past, Record};
 use std::alloc::Global;
 use std::marker::Model;
-use std::snapshot::Snapshot;
 
 /// The values of one site's items, as its records show them, with what else the records say: which transactions are prepared, and which
 /// outcomes are known.
@@ -45,7 +44,7 @@ pub struct Store {
     /// The site.
     site: SiteId,
     /// What is declared, for the proof.
-    catalog: Snapshot<Catalog>,
+    catalog: Remembered<Catalog>,
     /// The records, for the proof.
     records: History<Record>,
     /// The shown value of each item of the site, by the item's number. Items of other sites have none.
@@ -95,7 +94,7 @@ impl Store {
         Ok(Store {
             alloc,
             site,
-            catalog: Snapshot::of(catalog),
+            catalog: Remembered::of(catalog),
             records: History::new(),
             values: declared_values(alloc, catalog, site)?,
             promises: Promises::new(alloc),
@@ -272,3 +271,11 @@ impl Store {
         Ok(ordered(txns))
     }
 }
+
+// A store may cross threads, which is refused here where one of its fields may not.
+fn crosses_threads() {
+    sends::<Store>();
+}
+
+// What may cross threads fits here, and nothing else.
+fn sends<T: Send>() {}
