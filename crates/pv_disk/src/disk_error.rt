@@ -5,39 +5,32 @@ ghost use Rattle.pv_disk.specs.declared.disk_error.LookError.TheVariants as look
 
 use pv_base::{Failed, NoMemory};
 use std::alloc::{AllocError, AllocFailed};
-use std::error::Error;
-use std::fmt;
+use thiserror::Error;
 
 /// Why a disk didn't make room.
-#[derive(Clone, Copy, Debug, PartialEq, Eq)]
+#[derive(Clone, Copy, Debug, PartialEq, Eq, Error)]
 pub enum DiskError {
     /// The disk failed, and counted the fault.
+    #[error("failed")]
     Failed,
     /// There was no memory. The disk holds what it held.
+    #[error("no memory")]
     NoMemory,
 }
 
 /// Why the contents of a log can't be read from a disk.
-#[derive(Clone, Copy, Debug, PartialEq, Eq)]
+#[derive(Clone, Copy, Debug, PartialEq, Eq, Error)]
 pub enum LookError {
     /// The disk failed, and counted the fault.
+    #[error("failed")]
     Failed,
     /// The disk holds no log; the number is the place where that shows.
+    #[error("not ours at {0}")]
     NotOurs(u64),
     /// There was no memory.
+    #[error("no memory")]
     NoMemory,
 }
-
-impl fmt::Display for DiskError {
-    fn fmt<W: fmt::Write>(&self, f: &mut fmt::Formatter<W>) -> fmt::Result {
-        f.write_str(match self {
-            DiskError::Failed => "failed",
-            DiskError::NoMemory => "no memory",
-        })
-    }
-}
-
-impl Error for DiskError {}
 
 impl From<Failed> for DiskError {
     ghost from_gives = { λ _ e. e ≡ disk.Failed };
@@ -54,18 +47,6 @@ impl From<AllocError> for DiskError {
         DiskError::NoMemory
     }
 }
-
-impl fmt::Display for LookError {
-    fn fmt<W: fmt::Write>(&self, f: &mut fmt::Formatter<W>) -> fmt::Result {
-        match self {
-            LookError::Failed => f.write_str("failed"),
-            LookError::NotOurs(place) => write!(f, "not ours at {place}"),
-            LookError::NoMemory => f.write_str("no memory"),
-        }
-    }
-}
-
-impl Error for LookError {}
 
 impl From<Failed> for LookError {
     ghost from_gives = { λ _ e. e ≡ look.Failed };
