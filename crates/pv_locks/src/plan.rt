@@ -1,9 +1,8 @@
 // What a transaction is answered that asks for locks.
 use crate::held::Held;
 use pv_base::{GrantId, ItemId, TxnId};
-use std::error::Error;
-use std::fmt;
 use std::marker::Model;
+use thiserror::Error;
 
 /// A grant that can be made, with the memory that it takes. [`Locks::plan_grant`](crate::Locks::plan_grant) plans it, and
 /// [`Locks::apply`](crate::Locks::apply) makes it.
@@ -41,21 +40,12 @@ pub enum GrantPlan {
 }
 
 /// Why a transaction that could be granted its locks gets no answer.
-#[derive(Clone, Copy, Debug, PartialEq, Eq, Hash)]
+#[derive(Clone, Copy, Debug, PartialEq, Eq, Error)]
 pub enum LockError {
     /// The number of the next grant would be [`NEVER_GIVEN`](pv_base::NEVER_GIVEN).
+    #[error("no number is left for a grant")]
     Spent,
     /// There was no memory for the grant.
+    #[error("no memory")]
     NoMemory,
 }
-
-impl fmt::Display for LockError {
-    fn fmt<W: fmt::Write>(&self, f: &mut fmt::Formatter<W>) -> fmt::Result {
-        f.write_str(match self {
-            LockError::Spent => "no number is left for a grant",
-            LockError::NoMemory => "no memory",
-        })
-    }
-}
-
-impl Error for LockError {}
