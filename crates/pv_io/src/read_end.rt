@@ -9,7 +9,7 @@ use std::error::Error;
 use std::fmt;
 
 /// Why not all of a source was read.
-#[derive(Clone, Copy, Debug, PartialEq, Eq, Hash)]
+#[derive(Clone, Copy, Debug, PartialEq, Eq)]
 pub enum ReadEnd {
     /// A read of the source failed, and the source counted the fault.
     Failed,

@@ -16,7 +16,7 @@ use pv_base::{GrantId, SiteId, TxnId};
 use pv_locks::Locks;
 
 /// What a participant does that is asked for its vote.
-#[derive(Clone, Copy, Debug, PartialEq, Eq, Hash)]
+#[derive(Clone, Copy, Debug, PartialEq, Eq)]
 pub enum PrepareCase {
     /// Nothing: the message isn't from the transaction's site.
     Nothing,
@@ -29,7 +29,7 @@ pub enum PrepareCase {
 }
 
 /// What a participant does that is sent an outcome.
-#[derive(Clone, Copy, Debug, PartialEq, Eq, Hash)]
+#[derive(Clone, Copy, Debug, PartialEq, Eq)]
 pub enum OutcomeCase {
     /// Nothing: the message isn't from the transaction's site, the outcome is known, or it is a commit that isn't needed here.
     Nothing,

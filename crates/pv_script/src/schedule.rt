@@ -71,7 +71,7 @@ pub struct Schedule {
 }
 
 /// What is wrong with a line, in the order in which it is tested. Columns count the bytes of the program's text, from 1.
-#[derive(Clone, Copy, Debug, PartialEq, Eq, Hash)]
+#[derive(Clone, Copy, Debug, PartialEq, Eq)]
 pub enum LineCause {
     /// It has more than [`MAX_LINE`](pv_base::MAX_LINE) bytes, without its end, or in a live script more than
     /// [`MAX_LIVE_LINE`](pv_base::MAX_LIVE_LINE).
@@ -122,7 +122,7 @@ pub enum LineCause {
 }
 
 /// Why a text wasn't read as a schedule, or as a live script.
-#[derive(Clone, Copy, Debug, PartialEq, Eq, Hash)]
+#[derive(Clone, Copy, Debug, PartialEq, Eq)]
 pub enum ScriptError {
     /// A line is at fault, and none before it.
     Malformed {
