@@ -3,9 +3,8 @@ ghost use Rattle.std.specs.Prelude.{◌≡◌, IfOk};
 
 use pv_base::{NoMemory, SiteId, Want};
 use std::alloc::{AllocError, AllocFailed, Global};
-use std::error::Error;
-use std::fmt;
 use std::marker::Model;
+use thiserror::Error;
 
 /// What a program wants of one site. In a plan that `check` answers it is one item at least.
 #[derive(Debug, Drop)]
@@ -37,33 +36,24 @@ pub struct Plan {
 }
 
 /// Why a program may not run, or has no plan. The first cause that holds is reported, in the order in which they stand here.
-#[derive(Clone, Copy, Debug, PartialEq, Eq, Hash)]
+#[derive(Clone, Copy, Debug, PartialEq, Eq, Error)]
 pub enum CheckError {
     /// The program names no item: its plan would be empty.
+    #[error("no item")]
     NoItem,
     /// The program names this many items, more than [`pv_base::MAX_PROGRAM_ITEMS`].
+    #[error("too many items: {0}")]
     TooManyItems(u32),
     /// The program is a query, and an assignment stands in it, whether or not it would run.
+    #[error("a query assigns")]
     Assigns,
     /// The program is a query, and no `return` stands in it.
+    #[error("a query has no return")]
     NoReturn,
     /// There was no memory for the plan. The program has none of the causes above.
+    #[error("no memory")]
     NoMemory,
 }
-
-impl fmt::Display for CheckError {
-    fn fmt<W: fmt::Write>(&self, f: &mut fmt::Formatter<W>) -> fmt::Result {
-        match self {
-            CheckError::NoItem => f.write_str("no item"),
-            CheckError::TooManyItems(count) => write!(f, "too many items: {count}"),
-            CheckError::Assigns => f.write_str("a query assigns"),
-            CheckError::NoReturn => f.write_str("a query has no return"),
-            CheckError::NoMemory => f.write_str("no memory"),
-        }
-    }
-}
-
-impl Error for CheckError {}
 
 impl From<NoMemory> for CheckError {
     ghost use Rattle.pv_check.specs.declared.plan.CheckError.TheVariants as error;

@@ -3,38 +3,28 @@ ghost use Rattle.std.specs.Prelude.{◌≡◌};
 
 use pv_base::NoMemory;
 use std::alloc::{AllocError, AllocFailed};
-use std::error::Error;
-use std::fmt;
+use thiserror::Error;
 
 /// Why a text isn't read as a program. Columns count the bytes of the text, from 1.
-#[derive(Clone, Copy, Debug, PartialEq, Eq, Hash)]
+#[derive(Clone, Copy, Debug, PartialEq, Eq, Error)]
 pub enum ParseError {
     /// The text has this many bytes, more than [`MAX_LINE`](pv_base::MAX_LINE).
+    #[error("too large: {0} bytes")]
     TooLarge(u64),
     /// The token at this column can't follow what stands before it, or is a number above 9223372036854775807. Where the
     /// text ends too early, this is the column after it.
+    #[error("malformed at column {0}")]
     Malformed(u32),
     /// The name at this column is no item's.
+    #[error("unknown name at column {0}")]
     UnknownName(u32),
     /// The token at this column is nested deeper than [`MAX_DEPTH`](pv_base::MAX_DEPTH).
+    #[error("too deep at column {0}")]
     TooDeep(u32),
     /// There was no memory for the program.
+    #[error("no memory")]
     NoMemory,
 }
-
-impl fmt::Display for ParseError {
-    fn fmt<W: fmt::Write>(&self, f: &mut fmt::Formatter<W>) -> fmt::Result {
-        match self {
-            ParseError::TooLarge(length) => write!(f, "too large: {length} bytes"),
-            ParseError::Malformed(column) => write!(f, "malformed at column {column}"),
-            ParseError::UnknownName(column) => write!(f, "unknown name at column {column}"),
-            ParseError::TooDeep(column) => write!(f, "too deep at column {column}"),
-            ParseError::NoMemory => f.write_str("no memory"),
-        }
-    }
-}
-
-impl Error for ParseError {}
 
 impl From<NoMemory> for ParseError {
     ghost use Rattle.pv_parse.specs.declared.error.ParseError.TheVariants as error;
