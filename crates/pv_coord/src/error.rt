@@ -3,28 +3,18 @@ ghost use Rattle.std.specs.Prelude.{◌≡◌};
 
 use pv_base::NoMemory;
 use std::alloc::AllocError;
-use std::error::Error;
-use std::fmt;
+use thiserror::Error;
 
 /// Why a transaction can't begin.
-#[derive(Clone, Copy, Debug, PartialEq, Eq, Hash)]
+#[derive(Clone, Copy, Debug, PartialEq, Eq, Error)]
 pub enum CoordError {
     /// The site has given all its transaction numbers of this epoch.
+    #[error("no transaction number is left")]
     Spent,
     /// There was no memory for its entry.
+    #[error("no memory")]
     NoMemory,
 }
-
-impl fmt::Display for CoordError {
-    fn fmt<W: fmt::Write>(&self, f: &mut fmt::Formatter<W>) -> fmt::Result {
-        match self {
-            CoordError::Spent => f.write_str("no transaction number is left"),
-            CoordError::NoMemory => f.write_str("no memory"),
-        }
-    }
-}
-
-impl Error for CoordError {}
 
 impl From<NoMemory> for CoordError {
     ghost use Rattle.pv_coord.specs.declared.error.CoordError.TheVariants as error;

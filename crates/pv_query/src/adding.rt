@@ -18,28 +18,18 @@ use pv_base::{HELD_NAMES, MAX_ITEMS, NoMemory, TxnId};
 use pv_cases::{ordered, push_names};
 use pv_poly::Poly;
 use std::alloc::Global;
-use std::error::Error;
-use std::fmt;
+use thiserror::Error;
 
 /// Why values can't be summed.
-#[derive(Clone, Copy, Debug, PartialEq, Eq)]
+#[derive(Clone, Copy, Debug, PartialEq, Eq, Error)]
 pub enum SumError {
     /// The values name this many outcomes together, more than [`HELD_NAMES`].
+    #[error("the values name {0} outcomes")]
     OutcomeLimit(u32),
     /// There was no memory.
+    #[error("no memory")]
     NoMemory,
 }
-
-impl fmt::Display for SumError {
-    fn fmt<W: fmt::Write>(&self, f: &mut fmt::Formatter<W>) -> fmt::Result {
-        match self {
-            SumError::OutcomeLimit(count) => write!(f, "the values name {count} outcomes"),
-            SumError::NoMemory => f.write_str("no memory"),
-        }
-    }
-}
-
-impl Error for SumError {}
 
 impl From<NoMemory> for SumError {
     ghost use Rattle.std.specs.Prelude.{◌≡◌};

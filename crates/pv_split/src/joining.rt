@@ -16,8 +16,7 @@ use pv_ast::{Program, Reply};
 use pv_base::{NoMemory, READ_NAMES};
 use pv_poly::{Poly, Read};
 use std::alloc::Global;
-use std::error::Error;
-use std::fmt;
+use thiserror::Error;
 
 /// What a program writes and replies, for every assignment of the outcomes that its reads name.
 #[derive(Debug, Drop)]
@@ -29,24 +28,15 @@ pub struct Joined {
 }
 
 /// Why a program can't be computed over what it reads.
-#[derive(Clone, Copy, Debug, PartialEq, Eq)]
+#[derive(Clone, Copy, Debug, PartialEq, Eq, Error)]
 pub enum SplitError {
     /// The reads name this many outcomes together, more than [`READ_NAMES`].
+    #[error("the reads name {0} outcomes")]
     OutcomeLimit(u32),
     /// There was no memory, or the reads name 2^32 outcomes or more.
+    #[error("no memory")]
     NoMemory,
 }
-
-impl fmt::Display for SplitError {
-    fn fmt<W: fmt::Write>(&self, f: &mut fmt::Formatter<W>) -> fmt::Result {
-        match self {
-            SplitError::OutcomeLimit(count) => write!(f, "the reads name {count} outcomes"),
-            SplitError::NoMemory => f.write_str("no memory"),
-        }
-    }
-}
-
-impl Error for SplitError {}
 
 impl From<NoMemory> for SplitError {
     ghost use Rattle.std.specs.Prelude.{◌≡◌};
