@@ -4,44 +4,36 @@ ghost use Rattle.std.specs.Prelude.{◌≡◌};
 use pv_base::NoMemory;
 use pv_bytes::Short;
 use std::alloc::{AllocError, AllocFailed};
-use std::error::Error;
-use std::fmt;
+use thiserror::Error;
 
 /// Why no polyvalue, or another part of a spelling, stands at the front of bytes: the first fault in reading order. Places count from
 /// the first of all the bytes.
-#[derive(Clone, Copy, Debug, PartialEq, Eq, Hash)]
+#[derive(Clone, Copy, Debug, PartialEq, Eq, Error)]
 pub enum PolyError {
     /// The bytes end within the field at this place.
+    #[error("the bytes end within the field at {0}")]
     Short(usize),
     /// The field at this place is read, and isn't in the range or order that is asked for there.
+    #[error("the field at {0} is out of range")]
     BadField(usize),
     /// The polyvalue that begins at this place is read whole, and its cases aren't canonical or name too many outcomes.
+    #[error("the cases at {0} are no polyvalue")]
     BadPoly(usize),
     /// There was no memory.
+    #[error("no memory")]
     NoMemory,
 }
 
 /// Why contents aren't the records of a journal.
-#[derive(Clone, Copy, Debug, PartialEq, Eq, Hash)]
+#[derive(Clone, Copy, Debug, PartialEq, Eq, Error)]
 pub enum ReplayError {
     /// The content with this index, from 0, is no record's spelling, and those before it are.
+    #[error("content {0} is no record")]
     BadRecord(u64),
     /// There was no memory.
+    #[error("no memory")]
     NoMemory,
 }
-
-impl fmt::Display for PolyError {
-    fn fmt<W: fmt::Write>(&self, f: &mut fmt::Formatter<W>) -> fmt::Result {
-        match self {
-            PolyError::Short(place) => write!(f, "the bytes end within the field at {place}"),
-            PolyError::BadField(place) => write!(f, "the field at {place} is out of range"),
-            PolyError::BadPoly(place) => write!(f, "the cases at {place} are no polyvalue"),
-            PolyError::NoMemory => f.write_str("no memory"),
-        }
-    }
-}
-
-impl Error for PolyError {}
 
 impl From<Short> for PolyError {
     ghost use Rattle.pv_replay.specs.declared.error.PolyError.TheVariants as error;
@@ -72,17 +64,6 @@ impl<T: Drop> From<AllocFailed<T>> for PolyError {
         PolyError::NoMemory
     }
 }
-
-impl fmt::Display for ReplayError {
-    fn fmt<W: fmt::Write>(&self, f: &mut fmt::Formatter<W>) -> fmt::Result {
-        match self {
-            ReplayError::BadRecord(index) => write!(f, "content {index} is no record"),
-            ReplayError::NoMemory => f.write_str("no memory"),
-        }
-    }
-}
-
-impl Error for ReplayError {}
 
 impl From<NoMemory> for ReplayError {
     ghost use Rattle.pv_replay.specs.declared.error.ReplayError.TheVariants as error;
