@@ -4,15 +4,16 @@ use pv_check::CheckError;
 use pv_parse::ParseError;
 use pv_script::LineCause;
 use pv_wire::WireError;
-use std::error::Error;
-use std::fmt;
+use thiserror::Error;
 
 /// Why a site isn't opened. The causes are tested in this order, but for want of memory, which may come at any place.
-#[derive(Clone, Copy, Debug, PartialEq, Eq)]
+#[derive(Clone, Copy, Debug, PartialEq, Eq, Error)]
 pub enum OpenFault {
     /// The configuration has more than [`MAX_INPUT`](pv_base::MAX_INPUT) bytes.
+    #[error("the configuration is too long")]
     TooLong,
     /// This line of the configuration is the first that is malformed, for this cause.
+    #[error("line {line}: {cause}")]
     Malformed {
         /// The line, from 1.
         line: u32,
@@ -20,113 +21,75 @@ pub enum OpenFault {
         cause: LineCause,
     },
     /// The configuration has an event.
+    #[error("the configuration has events")]
     HasEvents,
     /// The configuration has no such site.
+    #[error("no such site")]
     NoSite,
     /// The bytes are no journal, which shows at this place.
+    #[error("no journal: byte {0}")]
     NotOurs(u64),
     /// The content with this index, from 0, is no record, and those before it are.
+    #[error("no record: content {0}")]
     BadRecord(u64),
     /// With its records the value of an item would name this many outcomes.
+    #[error("too many outcomes: {0}")]
     TooManyOutcomes(u32),
     /// No epoch is left.
+    #[error("no epoch is left")]
     EpochsSpent,
     /// The journal would have this length with the record of the new epoch, above its limit.
+    #[error("the journal would have {0} bytes")]
     Full(u64),
     /// There was no memory.
+    #[error("no memory")]
     NoMemory,
 }
 
 /// Why a request isn't taken. The causes are tested in this order, but for want of memory, which may come at any place.
-#[derive(Clone, Copy, Debug, PartialEq, Eq)]
+#[derive(Clone, Copy, Debug, PartialEq, Eq, Error)]
 pub enum SubmitFault {
     /// Its text is no program.
+    #[error(transparent)]
     Text(ParseError),
     /// The program may not run.
+    #[error(transparent)]
     Program(CheckError),
     /// There was no memory.
+    #[error("no memory")]
     NoMemory,
 }
 
 /// Why a message isn't taken. The causes are tested in this order, but for want of memory, which may come at any place.
-#[derive(Clone, Copy, Debug, PartialEq, Eq)]
+#[derive(Clone, Copy, Debug, PartialEq, Eq, Error)]
 pub enum ReceiveFault {
     /// The bytes are no message.
+    #[error(transparent)]
     Malformed(WireError),
     /// The message goes to another site.
+    #[error("the message goes to another site")]
     NotForHere,
     /// There is no such site as the message comes from.
+    #[error("the message comes from no site")]
     NoSender,
     /// There was no memory.
+    #[error("no memory")]
     NoMemory,
 }
 
 /// Why an item isn't read. The causes are tested in this order.
-#[derive(Clone, Copy, Debug, PartialEq, Eq)]
+#[derive(Clone, Copy, Debug, PartialEq, Eq, Error)]
 pub enum ReadFault {
     /// No item has this name.
+    #[error("unknown name")]
     UnknownName,
     /// The item is at another site.
+    #[error("the item is at another site")]
     NotHere,
     /// Records wait to be written into the host's file. What the item shows may rest on them, and a crash may undo it.
+    #[error("records wait to be written")]
     Unwritten,
 }
-
-impl fmt::Display for OpenFault {
-    fn fmt<W: fmt::Write>(&self, f: &mut fmt::Formatter<W>) -> fmt::Result {
-        match self {
-            OpenFault::TooLong => f.write_str("the configuration is too long"),
-            OpenFault::Malformed { line, cause } => write!(f, "line {line}: {cause}"),
-            OpenFault::HasEvents => f.write_str("the configuration has events"),
-            OpenFault::NoSite => f.write_str("no such site"),
-            OpenFault::NotOurs(place) => write!(f, "no journal: byte {place}"),
-            OpenFault::BadRecord(index) => write!(f, "no record: content {index}"),
-            OpenFault::TooManyOutcomes(count) => write!(f, "too many outcomes: {count}"),
-            OpenFault::EpochsSpent => f.write_str("no epoch is left"),
-            OpenFault::Full(length) => write!(f, "the journal would have {length} bytes"),
-            OpenFault::NoMemory => f.write_str("no memory"),
-        }
-    }
-}
-
-impl Error for OpenFault {}
-
-impl fmt::Display for SubmitFault {
-    fn fmt<W: fmt::Write>(&self, f: &mut fmt::Formatter<W>) -> fmt::Result {
-        match self {
-            SubmitFault::Text(error) => write!(f, "{error}"),
-            SubmitFault::Program(error) => write!(f, "{error}"),
-            SubmitFault::NoMemory => f.write_str("no memory"),
-        }
-    }
-}
-
-impl Error for SubmitFault {}
-
-impl fmt::Display for ReceiveFault {
-    fn fmt<W: fmt::Write>(&self, f: &mut fmt::Formatter<W>) -> fmt::Result {
-        match self {
-            ReceiveFault::Malformed(error) => write!(f, "{error}"),
-            ReceiveFault::NotForHere => f.write_str("the message goes to another site"),
-            ReceiveFault::NoSender => f.write_str("the message comes from no site"),
-            ReceiveFault::NoMemory => f.write_str("no memory"),
-        }
-    }
-}
-
-impl Error for ReceiveFault {}
-
-impl fmt::Display for ReadFault {
-    fn fmt<W: fmt::Write>(&self, f: &mut fmt::Formatter<W>) -> fmt::Result {
-        f.write_str(match self {
-            ReadFault::UnknownName => "unknown name",
-            ReadFault::NotHere => "the item is at another site",
-            ReadFault::Unwritten => "records wait to be written",
-        })
-    }
-}
-
-impl Error for ReadFault {}
 
 impl From<NoMemory> for OpenFault {
     ghost use Rattle.std.specs.Prelude.{◌≡◌};

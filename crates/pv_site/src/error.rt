@@ -3,32 +3,22 @@ use crate::Recovered;
 use pv_base::NoMemory;
 use pv_disk::Log;
 use std::alloc::{AllocError, AllocFailed};
-use std::error::Error;
-use std::fmt;
+use thiserror::Error;
 
 /// Why a site made no step.
-#[derive(Clone, Copy, Debug, PartialEq, Eq, Hash)]
+#[derive(Clone, Copy, Debug, PartialEq, Eq, Error)]
 pub enum StepError {
     /// The log failed, which was counted. The site is down until it is opened again; its log holds the step's record, or it doesn't,
     /// and nothing was sent.
+    #[error("the log failed")]
     Fault,
     /// The site is down, since an earlier step was answered with [`StepError::Fault`]. Nothing changes.
+    #[error("the site is down")]
     Down,
     /// There was no memory. The site is as if the input hadn't come.
+    #[error("no memory")]
     NoMemory,
 }
-
-impl fmt::Display for StepError {
-    fn fmt<W: fmt::Write>(&self, f: &mut fmt::Formatter<W>) -> fmt::Result {
-        f.write_str(match self {
-            StepError::Fault => "the log failed",
-            StepError::Down => "the site is down",
-            StepError::NoMemory => "no memory",
-        })
-    }
-}
-
-impl Error for StepError {}
 
 impl From<NoMemory> for StepError {
     ghost use Rattle.std.specs.Prelude.{◌≡◌};

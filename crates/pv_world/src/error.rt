@@ -1,28 +1,18 @@
 // Why a world made no step.
 use pv_base::NoMemory;
 use std::alloc::{AllocError, AllocFailed};
-use std::error::Error;
-use std::fmt;
+use thiserror::Error;
 
 /// Why a world made no step. The world is then of no further use.
-#[derive(Clone, Copy, Debug, PartialEq, Eq, Hash)]
+#[derive(Clone, Copy, Debug, PartialEq, Eq, Error)]
 pub enum WorldError {
     /// The encoded bytes of all messages that were ever sent, with the first message that passes the limit.
+    #[error("the messages would have {0} bytes")]
     SentLimit(u64),
     /// There was no memory.
+    #[error("no memory")]
     NoMemory,
 }
-
-impl fmt::Display for WorldError {
-    fn fmt<W: fmt::Write>(&self, f: &mut fmt::Formatter<W>) -> fmt::Result {
-        match self {
-            WorldError::SentLimit(total) => write!(f, "the messages would have {total} bytes"),
-            WorldError::NoMemory => f.write_str("no memory"),
-        }
-    }
-}
-
-impl Error for WorldError {}
 
 impl From<NoMemory> for WorldError {
     ghost use Rattle.std.specs.Prelude.{◌≡◌};
