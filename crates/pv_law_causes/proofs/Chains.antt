@@ -1,5 +1,5 @@
 -- Along a run: the world before each transition is known, and the transition is a move.
-use Rattle.std.proofs.Common.{◌≡◌, List, [], ◌∷◌, ◌++◌, refl, sym, subst}
+use Rattle.std.proofs.Common.{◌≡◌, List, [], ◌∷◌, ◌++◌, sym, subst}
 use Rattle.std.specs.Prelude.{All, ⊤}
 use Rattle.std.proofs.lemmas.List.{append-nil, append_assoc}
 use Rattle.pv_base.proofs.Basics.{heads, tails}
