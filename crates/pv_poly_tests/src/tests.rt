@@ -1,14 +1,13 @@
-// Worked polyvalues; that calls which want memory have their answer where there is some; and a plain slow check of choices,
-// settled values and joins at every assignment. That needs no proof to be read: it asks for values one assignment at a time.
+// Worked polyvalues; and that calls which want memory have their answer where there is some.
 //
 // Cases stand here as texts: `0- 50; 0+ 1- 60;` are 50 where the first transaction of site 0 doesn't commit, and 60 where it commits and the
 // first one of site 1 doesn't.
 ghost use Rattle.std.specs.Prelude.{◌≡◌, ◌<◌, ◌^◌, true, length, map};
 ghost use Rattle.std.specs.List.{sum};
 
-use pv_base::{Case, CaseError, ItemId, Literal, NameError, NoMemory, SiteId, TxnId};
+use pv_base::{Case, CaseError, Literal, NameError, NoMemory, SiteId, TxnId};
 use pv_cases::ordered;
-use pv_poly::{Poly, Read};
+use pv_poly::Poly;
 use std::alloc::Global;
 use std::process::Abort;
 use std::test::Fail;
@@ -266,17 +265,6 @@ fn a_ninth_name_is_refused(rt: HostRuntime) -> Result<(), Fail> {
 }
 
 #[test]
-fn a_read_has_an_item(rt: HostRuntime) -> Result<(), Fail> {
-    let read = Read {
-        item: ItemId(3),
-        value: fifty_or_sixty(rt.alloc())?,
-    };
-    assert_eq!(rt; read.item, ItemId(3));
-    assert_eq!(rt; read.value.cases().len(), 2);
-    Ok(())
-}
-
-#[test]
 fn canonical_cases_are_taken_as_they_are(rt: HostRuntime) {
     assert_made(&rt, from_cases(&rt, "0- 50; 0+ 60;"), "0- 50; 0+ 60;");
 }
@@ -376,209 +364,4 @@ fn a_table_is_read_back(rt: HostRuntime) -> Result<(), Fail> {
 
     // A transaction that isn't named changes nothing, and one that is left out doesn't commit.
     assert_table(&rt, &poly, &[1, 4, 0], &[5, 5, 5, 5, 1, 2, 1, 2])
-}
-
-// Numbers that look as if they were drawn (a linear congruential generator; Knuth, 1981).
-#[derive(Drop)]
-struct Draws {
-    state: u64,
-}
-
-impl Draws {
-    // One of the numbers below a bound.
-    fn below(&mut self, bound: u64) -> u64
-        requires { 0 < bound }
-        ensures { result < bound }
-    {
-        self.state = self
-            .state
-            .wrapping_mul(6364136223846793005)
-            .wrapping_add(1442695040888963407);
-        (self.state >> 33) % bound
-    }
-}
-
-const SITES: u8 = 6;
-
-// The assignment that has the first transactions of the sites whose bits are set.
-fn assignment(alloc: Global, bits: u64) -> Result<Vec<TxnId>, NoMemory> {
-    let mut yes = Vec::new(alloc);
-    for site in 0..SITES {
-        if bits >> site & 1 == 1 {
-            yes.push(txn(site))?;
-        }
-    }
-    Ok(yes)
-}
-
-// The value of a polyvalue at such an assignment.
-fn value_at(rt: &(impl Abort + AllocGlobal), poly: &Poly<i64>, bits: u64) -> i64 {
-    match assignment(rt.alloc(), bits) {
-        Ok(yes) => poly.at(&yes),
-        Err(error) => panic!(rt; "{error}"),
-    }
-}
-
-// A polyvalue of at most four names, with few values, so that many sides are equal.
-fn drawn(rt: &impl Abort, alloc: Global, draws: &mut Draws) -> Result<Poly<i64>, NoMemory> {
-    let mut txns = Vec::new(alloc);
-    for _ in 0..4 {
-        txns.push(txn(draws.below(SITES as u64) as u8))?;
-    }
-    txns.truncate(draws.below(5) as usize);
-    let txns = ordered(txns);
-    let mut values = Vec::new(alloc);
-    assert!(rt; txns.len() <= 4);
-    for _ in 0..2u64.pow(txns.len() as u32) {
-        values.push(draws.below(3) as i64)?;
-    }
-    assert_eq!(rt; values.len() as u64, 2u64.pow(txns.len() as u32));
-    Poly::from_table(alloc, &txns, &values)
-}
-
-// The bits of an assignment with another outcome of a site's first transaction.
-fn with(bits: u64, site: u8, commits: bool) -> u64
-    requires { site < 64 }
-{
-    if commits {
-        bits | 1 << site
-    } else {
-        bits & !(1 << site)
-    }
-}
-
-// One case for each assignment of all sites, beginning somewhere: sound, and far from canonical.
-fn spread(alloc: Global, poly: &Poly<i64>, first: u64) -> Result<Vec<Case<i64>>, NoMemory> {
-    let mut cases = Vec::new(alloc);
-    for number in 0..64u64 {
-        let bits = first.wrapping_add(number) % 64;
-        let mut when = Vec::new(alloc);
-        for site in 0..SITES {
-            when.push(Literal {
-                txn: txn(site),
-                commits: bits >> site & 1 == 1,
-            })?;
-        }
-        let value = poly.at(&assignment(alloc, bits)?);
-        cases.push(Case { when, value })?;
-    }
-    Ok(cases)
-}
-
-// Asserts that a choice has the value of the first where the site's transaction commits, and else that of the second.
-fn assert_choice(
-    rt: &(impl Abort + AllocGlobal),
-    poly: &Poly<i64>,
-    other: &Poly<i64>,
-    site: u8,
-) -> Result<(), Fail>
-    requires { site < 64 }
-{
-    let choice = Poly::choose(rt.alloc(), txn(site), poly, other)?;
-    for bits in 0..64 {
-        let side = if bits >> site & 1 == 1 { poly } else { other };
-        assert_eq!(rt; value_at(rt, &choice, bits), value_at(rt, side, bits));
-    }
-    Ok(())
-}
-
-// Asserts that the value with an outcome put in is that where the outcome is so, and doesn't name the transaction.
-fn assert_outcome(
-    rt: &(impl Abort + AllocGlobal),
-    poly: &Poly<i64>,
-    site: u8,
-    outcome: bool,
-) -> Result<(), Fail>
-    requires { site < 64 }
-{
-    let settled = poly.settle(rt.alloc(), txn(site), outcome)?;
-    for bits in 0..64 {
-        let known = with(bits, site, outcome);
-        assert_eq!(rt; value_at(rt, &settled, bits), value_at(rt, poly, known));
-    }
-    assert!(rt; !settled.names(rt.alloc())?.contains(&txn(site)));
-    Ok(())
-}
-
-// Asserts the same of this outcome, and the other outcome of the next site's transaction.
-fn assert_outcomes(
-    rt: &(impl Abort + AllocGlobal),
-    poly: &Poly<i64>,
-    site: u8,
-    outcome: bool,
-) -> Result<(), Fail>
-    requires { site < 63 }
-{
-    let first = Literal {
-        txn: txn(site),
-        commits: outcome,
-    };
-    let second = Literal {
-        txn: txn(site + 1),
-        commits: !outcome,
-    };
-    let both = settle_both(rt, rt.alloc(), poly, first, second)?;
-    for bits in 0..64 {
-        let known = with(with(bits, site, outcome), site + 1, !outcome);
-        assert_eq!(rt; value_at(rt, &both, bits), value_at(rt, poly, known));
-    }
-    Ok(())
-}
-
-// Asserts that one case for each assignment makes an equal polyvalue: equal values have equal cases.
-fn assert_joined(
-    rt: &(impl Abort + AllocGlobal),
-    poly: &Poly<i64>,
-    first: u64,
-) -> Result<(), Fail> {
-    let cases = spread(rt.alloc(), poly, first)?;
-    assert!(rt; are_few(&cases));
-    let joined = Poly::join(rt.alloc(), cases)?;
-    for bits in 0..64 {
-        assert_eq!(rt; value_at(rt, &joined, bits), value_at(rt, poly, bits));
-    }
-    assert!(rt; joined == *poly);
-    Ok(())
-}
-
-// Asserts that the polyvalue names the site's transaction exactly where its value changes with it.
-fn assert_named(rt: &(impl Abort + AllocGlobal), poly: &Poly<i64>, site: u8) -> Result<(), Fail>
-    requires { site < 64 }
-{
-    let mut changes = false;
-    for bits in 0..64 {
-        let aborted = value_at(rt, poly, with(bits, site, false));
-        let committed = value_at(rt, poly, with(bits, site, true));
-        changes |= aborted != committed;
-    }
-    assert_eq!(rt; poly.names(rt.alloc())?.contains(&txn(site)), changes);
-    Ok(())
-}
-
-// Asserts all of this of two polyvalues, a site and an outcome.
-fn assert_right(
-    rt: &(impl Abort + AllocGlobal),
-    poly: &Poly<i64>,
-    other: &Poly<i64>,
-    site: u8,
-    round: u64,
-) -> Result<(), Fail> {
-    assert!(rt; site < SITES);
-    assert_choice(rt, poly, other, site)?;
-    assert_outcome(rt, poly, site, round % 2 == 0)?;
-    assert_outcomes(rt, poly, site, round % 2 == 0)?;
-    assert_joined(rt, poly, round)?;
-    assert_named(rt, poly, site)
-}
-
-#[test]
-fn each_assignment_has_the_right_value(rt: HostRuntime) -> Result<(), Fail> {
-    let mut draws = Draws { state: 7 };
-    for round in 0..240 {
-        let poly = drawn(&rt, rt.alloc(), &mut draws)?;
-        let other = drawn(&rt, rt.alloc(), &mut draws)?;
-        let site = draws.below(SITES as u64) as u8;
-        assert_right(&rt, &poly, &other, site, round)?;
-    }
-    Ok(())
 }

@@ -1,14 +1,11 @@
-// Steps of sites: a commit between two, the records of which fail or find no room; and which plan a program fits.
-ghost use Rattle.std.specs.Prelude.{◌≡◌, length};
+// Steps of sites: a commit between two, the records of which fail or find no room.
 
 use crate::opening_tests::Refusal;
-use crate::play_tests::{Act, Answer, Look, Noted, Part, Task, Value, open, play, program_of};
-use crate::tests::{HERE, THERE, catalog};
-use pv_base::{Catalog, GrantId, MAX_JOURNAL, Reply, SiteId, TxnId};
-use pv_check::check;
-use pv_disk::{AppendFail, ListLog};
-use pv_site::{Cause, Site, StepError};
-use std::alloc::Global;
+use crate::play_tests::{Act, Answer, Look, Noted, Part, Task, Value, play};
+use crate::tests::{HERE, THERE};
+use pv_base::{GrantId, MAX_JOURNAL, Reply, SiteId, TxnId};
+use pv_disk::AppendFail;
+use pv_site::{Cause, StepError};
 use std::test::Fail;
 
 // The first transaction of the first site, and its first one in the next epoch.
@@ -472,41 +469,4 @@ const JOURNALS: [Part; 3] = [
 #[test]
 fn a_journal_without_room_refuses(rt: HostRuntime) -> Result<(), Fail> {
     play(&rt, rt.alloc(), &JOURNALS)
-}
-
-// whether the program of the task has the plan of that one
-fn has_plan_of(
-    alloc: Global,
-    site: &Site<ListLog>,
-    catalog: &Catalog,
-    task: Task,
-    of: Task,
-) -> Result<bool, Fail>
-    requires { length catalog.now.items ≡ 2 }
-{
-    let program = program_of(alloc, task)?;
-    let other = program_of(alloc, of)?;
-    let plan = check(alloc, &other, catalog, false)?;
-    Ok(site.fits(&program, &plan))
-}
-
-#[test]
-fn a_plan_fits_the_program_that_it_is_of(rt: HostRuntime) -> Result<(), Fail> {
-    let alloc = rt.alloc();
-    let catalog = catalog(alloc, MAX_JOURNAL)?;
-    let log = ListLog::new(alloc, MAX_JOURNAL, Vec::new(alloc));
-    let Ok(site) = open(alloc, log, HERE, &catalog) else {
-        return Err("the site isn't opened".into());
-    };
-    for (task, of, fits) in [
-        (Task::Set, Task::Set, true),
-        (Task::Set, Task::Move, false),
-        (Task::Move, Task::Set, false),
-        (Task::Move, Task::Move, true),
-        (Task::Move, Task::Copy, false),
-        (Task::Copy, Task::Copy, true),
-    ] {
-        assert_eq!(rt; has_plan_of(alloc, &site, &catalog, task, of)?, fits);
-    }
-    Ok(())
 }

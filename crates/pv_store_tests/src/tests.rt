@@ -157,17 +157,6 @@ fn is_either(cases: &[Case<i64>], old: i64, new: i64) -> bool {
 }
 
 #[test]
-fn declared_values_are_shown(rt: HostRuntime) -> Result<(), Fail> {
-    let store = empty(rt.alloc())?;
-    assert!(rt; is_sure(store.show(A).cases(), 1));
-    assert!(rt; is_sure(store.show(B).cases(), 2));
-    assert!(rt; !store.any() && !store.prepared(HERE));
-    let mentioned = store.mentioned()?;
-    assert!(rt; mentioned.is_empty());
-    Ok(())
-}
-
-#[test]
 fn a_promise_is_shown_with_both_outcomes(rt: HostRuntime) -> Result<(), Fail> {
     let store = promising(rt.alloc(), 1)?;
     assert!(rt; is_either(store.show(A).cases(), 1, 5));
@@ -193,15 +182,6 @@ fn a_commit_leaves_the_new_value(rt: HostRuntime) -> Result<(), Fail> {
 }
 
 #[test]
-fn an_abort_leaves_the_old_value(rt: HostRuntime) -> Result<(), Fail> {
-    let mut store = promising(rt.alloc(), 1)?;
-    settle(&mut store, HERE, false)?;
-    assert!(rt; is_sure(store.show(A).cases(), 1));
-    assert_eq!(rt; store.known(HERE), Some(false));
-    Ok(())
-}
-
-#[test]
 fn a_second_promise_is_mentioned_too(rt: HostRuntime) -> Result<(), Fail> {
     let alloc = rt.alloc();
     let mut store = promising(alloc, 1)?;
@@ -210,16 +190,6 @@ fn a_second_promise_is_mentioned_too(rt: HostRuntime) -> Result<(), Fail> {
     assert_eq!(rt; mentioned.as_slice(), [HERE, THERE].as_slice());
     assert!(rt; is_either(store.show(A).cases(), 1, 5));
     assert!(rt; store.prepared(THERE) && store.named(THERE));
-    Ok(())
-}
-
-#[test]
-fn an_epoch_changes_nothing_that_is_shown(rt: HostRuntime) -> Result<(), Fail> {
-    let mut store = promising(rt.alloc(), 1)?;
-    let change = store.plan_epoch(2);
-    assert!(rt; matches!(change.record(), Record::Epoch(2)));
-    store.apply(change);
-    assert!(rt; is_either(store.show(A).cases(), 1, 5));
     Ok(())
 }
 
@@ -250,16 +220,6 @@ fn sixty_or_fifty(alloc: Global) -> Result<Poly<i64>, NameError> {
     let fifty = Poly::sure(alloc, 50)?;
     let sixty = Poly::sure(alloc, 60)?;
     Poly::choose(alloc, HERE, &sixty, &fifty)
-}
-
-#[test]
-fn an_open_outcome_stays_in_a_value(rt: HostRuntime) -> Result<(), Fail> {
-    let alloc = rt.alloc();
-    let store = promising(alloc, 1)?;
-    let value = sixty_or_fifty(alloc)?;
-    let settled = store.settled(alloc, &value)?;
-    assert!(rt; is_either(settled.cases(), 50, 60));
-    Ok(())
 }
 
 #[test]
