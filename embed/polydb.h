@@ -29,8 +29,8 @@
  *
  * What the library promises, which is proved: each call ends, and gives one of the statuses written below it, exactly for the cause that is
  * written beside it, and for the first in that list where several are so (but POLYDB_NO_MEMORY and POLYDB_BROKEN_OFF, which may come wherever they are
- * listed); with a status other than POLYDB_DONE the world or site is as it was before the call, unless said otherwise; no call reads or writes outside
- * what it is given; and no pointer is kept after a call: catalog, line, configuration, journal, program, message, name and `out` may then be freed.
+ * listed); with a status other than POLYDB_DONE the world or site is as it was before the call, but for room that was made, unless said otherwise; no call
+ * reads or writes outside what it is given; and no pointer is kept after a call: catalog, line, configuration, journal, program, message, name and `out` may then be freed.
  * What else is proved stands in docs/EMBEDDING.md.
  *
  * Room. Where a call writes bytes to `out`, they are `room` bytes at most, and too small a room loses nothing: POLYDB_TOO_SMALL says in `*written` how many
