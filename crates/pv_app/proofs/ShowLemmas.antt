@@ -3,9 +3,7 @@ use Rattle.std.proofs.Common.{◌≡◌, ◌⊎◌, inl, inr, List, ℕ, ◌≤�
 use Rattle.std.proofs.lemmas.List.{take_all}
 use Rattle.std.specs.Io.KnownBytes.{Appends}
 use Rattle.std.specs.Bool.{⊤}
-use Rattle.pv_app.specs.Commands.{TouchesBay}
-use Rattle.pv_app.specs.ShowEnds.{EndsShow}
-use Rattle.pv_app.specs.declared.command.Command.TheVariants.{Show}
+use Rattle.pv_app.specs.ShowEnds.{HasLooked, ShowsSites}
 use Rattle.pv_base.specs.Catalog.{Declared}
 use Rattle.pv_disk.specs.BayModel.{BayModel}
 use Rattle.pv_io.specs.SinkEffects.{Writes, WritesPrefix}
@@ -27,24 +25,24 @@ prefix-either (Err e) old new output whole part = part
 -- The text was written, or a beginning of it.
 pub shows-written : {B V W E : Type 0} (M : BayModel B) (D : DiskModel V) (sink : Ghosts W) (catalog : Declared) (written : Result ⊤ E) (status : Status) (old new : B) (before after : W)
     (text : List ℕ) → status ≡ cond (is_ok written) Done WriteFault → ShowsAll M D catalog old new text → OnOk written (Writes sink before after text)
-    → OnErr written (WritesPrefix sink before after text) → EndsShow M D sink catalog old new before after status
+    → OnErr written (WritesPrefix sink before after text) → ShowsSites M D sink catalog old new before after status
 shows-written M D sink catalog (Ok taken) status old new before after text is all whole part =
-    subst (EndsShow M D sink catalog old new before after) (sym is) (text, all, whole)
+    subst (ShowsSites M D sink catalog old new before after) (sym is) (text, all, whole)
 shows-written M D sink catalog (Err e) status old new before after text is all whole part =
-    subst (EndsShow M D sink catalog old new before after) (sym is) (text, all, part)
+    subst (ShowsSites M D sink catalog old new before after) (sym is) (text, all, part)
 
 -- With such an end `show` may have asked the bay for disks.
-pub touches-bay : {B V W : Type 0} (M : BayModel B) (D : DiskModel V) (sink : Ghosts W) (catalog : Declared) (old new : B) (before after : W) (status : Status)
-    → (status ≡ ReadFault → ⊥) → EndsShow M D sink catalog old new before after status → TouchesBay Show status
-touches-bay M D sink catalog old new before after Done read ends = tt
-touches-bay M D sink catalog old new before after WriteFault read ends = tt
-touches-bay M D sink catalog old new before after NoMemory read ends = tt
-touches-bay M D sink catalog old new before after BayFault read ends = tt
-touches-bay M D sink catalog old new before after ReadFault read ends = read refl
-touches-bay M D sink catalog old new before after Usage read ends = ends
-touches-bay M D sink catalog old new before after Malformed read ends = ends
-touches-bay M D sink catalog old new before after TooLong read ends = ends
-touches-bay M D sink catalog old new before after SentLimit read ends = ends
+pub has-looked : {B V W : Type 0} (M : BayModel B) (D : DiskModel V) (sink : Ghosts W) (catalog : Declared) (old new : B) (before after : W) (status : Status)
+    → (status ≡ ReadFault → ⊥) → ShowsSites M D sink catalog old new before after status → HasLooked status
+has-looked M D sink catalog old new before after Done read ends = tt
+has-looked M D sink catalog old new before after WriteFault read ends = tt
+has-looked M D sink catalog old new before after NoMemory read ends = tt
+has-looked M D sink catalog old new before after BayFault read ends = tt
+has-looked M D sink catalog old new before after ReadFault read ends = read refl
+has-looked M D sink catalog old new before after Usage read ends = ends
+has-looked M D sink catalog old new before after Malformed read ends = ends
+has-looked M D sink catalog old new before after TooLong read ends = ends
+has-looked M D sink catalog old new before after SentLimit read ends = ends
 
 -- Disks of fewer sites are disks of more.
 pub OnlyReadsDisks-wider : {B V : Type 0} (M : BayModel B) (D : DiskModel V) (few many : ℕ) (old new : B) → few ≤ many → OnlyReadsDisks M D few old new → OnlyReadsDisks M D many old new

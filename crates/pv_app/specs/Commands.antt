@@ -1,12 +1,10 @@
 -- What the words after the program's name ask for.
-use Rattle.std.specs.Prelude.{◌≡◌, ℕ, ◌≤◌, List, [], ◌∷◌, codes, decimal, ⊤}
+use Rattle.std.specs.Prelude.{◌≡◌, ℕ, ◌≤◌, List, [], ◌∷◌, codes, decimal}
 use Rattle.pv_app.specs.declared.command.Command.{Command}
 use Rattle.pv_app.specs.declared.command.Command.TheVariants.{Run, Make, Big, Show}
 use Rattle.pv_app.specs.declared.command.TheConstants.{MAX_NUMBER}
 use Rattle.pv_run.specs.declared.form.Form.{Form}
 use Rattle.pv_run.specs.declared.form.Form.TheVariants.{Text, Json}
-use Rattle.pv_run.specs.declared.status.Status.{Status}
-use Rattle.pv_run.specs.declared.status.Status.TheVariants.{Done, WriteFault, NoMemory, BayFault}
 
 -- the word for running a schedule, by how its lines are written
 unfoldable pub word_of : Form → List ℕ
@@ -27,12 +25,3 @@ IsCommand words Show = words ≡ codes "show" ∷ []
 -- what is answered to words that are no command
 abbrev pub usage_text : List ℕ
 usage_text = codes "usage: polydb run | json | make N | big N | show\n"
-
--- A run has given the bay disks to keep where it is done, and `show` has asked for the bay's where its input was a live script. Nothing else has to do with the bay.
-abbrev pub TouchesBay : Command → Status → Type 0
-TouchesBay (Run form) Done = ⊤
-TouchesBay Show Done = ⊤
-TouchesBay Show WriteFault = ⊤
-TouchesBay Show NoMemory = ⊤
-TouchesBay Show BayFault = ⊤
-TouchesBay command status = ⊥

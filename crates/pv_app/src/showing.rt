@@ -1,12 +1,9 @@
 // The command `show`: its input is read, and the disks of the sites that it declares are looked at.
-ghost use Rattle.std.specs.Prelude.{◌≡◌, ◌≢◌, ◌≤◌, ◌<◌, ℕ, List, [], Some, length};
-ghost use Rattle.pv_app.specs.Commands.{TouchesBay};
-ghost use Rattle.pv_app.specs.ShowEnds.{EndsShow};
-ghost use Rattle.pv_app.specs.declared.command.Command.TheVariants.{Show};
+ghost use Rattle.std.specs.Prelude.{◌≡◌, ◌≢◌, ◌≤◌, ℕ, length};
+ghost use Rattle.pv_app.specs.ShowEnds.{EndsShow, HasLooked, ShowsSites};
 ghost use Rattle.pv_base.specs.Fault.{Rose};
 ghost use Rattle.pv_base.specs.declared.limits.TheConstants.{MAX_SITES};
 ghost use Rattle.pv_io.specs.SinkEffects.{HasFailed, Writes, WritesNothing};
-ghost use Rattle.pv_io.specs.Stream.{TakesAtMost};
 ghost use Rattle.pv_model.specs.LineCauses.{LineCause};
 ghost use Rattle.pv_model.specs.LiveScript.{LiveScript};
 ghost use Rattle.pv_model.specs.Schedule.{IsLiveScript, IsMalformedLiveScript};
@@ -29,30 +26,8 @@ pub(crate) fn read_and_show<R: Source, W: Sink, B: Bay>(
     bay: &mut B,
 ) -> Status
     requires rest { IsAtRest B.model bay.old }
-    ensures shown { (input : List ℕ) → R.left source.old ≡ Some input → length input ≤ MAX_INPUT → (script : LiveScript) → IsLiveScript input script →
-        EndsShow B.model B.D.model W.Sink script.catalog bay.old bay.new sink.old sink.new result }
-    ensures refused { (input : List ℕ) → R.left source.old ≡ Some input → length input ≤ MAX_INPUT →
-        (number : ℕ) (cause : LineCause) → IsMalformedLiveScript input number cause →
-        GivesUpOr W.Sink result Status.Malformed (fault_text number cause) sink.old sink.new × (bay.new ≡ bay.old)
-        × (result ≡ Status.Malformed → Writes W.Sink sink.old sink.new (fault_text number cause)) }
-    ensures long { (input : List ℕ) → R.left source.old ≡ Some input → MAX_INPUT < length input →
-        GivesUpOr W.Sink result Status.TooLong [] sink.old sink.new × (result ≢ Status.WriteFault) × (bay.new ≡ bay.old) }
-    ensures done { result ≡ Status.Done → (input : List ℕ) → R.left source.old ≡ Some input →
-        (R.left source.new ≡ Some []) × (script : LiveScript) × IsLiveScript input script }
-    ensures malformed { result ≡ Status.Malformed → (input : List ℕ) → R.left source.old ≡ Some input →
-        (number : ℕ) × (cause : LineCause) × IsMalformedLiveScript input number cause }
-    ensures only_reads { OnlyReadsDisks B.model B.D.model MAX_SITES bay.old bay.new }
-    ensures only_declared { (input : List ℕ) → R.left source.old ≡ Some input → (script : LiveScript) → IsLiveScript input script →
-        OnlyReadsDisks B.model B.D.model script.catalog.sites bay.old bay.new }
-    ensures alone { (TouchesBay Show result → ⊥) → bay.new ≡ bay.old }
+    ensures ends { EndsShow R.Source W.Sink B.model B.D.model source.old source.new sink.old sink.new bay.old bay.new result }
     ensures rest { IsAtRest B.model bay.new }
-    ensures bay_fault { result ≡ Status.BayFault → Rose (B.model.faults bay.old) (B.model.faults bay.new) × WritesNothing W.Sink sink.old sink.new }
-    ensures read_fault { result ≡ Status.ReadFault →
-        Rose (R.faults source.old) (R.faults source.new) × WritesNothing W.Sink sink.old sink.new }
-    ensures read_within { result ≡ Status.ReadFault → TakesAtMost (R.left source.old) (R.left source.new) MAX_INPUT }
-    ensures write_fault { result ≡ Status.WriteFault → HasFailed W.Sink sink.old sink.new }
-    ensures too_long { result ≡ Status.TooLong → WritesNothing W.Sink sink.old sink.new }
-    ensures command { result ≢ Status.Usage }
 {
     match read_all(alloc, source, MAX_INPUT) {
         Ok(input) => show_text(alloc, &input, sink, bay),
@@ -67,7 +42,7 @@ fn show_text<W: Sink, B: Bay>(alloc: Global, input: &[u8], sink: &mut W, bay: &m
     requires short { length input.now ≤ MAX_INPUT }
     requires rest { IsAtRest B.model bay.old }
     ensures shown { (script : LiveScript) → IsLiveScript input.now script →
-        EndsShow B.model B.D.model W.Sink script.catalog bay.old bay.new sink.old sink.new result }
+        ShowsSites B.model B.D.model W.Sink script.catalog bay.old bay.new sink.old sink.new result }
     ensures refused { (number : ℕ) (cause : LineCause) → IsMalformedLiveScript input.now number cause →
         GivesUpOr W.Sink result Status.Malformed (fault_text number cause) sink.old sink.new × (bay.new ≡ bay.old)
         × (result ≡ Status.Malformed → Writes W.Sink sink.old sink.new (fault_text number cause)) }
@@ -75,7 +50,7 @@ fn show_text<W: Sink, B: Bay>(alloc: Global, input: &[u8], sink: &mut W, bay: &m
     ensures malformed { result ≡ Status.Malformed → (number : ℕ) × (cause : LineCause) × IsMalformedLiveScript input.now number cause }
     ensures only_reads { OnlyReadsDisks B.model B.D.model MAX_SITES bay.old bay.new }
     ensures only_declared { (script : LiveScript) → IsLiveScript input.now script → OnlyReadsDisks B.model B.D.model script.catalog.sites bay.old bay.new }
-    ensures alone { (TouchesBay Show result → ⊥) → bay.new ≡ bay.old }
+    ensures alone { (HasLooked result → ⊥) → bay.new ≡ bay.old }
     ensures rest { IsAtRest B.model bay.new }
     ensures bay_fault { result ≡ Status.BayFault → Rose (B.model.faults bay.old) (B.model.faults bay.new) × WritesNothing W.Sink sink.old sink.new }
     ensures write_fault { result ≡ Status.WriteFault → HasFailed W.Sink sink.old sink.new }
@@ -98,7 +73,7 @@ fn show_sites<W: Sink, B: Bay>(
     bay: &mut B,
 ) -> Status
     requires { IsAtRest B.model bay.old }
-    ensures shown { EndsShow B.model B.D.model W.Sink catalog.now bay.old bay.new sink.old sink.new result }
+    ensures shown { ShowsSites B.model B.D.model W.Sink catalog.now bay.old bay.new sink.old sink.new result }
     ensures only_reads { OnlyReadsDisks B.model B.D.model catalog.now.sites bay.old bay.new }
     ensures few { catalog.now.sites ≤ MAX_SITES }
     ensures rest { IsAtRest B.model bay.new }

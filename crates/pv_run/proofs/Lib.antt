@@ -1,4 +1,5 @@
 mod AnswerLemmas
+mod EndLemmas
 mod KeepLemmas
 mod LimitLemmas
 mod OutputLemmas

@@ -4,6 +4,7 @@ ghost use Rattle.pv_io.specs.SinkEffects.{HasFailed, Writes, WritesNothing, Writ
 ghost use Rattle.pv_model.specs.Events as model;
 ghost use Rattle.pv_model.specs.Schedule.{IsSchedule};
 ghost use Rattle.pv_protocol.specs.WellFormed.{IsWellFormed};
+ghost use Rattle.pv_run.specs.Ends.{AnswersRun};
 ghost use Rattle.pv_run.specs.Headline.{KeepsPromises};
 ghost use Rattle.pv_run.specs.InputAnswers.{Answers, GivesUpOr, IsRunAnswer, IsSummaryAnswer, output_of, output_within, status_of, fault_text};
 ghost use Rattle.pv_run.specs.KeptDisks.{KeepsSites, last_world};
@@ -37,23 +38,12 @@ pub fn run_text<W: Sink, B: Bay>(
     bay: &mut B,
 ) -> Status
     requires { length input.now ≤ MAX_INPUT }
-    ensures done { result ≡ Status.Done → (schedule : model.Schedule) × IsSchedule input.now schedule
-        × Writes W.Sink sink.old sink.new (output_of form schedule) }
-    ensures agreement { (schedule : model.Schedule) → IsSchedule input.now schedule →
-        KeepsPromises (setup_of schedule.catalog) schedule.events
-        × WritesPrefix W.Sink sink.old sink.new (output_of form schedule)
-        × (result ≡ Status.Done → Writes W.Sink sink.old sink.new (output_of form schedule))
-        × (result ≡ Status.SentLimit → Writes W.Sink sink.old sink.new (output_within form schedule)) }
-    ensures answered { Answers W.Sink (output_of form) (output_within form) input.now result sink.old sink.new }
-    ensures exact { (status : Status) (output : List ℕ) → IsRunAnswer form input.now status output →
-        GivesUpOr W.Sink result status output sink.old sink.new }
+    ensures answers { AnswersRun W.Sink B.model form sink.old sink.new bay.old bay.new result input.now }
     ensures command { result ≢ Status.Usage }
     ensures bay_fault { result ≢ Status.BayFault }
     ensures read_fault { result ≢ Status.ReadFault }
     ensures too_long { result ≢ Status.TooLong }
     ensures write_fault { result ≡ Status.WriteFault → HasFailed W.Sink sink.old sink.new }
-    ensures kept { result ≡ Status.Done → (schedule : model.Schedule) → IsSchedule input.now schedule →
-        KeepsSites B.model bay.old bay.new (last_world schedule).sites }
     ensures alone { result ≢ Status.Done → bay.new ≡ bay.old }
 {
     promises_are_kept();

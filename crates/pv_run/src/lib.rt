@@ -2,6 +2,7 @@
 #![tactic(auto)]
 
 mod answers;
+mod commands;
 mod form;
 mod printed;
 mod running;
@@ -12,6 +13,7 @@ pub use answers::{
     answers_are_one, answers_exist, promises_are_kept, refuse, run_text, status_of_write,
     summaries_are_one, write_summary_of_number,
 };
+pub use commands::{read_and_run, write_made};
 pub use form::Form;
 pub use printed::{Printed, run_to_lines};
 pub use running::{RunEnd, run};

@@ -11,15 +11,15 @@ use Rattle.pv_model.specs.Schedule.{IsMalformedLiveScript}
 use Rattle.pv_script.specs.LiveView.{live_script_of}
 use Rattle.pv_script.specs.ScriptErrors.{IsMalformedLiveAt, line_cause_of, refused_line}
 use Rattle.pv_script.specs.declared.schedule.ScriptError.{ScriptError}
-use Rattle.pv_app.proofs.ShowLemmas.{OnlyReadsDisks-wider, refused-not-done, refused-or-not, touches-bay}
-use Rattle.pv_app.specs.ShowEnds.{EndsShow}
+use Rattle.pv_app.proofs.ShowLemmas.{OnlyReadsDisks-wider, refused-not-done, refused-or-not, has-looked}
+use Rattle.pv_app.specs.ShowEnds.{ShowsSites}
 use Rattle.pv_run.specs.InputAnswers.{fault_text}
 use Rattle.pv_show.specs.Bays.{OnlyReadsDisks}
 use Rattle.pv_app.proofs.showing.show_text.Goals as goal
 
 pub returns-in-Ok-clause-shown : goal.returns-in-Ok-clause-shown
 returns-in-Ok-clause-shown g c = λ script says.
-    subst (λ (s : LiveScript). EndsShow g.B.Bay.model g.B.D.Disk.model g.W.Sink s.catalog c.args.bay.now c.show_sites.new.bay c.args.sink.now c.show_sites.new.sink c.show_sites.result)
+    subst (λ (s : LiveScript). ShowsSites g.B.Bay.model g.B.D.Disk.model g.W.Sink s.catalog c.args.bay.now c.show_sites.new.bay c.args.sink.now c.show_sites.new.sink c.show_sites.result)
     (one_live_script c.args.input.now (live_script_of c.in-Ok.script) script c.in-Ok.ensures.answer.given says) c.show_sites.ensures.shown
 
 pub returns-in-Ok-clause-refused : goal.returns-in-Ok-clause-refused
@@ -30,7 +30,7 @@ returns-in-Ok-clause-done g c = λ done. (live_script_of c.in-Ok.script, c.in-Ok
 
 pub returns-in-Ok-clause-malformed : goal.returns-in-Ok-clause-malformed
 returns-in-Ok-clause-malformed g c = λ is.
-    absurd (subst (EndsShow g.B.Bay.model g.B.D.Disk.model g.W.Sink c.in-Ok.script.catalog c.args.bay.now c.show_sites.new.bay c.args.sink.now c.show_sites.new.sink) is c.show_sites.ensures.shown)
+    absurd (subst (ShowsSites g.B.Bay.model g.B.D.Disk.model g.W.Sink c.in-Ok.script.catalog c.args.bay.now c.show_sites.new.bay c.args.sink.now c.show_sites.new.sink) is c.show_sites.ensures.shown)
 
 pub returns-in-Ok-clause-only_reads : goal.returns-in-Ok-clause-only_reads
 returns-in-Ok-clause-only_reads g c =
@@ -43,20 +43,20 @@ returns-in-Ok-clause-only_declared g c = λ script says.
 
 pub returns-in-Ok-clause-alone : goal.returns-in-Ok-clause-alone
 returns-in-Ok-clause-alone g c = λ apart.
-    absurd (apart (touches-bay g.B.Bay.model g.B.D.Disk.model g.W.Sink c.in-Ok.script.catalog c.args.bay.now c.show_sites.new.bay c.args.sink.now c.show_sites.new.sink
+    absurd (apart (has-looked g.B.Bay.model g.B.D.Disk.model g.W.Sink c.in-Ok.script.catalog c.args.bay.now c.show_sites.new.bay c.args.sink.now c.show_sites.new.sink
     c.show_sites.result c.show_sites.ensures.read_fault c.show_sites.ensures.shown))
 
 pub returns-in-Ok-clause-bay_fault : goal.returns-in-Ok-clause-bay_fault
 returns-in-Ok-clause-bay_fault g c = λ is.
-    subst (EndsShow g.B.Bay.model g.B.D.Disk.model g.W.Sink c.in-Ok.script.catalog c.args.bay.now c.show_sites.new.bay c.args.sink.now c.show_sites.new.sink) is c.show_sites.ensures.shown
+    subst (ShowsSites g.B.Bay.model g.B.D.Disk.model g.W.Sink c.in-Ok.script.catalog c.args.bay.now c.show_sites.new.bay c.args.sink.now c.show_sites.new.sink) is c.show_sites.ensures.shown
 
 pub returns-in-Ok-clause-command : goal.returns-in-Ok-clause-command
 returns-in-Ok-clause-command g c = λ is.
-    subst (EndsShow g.B.Bay.model g.B.D.Disk.model g.W.Sink c.in-Ok.script.catalog c.args.bay.now c.show_sites.new.bay c.args.sink.now c.show_sites.new.sink) is c.show_sites.ensures.shown
+    subst (ShowsSites g.B.Bay.model g.B.D.Disk.model g.W.Sink c.in-Ok.script.catalog c.args.bay.now c.show_sites.new.bay c.args.sink.now c.show_sites.new.sink) is c.show_sites.ensures.shown
 
 pub returns-in-Ok-clause-too_long : goal.returns-in-Ok-clause-too_long
 returns-in-Ok-clause-too_long g c = λ is.
-    subst (EndsShow g.B.Bay.model g.B.D.Disk.model g.W.Sink c.in-Ok.script.catalog c.args.bay.now c.show_sites.new.bay c.args.sink.now c.show_sites.new.sink) is c.show_sites.ensures.shown
+    subst (ShowsSites g.B.Bay.model g.B.D.Disk.model g.W.Sink c.in-Ok.script.catalog c.args.bay.now c.show_sites.new.bay c.args.sink.now c.show_sites.new.sink) is c.show_sites.ensures.shown
 
 pub returns-in-Err-Malformed-clause-shown : goal.returns-in-Err-Malformed-clause-shown
 returns-in-Err-Malformed-clause-shown g c = λ script says.

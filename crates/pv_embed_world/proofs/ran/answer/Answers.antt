@@ -15,5 +15,5 @@ pub returns : goal.returns
 returns c =
     let ran : Ran = record { status = c.from-in_default.result; text = c.in_ok-text-in_default.text } in
     ran-answers c.args.input.now ran c.run_text.result (c.from-in_default.ensures ∙ c.code-in_default.ensures) c.new-sink.result.held c.run_text.new.sink.held
-    (ap (λ (sink : SinkState). sink.held) c.new-sink.ensures) (c.in_ok-text-in_default.ensures.items ∙ c.bytes.ensures) c.run_text.ensures.answered
+    (ap (λ (sink : SinkState). sink.held) c.new-sink.ensures) (c.in_ok-text-in_default.ensures.items ∙ c.bytes.ensures) c.run_text.ensures.answers.answered
     c.in_default.not-WriteFault c.in_default.not-NoMemory c.run_text.ensures.read_fault

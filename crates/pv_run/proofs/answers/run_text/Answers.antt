@@ -4,30 +4,24 @@ use Rattle.pv_run.proofs.LimitLemmas.{prefix-within}
 use Rattle.pv_run.specs.InputAnswers.{output_of, output_within, status_within, within_limit}
 use Rattle.pv_run.proofs.answers.run_text.Goals as goal
 
-pub returns-clause-done : goal.returns-clause-done
-returns-clause-done g c = λ done.
-    let form = c.args.form in
-    schedule_at_done (output_of form) (output_within form) c.args.input.now c.answer.result (g.W.Sink.held c.args.sink.now) (g.W.Sink.held c.answer.new.sink) done c.answer.ensures.answered
-
-pub returns-clause-agreement : goal.returns-clause-agreement
-returns-clause-agreement g c = λ schedule says.
+pub returns-clause-answers : goal.returns-clause-answers
+returns-clause-answers g c =
     let form = c.args.form in
     let input = c.args.input.now in
     let old = g.W.Sink.held c.args.sink.now in
-    let new = g.W.Sink.held c.answer.new.sink in (
-      c.promises_are_kept.ensures input schedule says,
-      prefix-within form schedule old new
-          (c.answer.ensures.prefix (status_within (within_limit schedule).over) (output_within form schedule) (answer_of_run form input schedule c.requires says)),
-      output_at_done (output_of form) (output_within form) input c.answer.result old new schedule c.answer.ensures.answered says,
-      output_at_limit (output_of form) (output_within form) input c.answer.result old new schedule c.answer.ensures.answered says,
-    )
-
-pub returns-clause-exact : goal.returns-clause-exact
-returns-clause-exact g c = λ status output is.
-    let form = c.args.form in
-    let old = g.W.Sink.held c.args.sink.now in
-    let new = g.W.Sink.held c.answer.new.sink in (
-      status_of_answer (output_of form) (output_within form) c.args.input.now c.answer.result status old new output c.answer.ensures.answered is,
-      c.answer.ensures.prefix status output is,
-      c.answer.ensures.some status output is,
-    )
+    let new = g.W.Sink.held c.answer.new.sink in
+    record {
+      promises = λ schedule says. c.promises_are_kept.ensures input schedule says;
+      done = λ done. schedule_at_done (output_of form) (output_within form) input c.answer.result old new done c.answer.ensures.answered;
+      prefix = λ schedule says. prefix-within form schedule old new
+          (c.answer.ensures.prefix (status_within (within_limit schedule).over) (output_within form schedule) (answer_of_run form input schedule c.requires says));
+      whole = λ schedule says. output_at_done (output_of form) (output_within form) input c.answer.result old new schedule c.answer.ensures.answered says;
+      limit = λ schedule says. output_at_limit (output_of form) (output_within form) input c.answer.result old new schedule c.answer.ensures.answered says;
+      answered = c.answer.ensures.answered;
+      exact = λ status output is. (
+        status_of_answer (output_of form) (output_within form) input c.answer.result status old new output c.answer.ensures.answered is,
+        c.answer.ensures.prefix status output is,
+        c.answer.ensures.some status output is,
+      );
+      kept = c.answer.ensures.kept;
+    }

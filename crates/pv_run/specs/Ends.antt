@@ -1,0 +1,86 @@
+-- How the commands end that run a schedule or make one: what was read, what was written, what the bay keeps, and when each status comes.
+use Rattle.std.specs.Prelude.{◌≡◌, ◌≢◌, ◌⊎◌, ℕ, ◌≤◌, List, [], Some, length}
+use Rattle.pv_base.specs.Fault.{Rose}
+use Rattle.pv_base.specs.declared.limits.TheConstants.{MAX_INPUT}
+use Rattle.pv_disk.specs.BayModel.{BayModel}
+use Rattle.pv_io.specs.SinkEffects.{HasFailed, Writes, WritesNothing, WritesPrefix}
+use Rattle.pv_io.specs.Stream.{TakesAtMost}
+use Rattle.pv_io.specs.declared.sink.Sink as sinks
+use Rattle.pv_io.specs.declared.source.Source as sources
+use Rattle.pv_model.specs.Events.{Schedule}
+use Rattle.pv_model.specs.Schedule.{IsSchedule}
+use Rattle.pv_run.specs.Headline.{KeepsPromises}
+use Rattle.pv_run.specs.InputAnswers.{Answers, GivesUpOr, IsRunAnswer, IsSummaryAnswer, output_of, output_within}
+use Rattle.pv_run.specs.KeptDisks.{KeepsSites, last_world}
+use Rattle.pv_run.specs.Summary.{summary_of}
+use Rattle.pv_run.specs.declared.form.Form.{Form}
+use Rattle.pv_run.specs.declared.status.Status.{Status}
+use Rattle.pv_run.specs.declared.status.Status.TheVariants.{Done, Usage, ReadFault, WriteFault, TooLong, NoMemory, SentLimit, BayFault}
+use Rattle.pv_script.specs.Generated.{made_text}
+use Rattle.pv_site.specs.SiteState.{setup_of}
+
+-- What a run answers to this input.
+module _ {W B : Type 0} (sink : sinks.Ghosts W) (M : BayModel B) (form : Form) (before after : W) (old new : B) (status : Status) where
+  pub record AnswersRun (input : List ℕ) : Type 0 where
+    -- The headline. Whatever schedule the input is, and in whatever writes and syncs its sites stop or fail, its run keeps the promises.
+    pub promises : (schedule : Schedule) → IsSchedule input schedule → KeepsPromises (setup_of schedule.catalog) schedule.events
+    -- It is done only where the input is a schedule, and exactly what the run of that prints was written.
+    pub done : status ≡ Done → (schedule : Schedule) × IsSchedule input schedule × Writes sink before after (output_of form schedule)
+    -- However it ends, what was written of a schedule is a beginning of exactly what its run prints.
+    pub prefix : (schedule : Schedule) → IsSchedule input schedule → WritesPrefix sink before after (output_of form schedule)
+    -- Where it is done that is the whole.
+    pub whole : (schedule : Schedule) → IsSchedule input schedule → status ≡ Done → Writes sink before after (output_of form schedule)
+    -- At `SentLimit` it is all up to the event in which the messages pass the limit.
+    pub limit : (schedule : Schedule) → IsSchedule input schedule → status ≡ SentLimit → Writes sink before after (output_within form schedule)
+    -- It gave up, or wrote the input's one answer, whose status this is: `IsRunAnswer` says when each comes.
+    pub answered : Answers sink (output_of form) (output_within form) input status before after
+    -- Whatever the answer to the input is, it gave up or ended with the status of that, and wrote a beginning of it. Where that is empty, no write has failed.
+    pub exact : (answer : Status) (output : List ℕ) → IsRunAnswer form input answer output → GivesUpOr sink status answer output before after
+    -- Where it is done the bay keeps a disk for each site of the run's last world, which holds a journal of the site's records there.
+    pub kept : status ≡ Done → (schedule : Schedule) → IsSchedule input schedule → KeepsSites M old new (last_world schedule).sites
+
+-- How `run` and `json` end.
+module _ {R W B : Type 0} (source : sources.Ghosts R) (sink : sinks.Ghosts W) (M : BayModel B) (form : Form) (unread left : R) (before after : W) (old new : B) (status : Status) where
+  pub record EndsRun : Type 0 where
+    -- Where the source tells its bytes, what is answered to them, with the headline.
+    pub answers : (input : List ℕ) → source.left unread ≡ Some input → AnswersRun sink M form before after old new status input
+    -- Where it is done, the whole input was read.
+    pub read : status ≡ Done → (input : List ℕ) → source.left unread ≡ Some input → source.left left ≡ Some []
+    -- It gives up for the input only where a fault of it was counted, before more than the limit had come, and then nothing was written.
+    pub read_fault : status ≡ ReadFault →
+        Rose (source.faults unread) (source.faults left) × TakesAtMost (source.left unread) (source.left left) MAX_INPUT × WritesNothing sink before after
+    -- And for the output only where a fault of that was counted, and the input is no longer than it may be.
+    pub write_fault : status ≡ WriteFault → HasFailed sink before after × ((input : List ℕ) → source.left unread ≡ Some input → length input ≤ MAX_INPUT)
+    -- Of an input that is too long nothing was written.
+    pub too_long : status ≡ TooLong → WritesNothing sink before after
+    -- Where it is done the bay was given the disks of a run to keep.
+    pub kept : status ≡ Done → (schedule : Schedule) × KeepsSites M old new (last_world schedule).sites
+    -- However else it ends, the bay is as it was.
+    pub alone : status ≢ Done → new ≡ old
+    -- It never ends in one of the other ways.
+    pub others : (status ≢ Usage) × (status ≢ BayFault)
+
+module _ {W : Type 0} (sink : sinks.Ghosts W) (n : ℕ) (before after : W) (status : Status) where
+  -- How `make` ends.
+  pub record EndsMake : Type 0 where
+    -- It wrote a beginning of the schedule of this number. Where that is empty, no write has failed.
+    pub made : GivesUpOr sink status Done (made_text n) before after
+    -- Where it is done that is the whole.
+    pub done : status ≡ Done → Writes sink before after (made_text n)
+    -- It gives up for the output only where a fault of that was counted.
+    pub write_fault : status ≡ WriteFault → HasFailed sink before after
+    -- It ends in no other way than these.
+    pub ways : (status ≡ Done) ⊎ ((status ≡ WriteFault) ⊎ (status ≡ NoMemory))
+
+  -- How `big` ends.
+  pub record EndsBig : Type 0 where
+    -- It gave up, or wrote the one answer to the made schedule, whose status this is: `IsSummaryAnswer` says when each comes.
+    pub answered : Answers sink summary_of (λ schedule. []) (made_text n) status before after
+    -- Whatever the answer is, it gave up or ended with the status of that, and wrote a beginning of it. Where that is empty, no write has failed.
+    pub exact : (answer : Status) (output : List ℕ) → IsSummaryAnswer (made_text n) answer output → GivesUpOr sink status answer output before after
+    -- It gives up for the output only where a fault of that was counted.
+    pub write_fault : status ≡ WriteFault → HasFailed sink before after
+    -- It never gives up for an input.
+    pub no_input : status ≢ ReadFault
+    -- Of a schedule that is too long nothing was written.
+    pub too_long : status ≡ TooLong → WritesNothing sink before after
