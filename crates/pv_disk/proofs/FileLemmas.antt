@@ -5,9 +5,9 @@ use Rattle.std.proofs.lemmas.Option.{none-some}
 use Rattle.pv_base.specs.Fault.{risen}
 use Rattle.pv_base.specs.declared.failure.Failed.{Failed as Fault}
 use Rattle.pv_law_disk.specs.Disk.{LeavesOnly, LeftTorn, Observes, Writes, Syncs}
-use Rattle.pv_disk.specs.Folder.{file_disk}
+use Rattle.pv_disk.specs.Folder.{FileState, file_disk}
 
-leaves : (old new : ℕ) (P : List ℕ → Type 0) → ((left : List ℕ) → P left) → LeavesOnly file_disk old new P
+leaves : (old new : FileState) (P : List ℕ → Type 0) → ((left : List ℕ) → P left) → LeavesOnly file_disk old new P
 leaves old new P all = record {
   later = omega arith;
   each = λ left since. all left;
@@ -15,21 +15,33 @@ leaves old new P all = record {
   keeps = λ t left le since. since;
 }
 
-torn : (old place count : ℕ) (left : List ℕ) → LeftTorn file_disk old place count left
+torn : (old : FileState) (place count : ℕ) (left : List ℕ) → LeftTorn file_disk old place count left
 torn old place count left = (left, tt, record { before = refl; after = refl; no_shorter = omega arith; no_longer = omega arith })
 
-pub write_done : {X : Type 0} (faults place : ℕ) (bytes : List ℕ) (x : X) → Writes file_disk {X = X} faults faults place bytes (Ok x)
-write_done faults place bytes x = record {
+pub write_done : {X : Type 0} (disk : FileState) (place : ℕ) (bytes : List ℕ) (x : X) → Writes file_disk {X = X} disk disk place bytes (Ok x)
+write_done disk place bytes x = record {
   content = λ was is. absurd (none-some was is);
   known = refl;
-  any_moment = leaves faults faults (LeftTorn file_disk faults place (length bytes)) (torn faults place (length bytes));
+  any_moment = leaves disk disk (LeftTorn file_disk disk place (length bytes)) (torn disk place (length bytes));
   room = omega arith;
   writes = omega arith;
   fault = (omega arith, tt);
   uncounted = refl;
 }
 
-module _ {X : Type 0} (old new : ℕ) (rises : old ≤ new) (counted : new ≡ risen old) (e : Fault) where
+-- What the reads have given is all that a read changes.
+pub read_done : {X : Type 0} (old new : FileState) (x : X) → new.faults ≡ old.faults → Observes file_disk {X = X} old new (Ok x)
+read_done old new x same = record {
+  content = refl;
+  known = refl;
+  any_moment = leaves old new (λ left. ⊤) (λ left. tt);
+  room = omega arith;
+  writes = omega arith;
+  fault = (omega (arith, same), tt);
+  uncounted = same;
+}
+
+module _ {X : Type 0} (old new : FileState) (rises : old.faults ≤ new.faults) (counted : new.faults ≡ risen old.faults) (e : Fault) where
   pub read_failed : Observes file_disk {X = X} old new (Err e)
   read_failed = record {
     content = tt;

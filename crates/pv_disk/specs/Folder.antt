@@ -1,23 +1,30 @@
--- What is said of a disk on a file and of a bay on a folder: their counts, and no content.
+-- What is said of a disk on a file and of a bay on a folder: their counts and what reads gave, and no content.
 use Rattle.std.specs.Prelude.{◌≡◌, ℕ, ◌-◌, ◌^◌, false, if◌then◌else◌, List, [], Option, None, Some, ◌++◌, slice_get, codes, ⊤}
+use Rattle.std.proofs.Common.{refl}
 use Rattle.std.specs.Fmt.{decimal}
 use Rattle.pv_base.specs.Fault.{risen}
 use Rattle.pv_law_disk.specs.DiskModel.{DiskModel}
 use Rattle.pv_disk.specs.BayModel.{BayModel, Berth}
 use Rattle.pv_disk.specs.declared.folder_bay.FolderBerth.{FolderBerth}
 
--- A disk on a file, seen as how many calls have failed: each that fails counts one. What it holds and what a crash leaves isn't known. A
--- write wants no memory, so there is always room.
-abbrev pub file_disk : DiskModel ℕ
+-- A disk on a file: how many calls have failed, and what its reads have given, one after another.
+pub record FileState : Type 0 where
+  pub faults : ℕ
+  pub given : List ℕ
+
+-- Each call that fails counts one. What the disk holds and what a crash leaves isn't known. A write wants no memory, so there is always room.
+abbrev pub file_disk : DiskModel FileState
 file_disk = record {
-  content = λ faults. None;
-  may_leave = λ faults left. ⊤;
-  moment = λ faults. 0;
-  left_since = λ faults since left. ⊤;
-  faults = λ faults. faults;
-  room = λ faults. 2 ^ 64 - 1;
-  writes = λ faults. 2 ^ 32 - 1;
-  goes = λ old call ok new. new ≡ (if ok then old else risen old);
+  content = λ disk. None;
+  given = λ disk. Some disk.given;
+  is_kept = λ disk unknown. refl;
+  may_leave = λ disk left. ⊤;
+  moment = λ disk. 0;
+  left_since = λ disk since left. ⊤;
+  faults = λ disk. disk.faults;
+  room = λ disk. 2 ^ 64 - 1;
+  writes = λ disk. 2 ^ 32 - 1;
+  goes = λ old call ok new. new.faults ≡ (if ok then old.faults else risen old.faults);
   counts_now = λ disk t left le now. tt;
   only_now = λ disk left since. tt;
   is_left = λ disk bytes is. tt;

@@ -1,7 +1,8 @@
 -- A memory disk as a disk.
-use Rattle.std.specs.Prelude.{◌≡◌, ◌⊎◌, ℕ, List, Some, length, drop}
+use Rattle.std.specs.Prelude.{◌≡◌, ◌⊎◌, ℕ, List, Some, None, length, drop}
 use Rattle.std.proofs.Common.{inl, inr, sym, arith, subst}
 use Rattle.std.proofs.lemmas.List.{drop_all}
+use Rattle.std.proofs.lemmas.Option.{none-some}
 use Rattle.pv_law_disk.specs.DiskModel.{DiskModel}
 use Rattle.pv_disk.specs.MemImage.{ImageState, Moment, MayLeave, MightHaveLeft}
 use Rattle.pv_disk.specs.MemDisk.{MemState, MemGoes}
@@ -24,6 +25,8 @@ same_content a b e = let same : a ≡ b = cc in sym same
 abbrev pub mem_model : DiskModel MemState
 mem_model = record {
   content = λ disk. Some disk.image.content;
+  given = λ disk. None;
+  is_kept = λ disk unknown. absurd (none-some disk.image.content (sym unknown));
   may_leave = λ disk. LeftNow disk.image;
   moment = λ disk. length disk.image.past;
   left_since = λ disk. LeftSince disk.image;

@@ -1,10 +1,10 @@
 // A disk on a file.
-ghost use Rattle.std.specs.Prelude.{◌≡◌, ◌≤◌};
+ghost use Rattle.std.specs.Prelude.{◌≡◌, ◌≤◌, ◌++◌, []};
 ghost use Rattle.pv_base.specs.Fault.{risen};
-ghost use Rattle.pv_disk.specs.Folder.{file_disk};
+ghost use Rattle.pv_disk.specs.Folder.{FileState, file_disk};
 
 use crate::{Disk, DiskError};
-use pv_base::{Failed, MAX_LENGTH};
+use pv_base::{Failed, History, MAX_LENGTH};
 use std::fs::File;
 use std::marker::Model;
 use std::os::unix::fs::FileExt;
@@ -17,35 +17,41 @@ pub struct FileDisk {
     file: File,
     /// How many calls have failed, up to u64's greatest value.
     faults: u64,
+    /// What the reads have given.
+    given: History<u8>,
 }
 
 impl Model for FileDisk {
-    ghost use Rattle.std.specs.Prelude.{ℕ};
+    ghost use Rattle.pv_disk.specs.Folder.{FileState};
 
-    ghost Value = { ℕ };
+    ghost Value = { FileState };
 
-    ghost view = { λ s. s.faults };
+    ghost view = { λ s. record { faults = s.faults; given = s.given.items } };
 }
 
 impl FileDisk {
     /// A disk on this file, which is open for reading and writing. No call has failed.
     pub fn new(file: File) -> Self
-        ensures { result ≡ 0 }
+        ensures { result ≡ record { faults = 0; given = [] } }
     {
-        FileDisk { file, faults: 0 }
+        FileDisk {
+            file,
+            faults: 0,
+            given: History::new(),
+        }
     }
 
     /// How many calls have failed.
     pub fn faults(&self) -> u64
-        ensures { result ≡ self.now }
+        ensures { result ≡ self.now.faults }
     {
         self.faults
     }
 
     // A call has failed.
     fn fault(&mut self) -> Failed
-        ensures counted { self.new ≡ risen self.old }
-        ensures rises { self.old ≤ self.new }
+        ensures counted { self.new ≡ record self.old { faults = risen self.old.faults } }
+        ensures rises { self.old.faults ≤ self.new.faults }
     {
         self.faults = self.faults.saturating_add(1);
         Failed
@@ -62,9 +68,13 @@ impl Disk for FileDisk {
         }
     }
 
+    #[tactic(auto, using(crate::proofs::FileLemmas::read_done))]
     fn read_at(&mut self, place: u64, into: &mut [u8]) -> Result<(), Failed> {
         match self.file.read_exact_at(into, place) {
-            Ok(()) => Ok(()),
+            Ok(()) => {
+                note_bytes(&mut self.given, into);
+                Ok(())
+            }
             Err(_) => Err(self.fault()),
         }
     }
@@ -85,5 +95,14 @@ impl Disk for FileDisk {
             Ok(()) => Ok(()),
             Err(_) => Err(self.fault()),
         }
+    }
+}
+
+// Adds bytes to what the reads have given, for the proof.
+fn note_bytes(given: &mut History<u8>, bytes: &[u8])
+    ensures { given.new.items ≡ given.old.items ++ bytes.now }
+{
+    for byte in bytes {
+        *given = given.and(byte);
     }
 }

@@ -4,4 +4,5 @@ pub mod Journal
 pub mod Lending
 pub mod JournalModel
 pub mod Opening
+pub mod Outline
 pub mod Reading

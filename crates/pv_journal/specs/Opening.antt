@@ -1,5 +1,5 @@
 -- What opening, looking at and making a journal do.
-use Rattle.std.specs.Prelude.{◌≡◌, ◌⊎◌, ℕ, ◌≤◌, Bool, true, false, List, [], ◌∷◌, ◌++◌, Option, Some, None, is_some, map, Result, Ok, Err, Vec}
+use Rattle.std.specs.Prelude.{◌≡◌, ◌⊎◌, ℕ, ◌≤◌, ◌+◌, Bool, true, false, List, [], ◌∷◌, ◌++◌, Option, Some, None, is_some, map, Result, Ok, Err, Vec, ⊤}
 use Rattle.std.specs.declared.alloc.Global.{Global}
 use Rattle.pv_base.specs.Fault.{Rose}
 use Rattle.pv_law_disk.specs.Calls.{DiskCall, OnlyReads, Makes, make_room, write, sync}
@@ -10,7 +10,10 @@ use Rattle.pv_disk.specs.declared.disk_error.LookError.{LookError}
 use Rattle.pv_disk.specs.declared.disk_error.LookError.TheVariants.{Failed as LookFailed, NotOurs as LookNotOurs, NoMemory as LookNoMemory}
 use Rattle.pv_disk.specs.declared.disk_error.DiskError.{DiskError}
 use Rattle.pv_disk.specs.declared.disk_error.DiskError.TheVariants.{Failed as DiskFailed, NoMemory as DiskNoMemory}
-use Rattle.pv_law_journal.specs.Format.{header, IsNotOurs}
+use Rattle.pv_base.specs.Answer.{Answers}
+use Rattle.pv_law_journal.specs.Format.{header, IsJournal, IsNotOurs}
+use Rattle.pv_journal.specs.Outline.{OutlinesJournal, OutlinesNone}
+use Rattle.pv_journal.specs.Reading.{Gave}
 use Rattle.pv_journal.specs.Journal.{IsIntact}
 use Rattle.pv_journal.specs.declared.journal.Journal.{Journal}
 use Rattle.pv_journal.specs.declared.open_log.OpenLog.{OpenLog}
@@ -41,16 +44,24 @@ module _ {D : Type 0} (M : DiskModel D) where
     pub any_moment : LeavesOnly M old new (M.may_leave old)
     pub faults : M.faults old ≤ M.faults new
 
+  -- Where a reading gives contents or tells that there are none, it answers exactly of what its own reads gave, one after another: they are a journal with these contents,
+  -- or it shows at that place that they are none.
+  abbrev pub AnswersOfReads : D → D → Result (Vec (Vec ℕ Global) Global) LookError → Type 0
+  AnswersOfReads old new (Ok all) = Gave M old new (λ read. Answers (λ contents. IsJournal contents read) (IsNotOurs read) contents_in place_in (Ok all))
+  AnswersOfReads old new (Err (LookNotOurs place)) = Gave M old new (λ read. Answers (λ contents. IsJournal contents read) (IsNotOurs read) contents_in place_in (Err (LookNotOurs place)))
+  AnswersOfReads old new (Err _) = ⊤
+
   -- An opening, by its answer. A sync comes first, and where it succeeds calls that only read. The journal has the contents of the disk's bytes, or they are none, and it shows at that place.
-  -- The count of faults rose where the disk failed, and else it stays.
+  -- The count of faults rose where the disk failed, and else it stays. What the reads gave is a journal but for its contents, or it shows at that place that it is none.
   abbrev pub Opens : D → ℕ → Result (Journal D) (OpenLog D) → Type 0
   Opens old limit (Ok journal) =
       Opened old journal.disk × SyncsAndReads old journal.disk × (M.content journal.disk ≡ M.content old) × IsIntact M journal × (journal.down ≡ false)
       × (journal.limit ≡ limit) × (M.faults journal.disk ≡ M.faults old)
+      × ((end : ℕ) × (journal.length ≡ end + 1) × Gave M old journal.disk (λ read. OutlinesJournal read end))
   Opens old limit (Err (Failed disk)) = Opened old disk × (M.goes old sync false disk ⊎ SyncsAndReads old disk) × Rose (M.faults old) (M.faults disk)
   Opens old limit (Err (NotOurs disk place)) =
       Opened old disk × SyncsAndReads old disk × (M.content disk ≡ M.content old) × ((bytes : List ℕ) → M.content old ≡ Some bytes → IsNotOurs bytes place)
-      × (M.faults disk ≡ M.faults old)
+      × (M.faults disk ≡ M.faults old) × Gave M old disk (λ read. OutlinesNone read place)
   Opens old limit (Err (NoMemory disk)) = Opened old disk × SyncsAndReads old disk × (M.content disk ≡ M.content old) × (M.faults disk ≡ M.faults old)
 
   -- What making an empty journal asks of the disk.

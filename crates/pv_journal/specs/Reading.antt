@@ -1,14 +1,15 @@
 -- How a journal is read from a disk.
-use Rattle.std.specs.Prelude.{◌≡◌, ◌≢◌, ℕ, ◌+◌, ◌^◌, ◌<◌, ◌≤◌, List, ◌∷◌, ◌++◌, Option, Some, None, is_some, length, Result, Ok, Err, Vec}
+use Rattle.std.specs.Prelude.{◌≡◌, ◌≢◌, ℕ, ◌+◌, ◌^◌, ◌<◌, ◌≤◌, List, [], ◌∷◌, ◌++◌, Option, Some, None, is_some, length, Result, Ok, Err, Vec}
 use Rattle.std.specs.declared.alloc.Global.{Global}
 use Rattle.pv_base.specs.Fault.{Rose}
 use Rattle.pv_law_disk.specs.Calls.{OnlyReads}
 use Rattle.pv_law_disk.specs.DiskModel.{DiskModel}
-use Rattle.pv_law_disk.specs.Disk.{LeavesOnly}
+use Rattle.pv_law_disk.specs.Disk.{Gives, LeavesOnly}
 use Rattle.pv_law_disk.specs.Size.{Contents}
 use Rattle.pv_disk.specs.declared.disk_error.LookError.{LookError}
 use Rattle.pv_disk.specs.declared.disk_error.LookError.TheVariants.{Failed, NotOurs, NoMemory}
-use Rattle.pv_law_journal.specs.Format.{header, framed, records_of, AreShort, IsCut}
+use Rattle.pv_base.specs.BigEndian.{big_endian}
+use Rattle.pv_law_journal.specs.Format.{header, framed, record_of, records_of, AreShort, IsCut}
 use Rattle.pv_journal.specs.declared.reading.Gate.{Gate}
 use Rattle.pv_journal.specs.declared.reading.Gate.TheVariants.{Closed, Open}
 
@@ -33,6 +34,10 @@ module _ {D : Type 0} (M : DiskModel D) where
   LooksBy old new (Err Failed) = Looks old new × Rose (M.faults old) (M.faults new)
   LooksBy old new (Err (NotOurs _)) = LooksOn old new
   LooksBy old new (Err NoMemory) = LooksOn old new
+
+  -- What the reads gave since then, one after another, is such a list of bytes.
+  abbrev pub Gave : D → D → (List ℕ → Type 0) → Type 0
+  Gave old new P = (read : List ℕ) × Gives M old new read × P read
 
 -- Up to this place the bytes are the header and records of these contents, and there are more.
 pub record ReadsTo (contents : Contents) (bytes : List ℕ) (place : ℕ) : Type 0 where
@@ -61,3 +66,23 @@ EndsBefore (Open count) left = (count + 5 < left) × (count < 2 ^ 32)
 abbrev pub HoldsRecord : List ℕ → Option (Vec ℕ Global) → Type 0
 HoldsRecord rest None = StandsAt rest Closed
 HoldsRecord rest (Some content) = (gate : ℕ) × (more : List ℕ) × (rest ≡ 1 ∷ (framed content.items ++ gate ∷ more))
+
+-- The header and the records of these contents were read, up to this place.
+pub record HasRead (contents : Contents) (read : List ℕ) (place : ℕ) : Type 0 where
+  pub short : AreShort contents
+  pub is : read ≡ header ++ records_of contents
+  pub place_is : place ≡ 8 + length (records_of contents)
+
+-- What is read at a gate: a closed one, or an open one with a length after it.
+abbrev pub IsGate : List ℕ → Gate → Type 0
+IsGate read Closed = (gate : ℕ) × (gate ≢ 1) × (read ≡ gate ∷ [])
+IsGate read (Open count) = read ≡ 1 ∷ big_endian 4 count
+
+-- What is read at an open gate after which no whole record comes: it, and after it no length, or one.
+abbrev pub IsOpenEnd : List ℕ → Type 0
+IsOpenEnd read = (rest : List ℕ) × (length rest ≤ 4) × (read ≡ 1 ∷ rest)
+
+-- What is read of a record: a closed gate, or all of the record with this content.
+abbrev pub IsRecord : List ℕ → Option (Vec ℕ Global) → Type 0
+IsRecord read None = IsGate read Closed
+IsRecord read (Some content) = read ≡ record_of content.items

@@ -4,7 +4,7 @@ ghost use Rattle.pv_base.specs.Answer.{Answers};
 ghost use Rattle.pv_law_disk.specs.Size.{Contents};
 ghost use Rattle.pv_law_journal.specs.Format.{IsJournal, IsNotOurs};
 ghost use Rattle.pv_journal.specs.Reading.{LooksBy};
-ghost use Rattle.pv_journal.specs.Opening.{contents_in, place_in, Opens, Formats};
+ghost use Rattle.pv_journal.specs.Opening.{contents_in, place_in, AnswersOfReads, Opens, Formats};
 
 use crate::OpenLog;
 use crate::reading::{EMPTY_JOURNAL, find_end, read_contents};
@@ -101,6 +101,7 @@ pub fn format<D: Disk>(disk: &mut D) -> Result<(), DiskError>
 pub fn look<D: Disk>(alloc: Global, disk: &mut D) -> Result<Vec<Vec<u8>>, LookError>
     ensures answer { (bytes : List ℕ) → D.model.content disk.old ≡ Some bytes
         → Answers (λ contents. IsJournal contents bytes) (IsNotOurs bytes) contents_in place_in result }
+    ensures reads { AnswersOfReads D.model disk.old disk.new result }
     ensures effect { LooksBy D.model disk.old disk.new result }
 {
     read_contents(alloc, disk)

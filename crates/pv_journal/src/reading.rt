@@ -4,7 +4,9 @@ ghost use Rattle.pv_base.specs.declared.limits.TheConstants.{MAX_LENGTH};
 ghost use Rattle.pv_base.specs.BigEndian.{big_endian};
 ghost use Rattle.pv_law_disk.specs.Size.{Contents};
 ghost use Rattle.pv_law_journal.specs.Format.{header, IsJournal, IsNotOurs, HasNoHeader, end_of};
-ghost use Rattle.pv_journal.specs.Reading.{LooksBy, ReadsTo, StandsAt, StandsCut, EndsBefore, HoldsRecord};
+ghost use Rattle.pv_law_disk.specs.Disk.{Gives};
+ghost use Rattle.pv_journal.specs.Outline.{OutlinesJournal, OutlinesNone};
+ghost use Rattle.pv_journal.specs.Reading.{Gave, IsGate, IsOpenEnd, IsRecord, LooksBy, ReadsTo, StandsAt, StandsCut, EndsBefore, HoldsRecord};
 
 use pv_base::buffer;
 use pv_bytes::Take;
@@ -29,6 +31,7 @@ fn size_of_disk<D: Disk>(disk: &mut D) -> Result<u64, LookError>
     ensures effect { LooksBy D.model disk.old disk.new result }
     ensures size { IfOk result (λ size. (bytes : List ℕ) → D.model.content disk.old ≡ Some bytes → size ≡ length bytes) }
     ensures bounded { IfOk result (λ size. size ≤ MAX_LENGTH) }
+    ensures gave { OnOk result (Gives D.model disk.old disk.new []) }
     ensures not_ours { (at : ℕ) → IsErrOf result (LookError.NotOurs at) → ⊥ }
 {
     match disk.len() {
@@ -43,6 +46,7 @@ fn read_from<D: Disk>(disk: &mut D, place: u64, into: &mut [u8]) -> Result<(), L
     requires { (bytes : List ℕ) → D.model.content disk.old ≡ Some bytes → place + length into.old ≤ length bytes }
     ensures effect { LooksBy D.model disk.old disk.new result }
     ensures bytes { OnOk result ((bytes : List ℕ) → D.model.content disk.old ≡ Some bytes → into.new ≡ take (length into.old) (drop place bytes)) }
+    ensures gave { OnOk result (Gives D.model disk.old disk.new into.new) }
     ensures not_ours { (at : ℕ) → IsErrOf result (LookError.NotOurs at) → ⊥ }
 {
     match disk.read_at(place, into) {
@@ -63,6 +67,8 @@ pub(crate) fn find_end<D: Disk>(alloc: Global, disk: &mut D) -> Result<u64, Look
         → (contents : Contents) × IsJournal contents bytes × (end ≡ end_of contents)) }
     ensures not_ours { (place : ℕ) → IsErrOf result (LookError.NotOurs place)
         → (bytes : List ℕ) → D.model.content disk.old ≡ Some bytes → IsNotOurs bytes place }
+    ensures gave { IfOk result (λ end. Gave D.model disk.old disk.new (λ read. OutlinesJournal read end)) }
+    ensures gave_none { (place : ℕ) → IsErrOf result (LookError.NotOurs place) → Gave D.model disk.old disk.new (λ read. OutlinesNone read place) }
     ensures starts { IfOk result (λ end. 8 ≤ end) }
     ensures bounded { IfOk result (λ end. end + 1 ≤ MAX_LENGTH) }
 {
@@ -89,6 +95,8 @@ pub(crate) fn read_contents<D: Disk>(alloc: Global, disk: &mut D) -> Result<Vec<
         → IsJournal (map (λ it. it.items) all.items) bytes) }
     ensures not_ours { (place : ℕ) → IsErrOf result (LookError.NotOurs place)
         → (bytes : List ℕ) → D.model.content disk.old ≡ Some bytes → IsNotOurs bytes place }
+    ensures gave { IfOk result (λ all. Gave D.model disk.old disk.new (IsJournal (map (λ it. it.items) all.items))) }
+    ensures gave_none { (place : ℕ) → IsErrOf result (LookError.NotOurs place) → Gave D.model disk.old disk.new (λ read. IsNotOurs read place) }
 {
     let size = size_of_disk(disk)?;
     read_header(alloc, disk, size)?;
@@ -121,6 +129,8 @@ fn read_record<D: Disk>(
     ensures ends { IfOk result (λ found. IfSome found (λ content. (vec_len content + 5 < size - place) × (vec_len content < 2 ^ 32))) }
     ensures not_ours { (at : ℕ) → IsErrOf result (LookError.NotOurs at)
         → (bytes : List ℕ) → D.model.content disk.old ≡ Some bytes → (at ≡ place) × StandsCut (drop place bytes) }
+    ensures gave { IfOk result (λ found. Gave D.model disk.old disk.new (λ read. IsRecord read found)) }
+    ensures gave_none { (at : ℕ) → IsErrOf result (LookError.NotOurs at) → (at ≡ place) × Gave D.model disk.old disk.new IsOpenEnd }
 {
     match gate_at(disk, size, place)? {
         Gate::Closed => Ok(None),
@@ -135,6 +145,8 @@ fn read_header<D: Disk>(alloc: Global, disk: &mut D, size: u64) -> Result<(), Lo
     ensures effect { LooksBy D.model disk.old disk.new result }
     ensures passed { OnOk result ((bytes : List ℕ) → D.model.content disk.old ≡ Some bytes → ReadsTo [] bytes 8) }
     ensures long { OnOk result (8 < size) }
+    ensures gave { OnOk result (Gives D.model disk.old disk.new header) }
+    ensures gave_none { (place : ℕ) → IsErrOf result (LookError.NotOurs place) → Gave D.model disk.old disk.new (λ read. HasNoHeader read place) }
     ensures not_ours { (place : ℕ) → IsErrOf result (LookError.NotOurs place)
         → (bytes : List ℕ) → D.model.content disk.old ≡ Some bytes → HasNoHeader bytes place }
 {
@@ -162,6 +174,8 @@ fn gate_at<D: Disk>(disk: &mut D, size: u64, place: u64) -> Result<Gate, LookErr
     ensures ends { IfOk result (λ gate. EndsBefore gate (size - place)) }
     ensures not_ours { (at : ℕ) → IsErrOf result (LookError.NotOurs at)
         → (bytes : List ℕ) → D.model.content disk.old ≡ Some bytes → (at ≡ place) × StandsCut (drop place bytes) }
+    ensures gave { IfOk result (λ gate. Gave D.model disk.old disk.new (λ read. IsGate read gate)) }
+    ensures gave_none { (at : ℕ) → IsErrOf result (LookError.NotOurs at) → (at ≡ place) × Gave D.model disk.old disk.new IsOpenEnd }
 {
     let mut gate = [0];
     read_from(disk, place, &mut gate)?;
@@ -193,6 +207,7 @@ fn read_content<D: Disk>(
     ensures effect { LooksBy D.model disk.old disk.new result }
     ensures bytes { IfOk result (λ content. (bytes : List ℕ) → D.model.content disk.old ≡ Some bytes → content.items ≡ take count (drop place bytes)) }
     ensures count { IfOk result (λ content. vec_len content ≡ count) }
+    ensures gave { IfOk result (λ content. Gives D.model disk.old disk.new content.items) }
     ensures not_ours { (at : ℕ) → IsErrOf result (LookError.NotOurs at) → ⊥ }
 {
     let mut content = buffer(alloc, count)?;

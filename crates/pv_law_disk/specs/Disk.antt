@@ -1,5 +1,6 @@
 -- What the calls of a disk do, and what a crash at any moment of them leaves.
-use Rattle.std.specs.Prelude.{◌≡◌, ◌⊎◌, ℕ, ◌+◌, ◌≤◌, max, List, ◌++◌, Some, is_some, length, take, drop, Result, OnOk}
+use Rattle.std.specs.Prelude.{◌≡◌, ◌⊎◌, ℕ, ◌+◌, ◌≤◌, max, List, ◌++◌, Some, is_some, length, take, drop, Result, Ok, Err, OnOk}
+use Rattle.std.specs.Io.KnownBytes.{Appends, Keeps}
 use Rattle.pv_base.specs.Fault.{FaultCounted}
 use Rattle.pv_base.specs.declared.failure.Failed.{Failed as Fault}
 use Rattle.pv_law_disk.specs.DiskModel.{DiskModel}
@@ -31,6 +32,19 @@ module _ {W : Type 0} (M : DiskModel W) where
   -- What a crash may leave of a write: a content that it might have left before, torn in the range.
   abbrev pub LeftTorn : W → ℕ → ℕ → List ℕ → Type 0
   LeftTorn old place count left = (from : List ℕ) × M.may_leave old from × Torn place count from left
+
+  -- These bytes are added to what the reads have given.
+  abbrev pub Gives : W → W → List ℕ → Type 0
+  Gives old new bytes = Appends (M.given old) (M.given new) bytes
+
+  -- Nothing is added to what the reads have given.
+  abbrev pub GivesNothing : W → W → Type 0
+  GivesNothing old new = Keeps (M.given old) (M.given new)
+
+  -- A read that succeeds adds its bytes to what the reads have given, and one that fails nothing.
+  abbrev pub GivesBy : {X : Type 0} → W → W → List ℕ → Result X Fault → Type 0
+  GivesBy old new bytes (Ok _) = Gives old new bytes
+  GivesBy old new bytes (Err _) = GivesNothing old new
 
   -- A call that reads: the content stays. After a fault it is one of those that a crash might have left. The count of faults stays unless the call fails.
   pub record Observes {X : Type 0} (old new : W) (result : Result X Fault) : Type 0 where

@@ -1,4 +1,5 @@
-use Rattle.std.proofs.Common.{arith, ◌≡◌, ◌-◌, length, take, drop, ◌∙◌, ap, length-take, length-drop}
+use Rattle.std.proofs.Common.{rules, arith, ◌≡◌, ℕ, ◌-◌, List, [], ◌∷◌, ◌++◌, length, take, drop, sym, ◌∙◌, ap, length-take, length-drop}
+use Rattle.pv_journal.proofs.GivenLemmas.{gate_closed, gate_open, gives_more}
 use Rattle.pv_journal.proofs.ReadLemmas.{stands_closed, opened, after_gate, cut_early, cut_late, stands_open}
 use Rattle.pv_journal.proofs.reading.gate_at.Goals as goal
 
@@ -40,3 +41,41 @@ returns-clause-stands g c bytes is =
     let more = opened rest c.read_from.new.into read one c.if-gate-ne1.false in
     let number = c.in_ok-read_from-2.ensures.bytes bytes (c.in_ok-read_from.ensures.effect.1 ∙ is) ∙ ap (take 4) (after_gate bytes more.0 c.args.place 1 more.1) in
     stands_open rest more.0 c.read_from-2.new.into c.number_in-count.result more.1 number c.number_in-count.ensures (omega (arith, left))
+
+pub returns-then-gate-ne1-clause-gave : goal.returns-then-gate-ne1-clause-gave
+returns-then-gate-ne1-clause-gave g c =
+    let read = c.read_from.new.into in
+    let one : length read ≡ 1 = search rules in
+    (read, c.in_ok-read_from.ensures.gave, gate_closed read one c.if-gate-ne1.true)
+
+pub returns-then-left-lt5-clause-gave_none : goal.returns-then-left-lt5-clause-gave_none
+returns-then-left-lt5-clause-gave_none g c at known =
+    let read = c.read_from.new.into in
+    let one : length read ≡ 1 = search rules in
+    let same : at ≡ c.args.place = cc in
+    (same, (read, c.in_ok-read_from.ensures.gave, ([], omega arith, gate_open read one c.if-gate-ne1.false)))
+
+pub returns-then-from-left-clause-gave_none : goal.returns-then-from-left-clause-gave_none
+returns-then-from-left-clause-gave_none g c at known =
+    let read = c.read_from.new.into in
+    let number = c.read_from-2.new.into in
+    let one : length read ≡ 1 = search rules in
+    let four : length number ≡ 4 = search rules in
+    let same : at ≡ c.args.place = cc in (
+      same,
+      (
+        read ++ number,
+        gives_more g.D.Disk.model c.args.disk.now c.read_from.new.disk c.read_from-2.new.disk read number c.in_ok-read_from.ensures.gave c.in_ok-read_from-2.ensures.gave,
+        (number, omega (arith, four), ap (λ (l : List ℕ). l ++ number) (gate_open read one c.if-gate-ne1.false)),
+      ),
+    )
+
+pub returns-clause-gave : goal.returns-clause-gave
+returns-clause-gave g c =
+    let read = c.read_from.new.into in
+    let number = c.read_from-2.new.into in
+    let one : length read ≡ 1 = search rules in (
+      read ++ number,
+      gives_more g.D.Disk.model c.args.disk.now c.read_from.new.disk c.read_from-2.new.disk read number c.in_ok-read_from.ensures.gave c.in_ok-read_from-2.ensures.gave,
+      ap (λ (l : List ℕ). l ++ number) (gate_open read one c.if-gate-ne1.false) ∙ ap (λ (l : List ℕ). 1 ∷ l) (sym c.number_in-count.ensures),
+    )

@@ -1,5 +1,7 @@
-use Rattle.std.proofs.Common.{rules, ◌≡◌, ◌≤◌, ◌≢◌, ◌<◌, min, take, length, slice_index, sym, subst}
+use Rattle.std.proofs.Common.{rules, ◌≡◌, ◌≤◌, ◌≢◌, ◌<◌, min, take, length, slice_index, refl, sym, subst}
+use Rattle.pv_law_disk.specs.Disk.{Gives}
 use Rattle.pv_law_journal.specs.Format.{header, HasNoHeader}
+use Rattle.pv_journal.proofs.GivenLemmas.{header_read, whole_front}
 use Rattle.pv_journal.proofs.ReadLemmas.{no_header, no_gate, begins}
 use Rattle.pv_journal.proofs.reading.read_header.Goals as goal
 
@@ -34,3 +36,38 @@ returns-clause-passed g c bytes is =
     let at : c.agreement-place.result ≡ 8 = search rules in
     let same : take 8 front ≡ take 8 header = search rules in
     begins bytes front c.args.size size (search rules) read same
+
+pub returns-then-place-lt8-clause-gave_none : goal.returns-then-place-lt8-clause-gave_none
+returns-then-place-lt8-clause-gave_none g c place known =
+    let front = c.in_ok-front.front.items in
+    let at = c.agreement-place.result in
+    let few : length front ≤ 8 = search rules in
+    let reached : at ≤ length front = search rules in
+    let same : take at front ≡ take at header = search rules in
+    let differ : at < length front → slice_index front at ≢ slice_index header at = λ inside. search rules in
+    let here : place ≡ at = cc in (
+      front,
+      c.in_ok-front.ensures.gave,
+      subst (HasNoHeader front) (sym here) (no_header front front (length front) at refl (whole_front front few) reached c.if-place-lt8.true same differ),
+    )
+
+pub returns-then-size-le8-clause-gave_none : goal.returns-then-size-le8-clause-gave_none
+returns-then-size-le8-clause-gave_none g c place known =
+    let front = c.in_ok-front.front.items in
+    let few : length front ≤ 8 = search rules in
+    let at : c.agreement-place.result ≡ 8 = search rules in
+    let reached : 8 ≤ length front = search rules in
+    let same : take 8 front ≡ take 8 header = search rules in
+    let here : place ≡ 8 = cc in (
+      front,
+      c.in_ok-front.ensures.gave,
+      subst (HasNoHeader front) (sym here) (no_gate front front (length front) refl few reached (whole_front front few) same),
+    )
+
+pub returns-clause-gave : goal.returns-clause-gave
+returns-clause-gave g c =
+    let front = c.in_ok-front.front.items in
+    let few : length front ≤ 8 = search rules in
+    let at : c.agreement-place.result ≡ 8 = search rules in
+    let same : take 8 front ≡ take 8 header = search rules in
+    subst (Gives g.D.Disk.model c.args.disk.now c.read_content.new.disk) (header_read front few same) c.in_ok-front.ensures.gave
