@@ -2,8 +2,8 @@
 use Rattle.std.proofs.Common.{◌≡◌, ◌≤◌, ◌+◌, ℕ, List, [], ◌++◌, None, Some, sym, ap, ◌∙◌, arith, length, take, append-nil, length-append}
 use Rattle.std.specs.declared.option.Option.{Option}
 use Rattle.pv_io.specs.Stream.{TakesAtMost}
-use Rattle.std.specs.Io.KnownBytes.{Consumes, IsAtEnd}
-use Rattle.std.proofs.KnownBytes.{Consumes-nil, Consumes-trans}
+use Rattle.std.specs.Io.KnownBytes.{Appends, Consumes, IsAtEnd}
+use Rattle.std.proofs.KnownBytes.{Appends-nil, Appends-trans, Consumes-nil, Consumes-trans}
 
 -- Before the first read.
 pub Consumes-none : (a : Option (List ℕ)) (bs : List ℕ) → bs ≡ [] → Consumes a a bs
@@ -43,3 +43,13 @@ pub taken_twice : (a b c : Option (List ℕ)) (bs cs : List ℕ) {n : ℕ}
     → Consumes a b bs → Consumes b c cs → length bs + length cs ≤ n → TakesAtMost a c n
 taken_twice a b c bs cs first second few =
     (bs ++ cs, Consumes-trans a b c bs cs first second, omega (arith, length-append bs cs, few))
+
+-- The same of what the reads have given.
+pub Appends-none : (a : Option (List ℕ)) (bs : List ℕ) → bs ≡ [] → Appends a a bs
+Appends-none a bs none = rw none (Appends-nil a)
+
+pub Appends-grown : (a b c : Option (List ℕ)) (bs cs new : List ℕ) → Appends a b bs → Appends b c cs → new ≡ bs ++ cs → Appends a c new
+Appends-grown a b c bs cs new first second grown = rw grown (Appends-trans a b c bs cs first second)
+
+pub Appends-end : (a b c : Option (List ℕ)) (bs cs : List ℕ) (n : ℕ) → Appends a b bs → Appends b c (take n cs) → n ≡ 0 → Appends a c bs
+Appends-end a b c bs cs n first second none = Appends-grown a b c bs (take n cs) bs first second (sym (append-nil bs) ∙ ap (λ k. bs ++ take k cs) (sym none))

@@ -1,6 +1,7 @@
 -- What is read of a source.
 use Rattle.std.specs.Prelude.{◌≡◌, ℕ, ◌+◌, ◌<◌, ◌≤◌, List, [], Some, Result, vec_len, length, IfOk, IsErrOf}
 use Rattle.std.specs.Global.{Vec}
+use Rattle.std.specs.Io.KnownBytes.{Appends}
 use Rattle.pv_base.specs.Fault.{Rose}
 use Rattle.pv_io.specs.Stream.{TakesAtMost, KnownAlike}
 use Rattle.pv_io.specs.declared.read_end.ReadEnd.{ReadEnd}
@@ -15,8 +16,11 @@ module _ {R : Type 0} (source : Ghosts R) where
   -- unless the answer is `Failed`.
   pub record ReadsAll (limit : ℕ) (old new : R) (result : Result (Vec ℕ) ReadEnd) : Type 0 where
     pub whole : IfOk result (λ bytes. (text : List ℕ) → source.left old ≡ Some text → (bytes.items ≡ text) × (source.left new ≡ Some []))
+    -- what is answered is all that the reads of this call gave
+    pub given : IfOk result (λ bytes. Appends (source.given old) (source.given new) bytes.items)
     pub within : IfOk result (λ bytes. vec_len bytes ≤ limit)
     pub too_long : IsErrOf result TooLong → (text : List ℕ) → source.left old ≡ Some text → limit < length text
+    pub too_much : IsErrOf result TooLong → (read : List ℕ) × Appends (source.given old) (source.given new) read × (limit < length read)
     pub fault : IsErrOf result Failed → Rose (source.faults old) (source.faults new)
     pub failed_within : IsErrOf result Failed → TakesAtMost (source.left old) (source.left new) limit
     pub taken : TakesAtMost (source.left old) (source.left new) (limit + PIECE)

@@ -1,5 +1,5 @@
 // A source and a sink in memory, which fail at the calls that they are made to fail at.
-ghost use Rattle.std.specs.Prelude.{◌≡◌, ◌↔◌, ◌<◌, ◌≤◌, [], ◌++◌, Some, length, take, drop, min, Contains, IsErr, IfOk, OnOk, OnErr};
+ghost use Rattle.std.specs.Prelude.{◌≡◌, ◌↔◌, ◌<◌, ◌≤◌, [], ◌++◌, Some, None, is_some, true, false, length, take, drop, min, Contains, IsErr, IfOk, OnOk, OnErr};
 ghost use Rattle.std.specs.Io.KnownBytes.{ReadConsumes, WriteAppends};
 ghost use Rattle.pv_base.specs.Fault.{FaultCounted};
 ghost use Rattle.pv_io.specs.Stream.{KnownAlike};
@@ -70,12 +70,16 @@ impl MemSource {
 impl Source for MemSource {
     ghost left = { λ s. Some s.left };
 
+    ghost given = { λ _. None };
+
     ghost faults = { λ s. s.faults };
 
     fn read(&mut self, into: &mut [u8]) -> Result<usize, Failed>
         ensures bound { IfOk result (λ n. n ≤ length into.new) }
         ensures bytes { ReadConsumes (Some self.old.left) (Some self.new.left) result into.new }
         ensures known { KnownAlike (Some self.old.left) (Some self.new.left) }
+        ensures given { WriteAppends None None result into.new }
+        ensures kept { is_some (Some self.old.left) ≡ false → is_some (⟦<MemSource as Source>⟧.given self.new) ≡ true }
         ensures fault { FaultCounted self.old.faults self.new.faults result }
         ensures uncounted { OnOk result (self.new.faults ≡ self.old.faults) }
 

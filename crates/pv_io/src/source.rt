@@ -1,6 +1,6 @@
 // Where input comes from.
-ghost use Rattle.std.specs.Prelude.{◌≡◌, ℕ, ◌+◌, ◌<◌, ◌≤◌, List, [], Option, Some, Result, length, vec_len, IfOk, OnOk, IsErrOf};
-ghost use Rattle.std.specs.Io.KnownBytes.{ReadConsumes};
+ghost use Rattle.std.specs.Prelude.{◌≡◌, ℕ, ◌+◌, ◌<◌, ◌≤◌, List, [], Option, Some, Result, is_some, true, false, length, vec_len, IfOk, OnOk, IsErrOf};
+ghost use Rattle.std.specs.Io.KnownBytes.{ReadConsumes, WriteAppends};
 ghost use Rattle.pv_base.specs.Fault.{FaultCounted, Rose};
 ghost use Rattle.pv_io.specs.Stream.{KnownAlike};
 
@@ -11,6 +11,9 @@ pub trait Source {
     /// The bytes that are left to read, where they are known.
     ghost left: { Self → Option (List ℕ) };
 
+    /// What the reads have given so far, one after another, where that is kept: it is where the bytes that are left aren't known.
+    ghost given: { Self → Option (List ℕ) };
+
     /// How many calls have failed. It never falls, and no call that succeeds changes it; at u64's greatest value it stays.
     ghost faults: { Self → ℕ };
 
@@ -20,6 +23,8 @@ pub trait Source {
         ensures bound { IfOk result (λ n. n ≤ length into.new) }
         ensures bytes { ReadConsumes (left self.old) (left self.new) result into.new }
         ensures known { KnownAlike (left self.old) (left self.new) }
+        ensures given { WriteAppends (given self.old) (given self.new) result into.new }
+        ensures kept { is_some (left self.old) ≡ false → is_some (given self.new) ≡ true }
         ensures fault { FaultCounted (faults self.old) (faults self.new) result }
         ensures uncounted { OnOk result (faults self.new ≡ faults self.old) };
 }

@@ -1,12 +1,12 @@
 // A source over a reader of std, and a sink over a writer of std.
-ghost use Rattle.std.specs.Prelude.{◌≡◌, ◌<◌, ◌≤◌, Some, length, IsSome, IfSome, IfOk, OnOk};
+ghost use Rattle.std.specs.Prelude.{◌≡◌, ◌<◌, ◌≤◌, ◌++◌, [], Some, true, false, is_some, length, IsSome, IfSome, IfOk, OnOk};
 ghost use Rattle.std.specs.Option.{ForSome};
 ghost use Rattle.std.specs.Io.KnownBytes.{ReadConsumes, WriteAppends};
 ghost use Rattle.pv_base.specs.Fault.{FaultCounted};
 ghost use Rattle.pv_io.specs.Stream.{KnownAlike, CountsFaults, known_since};
 
 use crate::{Sink, Source};
-use pv_base::Failed;
+use pv_base::{Failed, History};
 use std::io::{Read, Write};
 use std::snapshot::Snapshot;
 
@@ -18,6 +18,8 @@ pub struct StdSource<R: Read> {
     inner: R,
     /// The reader as it was passed to `new`, for the proof.
     first: Snapshot<R>,
+    /// What the reads have given, for the proof.
+    given: History<u8>,
     /// How many calls have failed, up to u64's greatest value.
     faults: u64,
     ghost known: { ForSome (R.remaining first.value) (λ _. IsSome (R.remaining inner)) },
@@ -27,12 +29,14 @@ impl<R: Read> StdSource<R> {
     /// A source of what the reader has left.
     pub fn new(inner: R) -> Self
         ensures left { ⟦<StdSource<R> as Source>⟧.left result ≡ R.remaining inner }
+        ensures given { ⟦<StdSource<R> as Source>⟧.given result ≡ Some [] }
         ensures faults { ⟦<StdSource<R> as Source>⟧.faults result ≡ 0 }
     {
         let first = Snapshot::of(&inner);
         StdSource {
             inner,
             first,
+            given: History::new(),
             faults: 0,
         }
     }
@@ -48,6 +52,8 @@ impl<R: Read> StdSource<R> {
 impl<R: Read> Source for StdSource<R> {
     ghost left = { λ s. known_since (R.remaining s.first.value) (R.remaining s.inner) };
 
+    ghost given = { λ s. Some s.given.items };
+
     ghost faults = { λ s. s.faults };
 
     fn read(&mut self, into: &mut [u8]) -> Result<usize, Failed>
@@ -56,6 +62,10 @@ impl<R: Read> Source for StdSource<R> {
             (⟦<StdSource<R> as Source>⟧.left self.new) result into.new }
         ensures known { KnownAlike (⟦<StdSource<R> as Source>⟧.left self.old)
             (⟦<StdSource<R> as Source>⟧.left self.new) }
+        ensures given { WriteAppends (⟦<StdSource<R> as Source>⟧.given self.old)
+            (⟦<StdSource<R> as Source>⟧.given self.new) result into.new }
+        ensures kept { is_some (⟦<StdSource<R> as Source>⟧.left self.old) ≡ false
+            → is_some (⟦<StdSource<R> as Source>⟧.given self.new) ≡ true }
         ensures fault { FaultCounted (⟦<StdSource<R> as Source>⟧.faults self.old)
             (⟦<StdSource<R> as Source>⟧.faults self.new) result }
         ensures uncounted { OnOk result (⟦<StdSource<R> as Source>⟧.faults self.new
@@ -64,12 +74,25 @@ impl<R: Read> Source for StdSource<R> {
             (⟦<StdSource<R> as Source>⟧.faults self.new) result }
     {
         match self.inner.read(into) {
-            Ok(count) => Ok(count),
+            Ok(count) => {
+                let (front, _) = into.split_at(count);
+                note_bytes(&mut self.given, front);
+                Ok(count)
+            }
             Err(_) => {
                 self.faults = self.faults.saturating_add(1);
                 Err(Failed)
             }
         }
+    }
+}
+
+// Adds bytes to what the reads have given, for the proof.
+fn note_bytes(given: &mut History<u8>, bytes: &[u8])
+    ensures { given.new.items ≡ given.old.items ++ bytes.now }
+{
+    for byte in bytes {
+        *given = given.and(byte);
     }
 }
 

@@ -1,7 +1,8 @@
 -- Each read took the front of what was left, so what was read so far is the front of the text.
-use Rattle.std.proofs.Common.{◌≡◌, ◌<◌, ◌++◌, length, vec_len, take, drop, ◌∙◌, arith, rules}
+use Rattle.std.proofs.KnownBytes.{Appends-trans}
+use Rattle.std.proofs.Common.{length-append, ◌≡◌, ◌<◌, ◌++◌, length, vec_len, take, drop, ◌∙◌, arith, rules}
 use Rattle.std.proofs.lemmas.List.{length-take, take_at}
-use Rattle.pv_io.proofs.ReadLemmas.{Consumes-none, Consumes-grown, whole_text, long_text, taken_twice}
+use Rattle.pv_io.proofs.ReadLemmas.{Appends-none, Appends-grown, Appends-end, Consumes-none, Consumes-grown, whole_text, long_text, taken_twice}
 use Rattle.pv_io.proofs.reading.read_all.Goals as goal
 
 pub loop-piece-init : goal.loop-piece-init
@@ -9,6 +10,7 @@ loop-piece-init g c = record {
   room = c.in_ok-piece.ensures;
   within = omega (arith, c.new-bytes.ensures.len);
   consumed = Consumes-none _ _ c.new-bytes.ensures.items;
+  given = Appends-none _ _ c.new-bytes.ensures.items;
   known = search rules;
   counted = search rules;
 }
@@ -22,8 +24,10 @@ returns-then-count-eq0 g c =
     let whole = whole_text _ _ _ _ _ _ before.consumed read.bytes.0 none (read.bytes.1 none room) in
     record {
       whole = whole;
+      given = Appends-end _ _ _ _ _ _ before.given read.given none;
       within = before.within;
       too_long = search rules;
+      too_much = search rules;
       fault = search rules;
       failed_within = search rules;
       taken = search (rules, before, read);
@@ -47,6 +51,7 @@ loop-piece-preserved g c =
       room = before.room;
       within = omega (arith, extended.len);
       consumed = Consumes-grown _ _ _ _ _ _ before.consumed read.bytes.0 grown;
+      given = Appends-grown _ _ _ _ _ _ before.given read.given grown;
       known = read.known ∙ before.known;
       counted = read.uncounted ∙ before.counted;
     }
@@ -59,7 +64,13 @@ returns-then-count-limit g c =
     let size = length-take c.in_ok-count.count c.read.new.into in
     record {
       whole = search rules;
+      given = tt;
       within = search rules;
+      too_much = λ _. (
+        c.loop-piece.bytes.items ++ take c.in_ok-count.count c.read.new.into,
+        Appends-trans _ _ _ _ _ before.given read.given,
+        omega (arith, read.bound, size, c.loop-piece.bytes.ok.0, length-append c.loop-piece.bytes.items (take c.in_ok-count.count c.read.new.into)),
+      );
       too_long = λ _ text is.
           let both = long_text _ _ _ _ _ before.consumed read.bytes.0 text is in
           omega (arith, both, read.bound, size, c.loop-piece.bytes.ok.0);
@@ -79,7 +90,9 @@ returns-in_err-extend_from_slice g c =
     let size = length-take c.in_ok-count.count c.read.new.into in
     record {
       whole = search rules;
+      given = search rules;
       within = search rules;
+      too_much = search rules;
       too_long = search rules;
       fault = search rules;
       failed_within = search rules;

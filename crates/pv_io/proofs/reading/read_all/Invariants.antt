@@ -1,6 +1,6 @@
 -- The bytes read so far stood at the front of the text and are no more than the limit; each turn leaves less room.
 use Rattle.std.proofs.Common.{◌≡◌, ◌-◌, ◌≤◌, vec_len}
-use Rattle.std.specs.Io.KnownBytes.{Consumes}
+use Rattle.std.specs.Io.KnownBytes.{Appends, Consumes}
 use Rattle.pv_io.specs.Stream.{KnownAlike}
 use Rattle.pv_io.specs.declared.reading.TheConstants.{PIECE}
 use Rattle.pv_io.proofs.reading.read_all.Given as goal
@@ -10,6 +10,7 @@ invariant-loop-piece g l = record {
   room : vec_len l.piece ≡ PIECE;
   within : vec_len l.bytes ≤ l.limit;
   consumed : Consumes (g.R.Source.left l.initial.source) (g.R.Source.left l.source) l.bytes.items;
+  given : Appends (g.R.Source.given l.initial.source) (g.R.Source.given l.source) l.bytes.items;
   known : KnownAlike (g.R.Source.left l.initial.source) (g.R.Source.left l.source);
   counted : g.R.Source.faults l.source ≡ g.R.Source.faults l.initial.source;
 }
