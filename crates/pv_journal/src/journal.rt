@@ -35,6 +35,7 @@ impl<D: Disk> Journal<D> {
 
     /// Opens the journal on a disk. It may become `limit` bytes long, from 32 to 4,294,967,296; one that is longer already is opened too,
     /// and takes no more records. The call begins with a sync and then only reads, two reads for each record, whatever its length.
+    /// It answers of what its own reads gave: a journal but for the bytes of the contents, or where it shows that it is none.
     ///
     /// See [`OpenLog`] for the refusals, which hand the disk back.
     pub fn open(alloc: Global, disk: D, limit: u64) -> Result<Journal<D>, OpenLog<D>>
@@ -94,6 +95,9 @@ pub fn format<D: Disk>(disk: &mut D) -> Result<(), DiskError>
 }
 
 /// The contents of the journal on a disk, the oldest first. It only reads, in time linear in the journal's bytes.
+///
+/// It answers of the bytes that its own reads gave, one after another, and so of the disk's content where that is known: the contents exactly where they are a
+/// journal with these, and the refusal exactly where it shows at that place that they are none.
 ///
 /// - [`LookError::Failed`]: the disk failed, and counted the fault.
 /// - [`LookError::NotOurs`]: the disk holds no journal, which shows at that place; it is the one of [`OpenLog::NotOurs`].
