@@ -63,6 +63,21 @@ if-last true b reads others program other grants more is = absurd (let no : ⊥ 
 if-last false true reads others program other grants more is = (refl, refl, cc, cc)
 if-last false false reads others program other grants more is = absurd (let no : ⊥ = cc in no)
 
+if-last-same : (a b : Bool) (reads others : List Read) (program other : Program) (grants more : Grants) → arrival_if a b reads program grants ≡ last others other more → grants ≡ more
+if-last-same true b reads others program other grants more is = absurd (let no : ⊥ = cc in no)
+if-last-same false true reads others program other grants more is = cc
+if-last-same false false reads others program other grants more is = absurd (let no : ⊥ = cc in no)
+
+-- The grant that is the last is the one that came in.
+pub same-last : (found : Option Work) (grants change : Grants) (reads : List Read) (program : Program) → arrival found grants ≡ last reads program change
+    → arrival found change ≡ last reads program change
+same-last None grants change reads program is = absurd (let no : ⊥ = cc in no)
+same-last (Some work) grants change reads program is =
+    subst (λ (g : Grants). arrival (Some work) g ≡ last reads program change)
+    (if-last-same (works.is_grant_ignored work grants.taken) (works.has_all_grants (with_grant work grants.taken)) (reads_of (with_grant work grants.taken).entry) reads
+    work.entry.program program grants change is)
+    is
+
 heard-of : (b : Bool) → not b ≡ false → b ≡ true
 heard-of true is = refl
 heard-of false is = absurd (true≢false is)

@@ -1,5 +1,5 @@
 -- What a site starts from: its records, and that they are in range and narrow.
-use Rattle.std.proofs.Common.{◌≡◌, refl, sym, subst, ap, ◌∙◌, ⊎_elim, ℕ, zero, suc, ◌+◌, ◌<◌, ◌≤◌, Bool, true, false, List, [], ◌∷◌, ◌++◌, length, map, Option, Some, None, arith}
+use Rattle.std.proofs.Common.{◌≡◌, refl, sym, subst, ap, ◌∙◌, ⊎_elim, ℕ, zero, suc, ◌+◌, ◌<◌, ◌≤◌, Bool, true, false, List, [], ◌∷◌, ◌++◌, length, Option, Some, None, arith}
 use Rattle.std.specs.Prelude.{All, IsTrue, slice_get, nat_lt, ◌==◌, if◌then◌else◌, min, is_some, ◌^◌, ◌-◌, sum_by}
 use Rattle.std.specs.List.{Contains}
 use Rattle.std.specs.Option.{option_or}
@@ -19,10 +19,6 @@ use Rattle.pv_law_disk.specs.Size.{Contents, size_of}
 use Rattle.pv_law_disk.specs.LogModel.{LogModel}
 use Rattle.pv_law_format.proofs.LengthLemmas.{record-length}
 use Rattle.pv_law_format.proofs.RangeLemmas.{record-from, record-spelled}
-use Rattle.pv_law_step.proofs.Lists.{all-from, OfSome}
-use Rattle.std.proofs.lemmas.List.Elements.{All-contains}
-use Rattle.std.specs.Int.{w64}
-use Rattle.std.specs.Int.RustNames.{FitsSigned}
 use Rattle.pv_model.specs.Alternatives.{Read}
 use Rattle.pv_protocol.specs.Lock.{is_home, is_of_site}
 use Rattle.pv_protocol.specs.Outcome.{items_from}
@@ -208,13 +204,3 @@ module _ (me : SiteId) (epoch : ℕ) (declared : Declared) (recorded : List Reco
         order = subst (AreInOrder txn_of) (sym entries) (λ i j d before within. absurd (omega (arith, within)));
         works = subst (All (IsWorkOf parts.catalog parts.store.records)) (sym entries) (λ k d within. absurd (omega (arith, within)));
       }
-
--- The values of all items have 64 bits where each has.
-pub values-all : (items : List Item) → ((i : ℕ) → i < length items → OfSome (FitsSigned w64) (slice_get (map (λ (item : Item). item.value) items) i))
-    → All (λ (item : Item). FitsSigned w64 item.value) items
-values-all [] each = λ k d within. absurd (omega (arith, within))
-values-all (first ∷ items) each =
-    all-from (λ (item : Item). FitsSigned w64 item.value) (first ∷ items)
-    (λ item there. ⊎_elim (λ same. subst (λ (item : Item). FitsSigned w64 item.value) same (each 0 (omega arith)))
-    (λ behind. All-contains (λ (item : Item). FitsSigned w64 item.value) items item (values-all items (λ i within. each (suc i) (omega (arith, within)))) behind)
-    (Contains-cases first items item there))

@@ -140,8 +140,8 @@ module _ {W : Type 0} (M : LogModel W) (old mid new : W) (me : ℕ) (catalog : D
       })
       unopened-as first (resume.Full log left length) refused = (records, subst (λ w. ReadsRecords M old w records) (sym refused.0) reads, (narrow, refused.2))
       unopened-as first (resume.EpochsSpent log left) refused = (records, subst (λ w. ReadsRecords M old w records) (sym refused.0) reads, (narrow, refused.2))
-      unopened-as first (resume.NoMemory log) stays = (
-        StaysUp-trans M old mid log reads.up stays.0,
-        Keeps-trans M old mid log reads.log stays.1,
-        record { mid = mid; ok = true; read = reads.call; room = stays.2 },
+      unopened-as first (resume.NoMemory log left) stays = (
+        StaysUp-trans M old mid log reads.up stays.1,
+        Keeps-trans M old mid log reads.log stays.2,
+        record { mid = mid; ok = true; read = reads.call; room = stays.3 },
       )

@@ -171,4 +171,4 @@ abbrev pub unopened : {W : Type 0} → ResumeError W → OpenError W
 unopened (resume.Failed log left) = Failed log
 unopened (resume.Full log left length) = Full log length
 unopened (resume.EpochsSpent log left) = EpochsSpent log
-unopened (resume.NoMemory log) = NoMemory log
+unopened (resume.NoMemory log left) = NoMemory log

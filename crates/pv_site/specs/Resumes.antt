@@ -89,7 +89,7 @@ module _ {W : Type 0} (M : LogModel W) where
     pub calls : FailsToAppend M old new content
 
   -- Going on, by the answer. It is said whether the log was empty. Where the site is refused before it writes, the log comes back as it was, and
-  -- wherever what is left comes back that is as it was.
+  -- what is left comes back as it was wherever the site is refused.
   abbrev pub Resumes : W → Remains → Bool → Result (SiteState W) (ResumeError W) → Type 0
   Resumes old left was_empty (Ok site) = HasResumed old left was_empty site
   Resumes old left was_empty (Err (Failed log back)) = (back ≡ left) × FailsToResume old left log
@@ -97,7 +97,7 @@ module _ {W : Type 0} (M : LogModel W) where
       (log ≡ old) × (back ≡ left) × (site_start (setup_of left.catalog) left.records ≡ too_long length)
   Resumes old left was_empty (Err (EpochsSpent log back)) =
       (log ≡ old) × (back ≡ left) × (site_start (setup_of left.catalog) left.records ≡ no_epoch)
-  Resumes old left was_empty (Err (NoMemory log)) = StaysUp M old log × Keeps M old log × MayReserve M old log
+  Resumes old left was_empty (Err (NoMemory log back)) = (back ≡ left) × StaysUp M old log × Keeps M old log × MayReserve M old log
 
   -- The next epoch of what is left, by the answer: it is written and recorded; the log would be too long with it; none is left; or why it
   -- couldn't be written.
@@ -115,4 +115,4 @@ abbrev pub log_left : {W : Type 0} → ResumeError W → W
 log_left (Failed log back) = log
 log_left (Full log back length) = log
 log_left (EpochsSpent log back) = log
-log_left (NoMemory log) = log
+log_left (NoMemory log back) = log

@@ -74,8 +74,8 @@ pub enum OpenError<L: Log> {
     NoMemory(L),
 }
 
-/// Why a site didn't go on from what outlived its memory. The log comes back in each case, and what outlived the memory too, as it was, unless
-/// there was no memory. The causes are tested in the order of [`Site::resume`](crate::Site::resume).
+/// Why a site didn't go on from what outlived its memory. The log comes back in each case, and what outlived the memory too, as it was. The
+/// causes are tested in the order of [`Site::resume`](crate::Site::resume).
 #[derive(Drop)]
 pub enum ResumeError<L: Log> {
     /// The log failed, which was counted. It holds the record of the new epoch, or it doesn't.
@@ -85,5 +85,5 @@ pub enum ResumeError<L: Log> {
     /// No epoch is left: the last one is at least 4,294,967,294.
     EpochsSpent(L, Recovered),
     /// There was no memory.
-    NoMemory(L),
+    NoMemory(L, Recovered),
 }

@@ -4,8 +4,8 @@ ghost use Rattle.std.specs.Prelude.{◌≡◌, ◌==◌, ◌++◌, ◌∷◌, []
 ghost use Rattle.std.specs.List.{AllZip};
 ghost use Rattle.std.specs.List.Sorted.{IsNonDecreasingBy, IsPermutation};
 ghost use Rattle.std.specs.Option.{option_copied, option_to_list};
-ghost use Rattle.pv_coord.specs.Answers.{arrival, last};
-ghost use Rattle.pv_coord.specs.Coordinator.{CanTake, grant_of, locking_work, work_of};
+ghost use Rattle.pv_coord.specs.Answers.{arrival, last, CanApply};
+ghost use Rattle.pv_coord.specs.Coordinator.{grant_of, locking_work, work_of};
 ghost use Rattle.pv_coord.specs.Work.{Work, grant_from};
 ghost use Rattle.pv_model.specs.Alternatives as model;
 ghost use Rattle.pv_protocol.specs.Coordinate.{exclusive_items, reads_of};
@@ -72,7 +72,7 @@ impl Parts {
         requires sound { AreSound self.old }
         requires change { change ≡ record { txn = txn; taken = record { site = from.0; grant = grant; values = change.taken.values } } }
         requires last { arrival (locking_work self.old.coord.contents txn) change ≡ last reads.items program.now change }
-        requires planned { CanTake self.old.coord.contents change }
+        requires planned { CanApply self.old.coord.contents (last reads.items program.now change) }
         ensures { StepParts self.old self.new (on_granted (here_of self.old) from.0 txn grant change.taken.values) result }
     {
         let joined = match computed(alloc, &self.store, program, reads) {

@@ -17,6 +17,7 @@ use pv_base::{Catalog, GrantId, ItemId, NoMemory, SiteId, TxnId, Want};
 use pv_check::{Part, Plan};
 use pv_coord::CoordError;
 use pv_locks::{GrantPlan, LockError};
+use pv_part::on_lock;
 use pv_poly::Read;
 use pv_store::Store;
 use pv_wire::Message;
@@ -91,16 +92,17 @@ impl Parts {
         }
     }
 
-    // Whether no notice is taken of the wants: they don't come from the transaction's site, or an item isn't of this one, or the
-    // transaction is prepared here or its outcome known.
+    // Whether no notice is taken of the wants: an item isn't of this site, or they don't come from the transaction's, or the transaction is
+    // prepared here or its outcome known.
     fn ignores_lock(&self, from: SiteId, txn: TxnId, wants: &[Want]) -> bool
         requires { AreTied self.now }
         ensures { result ≡ is_lock_ignored (here_of self.now) from.0 txn wants.now }
     {
-        from != txn.site
-            || !are_at(wants, &self.catalog, self.me)
-            || self.store.prepared(txn)
-            || self.store.known(txn).is_some()
+        if !are_at(wants, &self.catalog, self.me) {
+            return true;
+        }
+        let known = self.store.known(txn).is_some();
+        !on_lock(&self.locks, txn, from, self.store.prepared(txn), known)
     }
 }
 

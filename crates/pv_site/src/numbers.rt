@@ -8,7 +8,8 @@ ghost use Rattle.pv_protocol.specs.WellFormed.{has_small_numbers, is_of_small_nu
 
 use pv_ast::{Expr, Program, Stmt};
 
-// Whether the numbers of the program have 64 bits. Each has, as its type says: this goes over them to show it.
+// Whether the numbers of the program have 64 bits, which is asked of a program that can run. Each has, as its type says; but the toolchain
+// knows it of a number only where that is read, so this goes over them.
 #[cycle(numbers)]
 pub(crate) fn has_small_numbers(program: &Program) -> bool
     ensures { result ≡ has_small_numbers program.now }

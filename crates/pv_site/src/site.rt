@@ -116,7 +116,7 @@ impl<L: Log> Site<L> {
     /// 2. [`ResumeError::Full`]: there is no room for the record of the epoch.
     /// 3. [`ResumeError::Failed`]: the log failed at that record, which it holds or doesn't.
     ///
-    /// [`ResumeError::NoMemory`] may come in place of the last two, and has the log alone.
+    /// [`ResumeError::NoMemory`] may come in place of the last two.
     pub fn resume(alloc: Global, log: L, left: Recovered) -> Result<Site<L>, ResumeError<L>>
         requires { CanResume L.model log left }
         ensures resumed { Resumes L.model log left false result }
@@ -152,7 +152,7 @@ impl<L: Log> Site<L> {
             Ok(Advanced::Full(length)) => Err(ResumeError::Full(log, left, length)),
             Ok(Advanced::Spent) => Err(ResumeError::EpochsSpent(log, left)),
             Err(StepError::Fault) => Err(ResumeError::Failed(log, left)),
-            Err(StepError::NoMemory) => Err(ResumeError::NoMemory(log)),
+            Err(StepError::NoMemory) => Err(ResumeError::NoMemory(log, left)),
             // The log isn't down.
             Err(StepError::Down) => unreachable!(),
         }
@@ -319,3 +319,11 @@ impl<L: Log> Site<L> {
         )
     }
 }
+
+// A site may cross threads where its log may, which is refused here where one of its fields may not.
+fn crosses_threads<L: Log + Send>() {
+    sends::<Site<L>>();
+}
+
+// What may cross threads fits here, and nothing else.
+fn sends<T: Send>() {}

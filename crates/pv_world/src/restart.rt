@@ -111,7 +111,7 @@ fn opened(
             let (cell, stops) = fallen(journal.close(), before, left, alloc)?;
             Ok((cell, Start::Broke { stops }))
         }
-        Err(ResumeError::NoMemory(_)) => Err(NoMemory),
+        Err(ResumeError::NoMemory(_, _)) => Err(NoMemory),
     }
 }
 

@@ -34,7 +34,7 @@ returns-in-Ok-Done-clause-step g c work is =
     (ap (λ (k : Kept). k.site) c.apply.ensures ∙ same.site) (ap (λ (k : Kept). k.catalog) c.apply.ensures ∙ same.catalog)
     (ap (λ (k : Kept). k.records) c.apply.ensures ∙ ap (λ (r : List Record). r ++ c.in_ok-change.change.appended ∷ []) same.records
     ∙ ap (λ (r : Record). parts.store.records ++ r ∷ []) c.in_ok-change.ensures.change)
-    c.drop_entry.ensures c.release.ensures.ended)
+    c.drop_entry.ensures.dropped c.release.ensures.ended)
     (subst (λ (h : Here). IsAnswer c.in_ok-committed.committed (committing h work.entry)) kept.here (c.in_ok-committed.ensures work is))
 
 pub returns-in-Err-clause-step : goal.returns-in-Err-clause-step

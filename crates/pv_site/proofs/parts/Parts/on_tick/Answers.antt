@@ -25,7 +25,7 @@ returns c =
     ∙ ap (λ (coord : Coordinator). flat_map (λ (expiry : Expiry). refusal_sends coord expiry.txn) c.deref.result.now) coord-is
     ∙ ap (flat_map (λ (expiry : Expiry). refusal_sends c.args.self.now.coord.contents expiry.txn)) c.deref.ensures.value in
     ticked c.args.self.now c.requires c.tick.new.self c.apply_tick.new.self c.in_ok-expiries.expiries.items c.in_ok-mentioned.mentioned.items _
-    c.tick.ensures (c.apply_tick.ensures ∙ ap after_tick coord-is) c.in_ok-expiries.ensures.expiries
+    c.tick.ensures (c.apply_tick.ensures.older ∙ ap after_tick coord-is) c.in_ok-expiries.ensures.expiries
     (c.in_ok-mentioned.ensures (here_of c.args.self.now) (store-is c.args.self.now c.requires))
     (c.push_questions.ensures
     ∙ ap (λ (sends : List Outgoing). map outgoing_of sends ++ ask_sends (filter (λ (txn : TxnId). is_none (grant_of c.tick.new.self txn)) c.deref-3.result.now)) c.in_ok-reserve.ensures.items

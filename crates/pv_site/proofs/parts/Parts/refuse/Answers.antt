@@ -13,4 +13,4 @@ pub returns : goal.returns
 returns c = λ entry found.
     let noted : map note_of c.push.new.self.items ≡ refused c.args.txn (cause_of c.args.cause) ∷ [] = rw (c.in_ok-push.ensures.items, c.new-notes.ensures.items) refl in
     refusing-entry c.args.self.now c.requires c.drop_entry.new.self c.args.txn (cause_of c.args.cause) entry c.in-Some.plan.now.parts.items _ found c.in-Some.ensures
-    c.drop_entry.ensures (c.in_ok-sends.ensures ∙ ap (λ (parts : List Part). outcome_sends c.args.txn false (map (λ (part : Part). part.site) parts)) c.deref.ensures.value) noted refl
+    c.drop_entry.ensures.dropped (c.in_ok-sends.ensures ∙ ap (λ (parts : List Part). outcome_sends c.args.txn false (map (λ (part : Part). part.site) parts)) c.deref.ensures.value) noted refl
