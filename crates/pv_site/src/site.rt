@@ -319,11 +319,3 @@ impl<L: Log> Site<L> {
         )
     }
 }
-
-// A site may cross threads where its log may, which is refused here where one of its fields may not.
-fn crosses_threads<L: Log + Send>() {
-    sends::<Site<L>>();
-}
-
-// What may cross threads fits here, and nothing else.
-fn sends<T: Send>() {}
