@@ -1,4 +1,8 @@
 // Worked records and polyvalues, byte for byte; each with every beginning and many changed bytes; and many cases that overlap.
+ghost use Rattle.std.specs.Prelude.{IfOk, IfSome};
+ghost use Rattle.pv_format.specs.RecordSpelling.{SpellsRecord};
+ghost use Rattle.pv_replay.specs.Values.{record_of};
+
 use pv_base::{NoMemory, TxnId};
 use pv_bytes::{Put, Take};
 use pv_poly::Poly;
@@ -54,7 +58,9 @@ fn bytes_of(alloc: Global, text: &str) -> Result<Vec<u8>, AllocFailed<u8>> {
 }
 
 // The record that the content is, if it is one.
-fn decode_record(alloc: Global, content: &[u8]) -> Result<Option<Record>, NoMemory> {
+fn decode_record(alloc: Global, content: &[u8]) -> Result<Option<Record>, NoMemory>
+    ensures { IfOk result (λ found. IfSome found (λ value. SpellsRecord (record_of value) content.now)) }
+{
     let mut contents = Vec::new(alloc);
     contents.push(content.to_vec(alloc)?)?;
     match replay(alloc, &contents) {

@@ -208,10 +208,10 @@ module _ (catalog : Declared) (n : ℕ) (on : MemState) (left : Remains) (is : m
 
   pub is-synced : (laws : Laws) (journal : Journal MemState) (limit : ℕ) → limit ≡ catalog.journal → opening.Opens mem_model on limit (Ok journal)
       → IsSynced catalog n journal left is
-  is-synced laws journal limit within (opened, calls, content, intact, up, limited) =
+  is-synced laws journal limit within opens =
       sync-passes catalog n is down.disk.contents journal.disk down.disk.spelled journal left refl
-      (record { site = down.me; catalog = down.catalog; records = down.records }) intact up (limited ∙ within)
-      (laws.opens down.disk.contents down_arms on limit journal down.disk.holds (opened, calls, content, intact, up, limited))
+      (record { site = down.me; catalog = down.catalog; records = down.records }) opens.3 opens.4 (opens.5 ∙ within)
+      (laws.opens down.disk.contents down_arms on limit journal down.disk.holds opens)
 
   pub not-opened : (laws : Laws) (new : MemState) (limit : ℕ) → opening.Opens mem_model on limit (Err (unopened.Failed new)) → FailsEarly catalog n is new
   not-opened laws new limit failed =
