@@ -9,7 +9,7 @@ use Rattle.pv_disk.specs.BayModel.{BayModel}
 use Rattle.pv_io.specs.SinkEffects.{Writes, WritesPrefix}
 use Rattle.pv_io.specs.Stream.{AppendsPrefix}
 use Rattle.pv_io.specs.declared.sink.Sink.{Ghosts}
-use Rattle.pv_law_disk.specs.DiskModel.{DiskModel}
+use Rattle.pv_disk_model.specs.DiskModel.{DiskModel}
 use Rattle.pv_run.specs.InputAnswers.{GivesUp}
 use Rattle.pv_run.specs.declared.status.Status.{Status}
 use Rattle.pv_run.specs.declared.status.Status.TheVariants.{Done, Usage, Malformed, ReadFault, WriteFault, TooLong, NoMemory, SentLimit, BayFault}

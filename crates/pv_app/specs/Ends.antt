@@ -8,7 +8,7 @@ use Rattle.pv_disk.specs.BayModel.{BayModel}
 use Rattle.pv_io.specs.SinkEffects.{HasFailed, Writes, WritesPrefix}
 use Rattle.pv_io.specs.declared.sink.Sink as sinks
 use Rattle.pv_io.specs.declared.source.Source as sources
-use Rattle.pv_law_disk.specs.DiskModel.{DiskModel}
+use Rattle.pv_disk_model.specs.DiskModel.{DiskModel}
 use Rattle.pv_run.specs.Ends.{EndsBig, EndsMake, EndsRun}
 use Rattle.pv_run.specs.declared.status.Status.{Status}
 use Rattle.pv_run.specs.declared.status.Status.TheVariants.{Usage, WriteFault}

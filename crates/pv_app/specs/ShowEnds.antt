@@ -8,7 +8,7 @@ use Rattle.pv_io.specs.SinkEffects.{HasFailed, Writes, WritesNothing, WritesPref
 use Rattle.pv_io.specs.Stream.{TakesAtMost}
 use Rattle.pv_io.specs.declared.sink.Sink as sinks
 use Rattle.pv_io.specs.declared.source.Source as sources
-use Rattle.pv_law_disk.specs.DiskModel.{DiskModel}
+use Rattle.pv_disk_model.specs.DiskModel.{DiskModel}
 use Rattle.pv_model.specs.LineCauses.{LineCause}
 use Rattle.pv_model.specs.LiveScript.{LiveScript}
 use Rattle.pv_model.specs.Schedule.{IsLiveScript, IsMalformedLiveScript}

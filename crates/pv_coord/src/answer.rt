@@ -31,14 +31,14 @@ impl Model for BeginChange {
 
 /// A grant that is about to be taken. It is to be applied, or to be dropped, before anything else changes.
 #[derive(Debug, Drop)]
-pub struct Change {
+pub struct GrantChange {
     /// The transaction.
     pub(crate) txn: TxnId,
     /// What it was granted.
     pub(crate) taken: Taken,
 }
 
-impl Model for Change {
+impl Model for GrantChange {
     ghost use Rattle.pv_coord.specs.Coordinator.{Grants};
 
     ghost Value = { Grants };
@@ -53,7 +53,7 @@ pub enum GrantTaken {
     /// aren't those that were asked for.
     Ignored,
     /// It may be taken, and another participant hasn't answered.
-    Wait(Change),
+    Wait(GrantChange),
     /// It may be taken, and is the last.
     Last {
         /// The values of all the grants, in the order of the sites and then of the items.
@@ -61,7 +61,7 @@ pub enum GrantTaken {
         /// The transaction's program.
         program: Program,
         /// The change that takes the grant.
-        change: Change,
+        change: GrantChange,
     },
 }
 

@@ -12,7 +12,7 @@ ghost use Rattle.pv_protocol.specs.Coordinate.{is_locking};
 ghost use Rattle.pv_protocol.specs.Keyed.{of_txn, AreInOrder};
 
 use crate::entry::Entry;
-use crate::{BeginChange, Change, CoordError, Expiry, GrantTaken, Vote};
+use crate::{BeginChange, CoordError, Expiry, GrantChange, GrantTaken, Vote};
 use pv_ast::Program;
 use pv_base::{GrantId, ItemId, NEVER_GIVEN, NoMemory, Reply, SiteId, TICKS, TxnId};
 use pv_check::Plan;
@@ -135,12 +135,12 @@ impl Coord {
 
     /// Takes the grant, which was planned on what is known now. With the last one there is a reply, which is what the program replies once
     /// all are granted, and the entry is at its lock point: from then on it asks for votes, with age 0.
-    pub fn apply_granted(&mut self, change: Change, reply: Option<Poly<Reply>>)
+    pub fn apply_granted(&mut self, change: GrantChange, reply: Option<Poly<Reply>>)
         requires planned { CanTake self.old.contents change }
         requires reply { is_some reply ≡ is_last self.old.contents change }
         ensures { self.new ≡ record self.old { contents = taking self.old.contents change reply } }
     {
-        let Change { txn, taken } = change;
+        let GrantChange { txn, taken } = change;
         match place_of(&self.entries, txn) {
             Some(place) => {
                 let entry = &mut self.entries[place];

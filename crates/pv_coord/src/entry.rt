@@ -18,7 +18,7 @@ ghost use Rattle.pv_protocol.specs.Tick.{has_answered};
 use crate::reads::{copy_reads, push_reads};
 use crate::stage::Stage;
 use crate::taken::Taken;
-use crate::{Change, Expiry, GrantTaken, Vote};
+use crate::{Expiry, GrantChange, GrantTaken, Vote};
 use pv_ast::Program;
 use pv_base::{GrantId, ItemId, NoMemory, Reply, SiteId, TICKS, TxnId, Want};
 use pv_check::{Part, Plan};
@@ -203,7 +203,7 @@ impl Entry {
         if !self.fits(from, values) {
             return Ok(GrantTaken::Ignored);
         }
-        let change = Change {
+        let change = GrantChange {
             txn,
             taken: Taken {
                 site: from,

@@ -10,7 +10,7 @@ mod reads;
 mod stage;
 mod taken;
 
-pub use answer::{BeginChange, Change, Expiry, GrantTaken, Vote};
+pub use answer::{BeginChange, Expiry, GrantChange, GrantTaken, Vote};
 pub use coord::Coord;
 pub use error::CoordError;
 pub use laws::a_planned_entry_is_the_protocols;

@@ -4,7 +4,7 @@ use Rattle.std.specs.Prelude.{⊤}
 use Rattle.std.proofs.lemmas.Option.{none-some}
 use Rattle.pv_base.specs.Fault.{risen}
 use Rattle.pv_base.specs.declared.failure.Failed.{Failed as Fault}
-use Rattle.pv_law_disk.specs.Disk.{LeavesOnly, LeftTorn, Observes, Writes, Syncs}
+use Rattle.pv_disk_model.specs.Disk.{LeavesOnly, LeftTorn, Observes, Writes, Syncs}
 use Rattle.pv_disk.specs.Folder.{FileState, file_disk}
 
 leaves : (old new : FileState) (P : List ℕ → Type 0) → ((left : List ℕ) → P left) → LeavesOnly file_disk old new P

@@ -1,9 +1,9 @@
 -- What tearing leaves is one of the contents that a crash may leave.
 use Rattle.std.proofs.Common.{◌≡◌, ℕ, ◌+◌, ◌≤◌, List, [], ◌∷◌, ◌++◌, length, replicate, arith, refl, sym, ◌∙◌, ap, subst}
 use Rattle.std.proofs.lemmas.List.{length-replicate}
-use Rattle.pv_law_disk.specs.Disk.{overlaid, Torn}
+use Rattle.pv_disk_model.specs.Disk.{overlaid, Torn}
 use Rattle.pv_disk.specs.MemImage.{Range, Reaches, filled, AllInside, AreMade}
-use Rattle.pv_law_disk.proofs.OverlayLemmas.{Torn-overlaid, Torn-refl, Torn-trans, Torn-overlaid_both, length-overlaid}
+use Rattle.pv_disk_model.proofs.OverlayLemmas.{Torn-overlaid, Torn-refl, Torn-trans, Torn-overlaid_both, length-overlaid}
 
 fill : Range → List ℕ
 fill range = replicate range.count 165

@@ -2,11 +2,11 @@
 use Rattle.std.proofs.Common.{◌≡◌, inl, inr, ℕ, ◌+◌, ◌-◌, ◌≤◌, Bool, true, false, if◌then◌else◌, List, [], ◌∷◌, ◌++◌, length, map, take, drop, arith, refl, sym, ◌∙◌, ap, append_assoc, length-append, length-take, length-drop, subst}
 use Rattle.std.proofs.lemmas.List.{map-append, take_all, drop_all, take-append-le, drop-append-le, drop-drop, take-take, drop-take}
 use Rattle.std.proofs.lemmas.Bool.{cases_Bool}
-use Rattle.pv_law_disk.specs.Disk.{overlaid}
+use Rattle.pv_disk_model.specs.Disk.{overlaid}
 use Rattle.pv_disk.specs.MemImage.{Range, Moment, AreMade, AllInside}
 use Rattle.pv_disk.specs.MemHistory.{range_of, content_before, unsynced, moment_of, moments_of, overwritten, Made, CanUndo, MarksLast}
 use Rattle.pv_disk.specs.declared.image.Write.{Write}
-use Rattle.pv_law_disk.proofs.OverlayLemmas.{Torn-overlaid, overlaid_back, length-overlaid}
+use Rattle.pv_disk_model.proofs.OverlayLemmas.{Torn-overlaid, overlaid_back, length-overlaid}
 
 -- A write that is added isn't synced.
 pub unsynced-push : (since writes : List Write) (write : Write) → write.synced ≡ false → unsynced since (writes ++ write ∷ []) ≡ unsynced since writes ++ write ∷ []

@@ -1,7 +1,7 @@
 -- What one more write makes of the record of writes.
 use Rattle.std.proofs.Common.{◌≡◌, ℕ, ◌+◌, ◌-◌, ◌≤◌, true, false, List, [], ◌∷◌, ◌++◌, length, map, take, drop, replicate, get_or, set, arith, refl, sym, ◌∙◌, ap, subst, length-take}
 use Rattle.std.proofs.lemmas.List.{map-append, take_more, take_all, set_at}
-use Rattle.pv_law_disk.specs.Disk.{overlaid}
+use Rattle.pv_disk_model.specs.Disk.{overlaid}
 use Rattle.pv_disk.specs.MemImage.{Range, AllInside, filled, written_at}
 use Rattle.pv_disk.specs.MemHistory.{range_of, content_before, unsynced, moment_of, moments_of, Made, CanUndo, MarksLast}
 use Rattle.pv_disk.specs.declared.image.Write.{Write}

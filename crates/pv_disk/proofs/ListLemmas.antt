@@ -4,8 +4,8 @@ use Rattle.std.proofs.lemmas.List.{take_more, map-append, take-append-le, take_a
 use Rattle.std.proofs.lemmas.List.Sums.{sum_by-append, sum_by-cons}
 use Rattle.std.proofs.lemmas.Bool.{cases_lt}
 use Rattle.pv_base.specs.Fault.{risen}
-use Rattle.pv_law_disk.specs.Size.{Contents, size_of}
-use Rattle.pv_law_disk.specs.Log.{LeavesOnly, IsBeforeOrAfter, GoesDown, MayAdd}
+use Rattle.pv_disk_model.specs.Size.{Contents, size_of}
+use Rattle.pv_disk_model.specs.Log.{LeavesOnly, IsBeforeOrAfter, GoesDown, MayAdd}
 use Rattle.pv_disk.specs.ListLog.{ListState, WasHeld}
 use Rattle.pv_disk.specs.ListLaws.{list_model, held_now}
 

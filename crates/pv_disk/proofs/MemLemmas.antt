@@ -3,14 +3,14 @@ use Rattle.std.proofs.Common.{◌≡◌, ◌⊎◌, inl, inr, ⊎_elim, ℕ, ◌
 use Rattle.std.proofs.lemmas.List.{drop_at, drop-append-le, append-nil}
 use Rattle.pv_base.specs.declared.mode.Mode.{Mode}
 use Rattle.pv_base.specs.declared.mode.Mode.TheVariants.{Lost, Kept, Torn as TornAll}
-use Rattle.pv_law_disk.specs.Disk.{overlaid, Torn, Only, LeavesOnly, LeftTorn, Syncs, Writes}
+use Rattle.pv_disk_model.specs.Disk.{overlaid, Torn, Only, LeavesOnly, LeftTorn, Syncs, Writes}
 use Rattle.pv_base.specs.Fault.{risen}
 use Rattle.pv_base.specs.declared.failure.Failed.{Failed as Fault}
 use Rattle.pv_disk.specs.MemImage.{ImageState, Moment, Range, Reaches, MayLeave, MightHaveLeft, AreMade, IsMade, settled_at, written_at, filled, left_by, NotesMoment}
 use Rattle.pv_disk.specs.MemDisk.{MemState}
 use Rattle.pv_disk.specs.MemLaws.{LeftNow, LeftSince, mem_model}
-use Rattle.pv_law_disk.proofs.DiskLemmas.{LeavesOnly-trans}
-use Rattle.pv_law_disk.proofs.OverlayLemmas.{Torn-overlaid, Torn-refl, length-overlaid}
+use Rattle.pv_disk_model.proofs.DiskLemmas.{LeavesOnly-trans}
+use Rattle.pv_disk_model.proofs.OverlayLemmas.{Torn-overlaid, Torn-refl, length-overlaid}
 use Rattle.pv_disk.proofs.FillLemmas.{AreMade-Reaches, AreMade-inside, Reaches-filled, Reaches-synced, Reaches-push, Torn-filled}
 
 MightHaveLeft-split : (early late : List Moment) (left : List ℕ) → MightHaveLeft (early ++ late) left → MightHaveLeft early left ⊎ MightHaveLeft late left

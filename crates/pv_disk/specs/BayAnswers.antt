@@ -1,7 +1,7 @@
 -- What the calls of a bay do.
 use Rattle.std.specs.Prelude.{◌≡◌, ◌≢◌, ℕ, ◌==◌, true, false, if◌then◌else◌, List, Some, Result, Ok, Err}
 use Rattle.pv_base.specs.Fault.{risen}
-use Rattle.pv_law_disk.specs.DiskModel.{DiskModel}
+use Rattle.pv_disk_model.specs.DiskModel.{DiskModel}
 use Rattle.pv_disk.specs.BayModel.{BayModel}
 use Rattle.pv_disk.specs.declared.bay_error.BayError.{BayError}
 use Rattle.pv_disk.specs.declared.bay_error.BayError.TheVariants.{Failed, NoMemory}

@@ -3,7 +3,7 @@ use Rattle.std.specs.Prelude.{◌≡◌, ℕ, ◌-◌, ◌^◌, false, if◌then
 use Rattle.std.proofs.Common.{refl}
 use Rattle.std.specs.Fmt.{decimal}
 use Rattle.pv_base.specs.Fault.{risen}
-use Rattle.pv_law_disk.specs.DiskModel.{DiskModel}
+use Rattle.pv_disk_model.specs.DiskModel.{DiskModel}
 use Rattle.pv_disk.specs.BayModel.{BayModel, Berth}
 use Rattle.pv_disk.specs.declared.folder_bay.FolderBerth.{FolderBerth}
 

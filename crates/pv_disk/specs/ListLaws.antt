@@ -3,8 +3,8 @@ use Rattle.std.specs.Prelude.{◌≡◌, ℕ, ◌≤◌, Option, Some, length}
 use Rattle.std.proofs.Common.{sym, ◌∙◌, ap, arith}
 use Rattle.std.proofs.lemmas.List.{take_all}
 use Rattle.pv_base.specs.declared.limits.TheConstants.{MAX_LENGTH}
-use Rattle.pv_law_disk.specs.Size.{Contents, size_of}
-use Rattle.pv_law_disk.specs.LogModel.{LogModel}
+use Rattle.pv_disk_model.specs.Size.{Contents, size_of}
+use Rattle.pv_disk_model.specs.LogModel.{LogModel}
 use Rattle.pv_disk.specs.ListLog.{ListState, WasHeld, HasPlace, ListGoes}
 
 pub was_held : (log : ListState) (t : ℕ) (left : Option Contents) → t ≤ length log.contents → left ≡ Some log.contents → WasHeld log t left

@@ -1,8 +1,8 @@
 -- What a log in memory is, and what its calls make of it.
 use Rattle.std.specs.Prelude.{◌≡◌, ℕ, ◌+◌, ◌≤◌, ◌<◌, ◌==◌, Bool, false, not, is_none, MatchBool, if◌then◌else◌, List, [], ◌∷◌, ◌++◌, Option, Some, None, length, take, find}
 use Rattle.pv_base.specs.Fault.{risen}
-use Rattle.pv_law_disk.specs.Size.{Contents, size_of}
-use Rattle.pv_law_disk.specs.Calls.{LogCall, read_all, reserve, append}
+use Rattle.pv_disk_model.specs.Size.{Contents, size_of}
+use Rattle.pv_disk_model.specs.Calls.{LogCall, read_all, reserve, append}
 use Rattle.pv_disk.specs.declared.list_log.AppendFail.{AppendFail}
 
 -- A log in memory: what it holds and how long it may be; which appends fail, how many there were, and how many calls failed; whether it

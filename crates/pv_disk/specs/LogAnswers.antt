@@ -1,7 +1,7 @@
 -- What the calls of a log do, by their answers.
 use Rattle.std.specs.Prelude.{◌≡◌, ℕ, ◌+◌, ◌<◌, false, List, is_some, Result, Ok, Err}
-use Rattle.pv_law_disk.specs.LogModel.{LogModel}
-use Rattle.pv_law_disk.specs.Log.{Keeps, Adds, MayAdd, StaysUp, GoesDown, WasDown, IsWithin}
+use Rattle.pv_disk_model.specs.LogModel.{LogModel}
+use Rattle.pv_disk_model.specs.Log.{Keeps, Adds, MayAdd, StaysUp, GoesDown, WasDown, IsWithin}
 use Rattle.pv_disk.specs.declared.log_error.LogError.{LogError}
 use Rattle.pv_disk.specs.declared.log_error.LogError.TheVariants.{Failed, Down, Full, NotOurs, NoMemory}
 

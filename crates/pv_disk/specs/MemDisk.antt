@@ -1,8 +1,8 @@
 -- What a disk in memory is, and what each call makes of it.
 use Rattle.std.specs.Prelude.{◌≡◌, ℕ, ◌-◌, ◌==◌, nat_le, Bool, true, false, if◌then◌else◌, List, Option, Some, None, length}
 use Rattle.pv_base.specs.declared.mode.Mode.{Mode}
-use Rattle.pv_law_disk.specs.Calls.{DiskCall, len, read, make_room, write, sync}
-use Rattle.pv_law_disk.specs.Disk.{overlaid}
+use Rattle.pv_disk_model.specs.Calls.{DiskCall, len, read, make_room, write, sync}
+use Rattle.pv_disk_model.specs.Disk.{overlaid}
 use Rattle.pv_base.specs.Fault.{risen}
 use Rattle.pv_disk.specs.MemImage.{ImageState, Moment, settled_at, written_at, left_by}
 use Rattle.pv_disk.specs.declared.arms.Arm.{Arm}

@@ -1,6 +1,6 @@
 -- What the record of a memory disk's writes says.
 use Rattle.std.specs.Prelude.{◌≡◌, ◌⊎◌, ℕ, ◌-◌, ◌≤◌, min, if◌then◌else◌, List, [], ◌∷◌, ◌++◌, length, map, take, drop}
-use Rattle.pv_law_disk.specs.Disk.{overlaid}
+use Rattle.pv_disk_model.specs.Disk.{overlaid}
 use Rattle.pv_disk.specs.MemImage.{Range, Moment}
 use Rattle.pv_disk.specs.declared.image.Write.{Write}
 

@@ -2,7 +2,7 @@
 use Rattle.std.specs.Prelude.{◌≡◌, ◌⊎◌, ℕ, ◌+◌, ◌≤◌, List, [], ◌∷◌, ◌++◌, length, replicate}
 use Rattle.pv_base.specs.declared.mode.Mode.{Mode}
 use Rattle.pv_base.specs.declared.mode.Mode.TheVariants.{Lost, Kept, Torn as TornAll}
-use Rattle.pv_law_disk.specs.Disk.{overlaid, Torn}
+use Rattle.pv_disk_model.specs.Disk.{overlaid, Torn}
 
 -- A range of bytes.
 pub record Range : Type 0 where

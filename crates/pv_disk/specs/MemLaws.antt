@@ -3,7 +3,7 @@ use Rattle.std.specs.Prelude.{◌≡◌, ◌⊎◌, ℕ, List, Some, None, lengt
 use Rattle.std.proofs.Common.{inl, inr, sym, arith, subst}
 use Rattle.std.proofs.lemmas.List.{drop_all}
 use Rattle.std.proofs.lemmas.Option.{none-some}
-use Rattle.pv_law_disk.specs.DiskModel.{DiskModel}
+use Rattle.pv_disk_model.specs.DiskModel.{DiskModel}
 use Rattle.pv_disk.specs.MemImage.{ImageState, Moment, MayLeave, MightHaveLeft}
 use Rattle.pv_disk.specs.MemDisk.{MemState, MemGoes}
 

@@ -1,10 +1,10 @@
 // A disk: bytes that reads give, and what a crash at any moment leaves of them.
 ghost use Rattle.std.specs.Prelude.{◌≡◌, ℕ, ◌+◌, ◌≤◌, List, Some, length, take, drop, is_ok, IfOk, OnOk};
 ghost use Rattle.pv_base.specs.declared.limits.TheConstants.{MAX_LENGTH, MAX_WRITE_END};
-ghost use Rattle.pv_law_disk.specs.Calls.{len, read, make_room, write, sync};
-ghost use Rattle.pv_law_disk.specs.DiskModel.{DiskModel};
-ghost use Rattle.pv_law_disk.specs.Disk.{GivesBy, GivesNothing, Observes, Writes, Syncs};
-ghost use Rattle.pv_disk.specs.DiskAnswers.{Reserves};
+ghost use Rattle.pv_disk_model.specs.Calls.{len, read, make_room, write, sync};
+ghost use Rattle.pv_disk_model.specs.DiskModel.{DiskModel};
+ghost use Rattle.pv_disk_model.specs.Disk.{GivesBy, GivesNothing, Observes, Writes, Syncs};
+ghost use Rattle.pv_disk.specs.DiskAnswers.{ReservesOnDisk};
 
 use crate::DiskError;
 use pv_base::Failed;
@@ -42,7 +42,7 @@ pub trait Disk: Drop {
     ///
     /// - [`DiskError::Failed`], [`DiskError::NoMemory`]: as they say.
     fn reserve(&mut self, bytes: u64, writes: u32) -> Result<(), DiskError>
-        ensures effect { Reserves model self.old self.new bytes writes result }
+        ensures effect { ReservesOnDisk model self.old self.new bytes writes result }
         ensures goes { model.goes self.old (make_room bytes writes) (is_ok result) self.new }
         ensures gives { GivesNothing model self.old self.new };
 

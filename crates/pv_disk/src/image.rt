@@ -1,7 +1,7 @@
 // What a memory disk holds, with a record of its writes, from which follows what each sync and each crash leaves.
 ghost use Rattle.std.specs.Prelude.{◌≡◌, ◌≤◌, ◌+◌, ◌-◌, ◌++◌, ◌∷◌, [], ℕ, min, length, map, take, drop, replicate, vec_len, vec_capacity, IfOk, OnOk, OnErr};
 ghost use Rattle.pv_base.specs.declared.limits.TheConstants.{MAX_LENGTH};
-ghost use Rattle.pv_law_disk.specs.Disk.{overlaid};
+ghost use Rattle.pv_disk_model.specs.Disk.{overlaid};
 ghost use Rattle.pv_disk.specs.MemImage.{ImageState, IsMade, AllInside, filled, settled_at, written_at, left_by, NotesMoment};
 ghost use Rattle.pv_disk.specs.MemHistory.{range_of, content_before, unsynced, overwritten, Made, CanUndo, MarksLast};
 

@@ -1,7 +1,7 @@
 // A log in memory, whose appends fail where that is asked for.
 ghost use Rattle.std.specs.Prelude.{◌≡◌, ◌<◌, ◌≤◌, ◌+◌, ◌-◌, ◌^◌, ◌++◌, ◌∷◌, ℕ, Some, [], false, map, length, take, is_ok, IfOk, OnOk, IsTrue, vec_len, vec_capacity};
-ghost use Rattle.pv_law_disk.specs.Size.{Contents, size_of};
-ghost use Rattle.pv_law_disk.specs.Calls.{read_all, reserve, append};
+ghost use Rattle.pv_disk_model.specs.Size.{Contents, size_of};
+ghost use Rattle.pv_disk_model.specs.Calls.{read_all, reserve, append};
 ghost use Rattle.pv_disk.specs.LogAnswers.{Reads, Reserves, Appends};
 ghost use Rattle.pv_disk.specs.ListLog.{ListState, planned, contents_after, AppendsToList, IsSameBesideRoom, HasPlace, ListGoes, WasHeld};
 ghost use Rattle.pv_disk.specs.ListLaws.{list_model};
@@ -45,7 +45,7 @@ pub struct ListLog {
 impl Model for ListLog {
     ghost use Rattle.std.specs.Prelude.{◌≡◌, ◌≤◌, ◌-◌, map, vec_len, vec_capacity};
     ghost use Rattle.pv_base.specs.declared.limits.TheConstants.{MAX_JOURNAL};
-    ghost use Rattle.pv_law_disk.specs.Size.{size_of};
+    ghost use Rattle.pv_disk_model.specs.Size.{size_of};
     ghost use Rattle.pv_disk.specs.ListLog.{ListState};
 
     ghost Value = { ListState };

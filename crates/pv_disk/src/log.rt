@@ -1,8 +1,8 @@
 // A list of contents that outlives its process, and what a crash at any moment leaves of it.
 ghost use Rattle.std.specs.Prelude.{◌≡◌, ◌⊎◌, ℕ, ◌+◌, ◌<◌, ◌≤◌, ◌^◌, Bool, false, List, Option, Some, map, length, is_ok, IfOk};
-ghost use Rattle.pv_law_disk.specs.Size.{Contents, size_of};
-ghost use Rattle.pv_law_disk.specs.Calls.{read_all, reserve, append};
-ghost use Rattle.pv_law_disk.specs.LogModel.{LogModel};
+ghost use Rattle.pv_disk_model.specs.Size.{Contents, size_of};
+ghost use Rattle.pv_disk_model.specs.Calls.{read_all, reserve, append};
+ghost use Rattle.pv_disk_model.specs.LogModel.{LogModel};
 ghost use Rattle.pv_disk.specs.LogAnswers.{Reads, Reserves, Appends};
 
 use crate::LogError;

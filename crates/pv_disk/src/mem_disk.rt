@@ -1,9 +1,9 @@
 // A disk in memory, whose calls fail where that is asked for.
 ghost use Rattle.std.specs.Prelude.{◌≡◌, ◌≤◌, ◌+◌, ℕ, List, Some, None, [], length, take, drop, is_ok, vec_len, IfOk, OnOk, OnErr};
 ghost use Rattle.pv_base.specs.declared.limits.TheConstants.{MAX_LENGTH};
-ghost use Rattle.pv_law_disk.specs.Calls.{len, read, make_room, write, sync};
-ghost use Rattle.pv_law_disk.specs.Disk.{overlaid, Observes, Writes, Syncs};
-ghost use Rattle.pv_disk.specs.DiskAnswers.{Reserves};
+ghost use Rattle.pv_disk_model.specs.Calls.{len, read, make_room, write, sync};
+ghost use Rattle.pv_disk_model.specs.Disk.{overlaid, Observes, Writes, Syncs};
+ghost use Rattle.pv_disk.specs.DiskAnswers.{ReservesOnDisk};
 ghost use Rattle.pv_base.specs.Fault.{risen};
 ghost use Rattle.pv_disk.specs.MemImage.{settled_at};
 ghost use Rattle.pv_disk.specs.MemDisk.{MemState, MemGoes};

@@ -1,6 +1,6 @@
 // Each public call once, and what no clause says.
 ghost use Rattle.std.specs.Prelude.{◌≡◌, ◌<◌, ◌≤◌, ◌+◌, ◌^◌, ◌++◌, false, List, ℕ, None, length, IfOk, OnOk};
-ghost use Rattle.pv_law_disk.specs.Log.{Adds};
+ghost use Rattle.pv_disk_model.specs.Log.{Adds};
 
 use pv_base::{Failed, Mode, SiteId};
 use pv_disk::*;
@@ -10,7 +10,7 @@ use std::fs::{File, OpenOptions};
 use std::test::Fail;
 
 // An append with its room, over any log.
-#[tactic(auto, using(pv_law_disk::proofs::LogLemmas::log_joins))]
+#[tactic(auto, using(pv_disk_model::proofs::LogLemmas::log_joins))]
 fn add<L: Log>(log: &mut L, content: &[u8]) -> Result<(), LogError>
     requires intact { L.model.is_intact log.old }
     requires up { L.model.is_down log.old ≡ false }

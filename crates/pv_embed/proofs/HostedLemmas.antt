@@ -3,8 +3,8 @@ use Rattle.std.proofs.Common.{◌≡◌, inl, inr, ℕ, ◌+◌, ◌<◌, ◌≤
 use Rattle.std.specs.Prelude.{flat_map}
 use Rattle.pv_base.specs.declared.limits.TheConstants.{MAX_LENGTH}
 use Rattle.pv_format.specs.Record.{Record}
-use Rattle.pv_law_disk.specs.Calls.{LogCall, Makes, read_all, reserve, append}
-use Rattle.pv_law_disk.specs.Size.{Contents, size_of}
+use Rattle.pv_disk_model.specs.Calls.{LogCall, Makes, read_all, reserve, append}
+use Rattle.pv_disk_model.specs.Size.{Contents, size_of}
 use Rattle.pv_protocol.specs.State as model
 use Rattle.pv_protocol.specs.State.{Running}
 use Rattle.pv_protocol.specs.Step.{step_on}
@@ -55,7 +55,7 @@ no_shorter (Some appended) old new logs =
 
 module _ (old new : SiteState HostState) (running : Running) (input : model.Input) (answer : Step) (up : old.running ≡ Some running)
     (steps : Steps host_model old new old.running input (Ok answer)) where
-  made_step : step.Makes host_model old new answer (step_on (here_with old running) input)
+  made_step : step.HasMade host_model old new answer (step_on (here_with old running) input)
   made_step = subst (λ (r : Option Running). Steps host_model old new r input (Ok answer)) up steps
 
   pub still_stored : new.log.stored ≡ old.log.stored

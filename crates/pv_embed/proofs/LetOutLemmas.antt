@@ -8,8 +8,8 @@ use Rattle.std.proofs.lemmas.List.Sums.{sum_by-append}
 use Rattle.pv_base.specs.Answer.{HasOneAnswer}
 use Rattle.pv_format.specs.Contents.{SpellRecords}
 use Rattle.pv_format.specs.Record.{Record}
-use Rattle.pv_law_disk.specs.Size.{Contents, size_of}
-use Rattle.pv_law_journal.specs.Format.{IsJournal, IsNotOurs}
+use Rattle.pv_disk_model.specs.Size.{Contents, size_of}
+use Rattle.pv_format.specs.Journal.{IsJournal, IsNotOurs}
 use Rattle.pv_protocol.specs.Records.{journal_bytes}
 use Rattle.pv_protocol.specs.Step.{step_on}
 use Rattle.pv_site.specs.SiteState.{SiteState, here_with}

@@ -1,6 +1,6 @@
 -- What a site with a host is, and what its steps make of it.
 use Rattle.std.specs.Prelude.{◌≡◌, ℕ, List, ◌++◌, Option, Some, Result, Ok, Err, map, All}
-use Rattle.pv_law_disk.specs.Size.{size_of}
+use Rattle.pv_disk_model.specs.Size.{size_of}
 use Rattle.pv_protocol.specs.State as model
 use Rattle.pv_protocol.specs.Step.{step_on}
 use Rattle.pv_site.specs.Inputs.{IsSpelledFrom}

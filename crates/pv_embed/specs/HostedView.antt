@@ -1,7 +1,7 @@
 -- What the fields of a site with a host say.
 use Rattle.std.specs.Prelude.{◌≡◌, ◌≢◌, ◌≤◌, ◌<◌, [], Some, All}
 use Rattle.std.specs.List.{flat_map}
-use Rattle.pv_law_disk.specs.Size.{size_of}
+use Rattle.pv_disk_model.specs.Size.{size_of}
 use Rattle.pv_protocol.specs.State.{Running}
 use Rattle.pv_site.specs.Steps.{IsReady}
 use Rattle.pv_host.specs.HostLaws.{host_model}

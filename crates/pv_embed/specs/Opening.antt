@@ -3,8 +3,8 @@ use Rattle.std.specs.Prelude.{◌≡◌, ◌≢◌, ℕ, ◌<◌, ◌≤◌, fal
 use Rattle.pv_base.specs.Catalog.{Declared}
 use Rattle.pv_format.specs.Contents.{IsFirstBadContent, SpellRecords}
 use Rattle.pv_format.specs.Record.{Record}
-use Rattle.pv_law_disk.specs.Size.{Contents}
-use Rattle.pv_law_journal.specs.Format.{IsJournal, IsNotOurs}
+use Rattle.pv_disk_model.specs.Size.{Contents}
+use Rattle.pv_format.specs.Journal.{IsJournal, IsNotOurs}
 use Rattle.pv_model.specs.Events as model
 use Rattle.pv_model.specs.Schedule.{IsSchedule}
 use Rattle.pv_protocol.specs.Start.{site_start, too_long, no_epoch}

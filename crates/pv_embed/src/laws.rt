@@ -2,9 +2,9 @@
 ghost use Rattle.std.specs.Prelude.{◌≡◌, ◌∷◌, ◌++◌, ◌≤◌, ℕ, [], List, Option, Some, None, Result, Ok, Err};
 ghost use Rattle.pv_format.specs.Contents.{SpellRecords};
 ghost use Rattle.pv_format.specs.Record.{Record, epoch_begun};
-ghost use Rattle.pv_law_disk.specs.Disk.{overlaid};
-ghost use Rattle.pv_law_disk.specs.Size.{Contents, size_of};
-ghost use Rattle.pv_law_journal.specs.Format.{IsJournal};
+ghost use Rattle.pv_disk_model.specs.Disk.{overlaid};
+ghost use Rattle.pv_disk_model.specs.Size.{Contents, size_of};
+ghost use Rattle.pv_format.specs.Journal.{IsJournal};
 ghost use Rattle.pv_protocol.specs.State as model;
 ghost use Rattle.pv_protocol.specs.Records.{journal_bytes};
 ghost use Rattle.pv_site.specs.SiteState.{SiteState};

@@ -1,5 +1,7 @@
 pub mod Contents
 pub mod FirstFault
+pub mod Journal
+pub mod JournalContents
 pub mod Layout
 pub mod Length
 pub mod Message

@@ -7,15 +7,15 @@ use Rattle.pv_format.specs.RecordSpelling.{SpellsReads}
 use Rattle.pv_format.specs.Spelling.{◌followed_by◌, IsEmpty, IsAllowed, IsSite, IsTruth, SpellsTxn, SpellsGrant, SpellsEntries, is_item_from}
 
 -- the number of each kind of message
-abbrev pub kind_of : Message → ℕ
-kind_of (lock txn wants) = 1
-kind_of (granted txn grant values) = 2
-kind_of (denied txn item holder) = 3
-kind_of (prepare txn grant writes) = 4
-kind_of (vote_yes txn) = 5
-kind_of (vote_no txn cause) = 6
-kind_of (outcome_reported txn commits) = 7
-kind_of (ask txn) = 8
+abbrev pub kind_number : Message → ℕ
+kind_number (lock txn wants) = 1
+kind_number (granted txn grant values) = 2
+kind_number (denied txn item holder) = 3
+kind_number (prepare txn grant writes) = 4
+kind_number (vote_yes txn) = 5
+kind_number (vote_no txn cause) = 6
+kind_number (outcome_reported txn commits) = 7
+kind_number (ask txn) = 8
 
 -- Items with whether the transaction may change them, at least so many.
 abbrev pub SpellsWants : ℕ → List Want → List ℕ → Type 0
@@ -40,5 +40,5 @@ SpellsBody (ask txn) = IsEmpty
 -- A message is its kind, the sites that it comes from and goes to, its transaction, and what its kind has besides.
 abbrev pub SpellsEnvelope : Envelope → List ℕ → Type 0
 SpellsEnvelope envelope =
-    IsNumber 1 (kind_of envelope.message) followed_by IsSite envelope.from followed_by IsSite envelope.to
+    IsNumber 1 (kind_number envelope.message) followed_by IsSite envelope.from followed_by IsSite envelope.to
     followed_by SpellsTxn (txn_of envelope.message) followed_by SpellsBody envelope.message

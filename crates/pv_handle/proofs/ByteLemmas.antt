@@ -9,7 +9,7 @@ use Rattle.pv_protocol.specs.State as model
 use Rattle.pv_protocol.specs.Step.{step_on}
 use Rattle.pv_site.specs.Inputs.{IsSpelledFrom}
 use Rattle.pv_site.specs.SiteState.{SiteState, here_with}
-use Rattle.pv_site.specs.Steps.{Makes}
+use Rattle.pv_site.specs.Steps.{HasMade}
 use Rattle.pv_site.specs.Values.{outgoing_of}
 use Rattle.pv_site.specs.declared.input.Outgoing.{Outgoing}
 use Rattle.pv_host.specs.HostLaws.{host_model}
@@ -93,7 +93,7 @@ module _ (me : ℕ) (catalog : Declared) where
   sends-spelled sends sent is spelled = subst (All IsSpelled) is (All-map IsSpelled outgoing_of sends spelled)
 
 module _ (old new : HostedState) (input : model.Input) (stepped : HasStepped old new input) where
-  made : Makes host_model old.site new.site stepped.answer (step_on (here_with old.site stepped.running) input)
+  made : HasMade host_model old.site new.site stepped.answer (step_on (here_with old.site stepped.running) input)
   made = stepped.steps
 
   same-me : new.site.me ≡ old.site.me

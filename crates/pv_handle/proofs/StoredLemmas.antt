@@ -3,8 +3,8 @@ use Rattle.std.proofs.Common.{◌≡◌, inl, inr, refl, ap, ◌∙◌, ℕ, ◌
 use Rattle.std.proofs.lemmas.List.Sums.{sum_by-append}
 use Rattle.std.specs.Prelude.{MatchBool}
 use Rattle.pv_format.specs.Record.{Record}
-use Rattle.pv_law_disk.specs.Calls.{LogCall, Makes, read_all, reserve, append}
-use Rattle.pv_law_disk.specs.Size.{Contents, size_of}
+use Rattle.pv_disk_model.specs.Calls.{LogCall, Makes, read_all, reserve, append}
+use Rattle.pv_disk_model.specs.Size.{Contents, size_of}
 use Rattle.pv_protocol.specs.State as model
 use Rattle.pv_protocol.specs.Step.{step_on}
 use Rattle.pv_site.specs.OnLog.{Logs}

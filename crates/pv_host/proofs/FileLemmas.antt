@@ -6,10 +6,10 @@ use Rattle.std.proofs.lemmas.List.{take_at, drop_at, take-append-drop, drop_more
 use Rattle.std.proofs.lemmas.List.Elements.{All-nil, All-cons, All-head, All-tail, All-push}
 use Rattle.std.proofs.lemmas.Bool.{cases_eq}
 use Rattle.std.proofs.lemmas.Grind.{flat_map-append}
-use Rattle.pv_law_disk.specs.Disk.{overlaid, Torn}
-use Rattle.pv_law_disk.specs.Calls.{LogCall, read_all, reserve, append}
-use Rattle.pv_law_disk.specs.Size.{Contents}
-use Rattle.pv_law_journal.specs.Format.{header, framed, record_of, records_of, AreShort, end_of}
+use Rattle.pv_disk_model.specs.Disk.{overlaid, Torn}
+use Rattle.pv_disk_model.specs.Calls.{LogCall, read_all, reserve, append}
+use Rattle.pv_disk_model.specs.Size.{Contents}
+use Rattle.pv_format.specs.Journal.{header, framed, record_of, records_of, AreShort, end_of}
 use Rattle.pv_host.specs.HostFile.{StandsAtGate, StandsBehind, IsFile, MayLeave, IsStored, HoldsStored}
 use Rattle.pv_host.specs.HostWrites.{IsOpenedOn}
 use Rattle.pv_host.specs.HostLog.{HostGoes, HostState, HostWrite, IsSameBesideRoom, contents_of, write_after, next_write, written_to, with_written, with_content}

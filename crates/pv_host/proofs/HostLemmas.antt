@@ -14,10 +14,10 @@ use Rattle.pv_disk.specs.MemLaws.{mem_model}
 use Rattle.pv_disk.specs.declared.disk_error.LookError.{LookError}
 use Rattle.pv_disk.specs.declared.disk_error.LookError.TheVariants.{Failed, NotOurs, NoMemory}
 use Rattle.pv_journal.specs.Reading.{LooksBy}
-use Rattle.pv_law_disk.specs.Calls.{OnlyReads}
-use Rattle.pv_law_disk.specs.Log.{LeavesOnly, IsBeforeOrAfter, Adds, StaysUp}
-use Rattle.pv_law_disk.specs.Size.{Contents, size_of}
-use Rattle.pv_law_journal.specs.Format.{framed, end_of}
+use Rattle.pv_disk_model.specs.Calls.{OnlyReads}
+use Rattle.pv_disk_model.specs.Log.{LeavesOnly, IsBeforeOrAfter, Adds, StaysUp}
+use Rattle.pv_disk_model.specs.Size.{Contents, size_of}
+use Rattle.pv_format.specs.Journal.{framed, end_of}
 use Rattle.pv_law_journal.proofs.SizeLemmas.{length-framed, end_of-size}
 use Rattle.pv_host.specs.Frames.{content_in, is_frame}
 use Rattle.pv_host.specs.HostLog.{HostState, WasHeld, contents_of, with_content, IsSameBesideRoom}

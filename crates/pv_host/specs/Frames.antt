@@ -1,6 +1,6 @@
 -- Records as they come after a gate.
 use Rattle.std.specs.Prelude.{◌≡◌, ℕ, ◌-◌, List, [], ◌∷◌, ◌++◌, length, take, drop}
-use Rattle.pv_law_journal.specs.Format.{framed}
+use Rattle.pv_format.specs.Journal.{framed}
 
 -- what stands between a length of four bytes and a gate
 abbrev pub content_in : List ℕ → List ℕ

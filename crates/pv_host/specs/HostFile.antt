@@ -1,8 +1,8 @@
 -- Which file a host may hold that writes what it is told, and what a crash leaves of it.
 use Rattle.std.specs.Prelude.{◌≡◌, ◌≢◌, ◌⊎◌, ℕ, ◌≤◌, Bool, true, false, List, [], ◌∷◌, ◌++◌, Some, length, take}
-use Rattle.pv_law_disk.specs.Disk.{Torn}
-use Rattle.pv_law_disk.specs.Size.{Contents, size_of}
-use Rattle.pv_law_journal.specs.Format.{header, framed, records_of, AreShort, IsJournal}
+use Rattle.pv_disk_model.specs.Disk.{Torn}
+use Rattle.pv_disk_model.specs.Size.{Contents, size_of}
+use Rattle.pv_format.specs.Journal.{header, framed, records_of, AreShort, IsJournal}
 use Rattle.pv_host.specs.HostLog.{HostState, HostWrite, contents_of, next_write}
 
 -- What stands at the gate after what is stored, and after it, once the host has told that the next record stands behind the gate: it does, and the gate may be open

@@ -3,8 +3,8 @@ use Rattle.std.specs.Prelude.{◌≡◌, ℕ, ◌≤◌, Bool, true, false, Opti
 use Rattle.std.proofs.Common.{sym, ◌∙◌, ap, arith}
 use Rattle.std.proofs.lemmas.List.{take_all}
 use Rattle.pv_base.specs.declared.limits.TheConstants.{MAX_LENGTH}
-use Rattle.pv_law_disk.specs.Size.{Contents, size_of}
-use Rattle.pv_law_disk.specs.LogModel.{LogModel}
+use Rattle.pv_disk_model.specs.Size.{Contents, size_of}
+use Rattle.pv_disk_model.specs.LogModel.{LogModel}
 use Rattle.pv_host.specs.HostLog.{HostState, WasHeld, HasPlace, HostGoes, contents_of}
 
 pub was_held : (log : HostState) (t : ℕ) (left : Option Contents) → t ≤ length (contents_of log) → left ≡ Some (contents_of log) → WasHeld log t left

@@ -1,8 +1,8 @@
 -- What a log is whose journal a host writes, what the host is to write next, and what the calls make of the log.
 use Rattle.std.specs.Prelude.{◌≡◌, ℕ, ◌+◌, ◌^◌, ◌<◌, ◌≤◌, Bool, true, false, not, MatchBool, List, [], ◌∷◌, ◌++◌, Option, Some, None, length, take}
-use Rattle.pv_law_disk.specs.Calls.{LogCall, read_all, reserve, append}
-use Rattle.pv_law_disk.specs.Size.{Contents, size_of}
-use Rattle.pv_law_journal.specs.Format.{framed, end_of}
+use Rattle.pv_disk_model.specs.Calls.{LogCall, read_all, reserve, append}
+use Rattle.pv_disk_model.specs.Size.{Contents, size_of}
+use Rattle.pv_format.specs.Journal.{framed, end_of}
 
 -- A log whose journal a host writes: the contents that the host has told to stand in its file, and those after them; whether the record of the first of these
 -- stands there already, behind a closed gate; how long the log may be; whether it is down, and whether it was read or added to; for how many contents there is a

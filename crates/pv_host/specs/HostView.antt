@@ -2,8 +2,8 @@
 use Rattle.std.specs.Prelude.{◌≡◌, ◌-◌, ◌≤◌, [], false, is_none, map, vec_capacity, IfSome, ◌++◌}
 use Rattle.std.specs.VecDeque.{deque_len, deque_capacity}
 use Rattle.pv_base.specs.declared.limits.TheConstants.{MAX_JOURNAL, MAX_LENGTH}
-use Rattle.pv_law_disk.specs.Size.{size_of}
-use Rattle.pv_law_journal.specs.Format.{end_of}
+use Rattle.pv_disk_model.specs.Size.{size_of}
+use Rattle.pv_format.specs.Journal.{end_of}
 use Rattle.pv_host.specs.HostLog.{HostState, contents_of}
 use Rattle.pv_host.specs.declared.host_log.HostLog.TheInside.{Inside}
 

@@ -1,6 +1,6 @@
 -- How the host is told what to write, and how a log is opened on its file.
 use Rattle.std.specs.Prelude.{◌≡◌, ℕ, [], List, false}
-use Rattle.pv_law_journal.specs.Format.{IsJournal}
+use Rattle.pv_format.specs.Journal.{IsJournal}
 use Rattle.pv_host.specs.HostLog as model
 use Rattle.pv_host.specs.HostLog.{HostState}
 use Rattle.pv_host.specs.declared.host_write.HostWrite.{HostWrite}

@@ -1,7 +1,7 @@
 // A record as it comes after a gate.
 ghost use Rattle.std.specs.Prelude.{◌≡◌, ◌≤◌, ◌<◌, ◌+◌, ◌^◌, ◌++◌, ◌∷◌, [], length, vec_capacity};
 ghost use Rattle.pv_base.specs.BigEndian.{big_endian};
-ghost use Rattle.pv_law_journal.specs.Format.{framed};
+ghost use Rattle.pv_format.specs.Journal.{framed};
 
 use byteorder::{BigEndian, ByteOrder};
 use std::marker::Model;

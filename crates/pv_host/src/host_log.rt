@@ -3,8 +3,8 @@ ghost use Rattle.std.specs.Prelude.{◌≡◌, ◌≢◌, ◌≤◌, ◌<◌, �
 ghost use Rattle.std.specs.Option.{option_map};
 ghost use Rattle.pv_base.specs.Answer.{Answers};
 ghost use Rattle.pv_disk.specs.declared.disk_error.LookError.TheVariants as look;
-ghost use Rattle.pv_law_disk.specs.Size.{Contents, size_of};
-ghost use Rattle.pv_law_journal.specs.Format.{framed, IsJournal, IsNotOurs};
+ghost use Rattle.pv_disk_model.specs.Size.{Contents, size_of};
+ghost use Rattle.pv_format.specs.Journal.{framed, IsJournal, IsNotOurs};
 ghost use Rattle.pv_journal.specs.Opening.{contents_in, place_in};
 ghost use Rattle.pv_host.specs.HostLog.{HostState, IsSameBesideRoom, HasPlace, next_write, with_content, with_written};
 ghost use Rattle.pv_host.specs.HostLaws.{host_model};

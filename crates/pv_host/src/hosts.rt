@@ -1,7 +1,7 @@
 // What is true of logs whose journals hosts write. The functions do nothing: each states a law.
 ghost use Rattle.std.specs.Prelude.{◌≡◌, ℕ, Bool, true, false, List, Some};
-ghost use Rattle.pv_law_disk.specs.Calls.{LogCall, append, reserve};
-ghost use Rattle.pv_law_disk.specs.Disk.{overlaid};
+ghost use Rattle.pv_disk_model.specs.Calls.{LogCall, append, reserve};
+ghost use Rattle.pv_disk_model.specs.Disk.{overlaid};
 ghost use Rattle.pv_host.specs.HostFile.{HoldsStored, IsFile, IsStored, MayLeave};
 ghost use Rattle.pv_host.specs.HostLog.{HostGoes, HostState, HostWrite, IsSameBesideRoom, next_write, with_written};
 ghost use Rattle.pv_host.specs.HostWrites.{IsOpenedOn};

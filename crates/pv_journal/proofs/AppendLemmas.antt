@@ -4,12 +4,12 @@ use Rattle.std.proofs.lemmas.List.{take_at, drop_at, take-append-drop, drop_more
 use Rattle.std.proofs.lemmas.List.Elements.{All-nil, All-cons, All-append}
 use Rattle.std.proofs.lemmas.Bool.{cases_eq}
 use Rattle.pv_base.specs.declared.failure.Failed.{Failed as Fault}
-use Rattle.pv_law_disk.specs.DiskModel.{DiskModel}
-use Rattle.pv_law_disk.specs.Disk.{overlaid, Torn, Only, LeavesOnly, LeftTorn, Syncs}
-use Rattle.pv_law_disk.specs.Size.{Contents}
-use Rattle.pv_law_disk.proofs.DiskLemmas.{LeavesOnly-trans, LeavesOnly-weaken}
+use Rattle.pv_disk_model.specs.DiskModel.{DiskModel}
+use Rattle.pv_disk_model.specs.Disk.{overlaid, Torn, Only, LeavesOnly, LeftTorn, Syncs}
+use Rattle.pv_disk_model.specs.Size.{Contents}
+use Rattle.pv_disk_model.proofs.DiskLemmas.{LeavesOnly-trans, LeavesOnly-weaken}
 use Rattle.pv_journal.proofs.LookLemmas.{still_left}
-use Rattle.pv_law_journal.specs.Format.{header, framed, record_of, records_of, IsJournal, end_of}
+use Rattle.pv_format.specs.Journal.{header, framed, record_of, records_of, IsJournal, end_of}
 use Rattle.pv_journal.specs.Appending.{StandsFor, IsReady, WritesRecord}
 use Rattle.pv_journal.proofs.ReadLemmas.{records_of-push}
 

@@ -7,11 +7,11 @@ use Rattle.std.proofs.lemmas.List.{append-nil, drop_at, length-replicate, take_a
 use Rattle.std.proofs.lemmas.List.Elements.{All-nil}
 use Rattle.pv_base.specs.declared.mode.Mode.{Mode}
 use Rattle.pv_base.specs.declared.mode.Mode.TheVariants.{Lost, Kept, Torn as TornAll}
-use Rattle.pv_law_disk.specs.Calls.{DiskCall, IsRead, Makes, OnlyReads, none, one_more, len, read, make_room, write, sync, read_all, reserve, append}
-use Rattle.pv_law_disk.specs.Disk.{overlaid, Torn}
-use Rattle.pv_law_disk.specs.Size.{Contents}
-use Rattle.pv_law_disk.proofs.OverlayLemmas.{Torn-overlaid, Torn-trans}
-use Rattle.pv_law_journal.specs.Format.{header, framed, records_of, IsJournal, end_of}
+use Rattle.pv_disk_model.specs.Calls.{DiskCall, IsRead, Makes, OnlyReads, none, one_more, len, read, make_room, write, sync, read_all, reserve, append}
+use Rattle.pv_disk_model.specs.Disk.{overlaid, Torn}
+use Rattle.pv_disk_model.specs.Size.{Contents}
+use Rattle.pv_disk_model.proofs.OverlayLemmas.{Torn-overlaid, Torn-trans}
+use Rattle.pv_format.specs.Journal.{header, framed, records_of, IsJournal, end_of}
 use Rattle.pv_law_journal.proofs.OneAnswer.{not_both, same_contents}
 use Rattle.pv_disk.specs.MemDisk.{ArmsState, MemState, MemGoes, Changes, armed_after, counted, fail_read_after, fired_after, firing, read_fails}
 use Rattle.pv_disk.specs.MemImage.{Moment, left_by, settled_at, written_at}

@@ -1,11 +1,11 @@
 -- What a crash leaves of each call that makes an empty journal.
 use Rattle.std.proofs.Common.{◌≡◌, inl, ℕ, false, List, Result, Err, refl, sym, subst, arith}
 use Rattle.pv_base.specs.Fault.{Rose}
-use Rattle.pv_law_disk.specs.Calls.{make_room}
-use Rattle.pv_law_disk.specs.DiskModel.{DiskModel}
-use Rattle.pv_law_disk.specs.Disk.{Torn, LeavesOnly, LeftTorn, MakesRoom}
-use Rattle.pv_law_disk.proofs.DiskLemmas.{LeavesOnly-trans, LeavesOnly-weaken}
-use Rattle.pv_disk.specs.DiskAnswers.{Reserves}
+use Rattle.pv_disk_model.specs.Calls.{make_room}
+use Rattle.pv_disk_model.specs.DiskModel.{DiskModel}
+use Rattle.pv_disk_model.specs.Disk.{Torn, LeavesOnly, LeftTorn, MakesRoom}
+use Rattle.pv_disk_model.proofs.DiskLemmas.{LeavesOnly-trans, LeavesOnly-weaken}
+use Rattle.pv_disk.specs.DiskAnswers.{ReservesOnDisk}
 use Rattle.pv_disk.specs.declared.disk_error.DiskError.{DiskError}
 use Rattle.pv_disk.specs.declared.disk_error.DiskError.TheVariants.{Failed, NoMemory}
 use Rattle.pv_journal.specs.Opening.{Formatted, Formats}
@@ -32,7 +32,7 @@ module _ {D : Type 0} (M : DiskModel D) (old : D) where
       LeavesOnly-trans M old mid new (LeftTorn M old 0 9) (M.may_leave mid) (LeftTorn M old 0 9) leaves quiet (λ left is. is) (still_left M old mid (LeftTorn M old 0 9) leaves)
 
   -- There was no room.
-  pub no_room : {X : Type 0} (Y : Type 0) (new : D) (e : DiskError) (result : Result X DiskError) → result ≡ Err e → Reserves M {X = Y} old new 9 1 (Err e) → M.goes old (make_room 9 1) false new
+  pub no_room : {X : Type 0} (Y : Type 0) (new : D) (e : DiskError) (result : Result X DiskError) → result ≡ Err e → ReservesOnDisk M {X = Y} old new 9 1 (Err e) → M.goes old (make_room 9 1) false new
       → Formats M {X = X} old new result
   no_room Y new Failed result is reserves goes =
       subst (Formats M old new) (sym is)

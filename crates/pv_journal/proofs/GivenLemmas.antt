@@ -9,10 +9,10 @@ use Rattle.std.proofs.lemmas.List.Elements.{All-nil, All-cons, All-append}
 use Rattle.std.proofs.lemmas.List.Sums.{sum_by-append, sum_by-cons}
 use Rattle.pv_base.specs.BigEndian.{big_endian}
 use Rattle.pv_base.proofs.AnswerLemmas.{answered}
-use Rattle.pv_law_disk.specs.DiskModel.{DiskModel}
-use Rattle.pv_law_disk.specs.Disk.{Gives, GivesNothing}
-use Rattle.pv_law_disk.specs.Size.{Contents}
-use Rattle.pv_law_journal.specs.Format.{header, record_of, records_of, IsJournal, IsNotOurs, EndsShort}
+use Rattle.pv_disk_model.specs.DiskModel.{DiskModel}
+use Rattle.pv_disk_model.specs.Disk.{Gives, GivesNothing}
+use Rattle.pv_disk_model.specs.Size.{Contents}
+use Rattle.pv_format.specs.Journal.{header, record_of, records_of, IsJournal, IsNotOurs, EndsShort}
 use Rattle.pv_law_journal.proofs.Bodies.{frame_length}
 use Rattle.pv_law_journal.proofs.OneAnswer.{one_answer}
 use Rattle.pv_disk.specs.declared.disk_error.LookError.{LookError}

@@ -5,12 +5,12 @@ use Rattle.byteorder.specs.Endian.{big_bytes}
 use Rattle.pv_base.specs.BigEndian.{big_endian}
 use Rattle.pv_base.proofs.BigEndianLemmas.{bytes_high_first-big_endian}
 use Rattle.pv_base.specs.declared.failure.Failed.{Failed as Fault}
-use Rattle.pv_law_disk.specs.DiskModel.{DiskModel}
-use Rattle.pv_law_disk.specs.Disk as disk
-use Rattle.pv_law_disk.specs.Size.{Contents}
-use Rattle.pv_law_disk.specs.Log.{IsBeforeOrAfter, LeavesOnly, Adds, MayAdd}
-use Rattle.pv_law_journal.specs.Format.{framed, record_of, records_of, IsJournal, IsNotOurs, end_of}
-use Rattle.pv_law_journal.specs.Contents.{contents_of}
+use Rattle.pv_disk_model.specs.DiskModel.{DiskModel}
+use Rattle.pv_disk_model.specs.Disk as disk
+use Rattle.pv_disk_model.specs.Size.{Contents}
+use Rattle.pv_disk_model.specs.Log.{IsBeforeOrAfter, LeavesOnly, Adds, MayAdd}
+use Rattle.pv_format.specs.Journal.{framed, record_of, records_of, IsJournal, IsNotOurs, end_of}
+use Rattle.pv_format.specs.JournalContents.{contents_of}
 use Rattle.pv_law_journal.proofs.ContentsLemmas.{contents_of-is, contents_of-journal}
 use Rattle.pv_law_journal.proofs.OneAnswer.{same_contents, not_both}
 use Rattle.pv_journal.specs.Journal.{IsIntact, contents_now, HasRoom}

@@ -3,10 +3,10 @@ use Rattle.std.proofs.Common.{◌≡◌, ℕ, Bool, true, false, List, Option, S
 use Rattle.std.specs.Prelude.{is_some, IsErrOf, IfOk, IfErr, IfSome}
 use Rattle.pv_base.specs.Fault.{Rose}
 use Rattle.pv_base.specs.declared.failure.Failed.{Failed as Fault}
-use Rattle.pv_law_disk.specs.Calls.{DiskCall, IsRead, OnlyReads, none, one_more}
-use Rattle.pv_law_disk.specs.DiskModel.{DiskModel}
-use Rattle.pv_law_disk.specs.Disk.{LeavesOnly, Observes}
-use Rattle.pv_law_disk.proofs.DiskLemmas.{LeavesOnly-none, LeavesOnly-trans}
+use Rattle.pv_disk_model.specs.Calls.{DiskCall, IsRead, OnlyReads, none, one_more}
+use Rattle.pv_disk_model.specs.DiskModel.{DiskModel}
+use Rattle.pv_disk_model.specs.Disk.{LeavesOnly, Observes}
+use Rattle.pv_disk_model.proofs.DiskLemmas.{LeavesOnly-none, LeavesOnly-trans}
 use Rattle.pv_disk.specs.declared.disk_error.LookError.{LookError}
 use Rattle.pv_disk.specs.declared.disk_error.LookError.TheVariants.{Failed, NotOurs, NoMemory}
 use Rattle.pv_journal.specs.Opening.{place_in}

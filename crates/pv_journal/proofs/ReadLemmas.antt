@@ -6,8 +6,8 @@ use Rattle.std.proofs.lemmas.List.Concat.{flat_map-append}
 use Rattle.std.proofs.lemmas.List.Elements.{All-nil, All-cons, All-append}
 use Rattle.pv_base.specs.BigEndian.{big_endian, number_of}
 use Rattle.pv_base.proofs.BigEndianLemmas.{number_of-big_endian, length-big_endian}
-use Rattle.pv_law_disk.specs.Size.{Contents}
-use Rattle.pv_law_journal.specs.Format.{header, framed, record_of, records_of, IsJournal, end_of, EndsShort, HasNoHeader}
+use Rattle.pv_disk_model.specs.Size.{Contents}
+use Rattle.pv_format.specs.Journal.{header, framed, record_of, records_of, IsJournal, end_of, EndsShort, HasNoHeader}
 use Rattle.pv_law_journal.proofs.Bodies.{frame_length, first_and_rest}
 use Rattle.pv_journal.specs.Reading.{ReadsTo, StandsAt, StandsCut}
 use Rattle.pv_journal.specs.declared.reading.Gate.TheVariants.{Closed, Open}

@@ -1,9 +1,9 @@
 -- What the four calls of an append do to the disk.
 use Rattle.std.specs.Prelude.{◌≡◌, ◌⊎◌, ℕ, ◌^◌, ◌<◌, List, [], ◌∷◌, ◌++◌, Some, length, Result, OnOk}
-use Rattle.pv_law_disk.specs.DiskModel.{DiskModel}
-use Rattle.pv_law_disk.specs.Disk.{Only, LeavesOnly}
-use Rattle.pv_law_disk.specs.Size.{Contents}
-use Rattle.pv_law_journal.specs.Format.{framed, IsJournal, end_of}
+use Rattle.pv_disk_model.specs.DiskModel.{DiskModel}
+use Rattle.pv_disk_model.specs.Disk.{Only, LeavesOnly}
+use Rattle.pv_disk_model.specs.Size.{Contents}
+use Rattle.pv_format.specs.Journal.{framed, IsJournal, end_of}
 
 -- The bytes are a journal with these contents, or with one more.
 abbrev pub StandsFor : Contents → List ℕ → List ℕ → Type 0

@@ -1,12 +1,12 @@
 -- A journal on a disk as a log.
 use Rattle.std.specs.Prelude.{◌≡◌, ◌⊎◌, ℕ, ◌+◌, ◌-◌, ◌≤◌, ◌<◌, ◌^◌, Bool, true, false, MatchBool, List, [], ◌∷◌, ◌++◌, Option, Some, length, option_and_then, vec_capacity}
 use Rattle.pv_base.specs.declared.limits.TheConstants.{MAX_JOURNAL, MAX_LENGTH}
-use Rattle.pv_law_disk.specs.Calls.{DiskCall, LogCall, Makes, OnlyReads, read_all, reserve, append, make_room, write, sync}
-use Rattle.pv_law_disk.specs.DiskModel.{DiskModel}
-use Rattle.pv_law_disk.specs.Disk.{Only}
-use Rattle.pv_law_disk.specs.Size.{Contents}
-use Rattle.pv_law_journal.specs.Format.{framed, IsJournal, end_of}
-use Rattle.pv_law_journal.specs.Contents.{contents_of}
+use Rattle.pv_disk_model.specs.Calls.{DiskCall, LogCall, Makes, OnlyReads, read_all, reserve, append, make_room, write, sync}
+use Rattle.pv_disk_model.specs.DiskModel.{DiskModel}
+use Rattle.pv_disk_model.specs.Disk.{Only}
+use Rattle.pv_disk_model.specs.Size.{Contents}
+use Rattle.pv_format.specs.Journal.{framed, IsJournal, end_of}
+use Rattle.pv_format.specs.JournalContents.{contents_of}
 use Rattle.pv_journal.specs.declared.journal.Journal.{Journal}
 
 -- What an append at a closed gate asks of the disk, in this order: the frame after the gate, a sync, the gate, a sync.

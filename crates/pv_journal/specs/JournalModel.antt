@@ -1,11 +1,11 @@
 -- That a journal keeps the laws of a log.
 use Rattle.std.specs.Prelude.{◌≡◌, ◌+◌, false, Option, Some}
 use Rattle.std.proofs.Common.{sym, ◌∙◌, ap}
-use Rattle.pv_law_disk.specs.DiskModel.{DiskModel}
-use Rattle.pv_law_disk.specs.LogModel.{LogModel}
-use Rattle.pv_law_disk.specs.Size.{Contents, size_of}
-use Rattle.pv_law_journal.specs.Format.{end_of}
-use Rattle.pv_law_journal.specs.Contents.{contents_of}
+use Rattle.pv_disk_model.specs.DiskModel.{DiskModel}
+use Rattle.pv_disk_model.specs.LogModel.{LogModel}
+use Rattle.pv_disk_model.specs.Size.{Contents, size_of}
+use Rattle.pv_format.specs.Journal.{end_of}
+use Rattle.pv_format.specs.JournalContents.{contents_of}
 use Rattle.pv_law_journal.proofs.ContentsLemmas.{contents_of-journal}
 use Rattle.pv_law_journal.proofs.OneAnswer.{same_contents}
 use Rattle.pv_law_journal.proofs.SizeLemmas.{end_of-size, known_bytes}

@@ -2,16 +2,16 @@
 use Rattle.std.specs.Prelude.{◌≡◌, ◌⊎◌, ℕ, ◌≤◌, ◌+◌, Bool, true, false, List, [], ◌∷◌, ◌++◌, Option, Some, None, is_some, map, Result, Ok, Err, Vec, ⊤}
 use Rattle.std.specs.declared.alloc.Global.{Global}
 use Rattle.pv_base.specs.Fault.{Rose}
-use Rattle.pv_law_disk.specs.Calls.{DiskCall, OnlyReads, Makes, make_room, write, sync}
-use Rattle.pv_law_disk.specs.DiskModel.{DiskModel}
-use Rattle.pv_law_disk.specs.Disk.{Only, LeavesOnly, LeftTorn}
-use Rattle.pv_law_disk.specs.Size.{Contents}
+use Rattle.pv_disk_model.specs.Calls.{DiskCall, OnlyReads, Makes, make_room, write, sync}
+use Rattle.pv_disk_model.specs.DiskModel.{DiskModel}
+use Rattle.pv_disk_model.specs.Disk.{Only, LeavesOnly, LeftTorn}
+use Rattle.pv_disk_model.specs.Size.{Contents}
 use Rattle.pv_disk.specs.declared.disk_error.LookError.{LookError}
 use Rattle.pv_disk.specs.declared.disk_error.LookError.TheVariants.{Failed as LookFailed, NotOurs as LookNotOurs, NoMemory as LookNoMemory}
 use Rattle.pv_disk.specs.declared.disk_error.DiskError.{DiskError}
 use Rattle.pv_disk.specs.declared.disk_error.DiskError.TheVariants.{Failed as DiskFailed, NoMemory as DiskNoMemory}
 use Rattle.pv_base.specs.Answer.{Answers}
-use Rattle.pv_law_journal.specs.Format.{header, IsJournal, IsNotOurs}
+use Rattle.pv_format.specs.Journal.{header, IsJournal, IsNotOurs}
 use Rattle.pv_journal.specs.Outline.{OutlinesJournal, OutlinesNone}
 use Rattle.pv_journal.specs.Reading.{Gave}
 use Rattle.pv_journal.specs.Journal.{IsIntact}

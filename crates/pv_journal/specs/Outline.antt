@@ -2,7 +2,7 @@
 use Rattle.std.specs.Prelude.{◌≡◌, ◌≢◌, ◌⊎◌, ℕ, ◌+◌, ◌^◌, ◌<◌, ◌≤◌, List, [], ◌∷◌, ◌++◌, length, sum_by, All}
 use Rattle.std.specs.List.{flat_map}
 use Rattle.pv_base.specs.BigEndian.{big_endian}
-use Rattle.pv_law_journal.specs.Format.{header, HasNoHeader}
+use Rattle.pv_format.specs.Journal.{header, HasNoHeader}
 
 -- An open gate and a length, for each of these lengths of contents.
 abbrev pub outline_of : List ℕ → List ℕ

@@ -2,14 +2,14 @@
 use Rattle.std.specs.Prelude.{◌≡◌, ◌≢◌, ℕ, ◌+◌, ◌^◌, ◌<◌, ◌≤◌, List, [], ◌∷◌, ◌++◌, Option, Some, None, is_some, length, Result, Ok, Err, Vec}
 use Rattle.std.specs.declared.alloc.Global.{Global}
 use Rattle.pv_base.specs.Fault.{Rose}
-use Rattle.pv_law_disk.specs.Calls.{OnlyReads}
-use Rattle.pv_law_disk.specs.DiskModel.{DiskModel}
-use Rattle.pv_law_disk.specs.Disk.{Gives, LeavesOnly}
-use Rattle.pv_law_disk.specs.Size.{Contents}
+use Rattle.pv_disk_model.specs.Calls.{OnlyReads}
+use Rattle.pv_disk_model.specs.DiskModel.{DiskModel}
+use Rattle.pv_disk_model.specs.Disk.{Gives, LeavesOnly}
+use Rattle.pv_disk_model.specs.Size.{Contents}
 use Rattle.pv_disk.specs.declared.disk_error.LookError.{LookError}
 use Rattle.pv_disk.specs.declared.disk_error.LookError.TheVariants.{Failed, NotOurs, NoMemory}
 use Rattle.pv_base.specs.BigEndian.{big_endian}
-use Rattle.pv_law_journal.specs.Format.{header, framed, record_of, records_of, AreShort, IsCut}
+use Rattle.pv_format.specs.Journal.{header, framed, record_of, records_of, AreShort, IsCut}
 use Rattle.pv_journal.specs.declared.reading.Gate.{Gate}
 use Rattle.pv_journal.specs.declared.reading.Gate.TheVariants.{Closed, Open}
 

@@ -1,8 +1,8 @@
 // A journal on a disk, and how it is opened, looked at and made.
 ghost use Rattle.std.specs.Prelude.{◌≡◌, ◌⊎◌, ℕ, ◌+◌, ◌<◌, ◌≤◌, ◌^◌, [], List, Some, map, length, IfOk, IfErr, OnOk, IsErrOf};
 ghost use Rattle.pv_base.specs.Answer.{Answers};
-ghost use Rattle.pv_law_disk.specs.Size.{Contents};
-ghost use Rattle.pv_law_journal.specs.Format.{IsJournal, IsNotOurs};
+ghost use Rattle.pv_disk_model.specs.Size.{Contents};
+ghost use Rattle.pv_format.specs.Journal.{IsJournal, IsNotOurs};
 ghost use Rattle.pv_journal.specs.Reading.{LooksBy};
 ghost use Rattle.pv_journal.specs.Opening.{contents_in, place_in, AnswersOfReads, Opens, Formats};
 

@@ -3,9 +3,9 @@ ghost use Rattle.std.specs.Prelude.{◌≡◌, ℕ, ◌+◌, ◌≤◌, ◌^◌,
 ghost use Rattle.pv_base.specs.declared.limits.TheConstants.{MAX_WRITE_END};
 ghost use Rattle.pv_base.specs.Fault.{FaultCounted};
 ghost use Rattle.pv_base.specs.BigEndian.{big_endian};
-ghost use Rattle.pv_law_disk.specs.Calls.{Makes};
-ghost use Rattle.pv_law_disk.specs.Size.{Contents};
-ghost use Rattle.pv_law_journal.specs.Format.{framed};
+ghost use Rattle.pv_disk_model.specs.Calls.{Makes};
+ghost use Rattle.pv_disk_model.specs.Size.{Contents};
+ghost use Rattle.pv_format.specs.Journal.{framed};
 ghost use Rattle.pv_journal.specs.Journal.{frame_calls};
 ghost use Rattle.pv_journal.specs.Appending.{IsReady, WritesRecord};
 ghost use Rattle.pv_journal.specs.JournalModel.{journal_model};

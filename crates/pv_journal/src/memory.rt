@@ -9,8 +9,8 @@ ghost use Rattle.pv_journal.specs.Journal.{IsIntact, JournalGoes};
 ghost use Rattle.pv_journal.specs.Opening.{Formats, Opens};
 ghost use Rattle.pv_journal.specs.declared.journal.Journal.{Journal};
 ghost use Rattle.pv_journal.specs.declared.open_log.OpenLog.TheVariants.{Failed, NotOurs};
-ghost use Rattle.pv_law_disk.specs.Calls.{Makes, OnlyReads, append, read_all, reserve};
-ghost use Rattle.pv_law_disk.specs.Size.{Contents};
+ghost use Rattle.pv_disk_model.specs.Calls.{Makes, OnlyReads, append, read_all, reserve};
+ghost use Rattle.pv_disk_model.specs.Size.{Contents};
 
 /// On a disk in memory that holds a journal, all of it synced, and on which a fault may be armed:
 ///

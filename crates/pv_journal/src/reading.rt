@@ -2,9 +2,9 @@
 ghost use Rattle.std.specs.Prelude.{◌≡◌, ◌≢◌, ◌⊎◌, ℕ, ◌+◌, ◌-◌, ◌<◌, ◌≤◌, ◌^◌, ◌++◌, [], List, Some, map, length, take, drop, slice_index, vec_len, IfOk, IfErr, IfSome, OnOk, IsErrOf};
 ghost use Rattle.pv_base.specs.declared.limits.TheConstants.{MAX_LENGTH};
 ghost use Rattle.pv_base.specs.BigEndian.{big_endian};
-ghost use Rattle.pv_law_disk.specs.Size.{Contents};
-ghost use Rattle.pv_law_journal.specs.Format.{header, IsJournal, IsNotOurs, HasNoHeader, end_of};
-ghost use Rattle.pv_law_disk.specs.Disk.{Gives};
+ghost use Rattle.pv_disk_model.specs.Size.{Contents};
+ghost use Rattle.pv_format.specs.Journal.{header, IsJournal, IsNotOurs, HasNoHeader, end_of};
+ghost use Rattle.pv_disk_model.specs.Disk.{Gives};
 ghost use Rattle.pv_journal.specs.Outline.{OutlinesJournal, OutlinesNone};
 ghost use Rattle.pv_journal.specs.Reading.{Gave, IsGate, IsOpenEnd, IsRecord, LooksBy, ReadsTo, StandsAt, StandsCut, EndsBefore, HoldsRecord};
 

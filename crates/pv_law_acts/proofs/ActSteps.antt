@@ -18,7 +18,7 @@ use Rattle.pv_law_acts.proofs.SiteLemmas.{up-within, changed-site, site-step}
 use Rattle.pv_law_acts.specs.Acts as acts
 use Rattle.pv_law_acts.specs.Acts.{with_content, remembered, recorded, first_entry, with_begun, with_granted, voting_of, counting, HasNothingNew, Act}
 use Rattle.pv_law_acts.specs.Guards.{IsAtWork, MayBegin, MayGrant, MayTake, MayPlace, MayCount, MayCommit, MayStart, MaySend}
-use Rattle.pv_law_acts.specs.Seen.{records_at, memory_at, Holds, holdings_in, ageless_grant, ageless_entry, work_in, Works, place_of, IsNumberPassed, next_txn_in, next_grant_in, txn_number, grant_number}
+use Rattle.pv_law_acts.specs.Seen.{records_at, memory_at, HoldsAgeless, holdings_in, ageless_grant, ageless_entry, work_in, WorksAgeless, place_in_order, IsNumberPassed, next_txn_in, next_grant_in, txn_number, grant_number}
 use Rattle.pv_law_acts.specs.Steps.{NewEntry, has_begun, has_taken, is_placed, has_counted, NewGrant, NewRecord, NewPlace, MayGrow, as_was, one_more, IsStep}
 use Rattle.pv_law_step.proofs.EpochLemmas.{epoch-stays, epoch-rises}
 use Rattle.pv_law_step.proofs.ConflictLemmas.{no-conflict}
@@ -36,13 +36,13 @@ module _ (setup : Setup) (w : World) (n : ℕ) where
 
   -- Of a site that is up.
   module _ (running : Running) (up : memory_at w n ≡ Some running) where
-    old-work : (txn : TxnId) (entry : Entry) → work_in (Some running) txn ≡ Some entry → Works w n txn entry
+    old-work : (txn : TxnId) (entry : Entry) → work_in (Some running) txn ≡ Some entry → WorksAgeless w n txn entry
     old-work txn entry is = subst (λ (memory : Option Running). work_in memory txn ≡ Some entry) (sym up) is
 
-    old-holding : (grant : Grant) → Contains (holdings_in (Some running)) grant → Holds w n grant
+    old-holding : (grant : Grant) → Contains (holdings_in (Some running)) grant → HoldsAgeless w n grant
     old-holding grant h = subst (λ (memory : Option Running). Contains (holdings_in memory) grant) (sym up) h
 
-    now-holding : (grant : Grant) → Holds w n grant → Contains (holdings_in (Some running)) grant
+    now-holding : (grant : Grant) → HoldsAgeless w n grant → Contains (holdings_in (Some running)) grant
     now-holding grant h = subst (λ (memory : Option Running). Contains (holdings_in memory) grant) up h
 
     txns-rise : (after : List Record) (later : ℕ) → greatest_epoch after ≡ greatest_epoch (records_at w n) → running.next_txn ≤ later → (epoch number : ℕ)
@@ -161,7 +161,7 @@ module _ (setup : Setup) (w : World) (n : ℕ) where
 
   -- Of a site at work.
   module _ (txn : TxnId) (running : Running) (entry : Entry) (work : IsAtWork w n txn running entry) where
-    works : Works w n txn (record entry { age = 0 })
+    works : WorksAgeless w n txn (record entry { age = 0 })
     works = old-work running work.up txn (record entry { age = 0 }) (ap ageless_entry work.has)
 
     same-txn : txn ≡ entry.txn
@@ -184,14 +184,14 @@ module _ (setup : Setup) (w : World) (n : ℕ) where
         (as_was refl)
 
     place-step : MayPlace setup entry
-        → IsStep setup w (record (remembered w n (with_entry running (voting_of entry))) { order = w.order ++ place_of entry ∷ [] })
+        → IsStep setup w (record (remembered w n (with_entry running (voting_of entry))) { order = w.order ++ place_in_order entry ∷ [] })
     place-step may =
         let after : Option Running = Some (with_entry running (voting_of entry)) in
-        let v : World = record (with_content w n (records_at w n) after) { order = w.order ++ place_of entry ∷ [] } in
+        let v : World = record (with_content w n (records_at w n) after) { order = w.order ++ place_in_order entry ∷ [] } in
         let may_now : MayPlace setup (record entry { age = 0 }) = record { asks = may.asks; whole = may.whole } in
         put-step running work.up (voting_of entry) v.order
         (subst (λ t. NewEntry setup w v n t (voting_of entry)) same-txn (is_placed (record entry { age = 0 }) works may_now refl))
-        (one_more (place_of entry)
+        (one_more (place_in_order entry)
         (record {
           n = n;
           txn = txn;

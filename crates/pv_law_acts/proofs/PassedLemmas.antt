@@ -16,7 +16,7 @@ use Rattle.pv_law_acts.proofs.StepLemmas.{sent-each, records-each, places-each, 
 use Rattle.pv_law_acts.specs.Acts.{Acts, with_begun, with_granted}
 use Rattle.pv_law_acts.specs.Guards.{MaySend, HasOutcome}
 use Rattle.pv_law_acts.specs.Passed.{IsEntryPassed, IsMessagePassed, IsRecordPassed, IsPlacePassed, AreNumbersPassed, GivesTxn, gives_txn, GivesGrant, gives_grant}
-use Rattle.pv_law_acts.specs.Seen.{records_at, Holds, holdings_in, Works, work_in, IsPassed, IsGrantPassed, IsNumberPassed, next_txn_in, next_grant_in}
+use Rattle.pv_law_acts.specs.Seen.{records_at, HoldsAgeless, holdings_in, WorksAgeless, work_in, IsPassed, IsGrantPassed, IsNumberPassed, next_txn_in, next_grant_in}
 use Rattle.pv_law_acts.specs.Steps.{NewEntry, has_begun, has_taken, is_placed, has_counted, NewGrant, NewRecord, NewPlace, IsStep}
 use Rattle.pv_protocol.specs.Committed.{home_of}
 use Rattle.pv_protocol.specs.Coordinate.{with_taken}
@@ -145,10 +145,10 @@ module _ (setup : Setup) where
   pub opening-each : (P : Site → Type 0) → P first_site → P no_site → (n : ℕ) → P (site_at (opening setup) n)
   opening-each P first other n = opened-each P first other setup.catalog.sites n
 
-  pub no-work-yet : (n : ℕ) (txn : TxnId) (entry : Entry) → Works (opening setup) n txn entry → ⊥
+  pub no-work-yet : (n : ℕ) (txn : TxnId) (entry : Entry) → WorksAgeless (opening setup) n txn entry → ⊥
   no-work-yet n txn entry = opening-each (λ (s : Site). work_in s.running txn ≡ Some entry → ⊥) none-some none-some n
 
-  pub no-grant-yet : (n : ℕ) (grant : Grant) → Holds (opening setup) n grant → ⊥
+  pub no-grant-yet : (n : ℕ) (grant : Grant) → HoldsAgeless (opening setup) n grant → ⊥
   no-grant-yet n grant = opening-each (λ (s : Site). Contains (holdings_in s.running) grant → ⊥) (Contains-nil grant) (Contains-nil grant) n
 
   pub only-epochs-yet : (P : Record → Type 0) → ((epoch : ℕ) → P (epoch_begun epoch)) → (n : ℕ) (kept : Record) → Contains (records_at (opening setup) n) kept → P kept

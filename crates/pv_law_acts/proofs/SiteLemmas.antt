@@ -7,7 +7,7 @@ use Rattle.pv_base.specs.declared.txn.TxnId.{TxnId}
 use Rattle.pv_format.specs.Record.{Record}
 use Rattle.pv_law_acts.proofs.ListLemmas.{none-some, put-each}
 use Rattle.pv_law_acts.specs.Acts.{with_content}
-use Rattle.pv_law_acts.specs.Seen.{records_at, memory_at, Holds, holdings_in, work_in, Works, IsNumberPassed, next_txn_in, next_grant_in}
+use Rattle.pv_law_acts.specs.Seen.{records_at, memory_at, HoldsAgeless, holdings_in, work_in, WorksAgeless, IsNumberPassed, next_txn_in, next_grant_in}
 use Rattle.pv_law_acts.specs.Steps.{NewEntry, NewGrant, NewRecord, NewPlace, MayGrow, as_was, IsStep}
 use Rattle.pv_protocol.specs.State.{Setup, Site, Running, Grant, Entry, Placed}
 use Rattle.pv_protocol.specs.World.{World, site_at, no_site}
@@ -32,8 +32,8 @@ module _ (setup : Setup) (w : World) (n : ℕ) (records : List Record) (memory :
 
   -- What is to be shown of a step that changes this site.
   pub record IsSiteStep : Type 0 where
-    pub entries : (txn : TxnId) (entry : Entry) → work_in memory txn ≡ Some entry → Works w n txn entry ⊎ NewEntry setup w V n txn entry
-    pub grants : (grant : Grant) → Contains (holdings_in memory) grant → Holds w n grant ⊎ NewGrant setup w V n grant
+    pub entries : (txn : TxnId) (entry : Entry) → work_in memory txn ≡ Some entry → WorksAgeless w n txn entry ⊎ NewEntry setup w V n txn entry
+    pub grants : (grant : Grant) → Contains (holdings_in memory) grant → HoldsAgeless w n grant ⊎ NewGrant setup w V n grant
     pub more : MayGrow setup w V (NewRecord setup w V n) (records_at w n) records
     pub places : MayGrow setup w V (NewPlace setup w V) w.order order
     pub txns : (epoch number : ℕ) → IsNumberPassed (records_at w n) (next_txn_in (memory_at w n)) epoch number → IsNumberPassed records (next_txn_in memory) epoch number
@@ -41,9 +41,9 @@ module _ (setup : Setup) (w : World) (n : ℕ) (records : List Record) (memory :
 
   pub site-step : IsSiteStep → IsStep setup w V
   site-step is = record {
-    entries = put-each (λ k (s : Site). (txn : TxnId) (entry : Entry) → work_in s.running txn ≡ Some entry → Works w k txn entry ⊎ NewEntry setup w V k txn entry)
+    entries = put-each (λ k (s : Site). (txn : TxnId) (entry : Entry) → work_in s.running txn ≡ Some entry → WorksAgeless w k txn entry ⊎ NewEntry setup w V k txn entry)
         w.sites n _ is.entries (λ k txn entry here. inl here);
-    grants = put-each (λ k (s : Site). (grant : Grant) → Contains (holdings_in s.running) grant → Holds w k grant ⊎ NewGrant setup w V k grant)
+    grants = put-each (λ k (s : Site). (grant : Grant) → Contains (holdings_in s.running) grant → HoldsAgeless w k grant ⊎ NewGrant setup w V k grant)
         w.sites n _ is.grants (λ k grant here. inl here);
     records = put-each (λ k (s : Site). MayGrow setup w V (NewRecord setup w V k) (records_at w k) s.records)
         w.sites n _ is.more (λ k. as_was refl);

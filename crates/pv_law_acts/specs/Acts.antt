@@ -7,7 +7,7 @@ use Rattle.pv_format.specs.Contents.{greatest_epoch}
 use Rattle.pv_format.specs.Message.{Envelope}
 use Rattle.pv_format.specs.Record.{Record, epoch_begun, prepared, outcome_known}
 use Rattle.pv_law_acts.specs.Guards.{IsAtWork, MayBegin, MayGrant, MayTake, MayPlace, MayCount, MayPromise, MayCommit, MayLearn, MayStart, MaySend}
-use Rattle.pv_law_acts.specs.Seen.{records_at, memory_at, holdings_in, work_in, place_of, next_txn_in, next_grant_in, txn_number, grant_number}
+use Rattle.pv_law_acts.specs.Seen.{records_at, memory_at, holdings_in, work_in, place_in_order, next_txn_in, next_grant_in, txn_number, grant_number}
 use Rattle.pv_model.specs.Alternatives.{Read}
 use Rattle.pv_model.specs.Syntax.{Program}
 use Rattle.pv_protocol.specs.Granted.{taking}
@@ -79,7 +79,7 @@ pub data Act (setup : Setup) (world : World) : World → Type 0 where
       → Act setup world (remembered world n (with_entry running (taking entry taken.site taken.grant taken.values)))
   -- a transaction is at its lock point
   places : (n : ℕ) (running : Running) (txn : TxnId) (entry : Entry) → IsAtWork world n txn running entry → MayPlace setup entry
-      → Act setup world (record (remembered world n (with_entry running (voting_of entry))) { order = world.order ++ place_of entry ∷ [] })
+      → Act setup world (record (remembered world n (with_entry running (voting_of entry))) { order = world.order ++ place_in_order entry ∷ [] })
   -- a coordinator counts a vote
   counts : (n : ℕ) (running : Running) (txn : TxnId) (entry : Entry) (from : ℕ) → IsAtWork world n txn running entry
       → MayCount setup world n txn entry from → Act setup world (remembered world n (with_entry running (counting entry from)))

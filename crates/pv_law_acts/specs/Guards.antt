@@ -5,7 +5,7 @@ use Rattle.pv_base.specs.Want.{Want}
 use Rattle.pv_base.specs.declared.grant.GrantId.{GrantId}
 use Rattle.pv_base.specs.declared.txn.TxnId.{TxnId}
 use Rattle.pv_format.specs.Message.{Message, lock, granted, denied, prepare, vote_yes, vote_no, outcome_reported, ask}
-use Rattle.pv_law_acts.specs.Seen.{records_at, memory_at, Holds, Works, Sent, parts_of, wants_at, IsDead}
+use Rattle.pv_law_acts.specs.Seen.{records_at, memory_at, HoldsAgeless, WorksAgeless, Sent, parts_of, wants_at, IsDead}
 use Rattle.pv_model.specs.Alternatives.{Read}
 use Rattle.pv_model.specs.Syntax.{Program}
 use Rattle.pv_protocol.specs.Committed.{home_of, is_committed}
@@ -60,7 +60,7 @@ pub record MayCount (setup : Setup) (world : World) (n : ℕ) (txn : TxnId) (ent
 -- The participant may promise these writes: its coordinator asks for the vote under a grant that stands.
 pub record MayPromise (world : World) (n : ℕ) (txn : TxnId) (id : GrantId) (wants : List Want) (writes : List Read) : Type 0 where
   pub asked : Sent world (home_of txn) n (prepare txn id writes)
-  pub holds : Holds world n (record { txn = txn; id = id; wants = wants; age = 0 })
+  pub holds : HoldsAgeless world n (record { txn = txn; id = id; wants = wants; age = 0 })
   pub unprepared : is_prepared (records_at world n) txn ≡ false
 
 -- The coordinator may decide that the transaction commits: all participants voted.
@@ -83,7 +83,7 @@ pub record MayStart (world : World) (n : ℕ) : Type 0 where
 -- A coordinator asks a participant for the locks that the program wants there.
 pub record MaySendLock (setup : Setup) (world : World) (from to : ℕ) (txn : TxnId) (wants : List Want) : Type 0 where
   pub entry : Entry
-  pub works : Works world from txn entry
+  pub works : WorksAgeless world from txn entry
   pub participant : is_among (parts_of setup entry) to ≡ true
   pub wanted : wants ≡ wants_at setup entry to
 
@@ -95,7 +95,7 @@ AreShown setup world n wants values =
 -- A participant reports a grant that stands and isn't prepared under, with the values of now.
 pub record MaySendGranted (setup : Setup) (world : World) (from to : ℕ) (txn : TxnId) (id : GrantId) (values : List Read) : Type 0 where
   pub wants : List Want
-  pub holds : Holds world from (record { txn = txn; id = id; wants = wants; age = 0 })
+  pub holds : HoldsAgeless world from (record { txn = txn; id = id; wants = wants; age = 0 })
   pub home : to ≡ home_of txn
   pub unprepared : is_prepared (records_at world from) txn ≡ false
   pub shown_now : AreShown setup world from wants values
@@ -110,7 +110,7 @@ pub record MaySendDenied (world : World) (from to : ℕ) (txn holder : TxnId) : 
 -- A coordinator asks a participant for its vote on the new values, under the grant that was taken.
 pub record MaySendPrepare (setup : Setup) (world : World) (from to : ℕ) (txn : TxnId) (id : GrantId) (writes : List Read) : Type 0 where
   pub entry : Entry
-  pub works : Works world from txn entry
+  pub works : WorksAgeless world from txn entry
   pub asks : entry.stage ≡ voting
   pub participant : is_among (parts_of setup entry) to ≡ true
   pub reads : List Read

@@ -6,7 +6,7 @@ use Rattle.pv_format.specs.Message.{Message, lock, granted, denied, prepare, vot
 use Rattle.pv_format.specs.Record.{Record, epoch_begun, prepared, outcome_known}
 use Rattle.pv_law_acts.specs.Acts.{remembered, with_begun, with_granted}
 use Rattle.pv_law_acts.specs.Guards.{MayBegin, MayGrant}
-use Rattle.pv_law_acts.specs.Seen.{records_at, Holds, Works, Sent, IsPassed, IsGrantPassed, txn_number, grant_number}
+use Rattle.pv_law_acts.specs.Seen.{records_at, HoldsAgeless, WorksAgeless, Sent, IsPassed, IsGrantPassed, txn_number, grant_number}
 use Rattle.pv_model.specs.Syntax.{Program}
 use Rattle.pv_protocol.specs.Committed.{home_of}
 use Rattle.pv_protocol.specs.State.{Setup, Grant, Taken, Entry, TakenGrant, Placed, Running}
@@ -44,8 +44,8 @@ pub record IsPlacePassed (world : World) (placed : Placed) : Type 0 where
 
 -- Every number in the world is passed.
 pub record AreNumbersPassed (world : World) : Type 0 where
-  pub entries : (n : ℕ) (txn : TxnId) (entry : Entry) → Works world n txn entry → IsEntryPassed world n txn entry
-  pub grants : (n : ℕ) (grant : Grant) → Holds world n grant → IsPassed world grant.txn × IsGrantPassed world n grant.id
+  pub entries : (n : ℕ) (txn : TxnId) (entry : Entry) → WorksAgeless world n txn entry → IsEntryPassed world n txn entry
+  pub grants : (n : ℕ) (grant : Grant) → HoldsAgeless world n grant → IsPassed world grant.txn × IsGrantPassed world n grant.id
   pub records : (n : ℕ) (kept : Record) → Contains (records_at world n) kept → IsRecordPassed world kept
   pub sent : (from to : ℕ) (message : Message) → Sent world from to message → IsMessagePassed world from to message
   pub order : (placed : Placed) → Contains world.order placed → IsPlacePassed world placed

@@ -29,8 +29,8 @@ abbrev pub holdings_in : Option Running → List Grant
 holdings_in memory = map ageless_grant (grants_of memory)
 
 -- The grant stands at the site. It is of age 0 here, however old it is.
-abbrev pub Holds : World → ℕ → Grant → Type 0
-Holds world n grant = Contains (holdings_in (memory_at world n)) grant
+abbrev pub HoldsAgeless : World → ℕ → Grant → Type 0
+HoldsAgeless world n grant = Contains (holdings_in (memory_at world n)) grant
 
 -- an entry, if there is one, however old it is
 abbrev pub ageless_entry : Option Entry → Option Entry
@@ -42,8 +42,8 @@ abbrev pub work_in : Option Running → TxnId → Option Entry
 work_in memory txn = ageless_entry (entry_in memory txn)
 
 -- The site works on the transaction, with this entry. It is of age 0 here, however old it is.
-abbrev pub Works : World → ℕ → TxnId → Entry → Type 0
-Works world n txn entry = work_in (memory_at world n) txn ≡ Some entry
+abbrev pub WorksAgeless : World → ℕ → TxnId → Entry → Type 0
+WorksAgeless world n txn entry = work_in (memory_at world n) txn ≡ Some entry
 
 -- This was sent.
 abbrev pub Sent : World → (from to : ℕ) → Message → Type 0
@@ -58,8 +58,8 @@ abbrev pub wants_at : Setup → Entry → ℕ → List Want
 wants_at setup entry n = wants_of entry.program setup.catalog.items n
 
 -- an entry's place in the order
-abbrev pub place_of : Entry → Placed
-place_of entry = record { txn = entry.txn; program = entry.program; grants = grants_taken entry }
+abbrev pub place_in_order : Entry → Placed
+place_in_order entry = record { txn = entry.txn; program = entry.program; grants = grants_taken entry }
 
 -- Numbers.
 

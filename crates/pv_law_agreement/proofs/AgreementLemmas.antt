@@ -15,7 +15,7 @@ use Rattle.pv_base.proofs.OrderLemmas.{pairs-first}
 use Rattle.pv_format.specs.Record.{Record, prepared}
 use Rattle.pv_law_acts.proofs.ListLemmas.{listed-any}
 use Rattle.pv_law_acts.proofs.RecordLemmas.{prepared-listed}
-use Rattle.pv_law_acts.specs.Seen.{records_at, memory_at, ageless_grant, holdings_in, Holds}
+use Rattle.pv_law_acts.specs.Seen.{records_at, memory_at, ageless_grant, holdings_in, HoldsAgeless}
 use Rattle.pv_law_agreement.proofs.Lists.{cut-at, pairs-across, pairs-rest}
 use Rattle.pv_law_outcomes.proofs.OpenLemmas.{open-from}
 use Rattle.pv_law_outcomes.specs.Decided.{IsBoundBy, is_promised, is_held}
@@ -154,14 +154,14 @@ module _ (setup : Setup) (world : World) (orderly : IsOrderly setup world) (a : 
   -- A grant of the transaction stands here.
   pub record HoldsHere (placed : Placed) : Type 0 where
     pub grant : Grant
-    pub holds : Holds world site grant
+    pub holds : HoldsAgeless world site grant
     pub of : grant.txn ≡ placed.txn
 
   bound-here : (placed : Placed) (taken : TakenGrant) → taken.site ≡ site → IsBoundBy world placed.txn taken → (is_prepared records placed.txn ≡ true) ⊎ HoldsHere placed
   bound-here placed taken here (is_promised is) = inl (subst (λ s. is_prepared (records_at world s) placed.txn ≡ true) here is)
   bound-here placed taken here (is_held wants holds) =
       let grant : Grant = record { txn = placed.txn; id = taken.grant; wants = wants; age = 0 } in
-      inr (record { grant = grant; holds = subst (λ s. Holds world s grant) here holds; of = refl })
+      inr (record { grant = grant; holds = subst (λ s. HoldsAgeless world s grant) here holds; of = refl })
 
   -- Each transaction that commits and takes part here is prepared here, or a grant of it stands.
   pub bound : (placed : Placed) → Contains world.order placed → commits a placed.txn ≡ true → names_item placed.program n ≡ true

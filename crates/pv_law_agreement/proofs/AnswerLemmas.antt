@@ -12,7 +12,7 @@ use Rattle.pv_base.specs.Polyvalue.{Case, meets, value_at}
 use Rattle.pv_base.specs.declared.reply.Reply.{Reply}
 use Rattle.pv_base.specs.declared.txn.TxnId.{TxnId}
 use Rattle.pv_format.specs.Record.{Record}
-use Rattle.pv_law_acts.specs.Seen.{Works, place_of}
+use Rattle.pv_law_acts.specs.Seen.{WorksAgeless, place_in_order}
 use Rattle.pv_law_agreement.proofs.Lists.{Cut, cut-at, pairs-across}
 use Rattle.pv_law_agreement.proofs.PlaceLemmas.{Apart, placed-listed, programs-append}
 use Rattle.pv_law_agreement.proofs.ReadLemmas.{reads-alike}
@@ -73,13 +73,13 @@ reply-possible records entry a =
     (case-value (reply_value records entry) a (reply_after records entry a) (reply-value records entry a))
 
 module _ (setup : Setup) (w u : World) (grounds : HasGrounds setup w) (supported : IsSupported w) (values : IsSerialized setup w) (falls : FitsFallBack w u) (distinct : AreDistinct u.order)
-    (more : List Placed) (longer : u.order ≡ w.order ++ more) (n : ℕ) (txn : TxnId) (entry : Entry) (works : Works w n txn entry) (votes : entry.stage ≡ voting)
+    (more : List Placed) (longer : u.order ≡ w.order ++ more) (n : ℕ) (txn : TxnId) (entry : Entry) (works : WorksAgeless w n txn entry) (votes : entry.stage ≡ voting)
     (a : List TxnId) (fits : Fits u a) (in_a : commits a txn ≡ true) (records : List Record) (heeds : Heeds records a) where
   abbrev right : IsRightEntry setup w n txn entry
   right = grounds.entries n txn entry works
 
   abbrev own : Placed
-  own = place_of entry
+  own = place_in_order entry
 
   placed : commits (txns_of w.order) txn ≡ true
   placed = subst (λ t. commits (txns_of w.order) t ≡ true) right.is (placed-listed w.order own (right.placed votes))

@@ -15,7 +15,7 @@ use Rattle.pv_base.specs.declared.txn.TxnId.{TxnId}
 use Rattle.pv_format.specs.Message.{granted}
 use Rattle.pv_format.specs.Record.{Record, epoch_begun, prepared, outcome_known}
 use Rattle.pv_law_acts.specs.Guards.{MaySendGranted}
-use Rattle.pv_law_acts.specs.Seen.{records_at, Holds, Sent, IsGrantPassed}
+use Rattle.pv_law_acts.specs.Seen.{records_at, HoldsAgeless, Sent, IsGrantPassed}
 use Rattle.pv_law_acts.specs.Steps.{NewPromise, NewRecord, MayGrow, as_was, one_more, IsStep}
 use Rattle.pv_law_acts.proofs.RecordLemmas.{listed-prepared}
 use Rattle.pv_law_acts.proofs.StepLemmas.{promise-stays, sent-either}
@@ -52,7 +52,7 @@ module _ (setup : Setup) (w v : World) (step : IsStep setup w v) (grounds : HasG
   unprepared-before n txn unprepared = false_from_ne_true (is_prepared (records_at w n) txn) (λ is. false≢true (sym unprepared ∙ promise-stays setup w v step n txn is))
 
   -- Whoever promises a write of an item holds it, and so nobody else does.
-  pub held-unwritten : (n : ℕ) (txn other : TxnId) (writes : List Read) (grant : Grant) (item : ℕ) → Holds w n grant → grant.txn ≡ txn → Contains (map (λ (want : Want). want.item) grant.wants) item
+  pub held-unwritten : (n : ℕ) (txn other : TxnId) (writes : List Read) (grant : Grant) (item : ℕ) → HoldsAgeless w n grant → grant.txn ≡ txn → Contains (map (λ (want : Want). want.item) grant.wants) item
       → NewPromise setup w v n other writes → (txn ≡ other → ⊥) → IsSome (written item writes) → ⊥
   held-unwritten n txn other writes grant item holds of wanted new apart some =
       let asked = grounds.asked _ n other new.id writes new.may.asked in
@@ -67,7 +67,7 @@ module _ (setup : Setup) (w v : World) (step : IsStep setup w v) (grounds : HasG
       (sym want.1.1)
       (or_left (assigns asked.placed.program item) want.0.exclusive assigned.assigned)
 
-  module _ (n : ℕ) (txn : TxnId) (grant : Grant) (item : ℕ) (holds : Holds w n grant) (of : grant.txn ≡ txn) (wanted : Contains (map (λ (want : Want). want.item) grant.wants) item)
+  module _ (n : ℕ) (txn : TxnId) (grant : Grant) (item : ℕ) (holds : HoldsAgeless w n grant) (of : grant.txn ≡ txn) (wanted : Contains (map (λ (want : Want). want.item) grant.wants) item)
       (unprepared : is_prepared (records_at v n) txn ≡ false) (a : List TxnId) where
     unwritten : (other : TxnId) (writes : List Read) → Contains (records_at v n) (prepared other writes) → NewPromise setup w v n other writes → written item writes ≡ None
     unwritten other writes listed new =
@@ -103,14 +103,14 @@ module _ (setup : Setup) (w v : World) (step : IsStep setup w v) (grounds : HasG
       ∙ sym stays.0
 
   module _ (before : IsSerialized setup w) where
-    reported-old : (from to : ℕ) (txn : TxnId) (id : GrantId) (values : List Read) → Sent w from to (granted txn id values) → (grant : Grant) → Holds w from grant → grant.txn ≡ txn → grant.id ≡ id
+    reported-old : (from to : ℕ) (txn : TxnId) (id : GrantId) (values : List Read) → Sent w from to (granted txn id values) → (grant : Grant) → HoldsAgeless w from grant → grant.txn ≡ txn → grant.id ≡ id
         → is_prepared (records_at v from) txn ≡ false → AreCurrent setup v from values
     reported-old from to txn id values sent grant holds of is unprepared a heeds item cases wrote =
         let wanted = subst (λ xs. Contains xs item) (grounds.reported from to txn id values sent grant holds of is) (written-listed item values (ap is_some wrote)) in
         let stays = value-by from txn grant item holds of wanted unprepared a (step.records from) heeds in
         before.reported from to txn id values sent grant holds of is (unprepared-before from txn unprepared) a stays.1 item cases wrote ∙ sym stays.0
 
-    pub current-kept : (from to : ℕ) (txn : TxnId) (id : GrantId) (values : List Read) → Sent v from to (granted txn id values) → (grant : Grant) → Holds v from grant → grant.txn ≡ txn → grant.id ≡ id
+    pub current-kept : (from to : ℕ) (txn : TxnId) (id : GrantId) (values : List Read) → Sent v from to (granted txn id values) → (grant : Grant) → HoldsAgeless v from grant → grant.txn ≡ txn → grant.id ≡ id
         → is_prepared (records_at v from) txn ≡ false → AreCurrent setup v from values
     current-kept from to txn id values sent grant holds of is unprepared =
         ⊎_elim

@@ -10,13 +10,13 @@ use Rattle.pv_base.specs.declared.txn.TxnId.{TxnId}
 use Rattle.pv_format.specs.Message.{lock, granted, prepare}
 use Rattle.pv_format.specs.Record.{prepared}
 use Rattle.pv_law_acts.specs.Passed.{AreNumbersPassed}
-use Rattle.pv_law_acts.specs.Seen.{records_at, Holds, Works, Sent, wants_at}
+use Rattle.pv_law_acts.specs.Seen.{records_at, HoldsAgeless, WorksAgeless, Sent, wants_at}
 use Rattle.pv_law_acts.proofs.ListLemmas.{listed-among}
 use Rattle.pv_law_agreement.proofs.Lists.{cut-at}
 use Rattle.pv_law_agreement.proofs.PlaceLemmas.{Apart, listed-placed}
 use Rattle.pv_law_agreement.specs.Grounds.{HasGrounds, IsRightEntry}
 use Rattle.pv_law_agreement.specs.Places.{txns_of, AreDistinct}
-use Rattle.pv_law_locks.specs.Coherent.{AreOnce, IsCoherent}
+use Rattle.pv_law_outcomes.specs.Coherent.{AreOnce, IsCoherent}
 use Rattle.pv_law_outcomes.proofs.DecidedLemmas.{IsSettled}
 use Rattle.pv_law_outcomes.proofs.OutcomeLemmas.{fits-known}
 use Rattle.pv_law_outcomes.specs.Decided.{AreDecided}
@@ -49,13 +49,13 @@ module _ (setup : Setup) (w : World) (settled : IsSettled setup w) where
   decided = settled.decided
 
   -- What is held was asked for, as the program wants it.
-  entry-wants : (n : ℕ) (txn : TxnId) (entry : Entry) → Works w n txn entry → (site : ℕ) (grant : Grant) → Holds w site grant → grant.txn ≡ txn → grant.wants ≡ wants_at setup entry site
+  entry-wants : (n : ℕ) (txn : TxnId) (entry : Entry) → WorksAgeless w n txn entry → (site : ℕ) (grant : Grant) → HoldsAgeless w site grant → grant.txn ≡ txn → grant.wants ≡ wants_at setup entry site
   entry-wants n txn entry works site grant holds of =
       let home : home_of grant.txn ≡ n = ap home_of of ∙ (passed.entries n txn entry works).home in
       let asked = coherent.sent (home_of grant.txn) site (lock grant.txn grant.wants) (coherent.asked site grant holds) in
-      (asked.entry entry (subst (λ m. Works w m grant.txn entry) (sym home) (subst (λ t. Works w n t entry) (sym of) works))).are
+      (asked.entry entry (subst (λ m. WorksAgeless w m grant.txn entry) (sym home) (subst (λ t. WorksAgeless w n t entry) (sym of) works))).are
 
-  right-entry : (n : ℕ) (txn : TxnId) (entry : Entry) → Works w n txn entry → IsRightEntry setup w n txn entry
+  right-entry : (n : ℕ) (txn : TxnId) (entry : Entry) → WorksAgeless w n txn entry → IsRightEntry setup w n txn entry
   right-entry n txn entry works =
       let number = passed.entries n txn entry works in
       let is = coherent.entries n txn entry works in record {

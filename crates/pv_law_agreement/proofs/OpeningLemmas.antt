@@ -6,7 +6,7 @@ use Rattle.pv_base.proofs.ContainsLemmas.{Contains-nil, Contains-cases}
 use Rattle.pv_base.proofs.OrderLemmas.{pairs-nil, pairs-cons}
 use Rattle.pv_base.specs.declared.txn.TxnId.{TxnId}
 use Rattle.pv_format.specs.Record.{epoch_begun, prepared}
-use Rattle.pv_law_acts.specs.Seen.{records_at, work_in, Works}
+use Rattle.pv_law_acts.specs.Seen.{records_at, work_in, WorksAgeless}
 use Rattle.pv_law_agreement.specs.Promises.{Precedes, AreInSequence}
 use Rattle.pv_law_agreement.specs.Sequence.{IsInSequence}
 use Rattle.pv_law_agreement.specs.Serialized.{IsSerialized}
@@ -31,7 +31,7 @@ no-promise setup n txn writes =
     (λ h. Contains-nil (prepared txn writes) h)
     n
 
-no-work : (setup : Setup) (n : ℕ) (txn : TxnId) (entry : Entry) → Works (opening setup) n txn entry → ⊥
+no-work : (setup : Setup) (n : ℕ) (txn : TxnId) (entry : Entry) → WorksAgeless (opening setup) n txn entry → ⊥
 no-work setup n txn entry =
     opening-site setup (λ s. work_in s.running txn ≡ Some entry → ⊥) (λ h. let wrong : ⊥ = cc in wrong) (λ h. let wrong : ⊥ = cc in wrong) n
 

@@ -14,7 +14,7 @@ use Rattle.pv_base.specs.Want.{Want}
 use Rattle.pv_base.specs.declared.grant.GrantId.{GrantId}
 use Rattle.pv_base.specs.declared.txn.TxnId.{TxnId}
 use Rattle.pv_law_acts.specs.Guards.{MaySendPrepare}
-use Rattle.pv_law_acts.specs.Seen.{records_at, Works, wants_at, place_of}
+use Rattle.pv_law_acts.specs.Seen.{records_at, WorksAgeless, wants_at, place_in_order}
 use Rattle.pv_law_agreement.proofs.PlaceLemmas.{one-placed, programs-append}
 use Rattle.pv_law_agreement.proofs.WriteLemmas.{made-of, some-value, listed-written, assigns-names, exclusive-assigned, named-wanted, named-participates}
 use Rattle.pv_law_agreement.specs.Grounds.{HasGrounds, IsRightEntry}
@@ -122,7 +122,7 @@ declared-at [] n within = absurd (omega (arith, within))
 declared-at (item ∷ items) zero within = (item, refl, refl)
 declared-at (item ∷ items) (suc n) within = declared-at items n (omega (arith, within))
 
-module _ (setup : Setup) (w : World) (grounds : HasGrounds setup w) (n : ℕ) (txn : TxnId) (entry : Entry) (works : Works w n txn entry) (votes : entry.stage ≡ voting) where
+module _ (setup : Setup) (w : World) (grounds : HasGrounds setup w) (n : ℕ) (txn : TxnId) (entry : Entry) (works : WorksAgeless w n txn entry) (votes : entry.stage ≡ voting) where
   abbrev right : IsRightEntry setup w n txn entry
   right = grounds.entries n txn entry works
 
@@ -134,7 +134,7 @@ module _ (setup : Setup) (w : World) (grounds : HasGrounds setup w) (n : ℕ) (t
       let declared = declared-at setup.catalog.items item within in
       let site = declared.0.site in
       let there = named-participates setup.catalog.items entry.program site item declared.2 named in
-      let part = grounds.whole (place_of entry) (right.placed votes) site there in
+      let part = grounds.whole (place_in_order entry) (right.placed votes) site there in
       let back = Contains-unmap (λ (t : Taken). taken_grant t) entry.taken part.0 part.1 in
       let taken = right.taken back.0 back.1.0 in
       let same : back.0.site ≡ site = ap (λ (g : TakenGrant). g.site) back.1.1 ∙ part.2 in
@@ -170,7 +170,7 @@ module _ (setup : Setup) (w : World) (grounds : HasGrounds setup w) (n : ℕ) (t
     same-program : placed.program ≡ entry.program
     same-program =
         let listed = subst (λ o. Contains o placed) (sym cut) (Contains-at front placed rest) in
-        ap (λ (p : Placed). p.program) (one-placed w.order grounds.distinct placed (place_of entry) listed (right.placed votes) (is ∙ sym right.is))
+        ap (λ (p : Placed). p.program) (one-placed w.order grounds.distinct placed (place_in_order entry) listed (right.placed votes) (is ∙ sym right.is))
 
     -- The new value of an item is what the serial run leaves.
     pub row-alike : (item : ℕ) → names_item entry.program item ≡ true

@@ -8,7 +8,7 @@ use Rattle.std.proofs.lemmas.List.Elements.{Contains-append_cases}
 use Rattle.pv_base.proofs.ContainsLemmas.{Contains-nil, Contains-cases}
 use Rattle.pv_base.specs.declared.txn.TxnId.{TxnId}
 use Rattle.pv_format.specs.Record.{Record, epoch_begun, prepared, outcome_known}
-use Rattle.pv_law_acts.specs.Seen.{records_at, Holds}
+use Rattle.pv_law_acts.specs.Seen.{records_at, HoldsAgeless}
 use Rattle.pv_law_acts.specs.Steps.{NewPromise, NewRecord, NewGrant, NewPlace, MayGrow, as_was, one_more, IsStep}
 use Rattle.pv_law_agreement.proofs.Lists.{pairs-more, pairs-wider}
 use Rattle.pv_law_acts.proofs.RecordLemmas.{listed-prepared}
@@ -70,7 +70,7 @@ module _ (setup : Setup) (w v : World) (step : IsStep setup w v) (grounds : HasG
 
   module _ (n : ℕ) (txn : TxnId) (writes : List Read) (item : ℕ) (some : IsSome (written item writes)) (grant : Grant) where
     -- Whoever promises now is the only one who holds the item.
-    not-held : (placed : Placed) → Contains w.order placed → Holds w n grant → grant.txn ≡ placed.txn → (placed.txn ≡ txn → ⊥) → assigns placed.program item ≡ true
+    not-held : (placed : Placed) → Contains w.order placed → HoldsAgeless w n grant → grant.txn ≡ placed.txn → (placed.txn ≡ txn → ⊥) → assigns placed.program item ≡ true
         → NewPromise setup w v n txn writes → ⊥
     not-held placed in_order holds of other assigns_it new =
         let asked = grounds.asked _ n txn new.id writes new.may.asked in
@@ -86,7 +86,7 @@ module _ (setup : Setup) (w v : World) (step : IsStep setup w v) (grounds : HasG
         refl
         (or_right (assigns asked.placed.program item) (assigns placed.program item) assigns_it)
 
-    held-by-old : Contains (records_at w n) (prepared txn writes) ⊎ NewRecord setup w v n (prepared txn writes) → (placed : Placed) → Contains w.order placed → Holds w n grant → grant.txn ≡ placed.txn
+    held-by-old : Contains (records_at w n) (prepared txn writes) ⊎ NewRecord setup w v n (prepared txn writes) → (placed : Placed) → Contains w.order placed → HoldsAgeless w n grant → grant.txn ≡ placed.txn
         → Contains placed.grants (record { site = n; grant = grant.id }) → (placed.txn ≡ txn → ⊥) → assigns placed.program item ≡ true → StandsBefore v.order txn placed.txn
     held-by-old (inl listed) placed in_order holds of took other assigns_it =
         longer txn placed.txn (before.holders n txn writes item listed some placed in_order grant holds of took other assigns_it)
@@ -101,7 +101,7 @@ module _ (setup : Setup) (w v : World) (step : IsStep setup w v) (grounds : HasG
         let is = grounds.asked _ n txn new.id writes new.may.asked in
         subst (λ o. StandsBefore o txn last.txn) (sym grown_by) (subst (λ z. StandsBefore (w.order ++ last ∷ []) z last.txn) is.is (before-last w.order is.placed last is.in_order))
 
-    holder-by : Contains (records_at w n) (prepared txn writes) ⊎ NewRecord setup w v n (prepared txn writes) → Holds w n grant ⊎ NewGrant setup w v n grant → (placed : Placed)
+    holder-by : Contains (records_at w n) (prepared txn writes) ⊎ NewRecord setup w v n (prepared txn writes) → HoldsAgeless w n grant ⊎ NewGrant setup w v n grant → (placed : Placed)
         → grant.txn ≡ placed.txn → Contains placed.grants (record { site = n; grant = grant.id }) → (placed.txn ≡ txn → ⊥) → assigns placed.program item ≡ true
         → MayGrow setup w v (NewPlace setup w v) w.order v.order → Contains v.order placed → StandsBefore v.order txn placed.txn
     holder-by promise (inl holds) placed of took other assigns_it (as_was same) in_order =

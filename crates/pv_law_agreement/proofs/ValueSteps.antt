@@ -16,7 +16,7 @@ use Rattle.pv_format.specs.Message.{prepare}
 use Rattle.pv_format.specs.Record.{prepared}
 use Rattle.pv_law_acts.specs.Acts.{voting_of}
 use Rattle.pv_law_acts.specs.Guards.{MayPlace, MaySendPrepare}
-use Rattle.pv_law_acts.specs.Seen.{records_at, Holds, Works, Sent, wants_at, place_of, IsGrantPassed}
+use Rattle.pv_law_acts.specs.Seen.{records_at, HoldsAgeless, WorksAgeless, Sent, wants_at, place_in_order, IsGrantPassed}
 use Rattle.pv_law_acts.specs.Steps.{NewEntry, has_begun, has_taken, is_placed, has_counted, IsStep}
 use Rattle.pv_law_agreement.proofs.AgreementLemmas.{HoldsHere, bound, holds-wants, NonePending, none-pending-agrees}
 use Rattle.pv_law_agreement.proofs.CurrentSteps.{current-kept, unprepared-before}
@@ -119,8 +119,8 @@ module _ (setup : Setup) (w v : World) (step : IsStep setup w v) (gw : HasGround
 
   module _ (supported : IsSupported w) (sequence : IsInSequence w) (before : IsSerialized setup w) where
     -- The lock point: what was taken is what the serial run has there.
-    module _ (n : ℕ) (txn : TxnId) (entry : Entry) (works : Works w n txn entry) (may : MayPlace setup entry) (grown_by : v.order ≡ w.order ++ place_of entry ∷ [])
-        (now : Works v n txn (voting_of entry)) where
+    module _ (n : ℕ) (txn : TxnId) (entry : Entry) (works : WorksAgeless w n txn entry) (may : MayPlace setup entry) (grown_by : v.order ≡ w.order ++ place_in_order entry ∷ [])
+        (now : WorksAgeless v n txn (voting_of entry)) where
       abbrev right : IsRightEntry setup w n txn entry
       right = gw.entries n txn entry works
 
@@ -140,11 +140,11 @@ module _ (setup : Setup) (w v : World) (step : IsStep setup w v) (gw : HasGround
       -- a grant that was taken stands
       record Stands (taken : Taken) : Type 0 where
         grant : Grant
-        holds : Holds w taken.site grant
+        holds : HoldsAgeless w taken.site grant
         of : grant.txn ≡ txn
         id : grant.id ≡ taken.grant
 
-      was-held : (taken : Taken) → Contains entry.taken taken → (grant : Grant) → Holds v taken.site grant → grant.txn ≡ txn → grant.id ≡ taken.grant → Stands taken
+      was-held : (taken : Taken) → Contains entry.taken taken → (grant : Grant) → HoldsAgeless v taken.site grant → grant.txn ≡ txn → grant.id ≡ taken.grant → Stands taken
       was-held taken listed grant holds of id =
           ⊎_elim
           (λ old. record { grant = grant; holds = old; of = of; id = id })
@@ -158,8 +158,8 @@ module _ (setup : Setup) (w v : World) (step : IsStep setup w v) (gw : HasGround
       open-stands : (taken : Taken) → Contains entry.taken taken → IsOpen v txn → Stands taken
       open-stands taken listed open_it =
           let yet = open-from v txn open_it in
-          let there : Contains v.order (place_of entry) = subst (λ o. Contains o (place_of entry)) (sym grown_by) (Contains-at w.order (place_of entry) []) in
-          let same : yet.placed ≡ place_of entry = one-placed v.order gv.distinct yet.placed (place_of entry) yet.in_order there (yet.own ∙ sym right.is) in
+          let there : Contains v.order (place_in_order entry) = subst (λ o. Contains o (place_in_order entry)) (sym grown_by) (Contains-at w.order (place_in_order entry) []) in
+          let same : yet.placed ≡ place_in_order entry = one-placed v.order gv.distinct yet.placed (place_in_order entry) yet.in_order there (yet.own ∙ sym right.is) in
           let own : TakenGrant = record { site = taken.site; grant = taken.grant } in
           bound-stands taken listed
           (yet.bound own (subst (λ (p : Placed). Contains p.grants own) (sym same) (Contains-map (λ (t : Taken). taken_grant t) entry.taken taken listed)))
@@ -232,20 +232,20 @@ module _ (setup : Setup) (w v : World) (step : IsStep setup w v) (gw : HasGround
 
       pub placed-before : (taken : Taken) → Contains entry.taken taken → AreBefore setup.catalog v txn taken.values
       placed-before taken listed front rest p cut is a fits in_a item cases has =
-          let same = one-cut front rest w.order [] p (place_of entry) (subst AreDistinct cut gv.distinct) (sym cut ∙ grown_by) (is ∙ sym right.is) in
+          let same = one-cut front rest w.order [] p (place_in_order entry) (subst AreDistinct cut gv.distinct) (sym cut ∙ grown_by) (is ∙ sym right.is) in
           read-last taken listed a fits in_a item cases has ∙ ap (λ o. value_in (serial (declared_rows setup.catalog) (programs_of o) a) item) (sym same.0)
 
-    taken-old : (n : ℕ) (txn : TxnId) (entry : Entry) → Works w n txn entry → entry.stage ≡ voting → (taken : Taken) → Contains entry.taken taken → AreBefore setup.catalog v txn taken.values
+    taken-old : (n : ℕ) (txn : TxnId) (entry : Entry) → WorksAgeless w n txn entry → entry.stage ≡ voting → (taken : Taken) → Contains entry.taken taken → AreBefore setup.catalog v txn taken.values
     taken-old n txn entry works votes taken listed =
         let is = gw.entries n txn entry works in
-        before-stable txn taken.values (subst (λ t. commits (txns_of w.order) t ≡ true) is.is (placed-listed w.order (place_of entry) (is.placed votes)))
+        before-stable txn taken.values (subst (λ t. commits (txns_of w.order) t ≡ true) is.is (placed-listed w.order (place_in_order entry) (is.placed votes)))
         (supported.taken n txn entry works taken listed) (before.taken n txn entry works votes taken listed)
 
     -- An entry that asks for locks doesn't ask for votes.
     not-both : {stage : Stage} → stage ≡ locking → stage ≡ voting → ⊥
     not-both one other = let wrong : ⊥ = cc in wrong
 
-    taken-new : (n : ℕ) (txn : TxnId) (entry : Entry) → NewEntry setup w v n txn entry → Works v n txn entry → entry.stage ≡ voting → (taken : Taken) → Contains entry.taken taken → AreBefore setup.catalog v txn taken.values
+    taken-new : (n : ℕ) (txn : TxnId) (entry : Entry) → NewEntry setup w v n txn entry → WorksAgeless v n txn entry → entry.stage ≡ voting → (taken : Taken) → Contains entry.taken taken → AreBefore setup.catalog v txn taken.values
     taken-new n txn _ (has_begun program own fresh given runs) now votes taken listed = absurd (Contains-nil taken listed)
     taken-new n txn _ (has_taken entry new works may) now votes taken listed = absurd (not-both may.asks votes)
     taken-new n txn _ (is_placed entry works may grown_by) now votes taken listed = placed-before n txn entry works may grown_by now taken listed
@@ -262,7 +262,7 @@ module _ (setup : Setup) (w v : World) (step : IsStep setup w v) (gw : HasGround
     asked-new-after : (from to : ℕ) (txn : TxnId) (id : GrantId) (writes : List Read) → MaySendPrepare setup w from to txn id writes → AreAfter setup.catalog v txn writes
     asked-new-after from to txn id writes may =
         let is = gw.entries from txn may.entry may.works in
-        after-stable txn writes (subst (λ t. commits (txns_of w.order) t ≡ true) is.is (placed-listed w.order (place_of may.entry) (is.placed may.asks)))
+        after-stable txn writes (subst (λ t. commits (txns_of w.order) t ≡ true) is.is (placed-listed w.order (place_in_order may.entry) (is.placed may.asks)))
         (asked-new setup w v step gw supported from to txn id writes may) (asked-after setup w gw before from to txn id writes may)
 
     asked-old : (from to : ℕ) (txn : TxnId) (id : GrantId) (writes : List Read) → Sent w from to (prepare txn id writes) → AreAfter setup.catalog v txn writes

@@ -5,7 +5,7 @@ use Rattle.pv_base.specs.declared.grant.GrantId.{GrantId}
 use Rattle.pv_base.specs.declared.txn.TxnId.{TxnId}
 use Rattle.pv_format.specs.Message.{granted, prepare}
 use Rattle.pv_format.specs.Record.{prepared}
-use Rattle.pv_law_acts.specs.Seen.{records_at, Holds, Works, Sent, wants_at, place_of, IsGrantPassed, AreCompatible}
+use Rattle.pv_law_acts.specs.Seen.{records_at, HoldsAgeless, WorksAgeless, Sent, wants_at, place_in_order, IsGrantPassed, AreCompatible}
 use Rattle.pv_law_agreement.specs.Orderly.{IsWhole, IsPreparedByParticipants}
 use Rattle.pv_law_agreement.specs.Places.{txns_of, AreDistinct}
 use Rattle.pv_law_agreement.specs.Promises.{ArePromised}
@@ -31,9 +31,9 @@ module _ (setup : Setup) (world : World) where
     pub is : entry.txn ≡ txn
     pub uncommitted : is_committed world txn ≡ false
     pub runs : CanRun setup.catalog entry.program
-    pub placed : entry.stage ≡ voting → Contains world.order (place_of entry)
+    pub placed : entry.stage ≡ voting → Contains world.order (place_in_order entry)
     pub unplaced : entry.stage ≡ locking → commits (txns_of world.order) txn ≡ false
-    pub wants : (site : ℕ) (grant : Grant) → Holds world site grant → grant.txn ≡ txn → grant.wants ≡ wants_at setup entry site
+    pub wants : (site : ℕ) (grant : Grant) → HoldsAgeless world site grant → grant.txn ≡ txn → grant.wants ≡ wants_at setup entry site
     pub taken : (taken : Taken) → Contains entry.taken taken → IsRightlyTaken n txn entry taken
 
   -- A vote is asked for of a transaction of the order, under the grant that it took there, on what it writes there.
@@ -47,17 +47,17 @@ module _ (setup : Setup) (world : World) where
   pub record HasGrounds : Type 0 where
     pub distinct : AreDistinct world.order
     pub whole : (placed : Placed) → Contains world.order placed → IsWhole setup placed
-    pub entries : (n : ℕ) (txn : TxnId) (entry : Entry) → Works world n txn entry → IsRightEntry n txn entry
-    pub compatible : (n : ℕ) (grant other : Grant) → Holds world n grant → Holds world n other → (grant.txn ≡ other.txn → ⊥) → AreCompatible grant.wants other.wants
-    pub wants : (n : ℕ) (placed : Placed) (grant : Grant) → Contains world.order placed → Holds world n grant → grant.txn ≡ placed.txn
+    pub entries : (n : ℕ) (txn : TxnId) (entry : Entry) → WorksAgeless world n txn entry → IsRightEntry n txn entry
+    pub compatible : (n : ℕ) (grant other : Grant) → HoldsAgeless world n grant → HoldsAgeless world n other → (grant.txn ≡ other.txn → ⊥) → AreCompatible grant.wants other.wants
+    pub wants : (n : ℕ) (placed : Placed) (grant : Grant) → Contains world.order placed → HoldsAgeless world n grant → grant.txn ≡ placed.txn
         → grant.wants ≡ wants_of placed.program setup.catalog.items n
     pub reported : (from to : ℕ) (txn : TxnId) (id : GrantId) (values : List Read) → Sent world from to (granted txn id values)
-        → (grant : Grant) → Holds world from grant → grant.txn ≡ txn → grant.id ≡ id → map (λ value. value.item) values ≡ map (λ want. want.item) grant.wants
+        → (grant : Grant) → HoldsAgeless world from grant → grant.txn ≡ txn → grant.id ≡ id → map (λ value. value.item) values ≡ map (λ want. want.item) grant.wants
     pub asked : (from to : ℕ) (txn : TxnId) (id : GrantId) (writes : List Read) → Sent world from to (prepare txn id writes) → IsRightlyAsked to txn id writes
     pub promised : (n : ℕ) (txn : TxnId) (writes : List Read) → Contains (records_at world n) (prepared txn writes)
         → ArePromised setup.catalog world.order n txn writes
     pub granted_passed : (from to : ℕ) (txn : TxnId) (id : GrantId) (values : List Read) → Sent world from to (granted txn id values) → IsGrantPassed world from id
     pub taken_passed : (placed : Placed) (taken : TakenGrant) → Contains world.order placed → Contains placed.grants taken → IsGrantPassed world taken.site taken.grant
-    pub held_passed : (n : ℕ) (grant : Grant) → Holds world n grant → IsGrantPassed world n grant.id
+    pub held_passed : (n : ℕ) (grant : Grant) → HoldsAgeless world n grant → IsGrantPassed world n grant.id
     pub committed : (txn : TxnId) → IsTrue (is_committed world txn) → IsPreparedByParticipants setup world txn
     pub heeded : (assignment : List TxnId) → Fits world assignment → (n : ℕ) → Heeds (records_at world n) assignment

@@ -2,7 +2,7 @@
 use Rattle.std.specs.Prelude.{◌≡◌, ℕ, true, List, Contains, IsTrue}
 use Rattle.pv_base.specs.declared.txn.TxnId.{TxnId}
 use Rattle.pv_format.specs.Record.{prepared}
-use Rattle.pv_law_acts.specs.Seen.{records_at, Holds}
+use Rattle.pv_law_acts.specs.Seen.{records_at, HoldsAgeless}
 use Rattle.pv_law_agreement.specs.Places.{AreDistinct}
 use Rattle.pv_law_agreement.specs.Promises.{ArePromised, AreInSequence}
 use Rattle.pv_law_agreement.specs.Values.{AreAfter}
@@ -32,7 +32,7 @@ module _ (setup : Setup) where
     pub whole : (placed : Placed) → Contains world.order placed → IsWhole placed
     pub promised : (site : ℕ) (txn : TxnId) (writes : List Read) → Contains (records_at world site) (prepared txn writes)
         → ArePromised setup.catalog world.order site txn writes
-    pub wants : (site : ℕ) (placed : Placed) (grant : Grant) → Contains world.order placed → Holds world site grant → grant.txn ≡ placed.txn
+    pub wants : (site : ℕ) (placed : Placed) (grant : Grant) → Contains world.order placed → HoldsAgeless world site grant → grant.txn ≡ placed.txn
         → grant.wants ≡ wants_of placed.program setup.catalog.items site
     pub committed : (txn : TxnId) → IsTrue (is_committed world txn) → IsPreparedByParticipants world txn
     pub heeded : (assignment : List TxnId) → Fits world assignment → (site : ℕ) → Heeds (records_at world site) assignment

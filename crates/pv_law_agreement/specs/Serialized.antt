@@ -5,7 +5,7 @@ use Rattle.pv_base.specs.declared.grant.GrantId.{GrantId}
 use Rattle.pv_base.specs.declared.txn.TxnId.{TxnId}
 use Rattle.pv_format.specs.Message.{granted, prepare}
 use Rattle.pv_format.specs.Record.{prepared}
-use Rattle.pv_law_acts.specs.Seen.{records_at, Holds, Works, Sent}
+use Rattle.pv_law_acts.specs.Seen.{records_at, HoldsAgeless, WorksAgeless, Sent}
 use Rattle.pv_law_agreement.specs.Values.{AreBefore, AreAfter}
 use Rattle.pv_law_values.specs.Heeds.{Heeds}
 use Rattle.pv_model.specs.Alternatives.{Read, number_at}
@@ -25,8 +25,8 @@ module _ (setup : Setup) (world : World) where
   -- was taken is what the serial run has before the transaction; and what is asked for and promised is what it leaves.
   pub record IsSerialized : Type 0 where
     pub reported : (from to : ℕ) (txn : TxnId) (id : GrantId) (values : List Read) → Sent world from to (granted txn id values)
-        → (grant : Grant) → Holds world from grant → grant.txn ≡ txn → grant.id ≡ id → is_prepared (records_at world from) txn ≡ false → AreCurrent from values
-    pub taken : (n : ℕ) (txn : TxnId) (entry : Entry) → Works world n txn entry → entry.stage ≡ voting → (taken : Taken) → Contains entry.taken taken
+        → (grant : Grant) → HoldsAgeless world from grant → grant.txn ≡ txn → grant.id ≡ id → is_prepared (records_at world from) txn ≡ false → AreCurrent from values
+    pub taken : (n : ℕ) (txn : TxnId) (entry : Entry) → WorksAgeless world n txn entry → entry.stage ≡ voting → (taken : Taken) → Contains entry.taken taken
         → AreBefore setup.catalog world txn taken.values
     pub asked : (from to : ℕ) (txn : TxnId) (id : GrantId) (writes : List Read) → Sent world from to (prepare txn id writes)
         → AreAfter setup.catalog world txn writes

@@ -5,7 +5,7 @@ use Rattle.pv_base.specs.declared.grant.GrantId.{GrantId}
 use Rattle.pv_base.specs.declared.txn.TxnId.{TxnId}
 use Rattle.pv_format.specs.Message.{granted, prepare}
 use Rattle.pv_format.specs.Record.{prepared}
-use Rattle.pv_law_acts.specs.Seen.{records_at, Works, Sent}
+use Rattle.pv_law_acts.specs.Seen.{records_at, WorksAgeless, Sent}
 use Rattle.pv_law_agreement.specs.Places.{txns_of}
 use Rattle.pv_law_values.specs.Fixed.{AreFixedBy}
 use Rattle.pv_model.specs.Alternatives.{Read}
@@ -20,6 +20,6 @@ module _ (world : World) where
   -- All that is reported, taken, asked and promised does.
   pub record IsSupported : Type 0 where
     pub reported : (from to : ℕ) (txn : TxnId) (id : GrantId) (values : List Read) → Sent world from to (granted txn id values) → AreOfOrder values
-    pub taken : (n : ℕ) (txn : TxnId) (entry : Entry) → Works world n txn entry → (taken : Taken) → Contains entry.taken taken → AreOfOrder taken.values
+    pub taken : (n : ℕ) (txn : TxnId) (entry : Entry) → WorksAgeless world n txn entry → (taken : Taken) → Contains entry.taken taken → AreOfOrder taken.values
     pub asked : (from to : ℕ) (txn : TxnId) (id : GrantId) (writes : List Read) → Sent world from to (prepare txn id writes) → AreOfOrder writes
     pub promised : (n : ℕ) (txn : TxnId) (writes : List Read) → Contains (records_at world n) (prepared txn writes) → AreOfOrder writes

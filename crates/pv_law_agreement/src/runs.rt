@@ -4,7 +4,7 @@ ghost use Rattle.pv_base.specs.Assignment.{commits};
 ghost use Rattle.pv_base.specs.declared.txn.TxnId.{TxnId};
 ghost use Rattle.pv_format.specs.Record.{Record, outcome_known};
 ghost use Rattle.pv_law_acts.specs.Acts.{Acts};
-ghost use Rattle.pv_law_acts.specs.Seen.{records_at, Works};
+ghost use Rattle.pv_law_acts.specs.Seen.{records_at, WorksAgeless};
 ghost use Rattle.pv_law_values.specs.Heeds.{Heeds};
 ghost use Rattle.pv_model.specs.Serial.{declared_rows, serial_reply};
 ghost use Rattle.pv_protocol.specs.Agreement.{Agrees};
@@ -32,7 +32,7 @@ pub fn recorded_outcomes_lose_nothing()
 /// has read, with any records whose outcomes the assignment has; and it is among the replies that it answers.
 pub fn replies_are_serial()
     ensures { (setup : Setup) (world later : World) → Acts setup (opening setup) world → Acts setup world later →
-        (n : ℕ) (txn : TxnId) (entry : Entry) → Works world n txn entry → entry.stage ≡ voting →
+        (n : ℕ) (txn : TxnId) (entry : Entry) → WorksAgeless world n txn entry → entry.stage ≡ voting →
         (assignment : List TxnId) → Fits later assignment → commits assignment txn ≡ true → (records : List Record) → Heeds records assignment →
         (serial_reply (declared_rows setup.catalog) (programs_of later.order) assignment txn ≡ Some (reply_after records entry assignment))
         × Contains (replies_of records entry) (reply_after records entry assignment) }

@@ -11,12 +11,12 @@ use Rattle.pv_law_acts.proofs.MemoryLemmas.{entry-txn}
 use Rattle.pv_law_acts.proofs.RecordLemmas.{listed-yes}
 use Rattle.pv_law_acts.proofs.SiteLemmas.{up-within}
 use Rattle.pv_law_acts.specs.Acts.{Acts}
-use Rattle.pv_law_acts.specs.Seen.{records_at, memory_at, ageless_entry, work_in, Works}
+use Rattle.pv_law_acts.specs.Seen.{records_at, memory_at, ageless_entry, work_in, WorksAgeless}
 use Rattle.pv_law_agreement.proofs.AnswerLemmas.{reply-possible, serial-answer}
 use Rattle.pv_law_agreement.proofs.GroundLemmas.{grounds-from}
 use Rattle.pv_law_agreement.proofs.RunLemmas.{AreKept, kept-along, falls-back, order-grows}
 use Rattle.pv_law_answers.proofs.NoteLemmas.{IsCommitting, commit-noted}
-use Rattle.pv_law_answers.specs.Origin.{Gives, request, delivery, time, IsNoted}
+use Rattle.pv_law_answers.proofs.Origin.{Gives, request, delivery, time, IsNoted}
 use Rattle.pv_law_events.proofs.FoundLemmas.{voting-found}
 use Rattle.pv_law_step.proofs.ComputedLemmas.{reply-canonical, reply-value}
 use Rattle.pv_law_step.specs.VoteCases.{voted}
@@ -93,7 +93,7 @@ module _ (setup : Setup) (world : World) (transition : Transition) (txn : TxnId)
   abbrev ageless : Entry
   ageless = record entry { age = 0 }
 
-  works : Works world noted.n txn ageless
+  works : WorksAgeless world noted.n txn ageless
   works = ap (λ m. work_in m txn) noted.up ∙ ap ageless_entry completes.found
 
   home : home_of txn ≡ noted.n

@@ -10,7 +10,7 @@ use Rattle.pv_law_acts.proofs.PassedLemmas.{numbers-passed, no-grant-yet, number
 use Rattle.pv_law_acts.proofs.StepLemmas.{acts-hold}
 use Rattle.pv_law_acts.specs.Acts.{Acts, no_act}
 use Rattle.pv_law_acts.specs.Passed.{AreNumbersPassed}
-use Rattle.pv_law_acts.specs.Seen.{memory_at, Holds, ageless_grant, IsGrantPassed}
+use Rattle.pv_law_acts.specs.Seen.{memory_at, HoldsAgeless, ageless_grant, IsGrantPassed}
 use Rattle.pv_law_acts.specs.Steps.{NewGrant, IsStep}
 use Rattle.pv_law_answers.specs.Numbers.{IsStanding, AreOneGrant, IsGone, GrantsAreNew}
 use Rattle.pv_law_events.specs.Reached.{AreReached}
@@ -21,10 +21,10 @@ use Rattle.pv_protocol.specs.World.{World, opening}
 
 -- Grants that stand, however old.
 
-stands-holds : (world : World) (n : ℕ) (grant : Grant) → IsStanding world n grant → Holds world n (ageless_grant grant)
+stands-holds : (world : World) (n : ℕ) (grant : Grant) → IsStanding world n grant → HoldsAgeless world n (ageless_grant grant)
 stands-holds world n grant h = Contains-map ageless_grant (grants_of (memory_at world n)) grant h
 
-holds-stands : (world : World) (n : ℕ) (grant : Grant) → Holds world n grant → (other : Grant) × (IsStanding world n other × (other.id ≡ grant.id))
+holds-stands : (world : World) (n : ℕ) (grant : Grant) → HoldsAgeless world n grant → (other : Grant) × (IsStanding world n other × (other.id ≡ grant.id))
 holds-stands world n grant h =
     let found = Contains-unmap ageless_grant (grants_of (memory_at world n)) grant h in
     (found.0, (found.1.0, ap (λ (g : Grant). g.id) found.1.1))
@@ -33,7 +33,7 @@ module _ (setup : Setup) where
   -- Numbers are passed, and grants of one number that stand at one site are one.
   record AreNumbered (w : World) : Type 0 where
     passed : AreNumbersPassed w
-    one : (n : ℕ) (grant other : Grant) → Holds w n grant → Holds w n other → grant.id ≡ other.id → grant ≡ other
+    one : (n : ℕ) (grant other : Grant) → HoldsAgeless w n grant → HoldsAgeless w n other → grant.id ≡ other.id → grant ≡ other
 
   numbered-kept : (w v : World) → IsStep setup w v → AreNumbered w → AreNumbered v
   numbered-kept w v step is = record {
@@ -61,7 +61,7 @@ module _ (setup : Setup) where
   module _ (first : World) (n : ℕ) (id : GrantId) where
     record StoodBefore (w : World) : Type 0 where
       passed : IsGrantPassed w n id
-      stood : (grant : Grant) → Holds w n grant → grant.id ≡ id → Holds first n grant
+      stood : (grant : Grant) → HoldsAgeless w n grant → grant.id ≡ id → HoldsAgeless first n grant
 
     stood-kept : (w v : World) → IsStep setup w v → StoodBefore w → StoodBefore v
     stood-kept w v step is = record {

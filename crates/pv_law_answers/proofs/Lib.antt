@@ -5,6 +5,7 @@ pub mod GrantNumbers
 pub mod LineLemmas
 pub mod NoteLemmas
 pub mod OrderLemmas
+pub mod Origin
 pub mod RefusalNotes
 pub mod ReportLemmas
 pub mod RunLemmas

@@ -9,7 +9,7 @@ use Rattle.pv_base.specs.Named.{names_of}
 use Rattle.pv_base.specs.Polyvalue.{Case}
 use Rattle.pv_base.specs.declared.txn.TxnId.{TxnId}
 use Rattle.pv_format.specs.Message.{Envelope}
-use Rattle.pv_law_answers.specs.Origin.{IsTxnLine, Gives, request, delivery, time, Ends, at_once_done, whole, broken, IsNoted}
+use Rattle.pv_law_answers.proofs.Origin.{IsTxnLine, Gives, request, delivery, time, Ends, at_once_done, whole, broken, IsNoted}
 use Rattle.pv_law_world.proofs.EventView.{by-beginning}
 use Rattle.pv_law_world.specs.EventView.{Beginning, Printed, lines_printed, begun_by, IsAsked, IsGuarded}
 use Rattle.pv_model.specs.Events.{Event}

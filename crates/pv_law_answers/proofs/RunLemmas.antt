@@ -15,7 +15,7 @@ use Rattle.pv_law_agreement.proofs.RunLemmas.{all-kept, all-agree, falls-back}
 use Rattle.pv_law_agreement.specs.Falls.{FitsFallBack}
 use Rattle.pv_law_answers.proofs.AnswerLemmas.{are-possible, are-serial}
 use Rattle.pv_law_answers.proofs.LineLemmas.{ended-ends, come-ends, line-noted}
-use Rattle.pv_law_answers.specs.Origin.{IsTxnLine, IsNoted}
+use Rattle.pv_law_answers.proofs.Origin.{IsTxnLine, IsNoted}
 use Rattle.pv_law_answers.specs.Settling.{SettlingKeepsValues, WhatFitsFitted}
 use Rattle.pv_law_events.specs.Reached.{AreReached}
 use Rattle.pv_law_outcomes.proofs.DecidedLemmas.{IsSettled, always-settled}

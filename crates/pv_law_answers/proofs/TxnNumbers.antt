@@ -16,7 +16,7 @@ use Rattle.pv_law_answers.proofs.BeginNotes.{IsBeginning, begin-noted}
 use Rattle.pv_law_answers.proofs.LineLemmas.{come-ends, line-noted}
 use Rattle.pv_law_answers.proofs.RunLemmas.{follows-there, is-transition, noted-there}
 use Rattle.pv_law_answers.specs.Numbers.{TxnsAreNew}
-use Rattle.pv_law_answers.specs.Origin.{IsNoted}
+use Rattle.pv_law_answers.proofs.Origin.{IsNoted}
 use Rattle.pv_law_events.proofs.EventActs.{then-acts, IsKnown}
 use Rattle.pv_law_events.proofs.RunActs.{AreKnown}
 use Rattle.pv_law_world.proofs.AppendLemmas.{world_after-append}

@@ -18,7 +18,7 @@ use Rattle.pv_law_acts.proofs.ActSteps.{act-step}
 use Rattle.pv_law_acts.proofs.StepLemmas.{sent-either}
 use Rattle.pv_law_acts.specs.Acts.{Acts, no_act, one_more}
 use Rattle.pv_law_acts.specs.Guards.{MaySendPrepare}
-use Rattle.pv_law_acts.specs.Seen.{records_at, Holds, Works, Sent, wants_at}
+use Rattle.pv_law_acts.specs.Seen.{records_at, HoldsAgeless, WorksAgeless, Sent, wants_at}
 use Rattle.pv_law_acts.specs.Steps.{NewEntry, has_begun, has_taken, is_placed, has_counted, IsStep}
 use Rattle.pv_law_agreement.proofs.GroundLemmas.{grounds-from}
 use Rattle.pv_law_agreement.proofs.PlaceLemmas.{placed-listed}
@@ -27,7 +27,7 @@ use Rattle.pv_law_agreement.proofs.WriteLemmas.{made-of, some-value}
 use Rattle.pv_law_agreement.specs.Grounds.{HasGrounds}
 use Rattle.pv_law_agreement.specs.Places.{txns_of}
 use Rattle.pv_law_complete.proofs.WidthLemmas.{promise-few}
-use Rattle.pv_law_complete.specs.Asked.{NameOnly, AskedNameTaken}
+use Rattle.pv_law_complete.proofs.Asked.{NameOnly, AskedNameTaken}
 use Rattle.pv_law_outcomes.proofs.DecidedLemmas.{always-settled}
 use Rattle.pv_law_step.proofs.ComputedLemmas.{new-names}
 use Rattle.pv_law_step.proofs.NameLists.{names-listed, undecided-listed}
@@ -80,12 +80,12 @@ module _ (setup : Setup) (w v : World) (step : IsStep setup w v) (grounds : HasG
   not-both one other = let wrong : ⊥ = cc in wrong
 
   -- No vote is asked for of a transaction that still asks for locks.
-  none-asked : (from to : ℕ) (txn : TxnId) (id : GrantId) (writes : List Read) → Sent w from to (prepare txn id writes) → (n : ℕ) (entry : Entry) → Works w n txn entry → entry.stage ≡ locking → ⊥
+  none-asked : (from to : ℕ) (txn : TxnId) (id : GrantId) (writes : List Read) → Sent w from to (prepare txn id writes) → (n : ℕ) (entry : Entry) → WorksAgeless w n txn entry → entry.stage ≡ locking → ⊥
   none-asked from to txn id writes sent n entry works asks =
       let is = grounds.asked from to txn id writes sent in
       false≢true (sym ((grounds.entries n txn entry works).unplaced asks) ∙ subst (λ t. commits (txns_of w.order) t ≡ true) is.is (placed-listed w.order is.placed is.in_order))
 
-  old-asked : (from to : ℕ) (txn : TxnId) (id : GrantId) (writes : List Read) → Sent w from to (prepare txn id writes) → (n : ℕ) (entry : Entry) → Works w n txn entry ⊎ NewEntry setup w v n txn entry
+  old-asked : (from to : ℕ) (txn : TxnId) (id : GrantId) (writes : List Read) → Sent w from to (prepare txn id writes) → (n : ℕ) (entry : Entry) → WorksAgeless w n txn entry ⊎ NewEntry setup w v n txn entry
       → entry.stage ≡ voting → NameOnly (names_taken entry) writes
   old-asked from to txn id writes sent n entry (inl works) votes = before from to txn id writes sent n entry works votes
   old-asked from to txn id writes sent n _ (inr (has_begun program own fresh given runs)) votes = absurd (not-both refl votes)
@@ -94,11 +94,11 @@ module _ (setup : Setup) (w v : World) (step : IsStep setup w v) (grounds : HasG
   old-asked from to txn id writes sent n _ (inr (has_counted entry other works may)) votes = before from to txn id writes sent n entry works votes
 
   -- The entry of a vote that is asked for now is that one.
-  one-entry : (from n : ℕ) (txn : TxnId) (entry other : Entry) → Works w from txn entry → Works w n txn other → entry ≡ other
+  one-entry : (from n : ℕ) (txn : TxnId) (entry other : Entry) → WorksAgeless w from txn entry → WorksAgeless w n txn other → entry ≡ other
   one-entry from n txn entry other works also =
       let home = (grounds.entries from txn entry works).home in
       let there = (grounds.entries n txn other also).home in
-      Some_inj (sym works ∙ subst (λ m. Works w m txn other) (sym there ∙ home) also)
+      Some_inj (sym works ∙ subst (λ m. WorksAgeless w m txn other) (sym there ∙ home) also)
 
   asked-names : (from to : ℕ) (txn : TxnId) (id : GrantId) (writes : List Read) (may : MaySendPrepare setup w from to txn id writes) → NameOnly (names_taken may.entry) writes
   asked-names from to txn id writes may item cases wrote t named =
@@ -106,7 +106,7 @@ module _ (setup : Setup) (w v : World) (step : IsStep setup w v) (grounds : HasG
       undecided-listed (records_at w from) (names_taken may.entry) t
       (new-names (records_at w from) may.entry item t (subst (λ cs. IsTrue (names cs t)) made.0 named))
 
-  new-asked : (from to : ℕ) (txn : TxnId) (id : GrantId) (writes : List Read) (may : MaySendPrepare setup w from to txn id writes) (n : ℕ) (entry : Entry) → Works w n txn entry ⊎ NewEntry setup w v n txn entry
+  new-asked : (from to : ℕ) (txn : TxnId) (id : GrantId) (writes : List Read) (may : MaySendPrepare setup w from to txn id writes) (n : ℕ) (entry : Entry) → WorksAgeless w n txn entry ⊎ NewEntry setup w v n txn entry
       → entry.stage ≡ voting → NameOnly (names_taken entry) writes
   new-asked from to txn id writes may n entry (inl works) votes =
       subst (λ e. NameOnly (names_taken e) writes) (one-entry from n txn may.entry entry may.works works) (asked-names from to txn id writes may)
@@ -135,8 +135,8 @@ module _ (setup : Setup) where
   asked-name-taken w acts = kept-from (opening setup) w refl acts
 
   -- With the promise that a vote is asked for, an item names no more than what was taken and the transaction itself.
-  pub votes-are-narrow : (w : World) → Acts setup (opening setup) w → (n : ℕ) (txn : TxnId) (entry : Entry) → Works w n txn entry → entry.stage ≡ voting
-      → (taken : Taken) → Contains entry.taken taken → (grant : Grant) → Holds w taken.site grant → grant.txn ≡ txn → grant.id ≡ taken.grant → is_prepared (records_at w taken.site) txn ≡ false
+  pub votes-are-narrow : (w : World) → Acts setup (opening setup) w → (n : ℕ) (txn : TxnId) (entry : Entry) → WorksAgeless w n txn entry → entry.stage ≡ voting
+      → (taken : Taken) → Contains entry.taken taken → (grant : Grant) → HoldsAgeless w taken.site grant → grant.txn ≡ txn → grant.id ≡ taken.grant → is_prepared (records_at w taken.site) txn ≡ false
       → (from : ℕ) (id : GrantId) (writes : List Read) → Sent w from taken.site (prepare txn id writes) → (item : ℕ) → IsSome (written item writes) → IsSome (written item taken.values)
       → length (names_of (shown setup.catalog (records_at w taken.site ++ prepared txn writes ∷ []) item)) ≤ length (names_taken entry) + 1
   votes-are-narrow w acts n txn entry works votes taken listed grant holds of is unprepared from id writes sent item some read =

@@ -11,13 +11,13 @@ use Rattle.pv_format.specs.Message.{Message, lock, granted, denied, vote_no}
 use Rattle.pv_law_acts.proofs.NumberLemmas.{next-unpassed}
 use Rattle.pv_law_acts.specs.Seen.{records_at, memory_at, Sent, IsPassed, IsNumberPassed, next_txn_in}
 use Rattle.pv_law_complete.proofs.EndLemmas.{none-known}
-use Rattle.pv_law_complete.proofs.GoesLemmas.{Makes}
+use Rattle.pv_law_complete.proofs.GoesLemmas.{MakesItsStep}
 use Rattle.pv_law_complete.proofs.GoneLemmas.{HasGone}
 use Rattle.pv_law_complete.proofs.GoingLemmas.{Going}
 use Rattle.pv_law_complete.specs.Undisturbed.{IsConcerned, here_in, IsSubmitted}
 use Rattle.pv_law_agreement.proofs.WriteLemmas.{some-value}
 use Rattle.pv_law_events.proofs.EventActs.{IsKnown}
-use Rattle.pv_law_locks.proofs.EntryLemmas.{two-stages}
+use Rattle.pv_law_outcomes.proofs.EntryLemmas.{two-stages}
 use Rattle.pv_law_step.proofs.KeyedLemmas.{of-with}
 use Rattle.pv_law_step.proofs.StepCases.{submit-case}
 use Rattle.pv_law_step.specs.LockCases as of_locks
@@ -61,7 +61,7 @@ module _ (setup : Setup) (txn : TxnId) (program : Program) (w : World) (is_known
   abbrev pub New : Entry
   New = record { txn = next_txn At; program = program; stage = locking; age = 0; taken = []; votes = [] }
 
-  begun-going : Makes w t.world Home (beginning At program (next_txn At)) → Going setup txn program t.world New
+  begun-going : MakesItsStep w t.world Home (beginning At program (next_txn At)) → Going setup txn program t.world New
   begun-going makes =
       let sends = lock_sends (next_txn At) (plan_of program setup.catalog.items) in
       let either : (from to : ℕ) (message : Message) → Sent t.world from to message → Sent w from to message ⊎ Contains sends (record { to = to; message = message }) =
@@ -105,7 +105,7 @@ module _ (setup : Setup) (txn : TxnId) (program : Program) (w : World) (is_known
             (part-asked setup txn program n part))));
       }
 
-  by-case : (step : Step) → of_locks.SubmitCase At program step → Makes w t.world Home step → Going setup txn program t.world New
+  by-case : (step : Step) → of_locks.SubmitCase At program step → MakesItsStep w t.world Home step → Going setup txn program t.world New
   by-case step (of_locks.no_number_left spent) makes = absurd (false≢true (sym submitted.left ∙ spent))
   by-case step (of_locks.begins some) makes = begun-going makes
 

@@ -13,8 +13,8 @@ use Rattle.pv_format.specs.Message.{Envelope, Message, lock, granted, denied, pr
 use Rattle.pv_law_acts.proofs.ListLemmas.{among-listed, listed-among}
 use Rattle.pv_law_acts.proofs.NumberLemmas.{next-unpassed}
 use Rattle.pv_law_acts.specs.Seen.{records_at, memory_at, Sent, IsPassed, IsNumberPassed, next_txn_in}
-use Rattle.pv_law_causes.specs.Moves.{Comes}
-use Rattle.pv_law_complete.proofs.GoesLemmas.{IsSame, Makes, Goes, stays, halts, opens, steps}
+use Rattle.pv_law_refusals.proofs.Moves.{Comes}
+use Rattle.pv_law_complete.proofs.GoesLemmas.{IsSame, MakesItsStep, Goes, stays, halts, opens, steps}
 use Rattle.pv_law_complete.proofs.GoingLemmas.{same-or-not, Further, no-further, Going, Local, go-on, framed, same-going, sent-stays, sent-now}
 use Rattle.pv_law_complete.proofs.GoneLemmas.{HasGone}
 use Rattle.pv_law_complete.proofs.GrantSteps.{grant-leaves, denied-leaves}
@@ -22,7 +22,7 @@ use Rattle.pv_law_complete.proofs.LockSteps.{lock-leaves, working}
 use Rattle.pv_law_complete.proofs.VoteSteps.{vote-leaves, yes-leaves, no-leaves, no-outcome-comes, ask-leaves}
 use Rattle.pv_law_complete.specs.Undisturbed.{IsConcerned, here_in, IsFree, IsCalm}
 use Rattle.pv_law_events.proofs.EventActs.{IsKnown}
-use Rattle.pv_law_frames.proofs.FrameLemmas.{steps-frame}
+use Rattle.pv_law_complete.proofs.FrameLemmas.{steps-frame}
 use Rattle.pv_law_step.proofs.StepCases.{lock-case, granted-case, denied-case, prepare-case, yes-case, no-case, ask-case}
 use Rattle.pv_model.specs.Alternatives.{Read}
 use Rattle.pv_model.specs.Plan.{participants_of}
@@ -82,7 +82,7 @@ module _ (setup : Setup) (room : setup.read_names < setup.held_names) (txn : Txn
     abbrev pub With : (from : ℕ) → Message → Type 0
     With from message = (goes : GoesOn w v entry) × Effect entry goes.after v n from message
 
-    by-local : (step : Step) → Makes w v n step → (after : Entry) → Local setup txn program w entry going n running up step after → GoesOn w v entry
+    by-local : (step : Step) → MakesItsStep w v n step → (after : Entry) → Local setup txn program w entry going n running up step after → GoesOn w v entry
     by-local step makes after local = record {
       after = after;
       going = go-on setup txn program w entry going n running up v step makes after local ups;
@@ -92,7 +92,7 @@ module _ (setup : Setup) (room : setup.read_names < setup.held_names) (txn : Txn
 
     -- how a message that is of the transaction is taken
     abbrev pub Taking : (from : ℕ) → Message → Type 0
-    Taking from message = Makes w v n (on_message Site from message) → Sent w from n message → IsFree Site from message → With from message
+    Taking from message = MakesItsStep w v n (on_message Site from message) → Sent w from n message → IsFree Site from message → With from message
 
     pub own-message : (from : ℕ) (message : Message) → txn_of message ≡ txn → Taking from message
     unfolding by-local
@@ -131,7 +131,7 @@ module _ (setup : Setup) (room : setup.read_names < setup.held_names) (txn : Txn
         (by-local step makes entry (ask-leaves setup room txn program w is_known entry going n running up from step (ask-case Site from txn)), tt))
 
     -- another site, or another transaction
-    apart : (step : Step) → Makes w v n step → (IsConcerned setup txn program n → ⊥) → GoesOn w v entry
+    apart : (step : Step) → MakesItsStep w v n step → (IsConcerned setup txn program n → ⊥) → GoesOn w v entry
     apart step makes none = by-local step makes entry (record {
       mine = λ same. absurd (none (inl same));
       other = λ other. refl;
@@ -165,7 +165,7 @@ module _ (setup : Setup) (room : setup.read_names < setup.held_names) (txn : Txn
   module _ (w : World) (is_known : IsKnown setup w) (entry : Entry) (going : Going setup txn program w entry) (t : Transition)
       (calm : IsCalm setup txn program w t) (uncommitted : is_committed t.world txn ≡ false) where
     concerned-goes : (m : ℕ) → IsConcerned setup txn program m → (running : Running) (up : memory_at w m ≡ Some running) (input : Input) → Comes w t.event m input
-        → Makes w t.world m (site_step setup m (records_at w m) running input) → GoesOn w t.world entry
+        → MakesItsStep w t.world m (site_step setup m (records_at w m) running input) → GoesOn w t.world entry
     concerned-goes m concerned running up tick comes makes =
         absurd (false≢true (sym (calm.timeless m concerned) ∙ (ap (is_tick_of m) comes ∙ eq-eqb m m refl)))
     concerned-goes m concerned running up (submit other) comes makes =

@@ -6,16 +6,17 @@ use Rattle.std.proofs.lemmas.List.Elements.{All-head}
 use Rattle.pv_base.proofs.ContainsLemmas.{Contains-first}
 use Rattle.pv_base.specs.Canonical.{canonical_cases}
 use Rattle.pv_format.specs.Message.{prepare}
-use Rattle.pv_law_acts.specs.Seen.{memory_at, Holds, holdings_in, Sent}
+use Rattle.pv_law_acts.specs.Seen.{memory_at, HoldsAgeless, holdings_in, Sent}
 use Rattle.pv_law_answers.proofs.AskerLemmas.{each-fine}
-use Rattle.pv_law_causes.proofs.RefusedLemmas.{raise-fine}
-use Rattle.pv_law_causes.specs.Refused.{raise_b}
+use Rattle.pv_law_refusals.proofs.RefusedLemmas.{raise-fine}
+use Rattle.pv_law_refusals.specs.Refused.{raise_b}
 use Rattle.pv_law_complete.proofs.CommitLemmas.{there-sent}
 use Rattle.pv_law_complete.specs.Doubtful.{until_raised, raised, second, held, writes}
 use Rattle.pv_law_events.proofs.PremiseLemmas.{can-run}
 use Rattle.pv_law_events.specs.Eventful.{small}
 use Rattle.pv_law_world.specs.ExampleLines.{u}
-use Rattle.pv_law_world.specs.Schedules.{bank, pump_all}
+use Rattle.pv_law_step.specs.Examples.{bank}
+use Rattle.pv_law_world.specs.Schedules.{pump_all}
 use Rattle.pv_model.specs.Meaning.{exec}
 use Rattle.pv_model.specs.Plan.{plan_of}
 use Rattle.pv_protocol.specs.Attempt.{begun}
@@ -46,7 +47,7 @@ one-holds : holdings_in (memory_at raised 1) ≡ held ∷ []
 unfolding canonical_cases exec plan_of begun new_value reply_value on_denied on_granted on_lock on_submit is_named_here named_here on_ask on_outcome journal_bytes transitions_of shown_within on_tick on_no on_prepare on_yes transition_of
 one-holds = refl
 
-pub holds-second : Holds raised 1 held
+pub holds-second : HoldsAgeless raised 1 held
 holds-second = subst (λ all. Contains all held) (sym one-holds) (Contains-first held [])
 
 asked-there : slice_get raised.sent 11 ≡ Some (record { from = 0; to = 1; message = prepare u second writes })

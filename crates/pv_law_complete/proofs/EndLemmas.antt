@@ -13,14 +13,14 @@ use Rattle.pv_law_acts.proofs.ListLemmas.{any-listed, among-listed}
 use Rattle.pv_law_acts.specs.Acts.{Acts, no_act}
 use Rattle.pv_law_acts.specs.Seen.{memory_at, Sent}
 use Rattle.pv_law_agreement.proofs.WriteLemmas.{some-value}
-use Rattle.pv_law_causes.proofs.Chains.{AreLinks}
-use Rattle.pv_law_causes.specs.Waits.{IsWaiting}
+use Rattle.pv_law_refusals.proofs.Chains.{AreLinks}
+use Rattle.pv_law_refusals.specs.Waits.{IsWaiting}
 use Rattle.pv_law_complete.proofs.CommitLemmas.{there-sent, GoesOn, Effect, own-message, transition-goes}
 use Rattle.pv_law_complete.proofs.GoneLemmas.{AreGone}
 use Rattle.pv_law_complete.proofs.GoingLemmas.{Further, no-further, further-still, Going}
 use Rattle.pv_law_complete.specs.Undisturbed.{IsConcerned, AreCalm, IsDelivered, AreDelivered}
 use Rattle.pv_law_events.proofs.EventActs.{then-acts}
-use Rattle.pv_law_locks.proofs.EntryLemmas.{two-stages, stage-either}
+use Rattle.pv_law_outcomes.proofs.EntryLemmas.{two-stages, stage-either}
 use Rattle.pv_law_outcomes.proofs.OutcomeLemmas.{committed-after}
 use Rattle.pv_law_programs.proofs.PlanLemmas.{sites-have}
 use Rattle.pv_model.specs.Events.{Event}

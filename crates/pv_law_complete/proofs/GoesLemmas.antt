@@ -5,8 +5,8 @@ use Rattle.std.proofs.lemmas.List.{append-nil, get_or-set_same, get_or-set_other
 use Rattle.pv_format.specs.Message.{Envelope}
 use Rattle.pv_law_acts.proofs.SiteLemmas.{up-within}
 use Rattle.pv_law_acts.specs.Seen.{records_at, memory_at}
-use Rattle.pv_law_causes.proofs.MoveLemmas.{asked-comes}
-use Rattle.pv_law_causes.specs.Moves.{Comes}
+use Rattle.pv_law_refusals.proofs.MoveLemmas.{asked-comes}
+use Rattle.pv_law_refusals.proofs.Moves.{Comes}
 use Rattle.pv_law_world.proofs.DisarmLemmas.{site-disarmed}
 use Rattle.pv_law_world.proofs.EventView.{by-beginning}
 use Rattle.pv_law_world.specs.EventView.{Beginning, begun_by, IsGuarded}
@@ -28,7 +28,7 @@ pub record IsSame (w v : World) (n : ℕ) : Type 0 where
   pub memory : memory_at v n ≡ memory_at w n
 
 -- The site makes this step.
-pub record Makes (w v : World) (n : ℕ) (step : Step) : Type 0 where
+pub record MakesItsStep (w v : World) (n : ℕ) (step : Step) : Type 0 where
   pub others : (m : ℕ) → m ≢ n → IsSame w v m
   pub memory : memory_at v n ≡ Some step.running
   pub records : records_at v n ≡ records_after (records_at w n) step
@@ -40,7 +40,7 @@ pub data Goes (setup : Setup) (w : World) (event : Event) (v : World) : Type 0 w
   halts : (m : ℕ) → ((n : ℕ) → n ≢ m → IsSame w v n) → memory_at v m ≡ None → v.sent ≡ w.sent → Goes setup w event v
   opens : (m : ℕ) → ((n : ℕ) → n ≢ m → IsSame w v n) → memory_at w m ≡ None → v.sent ≡ w.sent → Goes setup w event v
   steps : (m : ℕ) (running : Running) (input : Input) → Comes w event m input → memory_at w m ≡ Some running
-      → Makes w v m (site_step setup m (records_at w m) running input) → Goes setup w event v
+      → MakesItsStep w v m (site_step setup m (records_at w m) running input) → Goes setup w event v
 
 -- A start sends nothing.
 start-silent : (n : ℕ) (started : Started) → (of_start n started).sends ≡ []
@@ -74,7 +74,7 @@ module _ (setup : Setup) (w : World) where
   own-site found sites m running up site = get_or-set_same found.sites m site no_site (subst (λ (all : List Site). m < length all) (sym sites) (up-within w m running up))
 
   whole-makes : (n : ℕ) (step : Step) (found : World) → found.sites ≡ w.sites → found.sent ≡ w.sent → (running : Running) → memory_at w n ≡ Some running
-      → Makes w (completed found n (of_step n step) None) n step
+      → MakesItsStep w (completed found n (of_step n step) None) n step
   whole-makes n step found sites sent running up =
       let site : Site = record { records = records_at found n ++ option_to_list step.appended; arm = None; running = Some step.running } in
       record {
@@ -162,7 +162,7 @@ module _ (setup : Setup) (w : World) where
     memory = ap (λ (s : Site). s.running) (site-disarmed v n) ∙ same.memory;
   }
 
-  disarmed-makes : (n : ℕ) (step : Step) (v : World) → Makes w v n step → Makes w (disarmed v) n step
+  disarmed-makes : (n : ℕ) (step : Step) (v : World) → MakesItsStep w v n step → MakesItsStep w (disarmed v) n step
   disarmed-makes n step v makes = record {
     others = λ m other. disarmed-same v m (makes.others m other);
     memory = ap (λ (s : Site). s.running) (site-disarmed v n) ∙ makes.memory;
@@ -183,7 +183,7 @@ module _ (setup : Setup) (w : World) where
 
   -- A step that leaves its site up is whole.
   up-makes : (n : ℕ) (step : Step) (found : World) → found.sites ≡ w.sites → found.sent ≡ w.sent → (running : Running) → memory_at w n ≡ Some running
-      → (lines : List Line) (left : World) → MayEnd found n (of_step n step) lines left → (memory_at left n ≡ None → ⊥) → Makes w left n step
+      → (lines : List Line) (left : World) → MayEnd found n (of_step n step) lines left → (memory_at left n ≡ None → ⊥) → MakesItsStep w left n step
   up-makes n step found sites sent running up lines left anywhere.whole still = whole-makes n step found sites sent running up
   up-makes n step found sites sent running up lines left (anywhere.without stops some) still =
       let site : Site = record { records = records_at found n ++ []; arm = None; running = None } in
@@ -194,14 +194,14 @@ module _ (setup : Setup) (w : World) where
 
   given-makes : (n : ℕ) (input : Input) (found : World) → found.sites ≡ w.sites → found.sent ≡ w.sent → (running : Running) → memory_at w n ≡ Some running
       → (lines : List Line) (left : World) → MayCome (given setup found n input (Some running)) lines left → (memory_at left n ≡ None → ⊥)
-      → Makes w left n (site_step setup n (records_at w n) running input)
+      → MakesItsStep w left n (site_step setup n (records_at w n) running input)
   given-makes n input found sites sent running up lines left (anywhere.by_attempt found' left' n' attempt' lines' ends) still =
       up-makes n (site_step setup n (records_at w n) running input) found sites sent running up lines left
       (subst (λ rs. MayEnd found n (of_step n (site_step setup n rs running input)) lines left) (ap (λ (all : List Site). (get_or all n no_site).records) sites) ends) still
 
   begun-makes : (event : Event) (n : ℕ) (input : Input) → Comes w event n input → (running : Running) → memory_at w n ≡ Some running
       → (lines : List Line) (left : World) → MayCome (begun setup w event) lines left → (memory_at left n ≡ None → ⊥)
-      → Makes w left n (site_step setup n (records_at w n) running input)
+      → MakesItsStep w left n (site_step setup n (records_at w n) running input)
   unfolding begun
   begun-makes event n (submit program) (query, (text, is)) running up lines left come still =
       given-makes n (submit program) w refl refl running up lines left
@@ -216,10 +216,10 @@ module _ (setup : Setup) (w : World) where
 
   -- A site that is given something and is up afterwards has made its step.
   pub follow-makes : (transition : Transition) → MayFollow setup w transition → (n : ℕ) (input : Input) → Comes w transition.event n input
-      → (running : Running) → memory_at w n ≡ Some running → (memory_at transition.world n ≡ None → ⊥) → Makes w transition.world n (site_step setup n (records_at w n) running input)
+      → (running : Running) → memory_at w n ≡ Some running → (memory_at transition.world n ≡ None → ⊥) → MakesItsStep w transition.world n (site_step setup n (records_at w n) running input)
   follow-makes transition follows n input comes running up still =
       let step = site_step setup n (records_at w n) running input in
-      subst (λ v. Makes w v n step) (sym follows.after)
+      subst (λ v. MakesItsStep w v n step) (sym follows.after)
       (disarmed-makes n step follows.left
       (begun-makes transition.event n input comes running up transition.lines follows.left follows.comes
       (λ down. still (ap (λ v. memory_at v n) follows.after ∙ (ap (λ (s : Site). s.running) (site-disarmed follows.left n) ∙ down)))))

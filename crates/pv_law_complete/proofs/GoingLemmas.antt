@@ -10,9 +10,9 @@ use Rattle.pv_base.specs.declared.txn.TxnId.{TxnId}
 use Rattle.pv_format.specs.Message.{Envelope, Message, NoCause, lock, granted, denied, prepare, vote_no}
 use Rattle.pv_format.specs.Record.{Record}
 use Rattle.pv_law_acts.specs.Seen.{records_at, memory_at, Sent}
-use Rattle.pv_law_complete.proofs.GoesLemmas.{IsSame, Makes}
+use Rattle.pv_law_complete.proofs.GoesLemmas.{IsSame, MakesItsStep}
 use Rattle.pv_law_complete.specs.Undisturbed.{IsConcerned, here_in}
-use Rattle.pv_law_frames.specs.Frames.{Frames}
+use Rattle.pv_law_complete.specs.Frames.{Frames}
 use Rattle.pv_model.specs.Alternatives.{Read}
 use Rattle.pv_model.specs.Plan.{participants_of, wants_of}
 use Rattle.pv_model.specs.Syntax.{Program}
@@ -58,8 +58,8 @@ module _ (setup : Setup) (txn : TxnId) (program : Program) where
   abbrev pub Home : ℕ
   Home = home_of txn
 
-  abbrev pub Parts : List ℕ
-  Parts = participants_of program setup.catalog.items
+  abbrev pub Participants : List ℕ
+  Participants = participants_of program setup.catalog.items
 
   -- The transaction is worked on; nobody denied or voted no; what was granted stands or is promised; and what is to be asked was asked.
   pub record Going (w : World) (entry : Entry) : Type 0 where
@@ -67,12 +67,12 @@ module _ (setup : Setup) (txn : TxnId) (program : Program) where
     pub own : entry.program ≡ program
     pub few : entry.stage ≡ voting → length (names_taken entry) ≤ setup.read_names
     pub up : (n : ℕ) → IsConcerned setup txn program n → IsSome (memory_at w n)
-    pub undenied : (from : ℕ) → Contains Parts from → (item : ℕ) (holder : TxnId) → Sent w from Home (denied txn item holder) → ⊥
-    pub no_no : (from : ℕ) → Contains Parts from → (cause : NoCause) → Sent w from Home (vote_no txn cause) → ⊥
-    pub stands : (n : ℕ) → Contains Parts n → (id : GrantId) (values : List Read) → Sent w n Home (granted txn id values)
+    pub undenied : (from : ℕ) → Contains Participants from → (item : ℕ) (holder : TxnId) → Sent w from Home (denied txn item holder) → ⊥
+    pub no_no : (from : ℕ) → Contains Participants from → (cause : NoCause) → Sent w from Home (vote_no txn cause) → ⊥
+    pub stands : (n : ℕ) → Contains Participants n → (id : GrantId) (values : List Read) → Sent w n Home (granted txn id values)
         → (running : Running) → memory_at w n ≡ Some running → Stands (records_at w n) (grant_of running txn) txn id
-    pub asked : entry.stage ≡ voting → (n : ℕ) → Contains Parts n → (id : GrantId) × ((writes : List Read) × Sent w Home n (prepare txn id writes))
-    pub locks : (n : ℕ) → Contains Parts n → Sent w Home n (lock txn (wants_of program setup.catalog.items n))
+    pub asked : entry.stage ≡ voting → (n : ℕ) → Contains Participants n → (id : GrantId) × ((writes : List Read) × Sent w Home n (prepare txn id writes))
+    pub locks : (n : ℕ) → Contains Participants n → Sent w Home n (lock txn (wants_of program setup.catalog.items n))
 
   module _ (w : World) (entry : Entry) (going : Going w entry) (n : ℕ) (running : Running) (up : memory_at w n ≡ Some running) where
     pub here-entry : n ≡ Home → of_txn (λ (e : Entry). e.txn) txn running.entries ≡ Some entry
@@ -87,15 +87,15 @@ module _ (setup : Setup) (txn : TxnId) (program : Program) where
       pub other : n ≢ Home → after ≡ entry
       pub further : Further entry after
       pub few : after.stage ≡ voting → length (names_taken after) ≤ setup.read_names
-      pub undenied : Contains Parts n → (item : ℕ) (holder : TxnId) → Contains step.sends (record { to = Home; message = denied txn item holder }) → ⊥
-      pub no_no : Contains Parts n → (cause : NoCause) → Contains step.sends (record { to = Home; message = vote_no txn cause }) → ⊥
-      pub reported : Contains Parts n → (id : GrantId) (values : List Read) → Contains step.sends (record { to = Home; message = granted txn id values })
+      pub undenied : Contains Participants n → (item : ℕ) (holder : TxnId) → Contains step.sends (record { to = Home; message = denied txn item holder }) → ⊥
+      pub no_no : Contains Participants n → (cause : NoCause) → Contains step.sends (record { to = Home; message = vote_no txn cause }) → ⊥
+      pub reported : Contains Participants n → (id : GrantId) (values : List Read) → Contains step.sends (record { to = Home; message = granted txn id values })
           → Stands (Left step) (grant_of step.running txn) txn id
-      pub keeps : Contains Parts n → (id : GrantId) → Stands (records_at w n) (grant_of running txn) txn id → Stands (Left step) (grant_of step.running txn) txn id
+      pub keeps : Contains Participants n → (id : GrantId) → Stands (records_at w n) (grant_of running txn) txn id → Stands (Left step) (grant_of step.running txn) txn id
       pub asked : after.stage ≡ voting
-          → (entry.stage ≡ voting) ⊎ ((n ≡ Home) × ((m : ℕ) → Contains Parts m → (id : GrantId) × ((writes : List Read) × Contains step.sends (record { to = m; message = prepare txn id writes }))))
+          → (entry.stage ≡ voting) ⊎ ((n ≡ Home) × ((m : ℕ) → Contains Participants m → (id : GrantId) × ((writes : List Read) × Contains step.sends (record { to = m; message = prepare txn id writes }))))
 
-    module _ (v : World) (step : Step) (makes : Makes w v n step) where
+    module _ (v : World) (step : Step) (makes : MakesItsStep w v n step) where
       pub sent-stays : (from to : ℕ) (message : Message) → Sent w from to message → Sent v from to message
       sent-stays from to message h = subst (λ all. Contains all (record { from = from; to = to; message = message })) (sym makes.sent) (Contains-append_left w.sent (from_site n step.sends) _ h)
 
@@ -123,12 +123,12 @@ module _ (setup : Setup) (txn : TxnId) (program : Program) where
             ap (λ memory. entry_in memory txn) (makes.others Home (λ same. other (sym same))).memory ∙ (going.works ∙ ap Some (sym (local.other other))))
             (same-or-not n Home)
 
-        stands-then : (m : ℕ) → Contains Parts m → (id : GrantId) (values : List Read) → Sent v m Home (granted txn id values)
+        stands-then : (m : ℕ) → Contains Participants m → (id : GrantId) (values : List Read) → Sent v m Home (granted txn id values)
             → (found : Running) → memory_at v m ≡ Some found → Stands (records_at v m) (grant_of found txn) txn id
         stands-then m part id values sent found there =
             ⊎_elim
             (λ same.
-            let part_here : Contains Parts n = subst (Contains Parts) (sym same) part in
+            let part_here : Contains Participants n = subst (Contains Participants) (sym same) part in
             let is : step.running ≡ found = Some_inj (sym (subst (λ k. memory_at v k ≡ Some step.running) same makes.memory) ∙ there) in
             subst (λ k. Stands (records_at v k) (grant_of found txn) txn id) same
             (subst (λ rs. Stands rs (grant_of found txn) txn id) (sym makes.records)
@@ -155,12 +155,12 @@ module _ (setup : Setup) (txn : TxnId) (program : Program) where
           undenied = λ from part item holder sent.
               ⊎_elim
               (λ old. going.undenied from part item holder old)
-              (λ new. local.undenied (subst (Contains Parts) (sym new.0) part) item holder new.1)
+              (λ new. local.undenied (subst (Contains Participants) (sym new.0) part) item holder new.1)
               (sent-either from Home (denied txn item holder) sent);
           no_no = λ from part cause sent.
               ⊎_elim
               (λ old. going.no_no from part cause old)
-              (λ new. local.no_no (subst (Contains Parts) (sym new.0) part) cause new.1)
+              (λ new. local.no_no (subst (Contains Participants) (sym new.0) part) cause new.1)
               (sent-either from Home (vote_no txn cause) sent);
           stands = stands-then;
           asked = λ votes m part.
@@ -179,9 +179,9 @@ module _ (setup : Setup) (txn : TxnId) (program : Program) where
 
     pub plain : (step : Step) → of_txn (λ (e : Entry). e.txn) txn step.running.entries ≡ of_txn (λ (e : Entry). e.txn) txn running.entries
         → grant_of step.running txn ≡ grant_of running txn → is_prepared (Left step) txn ≡ is_prepared (records_at w n) txn
-        → (Contains Parts n → (item : ℕ) (holder : TxnId) → Contains step.sends (record { to = Home; message = denied txn item holder }) → ⊥)
-        → (Contains Parts n → (cause : NoCause) → Contains step.sends (record { to = Home; message = vote_no txn cause }) → ⊥)
-        → (Contains Parts n → (id : GrantId) (values : List Read) → Contains step.sends (record { to = Home; message = granted txn id values })
+        → (Contains Participants n → (item : ℕ) (holder : TxnId) → Contains step.sends (record { to = Home; message = denied txn item holder }) → ⊥)
+        → (Contains Participants n → (cause : NoCause) → Contains step.sends (record { to = Home; message = vote_no txn cause }) → ⊥)
+        → (Contains Participants n → (id : GrantId) (values : List Read) → Contains step.sends (record { to = Home; message = granted txn id values })
         → Stands (Left step) (grant_of step.running txn) txn id)
         → Local step entry
     plain step entries grants promised undenied no_no reported = record {

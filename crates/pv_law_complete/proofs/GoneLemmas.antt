@@ -2,9 +2,9 @@
 use Rattle.std.proofs.Common.{◌≡◌, ℕ, Some, None, List, [], ◌∷◌, sym, ap, subst, ◌∙◌}
 use Rattle.std.specs.Prelude.{⊤}
 use Rattle.pv_law_acts.specs.Seen.{records_at, memory_at}
-use Rattle.pv_law_causes.proofs.Chains.{AreLinks}
-use Rattle.pv_law_causes.specs.Moves.{Comes}
-use Rattle.pv_law_complete.proofs.GoesLemmas.{IsSame, Makes, Goes, stays, halts, opens, steps, follow-goes, follow-makes}
+use Rattle.pv_law_refusals.proofs.Chains.{AreLinks}
+use Rattle.pv_law_refusals.proofs.Moves.{Comes}
+use Rattle.pv_law_complete.proofs.GoesLemmas.{IsSame, MakesItsStep, Goes, stays, halts, opens, steps, follow-goes, follow-makes}
 use Rattle.pv_law_world.proofs.DisarmLemmas.{site-disarmed, transition-may}
 use Rattle.pv_law_world.specs.Transitions as transitions
 use Rattle.pv_law_world.specs.Transitions.{AreTransitions}
@@ -21,7 +21,7 @@ use Rattle.pv_protocol.specs.WorldStep.{Transition, transition_of}
 pub record HasGone (setup : Setup) (w : World) (t : Transition) : Type 0 where
   pub goes : Goes setup w t.event t.world
   pub makes : (n : ℕ) (input : Input) → Comes w t.event n input → (running : Running) → memory_at w n ≡ Some running → (memory_at t.world n ≡ None → ⊥)
-      → Makes w t.world n (site_step setup n (records_at w n) running input)
+      → MakesItsStep w t.world n (site_step setup n (records_at w n) running input)
 
 module _ (setup : Setup) where
   abbrev pub AreGone : World → List Transition → Type 0
@@ -49,11 +49,11 @@ module _ (setup : Setup) where
     memory = sym (memory-armed v n) ∙ (same.memory ∙ memory-armed w n);
   }
 
-  makes-armed : (w v : World) (n : ℕ) (running : Running) (input : Input) → Makes (disarmed w) (disarmed v) n (site_step setup n (records_at (disarmed w) n) running input)
-      → Makes w v n (site_step setup n (records_at w n) running input)
+  makes-armed : (w v : World) (n : ℕ) (running : Running) (input : Input) → MakesItsStep (disarmed w) (disarmed v) n (site_step setup n (records_at (disarmed w) n) running input)
+      → MakesItsStep w v n (site_step setup n (records_at w n) running input)
   makes-armed w v n running input makes =
-      let there : Makes (disarmed w) (disarmed v) n (site_step setup n (records_at w n) running input) =
-      subst (λ rs. Makes (disarmed w) (disarmed v) n (site_step setup n rs running input)) (records-armed w n) makes in
+      let there : MakesItsStep (disarmed w) (disarmed v) n (site_step setup n (records_at w n) running input) =
+      subst (λ rs. MakesItsStep (disarmed w) (disarmed v) n (site_step setup n rs running input)) (records-armed w n) makes in
       record {
         others = λ m other. same-armed w v m (there.others m other);
         memory = sym (memory-armed v n) ∙ there.memory;

@@ -15,15 +15,15 @@ use Rattle.pv_format.specs.Message.{Message, lock, granted, denied, prepare}
 use Rattle.pv_law_acts.proofs.ListLemmas.{none-some, among-listed, listed-among, all-listed}
 use Rattle.pv_law_acts.proofs.MemoryLemmas.{entry-txn}
 use Rattle.pv_law_acts.specs.Acts.{voting_of}
-use Rattle.pv_law_acts.specs.Seen.{records_at, memory_at, Sent, Works}
+use Rattle.pv_law_acts.specs.Seen.{records_at, memory_at, Sent, WorksAgeless}
 use Rattle.pv_law_complete.proofs.FoundLists.{found-so, any-found, filter-map-listed, taken-more}
 use Rattle.pv_law_complete.proofs.GoingLemmas.{Going, Local, here-entry}
 use Rattle.pv_law_complete.proofs.LockSteps.{Now, working, entry-home, idle}
 use Rattle.pv_law_complete.specs.Undisturbed.{IsFree}
 use Rattle.pv_law_events.proofs.EventActs.{IsKnown}
 use Rattle.pv_law_events.proofs.FoundLemmas.{locking-found}
-use Rattle.pv_law_locks.proofs.EntryLemmas.{two-stages, stage-either}
-use Rattle.pv_law_locks.specs.Coherent.{items_of, wanted_items, IsGrantedRight}
+use Rattle.pv_law_outcomes.proofs.EntryLemmas.{two-stages, stage-either}
+use Rattle.pv_law_outcomes.specs.Coherent.{items_of, wanted_items, IsGrantedRight}
 use Rattle.pv_law_step.proofs.Appended.{found-passes}
 use Rattle.pv_law_step.proofs.KeyedLemmas.{of-with}
 use Rattle.pv_law_step.proofs.Kept.{filter-map-all}
@@ -94,7 +94,7 @@ module _ (setup : Setup) (txn : TxnId) (program : Program) (w : World) (is_known
     values-fit =
         let asked = is_known.settled.sound.right.sent n from (lock txn told_right.wants) told_right.asked in
         let wants : told_right.wants ≡ wants_of entry.program setup.catalog.items from =
-        (asked.entry Kept' (subst (λ m. Works w m txn Kept') (sym asked.home) (working setup txn program w is_known entry going n running up))).are in
+        (asked.entry Kept' (subst (λ m. WorksAgeless w m txn Kept') (sym asked.home) (working setup txn program w is_known entry going n running up))).are in
         (pointwise_decides Decides-eqb (items_of values) (wanted_items (asked_of Here' entry from))).1 (told_right.items ∙ ap wanted_items wants)
 
     abbrev More : Entry

@@ -1,9 +1,11 @@
+pub mod Asked
 pub mod AskedLemmas
 pub mod BeginLemmas
 pub mod CommitLemmas
 pub mod DoubtfulLemmas
 pub mod EndLemmas
 pub mod FoundLists
+pub mod FrameLemmas
 pub mod GoesLemmas
 pub mod GoingLemmas
 pub mod GoneLemmas

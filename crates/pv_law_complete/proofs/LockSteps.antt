@@ -18,13 +18,13 @@ use Rattle.pv_format.specs.Record.{prepared}
 use Rattle.pv_law_acts.proofs.ListLemmas.{none-some, found-listed, listed-all}
 use Rattle.pv_law_acts.proofs.RecordLemmas.{prepared-listed}
 use Rattle.pv_law_acts.specs.Guards.{HasOutcome}
-use Rattle.pv_law_acts.specs.Seen.{records_at, memory_at, Sent, Works, Holds, ageless_entry, ageless_grant, holdings_in}
-use Rattle.pv_law_complete.proofs.GoingLemmas.{no-further, Going, Local, here-entry, plain, Parts}
+use Rattle.pv_law_acts.specs.Seen.{records_at, memory_at, Sent, WorksAgeless, HoldsAgeless, ageless_entry, ageless_grant, holdings_in}
+use Rattle.pv_law_complete.proofs.GoingLemmas.{no-further, Going, Local, here-entry, plain, Participants}
 use Rattle.pv_law_complete.proofs.FoundLists.{one-is, home-at, same-wants-self}
 use Rattle.pv_law_complete.specs.Undisturbed.{IsFree, here_in}
 use Rattle.pv_law_events.proofs.EventActs.{IsKnown}
-use Rattle.pv_law_locks.proofs.EntryLemmas.{stage-either}
-use Rattle.pv_law_locks.specs.Coherent.{IsEntryRight, IsLockRight}
+use Rattle.pv_law_outcomes.proofs.EntryLemmas.{stage-either}
+use Rattle.pv_law_outcomes.specs.Coherent.{IsEntryRight, IsLockRight}
 use Rattle.pv_law_outcomes.proofs.OutcomeLemmas.{known-outcome}
 use Rattle.pv_law_programs.proofs.PlanLemmas.{wants-each}
 use Rattle.pv_law_step.proofs.Appended.{grant-txn}
@@ -57,7 +57,7 @@ module _ (setup : Setup) (txn : TxnId) (program : Program) (w : World) (known : 
   abbrev pub Kept : Entry
   Kept = record entry { age = 0 }
 
-  pub working : Works w (home_of txn) txn Kept
+  pub working : WorksAgeless w (home_of txn) txn Kept
   working = ap ageless_entry going.works
 
   pub right : IsEntryRight setup w (home_of txn) txn Kept
@@ -81,7 +81,7 @@ module _ (setup : Setup) (txn : TxnId) (program : Program) (w : World) (known : 
 
   pub entry-home : (found : Entry) → of_txn (λ (e : Entry). e.txn) txn running.entries ≡ Some found → (n ≡ home_of txn) × (found ≡ entry)
   entry-home found is =
-      let works : Works w n txn (record found { age = 0 }) = ap ageless_entry (ap (λ memory. entry_in memory txn) up ∙ is) in
+      let works : WorksAgeless w n txn (record found { age = 0 }) = ap ageless_entry (ap (λ memory. entry_in memory txn) up ∙ is) in
       let home : n ≡ home_of txn = sym (known.settled.sound.passed.entries n txn (record found { age = 0 }) works).home in
       (home, Some_inj (sym is ∙ here-entry setup txn program w entry going n running up home))
 
@@ -97,7 +97,7 @@ module _ (setup : Setup) (txn : TxnId) (program : Program) (w : World) (known : 
       plain setup txn program w entry going n running up (nothing Now) refl refl (ap (λ rs. is_prepared rs txn) (append-nil (records_at w n)))
       (λ part item holder h. absurd (Contains-nil _ h)) (λ part cause h. absurd (Contains-nil _ h)) (λ part id values h. absurd (Contains-nil _ h))
 
-  pub holds : (grant : Grant) → grant_of running txn ≡ Some grant → Holds w n (ageless_grant grant)
+  pub holds : (grant : Grant) → grant_of running txn ≡ Some grant → HoldsAgeless w n (ageless_grant grant)
   holds grant found =
       subst (λ memory. Contains (holdings_in memory) (ageless_grant grant)) (sym up)
       (Contains-map ageless_grant running.grants grant (found-listed (λ (g : Grant). is_same_txn txn g.txn) running.grants grant found))
@@ -109,7 +109,7 @@ module _ (setup : Setup) (txn : TxnId) (program : Program) (w : World) (known : 
     lock_right = known.settled.sound.right.sent from n (lock txn wants) sent
 
     wants-are : wants ≡ wants_of entry.program setup.catalog.items n
-    wants-are = (lock_right.entry Kept (subst (λ m. Works w m txn Kept) (sym lock_right.home) working)).are
+    wants-are = (lock_right.entry Kept (subst (λ m. WorksAgeless w m txn Kept) (sym lock_right.home) working)).are
 
     lock-heard : is_prepared (records_at w n) txn ≡ false → is_lock_ignored Now from txn wants ≡ false
     lock-heard unprepared =
@@ -125,7 +125,7 @@ module _ (setup : Setup) (txn : TxnId) (program : Program) (w : World) (known : 
 
     abbrev pub LockLeaves : Step → Type 0
     LockLeaves step =
-        Leaves step entry × (Contains (Parts setup txn program) n → (entry.stage ≡ voting) ⊎ ((id : GrantId) × ((values : List Read) × Contains step.sends (record { to = home_of txn; message = granted txn id values }))))
+        Leaves step entry × (Contains (Participants setup txn program) n → (entry.stage ≡ voting) ⊎ ((id : GrantId) × ((values : List Read) × Contains step.sends (record { to = home_of txn; message = granted txn id values }))))
 
     ignored-votes : is_lock_ignored Now from txn wants ≡ true → entry.stage ≡ voting
     ignored-votes is = by (is_prepared (records_at w n) txn) refl where

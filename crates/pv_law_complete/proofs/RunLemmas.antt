@@ -4,8 +4,8 @@ use Rattle.std.specs.Prelude.{All, IsTrue}
 use Rattle.std.proofs.lemmas.List.{append_assoc}
 use Rattle.std.proofs.lemmas.List.Elements.{All-nil, All-cons}
 use Rattle.pv_base.specs.declared.txn.TxnId.{TxnId}
-use Rattle.pv_law_causes.proofs.Chains.{IsLink, AreLinks}
-use Rattle.pv_law_causes.proofs.WaitHistories.{ages-after}
+use Rattle.pv_law_refusals.proofs.Chains.{IsLink, AreLinks}
+use Rattle.pv_law_refusals.proofs.WaitHistories.{ages-after}
 use Rattle.pv_law_complete.proofs.BeginLemmas.{begins-going}
 use Rattle.pv_law_complete.proofs.EndLemmas.{never-open}
 use Rattle.pv_law_complete.proofs.GoneLemmas.{HasGone, AreGone}

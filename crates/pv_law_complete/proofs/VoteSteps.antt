@@ -19,7 +19,7 @@ use Rattle.pv_format.specs.Record.{prepared, outcome_known}
 use Rattle.pv_law_acts.proofs.ListLemmas.{none-some, any-listed, among-listed, listed-among, listed-last}
 use Rattle.pv_law_acts.proofs.MemoryLemmas.{entry-txn}
 use Rattle.pv_law_acts.proofs.RecordLemmas.{listed-yes, listed-prepared}
-use Rattle.pv_law_acts.specs.Seen.{records_at, memory_at, Sent, Works, Holds, place_of, ageless_grant}
+use Rattle.pv_law_acts.specs.Seen.{records_at, memory_at, Sent, WorksAgeless, HoldsAgeless, place_in_order, ageless_grant}
 use Rattle.pv_law_agreement.proofs.GroundLemmas.{grounds-from}
 use Rattle.pv_law_agreement.proofs.WriteLemmas.{listed-written}
 use Rattle.pv_law_complete.proofs.AskedLemmas.{votes-are-narrow}
@@ -29,8 +29,8 @@ use Rattle.pv_law_complete.proofs.LockSteps.{Now, working, right, no-outcome, en
 use Rattle.pv_law_complete.specs.Undisturbed.{IsFree}
 use Rattle.pv_law_events.proofs.EventActs.{IsKnown}
 use Rattle.pv_law_events.proofs.FoundLemmas.{voting-found}
-use Rattle.pv_law_locks.proofs.EntryLemmas.{stage-either}
-use Rattle.pv_law_locks.specs.Coherent.{items_of, wanted_items, IsPrepareRight, IsTakenFrom}
+use Rattle.pv_law_outcomes.proofs.EntryLemmas.{stage-either}
+use Rattle.pv_law_outcomes.specs.Coherent.{items_of, wanted_items, IsPrepareRight, IsTakenFrom}
 use Rattle.pv_law_outcomes.proofs.OpenLemmas.{grant-same}
 use Rattle.pv_law_step.proofs.Appended.{grant-txn}
 use Rattle.pv_law_step.proofs.KeyedLemmas.{of-with}
@@ -80,7 +80,7 @@ module _ (setup : Setup) (room : setup.read_names < setup.held_names) (txn : Txn
   ordered : IsInOrder running
   ordered = is_known.ordered n running up
 
-  works-so : Works w (home_of txn) txn Kept'
+  works-so : WorksAgeless w (home_of txn) txn Kept'
   works-so = working setup txn program w is_known entry going n running up
 
   member : (from : ℕ) → is_among (participants_of entry.program setup.catalog.items) from ≡ true → Contains Members from
@@ -103,10 +103,10 @@ module _ (setup : Setup) (room : setup.read_names < setup.held_names) (txn : Txn
         let writing = asked_right.writing in
         ⊎_elim (λ asks. absurd ((right setup txn program w is_known entry going n running up).unplaced asks writing.placed writing.in_order writing.own)) (λ is. is) (stage-either entry.stage)
 
-    placed-same : asked_right.writing.placed ≡ place_of Kept'
+    placed-same : asked_right.writing.placed ≡ place_in_order Kept'
     placed-same =
         let writing = asked_right.writing in
-        is_known.settled.sound.right.same_place writing.placed (place_of Kept') writing.in_order
+        is_known.settled.sound.right.same_place writing.placed (place_in_order Kept') writing.in_order
         ((right setup txn program w is_known entry going n running up).in_order votes)
         (writing.own ∙ sym (is_known.settled.sound.passed.entries (home_of txn) txn Kept' works-so).own)
 
@@ -156,7 +156,7 @@ module _ (setup : Setup) (room : setup.read_names < setup.held_names) (txn : Txn
         subst (λ all. Contains all write.item) (sym (is_taken.items ∙ ap (λ k. wanted_items (wants_of entry.program setup.catalog.items k)) is-from.at))
         (exclusive-wanted (wants_of entry.program setup.catalog.items n) write.item (subst (λ all. Contains all write.item) items of_write)) in
         let few = votes-are-narrow setup w is_known.reached (home_of txn) txn Kept' works-so votes is-from.taken is-from.listed (ageless_grant grant)
-        (subst (λ k. Holds w k (ageless_grant grant)) (sym is-from.at) held) (sym own) (under ∙ sym is-from.under)
+        (subst (λ k. HoldsAgeless w k (ageless_grant grant)) (sym is-from.at) held) (sym own) (under ∙ sym is-from.under)
         (subst (λ k. is_prepared (records_at w k) txn ≡ false) (sym is-from.at) unprepared) from id writes (subst (λ k. Sent w from k (prepare txn id writes)) (sym is-from.at) sent)
         write.item (listed-written write.item writes of_write) (listed-written write.item is-from.taken.values wanted) in
         let few_here = subst (λ k. length (names_of (shown setup.catalog (records_at w k ++ prepared txn writes ∷ []) write.item)) ≤ length (names_taken entry) + 1) is-from.at few in

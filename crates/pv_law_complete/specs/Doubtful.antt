@@ -1,7 +1,7 @@
 -- An item that is in doubt is read by a second transaction, which asks for its vote on what it makes of it.
 use Rattle.std.specs.Prelude.{true, List, [], ◌∷◌, ◌++◌}
 use Rattle.pv_base.specs.declared.grant.GrantId.{GrantId}
-use Rattle.pv_law_causes.specs.Refused.{raise_b}
+use Rattle.pv_law_refusals.specs.Refused.{raise_b}
 use Rattle.pv_law_events.specs.Eventful.{small, doubtful}
 use Rattle.pv_law_world.specs.ExampleLines.{u, either}
 use Rattle.pv_law_world.specs.Schedules.{changed}

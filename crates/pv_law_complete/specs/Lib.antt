@@ -1,5 +1,5 @@
-pub mod Asked
 pub mod Doubtful
+pub mod Frames
 pub mod Narrow
 pub mod Undelayed
 pub mod Undisturbed

@@ -5,7 +5,7 @@ ghost use Rattle.std.specs.Prelude.{◌≡◌, [], ◌∷◌, ◌++◌, ◌+◌,
 ghost use Rattle.pv_base.specs.Named.{names_of};
 ghost use Rattle.pv_format.specs.Message.{prepare};
 ghost use Rattle.pv_format.specs.Record.{prepared};
-ghost use Rattle.pv_law_acts.specs.Seen.{Holds, records_at, Sent, Works};
+ghost use Rattle.pv_law_acts.specs.Seen.{HoldsAgeless, records_at, Sent, WorksAgeless};
 ghost use Rattle.pv_law_complete.specs.Doubtful.{held, raised, raising, read, second, until_raised, writes};
 ghost use Rattle.pv_law_complete.specs.Undelayed.{deliveries, moving, submitted};
 ghost use Rattle.pv_law_complete.specs.Undisturbed.{IsUndisturbed};
@@ -28,9 +28,9 @@ pub fn transfer_is_undisturbed()
 /// was taken, and the transaction itself.
 pub fn doubtful_write_is_narrow()
     ensures events { All (IsWellFormed small.catalog) until_raised }
-    ensures works { Works raised 0 u raising }
+    ensures works { WorksAgeless raised 0 u raising }
     ensures taken { Contains raising.taken read }
-    ensures holds { Holds raised 1 held }
+    ensures holds { HoldsAgeless raised 1 held }
     ensures unprepared { is_prepared (records_at raised 1) u ≡ false }
     ensures asked { Sent raised 0 1 (prepare u second writes) }
     ensures named { length (names_taken raising) ≡ 1 }

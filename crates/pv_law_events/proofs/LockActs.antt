@@ -18,7 +18,7 @@ use Rattle.pv_law_acts.proofs.MemoryLemmas.{entry-txn, put-work-found}
 use Rattle.pv_law_acts.specs.Acts as acts
 use Rattle.pv_law_acts.specs.Acts.{with_content, remembered, with_begun, first_entry, voting_of, HasNoMore, Act, Acts, one_more}
 use Rattle.pv_law_acts.specs.Guards.{MaySend}
-use Rattle.pv_law_acts.specs.Seen.{records_at, holdings_in, ageless_grant, ageless_entry, work_in, Sent, place_of, txn_number, grant_number}
+use Rattle.pv_law_acts.specs.Seen.{records_at, holdings_in, ageless_grant, ageless_entry, work_in, Sent, place_in_order, txn_number, grant_number}
 use Rattle.pv_law_events.proofs.FoundLemmas.{locking-found}
 use Rattle.pv_law_events.proofs.StepActs.{IsReady, here_at, IsActs, one-act, nothing-sent, only-sent, within, idle-acts, sending-acts, then-forget, refusing-acts}
 use Rattle.pv_law_events.proofs.WorldLemmas.{At, at-records, at-memory, at-again}
@@ -289,10 +289,10 @@ module _ (setup : Setup) (w : World) (n : ℕ) (running : Running) (ready : IsRe
       there : n < length w.sites
       there = within setup w n running ready
 
-      reach-acts : Acts setup w (At w n (records_at w n) (Some After) (w.order ++ place_of with_grant_of ∷ []))
+      reach-acts : Acts setup w (At w n (records_at w n) (Some After) (w.order ++ place_in_order with_grant_of ∷ []))
       reach-acts =
           let u : World = At w n (records_at w n) (Some Between) w.order in
-          let order = w.order ++ place_of with_grant_of ∷ [] in
+          let order = w.order ++ place_in_order with_grant_of ∷ [] in
           let act : Act setup u (record (remembered u n (with_entry Between (voting_of with_grant_of))) { order = order }) =
           acts.places n Between txn with_grant_of
           (record { up = at-memory w n there (records_at w n) (Some Between) w.order; has = put-found running with_grant_of txn own })
@@ -308,7 +308,7 @@ module _ (setup : Setup) (w : World) (n : ℕ) (running : Running) (ready : IsRe
 
       -- A participant is asked for its vote under the grant that was taken.
       asked-vote : (site : ℕ) → Contains (participants_of entry.program setup.catalog.items) site → (taken : Option Taken) → taken_from with_grant_of site ≡ taken
-          → OfSome (λ (sent : Outgoing). MaySend setup (At w n (records_at w n) (Some After) (w.order ++ place_of with_grant_of ∷ [])) n sent.to sent.message)
+          → OfSome (λ (sent : Outgoing). MaySend setup (At w n (records_at w n) (Some After) (w.order ++ place_in_order with_grant_of ∷ [])) n sent.to sent.message)
           (prepare_under (here_at setup w n running) with_grant_of taken)
       asked-vote site listed None is = tt
       asked-vote site listed (Some taken) is =
@@ -316,7 +316,7 @@ module _ (setup : Setup) (w : World) (n : ℕ) (running : Running) (ready : IsRe
           record {
             entry = voting_of with_grant_of;
             works = subst (λ memory. work_in memory entry.txn ≡ Some (voting_of with_grant_of))
-                (sym (at-memory w n there (records_at w n) (Some After) (w.order ++ place_of with_grant_of ∷ [])))
+                (sym (at-memory w n there (records_at w n) (Some After) (w.order ++ place_in_order with_grant_of ∷ [])))
                 (put-work-found running (voting_of with_grant_of));
             asks = refl;
             participant = listed-among (participants_of entry.program setup.catalog.items) taken.site
@@ -325,20 +325,20 @@ module _ (setup : Setup) (w : World) (n : ℕ) (running : Running) (ready : IsRe
             taken = subst (λ m. taken_from with_grant_of m ≡ Some taken) (sym at) is;
             computed = same-writes (records_at w n) with_grant_of (exclusive_items (wants_of entry.program setup.catalog.items taken.site))
                 ∙ ap (λ records. writes_to records (voting_of with_grant_of) (exclusive_items (wants_of entry.program setup.catalog.items taken.site)))
-                (sym (at-records w n there (records_at w n) (Some After) (w.order ++ place_of with_grant_of ∷ [])));
+                (sym (at-records w n there (records_at w n) (Some After) (w.order ++ place_in_order with_grant_of ∷ [])));
           }
 
       place-acts : IsActs setup w n (at_lock_point (here_at setup w n running) with_grant_of)
       place-acts = record {
         records = records_at w n;
-        order = w.order ++ place_of with_grant_of ∷ [];
+        order = w.order ++ place_in_order with_grant_of ∷ [];
         appends = sym (append-nil (records_at w n));
         places = refl;
         acts = reach-acts;
         sends = λ sent h. All-contains
-            (λ (sent : Outgoing). MaySend setup (At w n (records_at w n) (Some After) (w.order ++ place_of with_grant_of ∷ [])) n sent.to sent.message)
+            (λ (sent : Outgoing). MaySend setup (At w n (records_at w n) (Some After) (w.order ++ place_in_order with_grant_of ∷ [])) n sent.to sent.message)
             (prepare_sends (here_at setup w n running) with_grant_of) sent
-            (filter-map-all (λ (sent : Outgoing). MaySend setup (At w n (records_at w n) (Some After) (w.order ++ place_of with_grant_of ∷ [])) n sent.to sent.message)
+            (filter-map-all (λ (sent : Outgoing). MaySend setup (At w n (records_at w n) (Some After) (w.order ++ place_in_order with_grant_of ∷ [])) n sent.to sent.message)
             (λ site. prepare_under (here_at setup w n running) with_grant_of (taken_from with_grant_of site)) (participants_of entry.program setup.catalog.items)
             (λ site listed. asked-vote site listed (taken_from with_grant_of site) refl)) h;
         stops = λ more is. absurd (none-some is);

@@ -17,7 +17,7 @@ use Rattle.pv_law_acts.proofs.RecordLemmas.{known-listed, listed-yes, yes-listed
 use Rattle.pv_law_acts.specs.Acts as acts
 use Rattle.pv_law_acts.specs.Acts.{recorded, Act, Acts}
 use Rattle.pv_law_acts.specs.Guards.{MaySend}
-use Rattle.pv_law_acts.specs.Seen.{records_at, memory_at, ageless_entry, work_in, Works, Sent, IsPassed, IsNumberPassed, next_txn_in}
+use Rattle.pv_law_acts.specs.Seen.{records_at, memory_at, ageless_entry, work_in, WorksAgeless, Sent, IsPassed, IsNumberPassed, next_txn_in}
 use Rattle.pv_law_events.proofs.FoundLemmas.{released-no-more, older-no-more, expired-was}
 use Rattle.pv_law_events.proofs.StepActs.{IsReady, here_at, IsActs, one-act, nothing-sent, then-forget, then-down, within, unmoved, plain-acts, idle-acts, sending-acts, dropped-dead}
 use Rattle.pv_law_events.proofs.WorldLemmas.{At, at-records, at-memory}
@@ -178,7 +178,7 @@ module _ (setup : Setup) (w : World) (n : ℕ) (running : Running) (ready : IsRe
       → Contains (outcome_sends late.txn false (participants (here_at setup w n running) late)) sent → MaySend setup Older n sent.to sent.message
   expiry-reported late h sent k =
       let was = expired-was running ready.ordered late h in
-      let works : Works w n late.txn (record late { age = 0 }) = subst (λ memory. work_in memory late.txn ≡ Some (record late { age = 0 })) (sym ready.up) was.0 in
+      let works : WorksAgeless w n late.txn (record late { age = 0 }) = subst (λ memory. work_in memory late.txn ≡ Some (record late { age = 0 })) (sym ready.up) was.0 in
       let which = Contains-unmap (λ site. record { to = site; message = outcome_reported late.txn false }) (participants (here_at setup w n running) late) sent k in
       subst (λ (o : Outgoing). MaySend setup Older n o.to o.message) which.1.1
       (record {

@@ -17,7 +17,7 @@ use Rattle.pv_law_acts.specs.Acts as acts
 use Rattle.pv_law_acts.specs.Acts.{with_content, HasNoMore, Act, Acts, no_act, one_more}
 use Rattle.pv_law_acts.specs.Guards.{MaySend}
 use Rattle.pv_law_acts.specs.Passed.{IsEntryPassed}
-use Rattle.pv_law_acts.specs.Seen.{ageless_entry, records_at, memory_at, work_in, Works, IsDead}
+use Rattle.pv_law_acts.specs.Seen.{ageless_entry, records_at, memory_at, work_in, WorksAgeless, IsDead}
 use Rattle.pv_law_events.proofs.FoundLemmas.{dropped-no-more}
 use Rattle.pv_law_events.proofs.WorldLemmas.{no-more-itself, nothing-new, At, own-site, at-records, at-memory, at-again}
 use Rattle.pv_law_outcomes.proofs.DecidedLemmas.{IsSettled}
@@ -119,12 +119,12 @@ module _ (setup : Setup) (w : World) (n : ℕ) where
         (only-sent (At w n (records_at w n) (Some running) w.order) to message may)
 
     -- An entry that is found is worked on.
-    pub found-works : (txn : TxnId) (entry : Entry) → of_txn (λ (e : Entry). e.txn) txn running.entries ≡ Some entry → Works w n txn (record entry { age = 0 })
+    pub found-works : (txn : TxnId) (entry : Entry) → of_txn (λ (e : Entry). e.txn) txn running.entries ≡ Some entry → WorksAgeless w n txn (record entry { age = 0 })
     found-works txn entry found =
         subst (λ (memory : Option Running). work_in memory txn ≡ Some (record entry { age = 0 })) (sym ready.up) (ap ageless_entry found)
 
     -- A transaction of this site that was worked on and isn't committed is dead where it isn't worked on any more.
-    pub dropped-dead : (after : Running) (txn : TxnId) (entry : Entry) → Works w n txn entry → work_in (Some after) txn ≡ None
+    pub dropped-dead : (after : Running) (txn : TxnId) (entry : Entry) → WorksAgeless w n txn entry → work_in (Some after) txn ≡ None
         → Acts setup w (At w n (records_at w n) (Some after) w.order) → IsDead (At w n (records_at w n) (Some after) w.order) txn
     dropped-dead after txn entry works idle so_far =
         let was : IsEntryPassed w n txn entry = ready.settled.sound.passed.entries n txn entry works in
@@ -146,7 +146,7 @@ module _ (setup : Setup) (w : World) (n : ℕ) where
         let own : txn ≡ refused.txn = entry-txn running txn found has ∙ sym same in
         let so_far : Acts setup w (At w n (records_at w n) (Some after) w.order) =
         then-forget within (records_at w n) (Some running) w.order (Some after) unmoved (dropped-no-more running refused.txn) in
-        let works : Works w n refused.txn (record found { age = 0 }) = subst (λ t. Works w n t (record found { age = 0 })) own (found-works txn found has) in
+        let works : WorksAgeless w n refused.txn (record found { age = 0 }) = subst (λ t. WorksAgeless w n t (record found { age = 0 })) own (found-works txn found has) in
         let dead : IsDead (At w n (records_at w n) (Some after) w.order) refused.txn =
         dropped-dead after refused.txn (record found { age = 0 }) works (left-none running refused.txn) so_far in
         plain-acts after (outcome_sends refused.txn false (participants (here_at setup w n running) refused)) _ (dropped-no-more running refused.txn)

@@ -1,7 +1,8 @@
 -- A short run in which each law on runs says something.
 use Rattle.std.specs.Prelude.{List, [], ◌∷◌, ◌++◌}
 use Rattle.pv_law_world.specs.ExampleLines.{t, u, txn_in, sure, either, values, report_lines}
-use Rattle.pv_law_world.specs.Schedules.{bank, transfer, pump_all, pumped, three_ticks, stop_in_commit, outcome_asked}
+use Rattle.pv_law_step.specs.Examples.{bank}
+use Rattle.pv_law_world.specs.Schedules.{transfer, pump_all, pumped, three_ticks, stop_in_commit, outcome_asked}
 use Rattle.pv_model.specs.Events.{Event, stop, start, report}
 use Rattle.pv_base.specs.declared.mode.Mode.TheVariants.{Kept}
 use Rattle.pv_base.specs.declared.reply.Reply.TheVariants.{Nothing}

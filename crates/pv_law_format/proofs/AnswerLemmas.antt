@@ -10,7 +10,7 @@ use Rattle.pv_base.proofs.Basics.{heads, tails}
 use Rattle.pv_format.specs.FirstFault.{Fault, short, bad_kind, extra, HasFault, EndFault, is_extra, is_short, is_refused, is_later, PolyvalueFault, EnvelopeFault, RecordFault, has_no_kind, has_bad_kind, is_in_fields, is_kind}
 use Rattle.pv_format.specs.Layout.{nothing_more, number_then, polyvalue_then, message_layout, record_layout}
 use Rattle.pv_format.specs.Message.{Envelope}
-use Rattle.pv_format.specs.MessageSpelling.{SpellsEnvelope, kind_of}
+use Rattle.pv_format.specs.MessageSpelling.{SpellsEnvelope, kind_number}
 use Rattle.pv_format.specs.PolyvalueSpelling.{SpellsPolyvalue, BeginsWith}
 use Rattle.pv_format.specs.Record.{Record}
 use Rattle.pv_format.specs.RecordSpelling.{SpellsRecord}
@@ -59,8 +59,8 @@ reported bytes _ (is_refused kind front rest whole is refused) = (bad_kind kind,
 reported bytes _ (is_later kind front rest fault whole is wrong) =
     (fault, is_in_fields kind rest fault (one-byte kind front rest bytes whole is.spelled) is.allowed wrong)
 
-first-kind : (envelope : Envelope) (bytes : List ℕ) (s : SpellsEnvelope envelope bytes) → bytes ≡ kind_of envelope.message ∷ s.back
-first-kind envelope bytes s = one-byte (kind_of envelope.message) s.front s.back bytes s.whole s.first
+first-kind : (envelope : Envelope) (bytes : List ℕ) (s : SpellsEnvelope envelope bytes) → bytes ≡ kind_number envelope.message ∷ s.back
+first-kind envelope bytes s = one-byte (kind_number envelope.message) s.front s.back bytes s.whole s.first
 
 no-end-fault : (place : ℕ) (fault : Fault) → EndFault place [] fault → ⊥
 no-end-fault place _ (is_extra more) = more refl
@@ -74,7 +74,7 @@ envelope-not-both bytes envelope _ s (has_bad_kind kind rest whole refused) =
     true≢false (sym (is-kind envelope.message) ∙ ap is_kind same ∙ refused)
 envelope-not-both bytes envelope _ s (is_in_fields kind rest fault whole allowed wrong) =
     let wrong_here : Wrong bytes fault =
-    is_later (kind_of envelope.message) s.front s.back fault s.whole (record { spelled = s.first; allowed = is-kind envelope.message })
+    is_later (kind_number envelope.message) s.front s.back fault s.whole (record { spelled = s.first; allowed = is-kind envelope.message })
     (subst (λ (k : ℕ). HasFault (message_layout k) 1 s.back fault) (heads (sym whole ∙ first-kind envelope bytes s))
     (subst (λ (r : List ℕ). HasFault (message_layout kind) 1 r fault) (tails (sym whole ∙ first-kind envelope bytes s)) wrong)) in
     no-end-fault (0 + length bytes) fault

@@ -11,7 +11,7 @@ use Rattle.pv_model.specs.Alternatives.{Read}
 use Rattle.pv_format.specs.FirstFault.{PolyvalueFault, is_kind}
 use Rattle.pv_format.specs.Layout.{Layout, number_then, polyvalue_then, any, site_layout, txn_layout, grant_layout, counted_layout, truth_layout, cause_layout, body_layout, is_cause}
 use Rattle.pv_format.specs.Message.{Envelope, Message, lock, granted, denied, prepare, vote_yes, vote_no, outcome_reported, ask, NoCause, grant_lost, journal_full, txn_of}
-use Rattle.pv_format.specs.MessageSpelling.{kind_of, SpellsWants, SpellsNoCause, SpellsBody, SpellsEnvelope}
+use Rattle.pv_format.specs.MessageSpelling.{kind_number, SpellsWants, SpellsNoCause, SpellsBody, SpellsEnvelope}
 use Rattle.pv_format.specs.PolyvalueSpelling.{SpellsPolyvalue}
 use Rattle.pv_format.specs.RecordSpelling.{SpellsReads}
 use Rattle.pv_format.specs.Spelling.{◌followed_by◌, IsAllowed, IsSite, IsTruth, SpellsTxn, SpellsGrant, is_site, is_item_from}
@@ -103,7 +103,7 @@ Body (suc (suc (suc (suc (suc (suc zero)))))) = NoCause
 Body (suc (suc (suc (suc (suc (suc (suc zero))))))) = Bool
 Body (suc (suc (suc (suc (suc (suc (suc (suc n)))))))) = Unit {0}
 
-abbrev body_of : (message : Message) → Body (kind_of message)
+abbrev body_of : (message : Message) → Body (kind_number message)
 body_of (lock txn wants) = wants
 body_of (granted txn grant values) = (grant, values)
 body_of (denied txn item holder) = (item, holder)
@@ -124,7 +124,7 @@ message_of (suc (suc (suc (suc (suc (suc zero)))))) txn body = vote_no txn body
 message_of (suc (suc (suc (suc (suc (suc (suc zero))))))) txn body = outcome_reported txn body
 message_of (suc (suc (suc (suc (suc (suc (suc (suc n)))))))) txn body = ask txn
 
-message-back : (message : Message) → message_of (kind_of message) (txn_of message) (body_of message) ≡ message
+message-back : (message : Message) → message_of (kind_number message) (txn_of message) (body_of message) ≡ message
 message-back (lock txn wants) = refl
 message-back (granted txn grant values) = refl
 message-back (denied txn item holder) = refl
@@ -161,7 +161,7 @@ body-code (suc (suc (suc (suc (suc (suc (suc (suc zero)))))))) allowed = empty-c
 body-code (suc (suc (suc (suc (suc (suc (suc (suc (suc n))))))))) allowed =
     let parts = within 1 8 (suc (suc (suc (suc (suc (suc (suc (suc (suc n))))))))) allowed in absurd (omega (arith, parts.1))
 
-pub is-kind : (message : Message) → IsTrue (is_kind (kind_of message))
+pub is-kind : (message : Message) → IsTrue (is_kind (kind_number message))
 is-kind (lock txn wants) = refl
 is-kind (granted txn grant values) = refl
 is-kind (denied txn item holder) = refl
@@ -171,7 +171,7 @@ is-kind (vote_no txn cause) = refl
 is-kind (outcome_reported txn commits) = refl
 is-kind (ask txn) = refl
 
-body-so : (message : Message) (front : List ℕ) → SpellsBody message front → SpellsIn (kind_of message) (body_of message) front
+body-so : (message : Message) (front : List ℕ) → SpellsBody message front → SpellsIn (kind_number message) (body_of message) front
 body-so (lock txn wants) front s = s
 body-so (granted txn grant values) front s = s
 body-so (denied txn item holder) front s = s
@@ -192,7 +192,7 @@ body-too (suc (suc (suc (suc (suc (suc zero)))))) txn body front allowed s = s
 body-too (suc (suc (suc (suc (suc (suc (suc zero))))))) txn body front allowed s = s
 body-too (suc (suc (suc (suc (suc (suc (suc (suc n)))))))) txn body front allowed s = s
 
-kind-of-message : (n : ℕ) (txn : TxnId) (body : Body n) → IsTrue (is_kind n) → kind_of (message_of n txn body) ≡ n
+kind-of-message : (n : ℕ) (txn : TxnId) (body : Body n) → IsTrue (is_kind n) → kind_number (message_of n txn body) ≡ n
 kind-of-message zero txn body allowed = absurd (true≢false (sym allowed))
 kind-of-message (suc zero) txn body allowed = refl
 kind-of-message (suc (suc zero)) txn body allowed = refl
@@ -229,7 +229,7 @@ rest_layout n next = site_layout (site_layout (txn_layout (body_layout n next)))
 rest-code : (n : ℕ) → IsTrue (is_kind n) → IsFormat (SpellsRest n) (rest_layout n)
 rest-code n allowed = both sites (both sites (both txns (body-code n allowed)))
 
-abbrev rest_of : (envelope : Envelope) → Rest (kind_of envelope.message)
+abbrev rest_of : (envelope : Envelope) → Rest (kind_number envelope.message)
 rest_of envelope = (envelope.from, (envelope.to, (txn_of envelope.message, body_of envelope.message)))
 
 abbrev envelope_of : ((n : ℕ) × Rest n) → Envelope
@@ -239,7 +239,7 @@ mapped : {A B C : List ℕ → Type 0} {bytes : List ℕ} → ((back : List ℕ)
 mapped to s = record { front = s.front; back = s.back; whole = s.whole; first = s.first; second = to s.back s.second }
 
 envelope-so : (envelope : Envelope) (front : List ℕ) → SpellsEnvelope envelope front
-    → (IsAllowed 1 is_kind (kind_of envelope.message) followed_by SpellsRest (kind_of envelope.message) (rest_of envelope)) front
+    → (IsAllowed 1 is_kind (kind_number envelope.message) followed_by SpellsRest (kind_number envelope.message) (rest_of envelope)) front
 envelope-so envelope front s =
     with-first (λ f t. record { spelled = t; allowed = is-kind envelope.message })
     (mapped (λ b. mapped (λ c. mapped (λ d. mapped (λ e t. body-so envelope.message e t)))) s)
@@ -255,6 +255,6 @@ envelope-too p front s =
 pub envelope-code : IsFormat SpellsEnvelope (λ next. number_then 1 is_kind (λ n. rest_layout n next))
 envelope-code =
     code-of SpellsPolyvalue PolyvalueFault (numbered-code SpellsPolyvalue PolyvalueFault 1 is_kind {Y = Rest} SpellsRest rest_layout rest-code)
-    SpellsEnvelope (λ envelope. (kind_of envelope.message, rest_of envelope)) envelope_of
+    SpellsEnvelope (λ envelope. (kind_number envelope.message, rest_of envelope)) envelope_of
     (λ envelope i. record { from = envelope.from; to = envelope.to; message = message-back envelope.message i })
     envelope-so envelope-too

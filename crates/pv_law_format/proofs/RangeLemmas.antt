@@ -17,7 +17,7 @@ use Rattle.pv_base.specs.Polyvalue.{Case}
 use Rattle.pv_base.specs.Want.{Want}
 use Rattle.pv_model.specs.Alternatives.{Read}
 use Rattle.pv_format.specs.Message.{Envelope, Message, lock, granted, denied, prepare, vote_yes, vote_no, outcome_reported, ask, NoCause, grant_lost, journal_full, txn_of}
-use Rattle.pv_format.specs.MessageSpelling.{SpellsWants, SpellsNoCause, SpellsBody, SpellsEnvelope, kind_of}
+use Rattle.pv_format.specs.MessageSpelling.{SpellsWants, SpellsNoCause, SpellsBody, SpellsEnvelope, kind_number}
 use Rattle.pv_format.specs.PolyvalueSpelling.{SpellsLiteral, SpellsCase, SpellsPolyvalue}
 use Rattle.pv_format.specs.Range.{IsTxnInRange, IsGrantInRange, AreItemsInRange, IsCaseInRange, IsPolyvalueInRange, AreReadsInRange, AreWantsInRange, IsCauseInRange, IsBodyInRange, IsEnvelopeInRange, IsRecordInRange}
 use Rattle.pv_format.specs.Record.{Record, epoch_begun, prepared, outcome_known}
@@ -138,8 +138,8 @@ body-spelled (vote_no txn cause) is = cause-spelled cause is
 body-spelled (outcome_reported txn commits) is = truth commits
 body-spelled (ask txn) is = empty
 
-kind : (message : Message) → HasSpelling (IsNumber 1 (kind_of message))
-kind message = number 1 (kind_of message) (let parts = within 1 8 (kind_of message) (is-kind message) in omega (arith, parts.1))
+kind : (message : Message) → HasSpelling (IsNumber 1 (kind_number message))
+kind message = number 1 (kind_number message) (let parts = within 1 8 (kind_number message) (is-kind message) in omega (arith, parts.1))
 
 pub envelope-spelled : (envelope : Envelope) → IsEnvelopeInRange envelope → HasSpelling (SpellsEnvelope envelope)
 envelope-spelled envelope is =

@@ -8,8 +8,8 @@ use Rattle.std.proofs.lemmas.Bool.{cases_eq, cases_lt, cases_Bool, false≢true}
 use Rattle.std.proofs.lemmas.Slice.Eq.{bytes_eq-Decides}
 use Rattle.pv_base.specs.BigEndian.{big_endian, number_of}
 use Rattle.pv_base.proofs.BigEndianLemmas.{length-big_endian, number_of-big_endian}
-use Rattle.pv_law_disk.specs.Size.{Contents}
-use Rattle.pv_law_journal.specs.Format.{framed, records_of, AreShort, IsCut}
+use Rattle.pv_disk_model.specs.Size.{Contents}
+use Rattle.pv_format.specs.Journal.{framed, records_of, AreShort, IsCut}
 
 -- What follows the header of a journal: records, and a closed gate.
 pub record IsBody (contents : Contents) (body : List ℕ) : Type 0 where

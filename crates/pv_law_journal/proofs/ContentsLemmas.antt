@@ -9,9 +9,9 @@ use Rattle.std.proofs.lemmas.List.Elements.{All-nil, All-cons, All-head, All-tai
 use Rattle.std.proofs.lemmas.Slice.Eq.{bytes_eq-Decides}
 use Rattle.pv_base.specs.BigEndian.{big_endian, number_of}
 use Rattle.pv_base.proofs.BigEndianLemmas.{length-big_endian, number_of-big_endian, number_of-lt, AreBytes-big_endian}
-use Rattle.pv_law_disk.specs.Size.{Contents}
-use Rattle.pv_law_journal.specs.Format.{header, framed, records_of, AreShort, IsJournal}
-use Rattle.pv_law_journal.specs.Contents.{content_at, contents_from, contents_of}
+use Rattle.pv_disk_model.specs.Size.{Contents}
+use Rattle.pv_format.specs.Journal.{header, framed, records_of, AreShort, IsJournal}
+use Rattle.pv_format.specs.JournalContents.{content_at, contents_from, contents_of}
 use Rattle.pv_law_journal.proofs.Bodies.{IsBody}
 
 -- Passing bytes over is dropping them.

@@ -7,8 +7,8 @@ use Rattle.std.proofs.lemmas.Bool.{cases_lt}
 use Rattle.pv_base.specs.Answer.{HasOneAnswer}
 use Rattle.pv_base.specs.BigEndian.{big_endian}
 use Rattle.pv_base.proofs.BigEndianLemmas.{big_endian-begins, append-same_length}
-use Rattle.pv_law_disk.specs.Size.{Contents}
-use Rattle.pv_law_journal.specs.Format.{header, framed, records_of, AreShort, IsJournal, end_of, HasNoHeader, IsCut, EndsShort, IsNotOurs}
+use Rattle.pv_disk_model.specs.Size.{Contents}
+use Rattle.pv_format.specs.Journal.{header, framed, records_of, AreShort, IsJournal, end_of, HasNoHeader, IsCut, EndsShort, IsNotOurs}
 use Rattle.pv_law_journal.proofs.Decided.{journal_or_not}
 
 -- A gate and what follows it, with the first of these records, if there is one.

@@ -4,9 +4,9 @@ use Rattle.std.proofs.Common.{refl, arith, length-append}
 use Rattle.std.proofs.lemmas.List.Sums.{sum_by-cons}
 use Rattle.pv_base.specs.BigEndian.{big_endian}
 use Rattle.pv_base.proofs.BigEndianLemmas.{length-big_endian}
-use Rattle.pv_law_disk.specs.Size.{Contents, size_of}
-use Rattle.pv_law_journal.specs.Format.{framed, record_of, records_of, end_of}
-use Rattle.pv_law_journal.specs.Contents.{contents_of}
+use Rattle.pv_disk_model.specs.Size.{Contents, size_of}
+use Rattle.pv_format.specs.Journal.{framed, record_of, records_of, end_of}
+use Rattle.pv_format.specs.JournalContents.{contents_of}
 
 pub length-framed : (content : List ℕ) → length (framed content) ≡ 4 + length content
 length-framed content = omega (arith, length-append (big_endian 4 (length content)) content, length-big_endian 4 (length content))

@@ -1,9 +1,9 @@
 // Laws on the bytes of journals. The functions here do nothing: each states a law.
 ghost use Rattle.std.specs.Prelude.{◌≡◌, ◌↔◌, ℕ, List, Some};
 ghost use Rattle.pv_base.specs.Answer.{HasOneAnswer};
-ghost use Rattle.pv_law_disk.specs.Size.{Contents};
-ghost use Rattle.pv_law_journal.specs.Contents.{contents_of};
-ghost use Rattle.pv_law_journal.specs.Format.{IsJournal, IsNotOurs};
+ghost use Rattle.pv_disk_model.specs.Size.{Contents};
+ghost use Rattle.pv_format.specs.JournalContents.{contents_of};
+ghost use Rattle.pv_format.specs.Journal.{IsJournal, IsNotOurs};
 
 /// Bytes are a journal with exactly one list of contents, or show at exactly one place that they are none, and never both.
 pub fn one_journal()

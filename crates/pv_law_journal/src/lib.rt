@@ -1,4 +1,4 @@
-//! Which bytes are a journal, with which contents, and where it shows that others are none: definitions, and the laws on them.
+//! Laws of which bytes are a journal, with which contents, and where it shows that others are none. The functions do nothing: each states a law.
 #![tactic(auto)]
 
 mod journals;

@@ -12,10 +12,10 @@ use Rattle.pv_law_acts.proofs.RecordLemmas.{yes-listed, listed-yes}
 use Rattle.pv_law_acts.proofs.StepLemmas.{acts-hold, sent-either, record-either, place-stays, promise-stays, commit-stays}
 use Rattle.pv_law_acts.specs.Acts.{Acts, no_act}
 use Rattle.pv_law_acts.specs.Guards.{HasOutcome, MayLearn, MaySendOutcome}
-use Rattle.pv_law_acts.specs.Seen.{records_at, memory_at, work_in, Works, parts_of, place_of, IsPassed, IsDead}
+use Rattle.pv_law_acts.specs.Seen.{records_at, memory_at, work_in, WorksAgeless, parts_of, place_in_order, IsPassed, IsDead}
 use Rattle.pv_law_acts.specs.Steps.{NewEntry, has_begun, has_taken, is_placed, has_counted, NewCommit, IsStep}
-use Rattle.pv_law_locks.proofs.CoherentLemmas.{IsSound, stays-coherent, always-sound}
-use Rattle.pv_law_locks.specs.Coherent.{IsEntryRight}
+use Rattle.pv_law_outcomes.proofs.CoherentLemmas.{IsSound, stays-coherent, always-sound}
+use Rattle.pv_law_outcomes.specs.Coherent.{IsEntryRight}
 use Rattle.pv_law_outcomes.specs.Decided.{IsPreparedEverywhere, AreDecided}
 use Rattle.pv_protocol.specs.Committed.{home_of, is_committed}
 use Rattle.pv_protocol.specs.Here.{is_among}
@@ -29,9 +29,9 @@ no-entry (Some entry) never = absurd (never entry refl)
 
 module _ (setup : Setup) (w v : World) (step : IsStep setup w v) (sound : IsSound setup w) (decided : AreDecided w) where
   -- What is worked on after a step was worked on before, if its number was passed.
-  pub worked-before : (n : ℕ) (txn : TxnId) (entry : Entry) → IsPassed w txn → Works v n txn entry → (was : Entry) × Works w n txn was
+  pub worked-before : (n : ℕ) (txn : TxnId) (entry : Entry) → IsPassed w txn → WorksAgeless v n txn entry → (was : Entry) × WorksAgeless w n txn was
   worked-before n txn entry given works = ⊎_elim (λ old. (entry, old)) (λ new. by entry new) (step.entries n txn entry works) where
-    by : (entry : Entry) → NewEntry setup w v n txn entry → (was : Entry) × Works w n txn was
+    by : (entry : Entry) → NewEntry setup w v n txn entry → (was : Entry) × WorksAgeless w n txn was
     by entry (has_begun program home unpassed passed runs) = absurd (unpassed given)
     by entry (has_taken was taken works may) = (was, works)
     by entry (is_placed was works may order) = (was, works)
@@ -67,24 +67,24 @@ module _ (setup : Setup) (w v : World) (step : IsStep setup w v) (sound : IsSoun
   commit-passed : (txn : TxnId) → is_committed w txn ≡ true → IsPassed w txn
   commit-passed txn is = sound.passed.records (home_of txn) (outcome_known txn true) (yes-listed (records_at w (home_of txn)) txn is)
 
-  working-uncommitted : (n : ℕ) (txn : TxnId) (entry : Entry) → Works v n txn entry → is_committed v txn ≡ false
+  working-uncommitted : (n : ℕ) (txn : TxnId) (entry : Entry) → WorksAgeless v n txn entry → is_committed v txn ≡ false
   working-uncommitted n txn entry works = false_from_ne_true (is_committed v txn) (λ is. ⊎_elim
       (λ old. let was = worked-before n txn entry (commit-passed txn old) works in false≢true (sym (decided.working n txn was.0 was.1) ∙ old))
       (λ (commit : NewCommit setup w v (home_of txn) txn true).
-      none-some (sym commit.over ∙ subst (λ m. Works v m txn entry) (sym ((numbers-passed setup w v step sound.passed).entries n txn entry works).home) works))
+      none-some (sym commit.over ∙ subst (λ m. WorksAgeless v m txn entry) (sym ((numbers-passed setup w v step sound.passed).entries n txn entry works).home) works))
       (commit-either txn is))
 
   -- A coordinator that may commit has the transaction prepared everywhere.
   pub voted-everywhere : (n : ℕ) (txn : TxnId) (outcome : Bool) → NewCommit setup w v n txn outcome → IsPreparedEverywhere w txn
   voted-everywhere n txn outcome commit =
       let entry : IsEntryRight setup w n txn commit.entry = sound.right.entries n txn commit.entry commit.works in
-      let in_order : Contains w.order (place_of commit.entry) = entry.in_order commit.may.asks in
+      let in_order : Contains w.order (place_in_order commit.entry) = entry.in_order commit.may.asks in
       record {
-        placed = place_of commit.entry;
+        placed = place_in_order commit.entry;
         in_order = in_order;
         own = (sound.passed.entries n txn commit.entry commit.works).own;
         prepared = λ taken h.
-            let participant : is_among (parts_of setup commit.entry) taken.site ≡ true = (sound.right.places (place_of commit.entry) in_order).only taken h in
+            let participant : is_among (parts_of setup commit.entry) taken.site ≡ true = (sound.right.places (place_in_order commit.entry) in_order).only taken h in
             let voted : is_among commit.entry.votes taken.site ≡ true =
             all-listed (is_among commit.entry.votes) (parts_of setup commit.entry) commit.may.whole taken.site (among-listed (parts_of setup commit.entry) taken.site participant) in
             (entry.votes taken.site (among-listed commit.entry.votes taken.site voted)).prepared;

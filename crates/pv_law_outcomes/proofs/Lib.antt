@@ -1,4 +1,9 @@
+pub mod CoherentLemmas
 pub mod DecidedLemmas
+pub mod EntryLemmas
 pub mod LiveLemmas
+pub mod MessageLemmas
 pub mod OpenLemmas
+pub mod OrderLemmas
 pub mod OutcomeLemmas
+pub mod ValueLemmas

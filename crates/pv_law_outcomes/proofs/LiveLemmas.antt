@@ -8,10 +8,10 @@ use Rattle.pv_format.specs.Message.{prepare}
 use Rattle.pv_format.specs.Record.{prepared}
 use Rattle.pv_law_acts.proofs.RecordLemmas.{prepared-listed, listed-prepared}
 use Rattle.pv_law_acts.proofs.StepLemmas.{record-either, place-either, commit-stays}
-use Rattle.pv_law_acts.specs.Seen.{records_at, Holds, IsPassed}
+use Rattle.pv_law_acts.specs.Seen.{records_at, HoldsAgeless, IsPassed}
 use Rattle.pv_law_acts.specs.Steps.{NewGrant, NewCommit, NewPromise, NewPlace, IsStep}
-use Rattle.pv_law_locks.proofs.CoherentLemmas.{new-apart}
-use Rattle.pv_law_locks.specs.Coherent.{IsWriting}
+use Rattle.pv_law_outcomes.proofs.CoherentLemmas.{new-apart}
+use Rattle.pv_law_outcomes.specs.Coherent.{IsWriting}
 use Rattle.pv_law_outcomes.proofs.DecidedLemmas.{IsSettled, worked-before, commit-either, voted-everywhere}
 use Rattle.pv_law_outcomes.specs.Decided.{IsPreparedEverywhere, IsBoundBy, is_promised, is_held, MayCommitYet, IsCommittedOrOpen}
 use Rattle.pv_protocol.specs.Committed.{home_of, is_committed}
@@ -22,7 +22,7 @@ use Rattle.pv_protocol.specs.World.{World}
 module _ (setup : Setup) (w v : World) (step : IsStep setup w v) (settled : IsSettled setup w) where
   -- The very grant that was taken: one that is new has another number.
   held-before : (placed : Placed) → Contains w.order placed → (txn : TxnId) (taken : TakenGrant) → Contains placed.grants taken → (wants : List Want)
-      → Holds v taken.site (record { txn = txn; id = taken.grant; wants = wants; age = 0 }) → IsBoundBy w txn taken
+      → HoldsAgeless v taken.site (record { txn = txn; id = taken.grant; wants = wants; age = 0 }) → IsBoundBy w txn taken
   held-before placed in_order txn taken h wants holds =
       ⊎_elim
       (λ old. is_held wants old)
@@ -45,7 +45,7 @@ module _ (setup : Setup) (w v : World) (step : IsStep setup w v) (settled : IsSe
       (settled.sound.right.places placed in_order).one (record { site = taken.site; grant = new.id }) taken
       (subst (λ (p : Placed). Contains p.grants (record { site = taken.site; grant = new.id })) same writing.granted) h refl in
       is_held new.wants
-      (subst (λ id. Holds w taken.site (record { txn = txn; id = id; wants = new.wants; age = 0 })) (ap (λ (t : TakenGrant). t.grant) one) new.may.holds))
+      (subst (λ id. HoldsAgeless w taken.site (record { txn = txn; id = id; wants = new.wants; age = 0 })) (ap (λ (t : TakenGrant). t.grant) one) new.may.holds))
       (record-either setup w v step taken.site (prepared txn found.0) found.1)
 
   bound-before : (placed : Placed) → Contains w.order placed → (txn : TxnId) → placed.txn ≡ txn → (taken : TakenGrant) → Contains placed.grants taken

@@ -9,7 +9,7 @@ use Rattle.pv_base.specs.Assignment.{is_same_txn}
 use Rattle.pv_base.specs.declared.grant.GrantId.{GrantId}
 use Rattle.pv_base.specs.declared.txn.TxnId.{TxnId}
 use Rattle.pv_law_acts.proofs.ListLemmas.{none-some, any-listed, listed-any, all-listed, listed-all}
-use Rattle.pv_law_acts.specs.Seen.{records_at, memory_at, ageless_grant, ageless_entry, Works, Holds}
+use Rattle.pv_law_acts.specs.Seen.{records_at, memory_at, ageless_grant, ageless_entry, WorksAgeless, HoldsAgeless}
 use Rattle.pv_law_outcomes.specs.Decided.{IsBoundBy, is_promised, is_held, MayCommitYet, is_placed}
 use Rattle.pv_protocol.specs.Committed.{home_of, is_committed, grants_of, entry_of, is_grant, is_bound, is_open, IsOpen}
 use Rattle.pv_protocol.specs.Records.{is_prepared}
@@ -60,8 +60,8 @@ module _ (world : World) where
       let found = any-listed (is_grant txn taken.grant) (grants_of (memory_at world taken.site)) held in
       let parts = and_parts (is_same_txn found.0.txn txn) (is_same_grant found.0.id taken.grant) found.1.1 in
       is_held found.0.wants
-      (subst (λ (t : TxnId). Holds world taken.site (record { txn = t; id = taken.grant; wants = found.0.wants; age = 0 })) (same-eq {t = found.0.txn} {u = txn} parts.0)
-      (subst (λ (id : GrantId). Holds world taken.site (record { txn = found.0.txn; id = id; wants = found.0.wants; age = 0 })) (same-grant found.0.id taken.grant parts.1)
+      (subst (λ (t : TxnId). HoldsAgeless world taken.site (record { txn = t; id = taken.grant; wants = found.0.wants; age = 0 })) (same-eq {t = found.0.txn} {u = txn} parts.0)
+      (subst (λ (id : GrantId). HoldsAgeless world taken.site (record { txn = found.0.txn; id = id; wants = found.0.wants; age = 0 })) (same-grant found.0.id taken.grant parts.1)
       (Contains-map ageless_grant (grants_of (memory_at world taken.site)) found.0 found.1.0))))
       (or_cases (is_prepared (records_at world taken.site) txn) (list_any (is_grant txn taken.grant) (grants_of (memory_at world taken.site))) is)
 
@@ -89,7 +89,7 @@ module _ (world : World) where
         own = own;
         uncommitted = subst (λ t. is_committed world t ≡ false) own (denied (is_committed world found.0.txn) open_.0);
         entry = entry.0;
-        works = subst (λ t. Works world (home_of t) t entry.0) own entry.1;
+        works = subst (λ t. WorksAgeless world (home_of t) t entry.0) own entry.1;
         bound = λ taken h. bound-from txn taken
             (subst (λ t. is_bound world t taken ≡ true) own (all-listed (is_bound world found.0.txn) found.0.grants works_.1 taken h));
       }
@@ -116,7 +116,7 @@ module _ (world : World) where
         own = refl;
         uncommitted = subst (λ t. is_committed world t ≡ false) (sym is.own) is.uncommitted;
         entry = is.entry;
-        works = subst (λ t. Works world (home_of t) t is.entry) (sym is.own) is.works;
+        works = subst (λ t. WorksAgeless world (home_of t) t is.entry) (sym is.own) is.works;
         bound = λ taken h. subst (λ t. IsBoundBy world t taken) (sym is.own) (is.bound taken h);
       })
       refl))

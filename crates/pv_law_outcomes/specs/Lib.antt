@@ -1,1 +1,2 @@
+pub mod Coherent
 pub mod Decided

@@ -13,13 +13,13 @@ use Rattle.pv_journal.specs.Journal.{contents_now}
 use Rattle.pv_journal.specs.JournalModel.{journal_model}
 use Rattle.pv_journal.specs.Opening as journal
 use Rattle.pv_journal.specs.declared.journal.Journal.{Journal}
-use Rattle.pv_law_disk.proofs.LogLemmas.{settled_since}
-use Rattle.pv_law_disk.specs.DiskModel.{DiskModel}
-use Rattle.pv_law_disk.specs.Log.{IsBeforeOrAfter, Keeps}
-use Rattle.pv_law_disk.specs.LogModel.{LogModel}
-use Rattle.pv_law_disk.specs.Size.{Contents}
-use Rattle.pv_law_journal.specs.Contents.{contents_of}
-use Rattle.pv_law_journal.specs.Format.{IsJournal, IsNotOurs}
+use Rattle.pv_disk_model.proofs.LogLemmas.{settled_since}
+use Rattle.pv_disk_model.specs.DiskModel.{DiskModel}
+use Rattle.pv_disk_model.specs.Log.{IsBeforeOrAfter, Keeps}
+use Rattle.pv_disk_model.specs.LogModel.{LogModel}
+use Rattle.pv_disk_model.specs.Size.{Contents}
+use Rattle.pv_format.specs.JournalContents.{contents_of}
+use Rattle.pv_format.specs.Journal.{IsJournal, IsNotOurs}
 use Rattle.pv_law_recovery.specs.Recovery.{IsBegunOrNot, Recovers, log_of}
 use Rattle.pv_protocol.specs.State.{Running}
 use Rattle.pv_site.specs.Crashes.{AreContentsOf, IsUp}

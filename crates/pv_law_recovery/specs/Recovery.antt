@@ -7,9 +7,9 @@ use Rattle.pv_journal.specs.JournalModel.{journal_model}
 use Rattle.pv_journal.specs.Opening as journal
 use Rattle.pv_journal.specs.declared.journal.Journal.{Journal}
 use Rattle.pv_journal.specs.declared.open_log.OpenLog.TheVariants.{NotOurs}
-use Rattle.pv_law_disk.specs.DiskModel.{DiskModel}
-use Rattle.pv_law_disk.specs.Size.{Contents}
-use Rattle.pv_law_journal.specs.Format.{IsJournal}
+use Rattle.pv_disk_model.specs.DiskModel.{DiskModel}
+use Rattle.pv_disk_model.specs.Size.{Contents}
+use Rattle.pv_format.specs.Journal.{IsJournal}
 use Rattle.pv_protocol.specs.State.{Running, Input}
 use Rattle.pv_protocol.specs.Step.{step_on, records_after}
 use Rattle.pv_site.specs.Opens as site

@@ -20,9 +20,9 @@ use Rattle.pv_law_acts.proofs.MemoryLemmas.{entry-txn}
 use Rattle.pv_law_acts.proofs.PassedLemmas.{taken-either}
 use Rattle.pv_law_acts.specs.Seen.{records_at, memory_at, Sent}
 use Rattle.pv_law_answers.proofs.RefusalNotes.{Refuses, by_width, by_denial, by_room, by_vote, by_time}
-use Rattle.pv_law_answers.specs.Origin.{Gives, request, delivery, time}
-use Rattle.pv_law_causes.specs.Histories.{MessagesCameOf}
-use Rattle.pv_law_causes.specs.Waits.{EntriesHaveAge}
+use Rattle.pv_law_answers.proofs.Origin.{Gives, request, delivery, time}
+use Rattle.pv_law_refusals.specs.Histories.{MessagesCameOf}
+use Rattle.pv_law_refusals.specs.Waits.{EntriesHaveAge}
 use Rattle.pv_law_canonical.proofs.FilterLemmas.{kept-listed}
 use Rattle.pv_law_events.proofs.FoundLemmas.{listed-found, locking-found, voting-found}
 use Rattle.pv_law_programs.proofs.PlanLemmas.{Ascends, sites-ascend, sites-have, sites-known}

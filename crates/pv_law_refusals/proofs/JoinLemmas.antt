@@ -6,9 +6,9 @@ use Rattle.pv_base.specs.declared.txn.TxnId.{TxnId}
 use Rattle.pv_law_acts.specs.Seen.{records_at, memory_at}
 use Rattle.pv_law_answers.proofs.LineLemmas.{come-ends, line-noted}
 use Rattle.pv_law_answers.proofs.RunLemmas.{there, follows-there, is-transition, noted-there}
-use Rattle.pv_law_answers.specs.Origin.{IsNoted}
-use Rattle.pv_law_causes.specs.Histories.{MessagesCameOf}
-use Rattle.pv_law_causes.specs.Waits.{EntriesHaveAge}
+use Rattle.pv_law_answers.proofs.Origin.{IsNoted}
+use Rattle.pv_law_refusals.specs.Histories.{MessagesCameOf}
+use Rattle.pv_law_refusals.specs.Waits.{EntriesHaveAge}
 use Rattle.pv_law_events.specs.Reached.{AreReached}
 use Rattle.pv_law_outcomes.proofs.DecidedLemmas.{always-settled}
 use Rattle.pv_law_refusals.proofs.CauseLemmas.{delivered-of, time-of, cause-by}

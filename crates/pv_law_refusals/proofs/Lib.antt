@@ -1,4 +1,12 @@
 pub mod CauseLemmas
+pub mod Chains
+pub mod EntrySteps
 pub mod JoinLemmas
+pub mod MessageHistories
+pub mod MoveLemmas
+pub mod Moves
+pub mod Origins
 pub mod OutLemmas
+pub mod RefusedLemmas
+pub mod WaitHistories
 pub mod WidthNames

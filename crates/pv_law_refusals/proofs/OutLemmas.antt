@@ -9,11 +9,11 @@ use Rattle.pv_base.specs.declared.txn.TxnId.{TxnId}
 use Rattle.pv_law_acts.proofs.PassedLemmas.{passed-later}
 use Rattle.pv_law_acts.proofs.SiteLemmas.{up-within}
 use Rattle.pv_law_acts.specs.Acts.{Acts}
-use Rattle.pv_law_acts.specs.Seen.{records_at, memory_at, work_in, Works, IsDead}
+use Rattle.pv_law_acts.specs.Seen.{records_at, memory_at, work_in, WorksAgeless, IsDead}
 use Rattle.pv_law_answers.proofs.AnswerLemmas.{gives-sites, completed-records}
 use Rattle.pv_law_answers.proofs.RefusalNotes.{Refuses, refusal-noted, Drops, refusal-drops}
 use Rattle.pv_law_answers.proofs.RunLemmas.{worlds-cut}
-use Rattle.pv_law_answers.specs.Origin.{IsNoted}
+use Rattle.pv_law_answers.proofs.Origin.{IsNoted}
 use Rattle.pv_law_events.specs.Reached.{AreReached}
 use Rattle.pv_law_outcomes.proofs.DecidedLemmas.{IsSettled, always-settled}
 use Rattle.pv_law_outcomes.proofs.OutcomeLemmas.{dead-out, dead-after, settled-after}
@@ -55,7 +55,7 @@ module _ (setup : Setup) (world : World) (transition : Transition) (txn : TxnId)
   drops : Drops here txn noted.input
   drops = refusal-drops here txn (ordered noted.n noted.running noted.up) noted.input cause refuses
 
-  works : Works world noted.n txn drops.entry
+  works : WorksAgeless world noted.n txn drops.entry
   works = ap (λ m. work_in m txn) noted.up ∙ drops.was
 
   pub home : home_of txn ≡ noted.n

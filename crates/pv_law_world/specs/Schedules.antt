@@ -15,10 +15,6 @@ setup_of sites items = record { catalog = record { sites = sites; journal = MAX_
 abbrev pub alone : ℕ → Setup
 alone value = setup_of 1 (record { name = codes "a"; site = 0; value = pos value } ∷ [])
 
--- `item a 0 100` and `item b 1 50` at two sites
-abbrev pub bank : Setup
-bank = setup_of 2 (record { name = codes "a"; site = 0; value = pos 100 } ∷ record { name = codes "b"; site = 1; value = pos 50 } ∷ [])
-
 -- an item gets its value and a number more or less, and then the rest of the program runs
 abbrev pub changed : Op → ℕ → ℕ → Program → Program
 changed op n amount rest = Program.assign n (Expr.two op (Expr.item n) (Expr.number (pos amount))) rest

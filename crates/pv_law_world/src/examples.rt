@@ -4,7 +4,8 @@
 ghost use Rattle.std.specs.Prelude.{◌≡◌, [], ◌∷◌, ◌++◌, false, true, Some};
 ghost use Rattle.pv_base.specs.declared.mode.Mode.TheVariants.{Kept, Lost, Torn};
 ghost use Rattle.pv_law_world.specs.ExampleLines.{either, lost_for_good, report_lines, stopped_in_commit, sure, t, u, values};
-ghost use Rattle.pv_law_world.specs.Schedules.{alone, bank, fault_in_prepare, granted_anew, lock_lost, old_prepare, one_more, outcome_asked, outcome_unheard, pump_all, short_of_room, stop_in_commit, transfer, two_more, two_restarts};
+ghost use Rattle.pv_law_step.specs.Examples.{bank};
+ghost use Rattle.pv_law_world.specs.Schedules.{alone, fault_in_prepare, granted_anew, lock_lost, old_prepare, one_more, outcome_asked, outcome_unheard, pump_all, short_of_room, stop_in_commit, transfer, two_more, two_restarts};
 ghost use Rattle.pv_model.specs.Events.{report};
 ghost use Rattle.pv_base.specs.declared.reply.Reply.TheVariants.{Nothing};
 ghost use Rattle.pv_protocol.specs.Limit.{run_within};

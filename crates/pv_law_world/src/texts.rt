@@ -1,6 +1,6 @@
 // How lines are spelled.
 ghost use Rattle.std.specs.Prelude.{◌≡◌, map};
-ghost use Rattle.pv_law_world.specs.Schedules.{bank};
+ghost use Rattle.pv_law_step.specs.Examples.{bank};
 ghost use Rattle.pv_law_world.specs.Spellings.{examples};
 ghost use Rattle.pv_protocol.specs.LineText.{words_of};
 

@@ -11,39 +11,39 @@ ops =
 abbrev op_at : ℕ → Op
 op_at n = get_or ops n or
 
-abbrev place_of : Op → ℕ
-place_of or = 0
-place_of and = 1
-place_of equal = 2
-place_of unequal = 3
-place_of less = 4
-place_of at_most = 5
-place_of greater = 6
-place_of at_least = 7
-place_of plus = 8
-place_of sub = 9
-place_of times = 10
-place_of over = 11
-place_of rest = 12
-place_of lesser = 13
-place_of larger = 14
+abbrev op_place : Op → ℕ
+op_place or = 0
+op_place and = 1
+op_place equal = 2
+op_place unequal = 3
+op_place less = 4
+op_place at_most = 5
+op_place greater = 6
+op_place at_least = 7
+op_place plus = 8
+op_place sub = 9
+op_place times = 10
+op_place over = 11
+op_place rest = 12
+op_place lesser = 13
+op_place larger = 14
 
-pub op_at-place_of : (op : Op) → op_at (place_of op) ≡ op
-op_at-place_of or = refl
-op_at-place_of and = refl
-op_at-place_of equal = refl
-op_at-place_of unequal = refl
-op_at-place_of less = refl
-op_at-place_of at_most = refl
-op_at-place_of greater = refl
-op_at-place_of at_least = refl
-op_at-place_of plus = refl
-op_at-place_of sub = refl
-op_at-place_of times = refl
-op_at-place_of over = refl
-op_at-place_of rest = refl
-op_at-place_of lesser = refl
-op_at-place_of larger = refl
+pub op_at-op_place : (op : Op) → op_at (op_place op) ≡ op
+op_at-op_place or = refl
+op_at-op_place and = refl
+op_at-op_place equal = refl
+op_at-op_place unequal = refl
+op_at-op_place less = refl
+op_at-op_place at_most = refl
+op_at-op_place greater = refl
+op_at-op_place at_least = refl
+op_at-op_place plus = refl
+op_at-op_place sub = refl
+op_at-op_place times = refl
+op_at-op_place over = refl
+op_at-op_place rest = refl
+op_at-op_place lesser = refl
+op_at-op_place larger = refl
 
 -- a number, an item, or what is done with the expressions before it: 0 for minus, 1 for not, and 2 more than the place of an operator
 abbrev Instruction : Type 0
@@ -55,7 +55,7 @@ instructions (number z) more = inl z ∷ more
 instructions (item n) more = inr (inl n) ∷ more
 instructions (minus e) more = instructions e (inr (inr 0) ∷ more)
 instructions (negation e) more = instructions e (inr (inr 1) ∷ more)
-instructions (two op left right) more = instructions left (instructions right (inr (inr (suc (suc (place_of op)))) ∷ more))
+instructions (two op left right) more = instructions left (instructions right (inr (inr (suc (suc (op_place op)))) ∷ more))
 
 -- what an instruction makes of the expressions before it, the last one first
 abbrev done_by : Instruction → List Expr → List Expr
@@ -76,10 +76,10 @@ all_done-instructions (item n) more done = refl
 all_done-instructions (minus e) more done = all_done-instructions e (inr (inr 0) ∷ more) done
 all_done-instructions (negation e) more done = all_done-instructions e (inr (inr 1) ∷ more) done
 all_done-instructions (two op left right) more done =
-    let instruction : Instruction = inr (inr (suc (suc (place_of op)))) in
+    let instruction : Instruction = inr (inr (suc (suc (op_place op)))) in
     all_done-instructions left (instructions right (instruction ∷ more)) done
     ∙ all_done-instructions right (instruction ∷ more) (left ∷ done)
-    ∙ ap (λ (o : Op). all_done more (two o left right ∷ done)) (op_at-place_of op)
+    ∙ ap (λ (o : Op). all_done more (two o left right ∷ done)) (op_at-op_place op)
 
 abbrev last_expr : List Expr → Expr
 last_expr [] = item 0

@@ -12,10 +12,10 @@ use Rattle.pv_format.specs.FirstFault.{Fault, bad_poly}
 use Rattle.pv_format.specs.Layout.{Layout, any, repeated, case_layout, cases_layout, polyvalue_then}
 use Rattle.pv_format.specs.PolyvalueSpelling.{SpellsCase, SpellsCases, SpellsPolyvalue}
 use Rattle.pv_format.specs.Spelling.{◌followed_by◌, SpellsEach}
-use Rattle.pv_law_fields.specs.Decoding.{IsTaken, Passes, Stops}
-use Rattle.pv_law_fields.proofs.ListLemmas.{reading_starts, reading_goes_on, reading_stops, reading_ends}
-use Rattle.pv_law_fields.proofs.PartLemmas.{number_any, passes_after_number, stops_after_number}
-use Rattle.pv_law_fields.proofs.PolyvalueLemmas.{passes_poly, stops_poly}
+use Rattle.pv_fields.specs.Decoding.{IsTaken, Passes, Stops}
+use Rattle.pv_fields.proofs.ListLemmas.{reading_starts, reading_goes_on, reading_stops, reading_ends}
+use Rattle.pv_fields.proofs.PartLemmas.{number_any, passes_after_number, stops_after_number}
+use Rattle.pv_fields.proofs.PolyvalueLemmas.{passes_poly, stops_poly}
 use Rattle.pv_law_polyvalues.proofs.PolyvalueLemmas.{one-canonical}
 use Rattle.pv_replay.specs.Faults.{fault_of}
 use Rattle.pv_replay.specs.Refused.{IsRefused}

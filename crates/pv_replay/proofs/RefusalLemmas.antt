@@ -6,8 +6,8 @@ use Rattle.pv_base.specs.Polyvalue.{Case, IsPolyvalue}
 use Rattle.pv_bytes.specs.Reading.{Rest}
 use Rattle.pv_format.specs.Layout.{polyvalue_then}
 use Rattle.pv_format.specs.PolyvalueSpelling.{SpellsCases}
-use Rattle.pv_law_fields.specs.Decoding.{IsTaken, Stops}
-use Rattle.pv_law_fields.proofs.PolyvalueLemmas.{stops_poly}
+use Rattle.pv_fields.specs.Decoding.{IsTaken, Stops}
+use Rattle.pv_fields.proofs.PolyvalueLemmas.{stops_poly}
 use Rattle.pv_replay.specs.Faults.{fault_of}
 use Rattle.pv_replay.specs.declared.error.PolyError.{PolyError}
 use Rattle.pv_replay.specs.declared.error.PolyError.TheVariants.{BadPoly, NoMemory}

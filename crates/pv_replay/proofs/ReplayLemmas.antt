@@ -10,7 +10,7 @@ use Rattle.pv_format.specs.Layout.{nothing_more, polyvalue_then, record_layout}
 use Rattle.pv_format.specs.Record as model
 use Rattle.pv_format.specs.Record.{epoch_begun, prepared, outcome_known}
 use Rattle.pv_format.specs.RecordSpelling.{SpellsRecord}
-use Rattle.pv_law_fields.specs.Decoding.{Passes, Stops}
+use Rattle.pv_fields.specs.Decoding.{Passes, Stops}
 use Rattle.pv_law_format.proofs.AnswerLemmas.{record-not-both}
 use Rattle.pv_replay.specs.Faults.{fault_of}
 use Rattle.pv_replay.specs.Values.{contents_of, record_of, records_of}

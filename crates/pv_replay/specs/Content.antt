@@ -5,10 +5,10 @@ use Rattle.pv_format.specs.RecordSpelling.{SpellsReads}
 use Rattle.pv_format.specs.Spelling.{◌followed_by◌, IsAllowed, IsTruth, SpellsTxn}
 
 -- the number of each kind of record
-abbrev pub kind_of : Record → ℕ
-kind_of (epoch_begun epoch) = 1
-kind_of (prepared txn writes) = 2
-kind_of (outcome_known txn commits) = 3
+abbrev pub record_kind_number : Record → ℕ
+record_kind_number (epoch_begun epoch) = 1
+record_kind_number (prepared txn writes) = 2
+record_kind_number (outcome_known txn commits) = 3
 
 -- what stands in a record after its kind
 abbrev pub SpellsContent : Record → List ℕ → Type 0

@@ -2,7 +2,7 @@
 ghost use Rattle.std.specs.Prelude.{◌≡◌, ◌≢◌, ◌++◌, ◌<◌, ℕ, List, if◌then◌else◌, IfOk, IfErr, OnOk};
 ghost use Rattle.pv_format.specs.Layout.{site_layout, truth_layout, txn_layout};
 ghost use Rattle.pv_format.specs.Spelling.{IsAllowed, IsSite, IsTruth, SpellsTxn, is_count_from, is_item_from};
-ghost use Rattle.pv_law_fields.specs.Decoding.{Passes, PassesNumber, Stops, StopsNumber};
+ghost use Rattle.pv_fields.specs.Decoding.{Passes, PassesNumber, Stops, StopsNumber};
 ghost use Rattle.pv_replay.specs.Faults.{fault_of};
 
 use crate::PolyError;

@@ -11,7 +11,7 @@ ghost use Rattle.pv_format.specs.FirstFault.{PolyvalueFault};
 ghost use Rattle.pv_format.specs.Layout.{case_layout, literal_layout, polyvalue_then, repeated};
 ghost use Rattle.pv_format.specs.PolyvalueSpelling.{BeginsWith, SpellsCase, SpellsLiteral, SpellsPolyvalue};
 ghost use Rattle.pv_format.specs.Spelling.{SpellsEach};
-ghost use Rattle.pv_law_fields.specs.Decoding.{Passes, Stops};
+ghost use Rattle.pv_fields.specs.Decoding.{Passes, Stops};
 ghost use Rattle.pv_replay.specs.Faults.{fault_of};
 ghost use Rattle.pv_replay.specs.Refused.{IsRefused};
 

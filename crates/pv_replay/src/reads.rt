@@ -4,8 +4,8 @@ ghost use Rattle.pv_format.specs.Layout.{counted_layout, entries_layout, polyval
 ghost use Rattle.pv_format.specs.PolyvalueSpelling.{SpellsPolyvalue};
 ghost use Rattle.pv_format.specs.RecordSpelling.{SpellsReads};
 ghost use Rattle.pv_format.specs.Spelling.{SpellsEntriesFrom};
-ghost use Rattle.pv_law_fields.specs.Decoding.{Passes, Stops};
-ghost use Rattle.pv_law_fields.specs.Encoding.{SpellsEntry};
+ghost use Rattle.pv_fields.specs.Decoding.{Passes, Stops};
+ghost use Rattle.pv_fields.specs.Encoding.{SpellsEntry};
 ghost use Rattle.pv_model.specs.Alternatives as model;
 ghost use Rattle.pv_replay.specs.Faults.{fault_of};
 

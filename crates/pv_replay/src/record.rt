@@ -2,8 +2,8 @@
 ghost use Rattle.std.specs.Prelude.{◌≡◌, ◌++◌, ℕ, List, IsTrue, IfOk, IfErr, OnOk};
 ghost use Rattle.pv_format.specs.Layout.{content_layout, is_record_kind, polyvalue_then, record_layout};
 ghost use Rattle.pv_format.specs.RecordSpelling.{SpellsRecord};
-ghost use Rattle.pv_law_fields.specs.Decoding.{Passes, Stops};
-ghost use Rattle.pv_replay.specs.Content.{SpellsContent, kind_of};
+ghost use Rattle.pv_fields.specs.Decoding.{Passes, Stops};
+ghost use Rattle.pv_replay.specs.Content.{SpellsContent, record_kind_number};
 ghost use Rattle.pv_replay.specs.Faults.{fault_of};
 ghost use Rattle.pv_replay.specs.Values.{record_of};
 
@@ -87,7 +87,7 @@ pub fn take_record(alloc: Global, take: &mut Take<'_>) -> Result<Record, PolyErr
 // Reads what a record of this kind has after the kind.
 fn take_content(alloc: Global, take: &mut Take<'_>, kind: u8) -> Result<Record, PolyError>
     requires { IsTrue (is_record_kind kind) }
-    ensures kind { IfOk result (λ value. kind_of (record_of value) ≡ kind) }
+    ensures kind { IfOk result (λ value. record_kind_number (record_of value) ≡ kind) }
     ensures passes { IfOk result (λ value. Passes (SpellsContent (record_of value)) (content_layout polyvalue_then kind) take.old take.new) }
     ensures stops { IfErr result (λ e. Stops (content_layout polyvalue_then kind) take.old (fault_of e)) }
 {
@@ -102,7 +102,7 @@ fn take_content(alloc: Global, take: &mut Take<'_>, kind: u8) -> Result<Record, 
 
 // Reads the epoch of a record of a start, which is at least 1.
 fn take_epoch(take: &mut Take<'_>) -> Result<Record, PolyError>
-    ensures kind { IfOk result (λ value. kind_of (record_of value) ≡ 1) }
+    ensures kind { IfOk result (λ value. record_kind_number (record_of value) ≡ 1) }
     ensures passes { IfOk result (λ value. Passes (SpellsContent (record_of value)) (content_layout polyvalue_then 1) take.old take.new) }
     ensures stops { IfErr result (λ e. Stops (content_layout polyvalue_then 1) take.old (fault_of e)) }
 {
@@ -116,7 +116,7 @@ fn take_epoch(take: &mut Take<'_>) -> Result<Record, PolyError>
 
 // Reads the transaction and the writes of a promise.
 fn take_prepared(alloc: Global, take: &mut Take<'_>) -> Result<Record, PolyError>
-    ensures kind { IfOk result (λ value. kind_of (record_of value) ≡ 2) }
+    ensures kind { IfOk result (λ value. record_kind_number (record_of value) ≡ 2) }
     ensures passes { IfOk result (λ value. Passes (SpellsContent (record_of value)) (content_layout polyvalue_then 2) take.old take.new) }
     ensures stops { IfErr result (λ e. Stops (content_layout polyvalue_then 2) take.old (fault_of e)) }
 {
@@ -127,7 +127,7 @@ fn take_prepared(alloc: Global, take: &mut Take<'_>) -> Result<Record, PolyError
 
 // Reads the transaction and the outcome of a record of an outcome.
 fn take_outcome(take: &mut Take<'_>) -> Result<Record, PolyError>
-    ensures kind { IfOk result (λ value. kind_of (record_of value) ≡ 3) }
+    ensures kind { IfOk result (λ value. record_kind_number (record_of value) ≡ 3) }
     ensures passes { IfOk result (λ value. Passes (SpellsContent (record_of value)) (content_layout polyvalue_then 3) take.old take.new) }
     ensures stops { IfErr result (λ e. Stops (content_layout polyvalue_then 3) take.old (fault_of e)) }
 {

@@ -2,7 +2,7 @@
 ghost use Rattle.std.specs.Prelude.{◌≡◌, ◌<◌, length, IfOk};
 ghost use Rattle.pv_report.specs.LineData.{refused_by_holder, refused_by_journal, refused_by_limit, refused_by_site, sent_data};
 ghost use Rattle.pv_report.specs.NamesArePlain.{HasPlainName};
-ghost use Rattle.pv_script.specs.LineView.{kind_of};
+ghost use Rattle.pv_script.specs.LineView.{message_kind_of};
 ghost use Rattle.serde_json.specs.View.{view};
 
 use crate::json_values::{name_value, txn_value};
@@ -111,7 +111,7 @@ pub(crate) fn sent(
     kind: MessageKind,
     txn: TxnId,
 ) -> Result<Value, NoMemory>
-    ensures { IfOk result (λ value. view value ≡ sent_data number from.0 to.0 (kind_of kind) txn) }
+    ensures { IfOk result (λ value. view value ≡ sent_data number from.0 to.0 (message_kind_of kind) txn) }
 {
     let mut members = Map::new(alloc);
     put(&mut members, alloc, "from", Value::from(from.0))?;

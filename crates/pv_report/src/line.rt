@@ -5,7 +5,7 @@ ghost use Rattle.pv_protocol.specs.LineText.{cause_text, kind_text, line_text, n
 ghost use Rattle.pv_protocol.specs.State.{conflict};
 ghost use Rattle.pv_report.specs.NamesOnlyItems.{HasItem, NamesOnlyItems};
 ghost use Rattle.pv_report.specs.StillHeld.{StillHeld};
-ghost use Rattle.pv_script.specs.LineView.{kind_of, line_of};
+ghost use Rattle.pv_script.specs.LineView.{message_kind_of, line_of};
 
 use crate::answers::{push_replies, push_sums};
 use crate::cases::push_cases;
@@ -197,7 +197,7 @@ fn push_sent(
     txn: TxnId,
 ) -> Result<(), NoMemory>
     ensures text { OnOk result (text.new.items ≡ text.old.items ++ (codes "sent " ++ (decimal number ++ (codes " " ++ (decimal from.0
-        ++ (codes ">" ++ (decimal to.0 ++ (codes " " ++ (kind_text (kind_of kind) ++ (codes " " ++ txn_text txn)))))))))) }
+        ++ (codes ">" ++ (decimal to.0 ++ (codes " " ++ (kind_text (message_kind_of kind) ++ (codes " " ++ txn_text txn)))))))))) }
     ensures held { StillHeld text.old.items text.new.items }
 {
     push_two_numbers(text, b"sent ", number, from.0 as u64)?;

@@ -24,14 +24,14 @@ abbrev pub count : (Line → Bool) → List Line → ℕ
 count is lines = length (filter is lines)
 
 -- how many transactions a report says are committed
-abbrev pub committed_in : Line → Option ℕ
-committed_in (Line.committed txns) = Some (length txns)
-committed_in line = None
+abbrev pub committed_count : Line → Option ℕ
+committed_count (Line.committed txns) = Some (length txns)
+committed_count line = None
 
 -- and how many are open
-abbrev pub open_in : Line → Option ℕ
-open_in (Line.open_ones txns) = Some (length txns)
-open_in line = None
+abbrev pub open_count : Line → Option ℕ
+open_count (Line.open_ones txns) = Some (length txns)
+open_count line = None
 
 -- It is a total, or says why there is none.
 abbrev pub is_total : Line → Bool
@@ -67,9 +67,9 @@ unfoldable pub summary_text : Declared → ℕ → List Line → List ℕ
 summary_text catalog events lines =
     counted_line (codes "events") events
     ++ (counted_line (codes "transactions") (count begins_txn lines)
-    ++ (counted_line (codes "committed") (or_zero (latest committed_in None lines))
+    ++ (counted_line (codes "committed") (or_zero (latest committed_count None lines))
     ++ (counted_line (codes "refused") (count refuses_txn lines)
-    ++ (counted_line (codes "open") (or_zero (latest open_in None lines))
+    ++ (counted_line (codes "open") (or_zero (latest open_count None lines))
     ++ option_map_or (line_text catalog) (latest total_in None lines) []))))
 
 -- the summary of the run of a schedule

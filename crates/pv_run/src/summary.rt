@@ -1,7 +1,7 @@
 // The summary of a run.
 ghost use Rattle.std.specs.Prelude.{◌≡◌, ◌++◌, [], All, IfOk, OnOk, None, map};
 ghost use Rattle.std.specs.Option.{option_map, option_map_or};
-ghost use Rattle.pv_run.specs.Summary.{begins_txn, committed_in, count, counted_line, is_total, latest, or_zero, open_in, refuses_txn, summary_text, total_in};
+ghost use Rattle.pv_run.specs.Summary.{begins_txn, committed_count, count, counted_line, is_total, latest, or_zero, open_count, refuses_txn, summary_text, total_in};
 ghost use Rattle.pv_protocol.specs.LineText.{line_text};
 ghost use Rattle.pv_report.specs.NamesOnlyItems.{NamesOnlyItems};
 ghost use Rattle.pv_script.specs.LineView.{line_of};
@@ -90,17 +90,17 @@ fn refuses_txn(line: &Line) -> bool
 
 // How many transactions the last report says are committed.
 fn last_committed(lines: &[Line]) -> usize
-    ensures { result ≡ or_zero (latest committed_in None (map line_of lines.now)) }
+    ensures { result ≡ or_zero (latest committed_count None (map line_of lines.now)) }
 {
     let mut committed = 0;
     for line in lines {
-        committed = committed_in(line).unwrap_or(committed);
+        committed = committed_count(line).unwrap_or(committed);
     }
     committed
 }
 
-fn committed_in(line: &Line) -> Option<usize>
-    ensures { result ≡ committed_in (line_of line.now) }
+fn committed_count(line: &Line) -> Option<usize>
+    ensures { result ≡ committed_count (line_of line.now) }
 {
     match line {
         Line::Committed(txns) => Some(txns.len()),
@@ -110,17 +110,17 @@ fn committed_in(line: &Line) -> Option<usize>
 
 // How many transactions the last report says are open.
 fn last_open(lines: &[Line]) -> usize
-    ensures { result ≡ or_zero (latest open_in None (map line_of lines.now)) }
+    ensures { result ≡ or_zero (latest open_count None (map line_of lines.now)) }
 {
     let mut open = 0;
     for line in lines {
-        open = open_in(line).unwrap_or(open);
+        open = open_count(line).unwrap_or(open);
     }
     open
 }
 
-fn open_in(line: &Line) -> Option<usize>
-    ensures { result ≡ open_in (line_of line.now) }
+fn open_count(line: &Line) -> Option<usize>
+    ensures { result ≡ open_count (line_of line.now) }
 {
     match line {
         Line::OpenOnes(txns) => Some(txns.len()),

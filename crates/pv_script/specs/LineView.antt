@@ -7,15 +7,15 @@ use Rattle.pv_script.specs.declared.line.MessageKind.{MessageKind}
 use Rattle.pv_script.specs.declared.line.MessageKind.TheVariants.{Lock, Granted, Denied, Prepare, Yes, No, Outcome, Ask}
 
 -- the kind of messages that this one is
-abbrev pub kind_of : MessageKind → model.MessageKind
-kind_of Lock = model.MessageKind.lock
-kind_of Granted = model.MessageKind.granted
-kind_of Denied = model.MessageKind.denied
-kind_of Prepare = model.MessageKind.prepare
-kind_of Yes = model.MessageKind.yes
-kind_of No = model.MessageKind.no
-kind_of Outcome = model.MessageKind.outcome
-kind_of Ask = model.MessageKind.ask
+abbrev pub message_kind_of : MessageKind → model.MessageKind
+message_kind_of Lock = model.MessageKind.lock
+message_kind_of Granted = model.MessageKind.granted
+message_kind_of Denied = model.MessageKind.denied
+message_kind_of Prepare = model.MessageKind.prepare
+message_kind_of Yes = model.MessageKind.yes
+message_kind_of No = model.MessageKind.no
+message_kind_of Outcome = model.MessageKind.outcome
+message_kind_of Ask = model.MessageKind.ask
 
 -- the line that this one is
 abbrev pub line_of : Line → model.Line
@@ -34,7 +34,7 @@ line_of (Stopped site) = model.Line.stopped site.0
 line_of (Fault site) = model.Line.fault site.0
 line_of (Started site epoch) = model.Line.started site.0 epoch
 line_of (NoMessage number) = model.Line.no_message number
-line_of (Sent number from to kind txn) = model.Line.sent number from.0 to.0 (kind_of kind) txn
+line_of (Sent number from to kind txn) = model.Line.sent number from.0 to.0 (message_kind_of kind) txn
 line_of (Order txns) = model.Line.order txns.items
 line_of (Committed txns) = model.Line.committed txns.items
 line_of (OpenOnes txns) = model.Line.open_ones txns.items

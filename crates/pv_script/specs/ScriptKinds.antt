@@ -3,6 +3,6 @@ use Rattle.pv_model.specs.LineForms as model
 use Rattle.pv_script.specs.declared.script.Script.{Script}
 use Rattle.pv_script.specs.declared.script.Script.TheVariants.{Scheduled, Live}
 
-abbrev pub kind_of : Script → model.Script
-kind_of Scheduled = model.scheduled
-kind_of Live = model.live
+abbrev pub script_of : Script → model.Script
+script_of Scheduled = model.scheduled
+script_of Live = model.live

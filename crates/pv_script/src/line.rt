@@ -1,7 +1,7 @@
 // The lines that a run prints, as data. What a line is in the definition says `LineView`.
 ghost use Rattle.std.specs.Prelude.{◌≡◌};
 ghost use Rattle.pv_protocol.specs.LineText.{kind_text};
-ghost use Rattle.pv_script.specs.LineView.{kind_of};
+ghost use Rattle.pv_script.specs.LineView.{message_kind_of};
 
 use pv_ast::Reply;
 use pv_base::{Case, ItemId, SiteId, TxnId};
@@ -30,7 +30,7 @@ pub enum MessageKind {
 impl MessageKind {
     /// What it is called in a line.
     pub fn name(self) -> &'static str
-        ensures { result.now ≡ kind_text (kind_of self) }
+        ensures { result.now ≡ kind_text (message_kind_of self) }
     {
         match self {
             MessageKind::Lock => "lock",

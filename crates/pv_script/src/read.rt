@@ -9,7 +9,7 @@ ghost use Rattle.pv_script.specs.LinesLeft.{unread};
 ghost use Rattle.pv_script.specs.LiveSaid.{before_of_live, IsSound};
 ghost use Rattle.pv_script.specs.LiveView.{live_script_of, HasPlans};
 ghost use Rattle.pv_script.specs.Said.{nothing_beside, before_with, before_of, IsLimited};
-ghost use Rattle.pv_script.specs.ScriptKinds.{kind_of};
+ghost use Rattle.pv_script.specs.ScriptKinds.{script_of};
 ghost use Rattle.pv_script.specs.TakesLine.{TakesLine};
 ghost use Rattle.pv_script.specs.ScheduleView.{schedule_of, HasPlan};
 
@@ -82,9 +82,9 @@ pub fn read_live(alloc: Global, text: &[u8]) -> Result<LiveScript, ScriptError>
 fn read_first(alloc: Global, script: Script, lines: &mut Lines) -> Result<Said, ScriptError>
     ensures declares { IfOk result (λ said. (number : ℕ) × (line : List ℕ)
         × (lines.old.numbered ≡ (number, line) ∷ lines.new.numbered)
-        × Declares (model.at_first (kind_of script)) line (before_with (nothing_beside (kind_of script)) said)) }
+        × Declares (model.at_first (script_of script)) line (before_with (nothing_beside (script_of script)) said)) }
     ensures limited { IfOk result IsLimited }
-    ensures fault { (text : List ℕ) → IfErr result (λ error. lines.old ≡ unread text → IfSome (refused_line error) (IsMalformedIn (kind_of script) text)) }
+    ensures fault { (text : List ℕ) → IfErr result (λ error. lines.old ≡ unread text → IfSome (refused_line error) (IsMalformedIn (script_of script) text)) }
 {
     let Some(line) = lines.next() else {
         return Err(ScriptError::Malformed {

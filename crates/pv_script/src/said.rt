@@ -14,7 +14,7 @@ ghost use Rattle.pv_script.specs.LineFaults.{texts, IsLineFault};
 ghost use Rattle.pv_script.specs.Keywords.{spelled};
 ghost use Rattle.pv_script.specs.Said.{Beside, nothing_beside, before_with, before_of, IsLimited, IsHead, IsProgramLine};
 ghost use Rattle.pv_script.specs.ScheduleView.{event_of, HasPlan};
-ghost use Rattle.pv_script.specs.ScriptKinds.{kind_of};
+ghost use Rattle.pv_script.specs.ScriptKinds.{script_of};
 
 use crate::arguments::{count_in, event_in, limit_in};
 use crate::fault::Fault;
@@ -55,9 +55,9 @@ pub struct Runnable {
 impl Said {
     /// What the first line says.
     pub fn first(alloc: Global, script: Script, line: &[u8]) -> Result<Said, Fault>
-        ensures declares { IfOk result (λ said. Declares (model.at_first (kind_of script)) line.now (before_with (nothing_beside (kind_of script)) said)) }
+        ensures declares { IfOk result (λ said. Declares (model.at_first (script_of script)) line.now (before_with (nothing_beside (script_of script)) said)) }
         ensures limited { IfOk result IsLimited }
-        ensures fault { IfErr result (IsLineFault (model.at_first (kind_of script)) line.now) }
+        ensures fault { IfErr result (IsLineFault (model.at_first (script_of script)) line.now) }
     {
         let words = words_in(alloc, script, line)?;
         let sites = sites_in(&words)?;
@@ -201,8 +201,8 @@ impl Said {
 
 /// The words of a line of such a script, if it is short and printable.
 pub fn words_in<'a>(alloc: Global, script: Script, line: &'a [u8]) -> Result<Vec<&'a [u8]>, Fault>
-    ensures words { IfOk result (λ found. IsText (form.most_bytes (kind_of script)) line.now × (texts found.items ≡ written.words line.now)) }
-    ensures fault { (before : model.Before) → before.script ≡ kind_of script → IfErr result (IsLineFault before line.now) }
+    ensures words { IfOk result (λ found. IsText (form.most_bytes (script_of script)) line.now × (texts found.items ≡ written.words line.now)) }
+    ensures fault { (before : model.Before) → before.script ≡ script_of script → IfErr result (IsLineFault before line.now) }
 {
     if line.len() > script.most_bytes() {
         return Err(Fault::At(LineCause::TooLong));

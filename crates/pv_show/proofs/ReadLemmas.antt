@@ -5,7 +5,7 @@ use Rattle.std.proofs.lemmas.Bool.{ne_eqb}
 use Rattle.std.proofs.lemmas.Bool.Decides.{eqb_tells}
 use Rattle.pv_base.specs.Fault.{Rose, risen}
 use Rattle.pv_disk.specs.BayModel.{BayModel, Berth}
-use Rattle.pv_law_disk.specs.DiskModel.{DiskModel}
+use Rattle.pv_disk_model.specs.DiskModel.{DiskModel}
 use Rattle.pv_show.specs.Bays.{IsAtRest, OnlyReadsDisks, ReadsDisk, none, one_more, not_handed_out}
 
 same-or-not : (m n : ℕ) → (m ≡ n) ⊎ (m ≢ n)

@@ -10,9 +10,9 @@ use Rattle.pv_disk.specs.declared.disk_error.LookError.{LookError}
 use Rattle.pv_disk.specs.declared.disk_error.LookError.TheVariants.{Failed, NotOurs, NoMemory}
 use Rattle.pv_journal.specs.Opening.{contents_in, place_in}
 use Rattle.pv_journal.specs.Reading.{LooksBy}
-use Rattle.pv_law_disk.specs.Calls.{OnlyReads}
-use Rattle.pv_law_disk.specs.DiskModel.{DiskModel}
-use Rattle.pv_law_journal.specs.Format.{IsJournal, IsNotOurs}
+use Rattle.pv_disk_model.specs.Calls.{OnlyReads}
+use Rattle.pv_disk_model.specs.DiskModel.{DiskModel}
+use Rattle.pv_format.specs.Journal.{IsJournal, IsNotOurs}
 use Rattle.pv_show.specs.Bays.{ReadsDisk}
 use Rattle.pv_show.specs.LookText.{IsToldOfLook}
 use Rattle.pv_show.specs.Showing.{ShowsFirst, ShowsSite}

@@ -4,8 +4,8 @@ use Rattle.pv_base.specs.Fault.{Rose}
 use Rattle.pv_disk.specs.BayAnswers.{Asks, HandsOut, TakesBack}
 use Rattle.pv_disk.specs.BayModel.{BayModel}
 use Rattle.pv_disk.specs.declared.bay_error.BayError.{BayError}
-use Rattle.pv_law_disk.specs.Calls.{OnlyReads}
-use Rattle.pv_law_disk.specs.DiskModel.{DiskModel}
+use Rattle.pv_disk_model.specs.Calls.{OnlyReads}
+use Rattle.pv_disk_model.specs.DiskModel.{DiskModel}
 use Rattle.pv_show.specs.declared.show_error.ShowError.{ShowError}
 use Rattle.pv_show.specs.declared.show_error.ShowError.TheVariants.{BayFault}
 

@@ -3,7 +3,7 @@ use Rattle.std.specs.Prelude.{◌≡◌, ◌⊎◌, ℕ, zero, suc, List, [], �
 use Rattle.pv_base.specs.Catalog.{Declared}
 use Rattle.pv_base.specs.Fault.{Rose}
 use Rattle.pv_disk.specs.BayModel.{BayModel}
-use Rattle.pv_law_disk.specs.DiskModel.{DiskModel}
+use Rattle.pv_disk_model.specs.DiskModel.{DiskModel}
 use Rattle.pv_show.specs.Bays.{ReadsDisk}
 use Rattle.pv_show.specs.SiteText.{Found, IsFoundIn, IsTold, failure_text}
 

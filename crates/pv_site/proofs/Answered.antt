@@ -10,12 +10,12 @@ use Rattle.pv_protocol.specs.State as model
 use Rattle.pv_protocol.specs.State.{Running}
 use Rattle.pv_site.proofs.Tied.{kept, stepped}
 use Rattle.pv_site.specs.Answer.{IsAnswer}
-use Rattle.pv_site.specs.Parts.{AreKept, AreTied, HaveStepped, StepParts, here_of}
+use Rattle.pv_site.specs.SiteParts.{AreKept, AreTied, HaveStepped, StepParts, here_of}
 use Rattle.pv_site.specs.Values.{note_of, outgoing_of}
 use Rattle.pv_site.specs.declared.input.Note.{Note}
 use Rattle.pv_site.specs.declared.input.Outgoing.{Outgoing}
 use Rattle.pv_site.specs.declared.input.Step.{Step}
-use Rattle.pv_site.specs.declared.parts.Parts.{Parts}
+use Rattle.pv_site.specs.declared.parts.SiteParts.{SiteParts}
 use Rattle.pv_wire.specs.Values.{message_of}
 use Rattle.pv_wire.specs.declared.message.Message.{Message}
 
@@ -30,7 +30,7 @@ abbrev pub saying : Running → List model.Outgoing → List model.Note → mode
 saying running sends notes = record { running = running; appended = None; sends = sends; notes = notes; placed = None }
 
 -- The parts hold what they held, perhaps in other room.
-module _ (old new : Parts) (same : AreKept old new) where
+module _ (old new : SiteParts) (same : AreKept old new) where
   kept-stepped : (step : model.Step) → step.appended ≡ None → step.running ≡ (here_of old).running → HaveStepped old new step
   kept-stepped step none is =
       stepped old new step none (same.here ∙ ap (λ (running : Running). record (here_of old) { running = running }) (sym is)) same.tied
@@ -94,7 +94,7 @@ module _ (old new : Parts) (same : AreKept old new) where
       unlocked is
 
 -- The same where nothing changes at all.
-module _ (parts : Parts) (tied : AreTied parts) where
+module _ (parts : SiteParts) (tied : AreTied parts) where
   pub with-nothing : (answer : Step) (step : model.Step) → Says answer [] [] None → step ≡ nothing (here_of parts) → HaveStepped parts parts step × IsAnswer answer step
   with-nothing answer step says is = keeping-nothing parts parts (kept parts tied) answer step says is
 

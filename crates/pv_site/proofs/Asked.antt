@@ -14,8 +14,8 @@ use Rattle.pv_protocol.specs.Outcome.{at_known, is_issued, on_ask, works_on}
 use Rattle.pv_protocol.specs.Records.{known}
 use Rattle.pv_protocol.specs.State as model
 use Rattle.pv_site.proofs.Entries.{entry-of, entry_in}
-use Rattle.pv_site.specs.Parts.{AreTied, here_of}
-use Rattle.pv_site.specs.declared.parts.Parts.{Parts}
+use Rattle.pv_site.specs.SiteParts.{AreTied, here_of}
+use Rattle.pv_site.specs.declared.parts.SiteParts.{SiteParts}
 
 some-map : (found : Option Work) → is_some (option_map entry_in found) ≡ is_some found
 some-map None = refl
@@ -47,7 +47,7 @@ module _ (here : Here) (from : ℕ) (txn : TxnId) where
   told (Some false) false either = refl
   told (Some false) true either = ⊎_elim (λ commits. absurd (false≢true commits)) (λ works-is. absurd (false≢true (sym works-is))) either
 
-module _ (parts : Parts) (tied : AreTied parts) (from : ℕ) (txn : TxnId) where
+module _ (parts : SiteParts) (tied : AreTied parts) (from : ℕ) (txn : TxnId) where
   issued-is : own.is_issued parts.coord.contents txn ≡ is_issued (here_of parts) txn
   issued-is =
       ap (λ (site : ℕ). (site == txn.site.0) && (nat_lt txn.epoch parts.coord.contents.epoch || ((txn.epoch == parts.coord.contents.epoch) && nat_lt txn.number parts.coord.contents.next))) tied.coord_site

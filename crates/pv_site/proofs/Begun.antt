@@ -21,10 +21,10 @@ use Rattle.pv_protocol.specs.State as model
 use Rattle.pv_protocol.specs.State.{began, spent}
 use Rattle.pv_site.proofs.Tied.{here-beginning, stepped, tied-beginning}
 use Rattle.pv_site.specs.Answer.{IsAnswer}
-use Rattle.pv_site.specs.Parts.{AreTied, HaveStepped, IsWorkOf, here_of}
+use Rattle.pv_site.specs.SiteParts.{AreTied, HaveStepped, IsWorkOf, here_of}
 use Rattle.pv_site.specs.Values.{note_of, outgoing_of}
 use Rattle.pv_site.specs.declared.input.Step.{Step}
-use Rattle.pv_site.specs.declared.parts.Parts.{Parts}
+use Rattle.pv_site.specs.declared.parts.SiteParts.{SiteParts}
 
 -- A work that begins is one of the site.
 begun-is : (catalog : Declared) (records : List Record) (txn : TxnId) (program : Program) → IsWorkOf catalog records (begun txn program (plan_of program catalog.items))
@@ -46,7 +46,7 @@ given-by : {X : Type 0} (b : Bool) (x y : X) → (if b then Some Spent else None
 given-by true x y is = absurd (let no : ⊥ = cc in no)
 given-by false x y is = refl
 
-module _ (parts : Parts) (tied : AreTied parts) (program : Program) where
+module _ (parts : SiteParts) (tied : AreTied parts) (program : Program) where
   -- No number is left.
   pub submit-spent : refusal_of parts.coord.contents ≡ Some Spent → on_submit (here_of parts) program ≡ noting (here_of parts) spent
   unfolding on_submit

@@ -9,10 +9,10 @@ use Rattle.pv_coord.specs.Coordinator.{CoordMemory, voting_work, without_work}
 use Rattle.pv_coord.specs.Work.{Work}
 use Rattle.pv_format.specs.Record.{outcome_known}
 use Rattle.pv_format.specs.RecordSpelling.{SpellsRecord}
-use Rattle.pv_law_disk.specs.Calls.{Makes}
-use Rattle.pv_law_disk.specs.Log.{Adds, Keeps, StaysUp}
-use Rattle.pv_law_disk.specs.LogModel.{LogModel}
-use Rattle.pv_law_disk.proofs.LogLemmas.{Keeps-refl}
+use Rattle.pv_disk_model.specs.Calls.{Makes}
+use Rattle.pv_disk_model.specs.Log.{Adds, Keeps, StaysUp}
+use Rattle.pv_disk_model.specs.LogModel.{LogModel}
+use Rattle.pv_disk_model.proofs.LogLemmas.{Keeps-refl}
 use Rattle.pv_law_format.proofs.RangeLemmas.{record-spelled}
 use Rattle.pv_law_step.proofs.Kept.{find-of}
 use Rattle.pv_law_step.proofs.Lists.{of-some}
@@ -36,16 +36,16 @@ use Rattle.pv_site.specs.Answer.{IsAnswer}
 use Rattle.pv_site.specs.Calls.{append_calls}
 use Rattle.pv_site.specs.LastVote.{deciding}
 use Rattle.pv_site.specs.OnLog.{AreReady, StepsOnLog}
-use Rattle.pv_site.specs.Parts.{AreKept, AreTied, HaveStepped, here_of, running_of}
+use Rattle.pv_site.specs.SiteParts.{AreKept, AreTied, HaveStepped, here_of, running_of}
 use Rattle.pv_site.specs.Room.{Writes}
 use Rattle.pv_site.specs.declared.appending.Written.TheVariants as written
 use Rattle.pv_site.specs.declared.error.StepError.{StepError}
 use Rattle.pv_site.specs.declared.error.StepError.TheVariants.{NoMemory}
 use Rattle.pv_site.specs.declared.input.Step.{Step}
-use Rattle.pv_site.specs.declared.parts.Parts.{Parts}
+use Rattle.pv_site.specs.declared.parts.SiteParts.{SiteParts}
 use Rattle.pv_store.specs.Kept.{Kept}
 
-module _ (parts : Parts) (tied : AreTied parts) (txn : TxnId) (work : Work) (is : voting_work parts.coord.contents txn ≡ Some work) where
+module _ (parts : SiteParts) (tied : AreTied parts) (txn : TxnId) (work : Work) (is : voting_work parts.coord.contents txn ≡ Some work) where
   pub voting-entry : of_txn (λ (e : Entry). e.txn) txn (here_of parts).running.entries ≡ Some work.entry
   voting-entry = entry-found parts tied (λ (w : Work). not (is_locking w.entry.stage)) txn work is
 
@@ -55,8 +55,8 @@ module _ (parts : Parts) (tied : AreTied parts) (txn : TxnId) (work : Work) (is 
       → locks ≡ table.without_grant parts.locks txn
       → HaveStepped parts (record parts { store = store; coord = coord; locks = locks }) (committing (here_of parts) work.entry)
   committed-steps store coord locks site catalog records gone ended =
-      let first : Parts = record parts { store = store } in
-      let second : Parts = record first { coord = coord } in
+      let first : SiteParts = record parts { store = store } in
+      let second : SiteParts = record first { coord = coord } in
       let first_tied : AreTied first = tied-more parts store (outcome_known txn true) tied site catalog records in record {
         here = ap (λ (l : LockTable). record (here_of second) { running = running_of l coord.contents }) ended
             ∙ ap (λ (h : Here). record h { running = without_grant h.running txn }) (here-without first first_tied coord txn gone)
@@ -68,7 +68,7 @@ module _ (parts : Parts) (tied : AreTied parts) (txn : TxnId) (work : Work) (is 
         tied = tied-locks second (tied-without first first_tied coord txn gone) locks (ap (λ (l : LockTable). l.epoch) ended);
       }
 
-module _ {W : Type 0} (M : LogModel W) (log_old log_new : W) (parts : Parts) (ready : AreReady M log_old parts)
+module _ {W : Type 0} (M : LogModel W) (log_old log_new : W) (parts : SiteParts) (ready : AreReady M log_old parts)
     (txn : TxnId) (work : Work) (is : voting_work parts.coord.contents txn ≡ Some work) where
   tied : AreTied parts
   tied = ready.sound.tied
@@ -105,7 +105,7 @@ module _ {W : Type 0} (M : LogModel W) (log_old log_new : W) (parts : Parts) (re
       ∙ ap (λ (n : ℕ). refusing (here_of parts) work.entry (journal_full parts.me.0 n)) same
 
   -- The record is in the log.
-  pub commit-recorded : (new : Parts) (answer : Step) → Writes M log_old log_new (outcome_known txn true) (Ok written.Done)
+  pub commit-recorded : (new : SiteParts) (answer : Step) → Writes M log_old log_new (outcome_known txn true) (Ok written.Done)
       → HaveStepped parts new (committing (here_of parts) work.entry) → IsAnswer answer (committing (here_of parts) work.entry)
       → StepsOnLog M log_old log_new parts new (deciding (here_of parts) work.entry) (Ok answer)
   commit-recorded new answer wrote stepped answered =
@@ -119,7 +119,7 @@ module _ {W : Type 0} (M : LogModel W) (log_old log_new : W) (parts : Parts) (re
       )
 
   -- The record could not be written.
-  pub commit-failed : (new : Parts) (error : StepError) → Writes M log_old log_new (outcome_known txn true) (Err error) → AreKept parts new
+  pub commit-failed : (new : SiteParts) (error : StepError) → Writes M log_old log_new (outcome_known txn true) (Err error) → AreKept parts new
       → StepsOnLog M log_old log_new parts new (deciding (here_of parts) work.entry) (Err error)
   commit-failed new error wrote kept =
       step-failed M log_old log_new parts new (outcome_known txn true) (deciding (here_of parts) work.entry)
@@ -127,7 +127,7 @@ module _ {W : Type 0} (M : LogModel W) (log_old log_new : W) (parts : Parts) (re
       error wrote kept
 
   -- There is no room in the log.
-  module _ (mid : Parts) (same : AreKept parts mid) (new : Parts) (length : ℕ) (wrote : Writes M log_old log_new (outcome_known txn true) (Ok (written.Full length))) where
+  module _ (mid : SiteParts) (same : AreKept parts mid) (new : SiteParts) (length : ℕ) (wrote : Writes M log_old log_new (outcome_known txn true) (Ok (written.Full length))) where
     pub commit-refused : (answer : Step) → HaveStepped mid new (refusing (here_of mid) work.entry (journal_full parts.me.0 length))
         × IsAnswer answer (refusing (here_of mid) work.entry (journal_full parts.me.0 length))
         → StepsOnLog M log_old log_new parts new (deciding (here_of parts) work.entry) (Ok answer)

@@ -6,10 +6,10 @@ use Rattle.pv_base.specs.Catalog.{Declared}
 use Rattle.pv_format.specs.Contents.{SpellRecords}
 use Rattle.pv_format.specs.Record.{Record, epoch_begun}
 use Rattle.pv_format.specs.RecordSpelling.{SpellsRecord}
-use Rattle.pv_law_disk.proofs.LogLemmas.{settled_since}
-use Rattle.pv_law_disk.specs.Log.{IsBeforeOrAfter}
-use Rattle.pv_law_disk.specs.LogModel.{LogModel}
-use Rattle.pv_law_disk.specs.Size.{Contents}
+use Rattle.pv_disk_model.proofs.LogLemmas.{settled_since}
+use Rattle.pv_disk_model.specs.Log.{IsBeforeOrAfter}
+use Rattle.pv_disk_model.specs.LogModel.{LogModel}
+use Rattle.pv_disk_model.specs.Size.{Contents}
 use Rattle.pv_law_format.proofs.AnswerLemmas.{one-record}
 use Rattle.pv_protocol.specs.State as model
 use Rattle.pv_protocol.specs.State.{Running, Input}

@@ -24,7 +24,7 @@ use Rattle.pv_protocol.specs.Here.{with_entry, without_entry}
 use Rattle.pv_protocol.specs.Keyed.{of_txn, with_one, without, AreInOrder}
 use Rattle.pv_protocol.specs.State.{Entry}
 use Rattle.pv_protocol.specs.Tick.{older, older_entries, lasting_entries, expired_entries}
-use Rattle.pv_site.specs.Parts.{running_of}
+use Rattle.pv_site.specs.SiteParts.{running_of}
 
 module _ {X Y : Type 0} (f : X → Y) where
   found-by : (b : Bool) (x : X) (rest : Option X) (other : Option Y) → other ≡ option_map f rest

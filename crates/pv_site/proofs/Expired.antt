@@ -27,11 +27,11 @@ use Rattle.pv_protocol.specs.Tick.{ask_sends, awaited, expired_entries, expiry_n
 use Rattle.pv_site.proofs.Entries.{after_tick, entry_in, expired-entries}
 use Rattle.pv_site.proofs.Tied.{here-tick, stepped, tied-tick}
 use Rattle.pv_site.specs.Answer.{IsAnswer}
-use Rattle.pv_site.specs.Parts.{AreTied, HaveStepped, here_of}
+use Rattle.pv_site.specs.SiteParts.{AreTied, HaveStepped, here_of}
 use Rattle.pv_site.specs.Refusals.{refusal_note, refusal_of, refusal_sends}
 use Rattle.pv_site.specs.Values.{note_of, outgoing_of}
 use Rattle.pv_site.specs.declared.input.Step.{Step}
-use Rattle.pv_site.specs.declared.parts.Parts.{Parts}
+use Rattle.pv_site.specs.declared.parts.SiteParts.{SiteParts}
 use Rattle.pv_store.specs.Kept.{IsStoreOf}
 
 -- In an order each is found for its transaction.
@@ -93,7 +93,7 @@ module _ (here : Here) (coord : Coordinator) where
       noted-by (not (nat_lt (work.entry.age + 1) TICKS)) work (own.expired (own.older works)) (all-head IsAtHand work works all)
       (expired-notes works (all-tail IsAtHand work works all))
 
-module _ (parts : Parts) (tied : AreTied parts) where
+module _ (parts : SiteParts) (tied : AreTied parts) where
   at-hand : All (IsAtHand (here_of parts) parts.coord.contents) parts.coord.contents.entries
   at-hand = λ k d within. record {
     found = all-found txn_of parts.coord.contents.entries tied.order k d within;

@@ -36,11 +36,11 @@ use Rattle.pv_site.proofs.TakenReads.{named-read, reads-apart, taken-with}
 use Rattle.pv_site.proofs.Tied.{here-with, planned-found, stepped, tied-with, work-found}
 use Rattle.pv_site.specs.Answer.{IsAnswer}
 use Rattle.pv_site.specs.LockPoint.{HasItsReads, IsComputed, IsTooMany, ReadApart}
-use Rattle.pv_site.specs.Parts.{AreSound, AreTied, HaveStepped, IsReplyOf, IsWorkOf, here_of}
+use Rattle.pv_site.specs.SiteParts.{AreSound, AreTied, HaveStepped, IsReplyOf, IsWorkOf, here_of}
 use Rattle.pv_site.specs.Shares.{prepares}
 use Rattle.pv_site.specs.Values.{note_of, outgoing_of}
 use Rattle.pv_site.specs.declared.input.Step.{Step}
-use Rattle.pv_site.specs.declared.parts.Parts.{Parts}
+use Rattle.pv_site.specs.declared.parts.SiteParts.{SiteParts}
 
 -- What an arrival says of its tests.
 
@@ -86,7 +86,7 @@ no-reply : (records : List Record) (entry : Entry) (reply : Option (List (Case R
 no-reply records entry None is = tt
 no-reply records entry (Some reply) is = absurd (true≢false is)
 
-module _ (parts : Parts) (tied : AreTied parts) (txn : TxnId) (new : Taken) where
+module _ (parts : SiteParts) (tied : AreTied parts) (txn : TxnId) (new : Taken) where
   abbrev here : Here
   here = here_of parts
 

@@ -7,13 +7,13 @@ use Rattle.pv_disk.specs.ListLaws.{list_model}
 use Rattle.pv_disk.specs.ListLog.{AppendsToList, ListGoes, ListState, planned}
 use Rattle.pv_disk.specs.declared.list_log.AppendFail.{AppendFail}
 use Rattle.pv_format.specs.Record.{Record}
-use Rattle.pv_law_disk.specs.Calls.{LogCall, Makes, append, read_all, reserve}
+use Rattle.pv_disk_model.specs.Calls.{LogCall, Makes, append, read_all, reserve}
 use Rattle.pv_protocol.specs.State as model
 use Rattle.pv_protocol.specs.State.{Running}
 use Rattle.pv_protocol.specs.Step.{step_on}
 use Rattle.pv_site.proofs.LogLemmas.{calls-made}
 use Rattle.pv_site.specs.Calls.{AsksFor, FailsToAppend, MayReserve, append_calls}
-use Rattle.pv_site.specs.Lists.{HasNoFault, IsReadable, log_left}
+use Rattle.pv_site.specs.Lists.{HasNoFault, IsReadable, log_after}
 use Rattle.pv_site.specs.OnLog.{Logs}
 use Rattle.pv_site.specs.Opens.{Opens}
 use Rattle.pv_site.specs.SiteState.{SiteState, here_with}
@@ -95,7 +95,7 @@ module _ (old new : SiteState ListState) where
   lists-step input result made = (plan-stepped old.running input result made, steps-unfailing old.running input result made)
 
 module _ (old : ListState) (me : ℕ) (catalog : Declared) where
-  plan-opened : (result : Result (SiteState ListState) (OpenError ListState)) → Opens list_model old me catalog result → (log_left result).fails ≡ old.fails
+  plan-opened : (result : Result (SiteState ListState) (OpenError ListState)) → Opens list_model old me catalog result → (log_after result).fails ≡ old.fails
   plan-opened (Ok site) opened = plans-kept old (read_all ∷ append_calls opened.content) true site.log opened.calls
   plan-opened (Err (Failed log)) failed =
       ⊎_elim (λ unread. plan-kept old log read_all false unread.call)
@@ -123,5 +123,5 @@ module _ (old : ListState) (me : ℕ) (catalog : Declared) where
 
   -- An opening leaves the plan, and where nothing is planned the log doesn't fail.
   pub lists-open : (result : Result (SiteState ListState) (OpenError ListState)) → Opens list_model old me catalog result
-      → ((log_left result).fails ≡ old.fails) × (old.fails ≡ [] → IsReadable result)
+      → ((log_after result).fails ≡ old.fails) × (old.fails ≡ [] → IsReadable result)
   lists-open result opened = (plan-opened result opened, opens-unfailing result opened)

@@ -26,10 +26,10 @@ use Rattle.pv_protocol.specs.State.{Grant, spent}
 use Rattle.pv_site.proofs.Entries.{found-txn}
 use Rattle.pv_site.proofs.Tied.{stepped, tied-locks}
 use Rattle.pv_site.specs.Answer.{IsAnswer}
-use Rattle.pv_site.specs.Parts.{AreKept, AreTied, HaveStepped, here_of}
+use Rattle.pv_site.specs.SiteParts.{AreKept, AreTied, HaveStepped, here_of}
 use Rattle.pv_site.specs.Values.{note_of, outgoing_of}
 use Rattle.pv_site.specs.declared.input.Step.{Step}
-use Rattle.pv_site.specs.declared.parts.Parts.{Parts}
+use Rattle.pv_site.specs.declared.parts.SiteParts.{SiteParts}
 
 -- The same wants have the same values.
 same-values : (here : Here) (wants others : List Want) → are_same_wants wants others ≡ true → values_of here wants ≡ values_of here others
@@ -54,7 +54,7 @@ IsLockStep here txn wants (Ok (Fresh grant)) step =
 IsLockStep here txn wants (Err error.Spent) step = step ≡ noting here spent
 IsLockStep here txn wants (Err error.NoMemory) step = ⊤
 
-module _ (parts : Parts) (txn : TxnId) (wants : List Want) where
+module _ (parts : SiteParts) (txn : TxnId) (wants : List Want) where
   abbrev here : Here
   here = here_of parts
 

@@ -6,11 +6,11 @@ use Rattle.std.proofs.lemmas.List.{append-nil}
 use Rattle.pv_format.specs.Contents.{SpellRecords}
 use Rattle.pv_format.specs.Record.{Record}
 use Rattle.pv_format.specs.RecordSpelling.{SpellsRecord}
-use Rattle.pv_law_disk.specs.Calls.{Makes, reserve, append}
-use Rattle.pv_law_disk.specs.Log.{Keeps, Adds, MayAdd, StaysUp, GoesDown}
-use Rattle.pv_law_disk.specs.LogModel.{LogModel}
-use Rattle.pv_law_disk.specs.Size.{Contents}
-use Rattle.pv_law_disk.proofs.LogLemmas.{settled_since, Keeps-refl}
+use Rattle.pv_disk_model.specs.Calls.{Makes, reserve, append}
+use Rattle.pv_disk_model.specs.Log.{Keeps, Adds, MayAdd, StaysUp, GoesDown}
+use Rattle.pv_disk_model.specs.LogModel.{LogModel}
+use Rattle.pv_disk_model.specs.Size.{Contents}
+use Rattle.pv_disk_model.proofs.LogLemmas.{settled_since, Keeps-refl}
 use Rattle.pv_law_format.proofs.LengthLemmas.{record-length}
 use Rattle.pv_law_step.proofs.JournalLemmas.{journal-more}
 use Rattle.pv_site.specs.Calls.{append_calls, FailsToAppend, MayReserve}

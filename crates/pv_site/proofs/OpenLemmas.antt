@@ -15,8 +15,8 @@ use Rattle.pv_format.specs.Range.{IsRecordInRange}
 use Rattle.pv_format.specs.RecordSpelling.{SpellsRecord}
 use Rattle.std.proofs.lemmas.Bool.Decides.{nat_tests}
 use Rattle.pv_format.specs.Record.{Record, epoch_begun, prepared, outcome_known}
-use Rattle.pv_law_disk.specs.Size.{Contents, size_of}
-use Rattle.pv_law_disk.specs.LogModel.{LogModel}
+use Rattle.pv_disk_model.specs.Size.{Contents, size_of}
+use Rattle.pv_disk_model.specs.LogModel.{LogModel}
 use Rattle.pv_law_format.proofs.LengthLemmas.{record-length}
 use Rattle.pv_law_format.proofs.RangeLemmas.{record-from, record-spelled}
 use Rattle.pv_model.specs.Alternatives.{Read}
@@ -31,9 +31,9 @@ use Rattle.pv_coord.specs.Work.{txn_of}
 use Rattle.pv_locks.specs.LockTable.{LockTable}
 use Rattle.pv_protocol.specs.Keyed.{AreInOrder}
 use Rattle.pv_protocol.specs.Start.{just_started}
-use Rattle.pv_site.specs.Parts.{here_of, running_of, AreTied, IsWorkOf}
+use Rattle.pv_site.specs.SiteParts.{here_of, running_of, AreTied, IsWorkOf}
 use Rattle.pv_site.specs.SiteState.{setup_of}
-use Rattle.pv_site.specs.declared.parts.Parts.{Parts}
+use Rattle.pv_site.specs.declared.parts.SiteParts.{SiteParts}
 use Rattle.pv_store.specs.Refusals.{first_too_many, first_too_many_after, if_too_many, names_count, site_items, too_many_in, width}
 
 sizes : (records : List Record) (contents : Contents) → SpellRecords records contents
@@ -169,7 +169,7 @@ up-to P n below here i within = by (nat_lt i n) refl where
   by false is = let same : i ≡ n = omega (arith, within, ltb-false i n is) in subst P (sym same) here
 
 -- A site that has just begun, with a catalog, locks, a coordinator and a store that are made of these.
-module _ (me : SiteId) (epoch : ℕ) (declared : Declared) (recorded : List Record) (parts : Parts) where
+module _ (me : SiteId) (epoch : ℕ) (declared : Declared) (recorded : List Record) (parts : SiteParts) where
   pub record HaveBegun : Type 0 where
     pub me_is : parts.me ≡ me
     pub catalog : parts.catalog ≡ declared

@@ -15,7 +15,7 @@ use Rattle.pv_base.specs.declared.txn.SiteId.{SiteId}
 use Rattle.pv_base.specs.declared.txn.TxnId.{TxnId}
 use Rattle.pv_format.specs.Message as message
 use Rattle.pv_format.specs.Record.{Record, prepared}
-use Rattle.pv_law_disk.specs.LogModel.{LogModel}
+use Rattle.pv_disk_model.specs.LogModel.{LogModel}
 use Rattle.pv_law_step.proofs.Appended.{grant-txn}
 use Rattle.pv_law_step.proofs.Kept.{find-of}
 use Rattle.pv_law_step.proofs.Lists.{all-from, of-some}
@@ -40,12 +40,12 @@ use Rattle.pv_site.specs.declared.appending.Written.TheVariants as written
 use Rattle.pv_wire.specs.declared.message.Message.TheVariants.{Yes, No}
 use Rattle.pv_wire.specs.declared.message.NoCause.TheVariants.{JournalFull}
 use Rattle.pv_site.specs.OnLog.{AreReady, Logs, StepsOnLog}
-use Rattle.pv_site.specs.Parts.{here_of, running_of, AreKept, AreSound, AreTied, HaveStepped}
+use Rattle.pv_site.specs.SiteParts.{here_of, running_of, AreKept, AreSound, AreTied, HaveStepped}
 use Rattle.pv_site.specs.Room.{Writes}
 use Rattle.pv_site.specs.Values.{note_of, outgoing_of}
 use Rattle.pv_site.specs.declared.error.StepError.{StepError}
 use Rattle.pv_site.specs.declared.input.Step.{Step}
-use Rattle.pv_site.specs.declared.parts.Parts.{Parts}
+use Rattle.pv_site.specs.declared.parts.SiteParts.{SiteParts}
 use Rattle.pv_store.specs.Kept.{Kept}
 use Rattle.pv_wire.specs.Values.{message_of}
 use Rattle.pv_wire.specs.declared.message.Message.{Message}
@@ -59,14 +59,14 @@ module _ {W : Type 0} (M : LogModel W) (log : W) where
   unlogged (Some more) is = absurd (let wrong : ⊥ = cc in wrong)
 
   -- Nothing happens.
-  pub plain-nothing : (parts : Parts) → AreTied parts → (answer : Step) (step : model.Step) → Says answer [] [] None → step ≡ nothing (here_of parts)
+  pub plain-nothing : (parts : SiteParts) → AreTied parts → (answer : Step) (step : model.Step) → Says answer [] [] None → step ≡ nothing (here_of parts)
       → StepsOnLog M log log parts parts step (Ok answer)
   plain-nothing parts tied answer step says is =
       let made = with-nothing parts tied answer step says is in
       (made.0, made.1, unlogged step.appended (ap (λ (s : model.Step). s.appended) is))
 
   -- One message is sent.
-  pub plain-message : (parts : Parts) → AreTied parts → (to : SiteId) (message : Message) (answer : Step) (step : model.Step)
+  pub plain-message : (parts : SiteParts) → AreTied parts → (to : SiteId) (message : Message) (answer : Step) (step : model.Step)
       → Says answer (record { to = to; message = message } ∷ []) [] None
       → step ≡ sending (here_of parts).running (only_to to.0 (message_of message)) → StepsOnLog M log log parts parts step (Ok answer)
   plain-message parts tied to message answer step says is =
@@ -93,7 +93,7 @@ writes-home catalog me standing writes homes are =
     (Contains-map (λ (write : Read). write.item) writes write there)))
 
 -- A grant that stands is in range.
-pub standing-held : (parts : Parts) → AreSound parts → (txn : TxnId) (standing : Grant) → table.grant_of parts.locks txn ≡ Some standing
+pub standing-held : (parts : SiteParts) → AreSound parts → (txn : TxnId) (standing : Grant) → table.grant_of parts.locks txn ≡ Some standing
     → IsHeldInRange MAX_SITES parts.catalog parts.me.0 standing
 standing-held parts sound txn standing is =
     of-some (IsHeldInRange MAX_SITES parts.catalog parts.me.0) (table.grant_of parts.locks txn) standing
@@ -156,7 +156,7 @@ renewed-is grants (Some grant) standing is =
     let same : grant ≡ standing = cc in
     ap (λ (g : Grant). with_one (λ (grant : Grant). grant.txn) (record g { age = 0 }) grants) same
 
-module _ (parts : Parts) (tied : AreTied parts) (txn : TxnId) (standing : Grant) (stands : table.grant_of parts.locks txn ≡ Some standing) (writes : List Read) where
+module _ (parts : SiteParts) (tied : AreTied parts) (txn : TxnId) (standing : Grant) (stands : table.grant_of parts.locks txn ≡ Some standing) (writes : List Read) where
   txn-is : txn ≡ standing.txn
   txn-is = grant-txn (here_of parts).running txn standing stands
 
@@ -184,7 +184,7 @@ module _ (parts : Parts) (tied : AreTied parts) (txn : TxnId) (standing : Grant)
       → list_any (λ (write : Read). would_be_wide (here_of parts) (prepared standing.txn writes) write.item) writes ≡ b
   wide-is b is = subst (λ (t : TxnId). list_any (λ (write : Read). would_be_wide (here_of parts) (prepared t writes) write.item) writes ≡ b) txn-is is
 
-  module _ {W : Type 0} (M : LogModel W) (log_old log_new : W) (new : Parts) (right : are_writes_of standing writes ≡ true) where
+  module _ {W : Type 0} (M : LogModel W) (log_old log_new : W) (new : SiteParts) (right : are_writes_of standing writes ≡ true) where
     -- A value would be too wide.
     pub too-wide : AreKept parts new → list_any (λ (write : Read). would_be_wide (here_of parts) (prepared txn writes) write.item) writes ≡ true
         → log_new ≡ log_old → (answer : Step) → Says answer [] [] None → StepsOnLog M log_old log_new parts new (with_writes (here_of parts) standing writes) (Ok answer)

@@ -4,7 +4,7 @@ use Rattle.std.specs.Prelude.{All, if◌then◌else◌}
 use Rattle.std.proofs.lemmas.Bool.{le-ltb}
 use Rattle.pv_base.specs.declared.txn.TxnId.{TxnId}
 use Rattle.pv_format.specs.Record.{Record, outcome_known}
-use Rattle.pv_law_disk.specs.LogModel.{LogModel}
+use Rattle.pv_disk_model.specs.LogModel.{LogModel}
 use Rattle.pv_locks.specs.LockTable as table
 use Rattle.pv_locks.specs.LockTable.{LockTable}
 use Rattle.pv_part.specs.Cases.{IsOutcomeStep}
@@ -24,11 +24,11 @@ use Rattle.pv_site.specs.declared.appending.Written.TheVariants as written
 use Rattle.pv_site.specs.declared.error.StepError.{StepError}
 use Rattle.pv_site.specs.declared.error.StepError.TheVariants.{Fault, Down, NoMemory}
 use Rattle.pv_site.specs.declared.input.Step.{Step}
-use Rattle.pv_site.specs.Parts.{AreKept, AreTied, HaveStepped, IsWorkOf, here_of, running_of}
-use Rattle.pv_site.specs.declared.parts.Parts.{Parts}
+use Rattle.pv_site.specs.SiteParts.{AreKept, AreTied, HaveStepped, IsWorkOf, here_of, running_of}
+use Rattle.pv_site.specs.declared.parts.SiteParts.{SiteParts}
 use Rattle.pv_store.specs.Kept.{HasSameContents, Kept}
 
-module _ (parts : Parts) (tied : AreTied parts) (store : Kept) where
+module _ (parts : SiteParts) (tied : AreTied parts) (store : Kept) where
   -- The store has other room.
   pub kept-store : HasSameContents parts.store store → AreKept parts (record parts { store = store })
   kept-store same = record {
@@ -53,7 +53,7 @@ module _ (parts : Parts) (tied : AreTied parts) (store : Kept) where
     tied = tied-locks (record parts { store = store }) (tied-more parts store (outcome_known txn commits) tied site catalog records) locks (ap (λ (l : LockTable). l.epoch) ended);
   }
 
-module _ {W : Type 0} (M : LogModel W) (log_old log_new : W) (old new : Parts) where
+module _ {W : Type 0} (M : LogModel W) (log_old log_new : W) (old new : SiteParts) where
   -- Where the log has room for a record, the journal does.
   pub has-room : AreReady M log_old old → (more : Record) → M.size log_old + record_bytes more ≤ M.limit log_old → is_full (here_of old) more ≡ false
   has-room ready more fits = le-ltb old.catalog.journal (length_with (here_of old) more) (omega (arith, fits, ready.limit, ready.holds.size))

@@ -23,12 +23,12 @@ use Rattle.pv_protocol.specs.Vote.{at_no, cause_of, on_no}
 use Rattle.pv_site.proofs.Entries.{entry-of, entry_in, first-found, found-txn, locking-of, voting-of}
 use Rattle.pv_site.proofs.Tied.{here-without, planned-found, stepped, tied-without}
 use Rattle.pv_site.specs.Answer.{IsAnswer}
-use Rattle.pv_site.specs.Parts.{AreTied, HaveStepped, here_of}
+use Rattle.pv_site.specs.SiteParts.{AreTied, HaveStepped, here_of}
 use Rattle.pv_site.specs.Values.{note_of, outgoing_of}
 use Rattle.pv_site.specs.declared.input.Step.{Step}
-use Rattle.pv_site.specs.declared.parts.Parts.{Parts}
+use Rattle.pv_site.specs.declared.parts.SiteParts.{SiteParts}
 
-module _ (parts : Parts) (tied : AreTied parts) where
+module _ (parts : SiteParts) (tied : AreTied parts) where
   -- A work that is refused, where its participants are told so, and it is taken out.
   pub refusing-work : (coord : CoordMemory) (txn : TxnId) (cause : Cause) (work : Work) (answer : Step) → work_of parts.coord.contents txn ≡ Some work
       → coord.contents ≡ without_work parts.coord.contents txn

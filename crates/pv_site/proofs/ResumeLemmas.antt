@@ -6,7 +6,7 @@ use Rattle.pv_base.specs.declared.limits.TheConstants.{HELD_NAMES, MAX_SITES, NE
 use Rattle.pv_format.specs.Contents.{greatest_epoch}
 use Rattle.pv_format.specs.Range.{IsRecordInRange, IsRecordWithin}
 use Rattle.pv_format.specs.Record.{Record, epoch_begun}
-use Rattle.pv_law_disk.specs.LogModel.{LogModel}
+use Rattle.pv_disk_model.specs.LogModel.{LogModel}
 use Rattle.pv_law_step.proofs.EpochLemmas.{epoch-rises}
 use Rattle.pv_protocol.specs.Here.{Here}
 use Rattle.pv_protocol.specs.Records.{record_bytes}
@@ -17,7 +17,7 @@ use Rattle.pv_protocol.specs.Width.{IsNarrow}
 use Rattle.pv_site.proofs.LogLemmas.{holds-more}
 use Rattle.pv_site.proofs.StartLemmas.{starts-full, starts-not, starts-room}
 use Rattle.pv_site.specs.OnLog.{HoldsRecords}
-use Rattle.pv_site.specs.Parts.{AreSound, AreTied, here_of}
+use Rattle.pv_site.specs.SiteParts.{AreSound, AreTied, here_of}
 use Rattle.pv_site.specs.Recovered.{Remains}
 use Rattle.pv_site.specs.Resumes.{CanResume, FailsToResume, HasResumed, advanced_from, here_begun, next_epoch}
 use Rattle.pv_site.specs.Room.{Writes}
@@ -25,14 +25,14 @@ use Rattle.pv_site.specs.SiteState.{SiteState, setup_of}
 use Rattle.pv_site.specs.Steps.{HoldsWhatRuns, IsReady}
 use Rattle.pv_site.specs.declared.appending.Written.TheVariants as written
 use Rattle.pv_site.specs.declared.error.StepError.TheVariants.{Fault}
-use Rattle.pv_site.specs.declared.parts.Parts.{Parts}
+use Rattle.pv_site.specs.declared.parts.SiteParts.{SiteParts}
 
 -- The epoch that was recorded is the greatest.
 pub advanced-epoch : (left : Remains) → greatest_epoch (advanced_from left).records ≡ next_epoch left.records
 advanced-epoch left = epoch-rises left.records (next_epoch left.records) (omega arith)
 
 -- the site that runs over the log, made of these parts
-abbrev pub running_on : {W : Type 0} → W → Parts → ℕ → Bool → SiteState W
+abbrev pub running_on : {W : Type 0} → W → SiteParts → ℕ → Bool → SiteState W
 running_on log parts epoch first = record {
   me = parts.me.0;
   catalog = parts.catalog;
@@ -73,7 +73,7 @@ module _ {W : Type 0} (M : LogModel W) (old new : W) (left : Remains) (can : Can
       calls = wrote.2.3;
     }
 
-    module _ (wrote : Writes M old new (epoch_begun (next_epoch left.records)) (Ok written.Done)) (after : Remains) (same : after ≡ advanced_from left) (parts : Parts)
+    module _ (wrote : Writes M old new (epoch_begun (next_epoch left.records)) (Ok written.Done)) (after : Remains) (same : after ≡ advanced_from left) (parts : SiteParts)
         (here : here_of parts ≡ here_begun after) where
       -- What it has in memory and what its records are.
       begun-next : here_of parts ≡ record {

@@ -13,8 +13,8 @@ use Rattle.pv_model.specs.Alternatives.{rows_at}
 use Rattle.pv_model.specs.Meaning.{exec}
 use Rattle.pv_protocol.specs.Coordinate.{reads_of, reply_after}
 use Rattle.pv_protocol.specs.State.{Entry}
-use Rattle.pv_site.specs.Parts.{AreTied, IsReplyOf, IsWorkOf, here_of}
-use Rattle.pv_site.specs.declared.parts.Parts.{Parts}
+use Rattle.pv_site.specs.SiteParts.{AreTied, IsReplyOf, IsWorkOf, here_of}
+use Rattle.pv_site.specs.declared.parts.SiteParts.{SiteParts}
 use Rattle.pv_store.specs.Kept.{Kept}
 
 module _ (records : List Record) (more : Record) where
@@ -35,7 +35,7 @@ module _ (records : List Record) (more : Record) where
   work-more catalog work is = record { plan = is.plan; taken = is.taken; stage = is.stage; reply = reply-more work.entry work.reply is.reply }
 
 -- The same parts but for the store, which has one record more.
-module _ (parts : Parts) (store : Kept) (more : Record) where
+module _ (parts : SiteParts) (store : Kept) (more : Record) where
   pub tied-more : AreTied parts → store.site ≡ parts.store.site → store.catalog ≡ parts.store.catalog → store.records ≡ parts.store.records ++ more ∷ []
       → AreTied (record parts { store = store })
   tied-more tied site catalog records = record {

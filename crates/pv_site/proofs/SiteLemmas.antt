@@ -16,16 +16,16 @@ use Rattle.pv_protocol.specs.State.{Entry, Running}
 use Rattle.pv_protocol.specs.State as model
 use Rattle.pv_protocol.specs.Here.{Here}
 use Rattle.std.proofs.lemmas.Bool.{true≢false}
-use Rattle.pv_law_disk.specs.LogModel.{LogModel}
+use Rattle.pv_disk_model.specs.LogModel.{LogModel}
 use Rattle.pv_site.proofs.LogLemmas.{holds-after, limit-after}
 use Rattle.pv_site.specs.OnLog.{HoldsRecords, Logs}
 use Rattle.pv_site.specs.Steps.{IsReady}
 use Rattle.pv_site.proofs.Entries.{find-map}
 use Rattle.pv_site.specs.Asked.{entries_of, grant_taken, voting_at, IsIdle}
 use Rattle.pv_site.specs.SiteState.{here_with}
-use Rattle.pv_site.specs.Parts.{here_of, HaveStepped}
+use Rattle.pv_site.specs.SiteParts.{here_of, HaveStepped}
 use Rattle.pv_site.specs.SiteView.{running_unless, state_of, IsSite}
-use Rattle.pv_site.specs.declared.parts.Parts.{Parts}
+use Rattle.pv_site.specs.declared.parts.SiteParts.{SiteParts}
 use Rattle.pv_site.specs.declared.site.Site.TheInside.{Inside}
 
 no-map : {X Y : Type 0} (f : X → Y) (xs : List X) → map f xs ≡ [] → xs ≡ []
@@ -41,30 +41,30 @@ taken-map site None = refl
 taken-map site (Some work) = refl
 
 -- Whether a site works on a transaction, of one that is up.
-works-up : (parts : Parts) (txn : TxnId) → is_some (work_of parts.coord.contents txn) ≡ is_some (entry_in (Some (here_of parts).running) txn)
+works-up : (parts : SiteParts) (txn : TxnId) → is_some (work_of parts.coord.contents txn) ≡ is_some (entry_in (Some (here_of parts).running) txn)
 works-up parts txn =
     is-some-map (λ (work : Work). work.entry) (work_of parts.coord.contents txn)
     ∙ ap is_some (sym (find-map (λ (work : Work). work.entry) (λ (entry : Entry). is_same_txn txn entry.txn) parts.coord.contents.entries))
 
 -- A site that is down has no entries.
-pub works-in : (parts : Parts) (txn : TxnId) (down : Bool) → (down ≡ true → parts.coord.contents.entries ≡ [])
+pub works-in : (parts : SiteParts) (txn : TxnId) (down : Bool) → (down ≡ true → parts.coord.contents.entries ≡ [])
     → is_some (work_of parts.coord.contents txn) ≡ is_some (entry_in (running_unless down (here_of parts).running) txn)
 works-in parts txn false none = works-up parts txn
 works-in parts txn true none = ap (λ (works : List Work). is_some (find (λ (work : Work). is_same_txn txn work.entry.txn) works)) (none refl)
 
-votes-up : (parts : Parts) (txn : TxnId) (site : ℕ) → coord.grant_of (voting_work parts.coord.contents txn) site ≡ grant_taken site (voting_at (Some (here_of parts).running) txn)
+votes-up : (parts : SiteParts) (txn : TxnId) (site : ℕ) → coord.grant_of (voting_work parts.coord.contents txn) site ≡ grant_taken site (voting_at (Some (here_of parts).running) txn)
 votes-up parts txn site =
     taken-map site (voting_work parts.coord.contents txn)
     ∙ ap (grant_taken site)
     (sym (find-map (λ (work : Work). work.entry) (λ (entry : Entry). is_same_txn txn entry.txn && not (is_locking entry.stage)) parts.coord.contents.entries))
 
-pub votes-in : (parts : Parts) (txn : TxnId) (site : ℕ) (down : Bool) → (down ≡ true → parts.coord.contents.entries ≡ [])
+pub votes-in : (parts : SiteParts) (txn : TxnId) (site : ℕ) (down : Bool) → (down ≡ true → parts.coord.contents.entries ≡ [])
     → coord.grant_of (voting_work parts.coord.contents txn) site ≡ grant_taken site (voting_at (running_unless down (here_of parts).running) txn)
 votes-in parts txn site false none = votes-up parts txn site
 votes-in parts txn site true none =
     ap (λ (works : List Work). coord.grant_of (find (λ (work : Work). is_same_txn txn work.entry.txn && not (is_locking work.entry.stage)) works) site) (none refl)
 
-module _ {W : Type 0} (M : LogModel W) (inside : Inside W) (log : W) (parts : Parts) (step : model.Step) where
+module _ {W : Type 0} (M : LogModel W) (inside : Inside W) (log : W) (parts : SiteParts) (step : model.Step) where
   ready-by : (down : Bool) → inside.down ≡ down → down ≡ false → HaveStepped inside.parts parts step → Logs M inside.log log step.appended → M.is_intact log
       → IsReady M (state_of (record inside { down = down })) → IsReady M (state_of (record inside { log = log; parts = parts; down = down }))
   ready-by false is up stepped logged intact ready = record {

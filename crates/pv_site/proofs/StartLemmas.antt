@@ -6,8 +6,8 @@ use Rattle.pv_base.specs.Catalog.{Declared}
 use Rattle.pv_base.specs.declared.limits.TheConstants.{NEVER_GIVEN}
 use Rattle.pv_format.specs.Contents.{SpellRecords, greatest_epoch}
 use Rattle.pv_format.specs.Record.{Record, epoch_begun}
-use Rattle.pv_law_disk.specs.LogModel.{LogModel}
-use Rattle.pv_law_disk.proofs.LogLemmas.{Keeps-Adds, Keeps-MayAdd, Keeps-trans}
+use Rattle.pv_disk_model.specs.LogModel.{LogModel}
+use Rattle.pv_disk_model.proofs.LogLemmas.{Keeps-Adds, Keeps-MayAdd, Keeps-trans}
 use Rattle.pv_protocol.specs.Records.{journal_bytes, record_bytes}
 use Rattle.pv_protocol.specs.Start.{just_started, site_start, starting, starts, too_long, no_epoch}
 use Rattle.pv_protocol.specs.State.{Setup}

@@ -32,7 +32,7 @@ use Rattle.pv_protocol.specs.State.{Taken}
 use Rattle.pv_protocol.specs.WellFormed.{CanRun}
 use Rattle.pv_site.proofs.SortedReads.{ReadAscending, ascending-apart}
 use Rattle.pv_site.specs.LockPoint.{HasItsReads, ReadApart}
-use Rattle.pv_site.specs.Parts.{AreTakenFor}
+use Rattle.pv_site.specs.SiteParts.{AreTakenFor}
 
 -- Lists.
 

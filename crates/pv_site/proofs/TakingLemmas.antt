@@ -19,7 +19,7 @@ use Rattle.pv_base.specs.declared.txn.TxnId.{TxnId}
 use Rattle.pv_format.specs.MessageSpelling.{SpellsEnvelope}
 use Rattle.pv_format.specs.Range.{IsEnvelopeInRange}
 use Rattle.pv_law_format.proofs.RangeLemmas.{envelope-from}
-use Rattle.pv_law_disk.specs.LogModel.{LogModel}
+use Rattle.pv_disk_model.specs.LogModel.{LogModel}
 use Rattle.pv_protocol.specs.Here.{Here}
 use Rattle.pv_protocol.specs.Sound.{IsHereInRange, IsInputInRange}
 use Rattle.pv_protocol.specs.State as model
@@ -29,12 +29,12 @@ use Rattle.pv_site.specs.Inputs.{IsInputFor, IsSpelledFrom}
 use Rattle.pv_site.specs.OnLog.{StepsOnLog}
 use Rattle.pv_site.specs.declared.error.StepError.{StepError}
 use Rattle.pv_site.specs.declared.error.StepError.TheVariants.{Fault, Down, NoMemory}
-use Rattle.pv_site.specs.Parts.{here_of, AreKept, AreSound, HaveStepped}
+use Rattle.pv_site.specs.SiteParts.{here_of, AreKept, AreSound, HaveStepped}
 use Rattle.pv_site.specs.Values.{input_of, outgoing_of}
 use Rattle.pv_site.specs.declared.input.Input.{Input}
 use Rattle.pv_site.specs.declared.input.Input.TheVariants.{Submit, Take, Tick}
 use Rattle.pv_site.specs.declared.input.Step.{Step}
-use Rattle.pv_site.specs.declared.parts.Parts.{Parts}
+use Rattle.pv_site.specs.declared.parts.SiteParts.{SiteParts}
 use Rattle.pv_wire.specs.Values.{message_of}
 use Rattle.pv_wire.specs.declared.message.Message.{Message}
 use Rattle.pv_wire.specs.declared.message.Message.TheVariants.{Lock}
@@ -68,11 +68,11 @@ input-in-range here (Take from message) for = envelope-from _ for.1.0 for.1.1
 input-in-range here Tick for = tt
 
 -- Parts that hold what they held are sound as they were.
-pub kept-sound : (old new : Parts) → AreKept old new → AreSound old → AreSound new
+pub kept-sound : (old new : SiteParts) → AreKept old new → AreSound old → AreSound new
 kept-sound old new kept sound = record { tied = kept.tied; range = subst (IsHereInRange MAX_SITES) (sym kept.here) sound.range }
 
 -- So are those that have stepped.
-pub stepped-sound : (old new : Parts) (step : model.Step) → HaveStepped old new step → IsHereInRange MAX_SITES (after_step (here_of old) step) → AreSound new
+pub stepped-sound : (old new : SiteParts) (step : model.Step) → HaveStepped old new step → IsHereInRange MAX_SITES (after_step (here_of old) step) → AreSound new
 stepped-sound old new step stepped range = record { tied = stepped.tied; range = subst (IsHereInRange MAX_SITES) (sym stepped.here) range }
 
 all-unmap : {X Y : Type 0} (P : Y → Type 0) (f : X → Y) (xs : List X) → All P (map f xs) → All (λ x. P (f x)) xs
@@ -86,7 +86,7 @@ sends-spelled me step answer is spelled =
     all-unmap (λ (sent : model.Outgoing). (bytes : List ℕ) × SpellsEnvelope (record { from = me; to = sent.to; message = sent.message }) bytes) outgoing_of answer.sends.items
     (subst (λ sends. All (λ (sent : model.Outgoing). (bytes : List ℕ) × SpellsEnvelope (record { from = me; to = sent.to; message = sent.message }) bytes) sends) (sym is.sends) spelled)
 
-module _ {W : Type 0} (M : LogModel W) (log_old log_new : W) (old new : Parts) (step : model.Step) where
+module _ {W : Type 0} (M : LogModel W) (log_old log_new : W) (old new : SiteParts) (step : model.Step) where
   -- Whatever is answered, the parts are sound.
   pub sound-after : (result : Result Step StepError) → StepsOnLog M log_old log_new old new step result → AreSound old
       → IsHereInRange MAX_SITES (after_step (here_of old) step) → AreSound new

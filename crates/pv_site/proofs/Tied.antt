@@ -28,8 +28,8 @@ use Rattle.pv_protocol.specs.State.{Running}
 use Rattle.pv_protocol.specs.Step.{after_step}
 use Rattle.pv_protocol.specs.Tick.{older}
 use Rattle.pv_site.proofs.Entries.{after-tick, after_tick, with-work, without-work}
-use Rattle.pv_site.specs.Parts.{AreKept, AreTied, HaveStepped, IsReplyOf, IsWorkOf, here_of, running_of}
-use Rattle.pv_site.specs.declared.parts.Parts.{Parts}
+use Rattle.pv_site.specs.SiteParts.{AreKept, AreTied, HaveStepped, IsReplyOf, IsWorkOf, here_of, running_of}
+use Rattle.pv_site.specs.declared.parts.SiteParts.{SiteParts}
 
 -- A step that appends nothing leaves the records.
 pub after-none : (here : Here) (step : model.Step) → step.appended ≡ None → after_step here step ≡ record here { running = step.running }
@@ -38,11 +38,11 @@ after-none here step none =
     ∙ ap (λ (records : List Record). record here { records = records; running = step.running }) (append-nil here.records)
 
 -- A step that appends nothing was made, where the memory is what it leaves.
-pub stepped : (old new : Parts) (step : model.Step) → step.appended ≡ None → here_of new ≡ record (here_of old) { running = step.running } → AreTied new
+pub stepped : (old new : SiteParts) (step : model.Step) → step.appended ≡ None → here_of new ≡ record (here_of old) { running = step.running } → AreTied new
     → HaveStepped old new step
 stepped old new step none here tied = record { here = here ∙ sym (after-none (here_of old) step none); tied = tied }
 
-module _ (parts : Parts) (tied : AreTied parts) where
+module _ (parts : SiteParts) (tied : AreTied parts) where
   -- Where nothing happens, nothing changes.
   pub stepped-nothing : (step : model.Step) → step.appended ≡ None → step.running ≡ (here_of parts).running → HaveStepped parts parts step
   stepped-nothing step none same =

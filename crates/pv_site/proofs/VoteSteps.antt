@@ -34,12 +34,12 @@ use Rattle.pv_site.proofs.Tied.{here-with, planned-found, stepped, tied-with, wo
 use Rattle.pv_site.specs.Answer.{IsAnswer}
 use Rattle.pv_site.specs.Committed.{IsCommitted}
 use Rattle.pv_site.specs.LastVote.{deciding}
-use Rattle.pv_site.specs.Parts.{AreTied, HaveStepped, IsReplyOf, IsWorkOf, here_of}
+use Rattle.pv_site.specs.SiteParts.{AreTied, HaveStepped, IsReplyOf, IsWorkOf, here_of}
 use Rattle.pv_site.specs.Values.{note_of, outgoing_of}
 use Rattle.pv_site.specs.declared.input.Step.{Step}
-use Rattle.pv_site.specs.declared.parts.Parts.{Parts}
+use Rattle.pv_site.specs.declared.parts.SiteParts.{SiteParts}
 
-module _ (parts : Parts) (tied : AreTied parts) where
+module _ (parts : SiteParts) (tied : AreTied parts) where
   -- A work that asks for votes is that of its transaction, and has a reply.
   module _ (txn : TxnId) (work : Work) (is : voting_work parts.coord.contents txn ≡ Some work) where
     pub voting-is : work_of parts.coord.contents txn ≡ Some work
@@ -128,7 +128,7 @@ votes-free : (here : Here) (work : Work) (from : ℕ) → deciding here (with_vo
 unfolding reply_value
 votes-free here work from = refl
 
-module _ (parts : Parts) (tied : AreTied parts) (from : ℕ) (txn : TxnId) where
+module _ (parts : SiteParts) (tied : AreTied parts) (from : ℕ) (txn : TxnId) where
   abbrev found_now : Option Work
   found_now = voting_work parts.coord.contents txn
 

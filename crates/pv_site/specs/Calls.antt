@@ -1,8 +1,8 @@
 -- Which calls of its log a site makes.
 use Rattle.std.specs.Prelude.{◌≡◌, ◌⊎◌, ℕ, Bool, true, false, List, [], ◌∷◌, length}
-use Rattle.pv_law_disk.specs.Calls.{LogCall, read_all, reserve, append}
-use Rattle.pv_law_disk.specs.Log.{Keeps}
-use Rattle.pv_law_disk.specs.LogModel.{LogModel}
+use Rattle.pv_disk_model.specs.Calls.{LogCall, read_all, reserve, append}
+use Rattle.pv_disk_model.specs.Log.{Keeps}
+use Rattle.pv_disk_model.specs.LogModel.{LogModel}
 
 -- The calls that bring a content into a log.
 abbrev pub append_calls : List ℕ → List LogCall

@@ -10,13 +10,13 @@ pub mod Lists
 pub mod LockPoint
 pub mod OnLog
 pub mod Opens
-pub mod Parts
 pub mod Recovered
 pub mod RecoveredView
 pub mod Refusals
 pub mod Resumes
 pub mod Room
 pub mod Shares
+pub mod SiteParts
 pub mod SiteState
 pub mod SiteView
 pub mod Steps

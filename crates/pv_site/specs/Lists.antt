@@ -8,9 +8,9 @@ use Rattle.pv_site.specs.declared.error.StepError.{StepError}
 use Rattle.pv_site.specs.declared.error.StepError.TheVariants.{Fault}
 
 -- the log of the site that was opened, or the one that comes back
-abbrev pub log_left : {W : Type 0} → Result (SiteState W) (OpenError W) → W
-log_left (Ok site) = site.log
-log_left (Err refused) = log_in refused
+abbrev pub log_after : {W : Type 0} → Result (SiteState W) (OpenError W) → W
+log_after (Ok site) = site.log
+log_after (Err refused) = log_in refused
 
 -- The step isn't answered by a fault.
 abbrev pub HasNoFault : {X : Type 0} → Result X StepError → Type 0

@@ -14,7 +14,7 @@ use Rattle.pv_model.specs.Syntax.{Program}
 use Rattle.pv_protocol.specs.Coordinate.{names_taken, new_value}
 use Rattle.pv_protocol.specs.Records.{choice}
 use Rattle.pv_protocol.specs.State.{Entry}
-use Rattle.pv_site.specs.Parts.{IsReplyOf}
+use Rattle.pv_site.specs.SiteParts.{IsReplyOf}
 
 -- The reads are of different items.
 abbrev pub ReadApart : List Read → Type 0

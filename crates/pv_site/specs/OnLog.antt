@@ -3,19 +3,19 @@ use Rattle.std.specs.Prelude.{◌≡◌, ℕ, true, false, List, Option, Some, N
 use Rattle.pv_format.specs.Contents.{SpellRecords}
 use Rattle.pv_format.specs.Record.{Record}
 use Rattle.pv_format.specs.RecordSpelling.{SpellsRecord}
-use Rattle.pv_law_disk.specs.Calls.{Makes}
-use Rattle.pv_law_disk.specs.Log.{Keeps, Adds, MayAdd, StaysUp, GoesDown}
-use Rattle.pv_law_disk.specs.LogModel.{LogModel}
-use Rattle.pv_law_disk.specs.Size.{Contents}
+use Rattle.pv_disk_model.specs.Calls.{Makes}
+use Rattle.pv_disk_model.specs.Log.{Keeps, Adds, MayAdd, StaysUp, GoesDown}
+use Rattle.pv_disk_model.specs.LogModel.{LogModel}
+use Rattle.pv_disk_model.specs.Size.{Contents}
 use Rattle.pv_protocol.specs.Records.{journal_bytes}
 use Rattle.pv_protocol.specs.State as model
 use Rattle.pv_site.specs.Answer.{IsAnswer}
 use Rattle.pv_site.specs.Calls.{append_calls, FailsToAppend, MayReserve}
-use Rattle.pv_site.specs.Parts.{AreKept, AreSound, HaveStepped}
+use Rattle.pv_site.specs.SiteParts.{AreKept, AreSound, HaveStepped}
 use Rattle.pv_site.specs.declared.error.StepError.{StepError}
 use Rattle.pv_site.specs.declared.error.StepError.TheVariants.{Fault, Down, NoMemory}
 use Rattle.pv_site.specs.declared.input.Step.{Step}
-use Rattle.pv_site.specs.declared.parts.Parts.{Parts}
+use Rattle.pv_site.specs.declared.parts.SiteParts.{SiteParts}
 
 module _ {W : Type 0} (M : LogModel W) where
   -- The log isn't down, is as long as the records make it, and holds them, where it is known what it holds.
@@ -25,7 +25,7 @@ module _ {W : Type 0} (M : LogModel W) where
     pub held : (contents : Contents) → M.contents log ≡ Some contents → SpellRecords records contents
 
   -- The log is as the site left it, and the parts are sound: a step can begin.
-  pub record AreReady (log : W) (parts : Parts) : Type 0 where
+  pub record AreReady (log : W) (parts : SiteParts) : Type 0 where
     pub intact : M.is_intact log
     pub limit : M.limit log ≡ parts.catalog.journal
     pub holds : HoldsRecords log parts.store.records
@@ -47,7 +47,7 @@ module _ {W : Type 0} (M : LogModel W) where
     pub calls : FailsToAppend M old new content
 
   -- A step that may append, by its answer.
-  abbrev pub StepsOnLog : W → W → Parts → Parts → model.Step → Result Step StepError → Type 0
+  abbrev pub StepsOnLog : W → W → SiteParts → SiteParts → model.Step → Result Step StepError → Type 0
   StepsOnLog log_old log_new old new step (Ok answer) = HaveStepped old new step × IsAnswer answer step × Logs log_old log_new step.appended
   StepsOnLog log_old log_new old new step (Err Fault) = AreKept old new × Fails log_old log_new step
   StepsOnLog log_old log_new old new step (Err NoMemory) = AreKept old new × StaysUp M log_old log_new × Keeps M log_old log_new × MayReserve M log_old log_new

@@ -4,10 +4,10 @@ use Rattle.pv_base.specs.Catalog.{Declared}
 use Rattle.pv_format.specs.Contents.{SpellRecords, IsFirstBadContent, greatest_epoch}
 use Rattle.pv_format.specs.Record.{Record, epoch_begun}
 use Rattle.pv_format.specs.RecordSpelling.{SpellsRecord}
-use Rattle.pv_law_disk.specs.Calls.{Makes, read_all}
-use Rattle.pv_law_disk.specs.Log.{Keeps, Adds, MayAdd, StaysUp, GoesDown}
-use Rattle.pv_law_disk.specs.LogModel.{LogModel}
-use Rattle.pv_law_disk.specs.Size.{Contents, size_of}
+use Rattle.pv_disk_model.specs.Calls.{Makes, read_all}
+use Rattle.pv_disk_model.specs.Log.{Keeps, Adds, MayAdd, StaysUp, GoesDown}
+use Rattle.pv_disk_model.specs.LogModel.{LogModel}
+use Rattle.pv_disk_model.specs.Size.{Contents, size_of}
 use Rattle.pv_protocol.specs.Start.{site_start, starts, too_long, no_epoch}
 use Rattle.pv_protocol.specs.State.{Running}
 use Rattle.pv_store.specs.Refusals.{too_many_in}

@@ -2,7 +2,7 @@
 use Rattle.std.specs.Prelude.{◌≡◌, Bool, true, false, [], Option, Some, None}
 use Rattle.pv_format.specs.Contents.{greatest_epoch}
 use Rattle.pv_protocol.specs.State.{Running}
-use Rattle.pv_site.specs.Parts.{here_of, AreSound}
+use Rattle.pv_site.specs.SiteParts.{here_of, AreSound}
 use Rattle.pv_site.specs.SiteState.{SiteState}
 use Rattle.pv_site.specs.declared.site.Site.TheInside.{Inside}
 

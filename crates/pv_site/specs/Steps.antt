@@ -1,8 +1,8 @@
 -- What a step of a site does, by its answer.
 use Rattle.std.specs.Prelude.{◌≡◌, List, Option, Some, None, Result, Ok, Err, ⊤}
 use Rattle.pv_format.specs.Record.{Record}
-use Rattle.pv_law_disk.specs.Log.{Keeps, StaysUp}
-use Rattle.pv_law_disk.specs.LogModel.{LogModel}
+use Rattle.pv_disk_model.specs.Log.{Keeps, StaysUp}
+use Rattle.pv_disk_model.specs.LogModel.{LogModel}
 use Rattle.pv_protocol.specs.State as model
 use Rattle.pv_protocol.specs.State.{Running, Input}
 use Rattle.pv_protocol.specs.Step.{step_on, records_after}
@@ -27,7 +27,7 @@ module _ {W : Type 0} (M : LogModel W) where
     pub holds : HoldsWhatRuns site.log site.records site.running
 
   -- The site has made this step.
-  pub record Makes (old new : SiteState W) (answer : Step) (step : model.Step) : Type 0 where
+  pub record HasMade (old new : SiteState W) (answer : Step) (step : model.Step) : Type 0 where
     pub answered : IsAnswer answer step
     pub site : new ≡ record old { records = records_after old.records step; running = Some step.running; log = new.log }
     pub log : Logs M old.log new.log step.appended
@@ -46,7 +46,7 @@ module _ {W : Type 0} (M : LogModel W) where
 
   -- A step of a site that has this in memory, by its answer.
   abbrev pub StepsFrom : SiteState W → SiteState W → Running → Input → Result Step StepError → Type 0
-  StepsFrom old new running input (Ok answer) = Makes old new answer (step_on (here_with old running) input)
+  StepsFrom old new running input (Ok answer) = HasMade old new answer (step_on (here_with old running) input)
   StepsFrom old new running input (Err Fault) = Breaks old new (step_on (here_with old running) input)
   StepsFrom old new running input (Err Down) = ⊥
   StepsFrom old new running input (Err NoMemory) = Stays old new

@@ -29,7 +29,7 @@ enum Room {
 }
 
 // Writes a record, if the log has room for it.
-#[tactic(auto, using(pv_law_disk::proofs::LogLemmas::log_joins, crate::proofs::LogLemmas::record_joins, crate::proofs::LogLemmas::unmade))]
+#[tactic(auto, using(pv_disk_model::proofs::LogLemmas::log_joins, crate::proofs::LogLemmas::record_joins, crate::proofs::LogLemmas::unmade))]
 pub(crate) fn write<L: Log>(
     log: &mut L,
     alloc: Global,

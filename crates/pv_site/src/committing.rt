@@ -12,12 +12,12 @@ ghost use Rattle.pv_site.specs.Answer.{IsAnswer};
 ghost use Rattle.pv_site.specs.Committed.{IsCommitted};
 ghost use Rattle.pv_site.specs.LastVote.{deciding};
 ghost use Rattle.pv_site.specs.OnLog.{AreReady, StepsOnLog};
-ghost use Rattle.pv_site.specs.Parts.{here_of, AreTied};
+ghost use Rattle.pv_site.specs.SiteParts.{here_of, AreTied};
 ghost use Rattle.pv_site.specs.Values.{outgoing_of};
 
 use crate::answers::nothing;
 use crate::appending::{Written, write};
-use crate::parts::Parts;
+use crate::parts::SiteParts;
 use crate::sure::is_sure;
 use crate::{Cause, Note, Outgoing, Step, StepError};
 use pv_base::{NoMemory, Reply, SiteId, TxnId};
@@ -34,7 +34,7 @@ use std::alloc::Global;
 #[tactic(auto, using(crate::proofs::LogLemmas::keeps_itself))]
 pub(crate) fn take_yes<L: Log>(
     log: &mut L,
-    parts: &mut Parts,
+    parts: &mut SiteParts,
     alloc: Global,
     from: SiteId,
     txn: TxnId,
@@ -57,7 +57,7 @@ pub(crate) fn take_yes<L: Log>(
 #[tactic(auto, using(crate::proofs::LogLemmas::keeps_itself))]
 fn commit<L: Log>(
     log: &mut L,
-    parts: &mut Parts,
+    parts: &mut SiteParts,
     alloc: Global,
     txn: TxnId,
 ) -> Result<Step, StepError>
@@ -85,7 +85,7 @@ fn commit<L: Log>(
 }
 
 // What is sent and reported when the transaction commits.
-fn committed(alloc: Global, parts: &Parts, txn: TxnId) -> Result<Step, NoMemory>
+fn committed(alloc: Global, parts: &SiteParts, txn: TxnId) -> Result<Step, NoMemory>
     requires { AreTied parts.now }
     ensures { (work : Work) → voting_work parts.now.coord.contents txn ≡ Some work
         → IfOk result (λ answer. IsAnswer answer (committing (here_of parts.now) work.entry)) }

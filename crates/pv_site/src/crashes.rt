@@ -2,7 +2,7 @@
 ghost use Rattle.std.specs.Prelude.{◌≡◌, ℕ, List, [], ◌∷◌, ◌++◌, Option, Some, Result, Ok};
 ghost use Rattle.pv_base.specs.Catalog.{Declared};
 ghost use Rattle.pv_format.specs.Record.{Record, epoch_begun};
-ghost use Rattle.pv_law_disk.specs.Size.{Contents};
+ghost use Rattle.pv_disk_model.specs.Size.{Contents};
 ghost use Rattle.pv_protocol.specs.State as model;
 ghost use Rattle.pv_site.specs.Crashes.{AreBeforeOrAfter, AreContentsOf, IsUp};
 ghost use Rattle.pv_site.specs.Opens.{Opens};

@@ -6,12 +6,12 @@ ghost use Rattle.pv_locks.specs.LockTable.{grant_of};
 ghost use Rattle.pv_protocol.specs.State.{Grant};
 ghost use Rattle.pv_protocol.specs.Vote.{are_writes_of, on_prepare, with_writes};
 ghost use Rattle.pv_site.specs.OnLog.{AreReady, StepsOnLog};
-ghost use Rattle.pv_site.specs.Parts.{here_of};
+ghost use Rattle.pv_site.specs.SiteParts.{here_of};
 ghost use Rattle.pv_site.specs.Written.{are_items_of};
 
 use crate::answers::{nothing, sending};
 use crate::appending::{Written, write};
-use crate::parts::Parts;
+use crate::parts::SiteParts;
 use crate::{Step, StepError};
 use pv_base::{GrantId, NoMemory, SiteId, TxnId, Want};
 use pv_disk::Log;
@@ -25,7 +25,7 @@ use std::alloc::Global;
 // A coordinator asks for a vote.
 pub(crate) fn take_prepare<L: Log>(
     log: &mut L,
-    parts: &mut Parts,
+    parts: &mut SiteParts,
     alloc: Global,
     from: SiteId,
     txn: TxnId,
@@ -52,7 +52,7 @@ pub(crate) fn take_prepare<L: Log>(
 // The vote is asked for under the grant that stands.
 fn promise<L: Log>(
     log: &mut L,
-    parts: &mut Parts,
+    parts: &mut SiteParts,
     alloc: Global,
     txn: TxnId,
     writes: &[Read],

@@ -12,26 +12,26 @@ ghost use Rattle.pv_protocol.specs.Coordinate.{exclusive_items, reads_of};
 ghost use Rattle.pv_protocol.specs.Granted.{on_granted};
 ghost use Rattle.pv_protocol.specs.State.{Entry};
 ghost use Rattle.pv_site.specs.LockPoint.{HasItsReads, IsComputed, IsPutIn, IsTooMany, IsWritePutIn, ReadApart};
-ghost use Rattle.pv_site.specs.Parts.{here_of, AreSound, StepParts};
+ghost use Rattle.pv_site.specs.SiteParts.{here_of, AreSound, StepParts};
 ghost use Rattle.pv_site.specs.Shares.{prepare_if, prepare_send, prepares, writes_in};
 ghost use Rattle.pv_site.specs.Values.{outgoing_of};
 ghost use Rattle.pv_split.specs.Splitting.{count_of};
 
 use crate::answers::nothing;
-use crate::parts::Parts;
+use crate::parts::SiteParts;
 use crate::sure::is_sure_throughout;
 use crate::{Cause, Outgoing, Step};
 use pv_ast::Program;
 use pv_base::{GrantId, ItemId, NoMemory, SiteId, TxnId, Want};
 use pv_check::Part;
-use pv_coord::{Change, Coord, GrantTaken};
+use pv_coord::{Coord, GrantChange, GrantTaken};
 use pv_poly::Read;
 use pv_split::{Joined, SplitError, split};
 use pv_store::Store;
 use pv_wire::Message;
 use std::alloc::Global;
 
-impl Parts {
+impl SiteParts {
     // A participant has granted the locks.
     pub(crate) fn on_granted(
         &mut self,
@@ -67,7 +67,7 @@ impl Parts {
         grant: GrantId,
         reads: Vec<Read>,
         program: &Program,
-        change: Change,
+        change: GrantChange,
     ) -> Result<Step, NoMemory>
         requires sound { AreSound self.old }
         requires change { change ≡ record { txn = txn; taken = record { site = from.0; grant = grant; values = change.taken.values } } }

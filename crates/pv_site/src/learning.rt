@@ -6,11 +6,11 @@ ghost use Rattle.pv_part.specs.declared.cases.OutcomeCase.TheVariants as outcome
 ghost use Rattle.pv_protocol.specs.Outcome.{on_outcome};
 ghost use Rattle.pv_protocol.specs.State as model;
 ghost use Rattle.pv_site.specs.OnLog.{AreReady, StepsOnLog};
-ghost use Rattle.pv_site.specs.Parts.{here_of};
+ghost use Rattle.pv_site.specs.SiteParts.{here_of};
 
 use crate::answers::{nothing, noting};
 use crate::appending::{Written, write};
-use crate::parts::Parts;
+use crate::parts::SiteParts;
 use crate::{Note, Step, StepError};
 use pv_base::{SiteId, TxnId};
 use pv_disk::Log;
@@ -21,7 +21,7 @@ use std::alloc::Global;
 #[tactic(auto, using(crate::proofs::LogLemmas::keeps_itself))]
 pub(crate) fn take_outcome<L: Log>(
     log: &mut L,
-    parts: &mut Parts,
+    parts: &mut SiteParts,
     alloc: Global,
     from: SiteId,
     txn: TxnId,
@@ -49,7 +49,7 @@ pub(crate) fn take_outcome<L: Log>(
 #[tactic(auto, using(crate::proofs::LogLemmas::keeps_itself))]
 fn learn<L: Log>(
     log: &mut L,
-    parts: &mut Parts,
+    parts: &mut SiteParts,
     alloc: Global,
     txn: TxnId,
     commits: bool,

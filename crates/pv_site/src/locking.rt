@@ -5,12 +5,12 @@ ghost use Rattle.pv_base.specs.Want.{Want};
 ghost use Rattle.pv_format.specs.Message.{granted};
 ghost use Rattle.pv_model.specs.Plan.{plan_of};
 ghost use Rattle.pv_protocol.specs.Lock.{on_submit, on_lock, lock_sends, is_home, is_lock_ignored};
-ghost use Rattle.pv_site.specs.Parts.{here_of, AreTied, StepParts};
+ghost use Rattle.pv_site.specs.SiteParts.{here_of, AreTied, StepParts};
 ghost use Rattle.pv_site.specs.Shares.{shown_values};
 ghost use Rattle.pv_site.specs.Values.{outgoing_of};
 
 use crate::answers::{nothing, noting, sending};
-use crate::parts::Parts;
+use crate::parts::SiteParts;
 use crate::{Note, Outgoing, Step};
 use pv_ast::Program;
 use pv_base::{Catalog, GrantId, ItemId, NoMemory, SiteId, TxnId, Want};
@@ -23,7 +23,7 @@ use pv_store::Store;
 use pv_wire::Message;
 use std::alloc::Global;
 
-impl Parts {
+impl SiteParts {
     // The site is given a request.
     pub(crate) fn on_submit(
         &mut self,

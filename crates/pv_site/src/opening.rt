@@ -3,7 +3,7 @@ ghost use Rattle.std.specs.Prelude.{◌≡◌, ◌+◌, ◌-◌, ◌^◌, min, l
 ghost use Rattle.pv_format.specs.Contents.{SpellRecords};
 ghost use Rattle.pv_format.specs.Range.{IsRecordInRange};
 ghost use Rattle.pv_format.specs.Record.{Record};
-ghost use Rattle.pv_law_disk.specs.Size.{Contents, size_of};
+ghost use Rattle.pv_disk_model.specs.Size.{Contents, size_of};
 ghost use Rattle.pv_protocol.specs.Records.{journal_bytes};
 ghost use Rattle.pv_protocol.specs.Sound.{IsSetupInRange};
 ghost use Rattle.pv_replay.specs.Values.{contents_of};

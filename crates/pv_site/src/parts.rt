@@ -1,6 +1,6 @@
 // The parts of a site that is up, beside its log.
 ghost use Rattle.std.specs.Prelude.{◌≡◌, ◌↔◌, false, []};
-ghost use Rattle.pv_site.specs.Parts.{AreSound};
+ghost use Rattle.pv_site.specs.SiteParts.{AreSound};
 
 use pv_base::{Catalog, SiteId};
 use pv_coord::Coord;
@@ -10,7 +10,7 @@ use std::alloc::Global;
 
 // What a site has in memory, and what its records say.
 #[derive(Drop)]
-pub(crate) struct Parts {
+pub(crate) struct SiteParts {
     /// The site.
     pub(crate) me: SiteId,
     /// The items.
@@ -23,7 +23,7 @@ pub(crate) struct Parts {
     pub(crate) store: Store,
 }
 
-impl Parts {
+impl SiteParts {
     // The grants and the entries of a site in this epoch are gone, as after a crash.
     pub(crate) fn forget(&mut self, alloc: Global, epoch: u32)
         requires sound { AreSound self.old }
@@ -50,7 +50,7 @@ impl Parts {
 
 // All that a site has beside its log may cross threads, which is refused here where one of its fields may not.
 fn crosses_threads() {
-    sends::<Parts>();
+    sends::<SiteParts>();
 }
 
 // What may cross threads fits here, and nothing else.

@@ -4,12 +4,12 @@ ghost use Rattle.pv_format.specs.Contents.{greatest_epoch};
 ghost use Rattle.pv_format.specs.Range.{IsRecordInRange};
 ghost use Rattle.pv_protocol.specs.Records.{is_prepared, known};
 ghost use Rattle.pv_replay.specs.Values.{records_of};
-ghost use Rattle.pv_site.specs.Parts.{here_of, AreTied};
+ghost use Rattle.pv_site.specs.SiteParts.{here_of, AreTied};
 ghost use Rattle.pv_site.specs.Resumes.{here_begun, Advances, Recovers};
 
 use crate::StepError;
 use crate::appending::{Written, write};
-use crate::parts::Parts;
+use crate::parts::SiteParts;
 use pv_base::{Catalog, NEVER_GIVEN, NoMemory, SiteId, TxnId};
 use pv_coord::Coord;
 use pv_disk::Log;
@@ -61,7 +61,7 @@ pub(crate) enum Advanced {
 // What a site has in memory that has just begun, and in which epoch.
 #[derive(Drop)]
 pub(crate) struct Begun {
-    pub(crate) parts: Parts,
+    pub(crate) parts: SiteParts,
     pub(crate) epoch: u32,
 }
 
@@ -183,7 +183,7 @@ impl Recovered {
             epoch,
         } = self;
         Begun {
-            parts: Parts {
+            parts: SiteParts {
                 me,
                 catalog,
                 locks: Locks::new(alloc, epoch, 0),

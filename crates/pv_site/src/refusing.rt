@@ -7,12 +7,12 @@ ghost use Rattle.pv_protocol.specs.Keyed.{of_txn};
 ghost use Rattle.pv_protocol.specs.State.{Entry};
 ghost use Rattle.pv_protocol.specs.Vote as voted;
 ghost use Rattle.pv_protocol.specs.Vote.{on_no};
-ghost use Rattle.pv_site.specs.Parts.{here_of, AreTied, StepParts};
+ghost use Rattle.pv_site.specs.SiteParts.{here_of, AreTied, StepParts};
 ghost use Rattle.pv_site.specs.Values.{cause_of, outgoing_of};
 ghost use Rattle.pv_wire.specs.Values as wire;
 
 use crate::answers::nothing;
-use crate::parts::Parts;
+use crate::parts::SiteParts;
 use crate::{Cause, Note, Outgoing, Step};
 use pv_base::{ItemId, NoMemory, SiteId, TxnId};
 use pv_check::Part;
@@ -20,7 +20,7 @@ use pv_coord::Vote;
 use pv_wire::{Message, NoCause};
 use std::alloc::Global;
 
-impl Parts {
+impl SiteParts {
     // The transaction is refused: its entry is dropped, and every participant is sent that it doesn't commit.
     pub(crate) fn refuse(
         &mut self,

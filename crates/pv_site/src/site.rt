@@ -14,7 +14,7 @@ ghost use Rattle.pv_site.specs.Values.{input_of};
 
 use crate::numbers::has_small_numbers;
 use crate::opening::{Loaded, load, setup_is_in_range, unopened};
-use crate::parts::Parts;
+use crate::parts::SiteParts;
 use crate::recovered::{Advanced, Begun};
 use crate::taking::take;
 use crate::{Input, OpenError, Recovered, ResumeError, Shown, Step, StepError};
@@ -38,7 +38,7 @@ pub struct Site<L: Log> {
     /// Where its records are.
     pub(crate) log: L,
     /// What it has in memory, and what its records say.
-    pub(crate) parts: Parts,
+    pub(crate) parts: SiteParts,
     /// The epoch in which it was opened.
     pub(crate) epoch: u32,
     /// Whether the opening read no contents.
@@ -302,7 +302,7 @@ impl<L: Log> Site<L> {
             epoch,
             ..
         } = self;
-        let Parts {
+        let SiteParts {
             me,
             catalog,
             store,

@@ -5,14 +5,14 @@ ghost use Rattle.pv_format.specs.Range.{IsEnvelopeInRange};
 ghost use Rattle.pv_protocol.specs.Step.{on_message, step_on};
 ghost use Rattle.pv_site.specs.Inputs.{IsInputFor, IsSpelledFrom};
 ghost use Rattle.pv_site.specs.OnLog.{AreReady, StepsOnLog};
-ghost use Rattle.pv_site.specs.Parts.{here_of, AreSound};
+ghost use Rattle.pv_site.specs.SiteParts.{here_of, AreSound};
 ghost use Rattle.pv_site.specs.Values.{input_of};
 ghost use Rattle.pv_wire.specs.Values.{message_of};
 
 use crate::committing::take_yes;
 use crate::deciding::take_prepare;
 use crate::learning::take_outcome;
-use crate::parts::Parts;
+use crate::parts::SiteParts;
 use crate::{Input, Message, Step, StepError};
 use pv_base::SiteId;
 use pv_disk::Log;
@@ -24,7 +24,7 @@ use std::alloc::Global;
 // The step of the site on the input. Its parts stay sound, and what it sends has spellings.
 pub(crate) fn take<L: Log>(
     log: &mut L,
-    parts: &mut Parts,
+    parts: &mut SiteParts,
     alloc: Global,
     input: &Input,
 ) -> Result<Step, StepError>
@@ -47,7 +47,7 @@ pub(crate) fn take<L: Log>(
 // The step of the site on the input.
 fn step_on<L: Log>(
     log: &mut L,
-    parts: &mut Parts,
+    parts: &mut SiteParts,
     alloc: Global,
     input: &Input,
 ) -> Result<Step, StepError>
@@ -67,7 +67,7 @@ fn step_on<L: Log>(
 // The step of the site on the message.
 fn take_message<L: Log>(
     log: &mut L,
-    parts: &mut Parts,
+    parts: &mut SiteParts,
     alloc: Global,
     from: SiteId,
     message: &Message,

@@ -4,12 +4,12 @@ ghost use Rattle.std.specs.List.{flat_map};
 ghost use Rattle.pv_locks.specs.LockTable.{grant_of};
 ghost use Rattle.pv_protocol.specs.Outcome.{on_ask};
 ghost use Rattle.pv_protocol.specs.Tick.{on_tick, ask_sends};
-ghost use Rattle.pv_site.specs.Parts.{here_of, AreTied, StepParts};
+ghost use Rattle.pv_site.specs.SiteParts.{here_of, AreTied, StepParts};
 ghost use Rattle.pv_site.specs.Refusals.{refusal_sends, refusal_note};
 ghost use Rattle.pv_site.specs.Values.{outgoing_of, note_of};
 
 use crate::answers::{nothing, sending};
-use crate::parts::Parts;
+use crate::parts::SiteParts;
 use crate::refusing::push_outcomes;
 use crate::{Cause, Note, Outgoing, Step};
 use pv_base::{NoMemory, SiteId, TxnId};
@@ -18,7 +18,7 @@ use pv_locks::Locks;
 use pv_wire::Message;
 use std::alloc::Global;
 
-impl Parts {
+impl SiteParts {
     // Grants end and entries are refused at their last tick. Then the outcomes are asked for that shown values name, of transactions that
     // have no grant here.
     pub(crate) fn on_tick(&mut self, alloc: Global) -> Result<Step, NoMemory>

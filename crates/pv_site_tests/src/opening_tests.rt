@@ -1,7 +1,7 @@
 // A site opened on logs with worked contents: in which epoch, or why not.
 ghost use Rattle.std.specs.Prelude.{◌≡◌, ◌<◌, ◌≤◌, ◌^◌, false, length, IfOk, OnOk};
 ghost use Rattle.pv_base.specs.declared.limits.TheConstants.{MAX_JOURNAL, MAX_LENGTH, MIN_JOURNAL};
-ghost use Rattle.pv_law_disk.specs.Size.{size_of};
+ghost use Rattle.pv_disk_model.specs.Size.{size_of};
 
 use crate::tests::{HERE, bytes_of, catalog};
 use pv_base::MAX_JOURNAL;
@@ -30,7 +30,7 @@ pub(crate) enum Refusal {
 }
 
 // An append with its room.
-#[tactic(auto, using(pv_law_disk::proofs::LogLemmas::log_joins))]
+#[tactic(auto, using(pv_disk_model::proofs::LogLemmas::log_joins))]
 fn add<L: Log>(log: &mut L, content: &[u8]) -> Result<(), LogError>
     requires intact { L.model.is_intact log.old }
     requires up { L.model.is_down log.old ≡ false }

@@ -5,7 +5,7 @@ ghost use Rattle.pv_ast.specs.ExprView.{expr_of};
 ghost use Rattle.pv_ast.specs.ProgramView.{followed_by};
 ghost use Rattle.pv_base.specs.declared.limits.TheConstants.{MAX_LENGTH};
 ghost use Rattle.pv_disk.specs.ListLaws.{list_model};
-ghost use Rattle.pv_law_disk.specs.Size.{size_of};
+ghost use Rattle.pv_disk_model.specs.Size.{size_of};
 ghost use Rattle.pv_model.specs.Check.{names_item, reads};
 ghost use Rattle.pv_model.specs.Syntax.{end};
 ghost use Rattle.pv_protocol.specs.Lock.{is_home};
@@ -121,7 +121,7 @@ pub(crate) enum Act {
 
 /// A site's part of a story. Records are written in hexadecimal.
 #[derive(Clone, Copy)]
-pub(crate) struct Part {
+pub(crate) struct Role {
     /// The site. What others do in the story is passed over.
     pub(crate) site: SiteId,
     /// How long its log may become, in bytes.
@@ -581,7 +581,7 @@ fn wrong_on(
     alloc: Global,
     site: Site<ListLog>,
     catalog: &Catalog,
-    part: &Part,
+    part: &Role,
 ) -> Result<Option<Wrong>, Fail>
     requires ready { IsReady list_model site }
     requires me { site.me ≡ part.now.site.0 }
@@ -598,7 +598,7 @@ fn wrong_on(
 }
 
 // where the part goes wrong that ends with this refusal
-fn wrong_by(part: &Part, refusal: Refusal) -> Option<Wrong> {
+fn wrong_by(part: &Role, refusal: Refusal) -> Option<Wrong> {
     match part.later {
         Err(told) if told == refusal => None,
         _ => Some(Wrong::Opening(Some(refusal))),
@@ -610,7 +610,7 @@ fn wrong_later(
     alloc: Global,
     log: ListLog,
     catalog: &Catalog,
-    part: &Part,
+    part: &Role,
 ) -> Result<Option<Wrong>, Fail>
     requires intact { size_of log.contents ≤ MAX_LENGTH }
     requires up { log.is_down ≡ false }
@@ -626,7 +626,7 @@ fn wrong_later(
 }
 
 // the site at the beginning of its part
-fn beginning(alloc: Global, catalog: &Catalog, part: &Part) -> Result<Site<ListLog>, Fail>
+fn beginning(alloc: Global, catalog: &Catalog, part: &Role) -> Result<Site<ListLog>, Fail>
     requires site { part.now.site.0 < catalog.now.sites }
     ensures ready { IfOk result (IsReady list_model) }
     ensures me { IfOk result (λ site. site.me ≡ part.now.site.0) }
@@ -641,7 +641,7 @@ fn beginning(alloc: Global, catalog: &Catalog, part: &Part) -> Result<Site<ListL
 }
 
 // where the part goes wrong
-fn wrong_at(alloc: Global, catalog: &Catalog, part: &Part) -> Result<Option<Wrong>, Fail>
+fn wrong_at(alloc: Global, catalog: &Catalog, part: &Role) -> Result<Option<Wrong>, Fail>
     requires site { part.now.site.0 < catalog.now.sites }
     requires items { length catalog.now.items ≡ 2 }
     requires home { IsTrue (is_home catalog.now part.now.site.0 part.now.site.0) }
@@ -666,7 +666,7 @@ fn has_home(catalog: &Catalog, site: SiteId) -> bool
 }
 
 // Where the site doesn't play its part as it is told, if there is such a place.
-fn wrong_in(alloc: Global, part: &Part) -> Result<Option<Wrong>, Fail> {
+fn wrong_in(alloc: Global, part: &Role) -> Result<Option<Wrong>, Fail> {
     if part.journal < MIN_JOURNAL || part.journal > MAX_JOURNAL {
         return Err("no journal is as long".into());
     }
@@ -678,7 +678,7 @@ fn wrong_in(alloc: Global, part: &Part) -> Result<Option<Wrong>, Fail> {
 }
 
 /// Asserts that each site plays its part as it is told.
-pub(crate) fn play(rt: &impl Abort, alloc: Global, parts: &[Part]) -> Result<(), Fail> {
+pub(crate) fn play(rt: &impl Abort, alloc: Global, parts: &[Role]) -> Result<(), Fail> {
     for (number, part) in parts.iter().enumerate() {
         assert_eq!(rt; wrong_in(alloc, part)?, None, "in part {number}");
     }

@@ -1,7 +1,7 @@
 // Steps of sites: a commit between two, the records of which fail or find no room.
 
 use crate::opening_tests::Refusal;
-use crate::play_tests::{Act, Answer, Look, Noted, Part, Task, Value, play};
+use crate::play_tests::{Act, Answer, Look, Noted, Role, Task, Value, play};
 use crate::tests::{HERE, THERE};
 use pv_base::{GrantId, MAX_JOURNAL, Reply, SiteId, TxnId};
 use pv_disk::AppendFail;
@@ -133,8 +133,8 @@ const COMMIT_LATER: [Act; 14] = [
     Act::Tick(THERE, Answer::Nothing),
 ];
 
-const COMMITS: [Part; 2] = [
-    Part {
+const COMMITS: [Role; 2] = [
+    Role {
         site: HERE,
         journal: MAX_JOURNAL,
         before: &[],
@@ -143,7 +143,7 @@ const COMMITS: [Part; 2] = [
         after: &[EPOCH, PROMISE_A, COMMITTED],
         later: Ok(&COMMIT_LATER),
     },
-    Part {
+    Role {
         site: THERE,
         journal: MAX_JOURNAL,
         before: &[],
@@ -292,8 +292,8 @@ const OUTCOME_LOST: [Act; 5] = [
     Act::Ask(THERE, Look::Shows(Value::Sure(10))),
 ];
 
-const FAULTS: [Part; 6] = [
-    Part {
+const FAULTS: [Role; 6] = [
+    Role {
         site: HERE,
         journal: MAX_JOURNAL,
         before: &[],
@@ -302,7 +302,7 @@ const FAULTS: [Part; 6] = [
         after: &[EPOCH, PROMISE_ALONE],
         later: Ok(&PROMISE_KEPT),
     },
-    Part {
+    Role {
         site: HERE,
         journal: MAX_JOURNAL,
         before: &[],
@@ -311,7 +311,7 @@ const FAULTS: [Part; 6] = [
         after: &[EPOCH],
         later: Ok(&PROMISE_LOST),
     },
-    Part {
+    Role {
         site: HERE,
         journal: MAX_JOURNAL,
         before: &[],
@@ -320,7 +320,7 @@ const FAULTS: [Part; 6] = [
         after: &[EPOCH, PROMISE_A, COMMITTED],
         later: Ok(&COMMIT_KEPT),
     },
-    Part {
+    Role {
         site: HERE,
         journal: MAX_JOURNAL,
         before: &[],
@@ -329,7 +329,7 @@ const FAULTS: [Part; 6] = [
         after: &[EPOCH, PROMISE_A],
         later: Ok(&COMMIT_LOST),
     },
-    Part {
+    Role {
         site: THERE,
         journal: MAX_JOURNAL,
         before: &[],
@@ -338,7 +338,7 @@ const FAULTS: [Part; 6] = [
         after: &[EPOCH, PROMISE_B, COMMITTED],
         later: Ok(&OUTCOME_KEPT),
     },
-    Part {
+    Role {
         site: THERE,
         journal: MAX_JOURNAL,
         before: &[],
@@ -436,8 +436,8 @@ const ROOM_FOR_A_COMMIT: [Act; 7] = [
     Act::Ask(HERE, Look::Shows(Value::Sure(1))),
 ];
 
-const JOURNALS: [Part; 3] = [
-    Part {
+const JOURNALS: [Role; 3] = [
+    Role {
         site: HERE,
         journal: 49,
         before: &[],
@@ -446,7 +446,7 @@ const JOURNALS: [Part; 3] = [
         after: &[EPOCH],
         later: Ok(&[]),
     },
-    Part {
+    Role {
         site: HERE,
         journal: 65,
         before: &[],
@@ -455,7 +455,7 @@ const JOURNALS: [Part; 3] = [
         after: &[EPOCH, PROMISE_ALONE],
         later: Ok(&STILL_NO_ROOM),
     },
-    Part {
+    Role {
         site: HERE,
         journal: 66,
         before: &[],

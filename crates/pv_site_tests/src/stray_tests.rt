@@ -1,5 +1,5 @@
 // Steps that refuse or pass over: what expires, locks in conflict, values in doubt, and messages that fit nothing.
-use crate::play_tests::{Act, Answer, Look, Noted, Part, Task, Value, play};
+use crate::play_tests::{Act, Answer, Look, Noted, Role, Task, Value, play};
 use crate::step_tests::{
     ABORTS_A, ABORTS_B, ASK_A, ASK_B, COMMITS_B, COMMITTED, EPOCH, FIRST, GRANTED_A, GRANTED_B,
     LOCK_A, LOCK_B, LOST_A, PREPARE_A, PREPARE_ALONE, PREPARE_B, PROMISE_A, T, YES_A, YES_B,
@@ -236,8 +236,8 @@ const CONFLICT: [Act; 27] = [
     Act::Ask(THERE, Look::Shows(Value::Locked(V))),
 ];
 
-const REFUSALS: [Part; 4] = [
-    Part {
+const REFUSALS: [Role; 4] = [
+    Role {
         site: HERE,
         journal: MAX_JOURNAL,
         before: &[],
@@ -246,7 +246,7 @@ const REFUSALS: [Part; 4] = [
         after: &[EPOCH],
         later: Ok(&[]),
     },
-    Part {
+    Role {
         site: HERE,
         journal: MAX_JOURNAL,
         before: &[],
@@ -255,7 +255,7 @@ const REFUSALS: [Part; 4] = [
         after: &[EPOCH, PROMISE_A, "03 00 00000001 00000000 00"],
         later: Ok(&[]),
     },
-    Part {
+    Role {
         site: HERE,
         journal: MAX_JOURNAL,
         before: &[],
@@ -264,7 +264,7 @@ const REFUSALS: [Part; 4] = [
         after: &[EPOCH],
         later: Ok(&[]),
     },
-    Part {
+    Role {
         site: THERE,
         journal: MAX_JOURNAL,
         before: &[],
@@ -351,8 +351,8 @@ const DOUBT: [Act; 22] = [
     Act::Ask(THERE, Look::Shows(Value::Sure(7))),
 ];
 
-const DOUBTS: [Part; 2] = [
-    Part {
+const DOUBTS: [Role; 2] = [
+    Role {
         site: HERE,
         journal: MAX_JOURNAL,
         before: &[EPOCH, PROMISE_A],
@@ -367,7 +367,7 @@ const DOUBTS: [Part; 2] = [
         ],
         later: Ok(&[]),
     },
-    Part {
+    Role {
         site: THERE,
         journal: MAX_JOURNAL,
         before: &[],
@@ -560,8 +560,8 @@ const OUTSIDERS: [Act; 9] = [
     Act::Ask(HERE, Look::Works(T, false)),
 ];
 
-const FOREIGN: [Part; 3] = [
-    Part {
+const FOREIGN: [Role; 3] = [
+    Role {
         site: HERE,
         journal: MAX_JOURNAL,
         before: &[],
@@ -570,7 +570,7 @@ const FOREIGN: [Part; 3] = [
         after: &[EPOCH],
         later: Ok(&[]),
     },
-    Part {
+    Role {
         site: HERE,
         journal: MAX_JOURNAL,
         before: &[],
@@ -579,7 +579,7 @@ const FOREIGN: [Part; 3] = [
         after: &[EPOCH, PROMISE_A, COMMITTED],
         later: Ok(&[]),
     },
-    Part {
+    Role {
         site: HERE,
         journal: MAX_JOURNAL,
         before: &[],

@@ -12,7 +12,7 @@ use Rattle.pv_base.specs.declared.limits.TheConstants.{HELD_NAMES}
 use Rattle.pv_base.specs.Named.{names_of}
 use Rattle.pv_base.specs.Polyvalue.{Case, names}
 use Rattle.pv_format.specs.Record.{Record}
-use Rattle.pv_law_shown.proofs.RecordsMore.{known-more}
+use Rattle.pv_law_values.proofs.RecordsMore.{known-more}
 use Rattle.pv_law_step.proofs.ShownLemmas.{shown-undecided}
 use Rattle.pv_protocol.specs.Records.{known}
 use Rattle.pv_model.specs.Alternatives.{Read}

@@ -10,7 +10,7 @@ use Rattle.pv_base.specs.Catalog.{Declared}
 use Rattle.pv_base.specs.declared.txn.TxnId.{TxnId}
 use Rattle.pv_base.specs.Polyvalue.{Case, names}
 use Rattle.pv_format.specs.Record.{Record, epoch_begun, prepared, outcome_known}
-use Rattle.pv_law_shown.proofs.ShownMore.{shown-alike, within-epoch, within-outcome, within-unwritten}
+use Rattle.pv_law_values.proofs.ShownMore.{shown-alike, within-epoch, within-outcome, within-unwritten}
 use Rattle.pv_law_step.proofs.ShownLemmas.{shown-names}
 use Rattle.pv_model.specs.Alternatives.{Read}
 use Rattle.pv_protocol.specs.Lock.{is_home}

@@ -6,7 +6,7 @@ use Rattle.pv_base.specs.Assignment.{is_same_txn}
 use Rattle.pv_base.specs.declared.txn.TxnId.{TxnId}
 use Rattle.pv_base.proofs.AssignmentLemmas.{same-eq}
 use Rattle.pv_format.specs.Record.{Record, epoch_begun, prepared, outcome_known}
-use Rattle.pv_law_shown.proofs.RecordsMore.{known-more, is_prepared-more}
+use Rattle.pv_law_values.proofs.RecordsMore.{known-more, is_prepared-more}
 use Rattle.pv_model.specs.Alternatives.{Read}
 use Rattle.pv_protocol.specs.Records.{is_prepared}
 use Rattle.pv_store.specs.Held.{AreKnown, ArePrepared, is_promised, outcome_in}

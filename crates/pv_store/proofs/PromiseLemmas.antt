@@ -18,7 +18,7 @@ use Rattle.pv_base.specs.Polyvalue.{AreNames, AreOutcomes, Case, ChoiceNames, Is
 use Rattle.pv_format.specs.Record.{Record, prepared}
 use Rattle.pv_law_polyvalues.proofs.AscendingLemmas.{ascending-tail, ascending-first}
 use Rattle.pv_law_polyvalues.proofs.PolyvalueLemmas.{canonical-complete, depends-named, value_at-agree}
-use Rattle.pv_law_shown.proofs.ShownMore.{shown-alike, shown-only, within-written}
+use Rattle.pv_law_values.proofs.ShownMore.{shown-alike, shown-only, within-written}
 use Rattle.pv_law_step.proofs.NameLists.{names-are}
 use Rattle.pv_law_step.proofs.OutcomeLemmas.{choice-alike, choice-is, choice-known, or_assigned}
 use Rattle.pv_law_step.proofs.ShownLemmas.{shown-canonical, shown-value}

@@ -12,7 +12,7 @@ use Rattle.pv_base.specs.declared.txn.TxnId.{TxnId}
 use Rattle.pv_base.specs.Named.{names_of}
 use Rattle.pv_base.specs.Polyvalue.{Case, IsPolyvalue, IsSettled, names, value_at}
 use Rattle.pv_format.specs.Record.{Record, outcome_known}
-use Rattle.pv_law_shown.proofs.ShownMore.{shown-only, shown-settled, shown-unnamed, value-outcome}
+use Rattle.pv_law_values.proofs.ShownMore.{shown-only, shown-settled, shown-unnamed, value-outcome}
 use Rattle.pv_law_polyvalues.proofs.AscendingLemmas.{fewer-ascending}
 use Rattle.pv_law_polyvalues.proofs.PolyvalueLemmas.{depends-named, value_at-agree}
 use Rattle.pv_law_step.proofs.NameLists.{listed-names, names-ascend, names-listed}

@@ -11,7 +11,7 @@ use Rattle.pv_base.specs.declared.limits.TheConstants.{HELD_NAMES}
 use Rattle.pv_base.specs.declared.txn.TxnId.{TxnId}
 use Rattle.pv_base.specs.Named.{names_of}
 use Rattle.pv_format.specs.Record.{Record, prepared}
-use Rattle.pv_law_shown.proofs.ShownMore.{shown-promise, within-unwritten}
+use Rattle.pv_law_values.proofs.ShownMore.{shown-promise, within-unwritten}
 use Rattle.pv_law_step.proofs.HomeLemmas.{items-home}
 use Rattle.pv_model.specs.Alternatives.{Read}
 use Rattle.pv_protocol.specs.Here.{Here}

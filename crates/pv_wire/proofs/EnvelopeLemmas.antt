@@ -11,7 +11,7 @@ use Rattle.pv_format.specs.FirstFault.{Fault, bad_kind, short, extra, EnvelopeFa
 use Rattle.pv_format.specs.Layout.{nothing_more, message_layout}
 use Rattle.pv_format.specs.Message as model
 use Rattle.pv_format.specs.MessageSpelling.{SpellsEnvelope}
-use Rattle.pv_law_fields.specs.Decoding.{Stops}
+use Rattle.pv_fields.specs.Decoding.{Stops}
 use Rattle.pv_law_format.proofs.AnswerLemmas.{one-envelope-answer}
 use Rattle.pv_replay.specs.Faults.{fault_of as part_fault_of}
 use Rattle.pv_replay.specs.declared.error.PolyError.{PolyError}

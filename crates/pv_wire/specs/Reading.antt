@@ -4,13 +4,13 @@ use Rattle.pv_base.specs.declared.txn.TxnId.{TxnId}
 use Rattle.pv_bytes.specs.Reading.{Rest}
 use Rattle.pv_format.specs.Layout.{Layout, site_layout, txn_layout, body_layout}
 use Rattle.pv_format.specs.Message.{Envelope, Message, txn_of}
-use Rattle.pv_format.specs.MessageSpelling.{SpellsBody, kind_of}
+use Rattle.pv_format.specs.MessageSpelling.{SpellsBody, kind_number}
 use Rattle.pv_format.specs.Spelling.{◌followed_by◌, IsSite, SpellsTxn}
-use Rattle.pv_law_fields.specs.Decoding.{Passes}
+use Rattle.pv_fields.specs.Decoding.{Passes}
 
 -- What a message of this kind has after its transaction was read, and the message is of this transaction.
 pub record PassesBody (kind : ℕ) (txn : TxnId) (message : Message) (old new : Rest) : Type 0 where
-  pub kind_is : kind_of message ≡ kind
+  pub kind_is : kind_number message ≡ kind
   pub txn_is : txn_of message ≡ txn
   pub passes : Passes (SpellsBody message) (body_layout kind) old new
 
@@ -25,5 +25,5 @@ after_kind kind next = site_layout (site_layout (txn_layout (body_layout kind ne
 
 -- What a message of this kind has after the kind was read.
 pub record PassesEnvelope (kind : ℕ) (envelope : Envelope) (old new : Rest) : Type 0 where
-  pub kind_is : kind_of envelope.message ≡ kind
+  pub kind_is : kind_number envelope.message ≡ kind
   pub passes : Passes (SpellsAfterKind envelope) (after_kind kind) old new

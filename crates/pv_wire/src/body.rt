@@ -2,7 +2,7 @@
 ghost use Rattle.std.specs.Prelude.{IsTrue, IfOk, IfErr};
 ghost use Rattle.pv_format.specs.FirstFault.{is_kind};
 ghost use Rattle.pv_format.specs.Layout.{body_layout};
-ghost use Rattle.pv_law_fields.specs.Decoding.{Stops};
+ghost use Rattle.pv_fields.specs.Decoding.{Stops};
 ghost use Rattle.pv_replay.specs.Faults.{fault_of};
 ghost use Rattle.pv_wire.specs.Reading.{PassesBody};
 ghost use Rattle.pv_wire.specs.Values.{message_of};

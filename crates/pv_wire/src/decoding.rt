@@ -3,7 +3,7 @@ ghost use Rattle.std.specs.Prelude.{◌≡◌, ◌≢◌, [], IsTrue, IfOk, IfEr
 ghost use Rattle.pv_base.specs.Answer.{Answers};
 ghost use Rattle.pv_format.specs.FirstFault.{EnvelopeFault, is_kind};
 ghost use Rattle.pv_format.specs.MessageSpelling.{SpellsEnvelope};
-ghost use Rattle.pv_law_fields.specs.Decoding.{Stops};
+ghost use Rattle.pv_fields.specs.Decoding.{Stops};
 ghost use Rattle.pv_replay.specs.Faults.{fault_of as part_fault_of};
 ghost use Rattle.pv_wire.specs.Faults.{fault_of};
 ghost use Rattle.pv_wire.specs.Reading.{PassesEnvelope, after_kind};

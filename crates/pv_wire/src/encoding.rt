@@ -5,7 +5,7 @@ ghost use Rattle.pv_wire.specs.Values.{envelope_of, message_of};
 
 use crate::fields::{put_cause, put_grant};
 use crate::length::body_length;
-use crate::message::{kind_of, txn_of};
+use crate::message::{kind_number, txn_of};
 use crate::wants::put_wants;
 use crate::{Envelope, Message};
 use pv_base::NoMemory;
@@ -32,7 +32,7 @@ fn put_envelope(put: &mut Put, envelope: &Envelope) -> Result<(), NoMemory>
     requires { (bytes : List ℕ) × SpellsEnvelope (envelope_of envelope.now) bytes }
     ensures { (bytes : List ℕ) → SpellsEnvelope (envelope_of envelope.now) bytes → OnOk result (put.new.bytes ≡ put.old.bytes ++ bytes) }
 {
-    put.u8(kind_of(&envelope.message))?;
+    put.u8(kind_number(&envelope.message))?;
     put.u8(envelope.from.0)?;
     put.u8(envelope.to.0)?;
     put_txn(put, txn_of(&envelope.message))?;

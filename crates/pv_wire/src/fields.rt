@@ -3,7 +3,7 @@ ghost use Rattle.std.specs.Prelude.{◌≡◌, ◌≢◌, ◌++◌, ℕ, List, I
 ghost use Rattle.pv_format.specs.Layout.{cause_layout, grant_layout};
 ghost use Rattle.pv_format.specs.MessageSpelling.{SpellsNoCause};
 ghost use Rattle.pv_format.specs.Spelling.{SpellsGrant};
-ghost use Rattle.pv_law_fields.specs.Decoding.{Passes, Stops};
+ghost use Rattle.pv_fields.specs.Decoding.{Passes, Stops};
 ghost use Rattle.pv_replay.specs.Faults.{fault_of};
 ghost use Rattle.pv_wire.specs.Values.{cause_of};
 

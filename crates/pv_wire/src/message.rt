@@ -1,7 +1,7 @@
 // The messages between sites: two-phase commit (Gray, 1978), with locks that are asked for before it.
 ghost use Rattle.std.specs.Prelude.{◌≡◌};
 ghost use Rattle.pv_format.specs.Message.{txn_of};
-ghost use Rattle.pv_format.specs.MessageSpelling.{kind_of};
+ghost use Rattle.pv_format.specs.MessageSpelling.{kind_number};
 ghost use Rattle.pv_wire.specs.Values.{message_of};
 
 use pv_base::{GrantId, ItemId, SiteId, TxnId, Want};
@@ -91,8 +91,8 @@ pub enum NoCause {
 }
 
 /// The number of the message's kind, from 1 to 8.
-pub fn kind_of(message: &Message) -> u8
-    ensures { result ≡ kind_of (message_of message.now) }
+pub fn kind_number(message: &Message) -> u8
+    ensures { result ≡ kind_number (message_of message.now) }
 {
     match message {
         Message::Lock { .. } => 1,

@@ -5,8 +5,8 @@ ghost use Rattle.pv_base.specs.declared.limits.TheConstants.{MAX_PROGRAM_ITEMS};
 ghost use Rattle.pv_format.specs.Layout.{counted_layout, entries_layout, truth_layout};
 ghost use Rattle.pv_format.specs.MessageSpelling.{SpellsWants};
 ghost use Rattle.pv_format.specs.Spelling.{IsTruth, SpellsEntriesFrom};
-ghost use Rattle.pv_law_fields.specs.Decoding.{Passes, Stops};
-ghost use Rattle.pv_law_fields.specs.Encoding.{SpellsEntry};
+ghost use Rattle.pv_fields.specs.Decoding.{Passes, Stops};
+ghost use Rattle.pv_fields.specs.Encoding.{SpellsEntry};
 ghost use Rattle.pv_replay.specs.Faults.{fault_of};
 
 use pv_base::{NoMemory, Want};

@@ -28,7 +28,7 @@ use Rattle.pv_site.specs.Asked.{Shows}
 use Rattle.pv_site.specs.Inputs.{IsSpelledFrom}
 use Rattle.pv_site.specs.Recovered.{Remains}
 use Rattle.pv_site.specs.SiteState.{SiteState, here_with, setup_of}
-use Rattle.pv_site.specs.Steps.{Breaks, HoldsWhatRuns, IsReady, Makes, Steps}
+use Rattle.pv_site.specs.Steps.{Breaks, HoldsWhatRuns, IsReady, HasMade, Steps}
 use Rattle.pv_site.specs.declared.error.StepError.TheVariants as step_error
 use Rattle.pv_site.specs.declared.input.Shown.TheVariants as answered
 use Rattle.pv_site.specs.declared.input.Shown.{Shown}
@@ -76,7 +76,7 @@ module _ (catalog : Declared) (n : ℕ) (old : SiteState (Journal MemState)) (is
 
   module _ (rests : Rests) (appends : Appends) (new : SiteState (Journal MemState)) where
     -- The site is there with all that the step makes of it.
-    is-done : (answer : Step) (step : model.Step) → Makes (journal_model mem_model) old new answer step → IsReady (journal_model mem_model) new
+    is-done : (answer : Step) (step : model.Step) → HasMade (journal_model mem_model) old new answer step → IsReady (journal_model mem_model) new
         → IsDone catalog n (Up new) is (of_step n step)
     is-done answer step made ready =
         let (armed, waiting, disk) = step-made rests appends is.records is.arm old.log new.log up.ready.intact up.disk step.appended made.log in
@@ -105,8 +105,8 @@ module _ (catalog : Declared) (n : ℕ) (old : SiteState (Journal MemState)) (is
             → HasStepped catalog n (Up old) (Up new) is is.running input (stepped.Made answer)
         by None none made = not-down _ none
         by (Some running) at made =
-            let made_so : Makes (journal_model mem_model) old new answer (site_step (setup_of catalog) n is.records running input) =
-            subst (λ (here : Here). Makes (journal_model mem_model) old new answer (step_on here input)) (here-same running) made in
+            let made_so : HasMade (journal_model mem_model) old new answer (site_step (setup_of catalog) n is.records running input) =
+            subst (λ (here : Here). HasMade (journal_model mem_model) old new answer (step_on here input)) (here-same running) made in
             subst (λ (now : Option Running). HasStepped catalog n (Up old) (Up new) is now input (stepped.Made answer)) (sym at ∙ up.running) (
               made_so.answered,
               subst (λ (me : ℕ). All (IsSpelledFrom me) answer.sends.items) up.me spelled,

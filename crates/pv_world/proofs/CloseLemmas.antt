@@ -4,7 +4,7 @@ use Rattle.std.proofs.lemmas.List.{append_assoc, append-nil, drop_all}
 use Rattle.pv_base.specs.Catalog.{Declared}
 use Rattle.pv_disk.specs.MemDisk.{MemState}
 use Rattle.pv_format.specs.Record.{Record}
-use Rattle.pv_law_journal.specs.Format.{IsJournal}
+use Rattle.pv_format.specs.Journal.{IsJournal}
 use Rattle.pv_protocol.specs.State.{Arm, Site}
 use Rattle.pv_protocol.specs.World.{no_site}
 use Rattle.pv_world.proofs.StandLemmas.{stands-count, stands-from}

@@ -20,7 +20,7 @@ use Rattle.pv_site.specs.SiteState.{setup_of}
 use Rattle.pv_world.proofs.RunLemmas.{reached-after}
 use Rattle.pv_world.specs.Reached.{IsReached}
 use Rattle.pv_world.specs.Stands.{Stands, StandsFor}
-use Rattle.pv_world.specs.Steps.{Becomes, Comes, IsSameBeside, Makes, lines_of}
+use Rattle.pv_world.specs.Steps.{Becomes, Comes, IsSameBeside, MakesTransitions, lines_of}
 use Rattle.pv_world.specs.declared.error.WorldError.{WorldError}
 use Rattle.pv_world.specs.declared.error.WorldError.TheVariants.{SentLimit, NoMemory}
 use Rattle.pv_world.specs.declared.world.World.{World}
@@ -73,7 +73,7 @@ module _ (old new : World) (before after : List Line) (is : model.World) (stands
   }
 
   made-one : {X : Type 0} (transition : Transition) (result : Result X WorldError) → IsReached (setup_of old.catalog) transition.world
-      → Becomes old new before after transition.world transition.lines result → Makes old new before after is (transition ∷ []) result
+      → Becomes old new before after transition.world transition.lines result → MakesTransitions old new before after is (transition ∷ []) result
   made-one transition (Ok x) reached becomes = (
     stands-after transition.world reached becomes.1 becomes.0,
     becomes.1,
@@ -84,7 +84,7 @@ module _ (old new : World) (before after : List Line) (is : model.World) (stands
 
   pub made-once : {X : Type 0} (event : Event) (result : Result X WorldError) → IsWellFormed old.catalog event → IsNoPump event
       → Comes old new before after (begun (setup_of old.catalog) is event) result
-      → Makes old new before after is (transition_of (setup_of old.catalog) is event ∷ []) result
+      → MakesTransitions old new before after is (transition_of (setup_of old.catalog) is event ∷ []) result
   unfolding transition_of
   made-once event result well no_pump comes =
       made-one (transition_of (setup_of old.catalog) is event) result
@@ -93,12 +93,12 @@ module _ (old new : World) (before after : List Line) (is : model.World) (stands
 
   pub made-event : {X : Type 0} (event : Event) (result : Result X WorldError) → IsWellFormed old.catalog event → IsNoPump event
       → Comes old new before after (begun (setup_of old.catalog) is event) result
-      → Makes old new before after is (transitions_of (setup_of old.catalog) is event) result
+      → MakesTransitions old new before after is (transitions_of (setup_of old.catalog) is event) result
   made-event event result well no_pump comes =
-      subst (λ (transitions : List Transition). Makes old new before after is transitions result) (sym (one-transition (setup_of old.catalog) is event no_pump))
+      subst (λ (transitions : List Transition). MakesTransitions old new before after is transitions result) (sym (one-transition (setup_of old.catalog) is event no_pump))
       (made-once event result well no_pump comes)
 
   pub made-delivery : {X : Type 0} (n : ℕ) (result : Result X WorldError) → Comes old new before after (delivered (setup_of old.catalog) is n (slice_get is.sent n)) result
-      → Makes old new before after is (transition_of (setup_of old.catalog) is (deliver n) ∷ []) result
+      → MakesTransitions old new before after is (transition_of (setup_of old.catalog) is (deliver n) ∷ []) result
   unfolding begun
   made-delivery n result comes = made-once (deliver n) result tt tt comes

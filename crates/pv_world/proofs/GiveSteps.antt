@@ -49,34 +49,34 @@ module _ (old : World) (is : model.World) (stands : Stands old is) (n : ℕ) (wi
       }
 
   module _ (answer : Step) (made : found ≡ Made answer) where
-    abbrev Makes : MakesStep old.catalog n new (site_at is n) (site_at is n).running input answer
-    Makes = makes-step old.catalog n cell new (site_at is n) (site_at is n).running input answer
+    abbrev MadeStep : MakesStep old.catalog n new (site_at is n) (site_at is n).running input answer
+    MadeStep = makes-step old.catalog n cell new (site_at is n) (site_at is n).running input answer
         (subst (HasStepped old.catalog n cell new (site_at is n) (site_at is n).running input) made has_stepped)
 
     -- The step that it makes, the site then, and the world after the site's own part of it.
     abbrev pub StepOf : state.Step
-    StepOf = site_step (setup_of old.catalog) n (site_at is n).records Makes.running input
+    StepOf = site_step (setup_of old.catalog) n (site_at is n).records MadeStep.running input
 
     abbrev SiteAfter : state.Site
-    SiteAfter = completed_site (site_at is n) (of_step n StepOf) Makes.done.armed
+    SiteAfter = completed_site (site_at is n) (of_step n StepOf) MadeStep.done.armed
 
     abbrev pub AfterSite : model.World
     AfterSite = with_site is n SiteAfter
 
     pub step-spelled : All (IsSpelledFrom n) answer.sends.items
-    step-spelled = Makes.spelled
+    step-spelled = MadeStep.spelled
 
     pub step-answered : IsAnswer answer StepOf
-    step-answered = Makes.answered
+    step-answered = MadeStep.answered
 
     pub step-stands : Stands (with_cell old n new) AfterSite
-    step-stands = put-stands old is stands n within cell at new SiteAfter Makes.done.stands
+    step-stands = put-stands old is stands n within cell at new SiteAfter MadeStep.done.stands
 
     pub step-placed : IsOrderly (setup_of old.catalog) is → IsPlacedRight old.catalog (site_at AfterSite n).running StepOf.placed
     step-placed orderly =
         subst (λ (site : state.Site). IsPlacedRight old.catalog site.running StepOf.placed)
         (sym (get_or-set_same is.sites n SiteAfter no_site (subst (λ (count : ℕ). n < count) (sym stands.count) within)))
-        (placed-right (setup_of old.catalog) is n Makes.running orderly Makes.up input)
+        (placed-right (setup_of old.catalog) is n MadeStep.running orderly MadeStep.up input)
 
     pub step-comes : {X : Type 0} (after : World) (before later : List Line) (result : Result X WorldError)
         → Becomes (with_cell old n new) after before later (with_sent (with_placed AfterSite StepOf.placed) (from_site n StepOf.sends)) (protocol.lines_of n StepOf.notes) result
@@ -84,5 +84,5 @@ module _ (old : World) (is : model.World) (stands : Stands old is) (n : ℕ) (wi
     step-comes after before later result becomes =
         comes-by old after before later (given (setup_of old.catalog) is n input (site_at is n).running) (protocol.lines_of n StepOf.notes)
         (with_sent (with_placed AfterSite StepOf.placed) (from_site n StepOf.sends)) result
-        (given-up old.catalog is n input Makes.running Makes.up ∙ ap (attempted is n (of_step n StepOf)) Makes.done.waits)
+        (given-up old.catalog is n input MadeStep.running MadeStep.up ∙ ap (attempted is n (of_step n StepOf)) MadeStep.done.waits)
         (becomes-from old (with_cell old n new) after before later _ _ result (record { catalog = refl; limit = refl }) becomes)

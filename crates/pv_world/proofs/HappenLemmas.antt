@@ -24,7 +24,7 @@ use Rattle.pv_world.proofs.EventLemmas.{IsNoPump}
 use Rattle.pv_world.proofs.StandLemmas.{stands-dropped}
 use Rattle.pv_world.specs.Mail.{without_posts_to}
 use Rattle.pv_world.specs.Stands.{Stands, StandsForSite}
-use Rattle.pv_world.specs.Steps.{Comes, IsSameBeside, Makes, Steps, lines_of}
+use Rattle.pv_world.specs.Steps.{Comes, IsSameBeside, MakesTransitions, Steps, lines_of}
 use Rattle.pv_world.specs.declared.cell.Cell.{Cell}
 use Rattle.pv_world.specs.declared.error.WorldError.{WorldError}
 use Rattle.pv_world.specs.declared.error.WorldError.TheVariants.{SentLimit, NoMemory}
@@ -127,18 +127,18 @@ no-pump _ other = tt
 
 -- A step prints the lines that its event adds to none.
 pub steps-made : {X : Type 0} (old new : World) (before : List Line) (lines : Vec Line) (event : Event) (is : model.World) (x : X) → before ≡ []
-    → Makes {X = X} old new before lines.items is (transitions_of (setup_of old.catalog) is event) (Ok x) → Steps old new event is (Ok lines)
+    → MakesTransitions {X = X} old new before lines.items is (transitions_of (setup_of old.catalog) is event) (Ok x) → Steps old new event is (Ok lines)
 steps-made old new before lines event is x none makes =
     (makes.0, makes.1, makes.2 ∙ ap (λ (b : List Line). lines_of b ++ lines_of_transitions (transitions_of (setup_of old.catalog) is event)) none)
 
 -- An error of the event is the step's.
 steps-as : (X : Type 0) (old new : World) (before after : List Line) (event : Event) (is : model.World) (error : WorldError)
-    → Makes {X = X} old new before after is (transitions_of (setup_of old.catalog) is event) (Err error) → Steps old new event is (Err error)
+    → MakesTransitions {X = X} old new before after is (transitions_of (setup_of old.catalog) is event) (Err error) → Steps old new event is (Err error)
 steps-as X old new before after event is (SentLimit total) makes = makes
 steps-as X old new before after event is NoMemory makes = tt
 
 pub steps-failed : (X : Type 0) (old new : World) (before after : List Line) (event : Event) (is : model.World) (result : Result (Vec Line) WorldError) (error : WorldError)
-    → IsErrAnd result (λ e. e ≡ error) → Makes {X = X} old new before after is (transitions_of (setup_of old.catalog) is event) (Err error)
+    → IsErrAnd result (λ e. e ≡ error) → MakesTransitions {X = X} old new before after is (transitions_of (setup_of old.catalog) is event) (Err error)
     → Steps old new event is result
 steps-failed X old new before after event is (Ok lines) error same makes = absurd same
 steps-failed X old new before after event is (Err e) error same makes =

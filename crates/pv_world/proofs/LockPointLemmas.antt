@@ -8,7 +8,7 @@ use Rattle.pv_base.specs.declared.grant.GrantId.{GrantId}
 use Rattle.pv_base.specs.declared.txn.TxnId.{TxnId}
 use Rattle.pv_base.specs.Want.{Want}
 use Rattle.pv_format.specs.Message.{Message, lock, granted, denied, prepare, vote_yes, vote_no, outcome_reported, ask, NoCause}
-use Rattle.pv_law_acts.specs.Seen.{Works, ageless_entry}
+use Rattle.pv_law_acts.specs.Seen.{WorksAgeless, ageless_entry}
 use Rattle.pv_law_events.proofs.FoundLemmas.{locking-found}
 use Rattle.pv_law_step.proofs.KeyedLemmas.{of-with}
 use Rattle.pv_law_step.proofs.StepCases.{submit-case, lock-case, granted-case, denied-case, prepare-case, yes-case, no-case, outcome-case, ask-case}
@@ -182,7 +182,7 @@ module _ (setup : Setup) (world : World) (n : ℕ) (running : Running) (orderly 
   abbrev here-of : Here
   here-of = record { me = n; setup = setup; records = (site_at world n).records; running = running }
 
-  works-of : (txn : TxnId) (entry : Entry) → of_txn (λ (e : Entry). e.txn) txn running.entries ≡ Some entry → Works world n txn (record entry { age = 0 })
+  works-of : (txn : TxnId) (entry : Entry) → of_txn (λ (e : Entry). e.txn) txn running.entries ≡ Some entry → WorksAgeless world n txn (record entry { age = 0 })
   works-of txn entry found =
       ap (λ (memory : Option Running). ageless_entry (entry_in memory txn)) up ∙ ap ageless_entry found
 

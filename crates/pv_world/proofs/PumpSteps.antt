@@ -5,7 +5,7 @@ use Rattle.std.specs.List.{position}
 use Rattle.std.proofs.lemmas.Bool.Decides.{nat_tests}
 use Rattle.std.proofs.lemmas.List.{append-nil, length-map}
 use Rattle.pv_format.specs.Message.{Envelope, Message, lock, granted, denied, prepare, vote_yes, vote_no, outcome_reported, ask}
-use Rattle.pv_format.specs.MessageSpelling.{SpellsEnvelope, kind_of}
+use Rattle.pv_format.specs.MessageSpelling.{SpellsEnvelope, kind_number}
 use Rattle.pv_base.specs.BigEndian.{IsNumber, big_endian}
 use Rattle.pv_law_world.proofs.GrowthLemmas.{transition-grown}
 use Rattle.pv_law_world.proofs.PumpLemmas.{IsLighter, delivery-lighter, more-fuel, none-left}
@@ -26,7 +26,7 @@ use Rattle.pv_world.specs.Carry.{Carry}
 use Rattle.pv_world.specs.Mail.{Posted}
 use Rattle.pv_world.specs.Pumping.{is_over, one_less}
 use Rattle.pv_world.specs.Stands.{Stands, StandsFor}
-use Rattle.pv_world.specs.Steps.{IsSameBeside, Makes, lines_of}
+use Rattle.pv_world.specs.Steps.{IsSameBeside, MakesTransitions, lines_of}
 use Rattle.pv_world.specs.declared.error.WorldError.{WorldError}
 use Rattle.pv_world.specs.declared.error.WorldError.TheVariants.{SentLimit, NoMemory}
 use Rattle.pv_world.specs.declared.world.World.{World}
@@ -150,7 +150,7 @@ module _ (entry now new : World) (before mid after : List Line) (most left : Opt
   next-ends : world_after is (pumped.done ++ Delivery ∷ []) ≡ Delivery.world
   next-ends = world_after-append is pumped.done (Delivery ∷ [])
 
-  pub one-pumped : {X : Type 0} (x : X) → Makes now new mid after pumped.now_is (Delivery ∷ []) (Ok x) → HasPumped entry new before after most (one_less left) is
+  pub one-pumped : {X : Type 0} (x : X) → MakesTransitions now new mid after pumped.now_is (Delivery ∷ []) (Ok x) → HasPumped entry new before after most (one_less left) is
   one-pumped x makes = record {
     now_is = Delivery.world;
     done = pumped.done ++ Delivery ∷ [];
@@ -165,8 +165,8 @@ module _ (entry now new : World) (before mid after : List Line) (most left : Opt
     whole = all-next;
   }
 
-  pub over-pumped : (X : Type 0) (error : WorldError) → Makes {X = X} now new mid after pumped.now_is (Delivery ∷ []) (Err error)
-      → Makes {X = X} entry new before after is (deliveries (fuel_of is most) (setup_of entry.catalog) is) (Err error)
+  pub over-pumped : (X : Type 0) (error : WorldError) → MakesTransitions {X = X} now new mid after pumped.now_is (Delivery ∷ []) (Err error)
+      → MakesTransitions {X = X} entry new before after is (deliveries (fuel_of is most) (setup_of entry.catalog) is) (Err error)
   over-pumped X (SentLimit total) over =
       subst (λ (limit : ℕ). over_limit limit (world_after is (deliveries (fuel_of is most) (setup_of entry.catalog) is)) ≡ Some total) pumped.same.limit
       (subst (λ (transitions : List Transition). over_limit now.mail.limit (world_after is transitions) ≡ Some total) (sym all-next)
@@ -184,16 +184,16 @@ none-delivered setup (suc fuel) is none =
 
 module _ (entry now : World) (before after : List Line) (most left : Option ℕ) (is : model.World) (pumped : HasPumped entry now before after most left is) where
   pumped-all : {X : Type 0} (x : X) → deliveries (fuel_of pumped.now_is left) (setup_of entry.catalog) pumped.now_is ≡ []
-      → Makes entry now before after is (deliveries (fuel_of is most) (setup_of entry.catalog) is) (Ok x)
+      → MakesTransitions entry now before after is (deliveries (fuel_of is most) (setup_of entry.catalog) is) (Ok x)
   pumped-all x none =
-      subst (λ (transitions : List Transition). Makes entry now before after is transitions (Ok x))
+      subst (λ (transitions : List Transition). MakesTransitions entry now before after is transitions (Ok x))
       (sym (pumped.whole ∙ (ap (λ (rest : List Transition). pumped.done ++ rest) none ∙ append-nil pumped.done)))
       (subst (StandsFor now) (sym pumped.ends) pumped.stands, pumped.same, pumped.lines)
 
-  pub pumped-fresh : {X : Type 0} (x : X) → next_fresh pumped.now_is ≡ None → Makes entry now before after is (deliveries (fuel_of is most) (setup_of entry.catalog) is) (Ok x)
+  pub pumped-fresh : {X : Type 0} (x : X) → next_fresh pumped.now_is ≡ None → MakesTransitions entry now before after is (deliveries (fuel_of is most) (setup_of entry.catalog) is) (Ok x)
   pumped-fresh x none = pumped-all x (none-delivered (setup_of entry.catalog) (fuel_of pumped.now_is left) pumped.now_is none)
 
-  pub pumped-most : {X : Type 0} (x : X) → left ≡ Some 0 → Makes entry now before after is (deliveries (fuel_of is most) (setup_of entry.catalog) is) (Ok x)
+  pub pumped-most : {X : Type 0} (x : X) → left ≡ Some 0 → MakesTransitions entry now before after is (deliveries (fuel_of is most) (setup_of entry.catalog) is) (Ok x)
   pumped-most x none = pumped-all x (ap (λ (l : Option ℕ). deliveries (fuel_of pumped.now_is l) (setup_of entry.catalog) pumped.now_is) none)
 
 -- What is left to deliver, as the bytes say it.
@@ -219,7 +219,7 @@ unfolding big_endian
 first-byte number front rest bytes whole is =
     ap (λ (b : List ℕ). get_or b 0 0) (whole ∙ ap (λ (f : List ℕ). f ++ rest) is.spelled) ∙ one-digit number is.fits
 
-message-weight : (message : Message) → kind_weight (kind_of message) ≡ weight message
+message-weight : (message : Message) → kind_weight (kind_number message) ≡ weight message
 message-weight (lock txn wants) = refl
 message-weight (granted txn grant values) = refl
 message-weight (denied txn item holder) = refl
@@ -231,7 +231,7 @@ message-weight (ask txn) = refl
 
 weight-of : (envelope : Envelope) (bytes : List ℕ) → SpellsEnvelope envelope bytes → kind_weight (get_or bytes 0 0) ≡ weight envelope.message
 weight-of envelope bytes spells =
-    ap kind_weight (first-byte (kind_of envelope.message) spells.front spells.back bytes spells.whole spells.first) ∙ message-weight envelope.message
+    ap kind_weight (first-byte (kind_number envelope.message) spells.front spells.back bytes spells.whole spells.first) ∙ message-weight envelope.message
 
 by-mark : (mark : Bool) (envelope : Envelope) (weighs left : ℕ) (sent : List Envelope) (marks : List Bool) → weighs ≡ weight envelope.message → left ≡ weight_left sent marks
     → (if mark then weighs else 0) + left ≡ weight_left (envelope ∷ sent) (mark ∷ marks)
@@ -270,7 +270,7 @@ going-on left is zero_left = let wrong : true ≡ false = sym (ap is_over zero_l
 
 -- An error that came of another is that one.
 pub makes-result : (X : Type 0) (old new : World) (before after : List Line) (is : model.World) (transitions : List Transition) (result : Result X WorldError) (error : WorldError)
-    → IsErrAnd result (λ e. e ≡ error) → Makes {X = X} old new before after is transitions (Err error) → Makes old new before after is transitions result
+    → IsErrAnd result (λ e. e ≡ error) → MakesTransitions {X = X} old new before after is transitions (Err error) → MakesTransitions old new before after is transitions result
 makes-result X old new before after is transitions (Ok x) error same makes = absurd same
 makes-result X old new before after is transitions (Err e) error same makes =
-    subst (λ (w : WorldError). Makes {X = X} old new before after is transitions (Err w)) (sym same) makes
+    subst (λ (w : WorldError). MakesTransitions {X = X} old new before after is transitions (Err w)) (sym same) makes

@@ -8,7 +8,7 @@ use Rattle.pv_disk.specs.MemDisk.{MemState}
 use Rattle.pv_disk.specs.declared.arms.Arm as disk
 use Rattle.pv_format.specs.Record.{Record}
 use Rattle.pv_journal.specs.Armed.{ComesTo, Holds}
-use Rattle.pv_law_disk.specs.Size.{Contents}
+use Rattle.pv_disk_model.specs.Size.{Contents}
 use Rattle.pv_protocol.specs.Arms.{waits, fires, reached, calls_of, is_kept, record_left}
 use Rattle.pv_protocol.specs.Attempt.{of_start}
 use Rattle.pv_protocol.specs.Start.{Started, starts, too_long, no_epoch}

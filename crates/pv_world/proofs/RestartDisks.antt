@@ -14,9 +14,9 @@ use Rattle.pv_format.specs.RecordSpelling.{SpellsRecord}
 use Rattle.pv_journal.specs.Armed.{Holds, contents_left, opened_in}
 use Rattle.pv_journal.specs.Journal.{contents_now}
 use Rattle.pv_journal.specs.declared.journal.Journal.{Journal}
-use Rattle.pv_law_disk.specs.Size.{Contents}
+use Rattle.pv_disk_model.specs.Size.{Contents}
 use Rattle.pv_law_journal.proofs.ContentsLemmas.{contents_of-is}
-use Rattle.pv_law_journal.specs.Format.{IsJournal}
+use Rattle.pv_format.specs.Journal.{IsJournal}
 use Rattle.pv_protocol.specs.Arms.{is_kept, record_left}
 use Rattle.pv_protocol.specs.State.{Arm}
 use Rattle.pv_world.proofs.RestartArms.{later_by}

@@ -21,8 +21,8 @@ use Rattle.pv_journal.specs.JournalModel.{journal_model}
 use Rattle.pv_journal.specs.Opening as opening
 use Rattle.pv_journal.specs.declared.journal.Journal.{Journal}
 use Rattle.pv_journal.specs.declared.open_log.OpenLog.TheVariants as unopened
-use Rattle.pv_law_disk.specs.Calls.{Makes, OnlyReads, read_all, reserve, append}
-use Rattle.pv_law_disk.specs.Size.{Contents, size_of}
+use Rattle.pv_disk_model.specs.Calls.{Makes, OnlyReads, read_all, reserve, append}
+use Rattle.pv_disk_model.specs.Size.{Contents, size_of}
 use Rattle.pv_law_events.specs.Replays.{CanBeReplayed}
 use Rattle.pv_protocol.specs.Arms.{Reached, calls_of, fires, reached, record_left}
 use Rattle.pv_protocol.specs.Attempt.{Attempt, of_start, refused_start}

@@ -14,8 +14,8 @@ use Rattle.pv_journal.specs.Armed.{AppendsArmed, Holds, HoldsUp, contents_left}
 use Rattle.pv_journal.specs.Journal.{IsIntact, JournalGoes}
 use Rattle.pv_journal.specs.JournalModel.{journal_model}
 use Rattle.pv_journal.specs.declared.journal.Journal.{Journal}
-use Rattle.pv_law_disk.specs.Calls.{Makes, append, reserve}
-use Rattle.pv_law_disk.specs.Size.{Contents}
+use Rattle.pv_disk_model.specs.Calls.{Makes, append, reserve}
+use Rattle.pv_disk_model.specs.Size.{Contents}
 use Rattle.pv_protocol.specs.Arms.{calls_of_append, fires, reached, record_left, waits}
 use Rattle.pv_protocol.specs.State.{Arm, Step}
 use Rattle.pv_site.specs.OnLog.{Fails, Logs}

@@ -6,8 +6,8 @@ use Rattle.pv_disk.specs.declared.arms.Arm.{Arm}
 use Rattle.pv_format.specs.Contents.{SpellRecords}
 use Rattle.pv_format.specs.Record.{Record}
 use Rattle.pv_journal.specs.Armed.{Holds}
-use Rattle.pv_law_disk.specs.Size.{Contents}
-use Rattle.pv_law_journal.specs.Format.{IsJournal}
+use Rattle.pv_disk_model.specs.Size.{Contents}
+use Rattle.pv_format.specs.Journal.{IsJournal}
 use Rattle.pv_protocol.specs.State as model
 
 -- an armed fault as the disk has it

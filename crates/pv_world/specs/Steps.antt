@@ -61,11 +61,11 @@ Comes old new before after begun result = Becomes old new before after (ended be
 
 -- These transitions have been made, by the answer: exactly their lines were added, and the world is the one after them; or the total with
 -- the message that passes the limit.
-abbrev pub Makes : {X : Type 0} → (old new : World) → (before after : List Line) → model.World → List Transition → Result X WorldError → Type 0
-Makes old new before after is transitions (Ok _) =
+abbrev pub MakesTransitions : {X : Type 0} → (old new : World) → (before after : List Line) → model.World → List Transition → Result X WorldError → Type 0
+MakesTransitions old new before after is transitions (Ok _) =
     StandsFor new (world_after is transitions) × IsSameBeside old new × (lines_of after ≡ lines_of before ++ lines_of_transitions transitions)
-Makes old new before after is transitions (Err (SentLimit total)) = over_limit old.mail.limit (world_after is transitions) ≡ Some total
-Makes old new before after is transitions (Err NoMemory) = ⊤
+MakesTransitions old new before after is transitions (Err (SentLimit total)) = over_limit old.mail.limit (world_after is transitions) ≡ Some total
+MakesTransitions old new before after is transitions (Err NoMemory) = ⊤
 
 -- The event's step, by the answer: exactly its lines, and the world after it; or the total with the message that passes the limit.
 abbrev pub Steps : (old new : World) → Event → model.World → Result (Vec Line) WorldError → Type 0

@@ -1,7 +1,7 @@
 -- What coordinators took, in the order of sites.
 use Rattle.std.specs.Prelude.{ℕ, ◌+◌, ◌≤◌, ◌<◌, List, [], ◌∷◌, All, ⊤}
 use Rattle.pv_base.specs.declared.txn.TxnId.{TxnId}
-use Rattle.pv_law_acts.specs.Seen.{Works}
+use Rattle.pv_law_acts.specs.Seen.{WorksAgeless}
 use Rattle.pv_law_world.specs.Sites.{AreMemoriesInOrder}
 use Rattle.pv_protocol.specs.State.{Setup, Taken, Entry}
 use Rattle.pv_protocol.specs.World.{World}
@@ -13,7 +13,7 @@ Ascend low bound (taken ∷ rest) = (low ≤ taken.site) × (taken.site < bound)
 
 -- What was taken for each transaction on which a site works stands in the order of sites.
 abbrev pub AreTakenInOrder : Setup → World → Type 0
-AreTakenInOrder setup world = (n : ℕ) (txn : TxnId) (entry : Entry) → Works world n txn entry → Ascend 0 setup.catalog.sites entry.taken
+AreTakenInOrder setup world = (n : ℕ) (txn : TxnId) (entry : Entry) → WorksAgeless world n txn entry → Ascend 0 setup.catalog.sites entry.taken
 
 -- Each item is at a site, and what each site has in memory stands in order.
 pub record IsOrderly (setup : Setup) (world : World) : Type 0 where

@@ -13,7 +13,7 @@ ghost use Rattle.pv_site.specs.SiteState.{setup_of};
 ghost use Rattle.pv_world.specs.Pumping.{is_over, one_less};
 ghost use Rattle.pv_world.specs.Stands.{StandsFor, StandsForSome};
 ghost use Rattle.pv_world.specs.Stands as world;
-ghost use Rattle.pv_world.specs.Steps.{Comes, Makes};
+ghost use Rattle.pv_world.specs.Steps.{Comes, MakesTransitions};
 
 use crate::cell::Start;
 use crate::laws::reached_worlds_are_lawful;
@@ -34,7 +34,7 @@ impl World {
         requires event { IsWellFormed self.old.catalog (event_of event.now) }
         requires plan { HasPlan self.old.catalog event.now }
         ensures { (is : model.World) → StandsFor self.old is →
-            Makes self.old self.new lines.old.items lines.new.items is (transitions_of (setup_of self.old.catalog) is (event_of event.now)) result }
+            MakesTransitions self.old self.new lines.old.items lines.new.items is (transitions_of (setup_of self.old.catalog) is (event_of event.now)) result }
     {
         match event {
             Event::Pump(most) => self.pump(*most, lines),
@@ -135,7 +135,7 @@ impl World {
     fn pump(&mut self, most: Option<u32>, lines: &mut Vec<Line>) -> Result<(), WorldError>
         requires { StandsForSome self.old }
         ensures { (is : model.World) → StandsFor self.old is →
-            Makes self.old self.new lines.old.items lines.new.items is (transitions_of (setup_of self.old.catalog) is (happening.pump most)) result }
+            MakesTransitions self.old self.new lines.old.items lines.new.items is (transitions_of (setup_of self.old.catalog) is (happening.pump most)) result }
     {
         let mut left = most;
         while !is_over(left) {

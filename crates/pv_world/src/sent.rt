@@ -79,7 +79,7 @@ fn line_of(alloc: Global, number: u64, bytes: &[u8]) -> Result<Line, NoMemory>
 
 // What a message is, and which transaction it is of.
 fn head_of(message: &Message) -> (MessageKind, TxnId)
-    ensures kind { line.kind_of result.0 ≡ model.kind_of (message_of message.now) }
+    ensures kind { line.message_kind_of result.0 ≡ model.kind_of (message_of message.now) }
     ensures txn { result.1 ≡ txn_of (message_of message.now) }
 {
     match message {

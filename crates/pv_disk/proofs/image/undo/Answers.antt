@@ -1,6 +1,6 @@
 use Rattle.std.proofs.Common.{rules, List, ℕ, ◌≡◌, ◌-◌, take, drop, ◌∙◌, ap, length}
 use Rattle.std.proofs.lemmas.List.{with_items_is}
-use Rattle.pv_law_disk.specs.Disk.{overlaid}
+use Rattle.pv_disk_model.specs.Disk.{overlaid}
 use Rattle.pv_disk.specs.MemHistory.{overwritten}
 use Rattle.pv_disk.proofs.HistoryLemmas.{undone}
 use Rattle.pv_disk.proofs.image.undo.Goals as goal

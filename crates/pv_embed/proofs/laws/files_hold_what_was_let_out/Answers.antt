@@ -1,7 +1,7 @@
 use Rattle.std.proofs.Common.{◌≡◌, ◌++◌, ◌∷◌, [], length, true, subst, sym, ◌∙◌, ap, append-nil}
 use Rattle.pv_format.specs.Contents.{SpellRecords}
-use Rattle.pv_law_disk.specs.Calls.{append, read_all, reserve}
-use Rattle.pv_law_disk.specs.Size.{Contents}
+use Rattle.pv_disk_model.specs.Calls.{append, read_all, reserve}
+use Rattle.pv_disk_model.specs.Size.{Contents}
 use Rattle.pv_site.specs.SiteState.{SiteState}
 use Rattle.pv_host.specs.HostFile.{IsFile}
 use Rattle.pv_host.specs.HostLog.{HostState, contents_of}

@@ -3,7 +3,7 @@ use Rattle.pv_base.proofs.AnswerLemmas.{answered}
 use Rattle.pv_disk.specs.MemDisk.{ArmsState}
 use Rattle.pv_disk.specs.declared.disk_error.LookError.TheVariants.{NoMemory}
 use Rattle.pv_journal.specs.Opening.{contents_in, place_in}
-use Rattle.pv_law_journal.specs.Format.{IsJournal, IsNotOurs}
+use Rattle.pv_format.specs.Journal.{IsJournal, IsNotOurs}
 use Rattle.pv_host.proofs.HostLemmas.{never_failed}
 use Rattle.pv_host.proofs.host_log.journal_in.Goals as goal
 

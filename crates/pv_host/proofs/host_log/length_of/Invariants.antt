@@ -1,6 +1,6 @@
 use Rattle.std.proofs.Common.{◌≡◌, ◌≤◌, map, take}
 use Rattle.pv_base.specs.declared.limits.TheConstants.{MAX_LENGTH}
-use Rattle.pv_law_disk.specs.Size.{size_of}
+use Rattle.pv_disk_model.specs.Size.{size_of}
 use Rattle.pv_host.proofs.host_log.length_of.Given as goal
 
 abbrev pub invariant-loop-content : goal.invariant-loop-content

@@ -1,5 +1,5 @@
 use Rattle.pv_base.proofs.AnswerLemmas.{answered}
-use Rattle.pv_law_journal.specs.Format.{IsJournal, IsNotOurs}
+use Rattle.pv_format.specs.Journal.{IsJournal, IsNotOurs}
 use Rattle.pv_law_journal.proofs.OneAnswer.{one_answer}
 use Rattle.pv_journal.specs.Opening.{contents_in, place_in}
 use Rattle.pv_journal.proofs.GivenLemmas.{answers_of_reads}

@@ -1,5 +1,5 @@
 use Rattle.std.proofs.Common.{rules, arith, ◌≡◌, ℕ, List, inl, inr, sym, ◌∙◌, ap, subst, drop, ◌+◌, ◌-◌, ◌++◌, ◌∷◌, []}
-use Rattle.pv_law_journal.specs.Format.{header, EndsShort}
+use Rattle.pv_format.specs.Journal.{header, EndsShort}
 use Rattle.pv_base.specs.BigEndian.{big_endian}
 use Rattle.pv_journal.specs.Outline.{OutlinesTo}
 use Rattle.pv_journal.specs.Reading.{Gave, IsGate, IsOpenEnd, ReadsTo, StandsAt, EndsBefore}

@@ -1,5 +1,5 @@
 use Rattle.std.proofs.Common.{◌≡◌, ℕ, ◌-◌, ◌<◌, ◌≤◌, List, Some}
-use Rattle.pv_law_disk.specs.Size.{Contents}
+use Rattle.pv_disk_model.specs.Size.{Contents}
 use Rattle.pv_journal.specs.Outline.{OutlinesTo}
 use Rattle.pv_journal.specs.Reading.{Gave, Looks, ReadsTo}
 use Rattle.pv_journal.proofs.reading.find_end.Given as goal

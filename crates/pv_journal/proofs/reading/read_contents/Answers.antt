@@ -1,7 +1,7 @@
 use Rattle.std.proofs.Common.{rules, arith, ◌≡◌, ℕ, inl, inr, sym, ◌∙◌, subst, ap, map, drop, length, ◌+◌, ◌-◌, ◌++◌, ◌∷◌, [], vec_len, Vec, Global, Option, ◌<◌, ◌^◌}
 use Rattle.std.specs.Prelude.{IfSome}
 use Rattle.std.proofs.lemmas.List.{map_push}
-use Rattle.pv_law_journal.specs.Format.{header, EndsShort}
+use Rattle.pv_format.specs.Journal.{header, EndsShort}
 use Rattle.pv_journal.specs.Reading.{Gave, HoldsRecord, IsOpenEnd, IsRecord}
 use Rattle.pv_journal.proofs.GivenLemmas.{all_read, cut_read, gives_more, none_read, one_more_read}
 use Rattle.pv_journal.proofs.LookLemmas.{looked_ok, looked_in_vain}

@@ -1,5 +1,5 @@
 use Rattle.std.proofs.Common.{length}
-use Rattle.pv_law_disk.specs.Calls.{read}
+use Rattle.pv_disk_model.specs.Calls.{read}
 use Rattle.pv_journal.proofs.LookLemmas.{looks_ok, looks_failed}
 use Rattle.pv_journal.proofs.reading.read_from.Goals as goal
 

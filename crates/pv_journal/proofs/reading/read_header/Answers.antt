@@ -1,6 +1,6 @@
 use Rattle.std.proofs.Common.{rules, ◌≡◌, ◌≤◌, ◌≢◌, ◌<◌, min, take, length, slice_index, refl, sym, subst}
-use Rattle.pv_law_disk.specs.Disk.{Gives}
-use Rattle.pv_law_journal.specs.Format.{header, HasNoHeader}
+use Rattle.pv_disk_model.specs.Disk.{Gives}
+use Rattle.pv_format.specs.Journal.{header, HasNoHeader}
 use Rattle.pv_journal.proofs.GivenLemmas.{header_read, whole_front}
 use Rattle.pv_journal.proofs.ReadLemmas.{no_header, no_gate, begins}
 use Rattle.pv_journal.proofs.reading.read_header.Goals as goal

@@ -1,6 +1,6 @@
 use Rattle.std.proofs.Common.{arith, ◌≡◌, ℕ, List, length, sym, ◌∙◌, subst, ap, take, drop, ◌-◌, ◌++◌, ◌∷◌}
 use Rattle.std.proofs.lemmas.List.{drop-drop}
-use Rattle.pv_law_journal.specs.Format.{framed}
+use Rattle.pv_format.specs.Journal.{framed}
 use Rattle.pv_base.specs.BigEndian.{big_endian}
 use Rattle.pv_journal.specs.Reading.{StandsAt, EndsBefore, IsGate}
 use Rattle.pv_journal.specs.declared.reading.Gate.{Gate}

@@ -1,4 +1,4 @@
-use Rattle.pv_law_disk.specs.Calls.{len}
+use Rattle.pv_disk_model.specs.Calls.{len}
 use Rattle.pv_journal.proofs.GivenLemmas.{gives_none}
 use Rattle.pv_journal.proofs.LookLemmas.{looks_ok, looks_failed}
 use Rattle.pv_journal.proofs.reading.size_of_disk.Goals as goal

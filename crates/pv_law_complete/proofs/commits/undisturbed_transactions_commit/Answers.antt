@@ -1,5 +1,5 @@
 -- The lemma, of both kinds of runs.
-use Rattle.pv_law_causes.proofs.Chains.{any-run-links, run-links}
+use Rattle.pv_law_refusals.proofs.Chains.{any-run-links, run-links}
 use Rattle.pv_law_complete.proofs.GoneLemmas.{faults-gone, run-gone}
 use Rattle.pv_law_complete.proofs.RunLemmas.{undisturbed-commit}
 use Rattle.pv_law_complete.proofs.commits.undisturbed_transactions_commit.Goals as goal

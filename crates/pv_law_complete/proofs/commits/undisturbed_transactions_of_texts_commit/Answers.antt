@@ -1,5 +1,5 @@
 -- The events of a schedule's text are well formed.
-use Rattle.pv_law_causes.proofs.Chains.{run-links}
+use Rattle.pv_law_refusals.proofs.Chains.{run-links}
 use Rattle.pv_law_complete.proofs.GoneLemmas.{run-gone}
 use Rattle.pv_law_complete.proofs.RunLemmas.{undisturbed-commit}
 use Rattle.pv_law_complete.proofs.commits.undisturbed_transactions_of_texts_commit.Goals as goal

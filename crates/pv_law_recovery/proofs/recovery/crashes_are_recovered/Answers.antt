@@ -1,6 +1,6 @@
 use Rattle.std.proofs.Common.{◌≡◌, refl, inl, inr, subst, sym}
 use Rattle.pv_journal.specs.JournalModel.{journal_model}
-use Rattle.pv_law_journal.specs.Contents.{contents_of}
+use Rattle.pv_format.specs.JournalContents.{contents_of}
 use Rattle.pv_law_recovery.proofs.RecoveryLemmas.{contents-recover, kept-left, opening-recovers, up-holds}
 use Rattle.pv_law_recovery.proofs.recovery.crashes_are_recovered.Goals as goal
 use Rattle.pv_law_recovery.specs.Recovery.{IsBeforeOrAfter}

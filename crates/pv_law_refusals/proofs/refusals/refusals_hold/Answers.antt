@@ -1,7 +1,7 @@
 -- The lemmas, with what came before each transition of a run.
-use Rattle.pv_law_causes.proofs.Chains.{any-run-links, run-links}
-use Rattle.pv_law_causes.proofs.MessageHistories.{messages-came-before}
-use Rattle.pv_law_causes.proofs.WaitHistories.{ages-before}
+use Rattle.pv_law_refusals.proofs.Chains.{any-run-links, run-links}
+use Rattle.pv_law_refusals.proofs.MessageHistories.{messages-came-before}
+use Rattle.pv_law_refusals.proofs.WaitHistories.{ages-before}
 use Rattle.pv_law_events.proofs.RunActs.{any-run-reached, run-reached}
 use Rattle.pv_law_refusals.proofs.JoinLemmas.{any-refusals, run-refusals}
 use Rattle.pv_law_refusals.proofs.refusals.refusals_hold.Goals as goal

@@ -1,7 +1,7 @@
 -- The events of a schedule's text are well formed.
-use Rattle.pv_law_causes.proofs.Chains.{run-links}
-use Rattle.pv_law_causes.proofs.MessageHistories.{messages-came-before}
-use Rattle.pv_law_causes.proofs.WaitHistories.{ages-before}
+use Rattle.pv_law_refusals.proofs.Chains.{run-links}
+use Rattle.pv_law_refusals.proofs.MessageHistories.{messages-came-before}
+use Rattle.pv_law_refusals.proofs.WaitHistories.{ages-before}
 use Rattle.pv_law_events.proofs.RunActs.{run-reached}
 use Rattle.pv_law_refusals.proofs.JoinLemmas.{run-refusals}
 use Rattle.pv_law_refusals.proofs.refusals.texts_refuse_for_causes.Goals as goal

@@ -3,7 +3,7 @@ use Rattle.std.proofs.Common.{arith}
 use Rattle.std.proofs.lemmas.Result.{err_from_is_err_and}
 use Rattle.pv_format.specs.Spelling.{is_count_from}
 use Rattle.std.proofs.lemmas.Bool.Decides.{nat_tests}
-use Rattle.pv_law_fields.proofs.PartLemmas.{passes_number, stops_number, stops_short}
+use Rattle.pv_fields.proofs.PartLemmas.{passes_number, stops_number, stops_short}
 use Rattle.pv_replay.proofs.fields.take_count.Goals as goal
 use Rattle.pv_replay.proofs.fields.take_count.Goals.{then-count-fewest-via-then-count-fewest, then-count-fewest-via-else-count-fewest+then-from-gt-MAX_PROGRAM_ITEMS}
 

@@ -3,7 +3,7 @@ use Rattle.std.proofs.Common.{arith}
 use Rattle.std.proofs.lemmas.Result.{err_from_is_err_and}
 use Rattle.pv_format.specs.Spelling.{is_item_from}
 use Rattle.std.proofs.lemmas.Bool.Decides.{nat_tests}
-use Rattle.pv_law_fields.proofs.PartLemmas.{passes_number, stops_number, stops_short}
+use Rattle.pv_fields.proofs.PartLemmas.{passes_number, stops_number, stops_short}
 use Rattle.pv_replay.proofs.fields.take_item.Goals as goal
 use Rattle.pv_replay.proofs.fields.take_item.Goals.{then-item-least-via-then-item-least, then-item-least-via-else-item-least+then-item-ge-MAX_ITEMS}
 

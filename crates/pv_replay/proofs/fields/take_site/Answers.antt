@@ -3,7 +3,7 @@ use Rattle.std.proofs.Common.{arith}
 use Rattle.std.proofs.lemmas.Result.{err_from_is_err_and}
 use Rattle.pv_format.specs.Spelling.{IsSite, is_site}
 use Rattle.std.proofs.lemmas.Bool.Decides.{nat_tests}
-use Rattle.pv_law_fields.proofs.PartLemmas.{passes_number, passes_part, stops_number, stops_short}
+use Rattle.pv_fields.proofs.PartLemmas.{passes_number, passes_part, stops_number, stops_short}
 use Rattle.pv_replay.proofs.fields.take_site.Goals as goal
 
 pub returns-in_err-site-clause-stops : goal.returns-in_err-site-clause-stops

@@ -3,7 +3,7 @@ use Rattle.std.proofs.Common.{true, false, arith}
 use Rattle.std.proofs.lemmas.Result.{err_from_is_err_and}
 use Rattle.pv_format.specs.Spelling.{is_truth}
 use Rattle.std.proofs.lemmas.Bool.Decides.{nat_tests}
-use Rattle.pv_law_fields.proofs.PartLemmas.{passes_truth, stops_number, stops_short}
+use Rattle.pv_fields.proofs.PartLemmas.{passes_truth, stops_number, stops_short}
 use Rattle.pv_replay.proofs.fields.take_truth.Goals as goal
 
 pub returns-in_err-u8-clause-stops : goal.returns-in_err-u8-clause-stops

@@ -6,7 +6,7 @@ use Rattle.pv_format.specs.FirstFault.{short}
 use Rattle.pv_format.specs.Layout.{any, number_then, site_layout}
 use Rattle.pv_format.specs.Spelling.{◌followed_by◌, IsSite}
 use Rattle.pv_replay.specs.Faults.{fault_of}
-use Rattle.pv_law_fields.proofs.PartLemmas.{passes_any, passes_both, stops_any, stops_first, stops_second}
+use Rattle.pv_fields.proofs.PartLemmas.{passes_any, passes_both, stops_any, stops_first, stops_second}
 use Rattle.pv_replay.proofs.fields.take_txn.Goals as goal
 
 pub returns-in_err-site-clause-stops : goal.returns-in_err-site-clause-stops

@@ -7,7 +7,7 @@ use Rattle.pv_base.specs.BigEndian.{big_endian, twos_complement}
 use Rattle.pv_base.specs.Polyvalue.{Case}
 use Rattle.pv_format.specs.PolyvalueSpelling.{SpellsCase, SpellsLiteral}
 use Rattle.pv_format.specs.Spelling.{SpellsEach}
-use Rattle.pv_law_fields.proofs.PartLemmas.{appended_both}
+use Rattle.pv_fields.proofs.PartLemmas.{appended_both}
 use Rattle.pv_replay.proofs.poly.put_case.Goals as goal
 
 pub returns : goal.returns

@@ -1,7 +1,7 @@
 -- One case after another.
 use Rattle.std.proofs.Common.{refl}
 use Rattle.pv_format.specs.PolyvalueSpelling.{SpellsCase}
-use Rattle.pv_law_fields.proofs.ListLemmas.{writing_goes_on, writing_ends}
+use Rattle.pv_fields.proofs.ListLemmas.{writing_goes_on, writing_ends}
 use Rattle.pv_replay.proofs.poly.put_cases.Goals as goal
 
 pub loop-case-init : goal.loop-case-init

@@ -1,6 +1,6 @@
 -- The truth value, and then the transaction.
 use Rattle.std.proofs.lemmas.Result.{on_ok_weaker}
-use Rattle.pv_law_fields.proofs.PartLemmas.{appended_both}
+use Rattle.pv_fields.proofs.PartLemmas.{appended_both}
 use Rattle.pv_replay.proofs.poly.put_literal.Goals as goal
 
 pub returns : goal.returns

@@ -2,7 +2,7 @@
 use Rattle.std.proofs.Common.{refl}
 use Rattle.std.proofs.lemmas.List.{get_or_default}
 use Rattle.pv_format.specs.PolyvalueSpelling.{SpellsLiteral}
-use Rattle.pv_law_fields.proofs.ListLemmas.{writing_goes_on, writing_ends}
+use Rattle.pv_fields.proofs.ListLemmas.{writing_goes_on, writing_ends}
 use Rattle.pv_replay.proofs.poly.put_literals.Goals as goal
 
 pub loop-literal-init : goal.loop-literal-init

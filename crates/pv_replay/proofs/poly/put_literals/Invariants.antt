@@ -2,7 +2,7 @@
 use Rattle.std.proofs.Common.{ℕ, List, drop}
 use Rattle.pv_format.specs.PolyvalueSpelling.{SpellsLiteral}
 use Rattle.pv_format.specs.Spelling.{SpellsEach}
-use Rattle.pv_law_fields.proofs.ListLemmas.{IsWriting}
+use Rattle.pv_fields.proofs.ListLemmas.{IsWriting}
 use Rattle.pv_replay.proofs.poly.put_literals.Given as goal
 
 abbrev pub invariant-loop-literal : goal.invariant-loop-literal

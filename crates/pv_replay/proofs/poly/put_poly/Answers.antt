@@ -5,8 +5,8 @@ use Rattle.pv_base.specs.BigEndian.{big_endian}
 use Rattle.pv_base.specs.Polyvalue.{Case}
 use Rattle.pv_format.specs.PolyvalueSpelling.{SpellsCase}
 use Rattle.pv_format.specs.Spelling.{SpellsEach}
-use Rattle.pv_law_fields.proofs.PartLemmas.{appended_both}
-use Rattle.pv_law_fields.proofs.PolyvalueLemmas.{few_literals}
+use Rattle.pv_fields.proofs.PartLemmas.{appended_both}
+use Rattle.pv_fields.proofs.PolyvalueLemmas.{few_literals}
 use Rattle.pv_replay.proofs.poly.put_poly.Goals as goal
 
 pub put_cases-requires : goal.put_cases-requires

@@ -4,8 +4,8 @@ use Rattle.std.proofs.lemmas.Result.{err_from_is_err_and}
 use Rattle.pv_format.specs.FirstFault.{short}
 use Rattle.pv_format.specs.Layout.{any}
 use Rattle.pv_replay.specs.Faults.{fault_of}
-use Rattle.pv_law_fields.proofs.PartLemmas.{stops_at_number, stops_short}
-use Rattle.pv_law_fields.proofs.PolyvalueLemmas.{stops_cases, counted_literals}
+use Rattle.pv_fields.proofs.PartLemmas.{stops_at_number, stops_short}
+use Rattle.pv_fields.proofs.PolyvalueLemmas.{stops_cases, counted_literals}
 use Rattle.pv_replay.proofs.CaseLemmas.{after_count, cases_pass, cases_stop, case_passes, case_stops, kept_passes, refused_stops}
 use Rattle.pv_replay.proofs.poly.read_poly.Goals as goal
 

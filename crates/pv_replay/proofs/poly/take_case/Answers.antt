@@ -10,10 +10,10 @@ use Rattle.pv_format.specs.FirstFault.{short}
 use Rattle.pv_format.specs.Layout.{Layout, any, number_then, repeated, literal_layout, case_layout}
 use Rattle.pv_format.specs.PolyvalueSpelling.{SpellsLiteral, SpellsCase}
 use Rattle.pv_format.specs.Spelling.{◌followed_by◌, SpellsEach}
-use Rattle.pv_law_fields.specs.Decoding.{Passes}
+use Rattle.pv_fields.specs.Decoding.{Passes}
 use Rattle.pv_replay.specs.Faults.{fault_of}
-use Rattle.pv_law_fields.proofs.PartLemmas.{number_any, passes_both, passes_after_number, stops_first, stops_second, stops_after_number, stops_at_number, stops_any, stops_short}
-use Rattle.pv_law_fields.proofs.PolyvalueLemmas.{passes_signed}
+use Rattle.pv_fields.proofs.PartLemmas.{number_any, passes_both, passes_after_number, stops_first, stops_second, stops_after_number, stops_at_number, stops_any, stops_short}
+use Rattle.pv_fields.proofs.PolyvalueLemmas.{passes_signed}
 use Rattle.pv_replay.proofs.poly.take_case.Goals as goal
 
 -- What comes after the count of the literals.

@@ -2,7 +2,7 @@
 use Rattle.std.proofs.Common.{◌-◌, ◌≤◌, length, vec_len}
 use Rattle.pv_format.specs.Layout.{case_layout}
 use Rattle.pv_format.specs.PolyvalueSpelling.{SpellsCase}
-use Rattle.pv_law_fields.proofs.ListLemmas.{IsReading}
+use Rattle.pv_fields.proofs.ListLemmas.{IsReading}
 use Rattle.pv_replay.proofs.poly.take_counted_cases.Given as goal
 
 abbrev pub invariant-loop-alloc : goal.invariant-loop-alloc

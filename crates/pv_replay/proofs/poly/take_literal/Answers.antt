@@ -3,7 +3,7 @@ use Rattle.std.proofs.lemmas.Result.{err_from_is_err_and}
 use Rattle.pv_format.specs.Layout.{truth_layout, txn_layout}
 use Rattle.pv_format.specs.Spelling.{IsTruth, SpellsTxn}
 use Rattle.pv_replay.specs.Faults.{fault_of}
-use Rattle.pv_law_fields.proofs.PartLemmas.{passes_both, stops_first, stops_second}
+use Rattle.pv_fields.proofs.PartLemmas.{passes_both, stops_first, stops_second}
 use Rattle.pv_replay.proofs.poly.take_literal.Goals as goal
 
 pub returns-in_err-commits-clause-stops : goal.returns-in_err-commits-clause-stops

@@ -4,7 +4,7 @@ use Rattle.std.proofs.lemmas.Result.{err_from_is_err_and}
 use Rattle.pv_format.specs.Layout.{literal_layout}
 use Rattle.pv_format.specs.PolyvalueSpelling.{SpellsLiteral}
 use Rattle.pv_replay.specs.Faults.{fault_of}
-use Rattle.pv_law_fields.proofs.ListLemmas.{reading_starts, reading_goes_on, reading_stops, reading_ends}
+use Rattle.pv_fields.proofs.ListLemmas.{reading_starts, reading_goes_on, reading_stops, reading_ends}
 use Rattle.pv_replay.proofs.poly.take_literals.Goals as goal
 
 pub loop-when-init : goal.loop-when-init

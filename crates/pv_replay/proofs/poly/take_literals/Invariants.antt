@@ -2,7 +2,7 @@
 use Rattle.std.proofs.Common.{◌-◌, ◌≤◌, length, vec_len}
 use Rattle.pv_format.specs.Layout.{literal_layout}
 use Rattle.pv_format.specs.PolyvalueSpelling.{SpellsLiteral}
-use Rattle.pv_law_fields.proofs.ListLemmas.{IsReading}
+use Rattle.pv_fields.proofs.ListLemmas.{IsReading}
 use Rattle.pv_replay.proofs.poly.take_literals.Given as goal
 
 abbrev pub invariant-loop-when : goal.invariant-loop-when

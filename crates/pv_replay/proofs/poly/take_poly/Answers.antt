@@ -8,7 +8,7 @@ use Rattle.pv_bytes.specs.Reading.{Rest}
 use Rattle.pv_format.specs.FirstFault.{Fault, PolyvalueFault, PartFault, is_within, is_after, HasFault}
 use Rattle.pv_format.specs.Layout.{anything, polyvalue_then}
 use Rattle.pv_format.specs.PolyvalueSpelling.{BeginsWith, SpellsPolyvalue}
-use Rattle.pv_law_fields.specs.Decoding.{Passes, Stops}
+use Rattle.pv_fields.specs.Decoding.{Passes, Stops}
 use Rattle.pv_law_format.proofs.AnswerLemmas.{one-polyvalue-answer}
 use Rattle.pv_poly.specs.declared.poly.Poly.{Poly}
 use Rattle.pv_replay.specs.Faults.{fault_of}

@@ -2,8 +2,8 @@
 use Rattle.std.proofs.Common.{◌++◌, sym, ap, subst, ◌∙◌}
 use Rattle.std.proofs.lemmas.Result.{on_ok_weaker}
 use Rattle.pv_format.specs.PolyvalueSpelling.{SpellsPolyvalue}
-use Rattle.pv_law_fields.proofs.PartLemmas.{appended_both}
-use Rattle.pv_law_fields.specs.Encoding.{SpellsEntry}
+use Rattle.pv_fields.proofs.PartLemmas.{appended_both}
+use Rattle.pv_fields.specs.Encoding.{SpellsEntry}
 use Rattle.pv_model.specs.Alternatives.{Read}
 use Rattle.pv_replay.proofs.reads.put_read.Goals as goal
 

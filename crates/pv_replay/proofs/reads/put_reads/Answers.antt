@@ -1,10 +1,10 @@
 -- The count, and then one item after another.
 use Rattle.std.proofs.Common.{◌++◌, List, ℕ, refl, sym, ap, subst, ◌∙◌}
 use Rattle.pv_format.specs.PolyvalueSpelling.{SpellsPolyvalue}
-use Rattle.pv_law_fields.proofs.EntryLemmas.{entries_each, entries_spelled}
-use Rattle.pv_law_fields.proofs.ListLemmas.{writing_goes_on, writing_ends}
-use Rattle.pv_law_fields.proofs.PartLemmas.{appended_both}
-use Rattle.pv_law_fields.specs.Encoding.{SpellsEntry}
+use Rattle.pv_fields.proofs.EntryLemmas.{entries_each, entries_spelled}
+use Rattle.pv_fields.proofs.ListLemmas.{writing_goes_on, writing_ends}
+use Rattle.pv_fields.proofs.PartLemmas.{appended_both}
+use Rattle.pv_fields.specs.Encoding.{SpellsEntry}
 use Rattle.pv_model.specs.Alternatives.{Read}
 use Rattle.pv_replay.proofs.reads.put_reads.Goals as goal
 

@@ -2,8 +2,8 @@
 use Rattle.std.proofs.Common.{ℕ, List, drop}
 use Rattle.pv_format.specs.PolyvalueSpelling.{SpellsPolyvalue}
 use Rattle.pv_format.specs.Spelling.{SpellsEach}
-use Rattle.pv_law_fields.proofs.ListLemmas.{IsWriting}
-use Rattle.pv_law_fields.specs.Encoding.{SpellsEntry}
+use Rattle.pv_fields.proofs.ListLemmas.{IsWriting}
+use Rattle.pv_fields.specs.Encoding.{SpellsEntry}
 use Rattle.pv_model.specs.Alternatives.{Read}
 use Rattle.pv_replay.proofs.reads.put_reads.Given as goal
 

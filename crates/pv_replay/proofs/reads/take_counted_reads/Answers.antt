@@ -6,7 +6,7 @@ use Rattle.pv_format.specs.Layout.{polyvalue_then}
 use Rattle.pv_format.specs.PolyvalueSpelling.{SpellsPolyvalue}
 use Rattle.pv_model.specs.Alternatives.{Read}
 use Rattle.pv_replay.specs.Faults.{fault_of}
-use Rattle.pv_law_fields.proofs.ListLemmas.{entries_start, entries_go_on, entries_stop, entries_stop_at_item, entries_end}
+use Rattle.pv_fields.proofs.ListLemmas.{entries_start, entries_go_on, entries_stop, entries_stop_at_item, entries_end}
 use Rattle.pv_replay.proofs.reads.take_counted_reads.Goals as goal
 
 pub loop-alloc-init : goal.loop-alloc-init

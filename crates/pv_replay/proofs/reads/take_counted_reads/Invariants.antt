@@ -2,7 +2,7 @@
 use Rattle.std.proofs.Common.{◌-◌, ◌≤◌, length, vec_len}
 use Rattle.pv_format.specs.Layout.{polyvalue_then}
 use Rattle.pv_format.specs.PolyvalueSpelling.{SpellsPolyvalue}
-use Rattle.pv_law_fields.proofs.ListLemmas.{IsReadingEntries}
+use Rattle.pv_fields.proofs.ListLemmas.{IsReadingEntries}
 use Rattle.pv_model.specs.Alternatives.{Read}
 use Rattle.pv_replay.proofs.reads.take_counted_reads.Given as goal
 

@@ -1,6 +1,6 @@
 -- What is spelled isn't long.
 use Rattle.std.proofs.Common.{arith}
-use Rattle.pv_law_fields.proofs.SizeLemmas.{record_small}
+use Rattle.pv_fields.proofs.SizeLemmas.{record_small}
 use Rattle.pv_replay.specs.Values.{record_of}
 use Rattle.pv_replay.proofs.record.encode_record.Goals as goal
 

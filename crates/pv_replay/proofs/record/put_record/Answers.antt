@@ -3,7 +3,7 @@ use Rattle.std.proofs.Common.{◌++◌, List, sym, ap, subst, ◌∙◌}
 use Rattle.std.proofs.lemmas.Result.{on_ok_weaker}
 use Rattle.pv_format.specs.Record.{epoch_begun, prepared, outcome_known}
 use Rattle.pv_format.specs.RecordSpelling.{SpellsReads, SpellsRecord}
-use Rattle.pv_law_fields.proofs.PartLemmas.{appended_both}
+use Rattle.pv_fields.proofs.PartLemmas.{appended_both}
 use Rattle.pv_model.specs.Alternatives.{Read}
 use Rattle.pv_replay.specs.Values.{record_of}
 use Rattle.pv_replay.specs.declared.record.Record.{Record}

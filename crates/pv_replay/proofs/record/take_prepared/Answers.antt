@@ -4,7 +4,7 @@ use Rattle.pv_format.specs.Layout.{counted_layout, polyvalue_then, txn_layout}
 use Rattle.pv_format.specs.RecordSpelling.{SpellsReads}
 use Rattle.pv_format.specs.Spelling.{SpellsTxn}
 use Rattle.pv_replay.specs.Faults.{fault_of}
-use Rattle.pv_law_fields.proofs.PartLemmas.{passes_both, stops_first, stops_second}
+use Rattle.pv_fields.proofs.PartLemmas.{passes_both, stops_first, stops_second}
 use Rattle.pv_replay.proofs.record.take_prepared.Goals as goal
 
 pub returns-in_err-txn-clause-stops : goal.returns-in_err-txn-clause-stops

@@ -7,9 +7,9 @@ use Rattle.pv_format.specs.FirstFault.{short}
 use Rattle.pv_format.specs.Layout.{Layout, content_layout, is_record_kind, polyvalue_then, record_layout}
 use Rattle.pv_format.specs.RecordSpelling.{SpellsRecord}
 use Rattle.pv_format.specs.Spelling.{◌followed_by◌}
-use Rattle.pv_law_fields.specs.Decoding.{Passes, Stops}
-use Rattle.pv_law_fields.proofs.PartLemmas.{ok_from_both, number_allowed, passes_after_number, passes_as, stops_after_number, stops_at_number, stops_number, stops_short}
-use Rattle.pv_replay.specs.Content.{SpellsContent, kind_of}
+use Rattle.pv_fields.specs.Decoding.{Passes, Stops}
+use Rattle.pv_fields.proofs.PartLemmas.{ok_from_both, number_allowed, passes_after_number, passes_as, stops_after_number, stops_at_number, stops_number, stops_short}
+use Rattle.pv_replay.specs.Content.{SpellsContent, record_kind_number}
 use Rattle.pv_replay.specs.Faults.{fault_of}
 use Rattle.pv_replay.specs.Values.{record_of}
 use Rattle.pv_replay.proofs.ContentLemmas.{record_by_parts}
@@ -37,10 +37,10 @@ pub returns-clause-passes : goal.returns-clause-passes
 returns-clause-passes c =
     let allowed : IsTrue (is_record_kind c.in_ok-kind.kind) = grind (arith, nat_tests) in
     let number = number_allowed 1 c.in_ok-kind.kind is_record_kind c.args.take.now c.u8.new.self c.in_ok-kind.ensures.taken (omega arith) allowed in
-    ok_from_both c.take_content.result (λ value. kind_of (record_of value) ≡ c.in_ok-kind.kind)
+    ok_from_both c.take_content.result (λ value. record_kind_number (record_of value) ≡ c.in_ok-kind.kind)
     (λ value. Passes (SpellsContent (record_of value)) (content_layout polyvalue_then c.in_ok-kind.kind) c.u8.new.self c.take_content.new.take) _
     (λ value kind passes.
-    passes_as (IsNumber 1 (kind_of (record_of value)) followed_by SpellsContent (record_of value)) (SpellsRecord (record_of value)) (record_layout polyvalue_then)
+    passes_as (IsNumber 1 (record_kind_number (record_of value)) followed_by SpellsContent (record_of value)) (SpellsRecord (record_of value)) (record_layout polyvalue_then)
     c.args.take.now c.take_content.new.take (record_by_parts (record_of value))
     (subst (λ (n : ℕ). Passes (IsNumber 1 n followed_by SpellsContent (record_of value)) (record_layout polyvalue_then) c.args.take.now c.take_content.new.take) (sym kind)
     (passes_after_number (IsNumber 1 c.in_ok-kind.kind) 1 is_record_kind c.in_ok-kind.kind after_kind c.args.take.now c.u8.new.self number

@@ -11,7 +11,7 @@ use Rattle.pv_site.proofs.Recorded.{kept-store}
 use Rattle.pv_site.specs.Answer.{IsAnswer}
 use Rattle.pv_site.specs.Room.{Writes}
 use Rattle.pv_site.specs.declared.appending.Written.TheVariants as written
-use Rattle.pv_site.specs.declared.parts.Parts.{Parts}
+use Rattle.pv_site.specs.declared.parts.SiteParts.{SiteParts}
 use Rattle.pv_store.specs.Kept.{Kept}
 use Rattle.pv_site.proofs.committing.commit.Goals as goal
 
@@ -28,7 +28,7 @@ returns-in-Ok-Done-clause-step g c work is =
     let same = c.in_ok-change.ensures.unchanged in
     let kept = kept-store parts c.requires.ready.sound.tied c.plan_settle.new.self same in
     let store = c.apply.new.self in
-    let new : Parts = record parts { store = store; coord = c.drop_entry.new.self; locks = c.release.new.self } in
+    let new : SiteParts = record parts { store = store; coord = c.drop_entry.new.self; locks = c.release.new.self } in
     commit-recorded g.L.Log.model c.args.log.now c.write.new.log parts c.requires.ready c.args.txn work is new c.in_ok-committed.committed wrote
     (committed-steps parts c.requires.ready.sound.tied c.args.txn work is store c.drop_entry.new.self c.release.new.self
     (ap (λ (k : Kept). k.site) c.apply.ensures ∙ same.site) (ap (λ (k : Kept). k.catalog) c.apply.ensures ∙ same.catalog)
@@ -50,7 +50,7 @@ returns-in_ok-refuse-in-Ok-Full-clause-step g c work is =
     let parts = c.args.parts.now in
     let wrote = subst (λ (r : Record). Writes g.L.Log.model c.args.log.now c.write.new.log r (Ok (written.Full c.in-Ok-Full.length))) (c.record.ensures ∙ c.in_ok-change.ensures.change)
     (subst (λ w. Writes g.L.Log.model c.args.log.now c.write.new.log (record_of c.record.result.now) (Ok w)) c.in-Ok-Full.field-0-is c.in-Ok-Full.ensures.written) in
-    let mid : Parts = record parts { store = c.plan_settle.new.self } in
+    let mid : SiteParts = record parts { store = c.plan_settle.new.self } in
     commit-refused g.L.Log.model c.args.log.now c.write.new.log parts c.requires.ready c.args.txn work is mid
     (kept-store parts c.requires.ready.sound.tied c.plan_settle.new.self c.in_ok-change.ensures.unchanged) c.refuse.new.self c.in-Ok-Full.length wrote
     c.in_ok-refuse-in-Ok-Full.field-0
@@ -61,7 +61,7 @@ returns-in_err-refuse-in-Ok-Full-clause-step g c work is =
     let parts = c.args.parts.now in
     let wrote = subst (λ (r : Record). Writes g.L.Log.model c.args.log.now c.write.new.log r (Ok (written.Full c.in-Ok-Full.length))) (c.record.ensures ∙ c.in_ok-change.ensures.change)
     (subst (λ w. Writes g.L.Log.model c.args.log.now c.write.new.log (record_of c.record.result.now) (Ok w)) c.in-Ok-Full.field-0-is c.in-Ok-Full.ensures.written) in
-    let mid : Parts = record parts { store = c.plan_settle.new.self } in
+    let mid : SiteParts = record parts { store = c.plan_settle.new.self } in
     let failed = err_from_is_err_and c.from_residual-in_err-refuse-in-Ok-Full.result c.from_residual-in_err-refuse-in-Ok-Full.ensures.1 in
     refusal-failed g.L.Log.model c.args.log.now c.write.new.log parts c.requires.ready c.args.txn work is mid
     (kept-store parts c.requires.ready.sound.tied c.plan_settle.new.self c.in_ok-change.ensures.unchanged) c.refuse.new.self c.in-Ok-Full.length wrote

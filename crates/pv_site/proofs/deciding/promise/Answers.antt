@@ -10,7 +10,7 @@ use Rattle.pv_site.proofs.PromiseLemmas.{promise-failed, promise-full, promise-k
 use Rattle.pv_site.proofs.Recorded.{kept-store}
 use Rattle.pv_site.proofs.TakingLemmas.{pairs-unmap}
 use Rattle.pv_site.proofs.deciding.promise.Goals as goal
-use Rattle.pv_site.specs.Parts.{here_of}
+use Rattle.pv_site.specs.SiteParts.{here_of}
 use Rattle.pv_site.specs.Room.{Writes}
 use Rattle.pv_site.specs.declared.appending.Written.TheVariants as written
 use Rattle.pv_store.specs.Kept.{Kept}

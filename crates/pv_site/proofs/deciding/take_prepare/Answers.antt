@@ -4,7 +4,7 @@ use Rattle.pv_protocol.specs.Records.{is_undecided}
 use Rattle.pv_protocol.specs.State as model
 use Rattle.pv_site.proofs.deciding.take_prepare.Goals as goal
 use Rattle.pv_site.specs.OnLog.{StepsOnLog}
-use Rattle.pv_site.specs.Parts.{here_of}
+use Rattle.pv_site.specs.SiteParts.{here_of}
 
 pub returns-in-Go-clause-step : goal.returns-in-Go-clause-step
 returns-in-Go-clause-step g c =

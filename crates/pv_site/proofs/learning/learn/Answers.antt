@@ -6,7 +6,7 @@ use Rattle.pv_replay.specs.Values.{record_of}
 use Rattle.pv_site.proofs.Recorded.{kept-store, learned, outcome-failed, outcome-recorded}
 use Rattle.pv_site.specs.Room.{Writes}
 use Rattle.pv_site.specs.declared.appending.Written.TheVariants as written
-use Rattle.pv_site.specs.declared.parts.Parts.{Parts}
+use Rattle.pv_site.specs.declared.parts.SiteParts.{SiteParts}
 use Rattle.pv_store.specs.Kept.{Kept}
 use Rattle.pv_site.proofs.learning.learn.Goals as goal
 
@@ -21,7 +21,7 @@ returns-in-Ok-Done-clause-step g c step is =
     (subst (λ w. Writes g.L.Log.model c.args.log.now c.write.new.log (record_of c.record.result.now) (Ok w)) c.in-Ok-Done.field-0-is c.in-Ok-Done.ensures.written) in
     let same = c.in_ok-change.ensures.unchanged in
     let store = c.apply.new.self in
-    let new : Parts = record c.args.parts.now { locks = c.release.new.self; store = store } in
+    let new : SiteParts = record c.args.parts.now { locks = c.release.new.self; store = store } in
     outcome-recorded g.L.Log.model c.args.log.now c.write.new.log c.args.parts.now new c.requires.ready c.args.txn c.args.commits step is c.nothing.result wrote
     (record { sends = c.nothing.ensures.sends; notes = c.nothing.ensures.notes; locked = c.nothing.ensures.locked })
     (learned c.args.parts.now c.requires.ready.sound.tied store c.release.new.self c.args.txn c.args.commits
@@ -34,6 +34,6 @@ pub returns-in-Err-clause-step : goal.returns-in-Err-clause-step
 returns-in-Err-clause-step g c step is =
     let wrote = subst (λ (r : Record). Writes g.L.Log.model c.args.log.now c.write.new.log r (Err c.in-Err.error)) (c.record.ensures ∙ c.in_ok-change.ensures.change)
     c.in-Err.ensures.written in
-    let new : Parts = record c.args.parts.now { store = c.plan_settle.new.self } in
+    let new : SiteParts = record c.args.parts.now { store = c.plan_settle.new.self } in
     outcome-failed g.L.Log.model c.args.log.now c.write.new.log c.args.parts.now new c.requires.ready c.args.txn c.args.commits step is c.in-Err.error wrote
     (kept-store c.args.parts.now c.requires.ready.sound.tied c.plan_settle.new.self c.in_ok-change.ensures.unchanged)

@@ -2,7 +2,7 @@
 use Rattle.std.proofs.Common.{◌≡◌, ◌+◌, ◌-◌, ◌^◌, ◌≤◌, drop, length, List, ℕ}
 use Rattle.std.specs.Prelude.{min}
 use Rattle.std.specs.List.{sum_by}
-use Rattle.pv_law_disk.specs.Size.{size_of}
+use Rattle.pv_disk_model.specs.Size.{size_of}
 use Rattle.pv_replay.specs.Values.{contents_of}
 use Rattle.pv_site.proofs.opening.length_of.Given as goal
 

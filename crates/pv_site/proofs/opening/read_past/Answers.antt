@@ -3,7 +3,7 @@ use Rattle.std.specs.Global.{Vec}
 use Rattle.std.specs.Prelude.{min, ◌==◌, vec_len}
 use Rattle.std.proofs.lemmas.List.{length-map}
 use Rattle.pv_format.specs.Contents.{SpellRecords}
-use Rattle.pv_law_disk.specs.Size.{size_of}
+use Rattle.pv_disk_model.specs.Size.{size_of}
 use Rattle.pv_replay.specs.Values.{contents_of, records_of}
 use Rattle.pv_site.proofs.OpenLemmas.{other-size, read-size, untold}
 use Rattle.pv_site.proofs.opening.read_past.Goals as goal

@@ -2,7 +2,7 @@ use Rattle.pv_base.specs.declared.limits.TheConstants.{MAX_SITES}
 use Rattle.pv_protocol.specs.Step.{step_on}
 use Rattle.pv_site.proofs.TakingLemmas.{input-in-range, recorded-after, sound-after, spelled-after}
 use Rattle.pv_site.proofs.taking.take.Goals as goal
-use Rattle.pv_site.specs.Parts.{here_of}
+use Rattle.pv_site.specs.SiteParts.{here_of}
 use Rattle.pv_site.specs.Values.{input_of}
 
 pub returns-clause-sound : goal.returns-clause-sound

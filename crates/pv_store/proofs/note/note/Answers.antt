@@ -2,7 +2,7 @@
 use Rattle.std.proofs.Common.{◌≡◌, ◌∙◌, [], ◌∷◌, ◌++◌, List, ap, sym}
 use Rattle.pv_base.specs.declared.txn.TxnId.{TxnId}
 use Rattle.pv_format.specs.Record as model
-use Rattle.pv_law_shown.proofs.RecordsMore.{known-epoch, known-promise, is_prepared-epoch, is_prepared-outcome}
+use Rattle.pv_law_values.proofs.RecordsMore.{known-epoch, known-promise, is_prepared-epoch, is_prepared-outcome}
 use Rattle.pv_protocol.specs.Records.{known, is_prepared}
 use Rattle.pv_replay.specs.Values.{record_of}
 use Rattle.pv_store.proofs.NoteLemmas.{known-with, prepared-more}

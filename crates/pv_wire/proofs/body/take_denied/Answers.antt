@@ -4,7 +4,7 @@ use Rattle.std.proofs.lemmas.Result.{err_from_is_err_and}
 use Rattle.pv_format.specs.Layout.{Layout, number_then, txn_layout}
 use Rattle.pv_format.specs.Spelling.{IsAllowed, SpellsTxn, is_item_from}
 use Rattle.pv_replay.specs.Faults.{fault_of}
-use Rattle.pv_law_fields.proofs.PartLemmas.{passes_both, passes_part, stops_at_number, stops_second}
+use Rattle.pv_fields.proofs.PartLemmas.{passes_both, passes_part, stops_at_number, stops_second}
 use Rattle.pv_wire.proofs.body.take_denied.Goals as goal
 
 abbrev item_layout : Layout → Layout

@@ -5,7 +5,7 @@ use Rattle.pv_format.specs.Layout.{counted_layout, grant_layout, polyvalue_then}
 use Rattle.pv_format.specs.RecordSpelling.{SpellsReads}
 use Rattle.pv_format.specs.Spelling.{SpellsGrant}
 use Rattle.pv_replay.specs.Faults.{fault_of}
-use Rattle.pv_law_fields.proofs.PartLemmas.{passes_both, stops_first, stops_second}
+use Rattle.pv_fields.proofs.PartLemmas.{passes_both, stops_first, stops_second}
 use Rattle.pv_wire.proofs.body.take_granted.Goals as goal
 
 pub returns-in_err-grant-clause-stops : goal.returns-in_err-grant-clause-stops

@@ -5,9 +5,9 @@ use Rattle.pv_base.specs.declared.txn.TxnId.{TxnId}
 use Rattle.pv_format.specs.Layout.{body_layout, site_layout, txn_layout}
 use Rattle.pv_format.specs.MessageSpelling.{SpellsBody}
 use Rattle.pv_format.specs.Spelling.{◌followed_by◌, IsSite, SpellsTxn}
-use Rattle.pv_law_fields.specs.Decoding.{Passes}
+use Rattle.pv_fields.specs.Decoding.{Passes}
 use Rattle.pv_replay.specs.Faults.{fault_of}
-use Rattle.pv_law_fields.proofs.PartLemmas.{passes_both, stops_first, stops_second}
+use Rattle.pv_fields.proofs.PartLemmas.{passes_both, stops_first, stops_second}
 use Rattle.pv_wire.specs.Reading.{after_kind}
 use Rattle.pv_wire.specs.Values.{message_of}
 use Rattle.pv_wire.proofs.decoding.take_envelope.Goals as goal

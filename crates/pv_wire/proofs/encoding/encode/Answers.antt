@@ -1,5 +1,5 @@
 -- What is spelled isn't long.
-use Rattle.pv_law_fields.proofs.SizeLemmas.{body_small}
+use Rattle.pv_fields.proofs.SizeLemmas.{body_small}
 use Rattle.pv_wire.specs.Values.{message_of}
 use Rattle.pv_wire.proofs.encoding.encode.Goals as goal
 

@@ -6,7 +6,7 @@ use Rattle.pv_base.specs.Want.{Want}
 use Rattle.pv_format.specs.Message.{lock, granted, denied, prepare}
 use Rattle.pv_format.specs.MessageSpelling.{SpellsBody, SpellsWants}
 use Rattle.pv_format.specs.RecordSpelling.{SpellsReads}
-use Rattle.pv_law_fields.proofs.PartLemmas.{appended_both}
+use Rattle.pv_fields.proofs.PartLemmas.{appended_both}
 use Rattle.pv_model.specs.Alternatives.{Read}
 use Rattle.pv_wire.specs.Values.{message_of}
 use Rattle.pv_wire.specs.declared.message.Message.{Message}

@@ -4,7 +4,7 @@ use Rattle.std.proofs.lemmas.Result.{on_ok_weaker}
 use Rattle.pv_base.specs.BigEndian.{big_endian}
 use Rattle.pv_base.specs.declared.txn.TxnId.{TxnId}
 use Rattle.pv_format.specs.Spelling.{SpellsTxn}
-use Rattle.pv_law_fields.proofs.PartLemmas.{appended_both}
+use Rattle.pv_fields.proofs.PartLemmas.{appended_both}
 use Rattle.pv_wire.proofs.encoding.put_envelope.Goals as goal
 
 pub returns : goal.returns
@@ -15,7 +15,7 @@ returns c = λ bytes spelled.
     on_ok_weaker c.put_body.result
     (λ last.
     appended_both c.args.put.now.bytes c.u8.new.self.bytes c.put_body.new.put.bytes spelled.front spelled.back bytes spelled.whole
-    (c.in_ok-u8.ensures.written ∙ ap (λ n. c.args.put.now.bytes ++ big_endian 1 n) c.kind_of.ensures ∙ ap (λ front. c.args.put.now.bytes ++ front) (sym spelled.first.spelled))
+    (c.in_ok-u8.ensures.written ∙ ap (λ n. c.args.put.now.bytes ++ big_endian 1 n) c.kind_number.ensures ∙ ap (λ front. c.args.put.now.bytes ++ front) (sym spelled.first.spelled))
     (appended_both c.u8.new.self.bytes c.u8-2.new.self.bytes c.put_body.new.put.bytes second.front second.back spelled.back second.whole
     (c.in_ok-u8-2.ensures.written ∙ ap (λ front. c.u8.new.self.bytes ++ front) (sym second.first.spelled.spelled))
     (appended_both c.u8-2.new.self.bytes c.u8-3.new.self.bytes c.put_body.new.put.bytes third.front third.back second.back third.whole

@@ -3,7 +3,7 @@ use Rattle.std.proofs.Common.{◌++◌, sym, ap, subst, ◌∙◌}
 use Rattle.std.proofs.lemmas.Result.{on_ok_weaker}
 use Rattle.pv_format.specs.Message.{grant_lost, journal_full}
 use Rattle.pv_format.specs.MessageSpelling.{SpellsNoCause}
-use Rattle.pv_law_fields.proofs.PartLemmas.{appended_both}
+use Rattle.pv_fields.proofs.PartLemmas.{appended_both}
 use Rattle.pv_wire.specs.Values.{cause_of}
 use Rattle.pv_wire.specs.declared.message.NoCause.{NoCause}
 use Rattle.pv_wire.proofs.fields.put_cause.Goals as goal

@@ -6,8 +6,8 @@ use Rattle.pv_base.specs.BigEndian.{big_endian, IsNumber}
 use Rattle.pv_bytes.specs.Reading.{HasTaken}
 use Rattle.pv_format.specs.FirstFault.{short}
 use Rattle.pv_format.specs.Layout.{Layout, any, is_cause, number_then}
-use Rattle.pv_law_fields.proofs.PartLemmas.{number_allowed, passes_after_number, passes_any, stops_after_number, stops_any, stops_at_number, stops_number, stops_short}
-use Rattle.pv_law_fields.proofs.PartLemmas.{passes_alone}
+use Rattle.pv_fields.proofs.PartLemmas.{number_allowed, passes_after_number, passes_any, stops_after_number, stops_any, stops_at_number, stops_number, stops_short}
+use Rattle.pv_fields.proofs.PartLemmas.{passes_alone}
 use Rattle.pv_wire.proofs.fields.take_cause.Goals as goal
 
 abbrev after_cause : ℕ → Layout → Layout

@@ -4,7 +4,7 @@ use Rattle.std.proofs.lemmas.Result.{err_from_is_err_and}
 use Rattle.pv_base.specs.BigEndian.{IsNumber}
 use Rattle.pv_format.specs.FirstFault.{short}
 use Rattle.pv_format.specs.Layout.{Layout, any, number_then}
-use Rattle.pv_law_fields.proofs.PartLemmas.{passes_any, passes_both, stops_any, stops_first, stops_second}
+use Rattle.pv_fields.proofs.PartLemmas.{passes_any, passes_both, stops_any, stops_first, stops_second}
 use Rattle.pv_wire.proofs.fields.take_grant.Goals as goal
 
 abbrev part : Layout → Layout

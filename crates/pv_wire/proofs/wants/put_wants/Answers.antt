@@ -1,9 +1,9 @@
 -- The count, and then one item after another.
 use Rattle.std.proofs.Common.{◌++◌, List, ℕ, refl, sym, ap, ◌∙◌}
-use Rattle.pv_law_fields.proofs.EntryLemmas.{entries_each}
-use Rattle.pv_law_fields.proofs.ListLemmas.{writing_goes_on, writing_ends}
-use Rattle.pv_law_fields.proofs.PartLemmas.{appended_both}
-use Rattle.pv_law_fields.specs.Encoding.{SpellsEntry}
+use Rattle.pv_fields.proofs.EntryLemmas.{entries_each}
+use Rattle.pv_fields.proofs.ListLemmas.{writing_goes_on, writing_ends}
+use Rattle.pv_fields.proofs.PartLemmas.{appended_both}
+use Rattle.pv_fields.specs.Encoding.{SpellsEntry}
 use Rattle.pv_base.specs.Want.{Want}
 use Rattle.pv_format.specs.Spelling.{IsTruth}
 use Rattle.pv_wire.proofs.wants.put_wants.Goals as goal

@@ -1,7 +1,7 @@
 -- The items so far were written.
 use Rattle.std.proofs.Common.{ℕ, List, drop}
-use Rattle.pv_law_fields.proofs.ListLemmas.{IsWriting}
-use Rattle.pv_law_fields.specs.Encoding.{SpellsEntry}
+use Rattle.pv_fields.proofs.ListLemmas.{IsWriting}
+use Rattle.pv_fields.specs.Encoding.{SpellsEntry}
 use Rattle.pv_base.specs.Want.{Want}
 use Rattle.pv_format.specs.Spelling.{IsTruth, SpellsEach}
 use Rattle.pv_wire.proofs.wants.put_wants.Given as goal

@@ -6,7 +6,7 @@ use Rattle.pv_format.specs.Layout.{truth_layout}
 use Rattle.pv_base.specs.Want.{Want}
 use Rattle.pv_format.specs.Spelling.{IsTruth}
 use Rattle.pv_replay.specs.Faults.{fault_of}
-use Rattle.pv_law_fields.proofs.ListLemmas.{entries_start, entries_go_on, entries_stop, entries_stop_at_item, entries_end}
+use Rattle.pv_fields.proofs.ListLemmas.{entries_start, entries_go_on, entries_stop, entries_stop_at_item, entries_end}
 use Rattle.pv_wire.proofs.wants.take_counted_wants.Goals as goal
 
 pub loop-take-init : goal.loop-take-init

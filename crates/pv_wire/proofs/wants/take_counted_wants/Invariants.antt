@@ -1,7 +1,7 @@
 -- The items so far were read, the next one has to be after them, and each turn wants one.
 use Rattle.std.proofs.Common.{◌-◌, ◌≤◌, length, vec_len}
 use Rattle.pv_format.specs.Layout.{truth_layout}
-use Rattle.pv_law_fields.proofs.ListLemmas.{IsReadingEntries}
+use Rattle.pv_fields.proofs.ListLemmas.{IsReadingEntries}
 use Rattle.pv_base.specs.Want.{Want}
 use Rattle.pv_format.specs.Spelling.{IsTruth}
 use Rattle.pv_wire.proofs.wants.take_counted_wants.Given as goal

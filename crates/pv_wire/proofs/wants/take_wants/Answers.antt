@@ -3,8 +3,8 @@ use Rattle.std.proofs.Common.{◌≡◌, ℕ, length, sym, subst}
 use Rattle.std.proofs.lemmas.Result.{err_from_is_err_and, IfErr-weaker}
 use Rattle.pv_format.specs.Layout.{Layout, counted_layout, entries_layout, truth_layout}
 use Rattle.pv_format.specs.Spelling.{◌followed_by◌, IsAllowed, SpellsEntriesFrom, is_count_from}
-use Rattle.pv_law_fields.specs.Decoding.{Passes, Stops}
-use Rattle.pv_law_fields.proofs.PartLemmas.{ok_from_both, passes_after_number, stops_after_number, stops_at_number}
+use Rattle.pv_fields.specs.Decoding.{Passes, Stops}
+use Rattle.pv_fields.proofs.PartLemmas.{ok_from_both, passes_after_number, stops_after_number, stops_at_number}
 use Rattle.pv_base.specs.Want.{Want}
 use Rattle.pv_format.specs.Spelling.{IsTruth}
 use Rattle.pv_replay.specs.Faults.{fault_of}

@@ -2,7 +2,7 @@ use Rattle.std.proofs.Common.{rules, arith, ◌≡◌, ◌≤◌, ◌++◌, ◌�
 use Rattle.pv_disk.specs.declared.image.Write.{Write}
 use Rattle.pv_disk.proofs.ImageLemmas.{Begins, can_undo_more, now_more, past_more}
 use Rattle.pv_disk.proofs.HistoryLemmas.{made_all}
-use Rattle.pv_law_disk.proofs.OverlayLemmas.{length-overlaid}
+use Rattle.pv_disk_model.proofs.OverlayLemmas.{length-overlaid}
 use Rattle.pv_disk.proofs.image.Image.write.Goals as goal
 
 pub invariant_of-self : goal.invariant_of-self

@@ -1,9 +1,9 @@
 use Rattle.std.proofs.Common.{rules, ◌≢◌, ◌<◌, ◌≤◌, [], ◌∷◌, length, All, true, ap, sym, subst, ◌∙◌}
 use Rattle.std.specs.Prelude.{flat_map}
 use Rattle.std.proofs.lemmas.List.Elements.{All-nil}
-use Rattle.pv_law_disk.specs.Calls.{append, read_all, reserve}
-use Rattle.pv_law_disk.specs.Size.{size_of}
-use Rattle.pv_law_journal.specs.Format.{IsNotOurs}
+use Rattle.pv_disk_model.specs.Calls.{append, read_all, reserve}
+use Rattle.pv_disk_model.specs.Size.{size_of}
+use Rattle.pv_format.specs.Journal.{IsNotOurs}
 use Rattle.pv_script.specs.ScheduleView.{schedule_of}
 use Rattle.pv_base.specs.declared.limits.TheConstants.{MAX_INPUT}
 use Rattle.pv_site.specs.SiteState.{SiteState}

@@ -1,5 +1,5 @@
 use Rattle.std.proofs.Common.{◌≤◌, All, ap, sym, subst}
-use Rattle.pv_law_disk.specs.Size.{size_of}
+use Rattle.pv_disk_model.specs.Size.{size_of}
 use Rattle.pv_host.specs.HostLog.{HostState, IsSameBesideRoom, with_written}
 use Rattle.pv_embed.proofs.HostedLemmas.{contents_written, ready_written}
 use Rattle.pv_embed.proofs.hosted.HostedSite.written.Goals as goal

@@ -1,5 +1,5 @@
 use Rattle.std.proofs.Common.{◌≡◌, map, refl, sym, ◌∙◌, ap}
-use Rattle.pv_law_disk.specs.Size.{size_of}
+use Rattle.pv_disk_model.specs.Size.{size_of}
 use Rattle.pv_host.proofs.HostLemmas.{all_found, end_found, told_on}
 use Rattle.pv_host.proofs.host_log.HostLog.open.Goals as goal
 

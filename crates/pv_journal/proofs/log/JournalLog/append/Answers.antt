@@ -1,5 +1,5 @@
 use Rattle.std.proofs.Common.{arith, ◌+◌, ◌-◌, length, true, false, ◌∙◌, subst, List, ℕ, refl}
-use Rattle.pv_law_disk.specs.Calls.{Makes}
+use Rattle.pv_disk_model.specs.Calls.{Makes}
 use Rattle.pv_journal.specs.Journal.{frame_calls}
 use Rattle.pv_journal.specs.declared.journal.Journal.{Journal}
 use Rattle.pv_journal.proofs.LogLemmas.{length-frame, fails_to_add, adds, still_intact, not_down}

@@ -1,5 +1,5 @@
 use Rattle.std.proofs.Common.{rules, ◌≡◌, refl, sym, ◌∙◌, false}
-use Rattle.pv_law_disk.specs.Calls.{none}
+use Rattle.pv_disk_model.specs.Calls.{none}
 use Rattle.pv_law_journal.proofs.ContentsLemmas.{contents_of-is}
 use Rattle.pv_law_journal.proofs.SizeLemmas.{known_bytes}
 use Rattle.pv_journal.proofs.LogLemmas.{silent}

@@ -5,7 +5,7 @@ use Rattle.pv_base.specs.declared.limits.TheConstants.{HELD_NAMES}
 use Rattle.pv_base.specs.Named.{names_of}
 use Rattle.pv_base.specs.Polyvalue.{names}
 use Rattle.pv_format.specs.Record.{epoch_begun}
-use Rattle.pv_law_shown.proofs.ShownMore.{shown-epoch}
+use Rattle.pv_law_values.proofs.ShownMore.{shown-epoch}
 use Rattle.pv_model.specs.Alternatives.{Read}
 use Rattle.pv_store.specs.Kept.{Kept, IsPlannedOn}
 use Rattle.pv_store.specs.Held.{AreShown, ArePlaced}

@@ -1,4 +1,0 @@
-pub mod Histories
-pub mod Moves
-pub mod Refused
-pub mod Waits

@@ -1,5 +1,0 @@
-use Rattle.pv_law_locks.proofs.CoherentLemmas.{always-sound}
-use Rattle.pv_law_locks.proofs.locks.locks_are_coherent.Goals as goal
-
-pub returns : goal.returns
-returns c setup world acts = (always-sound setup world acts).right

@@ -1,2 +1,0 @@
-pub mod RecordsMore
-pub mod ShownMore

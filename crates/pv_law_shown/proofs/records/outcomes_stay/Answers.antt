@@ -1,6 +1,0 @@
--- The lemma, as the law of an empty function.
-use Rattle.pv_law_shown.proofs.RecordsMore.{known-more}
-use Rattle.pv_law_shown.proofs.records.outcomes_stay.Goals as goal
-
-pub returns : goal.returns
-returns c = known-more

@@ -1,6 +1,0 @@
--- The lemma, as the law of an empty function.
-use Rattle.pv_law_shown.proofs.RecordsMore.{is_prepared-more}
-use Rattle.pv_law_shown.proofs.records.promises_stay.Goals as goal
-
-pub returns : goal.returns
-returns c = is_prepared-more

@@ -1,6 +1,0 @@
--- The lemma, as the law of an empty function.
-use Rattle.pv_law_shown.proofs.ShownMore.{shown-settled}
-use Rattle.pv_law_shown.proofs.shown.outcomes_settle_values.Goals as goal
-
-pub returns : goal.returns
-returns c = shown-settled

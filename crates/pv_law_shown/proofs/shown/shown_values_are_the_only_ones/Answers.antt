@@ -1,6 +1,0 @@
--- The lemma, as the law of an empty function.
-use Rattle.pv_law_shown.proofs.ShownMore.{shown-only}
-use Rattle.pv_law_shown.proofs.shown.shown_values_are_the_only_ones.Goals as goal
-
-pub returns : goal.returns
-returns c = shown-only

@@ -1,6 +1,0 @@
--- The lemma, as the law of an empty function.
-use Rattle.pv_law_shown.proofs.ShownMore.{shown-epoch}
-use Rattle.pv_law_shown.proofs.shown.starts_change_no_value.Goals as goal
-
-pub returns : goal.returns
-returns c = shown-epoch

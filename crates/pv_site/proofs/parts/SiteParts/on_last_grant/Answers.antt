@@ -1,0 +1,65 @@
+-- The last grant.
+use Rattle.std.proofs.Common.{◌∙◌, ℕ, List, Some, ap, map, refl, subst, sym}
+use Rattle.std.specs.Prelude.{IfSome}
+use Rattle.pv_coord.specs.Answers.{arrival}
+use Rattle.pv_coord.specs.Coordinator.{CoordMemory, Grants, locking_work, taking}
+use Rattle.pv_coord.specs.Work.{Work, grant_from}
+use Rattle.pv_model.specs.Alternatives.{Read}
+use Rattle.pv_protocol.specs.Coordinate.{is_locking}
+use Rattle.pv_protocol.specs.State as state
+use Rattle.pv_protocol.specs.Here.{refusing}
+use Rattle.pv_protocol.specs.State.{Taken, outcome_limit}
+use Rattle.pv_site.proofs.GrantSteps.{is-last, last-apart, last-locked, last-reads, last-refused}
+use Rattle.pv_site.proofs.Refused.{entry-found}
+use Rattle.pv_site.specs.LockPoint.{IsTooMany}
+use Rattle.pv_site.specs.SiteParts.{StepParts, here_of}
+use Rattle.pv_site.specs.Shares.{prepares}
+use Rattle.pv_site.specs.Values.{note_of}
+use Rattle.pv_split.specs.Splitting.{count_of}
+use Rattle.pv_split.specs.declared.joining.SplitError.{SplitError}
+use Rattle.pv_site.proofs.parts.SiteParts.on_last_grant.Goals as goal
+
+pub computed-requires-clause-apart : goal.computed-requires-clause-apart
+computed-requires-clause-apart c =
+    let parts = c.args.self.now in
+    let new : Taken = record { site = c.args.from.0; grant = c.args.grant; values = c.args.change.taken.values } in
+    let is = is-last parts c.requires.sound.tied c.args.txn new c.args.reads.items c.args.program.now c.args.change
+    (ap (arrival (locking_work parts.coord.contents c.args.txn)) (sym c.requires.change) ∙ c.requires.last) in
+    last-apart parts c.requires.sound.tied c.args.txn new c.args.reads.items c.args.program.now is c.requires.sound
+
+pub computed-requires-clause-items : goal.computed-requires-clause-items
+computed-requires-clause-items c =
+    let parts = c.args.self.now in
+    let new : Taken = record { site = c.args.from.0; grant = c.args.grant; values = c.args.change.taken.values } in
+    let is = is-last parts c.requires.sound.tied c.args.txn new c.args.reads.items c.args.program.now c.args.change
+    (ap (arrival (locking_work parts.coord.contents c.args.txn)) (sym c.requires.change) ∙ c.requires.last) in
+    last-reads parts c.requires.sound.tied c.args.txn new c.args.reads.items c.args.program.now is c.requires.sound
+
+pub returns-in-Err-OutcomeLimit : goal.returns-in-Err-OutcomeLimit
+returns-in-Err-OutcomeLimit c =
+    let parts = c.args.self.now in
+    let new : Taken = record { site = c.args.from.0; grant = c.args.grant; values = c.args.change.taken.values } in
+    let is = is-last parts c.requires.sound.tied c.args.txn new c.args.reads.items c.args.program.now c.args.change
+    (ap (arrival (locking_work parts.coord.contents c.args.txn)) (sym c.requires.change) ∙ c.requires.last) in
+    let many : IsTooMany c.args.reads.items c.in-Err-OutcomeLimit.names =
+    subst (λ (e : SplitError). IfSome (count_of e) (IsTooMany c.args.reads.items)) c.in-Err-OutcomeLimit.field-0-is c.in-Err-OutcomeLimit.ensures.refused in
+    subst (λ (step : state.Step). StepParts parts c.refuse.new.self step c.refuse.result)
+    (sym (last-refused parts c.requires.sound.tied c.args.txn new c.args.reads.items c.args.program.now is c.in-Err-OutcomeLimit.names many))
+    (subst (λ (count : ℕ). StepParts parts c.refuse.new.self (refusing (here_of parts) is.taken.work.entry (outcome_limit count)) c.refuse.result)
+    c.in-Err-OutcomeLimit.names-is
+    (c.refuse.ensures is.taken.work.entry
+    (entry-found parts c.requires.sound.tied (λ (w : Work). is_locking w.entry.stage) c.args.txn is.taken.work is.taken.found)))
+
+pub returns : goal.returns
+returns c =
+    let parts = c.args.self.now in
+    let new : Taken = record { site = c.args.from.0; grant = c.args.grant; values = c.args.change.taken.values } in
+    let is = is-last parts c.requires.sound.tied c.args.txn new c.args.reads.items c.args.program.now c.args.change
+    (ap (arrival (locking_work parts.coord.contents c.args.txn)) (sym c.requires.change) ∙ c.requires.last) in
+    last-locked parts c.requires.sound.tied c.args.txn new c.args.reads.items c.args.program.now is c.apply_granted.new.self _
+    c.in-Ok.joined.writes.items c.in-Ok.joined.reply c.in-Ok.ensures.computed
+    (ap (λ (memory : CoordMemory). memory.contents) c.apply_granted.ensures
+    ∙ ap (λ (grants : Grants). taking parts.coord.contents grants (Some c.in-Ok.joined.reply)) c.requires.change)
+    (λ w found. c.in_ok-sends.ensures w found
+    ∙ ap (λ (writes : List Read). prepares c.args.txn writes c.args.from.0 c.args.grant (grant_from w) w.parts) c.deref.ensures.value)
+    (ap (map note_of) c.new.ensures.items) refl
