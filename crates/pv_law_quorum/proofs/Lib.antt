@@ -1,0 +1,9 @@
+pub mod AgreementLemmas
+pub mod AnswerLemmas
+pub mod BallotLemmas
+pub mod EventLemmas
+pub mod OrderLemmas
+pub mod RecordLemmas
+pub mod RunLemmas
+pub mod SoundLemmas
+pub mod StableLemmas

@@ -1,0 +1,6 @@
+pub mod Ballot
+pub mod Decider
+pub mod Record
+pub mod Sound
+pub mod Steps
+pub mod World

@@ -1,0 +1,46 @@
+//! The law of majority decisions: deciders that may stop at any time, and whose messages may be lost or come late, fix one value
+//! for a transaction. The functions do nothing: each states a law.
+#![tactic(auto)]
+
+ghost use Rattle.std.specs.Prelude.{◌≡◌, ◌⊎◌, ◌↔◌, ℕ, ◌<◌, Bool, true, false, List, [], ◌∷◌, ◌++◌, length};
+ghost use Rattle.std.specs.List.{Contains};
+ghost use Rattle.pv_base.specs.declared.txn.TxnId.{TxnId};
+ghost use Rattle.pv_law_quorum.specs.Ballot.{Ballot, is_below};
+ghost use Rattle.pv_law_quorum.specs.Decider.{Setup, decided};
+ghost use Rattle.pv_law_quorum.specs.World.{Event, Ending, whole, proposal, deliveries, IsChosen, IsFit, after, opening};
+
+/// At most one value is ever chosen for a transaction: what is chosen after some events of a run is what is chosen after more of them.
+/// And every line that says that a value is decided, in the whole run, names a value that is chosen.
+pub fn one_value_is_chosen()
+    ensures chosen { (setup : Setup) → IsFit setup → (events more : List Event) (txn : TxnId) (v u : Bool) →
+        IsChosen setup (after setup (opening setup) events) txn v → IsChosen setup (after setup (opening setup) (events ++ more)) txn u → v ≡ u }
+    ensures decided { (setup : Setup) → IsFit setup → (events : List Event) (n : ℕ) (txn : TxnId) (v : Bool) →
+        Contains (after setup (opening setup) events).lines (decided n txn v) → IsChosen setup (after setup (opening setup) events) txn v }
+{}
+
+/// What is chosen for a transaction was proposed for it.
+pub fn what_is_chosen_was_proposed()
+    ensures { (setup : Setup) → IsFit setup → (events : List Event) (txn : TxnId) (v : Bool) → IsChosen setup (after setup (opening setup) events) txn v →
+        (n : ℕ) × ((ending : Ending) × Contains events (proposal n txn v ending)) }
+{}
+
+/// For example, of three deciders: when 0 has decided on yes, 1, which proposes no, decides on yes too. And where 0 has promises of a
+/// majority when 2 proposes no, 2 decides on yes, since 0 had accepted it in its own ballot.
+pub fn a_second_proposer_follows()
+    ensures after_the_first { let setup : Setup = record { deciders = 3; length = length; limit = 100 } in
+        let txn : TxnId = record { site = record { 0 = 0 }; epoch = 1; number = 0 } in
+        let events = proposal 0 txn true whole ∷ deliveries 0 8 ++ (proposal 1 txn false whole ∷ deliveries 8 8) in
+        (after setup (opening setup) events).lines ≡ decided 0 txn true ∷ (decided 1 txn true ∷ []) }
+    ensures beside_the_first { let setup : Setup = record { deciders = 3; length = length; limit = 100 } in
+        let txn : TxnId = record { site = record { 0 = 0 }; epoch = 1; number = 0 } in
+        let events = proposal 0 txn true whole ∷ deliveries 0 2 ++ (proposal 2 txn false whole ∷ deliveries 2 12) in
+        (after setup (opening setup) events).lines ≡ decided 2 txn true ∷ [] }
+{}
+
+/// Ballots whose deciders are bytes are ordered by number, then by decider, and two of which neither is below the other are one ballot.
+pub fn ballots_are_ordered()
+    ensures by_number { (ballot other : Ballot) → ballot.decider < 256 → other.decider < 256 →
+        (is_below ballot other ≡ true) ↔ ((ballot.number < other.number) ⊎ ((ballot.number ≡ other.number) × (ballot.decider < other.decider))) }
+    ensures total { (ballot other : Ballot) → ballot.decider < 256 → other.decider < 256 →
+        is_below ballot other ≡ false → is_below other ballot ≡ false → ballot ≡ other }
+{}
