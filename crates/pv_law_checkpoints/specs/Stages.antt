@@ -1,0 +1,163 @@
+-- A checkpoint: its writes, and the table of what a stop or a fault in each of its calls leaves of the number in force and of the other root's gate.
+use Rattle.std.specs.Prelude.{◌≡◌, ◌≢◌, ◌⊎◌, ℕ, ◌+◌, ◌^◌, ◌<◌, ◌≤◌, nat_lt, ◌==◌, Bool, true, false, if◌then◌else◌, List, [], ◌∷◌, ◌++◌, length, drop, ⊤}
+use Rattle.pv_base.specs.declared.limits.TheConstants.{MAX_JOURNAL}
+use Rattle.pv_base.specs.declared.mode.Mode.{Mode}
+use Rattle.pv_base.specs.declared.mode.Mode.TheVariants.{Lost, Kept, Torn}
+use Rattle.pv_disk_model.specs.Disk.{overlaid}
+use Rattle.pv_disk_model.specs.Size.{Contents, size_of}
+use Rattle.pv_law_checkpoints.specs.Roots.{fields_of, other_root, gate_at, number_at, place_at, size_at, IsSameRoot}
+use Rattle.pv_law_checkpoints.specs.TwoAreas.{block_of, end_at, greatest_place, IsLog}
+
+-- How a log in two areas stands: the number in force, and whether the gate of the root that isn't in force is 1.
+pub record Standing : Type 0 where
+  pub number : ℕ
+  pub other_open : Bool
+
+-- How these bytes stand where the root at this place is in force.
+abbrev pub standing_at : List ℕ → ℕ → Standing
+standing_at bytes at = record { number = number_at bytes at; other_open = gate_at bytes (other_root at) == 1 }
+
+-- The bytes are a log in two areas with these contents, and stand so.
+pub record Stands (contents : Contents) (standing : Standing) (bytes : List ℕ) : Type 0 where
+  pub at : ℕ
+  pub packed : Contents
+  pub later : Contents
+  pub log : IsLog at packed later bytes
+  pub contents_are : contents ≡ packed ++ later
+  pub stands : standing_at bytes at ≡ standing
+
+-- After a checkpoint that is done.
+abbrev pub done : Standing → Standing
+done standing = record { number = standing.number + 1; other_open = true }
+
+-- Where the other gate isn't 1.
+abbrev pub shut : Standing → Standing
+shut standing = record { number = standing.number; other_open = false }
+
+-- The parts of a checkpoint, each a write and a sync: of the block of all contents and a closed gate, of a 0 in the other root's gate where it is 1, of that
+-- root's number, place and size, and of a 1 in its gate.
+pub data Part : Type 0 where
+  storing : Part
+  closing : Part
+  naming : Part
+  opening : Part
+
+-- How many writes and syncs a checkpoint makes. Where the other gate isn't 1 there is no closing.
+abbrev pub calls_of : Bool → ℕ
+calls_of other_open = if other_open then 8 else 6
+
+-- The part in which a write or sync is, counted from 1.
+abbrev pub part_of : Bool → ℕ → Part
+part_of true call = if nat_lt call 3 then storing else if nat_lt call 5 then closing else if nat_lt call 7 then naming else opening
+part_of false call = if nat_lt call 3 then storing else if nat_lt call 5 then naming else opening
+
+-- What a stop or a fault leaves in the write or the sync of a part.
+abbrev pub left_by : Part → Mode → Standing → Standing
+left_by storing mode standing = standing
+left_by closing Lost standing = standing
+left_by closing Kept standing = shut standing
+left_by closing Torn standing = shut standing
+left_by naming mode standing = shut standing
+left_by opening Lost standing = shut standing
+left_by opening Kept standing = done standing
+left_by opening Torn standing = shut standing
+
+-- What a crash at any moment of a part may leave.
+abbrev pub MayLeave : Part → Standing → Standing → Type 0
+MayLeave storing was left = left ≡ was
+MayLeave closing was left = (left ≡ was) ⊎ (left ≡ shut was)
+MayLeave naming was left = left ≡ shut was
+MayLeave opening was left = (left ≡ shut was) ⊎ (left ≡ done was)
+
+-- What a crash at any moment of a whole checkpoint may leave: a standing as before, one with the other gate not 1, or one as after a checkpoint that is done.
+abbrev pub MayLeaveInAll : Standing → Standing → Type 0
+MayLeaveInAll was left = (left ≡ was) ⊎ (left ≡ shut was) ⊎ (left ≡ done was)
+
+-- Between the parts of a checkpoint the log stands as before, or the other gate isn't 1.
+abbrev pub IsUnderWay : Standing → Standing → Type 0
+IsUnderWay was now = (now ≡ was) ⊎ (now ≡ shut was)
+
+-- Where a block of so many bytes is put: at 58 where it ends, with a gate behind it, before the area in force, else behind that area's closed gate.
+abbrev pub free_place : (size in_force end : ℕ) → ℕ
+free_place size in_force end = if nat_lt in_force (59 + size) then end + 1 else 58
+
+-- A block of so many bytes with a gate behind it is at this place behind the roots, in range, and apart from the area that goes from that place to that closed gate.
+pub record IsBlockPlace (place size in_force end : ℕ) : Type 0 where
+  pub behind_roots : 58 ≤ place
+  pub in_range : place ≤ greatest_place
+  pub apart : (place + size + 1 ≤ in_force) ⊎ (end + 1 ≤ place)
+
+-- Where a part of a checkpoint writes. The root at `at` is in force, and the new block stands at `place`.
+abbrev pub writes_at : Part → (at place : ℕ) → ℕ
+writes_at storing at place = place
+writes_at closing at place = other_root at
+writes_at naming at place = other_root at + 1
+writes_at opening at place = other_root at
+
+-- What it writes.
+abbrev pub writes : Part → (number place : ℕ) → Contents → List ℕ
+writes storing number place contents = block_of contents ++ 0 ∷ []
+writes closing number place contents = 0 ∷ []
+writes naming number place contents = fields_of (number + 1) place (length (block_of contents))
+writes opening number place contents = 1 ∷ []
+
+-- The block of these contents and a closed gate stand at this place.
+abbrev pub Holds : Contents → ℕ → List ℕ → Type 0
+Holds contents place bytes = (rest : List ℕ) × (drop place bytes ≡ block_of contents ++ 0 ∷ rest)
+
+-- The root at this place has this number and a block of so many bytes at that place.
+pub record IsNamed (bytes : List ℕ) (at number place size : ℕ) : Type 0 where
+  pub number_is : number_at bytes at ≡ number
+  pub place_is : place_at bytes at ≡ place
+  pub size_is : size_at bytes at ≡ size
+
+-- What the parts before this one have made. A closing comes only where the other root's gate is 1.
+abbrev pub IsMade : Part → (at number place : ℕ) → Contents → List ℕ → Type 0
+IsMade storing at number place contents bytes = ⊤
+IsMade closing at number place contents bytes = Holds contents place bytes × (gate_at bytes (other_root at) ≡ 1)
+IsMade naming at number place contents bytes = Holds contents place bytes × (gate_at bytes (other_root at) ≢ 1)
+IsMade opening at number place contents bytes =
+    Holds contents place bytes × (gate_at bytes (other_root at) ≢ 1) × IsNamed bytes (other_root at) (number + 1) place (length (block_of contents))
+
+-- A part of a checkpoint is next: the log is as before, and holds what the parts before this one have made.
+pub record IsNext (part : Part) (at place : ℕ) (packed later : Contents) (bytes : List ℕ) : Type 0 where
+  pub log : IsLog at packed later bytes
+  pub within : size_of (packed ++ later) ≤ MAX_JOURNAL
+  pub numbered : number_at bytes at + 1 < 2 ^ 64
+  pub place_is : place ≡ free_place (length (block_of (packed ++ later))) (place_at bytes at) (end_at bytes at later)
+  pub made : IsMade part at (number_at bytes at) place (packed ++ later) bytes
+
+-- The bytes are a log of these contents, and stand as a crash in this part may leave them.
+pub record IsLeft (part : Part) (was : Standing) (contents : Contents) (bytes : List ℕ) : Type 0 where
+  pub standing : Standing
+  pub stands : Stands contents standing bytes
+  pub may : MayLeave part was standing
+
+-- What the write of a part makes of bytes, so that the next part can come.
+abbrev pub made_by : Part → (at place : ℕ) → Contents → List ℕ → List ℕ
+made_by part at place contents bytes = overlaid bytes (writes_at part at place) (writes part (number_at bytes at) place contents)
+
+-- The parts of a checkpoint, in order.
+abbrev pub parts_of : Bool → List Part
+parts_of true = storing ∷ closing ∷ naming ∷ opening ∷ []
+parts_of false = storing ∷ naming ∷ opening ∷ []
+
+-- What the writes of these parts make of bytes.
+abbrev pub made_by_all : List Part → (at place : ℕ) → Contents → List ℕ → List ℕ
+made_by_all [] at place contents bytes = bytes
+made_by_all (part ∷ parts) at place contents bytes = made_by_all parts at place contents (made_by part at place contents bytes)
+
+-- The other root is in force, its block has all contents, the gate behind it is closed, and the log stands as after a checkpoint that is done.
+pub record IsPacked (at : ℕ) (contents : Contents) (was : Standing) (made : List ℕ) : Type 0 where
+  pub log : IsLog (other_root at) contents [] made
+  pub stands : standing_at made (other_root at) ≡ done was
+
+-- With this write the next part can come. The last one makes a log with the other root in force, all contents in its block and a closed gate behind it, and the
+-- number in force is one more.
+abbrev pub LeadsOn : Part → (at place : ℕ) → (packed later : Contents) → (was made : List ℕ) → Type 0
+LeadsOn storing at place packed later was made =
+    IsSameRoot was made at × (gate_at was (other_root at) ≡ 1 → IsNext closing at place packed later made)
+    × (gate_at was (other_root at) ≢ 1 → IsNext naming at place packed later made)
+LeadsOn closing at place packed later was made = IsSameRoot was made at × IsNext naming at place packed later made
+LeadsOn naming at place packed later was made = IsSameRoot was made at × IsNext opening at place packed later made
+LeadsOn opening at place packed later was made = IsPacked at (packed ++ later) (standing_at was at) made

@@ -1,0 +1,52 @@
+// Laws on what a checkpoint makes of the bytes of a log in two areas. The functions here do nothing: each states a law.
+ghost use Rattle.std.specs.Prelude.{◌≡◌, ◌==◌, ◌<◌, ◌^◌, ◌+◌, ◌≤◌, ◌++◌, ℕ, List, length, false};
+ghost use Rattle.pv_base.specs.declared.limits.TheConstants.{MAX_JOURNAL};
+ghost use Rattle.pv_base.specs.declared.mode.Mode.{Mode};
+ghost use Rattle.pv_disk_model.specs.Disk.{Torn};
+ghost use Rattle.pv_disk_model.specs.Size.{Contents, size_of};
+ghost use Rattle.pv_law_checkpoints.specs.Roots.{gate_at, number_at, other_root, place_at};
+ghost use Rattle.pv_law_checkpoints.specs.Stages.{IsBlockPlace, IsLeft, IsNext, IsPacked, IsUnderWay, LeadsOn, MayLeave, MayLeaveInAll, Part, Standing, free_place, left_by, made_by, made_by_all, parts_of, shut, standing_at, storing, writes, writes_at};
+ghost use Rattle.pv_law_checkpoints.specs.TwoAreas.{IsLog, block_of, end_at};
+
+/// A log within the limit whose number can be raised is ready for a checkpoint. Each part of it makes what the next one needs, and the last a log of the same
+/// contents, all in the block of the other root, with a number in force that is one more.
+pub fn parts_lead_on()
+    ensures begin { (at : ℕ) (packed later : Contents) (bytes : List ℕ) →
+        IsLog at packed later bytes → size_of (packed ++ later) ≤ MAX_JOURNAL → number_at bytes at + 1 < 2 ^ 64 →
+        IsNext storing at (free_place (length (block_of (packed ++ later))) (place_at bytes at) (end_at bytes at later)) packed later bytes }
+    ensures lead { (part : Part) (at place : ℕ) (packed later : Contents) (bytes : List ℕ) →
+        IsNext part at place packed later bytes → LeadsOn part at place packed later bytes (made_by part at place (packed ++ later) bytes) }
+{}
+
+/// A whole checkpoint makes a log of the same contents, all in the block of the other root, which is in force with a number that is one more. The gate behind the
+/// block is closed, and that of the root that was in force stays 1.
+pub fn checkpoints_pack()
+    ensures { (at place : ℕ) (packed later : Contents) (bytes : List ℕ) →
+        IsNext storing at place packed later bytes →
+        IsPacked at (packed ++ later) (standing_at bytes at) (made_by_all (parts_of (gate_at bytes (other_root at) == 1)) at place (packed ++ later) bytes) }
+{}
+
+/// The new block of a checkpoint, with the gate behind it, lies behind the roots, at a place in range that isn't past the end of the bytes, and apart from the
+/// area in force and its closed gate.
+pub fn blocks_lie_apart()
+    ensures { (at place : ℕ) (packed later : Contents) (bytes : List ℕ) →
+        IsNext storing at place packed later bytes →
+        IsBlockPlace place (length (block_of (packed ++ later))) (place_at bytes at) (end_at bytes at later) × (place ≤ length bytes) }
+{}
+
+/// A crash at any moment of a checkpoint leaves a log of the same contents. Its number in force, and whether the gate of the other root is 1, are among what
+/// the part may leave in which the crash came.
+pub fn crashes_keep_the_contents()
+    ensures { (part : Part) (at place : ℕ) (packed later : Contents) (bytes left : List ℕ) →
+        IsNext part at place packed later bytes →
+        Torn (writes_at part at place) (length (writes part (number_at bytes at) place (packed ++ later))) bytes left →
+        IsLeft part (standing_at bytes at) (packed ++ later) left }
+{}
+
+/// What a stop or a fault in a schedule leaves is among what a crash at any moment of the same part may leave, and that is among what a crash at any moment of the
+/// whole checkpoint may leave. Where the other gate isn't 1, its closing changes nothing.
+pub fn stops_are_crashes()
+    ensures left { (part : Part) (mode : Mode) (was : Standing) → MayLeave part was (left_by part mode was) }
+    ensures in_all { (part : Part) (was now left : Standing) → IsUnderWay was now → MayLeave part now left → MayLeaveInAll was left }
+    ensures shut { (was : Standing) → was.other_open ≡ false → shut was ≡ was }
+{}
