@@ -1,0 +1,55 @@
+// The calls of the server. Each gives what the server answers, or throws a Refusal.
+
+/** What the server has refused: why, and for a faulty line its number, its cause, and its column in the program. */
+export class Refusal extends Error {
+  constructor(status, said) {
+    super(said.error ?? `the server answers ${status}`);
+    this.status = status;
+    this.line = said.line ?? null;
+    this.cause = said.cause ?? null;
+    this.column = said.column ?? null;
+  }
+}
+
+async function answerOf(path, options) {
+  let response;
+  try {
+    response = await fetch(path, options);
+  } catch {
+    throw new Refusal(0, { error: "The server doesn't answer. It ends with its terminal: start web/serve again." });
+  }
+  const said = await response.json();
+  if (!response.ok) throw new Refusal(response.status, said);
+  return said;
+}
+
+function post(path, call) {
+  return answerOf(path, { method: "POST", headers: { "Content-Type": "application/json" }, body: JSON.stringify(call) });
+}
+
+/** All stories. */
+export const readStories = () => answerOf("stories");
+
+/** A new world that has run a schedule. */
+export const openWorld = (schedule) => post("worlds", { schedule });
+
+/** The world after more lines. */
+export const appendLines = (world, lines) => post(`worlds/${world}/lines`, { lines });
+
+/** The world without its last lines that are events, this many. */
+export const undoLines = (world, count) => post(`worlds/${world}/undo`, { count });
+
+/** The world after another schedule. */
+export const replaceSchedule = (world, schedule) => post(`worlds/${world}/schedule`, { schedule });
+
+/** What the serial run gives where these open transactions commit. */
+export const askTheorem = (world, commit) => post(`worlds/${world}/theorem`, { commit });
+
+/** How many choices of the open transactions there are, and in how many all agrees. */
+export const tryChoices = (world) => post(`worlds/${world}/choices`, {});
+
+/** Tells the server that the page goes away. */
+export function closeWorld(world) {
+  const options = { method: "POST", headers: { "Content-Type": "application/json" }, body: "{}", keepalive: true };
+  fetch(`worlds/${world}/close`, options).catch(() => {});
+}
