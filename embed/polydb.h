@@ -305,7 +305,7 @@ uint32_t polydb_site_journal_synced(polydb_site *site, uint64_t place, size_t wr
 /*
  * The next thing that the site lets out: the bytes of a message, to be carried to site `*to`; or with `*to` = POLYDB_REPORT a line of text with its
  * line feed, as a run prints it: `txn 0.1.0`, `commit 0.1.0 certain nothing`, `refuse 0.1.1 conflict 0 a 0.1.0`, `full 0 4096`, `spent 0`.
- * They come in the order in which the site made them. Of a message `*to` is below 16, but may be no site of the configuration, where the file
+ * They come in the order of the steps that made them, and of each step the messages first. Of a message `*to` is below 16, but may be no site of the configuration, where the file
  * names a transaction of such a one: there is nobody to carry it to, and the message is lost.
  *
  *   POLYDB_DONE        it is in `out`, and dropped from the site
