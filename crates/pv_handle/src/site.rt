@@ -17,7 +17,9 @@ use std::alloc::Global;
 #[repr(C)]
 pub struct SiteSlot {
     live: bool,
+    /// Where the site lies.
     pub handle: SiteHandle,
+    /// The flag says whether there is a site.
     pub ghost agrees: { live ≡ is_some handle.site },
 }
 

@@ -13,7 +13,9 @@ use std::alloc::Global;
 #[repr(C)]
 pub struct WorldSlot {
     live: bool,
+    /// Where the world lies.
     pub handle: WorldHandle,
+    /// The flag says whether there is a world.
     pub ghost agrees: { live ≡ is_some handle.world },
 }
 

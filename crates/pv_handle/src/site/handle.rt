@@ -14,6 +14,7 @@ use std::marker::Model;
 pub struct SiteHandle {
     at: *mut u8,
     alloc: Global,
+    /// The site, if there is one.
     pub ghost site: { Option ByteSite } by { site_coded },
 }
 
@@ -32,12 +33,14 @@ impl SiteHandle {
         }
     }
 
+    /// A handle to this site.
     pub fn of(site: Box<ByteSite>) -> SiteHandle
         ensures { result.site ≡ Some site.value }
     {
         SiteHandle::of_parts(Parts::of(site))
     }
 
+    /// The site, which has no handle any more.
     pub fn into_box(self) -> Box<ByteSite>
         requires { IsSome self.site }
         ensures { self.site ≡ Some result.value }

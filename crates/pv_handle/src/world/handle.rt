@@ -14,6 +14,7 @@ use std::marker::Model;
 pub struct WorldHandle {
     at: *mut u8,
     alloc: Global,
+    /// The world, if there is one.
     pub ghost world: { Option HostedWorld } by { world_coded },
 }
 
@@ -32,12 +33,14 @@ impl WorldHandle {
         }
     }
 
+    /// A handle to this world.
     pub fn of(world: Box<HostedWorld>) -> WorldHandle
         ensures { result.world ≡ Some world.value }
     {
         WorldHandle::of_parts(Parts::of(world))
     }
 
+    /// The world, which has no handle any more.
     pub fn into_box(self) -> Box<HostedWorld>
         requires { IsSome self.world }
         ensures { self.world ≡ Some result.value }
