@@ -18,6 +18,7 @@ pub mod Recorded
 pub mod Refused
 pub mod ResumeLemmas
 pub mod RowLemmas
+pub mod SendLemmas
 pub mod Settling
 pub mod SiteLemmas
 pub mod SortedReads

@@ -5,6 +5,7 @@ mod answers;
 mod appending;
 mod committing;
 mod crashes;
+mod crossing;
 mod deciding;
 mod error;
 mod granting;

@@ -47,11 +47,3 @@ impl SiteParts {
         self.locks.any() || self.coord.any()
     }
 }
-
-// All that a site has beside its log may cross threads, which is refused here where one of its fields may not.
-fn crosses_threads() {
-    sends::<SiteParts>();
-}
-
-// What may cross threads fits here, and nothing else.
-fn sends<T: Send>() {}
