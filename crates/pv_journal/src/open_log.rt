@@ -1,5 +1,7 @@
 // Why a journal wasn't opened.
 use pv_disk::Disk;
+use std::error::Error;
+use std::fmt;
 
 /// Why a journal wasn't opened. The disk comes back in each case.
 #[derive(Drop)]
@@ -12,3 +14,26 @@ pub enum OpenLog<D: Disk> {
     /// There was no memory.
     NoMemory(D),
 }
+
+// Without the disk.
+impl<D: Disk> fmt::Debug for OpenLog<D> {
+    fn fmt<W: fmt::Write>(&self, f: &mut fmt::Formatter<W>) -> fmt::Result {
+        match self {
+            OpenLog::Failed(_) => f.write_str("Failed(..)"),
+            OpenLog::NotOurs(_, place) => write!(f, "NotOurs(.., {place})"),
+            OpenLog::NoMemory(_) => f.write_str("NoMemory(..)"),
+        }
+    }
+}
+
+impl<D: Disk> fmt::Display for OpenLog<D> {
+    fn fmt<W: fmt::Write>(&self, f: &mut fmt::Formatter<W>) -> fmt::Result {
+        match self {
+            OpenLog::Failed(_) => f.write_str("the disk failed"),
+            OpenLog::NotOurs(_, place) => write!(f, "not ours at {place}"),
+            OpenLog::NoMemory(_) => f.write_str("no memory"),
+        }
+    }
+}
+
+impl<D: Disk> Error for OpenLog<D> {}
