@@ -1,6 +1,7 @@
 // A site may cross threads where its log may.
 ghost use Rattle.std.specs.Thread.{IsSend};
 ghost use Rattle.pv_site.specs.contracts.parts.SiteParts.{the_row as parts_row};
+ghost use Rattle.pv_site.specs.contracts.site.Site.{the_row as site_row};
 
 use crate::Site;
 use pv_base::Catalog;
@@ -9,9 +10,16 @@ use pv_disk::Log;
 use pv_locks::Locks;
 use pv_store::Store;
 
-// A site may cross threads where its log may, which is refused here where one of its fields may not.
-fn crosses_threads<L: Log + Send>() {
+/// A site may cross threads where its log may. It is for the proof alone: a function that hands a site to another thread calls this one first.
+pub fn sites_cross_threads<L: Log + Send>()
+    ensures { IsSend (site_row L.row L.Log) }
+{
     parts_cross_threads();
+}
+
+// A site goes where what may cross threads is asked for, which is refused here where one of its fields may not.
+fn crosses_threads<L: Log + Send>() {
+    sites_cross_threads::<L>();
     sends::<Site<L>>();
 }
 

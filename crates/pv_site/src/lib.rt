@@ -24,6 +24,7 @@ mod taking;
 mod ticking;
 
 pub use crashes::crashes_leave_before_or_after;
+pub use crossing::sites_cross_threads;
 pub use error::{OpenError, ResumeError, StepError};
 pub use input::{Cause, Input, Note, Outgoing, Shown, Step};
 pub use lists::lists_fail_as_planned;
