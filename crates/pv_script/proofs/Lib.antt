@@ -13,3 +13,6 @@ pub mod FaultLemmas
 pub mod CountLemmas
 pub mod ScheduleLemmas
 pub mod EachBelowLemmas
+mod SameLemmas
+mod BehindLemmas
+mod CatalogTextLemmas

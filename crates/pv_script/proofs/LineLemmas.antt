@@ -26,7 +26,7 @@ pub Begins-slice_split : (text : List ℕ) → Begins (slice_split is_feed text)
 Begins-slice_split [] = ([], [], refl)
 Begins-slice_split (b ∷ bs) = Begins-cond b (is_feed b) (slice_split is_feed bs) (Begins-slice_split bs)
 
-parts_that_are_lines-cons : (line : List ℕ) (parts : List (List ℕ)) → Begins parts → parts_that_are_lines (line ∷ parts) ≡ line ∷ parts_that_are_lines parts
+pub parts_that_are_lines-cons : (line : List ℕ) (parts : List (List ℕ)) → Begins parts → parts_that_are_lines (line ∷ parts) ≡ line ∷ parts_that_are_lines parts
 parts_that_are_lines-cons line parts begins = rw (begins.2) refl
 
 -- a line ends at the first line feed
@@ -53,7 +53,7 @@ lines-at text k first passes =
     ∙ lines-feed (take k text) (drop (k + 1) text) (All-nowhere text k (omega arith) first.before)
     ∙ ap (λ rest. strip_carriage_return (take k text) ∷ lines (drop 1 rest)) (sym tail)
 
-parts_that_are_lines-some : (text : List ℕ) → 0 < length text → parts_that_are_lines (text ∷ []) ≡ text ∷ []
+pub parts_that_are_lines-some : (text : List ℕ) → 0 < length text → parts_that_are_lines (text ∷ []) ≡ text ∷ []
 parts_that_are_lines-some [] some = absurd (omega arith)
 parts_that_are_lines-some (b ∷ bs) some = rw (eqb-suc-zero (length bs)) refl
 

@@ -86,17 +86,17 @@ append-nil : (es : List model.Event) → es ++ [] ≡ es
 append-nil [] = refl
 append-nil (e ∷ es) = ap (λ (more : List model.Event). e ∷ more) (append-nil es)
 
-pub IsSchedule-read : (text : List ℕ) (said : Said) (events : List model.Event) (left : List (ℕ × TextLine)) → IsLimited said → left ≡ []
+-- All lines are read.
+pub lines-read : (text : List ℕ) (said : Said) (events : List model.Event) (left : List (ℕ × TextLine)) → left ≡ []
     → ((more : List model.Event) (last : Before) → AreLines (before_of said) (without_numbers left) more last → AreLines (at_first scheduled) (significant text) (events ++ more) last)
+    → AreLines (at_first scheduled) (significant text) events (before_of said)
+lines-read text said events left empty so =
+    subst (λ (es : List model.Event). AreLines (at_first scheduled) (significant text) es (before_of said)) (append-nil events)
+    (so [] (before_of said) (subst (λ (all : List (ℕ × TextLine)). AreLines (before_of said) (without_numbers all) [] (before_of said)) (sym empty) (none (before_of said))))
+
+pub IsSchedule-read : (text : List ℕ) (said : Said) (events : List model.Event) → IsLimited said → AreLines (at_first scheduled) (significant text) events (before_of said)
     → IsSchedule text (record { catalog = said.catalog; events = events })
-IsSchedule-read text said events left is empty so = record {
-  last = before_of said;
-  are = subst (λ (es : List model.Event). AreLines (at_first scheduled) (significant text) es (before_of said)) (append-nil events)
-      (so [] (before_of said) (subst (λ (all : List (ℕ × TextLine)). AreLines (before_of said) (without_numbers all) [] (before_of said)) (sym empty) (none (before_of said))));
-  sites = said.catalog.sites;
-  said = refl;
-  catalog = sym (limited said is);
-}
+IsSchedule-read text said events is are = record { last = before_of said; are = are; sites = said.catalog.sites; said = refl; catalog = sym (limited said is) }
 
 -- A live script of which all lines are read.
 pub IsLiveScript-read : (text : List ℕ) (said : LiveSaid) (script : LiveScript) (left : List (ℕ × TextLine)) → left ≡ []

@@ -11,3 +11,5 @@ pub mod Generated
 pub mod Keywords
 pub mod Said
 pub mod TakesLine
+pub mod Behind
+pub mod BehindView

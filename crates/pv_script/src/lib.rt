@@ -3,6 +3,7 @@
 #![tactic(auto)]
 
 mod arguments;
+mod catalog_text;
 mod draws;
 mod fault;
 mod fields;
@@ -16,10 +17,12 @@ mod made_lines;
 mod program;
 mod read;
 mod said;
+mod same;
 mod schedule;
 mod script;
 mod words;
 
+pub use catalog_text::CatalogText;
 pub use generator::make;
 pub use line::{Line, MessageKind};
 pub use lines::MAX_SCHEDULE;

@@ -22,7 +22,9 @@ pub struct SignificantLine<'a> {
 /// The significant lines of a text that are still to be read.
 #[derive(Drop)]
 pub struct Lines<'a> {
+    /// The text that is still to be read.
     rest: &'a [u8],
+    /// How many lines were passed, also those that stand before the text.
     passed: u32,
 }
 
@@ -43,7 +45,7 @@ impl<'a> Model for Lines<'a> {
 }
 
 impl<'a> Lines<'a> {
-    ghost use Rattle.pv_model.specs.Text.{numbered, lines};
+    ghost use Rattle.pv_model.specs.Text.{numbered, lines, significant_from};
 
     /// All lines of a text.
     pub fn new(text: &'a [u8]) -> Lines<'a>
@@ -54,6 +56,14 @@ impl<'a> Lines<'a> {
             rest: text,
             passed: 0,
         }
+    }
+
+    /// All lines of a text that stands behind so many other lines.
+    pub fn behind(text: &'a [u8], passed: u32) -> Lines<'a>
+        requires { passed + length text.now ≤ MAX_SCHEDULE }
+        ensures { result ≡ record { numbered = significant_from (passed + 1) (lines text.now); after_last = passed + length (lines text.now) + 1 } }
+    {
+        Lines { rest: text, passed }
     }
 
     /// The next line that counts.

@@ -1,8 +1,9 @@
 // How schedules and live scripts are read.
-ghost use Rattle.std.specs.Prelude.{◌≡◌, ◌≤◌, ℕ, List, ◌∷◌, All, length, vec_len, IfOk, IfErr, IfSome, OnOk};
+ghost use Rattle.std.specs.Prelude.{◌≡◌, ◌≤◌, ℕ, List, ◌∷◌, All, length, map, vec_len, IfOk, IfErr, IfSome, OnOk};
 ghost use Rattle.pv_base.specs.Answer.{Answers};
 ghost use Rattle.pv_model.specs.LineCauses as model;
-ghost use Rattle.pv_model.specs.Schedule.{Declares, IsLiveScript, IsSchedule};
+ghost use Rattle.pv_model.specs.Schedule.{AreLines, Declares, IsLiveScript, IsSchedule, significant};
+ghost use Rattle.pv_model.specs.LineForms.{scheduled};
 ghost use Rattle.pv_script.specs.ScriptErrors.{IsMalformedAt, IsMalformedLiveAt, IsMalformedIn, refused_line};
 ghost use Rattle.pv_script.specs.LineFaults.{IsErrorAt};
 ghost use Rattle.pv_script.specs.LinesLeft.{unread};
@@ -11,7 +12,7 @@ ghost use Rattle.pv_script.specs.LiveView.{live_script_of, HasPlans};
 ghost use Rattle.pv_script.specs.Said.{nothing_beside, before_with, before_of, IsLimited};
 ghost use Rattle.pv_script.specs.ScriptKinds.{script_of};
 ghost use Rattle.pv_script.specs.TakesLine.{TakesLine};
-ghost use Rattle.pv_script.specs.ScheduleView.{schedule_of, HasPlan};
+ghost use Rattle.pv_script.specs.ScheduleView.{event_of, schedule_of, HasPlan};
 
 use crate::lines::{Lines, MAX_SCHEDULE, SignificantLine};
 use crate::live::LiveScript;
@@ -39,16 +40,28 @@ pub fn read_schedule(alloc: Global, text: &[u8]) -> Result<Schedule, ScriptError
     // There are no more events than bytes.
     ensures few { IfOk result (λ schedule. vec_len schedule.events ≤ length text.now) }
 {
+    let (said, events) = read_lines(alloc, text)?;
+    Ok(Schedule {
+        catalog: said.catalog,
+        events,
+    })
+}
+
+/// What all lines of a text say that is a schedule, and its events.
+pub fn read_lines(alloc: Global, text: &[u8]) -> Result<(Said, Vec<Event>), ScriptError>
+    requires { length text.now ≤ MAX_SCHEDULE }
+    ensures are { IfOk result (λ read. AreLines (model.at_first scheduled) (significant text.now) (map event_of read.1.items) (before_of read.0)) }
+    ensures limited { IfOk result (λ read. IsLimited read.0) }
+    ensures plans { IfOk result (λ read. All (HasPlan read.0.catalog) read.1.items) }
+    ensures fault { IfErr result (λ error. IfSome (refused_line error) (IsMalformedAt text.now)) }
+{
     let mut lines = Lines::new(text);
     let mut said = read_first(alloc, Script::Scheduled, &mut lines)?;
     let mut events = Vec::new(alloc);
     while let Some(line) = lines.next() {
         read_line(alloc, &mut said, &mut events, line)?;
     }
-    Ok(Schedule {
-        catalog: said.catalog,
-        events,
-    })
+    Ok((said, events))
 }
 
 /// The live script that a text of at most [`MAX_SCHEDULE`] bytes says.

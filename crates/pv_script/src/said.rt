@@ -103,6 +103,24 @@ impl Said {
         Ok(None)
     }
 
+    /// The event that one more line of a schedule is. There is none where it declares something, which [`Said::read`] takes.
+    pub fn event(&self, alloc: Global, line: &[u8]) -> Result<Option<Event>, Fault>
+        requires { IsLimited self.now }
+        ensures event { IfOk result (λ found. IfSome found (λ event. IsEvent (before_of self.now) line.now (event_of event))) }
+        ensures plan { IfOk result (λ found. IfSome found (HasPlan self.now.catalog)) }
+        ensures fault { IfErr result (IsLineFault (before_of self.now) line.now) }
+    {
+        let words = words_in(alloc, Script::Scheduled, line)?;
+        let (keyword, args) = split(&words)?;
+        match keyword {
+            Keyword::Sites => Err(Fault::At(LineCause::Twice)),
+            Keyword::Journal | Keyword::Item => Ok(None),
+            Keyword::Submit => Ok(Some(self.request(alloc, line, args, false)?)),
+            Keyword::Query => Ok(Some(self.request(alloc, line, args, true)?)),
+            Keyword::Command(command) => Ok(Some(event_in(command, args, self.catalog.sites())?)),
+        }
+    }
+
     /// Sets the limit of the journals, as words after `journal` say.
     pub fn limit(&mut self, args: &[&[u8]]) -> Result<(), LineCause>
         requires { IsLimited self.old }

@@ -4,9 +4,9 @@ ghost use Rattle.pv_script.specs.CauseTexts.{cause_text, error_text};
 ghost use Rattle.pv_script.specs.ScriptErrors.{line_cause_of};
 
 use pv_ast::Program;
-use pv_base::{Catalog, Mode, SiteId};
+use pv_base::{Catalog, Mode, NoMemory, SiteId};
 use pv_check::Plan;
-use std::alloc::AllocFailed;
+use std::alloc::{AllocError, AllocFailed};
 use std::error::Error;
 use std::fmt;
 
@@ -179,6 +179,26 @@ impl fmt::Display for ScriptError {
 }
 
 impl Error for ScriptError {}
+
+impl From<NoMemory> for ScriptError {
+    ghost use Rattle.pv_script.specs.declared.schedule.ScriptError.TheVariants as error;
+
+    ghost from_gives = { λ _ e. e ≡ error.NoMemory };
+
+    fn from(_: NoMemory) -> Self {
+        ScriptError::NoMemory
+    }
+}
+
+impl From<AllocError> for ScriptError {
+    ghost use Rattle.pv_script.specs.declared.schedule.ScriptError.TheVariants as error;
+
+    ghost from_gives = { λ _ e. e ≡ error.NoMemory };
+
+    fn from(_: AllocError) -> Self {
+        ScriptError::NoMemory
+    }
+}
 
 impl<T: Drop> From<AllocFailed<T>> for ScriptError {
     ghost use Rattle.pv_script.specs.declared.schedule.ScriptError.TheVariants as error;

@@ -1,6 +1,6 @@
 // What no clause says: that calls succeed, what texts say to one who reads them, and how a refusal is printed.
 use pv_base::{ItemId, MAX_JOURNAL, SiteId};
-use pv_script::{Event, LineCause, MAX_SCHEDULE, Schedule, ScriptError, make, read_schedule};
+use pv_script::{CatalogText, Event, LineCause, MAX_SCHEDULE, Schedule, ScriptError, make, read_schedule};
 use std::process::Abort;
 use std::test::Fail;
 
@@ -98,7 +98,7 @@ fn schedule(rt: &(impl Abort + AllocGlobal), text: &[u8]) -> Schedule {
     }
 }
 
-// Asserts that the error prints so.
+/// Asserts that the error prints so.
 pub fn assert_printed(rt: &(impl Abort + AllocGlobal), error: ScriptError, wanted: &str) {
     match format!(in rt.alloc(); "{error}") {
         Ok(printed) => assert_eq!(rt; printed.as_str(), wanted),
@@ -154,6 +154,36 @@ fn a_schedule_is_read(rt: HostRuntime) {
     assert_submit(&rt, submit, "a := a + 1");
     assert!(rt; matches!(pump, Event::Pump(None)));
     assert!(rt; matches!(report, Event::Report));
+}
+
+// The event of a line behind the text of a catalog, or why there is none.
+fn behind(
+    rt: &(impl Abort + AllocGlobal),
+    text: &[u8],
+    line: &str,
+) -> Result<Option<Event>, ScriptError> {
+    if text.len() > 1000 || line.len() > 1000 {
+        panic!(rt; "too long a text");
+    }
+    match CatalogText::read(rt.alloc(), text)? {
+        Some(declared) => declared.read_event(rt.alloc(), line.as_bytes()),
+        None => panic!(rt; "the catalog has events"),
+    }
+}
+
+#[test]
+fn a_line_is_read_behind_a_catalog(rt: HostRuntime) {
+    let catalog = "sites 1\nitem a 0 100\n".as_bytes();
+    match behind(&rt, catalog, "submit 0 a := a + 1") {
+        Ok(Some(submit)) => assert_submit(&rt, &submit, "a := a + 1"),
+        _ => panic!(rt; "no event"),
+    }
+    assert!(rt; matches!(behind(&rt, catalog, "pump\nreport"), Ok(None)));
+    assert!(rt; matches!(behind(&rt, catalog, "item b 0 1"), Ok(None)));
+    match behind(&rt, catalog, "tick 1") {
+        Ok(_) => panic!(rt; "a tick of no site"),
+        Err(error) => assert_printed(&rt, error, "line 4: bad number"),
+    }
 }
 
 #[test]

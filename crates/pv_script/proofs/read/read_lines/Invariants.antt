@@ -8,7 +8,7 @@ use Rattle.pv_model.specs.Schedule.{AreLines, significant, IsAtFault}
 use Rattle.pv_script.specs.Said.{before_of, IsLimited}
 use Rattle.pv_script.specs.ScheduleView.{event_of, HasPlan}
 use Rattle.pv_script.proofs.FaultLemmas.{IsAtFaultFrom}
-use Rattle.pv_script.proofs.read.read_schedule.Given as goal
+use Rattle.pv_script.proofs.read.read_lines.Given as goal
 
 abbrev pub invariant-loop-line : goal.invariant-loop-line
 invariant-loop-line l =

@@ -1,0 +1,10 @@
+-- The parts between line feeds are counted.
+use Rattle.std.proofs.Common.{◌==◌, ℕ, rules, tests}
+use Rattle.std.proofs.lemmas.Iterator.Consumers.{count_from_yields_List}
+use Rattle.std.proofs.lemmas.Iterator.Splits.{YieldsList-from_slice_split}
+use Rattle.pv_script.proofs.catalog_text.lines_with_feed.Goals as goal
+
+pub returns : goal.returns
+returns c =
+    count_from_yields_List c.split.result c.count.result c.count.ensures.ran
+    (YieldsList-from_slice_split _ (λ (b : ℕ). b == 10) c.args.text.now c.split.ensures.rest c.split.ensures.done c.split.ensures.closure (λ x b q k. search (rules, tests)))
