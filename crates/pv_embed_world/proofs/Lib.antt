@@ -1,4 +1,3 @@
 mod AnswerLemmas
 mod ReadingLemmas
-mod SameLemmas
 mod StepLemmas

@@ -15,6 +15,7 @@ use Rattle.pv_protocol.specs.World as model
 use Rattle.pv_protocol.specs.World.{opening}
 use Rattle.pv_protocol.specs.WorldStep.{Transition}
 use Rattle.pv_site.specs.SiteState.{setup_of}
+use Rattle.pv_script.specs.Behind.{schedule_over}
 use Rattle.pv_world.specs.Stands.{StandsFor}
 use Rattle.pv_world.specs.Steps.{IsSameBeside}
 use Rattle.pv_world.specs.declared.world.World.{World}
@@ -23,7 +24,7 @@ use Rattle.pv_run.specs.InputAnswers.{output_of}
 use Rattle.pv_run.specs.KeptDisks.{last_world}
 use Rattle.pv_run.specs.declared.form.Form.TheVariants.{Text}
 use Rattle.pv_embed_world.specs.Advance.{Advances, HasAdvanced}
-use Rattle.pv_embed_world.specs.Reading.{IsShort, RefusesLine, SaysEvent, schedule_over}
+use Rattle.pv_embed_world.specs.Reading.{IsShort, RefusesLine, SaysEvent}
 use Rattle.pv_embed_world.specs.World.{Hosted, HasOpened, HasRun, Leaves, LeavesOn, Steps, StepsOn}
 use Rattle.pv_embed_world.specs.declared.fault.WorldFault.{WorldFault}
 use Rattle.pv_embed_world.specs.declared.fault.WorldFault.TheVariants.{TooLong, Malformed, HasEvents, NotOneEvent, SentLimit, NoMemory, BrokenOff, Closed}

@@ -1,19 +1,15 @@
 -- What is read of the text of a catalog, and of a line behind it, and why another text or line is refused.
-use Rattle.std.specs.Prelude.{◌≢◌, ◌<◌, ◌≤◌, ℕ, Result, Ok, Err, List, [], ◌∷◌, ◌++◌, length, ⊤}
+use Rattle.std.specs.Prelude.{◌≡◌, ◌≢◌, ◌<◌, ◌≤◌, ℕ, Result, Ok, Err, List, [], ◌∷◌, length, ⊤}
 use Rattle.pv_base.specs.Catalog.{Declared}
 use Rattle.pv_base.specs.declared.limits.TheConstants.{MAX_INPUT}
 use Rattle.pv_model.specs.Events.{Event, Schedule}
-use Rattle.pv_model.specs.ReplyText.{line_feed}
 use Rattle.pv_model.specs.Schedule.{IsSchedule, IsMalformedSchedule}
+use Rattle.pv_script.specs.Behind.{Declaring, schedule_over, with_line}
 use Rattle.pv_script.specs.ScheduleView.{event_of, HasPlan}
 use Rattle.pv_script.specs.ScriptErrors.{line_cause_of}
 use Rattle.pv_script.specs.declared.schedule.Event as code
 use Rattle.pv_embed_world.specs.declared.fault.WorldFault.{WorldFault}
 use Rattle.pv_embed_world.specs.declared.fault.WorldFault.TheVariants.{TooLong, Malformed, HasEvents, NotOneEvent, NoMemory}
-
--- the schedule of these events over this catalog
-abbrev pub schedule_over : Declared → List Event → Schedule
-schedule_over catalog events = record { catalog = catalog; events = events }
 
 -- It is no longer than an input may be.
 abbrev pub IsShort : List ℕ → Type 0
@@ -27,14 +23,10 @@ RefusesCatalog text HasEvents = IsShort text × (schedule : Schedule) × IsSched
 RefusesCatalog text NoMemory = ⊤
 RefusesCatalog text other = ⊥
 
--- The catalog that a text declares, by the answer: it is a schedule without events.
-abbrev pub ReadsCatalog : List ℕ → Result Declared WorldFault → Type 0
-ReadsCatalog text (Ok catalog) = IsShort text × IsSchedule text (schedule_over catalog [])
+-- The text that declares a catalog, by the answer: it is a schedule without events.
+abbrev pub ReadsCatalog : List ℕ → Result Declaring WorldFault → Type 0
+ReadsCatalog text (Ok behind) = IsShort text × (behind.text ≡ text) × IsSchedule text (schedule_over behind.catalog [])
 ReadsCatalog text (Err fault) = RefusesCatalog text fault
-
--- a text with a line behind it
-abbrev pub with_line : List ℕ → List ℕ → List ℕ
-with_line text line = text ++ (line_feed ++ line)
 
 -- The line is this event behind the text of a catalog: with it the text is a schedule of the same catalog and of this event alone.
 abbrev pub SaysEvent : List ℕ → Declared → List ℕ → Event → Type 0

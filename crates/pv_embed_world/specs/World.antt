@@ -5,12 +5,13 @@ use Rattle.pv_base.specs.declared.limits.TheConstants.{MAX_SENT}
 use Rattle.pv_model.specs.Events.{Event}
 use Rattle.pv_model.specs.Schedule.{IsSchedule}
 use Rattle.pv_protocol.specs.Limit.{over_limit}
+use Rattle.pv_script.specs.Behind.{schedule_over}
 use Rattle.pv_world.specs.Stands.{StandsFor}
 use Rattle.pv_world.specs.declared.world.World.{World}
 use Rattle.pv_run.specs.InputAnswers.{output_of}
 use Rattle.pv_run.specs.KeptDisks.{last_world}
 use Rattle.pv_run.specs.declared.form.Form.TheVariants.{Text}
-use Rattle.pv_embed_world.specs.Reading.{IsShort, RefusesCatalog, RefusesLine, SaysEvent, schedule_over}
+use Rattle.pv_embed_world.specs.Reading.{IsShort, RefusesCatalog, RefusesLine, SaysEvent}
 use Rattle.pv_embed_world.specs.declared.fault.WorldFault.{WorldFault}
 use Rattle.pv_embed_world.specs.declared.fault.WorldFault.TheVariants.{SentLimit, BrokenOff, Closed}
 

@@ -12,7 +12,7 @@ use crate::WorldFault;
 use crate::kept::Kept;
 use crate::reading::{catalog_in, event_in};
 use pv_base::{Catalog, MAX_SENT, NoMemory};
-use pv_script::Event;
+use pv_script::{CatalogText, Event};
 use pv_world::{World, WorldError};
 use std::alloc::Global;
 use std::marker::Model;
@@ -26,9 +26,7 @@ pub struct HostedWorld {
     /// Where its memory comes from.
     alloc: Global,
     /// The text that declares its catalog.
-    text: Vec<u8>,
-    /// What that declares.
-    catalog: Catalog,
+    declared: CatalogText,
     /// The world, unless a step was broken off or passed the limit.
     world: Option<World>,
     /// What is printed and not yet taken.
@@ -63,12 +61,10 @@ impl HostedWorld {
         ensures { Opens catalog.now result }
     {
         let declared = catalog_in(alloc, catalog)?;
-        let text = Vec::from_slice(alloc, catalog)?;
-        let world = World::new(alloc, &declared, MAX_SENT)?;
+        let world = World::new(alloc, declared.catalog(), MAX_SENT)?;
         Ok(HostedWorld {
             alloc,
-            text,
-            catalog: declared,
+            declared,
             world: Some(world),
             kept: Kept::new(alloc),
         })
@@ -76,7 +72,8 @@ impl HostedWorld {
 
     /// Makes the step of the event that the line is: the catalog's text with the line behind it is a schedule of the same catalog with that one event. Its lines are kept.
     ///
-    /// The catalog's text is read anew in each step, so that a step takes time in proportion to that text beside what the event takes: what it prints, sends and touches.
+    /// Takes time in proportion to the line and to what the event takes: what it prints, sends and touches. Only a line that declares something, or is several, takes time
+    /// in proportion to the catalog's text too.
     ///
     /// These leave all as it was:
     ///
@@ -96,11 +93,11 @@ impl HostedWorld {
         let Some(world) = &mut self.world else {
             return Err(WorldFault::Closed);
         };
-        let event = match event_in(self.alloc, &self.text, &self.catalog, line) {
+        let event = match event_in(self.alloc, &self.declared, line) {
             Ok(event) => event,
             Err(fault) => return Err(fault),
         };
-        match advance(world, &event, &mut self.kept, &self.catalog) {
+        match advance(world, &event, &mut self.kept, self.declared.catalog()) {
             Ok(()) => Ok(()),
             Err(fault) => {
                 self.world = None;

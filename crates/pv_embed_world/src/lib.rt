@@ -6,7 +6,6 @@ mod hosted_world;
 mod kept;
 mod ran;
 mod reading;
-mod same;
 
 pub use fault::WorldFault;
 pub use hosted_world::HostedWorld;

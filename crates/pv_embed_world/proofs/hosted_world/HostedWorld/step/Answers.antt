@@ -1,8 +1,7 @@
 -- What a step makes of the world and of what is kept, for each history of it, and what it leaves.
-use Rattle.std.proofs.Common.{◌≡◌, ℕ, List, Option, Ok, Err, Some, None, IfSome, ap, sym, subst}
+use Rattle.std.proofs.Common.{◌≡◌, Option, Ok, Err, Some, None, IfSome, ap, sym, subst}
 use Rattle.pv_script.specs.ScheduleView.{event_of}
 use Rattle.pv_world.specs.declared.world.World.{World}
-use Rattle.pv_embed_world.specs.Reading.{RefusesLine, SaysEvent}
 use Rattle.pv_embed_world.specs.World.{Hosted, HasRun, Leaves, Steps}
 use Rattle.pv_embed_world.specs.WorldView.{hosted_of, IsOver}
 use Rattle.pv_embed_world.proofs.StepLemmas.{ended, ended-leaves, leaves-up, refused, refused-leaves, stepped}
@@ -14,7 +13,7 @@ returns-in-Err c =
     let line = c.args.line.now in
     let fault = c.in-Err.fault in
     let new : Hosted = record (hosted_of inside) { world = Some c.in-Some.world } in
-    let why = subst (λ (text : List ℕ). RefusesLine text inside.catalog line fault) c.deref.ensures.value c.in-Err.ensures.read in
+    let why = c.in-Err.ensures.read in
     let same : new ≡ hosted_of inside = ap (λ (o : Option World). record (hosted_of inside) { world = o }) (sym c.in-Some.is) in (
       subst (λ (old : Hosted). Leaves {X = Unit {0}} old new line old.world (Err fault)) c.self.view_is
           (leaves-up (hosted_of inside) line c.in-Some.world c.in-Some.is new (Err fault) (refused-leaves (hosted_of inside) line c.in-Some.world c.in-Some.is new fault why same)),
@@ -30,7 +29,7 @@ returns-in-Ok-advance c =
     let event = event_of c.in-Ok.event in
     let new : Hosted = record (hosted_of inside) { world = Some c.advance.new.world; kept = c.advance.new.kept } in
     let over = subst (λ (o : Option World). IfSome o (IsOver inside)) c.in-Some.is c.self.invariant.world in
-    let says = subst (λ (text : List ℕ). SaysEvent text inside.catalog line event) c.deref.ensures.value c.in-Ok.ensures.read.0 in (
+    let says = c.in-Ok.ensures.read.0 in (
       subst (λ (old : Hosted). Leaves {X = Unit {0}} old new line old.world (Ok tt)) c.self.view_is
           (leaves-up (hosted_of inside) line c.in-Some.world c.in-Some.is {X = Unit {0}} new (Ok tt) tt),
       λ events taken has.
@@ -48,7 +47,7 @@ returns c =
     let fault = c.in-Err-advance.fault in
     let new : Hosted = record (hosted_of inside) { world = None; kept = c.advance.new.kept } in
     let over = subst (λ (o : Option World). IfSome o (IsOver inside)) c.in-Some.is c.self.invariant.world in
-    let says = subst (λ (text : List ℕ). SaysEvent text inside.catalog line event) c.deref.ensures.value c.in-Ok.ensures.read.0 in (
+    let says = c.in-Ok.ensures.read.0 in (
       subst (λ (old : Hosted). Leaves {X = Unit {0}} old new line old.world (Err fault)) c.self.view_is
           (leaves-up (hosted_of inside) line c.in-Some.world c.in-Some.is new (Err fault)
           (ended-leaves (hosted_of inside) line c.in-Some.world c.in-Some.is c.advance.new.world c.advance.new.kept event over.stands.0 fault
