@@ -9,5 +9,6 @@ pub returns-in-Some-clause-well : goal.returns-in-Some-clause-well
 returns-in-Some-clause-well c =
     let behind = c.args.declared.now in
     let event = event_of c.in-Some.event in
+    let says = rw c.in-Some.is at c.in_ok-event.ensures.event in
     is-well behind.catalog event
-    (c.schedules_are_well_formed.ensures (with_line behind.text c.args.line.now) (schedule_over behind.catalog (event ∷ [])) c.in-Some.ensures.event)
+    (c.schedules_are_well_formed.ensures (with_line behind.text c.args.line.now) (schedule_over behind.catalog (event ∷ [])) says)
