@@ -1,5 +1,5 @@
 -- What several reads, one after the other, say of the text that was there.
-use Rattle.std.proofs.Common.{◌≡◌, ◌≤◌, ◌+◌, ℕ, List, [], ◌++◌, None, Some, sym, ap, ◌∙◌, arith, length, take, append-nil, length-append}
+use Rattle.std.proofs.Common.{◌≡◌, ◌≤◌, ◌+◌, ℕ, true, false, is_some, List, [], ◌++◌, None, Some, sym, ap, ◌∙◌, arith, length, take, append-nil, length-append}
 use Rattle.std.specs.declared.option.Option.{Option}
 use Rattle.pv_io.specs.Stream.{TakesAtMost}
 use Rattle.std.specs.Io.KnownBytes.{Appends, Consumes, IsAtEnd}
@@ -53,3 +53,11 @@ Appends-grown a b c bs cs new first second grown = rw grown (Appends-trans a b c
 
 pub Appends-end : (a b c : Option (List ℕ)) (bs cs : List ℕ) (n : ℕ) → Appends a b bs → Appends b c (take n cs) → n ≡ 0 → Appends a c bs
 Appends-end a b c bs cs n first second none = Appends-grown a b c bs (take n cs) bs first second (sym (append-nil bs) ∙ ap (λ k. bs ++ take k cs) (sym none))
+
+-- What the reads gave is kept from before the first one, where the last one says that it is.
+pub kept-first : (left now : Option (List ℕ)) (first before after : Option (List ℕ)) → is_some now ≡ is_some left
+    → (is_some left ≡ false → is_some before ≡ true → is_some first ≡ true) → (is_some now ≡ false → (is_some before ≡ true) × (is_some after ≡ true))
+    → is_some left ≡ false → (is_some first ≡ true) × (is_some after ≡ true)
+kept-first left now first before after known kept read untold =
+    let both = read (known ∙ untold) in
+    (kept untold both.0, both.1)

@@ -1,11 +1,11 @@
 -- What is read of a source.
-use Rattle.std.specs.Prelude.{◌≡◌, ℕ, ◌+◌, ◌<◌, ◌≤◌, List, [], Some, Result, vec_len, length, IfOk, IsErrOf}
+use Rattle.std.specs.Prelude.{◌≡◌, ℕ, ◌+◌, ◌<◌, ◌≤◌, true, false, List, [], Some, is_some, Result, vec_len, length, IfOk, IsErrOf}
 use Rattle.std.specs.Global.{Vec}
 use Rattle.std.specs.Io.KnownBytes.{Appends}
 use Rattle.pv_base.specs.Fault.{Rose}
 use Rattle.pv_io.specs.Stream.{TakesAtMost, KnownAlike}
 use Rattle.pv_io.specs.declared.read_end.ReadEnd.{ReadEnd}
-use Rattle.pv_io.specs.declared.read_end.ReadEnd.TheVariants.{Failed, TooLong}
+use Rattle.pv_io.specs.declared.read_end.ReadEnd.TheVariants.{Failed, NoMemory, TooLong}
 use Rattle.pv_io.specs.declared.reading.TheConstants.{PIECE}
 use Rattle.pv_io.specs.declared.source.Source.{Ghosts}
 
@@ -18,6 +18,8 @@ module _ {R : Type 0} (source : Ghosts R) where
     pub whole : IfOk result (λ bytes. (text : List ℕ) → source.left old ≡ Some text → (bytes.items ≡ text) × (source.left new ≡ Some []))
     -- what is answered is all that the reads of this call gave
     pub given : IfOk result (λ bytes. Appends (source.given old) (source.given new) bytes.items)
+    -- where the bytes that are left aren't known that is kept, also before the first read, unless there was no memory
+    pub kept : (IsErrOf result NoMemory → ⊥) → is_some (source.left old) ≡ false → (is_some (source.given old) ≡ true) × (is_some (source.given new) ≡ true)
     pub within : IfOk result (λ bytes. vec_len bytes ≤ limit)
     pub too_long : IsErrOf result TooLong → (text : List ℕ) → source.left old ≡ Some text → limit < length text
     pub too_much : IsErrOf result TooLong → (read : List ℕ) × Appends (source.given old) (source.given new) read × (limit < length read)

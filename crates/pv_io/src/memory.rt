@@ -79,7 +79,8 @@ impl Source for MemSource {
         ensures bytes { ReadConsumes (Some self.old.left) (Some self.new.left) result into.new }
         ensures known { KnownAlike (Some self.old.left) (Some self.new.left) }
         ensures given { WriteAppends None None result into.new }
-        ensures kept { is_some (Some self.old.left) ≡ false → is_some (⟦<MemSource as Source>⟧.given self.new) ≡ true }
+        ensures kept { is_some (Some self.old.left) ≡ false → (is_some (⟦<MemSource as Source>⟧.given self.old) ≡ true)
+            × (is_some (⟦<MemSource as Source>⟧.given self.new) ≡ true) }
         ensures fault { FaultCounted self.old.faults self.new.faults result }
         ensures uncounted { OnOk result (self.new.faults ≡ self.old.faults) }
 

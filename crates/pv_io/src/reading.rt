@@ -5,7 +5,7 @@ use crate::{ReadEnd, Source};
 use pv_base::buffer;
 use std::alloc::Global;
 
-/// How much one read asks for, in bytes.
+// How much one read asks for, in bytes.
 const PIECE: usize = 65_536;
 
 /// All the bytes that the source has left, where they are no more than `limit`. It reads in pieces of up to 64 KiB.

@@ -11,7 +11,7 @@ pub trait Source {
     /// The bytes that are left to read, where they are known.
     ghost left: { Self → Option (List ℕ) };
 
-    /// What the reads have given so far, one after another, where that is kept: it is where the bytes that are left aren't known.
+    /// What the reads have given so far, one after another, where that is kept: it is, before a read and after it, where the bytes that are left aren't known.
     ghost given: { Self → Option (List ℕ) };
 
     /// How many calls have failed. It never falls, and no call that succeeds changes it; at u64's greatest value it stays.
@@ -24,7 +24,7 @@ pub trait Source {
         ensures bytes { ReadConsumes (left self.old) (left self.new) result into.new }
         ensures known { KnownAlike (left self.old) (left self.new) }
         ensures given { WriteAppends (given self.old) (given self.new) result into.new }
-        ensures kept { is_some (left self.old) ≡ false → is_some (given self.new) ≡ true }
+        ensures kept { is_some (left self.old) ≡ false → (is_some (given self.old) ≡ true) × (is_some (given self.new) ≡ true) }
         ensures fault { FaultCounted (faults self.old) (faults self.new) result }
         ensures uncounted { OnOk result (faults self.new ≡ faults self.old) };
 }

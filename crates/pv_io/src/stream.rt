@@ -65,7 +65,8 @@ impl<R: Read> Source for StdSource<R> {
         ensures given { WriteAppends (⟦<StdSource<R> as Source>⟧.given self.old)
             (⟦<StdSource<R> as Source>⟧.given self.new) result into.new }
         ensures kept { is_some (⟦<StdSource<R> as Source>⟧.left self.old) ≡ false
-            → is_some (⟦<StdSource<R> as Source>⟧.given self.new) ≡ true }
+            → (is_some (⟦<StdSource<R> as Source>⟧.given self.old) ≡ true)
+            × (is_some (⟦<StdSource<R> as Source>⟧.given self.new) ≡ true) }
         ensures fault { FaultCounted (⟦<StdSource<R> as Source>⟧.faults self.old)
             (⟦<StdSource<R> as Source>⟧.faults self.new) result }
         ensures uncounted { OnOk result (⟦<StdSource<R> as Source>⟧.faults self.new

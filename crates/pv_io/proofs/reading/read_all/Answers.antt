@@ -2,7 +2,7 @@
 use Rattle.std.proofs.KnownBytes.{Appends-trans}
 use Rattle.std.proofs.Common.{length-append, ◌≡◌, ◌<◌, ◌++◌, length, vec_len, take, drop, ◌∙◌, arith, rules}
 use Rattle.std.proofs.lemmas.List.{length-take, take_at}
-use Rattle.pv_io.proofs.ReadLemmas.{Appends-none, Appends-grown, Appends-end, Consumes-none, Consumes-grown, whole_text, long_text, taken_twice}
+use Rattle.pv_io.proofs.ReadLemmas.{Appends-none, Appends-grown, Appends-end, kept-first, Consumes-none, Consumes-grown, whole_text, long_text, taken_twice}
 use Rattle.pv_io.proofs.reading.read_all.Goals as goal
 
 pub loop-piece-init : goal.loop-piece-init
@@ -11,6 +11,7 @@ loop-piece-init g c = record {
   within = omega (arith, c.new-bytes.ensures.len);
   consumed = Consumes-none _ _ c.new-bytes.ensures.items;
   given = Appends-none _ _ c.new-bytes.ensures.items;
+  kept = λ untold given. given;
   known = search rules;
   counted = search rules;
 }
@@ -25,6 +26,7 @@ returns-then-count-eq0 g c =
     record {
       whole = whole;
       given = Appends-end _ _ _ _ _ _ before.given read.given none;
+      kept = λ fine. kept-first _ _ _ _ _ before.known before.kept read.kept;
       within = before.within;
       too_long = search rules;
       too_much = search rules;
@@ -52,6 +54,7 @@ loop-piece-preserved g c =
       within = omega (arith, extended.len);
       consumed = Consumes-grown _ _ _ _ _ _ before.consumed read.bytes.0 grown;
       given = Appends-grown _ _ _ _ _ _ before.given read.given grown;
+      kept = λ untold given. (kept-first _ _ _ _ _ before.known before.kept read.kept untold).0;
       known = read.known ∙ before.known;
       counted = read.uncounted ∙ before.counted;
     }
@@ -65,6 +68,7 @@ returns-then-count-limit g c =
     record {
       whole = search rules;
       given = tt;
+      kept = λ fine. kept-first _ _ _ _ _ before.known before.kept read.kept;
       within = search rules;
       too_much = λ _. (
         c.loop-piece.bytes.items ++ take c.in_ok-count.count c.read.new.into,
@@ -91,6 +95,7 @@ returns-in_err-extend_from_slice g c =
     record {
       whole = search rules;
       given = search rules;
+      kept = λ fine. absurd (fine (search rules));
       within = search rules;
       too_much = search rules;
       too_long = search rules;
