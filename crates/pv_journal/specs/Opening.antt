@@ -8,6 +8,8 @@ use Rattle.pv_disk_model.specs.Disk.{Only, LeavesOnly, LeftTorn}
 use Rattle.pv_disk_model.specs.Size.{Contents}
 use Rattle.pv_disk.specs.declared.disk_error.LookError.{LookError}
 use Rattle.pv_disk.specs.declared.disk_error.LookError.TheVariants.{Failed as LookFailed, NotOurs as LookNotOurs, NoMemory as LookNoMemory}
+use Rattle.pv_disk.specs.declared.log_error.LogError.{LogError}
+use Rattle.pv_disk.specs.declared.log_error.LogError.TheVariants.{NotOurs as LogNotOurs}
 use Rattle.pv_disk.specs.declared.disk_error.DiskError.{DiskError}
 use Rattle.pv_disk.specs.declared.disk_error.DiskError.TheVariants.{Failed as DiskFailed, NoMemory as DiskNoMemory}
 use Rattle.pv_base.specs.Answer.{Answers}
@@ -50,6 +52,12 @@ module _ {D : Type 0} (M : DiskModel D) where
   AnswersOfReads old new (Ok all) = Gave M old new (λ read. Answers (λ contents. IsJournal contents read) (IsNotOurs read) contents_in place_in (Ok all))
   AnswersOfReads old new (Err (LookNotOurs place)) = Gave M old new (λ read. Answers (λ contents. IsJournal contents read) (IsNotOurs read) contents_in place_in (Err (LookNotOurs place)))
   AnswersOfReads old new (Err _) = ⊤
+
+  -- So does a journal that reads all of its contents.
+  abbrev pub AnswersAllOfReads : D → D → Result (Vec (Vec ℕ Global) Global) LogError → Type 0
+  AnswersAllOfReads old new (Ok all) = AnswersOfReads old new (Ok all)
+  AnswersAllOfReads old new (Err (LogNotOurs place)) = AnswersOfReads old new (Err (LookNotOurs place))
+  AnswersAllOfReads old new (Err _) = ⊤
 
   -- An opening, by its answer. A sync comes first, and where it succeeds calls that only read. The journal has the contents of the disk's bytes, or they are none, and it shows at that place.
   -- The count of faults rose where the disk failed, and else it stays. What the reads gave is a journal but for its contents, or it shows at that place that it is none.

@@ -1,14 +1,16 @@
 // A journal as a log.
-ghost use Rattle.std.specs.Prelude.{◌≡◌, ℕ, ◌+◌, ◌≤◌, ◌^◌, ◌<◌, ◌++◌, ◌∷◌, [], List, Some, length, is_ok, is_some, vec_len, vec_capacity, OnOk};
+ghost use Rattle.std.specs.Prelude.{◌≡◌, ℕ, ◌+◌, ◌≤◌, ◌^◌, ◌<◌, ◌++◌, ◌∷◌, [], List, Some, length, map, is_ok, is_some, vec_len, vec_capacity, IfOk, OnOk};
 ghost use Rattle.pv_base.specs.declared.limits.TheConstants.{MAX_WRITE_END};
 ghost use Rattle.pv_base.specs.Fault.{FaultCounted};
 ghost use Rattle.pv_base.specs.BigEndian.{big_endian};
-ghost use Rattle.pv_disk_model.specs.Calls.{Makes};
+ghost use Rattle.pv_disk_model.specs.Calls.{Makes, read_all};
 ghost use Rattle.pv_disk_model.specs.Size.{Contents};
 ghost use Rattle.pv_format.specs.Journal.{framed};
-ghost use Rattle.pv_journal.specs.Journal.{frame_calls};
+ghost use Rattle.pv_disk.specs.LogAnswers.{Reads};
+ghost use Rattle.pv_journal.specs.Journal.{contents_now, frame_calls, HasRoom, IsIntact, JournalGoes};
 ghost use Rattle.pv_journal.specs.Appending.{IsReady, WritesRecord};
 ghost use Rattle.pv_journal.specs.JournalModel.{journal_model};
+ghost use Rattle.pv_journal.specs.Opening.{AnswersAllOfReads};
 
 use crate::Journal;
 use crate::reading::read_contents;
@@ -19,7 +21,16 @@ use pv_disk::{Disk, DiskError, Log, LogError, LookError};
 impl<D: Disk> Log for Journal<D> {
     ghost model = { journal_model D.model };
 
-    fn read_all(&mut self) -> Result<Vec<Vec<u8>>, LogError> {
+    fn read_all(&mut self) -> Result<Vec<Vec<u8>>, LogError>
+        requires { IsIntact D.model self.old }
+        ensures contents { IfOk result (λ all. (held : Contents) → contents_now D.model self.old ≡ Some held → map (λ it. it.items) all.items ≡ held) }
+        ensures effect { Reads (journal_model D.model) self.old self.new result }
+        ensures room { (content : ℕ) → HasRoom D.model self.old content → HasRoom D.model self.new content }
+        ensures intact { IsIntact D.model self.new }
+        ensures goes { JournalGoes D.model self.old read_all (is_ok result) self.new }
+
+        ensures reads { AnswersAllOfReads D.model self.old.disk self.new.disk result }
+    {
         if self.down {
             return Err(LogError::Down);
         }

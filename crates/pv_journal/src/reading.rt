@@ -25,7 +25,7 @@ pub(crate) enum Gate {
     Open(u32),
 }
 
-/// How long the disk is.
+// How long the disk is.
 #[tactic(auto, using(crate::proofs::LookLemmas::looking))]
 fn size_of_disk<D: Disk>(disk: &mut D) -> Result<u64, LookError>
     ensures effect { LooksBy D.model disk.old disk.new result }
@@ -40,7 +40,7 @@ fn size_of_disk<D: Disk>(disk: &mut D) -> Result<u64, LookError>
     }
 }
 
-/// Fills `into` from this place on.
+// Fills `into` from this place on.
 #[tactic(auto, using(crate::proofs::LookLemmas::looking))]
 fn read_from<D: Disk>(disk: &mut D, place: u64, into: &mut [u8]) -> Result<(), LookError>
     requires { (bytes : List ℕ) → D.model.content disk.old ≡ Some bytes → place + length into.old ≤ length bytes }
@@ -111,9 +111,9 @@ pub(crate) fn read_contents<D: Disk>(alloc: Global, disk: &mut D) -> Result<Vec<
     }
 }
 
-/// The content of the record at a gate, on a disk of this size; none where the gate is closed.
-///
-/// - [`LookError::NotOurs`]: as in [`gate_at`].
+// The content of the record at a gate, on a disk of this size; none where the gate is closed.
+//
+// - [`LookError::NotOurs`]: as in [`gate_at`].
 #[tactic(auto, using(crate::proofs::LookLemmas::looking))]
 fn read_record<D: Disk>(
     alloc: Global,
@@ -138,7 +138,7 @@ fn read_record<D: Disk>(
     }
 }
 
-/// Tests what a journal begins with, up to the first gate, on a disk of this size.
+// Tests what a journal begins with, up to the first gate, on a disk of this size.
 #[tactic(auto, using(crate::proofs::LookLemmas::looking))]
 fn read_header<D: Disk>(alloc: Global, disk: &mut D, size: u64) -> Result<(), LookError>
     requires { (bytes : List ℕ) → D.model.content disk.old ≡ Some bytes → size ≡ length bytes }
@@ -161,9 +161,9 @@ fn read_header<D: Disk>(alloc: Global, disk: &mut D, size: u64) -> Result<(), Lo
     Ok(())
 }
 
-/// What stands at a gate, on a disk of this size.
-///
-/// - [`LookError::NotOurs`]: it is open, and its length, its content or the next gate is past the end. The place is its own.
+// What stands at a gate, on a disk of this size.
+//
+// - [`LookError::NotOurs`]: it is open, and its length, its content or the next gate is past the end. The place is its own.
 #[tactic(auto, using(crate::proofs::LookLemmas::looking))]
 fn gate_at<D: Disk>(disk: &mut D, size: u64, place: u64) -> Result<Gate, LookError>
     requires known { (bytes : List ℕ) → D.model.content disk.old ≡ Some bytes → size ≡ length bytes }
@@ -195,7 +195,7 @@ fn gate_at<D: Disk>(disk: &mut D, size: u64, place: u64) -> Result<Gate, LookErr
     Ok(Gate::Open(count))
 }
 
-/// So many bytes from this place on.
+// So many bytes from this place on.
 #[tactic(auto, using(crate::proofs::LookLemmas::looking))]
 fn read_content<D: Disk>(
     alloc: Global,
@@ -215,7 +215,7 @@ fn read_content<D: Disk>(
     Ok(content)
 }
 
-/// How far the bytes are what is expected.
+// How far the bytes are what is expected.
 fn agreement(bytes: &[u8], expected: &[u8]) -> usize
     ensures within { result ≤ length bytes.now }
     ensures within_expected { result ≤ length expected.now }
