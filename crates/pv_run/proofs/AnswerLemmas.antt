@@ -19,13 +19,16 @@ use Rattle.pv_script.specs.declared.schedule.ScriptError.{ScriptError}
 use Rattle.pv_script.specs.declared.schedule.ScriptError.TheVariants as errors
 use Rattle.pv_script.specs.declared.schedule.LineCause as code
 use Rattle.pv_run.specs.declared.status.Status.{Status}
-use Rattle.pv_run.specs.declared.status.Status.TheVariants.{Done, Usage, Malformed, WriteFault, TooLong, NoMemory, SentLimit}
+use Rattle.pv_run.specs.declared.status.Status.TheVariants.{Done, Malformed, WriteFault, TooLong, SentLimit}
+use Rattle.pv_run.specs.declared.text_end.TextEnd.{TextEnd}
+use Rattle.pv_run.specs.declared.text_end.TextEnd.TheVariants as at
 use Rattle.pv_run.specs.Summary.{summary_of, summary_text}
-use Rattle.pv_run.specs.InputAnswers.{IsAnswer, IsRunAnswer, IsSummaryAnswer, GivesUp, GrowsBySome, fault_text, output_within, status_within, status_of, within_limit}
+use Rattle.pv_run.specs.InputAnswers.{IsAnswer, IsRunAnswer, IsSummaryAnswer, GivesUp, GrowsBySome, fault_text, output_within, within_limit}
+use Rattle.pv_run.specs.Statuses.{end_of_refusal, end_of_run, end_within, text_status}
 use Rattle.pv_run.specs.declared.form.Form.{Form}
-use Rattle.pv_run.specs.declared.running.RunEnd.{RunEnd}
-use Rattle.pv_run.specs.declared.running.RunEnd.TheVariants as end
-use Rattle.pv_run.specs.RunEndView.{IsWriteFault}
+use Rattle.pv_run.specs.declared.write_end.WriteEnd.{WriteEnd}
+use Rattle.pv_run.specs.declared.write_end.WriteEnd.TheVariants as end
+use Rattle.pv_run.specs.WriteEndView.{IsWriteFault}
 use Rattle.pv_protocol.specs.Lines.{Line}
 use Rattle.pv_protocol.specs.Run.{printed}
 use Rattle.pv_site.specs.SiteState.{setup_of}
@@ -119,17 +122,24 @@ pub wanted_of_answer : (whole within : Schedule → List ℕ) (input : List ℕ)
 wanted_of_answer whole within input one other output text a some b none = some ((one_answer whole within input one other output text a b).1 ∙ none)
 
 -- a run whose output failed had some to write
-pub wanted_of_run : (end : Result (Option ℕ) RunEnd) (output : List ℕ) → IfErr end (λ e. IsWriteFault e → output ≢ []) → status_of end ≡ WriteFault → output ≢ []
+pub wanted_of_run : (ran : Result (Option ℕ) WriteEnd) (output : List ℕ) → IfErr ran (λ e. IsWriteFault e → output ≢ []) → end_of_run ran ≡ at.WriteFault → output ≢ []
 wanted_of_run (Ok None) output some is = absurd (let wrong : ⊥ = cc in wrong)
 wanted_of_run (Ok (Some total)) output some is = absurd (let wrong : ⊥ = cc in wrong)
 wanted_of_run (Err end.WriteFault) output some is = some refl
 wanted_of_run (Err end.NoMemory) output some is = absurd (let wrong : ⊥ = cc in wrong)
 
--- and so had what was to be written in one piece
-pub wanted_of_write : {E : Type 0} (written : Result ⊤ E) (status : Status) (output : List ℕ) → status ≡ cond (is_ok written) Done WriteFault
-    → IfErr written (λ e. Unit {0} → output ≢ []) → status ≡ WriteFault → output ≢ []
-wanted_of_write (Ok taken) status output is some fault = absurd (let wrong : ⊥ = cc in wrong)
-wanted_of_write (Err e) status output is some fault = some tt
+-- and so had a summary
+pub wanted_of_write : {E : Type 0} (written : Result ⊤ E) (ended : TextEnd) (output : List ℕ) → ended ≡ cond (is_ok written) at.Done at.WriteFault
+    → IfErr written (λ e. Unit {0} → output ≢ []) → ended ≡ at.WriteFault → output ≢ []
+wanted_of_write (Ok taken) ended output is some fault = absurd (let wrong : ⊥ = cc in wrong)
+wanted_of_write (Err e) ended output is some fault = some tt
+
+-- What is so where the output failed is so where that of a refusal did.
+pub at_refusal_fault : (written : Result ⊤ WriteEnd) (ended : TextEnd) (P : Type 0) → ended ≡ end_of_refusal written → IfErr written (λ e. IsWriteFault e → P)
+    → ended ≡ at.WriteFault → P
+at_refusal_fault (Ok all) ended P is fault so = absurd (let wrong : ⊥ = cc in wrong)
+at_refusal_fault (Err end.WriteFault) ended P is fault so = fault refl
+at_refusal_fault (Err end.NoMemory) ended P is fault so = absurd (let wrong : ⊥ = cc in wrong)
 
 -- ---- what the statuses say
 
@@ -166,22 +176,23 @@ output_at_limit whole within input status old new schedule answered says is =
 
 -- What has to be written of a run, and the status with it.
 pub answer_of_run : (form : Form) (input : List ℕ) (schedule : Schedule) → length input ≤ MAX_INPUT → IsSchedule input schedule
-    → IsRunAnswer form input (status_within (within_limit schedule).over) (output_within form schedule)
+    → IsRunAnswer form input (text_status (end_within (within_limit schedule).over)) (output_within form schedule)
 answer_of_run form input schedule short says = go (within_limit schedule).over refl
   where
-    go : (over : Option ℕ) → (within_limit schedule).over ≡ over → IsRunAnswer form input (status_within over) (output_within form schedule)
+    go : (over : Option ℕ) → (within_limit schedule).over ≡ over → IsRunAnswer form input (text_status (end_within over)) (output_within form schedule)
     go None is = (short, schedule, says, is, output-within form schedule is)
     go (Some total) is = (short, schedule, says, total, is, refl)
 
 -- Where a schedule was run, that is the input's answer, or it gave up.
-pub answered_run : (form : Form) (input : List ℕ) (schedule : Schedule) (end : Result (Option ℕ) RunEnd) (old new : Option (List ℕ))
-    → length input ≤ MAX_INPUT → IsSchedule input schedule → IfOk end (λ over. over ≡ (within_limit schedule).over)
-    → OnOk end (Appends old new (output_within form schedule)) → GivesUp (status_of end) ⊎ GrowsBySome old new (IsRunAnswer form input (status_of end))
+pub answered_run : (form : Form) (input : List ℕ) (schedule : Schedule) (ran : Result (Option ℕ) WriteEnd) (old new : Option (List ℕ))
+    → length input ≤ MAX_INPUT → IsSchedule input schedule → IfOk ran (λ over. over ≡ (within_limit schedule).over)
+    → OnOk ran (Appends old new (output_within form schedule))
+    → GivesUp (text_status (end_of_run ran)) ⊎ GrowsBySome old new (IsRunAnswer form input (text_status (end_of_run ran)))
 answered_run form input schedule (Ok over) old new short says is written =
     inr (
       output_within form schedule,
       written,
-      subst (λ (o : Option ℕ). IsRunAnswer form input (status_within o) (output_within form schedule)) (sym is) (answer_of_run form input schedule short says),
+      subst (λ (o : Option ℕ). IsRunAnswer form input (text_status (end_within o)) (output_within form schedule)) (sym is) (answer_of_run form input schedule short says),
     )
 answered_run form input schedule (Err end.WriteFault) old new short says is written = inl tt
 answered_run form input schedule (Err end.NoMemory) old new short says is written = inl tt
@@ -192,19 +203,13 @@ pub status_of_answer : (whole within : Schedule → List ℕ) (input : List ℕ)
 status_of_answer whole within input status other old new text (inl gives_up) b = inl gives_up
 status_of_answer whole within input status other old new text (inr (output, grown, a)) b = inr (one_answer whole within input status other output text a b).0
 
--- The usage line was written, or it wasn't.
-pub usage_or_fault : {E : Type 0} (written : Result ⊤ E) (status : Status)
-    → status ≡ cond (is_ok written) Usage WriteFault → (status ≡ Usage) ⊎ (status ≡ WriteFault)
-usage_or_fault (Ok taken) status is = inl is
-usage_or_fault (Err e) status is = inr is
-
 -- Where a summary was to be written, that is the text's answer, or it gave up.
-pub answered_summary : {E : Type 0} (input : List ℕ) (schedule : Schedule) (written : Result ⊤ E) (status : Status) (old new : Option (List ℕ))
-    → length input ≤ MAX_INPUT → IsSchedule input schedule → (within_limit schedule).over ≡ None → status ≡ cond (is_ok written) Done WriteFault
-    → OnOk written (Appends old new (summary_of schedule)) → GivesUp status ⊎ GrowsBySome old new (IsSummaryAnswer input status)
-answered_summary input schedule (Ok taken) status old new short says within is grown =
-    inr (summary_of schedule, grown, subst (λ (s : Status). IsSummaryAnswer input s (summary_of schedule)) (sym is) (short, schedule, says, within, refl))
-answered_summary input schedule (Err e) status old new short says within is grown = inl (subst GivesUp (sym is) tt)
+pub answered_summary : {E : Type 0} (input : List ℕ) (schedule : Schedule) (written : Result ⊤ E) (ended : TextEnd) (old new : Option (List ℕ))
+    → length input ≤ MAX_INPUT → IsSchedule input schedule → (within_limit schedule).over ≡ None → ended ≡ cond (is_ok written) at.Done at.WriteFault
+    → OnOk written (Appends old new (summary_of schedule)) → GivesUp (text_status ended) ⊎ GrowsBySome old new (IsSummaryAnswer input (text_status ended))
+answered_summary input schedule (Ok taken) ended old new short says within is grown =
+    inr (summary_of schedule, grown, subst (λ (e : TextEnd). IsSummaryAnswer input (text_status e) (summary_of schedule)) (sym is) (short, schedule, says, within, refl))
+answered_summary input schedule (Err e) ended old new short says within is grown = inl (subst (λ (e : TextEnd). GivesUp (text_status e)) (sym is) tt)
 
 -- Of what is within the limit and counted, the summary is that of the run.
 pub summary-is : (schedule : Schedule) (events : ℕ) (lines : List Line) (text : List ℕ) → events ≡ length schedule.events
@@ -218,13 +223,16 @@ none-where-false None b is none = refl
 none-where-false (Some n) b is none = absurd (false≢true (sym none ∙ is))
 
 -- Where a refusal was to be written, that is the input's answer, or it gave up.
-pub answered_refusal : (whole within : Schedule → List ℕ) (input : List ℕ) (result : Status) (old new : Option (List ℕ)) (number : ℕ) (cause : LineCause)
-    → length input ≤ MAX_INPUT → IsMalformedSchedule input number cause → (result ≡ Malformed) ⊎ ((result ≡ WriteFault) ⊎ (result ≡ NoMemory))
-    → (result ≡ Malformed → Appends old new (fault_text number cause)) → GivesUp result ⊎ GrowsBySome old new (IsAnswer whole within input result)
-answered_refusal whole within input result old new number cause short refused (inl is) written =
-    inr (fault_text number cause, written is, subst (λ (s : Status). IsAnswer whole within input s (fault_text number cause)) (sym is) (short, number, cause, refused, refl))
-answered_refusal whole within input result old new number cause short refused (inr (inl is)) written = inl (subst GivesUp (sym is) tt)
-answered_refusal whole within input result old new number cause short refused (inr (inr is)) written = inl (subst GivesUp (sym is) tt)
+pub answered_refusal : (whole within : Schedule → List ℕ) (input : List ℕ) (written : Result ⊤ WriteEnd) (ended : TextEnd) (old new : Option (List ℕ)) (number : ℕ) (cause : LineCause)
+    → length input ≤ MAX_INPUT → IsMalformedSchedule input number cause → ended ≡ end_of_refusal written → OnOk written (Appends old new (fault_text number cause))
+    → GivesUp (text_status ended) ⊎ GrowsBySome old new (IsAnswer whole within input (text_status ended))
+answered_refusal whole within input (Ok all) ended old new number cause short refused is grown = inr (
+  fault_text number cause,
+  grown,
+  subst (λ (e : TextEnd). IsAnswer whole within input (text_status e) (fault_text number cause)) (sym is) (short, number, cause, refused, refl),
+)
+answered_refusal whole within input (Err end.WriteFault) ended old new number cause short refused is grown = inl (subst (λ (e : TextEnd). GivesUp (text_status e)) (sym is) tt)
+answered_refusal whole within input (Err end.NoMemory) ended old new number cause short refused is grown = inl (subst (λ (e : TextEnd). GivesUp (text_status e)) (sym is) tt)
 
 -- The line that was refused is where the input is malformed.
 pub refused-at : (input : List ℕ) (error : ScriptError) (line : ℕ) (cause : code.LineCause) → error ≡ errors.Malformed line cause → IfSome (refused_line error) (IsMalformedAt input)
@@ -233,15 +241,31 @@ refused-at input error line cause is refused = subst (λ (e : ScriptError). IfSo
 
 -- ---- what a run does to the bay
 
--- A run whose status is `Done` wrote all, within the limit.
-pub run-is-done : (end : Result (Option ℕ) RunEnd) → status_of end ≡ Done → end ≡ Ok None
+-- A run whose text is done wrote all, within the limit.
+pub run-is-done : (ran : Result (Option ℕ) WriteEnd) → end_of_run ran ≡ at.Done → ran ≡ Ok None
 run-is-done (Ok None) is = refl
 run-is-done (Ok (Some total)) is = absurd (let wrong : ⊥ = cc in wrong)
 run-is-done (Err end.WriteFault) is = absurd (let wrong : ⊥ = cc in wrong)
 run-is-done (Err end.NoMemory) is = absurd (let wrong : ⊥ = cc in wrong)
 
--- A refusal isn't `Done`.
-pub refusal-not-done : (result : Status) → (result ≡ Malformed) ⊎ ((result ≡ WriteFault) ⊎ (result ≡ NoMemory)) → result ≡ Done → ⊥
-refusal-not-done result (inl is) done = let wrong : ⊥ = cc in wrong
-refusal-not-done result (inr (inl is)) done = let wrong : ⊥ = cc in wrong
-refusal-not-done result (inr (inr is)) done = let wrong : ⊥ = cc in wrong
+-- A text that is refused isn't done.
+pub refusal-not-done : (written : Result ⊤ WriteEnd) (ended : TextEnd) → ended ≡ end_of_refusal written → ended ≡ at.Done → ⊥
+refusal-not-done (Ok all) ended is done = let wrong : ⊥ = cc in wrong
+refusal-not-done (Err end.WriteFault) ended is done = let wrong : ⊥ = cc in wrong
+refusal-not-done (Err end.NoMemory) ended is done = let wrong : ⊥ = cc in wrong
+
+-- ---- the status of a text tells how it ended
+
+pub text-done : (ended : TextEnd) → text_status ended ≡ Done → ended ≡ at.Done
+text-done at.Done is = refl
+text-done at.Malformed is = absurd (let wrong : ⊥ = cc in wrong)
+text-done at.WriteFault is = absurd (let wrong : ⊥ = cc in wrong)
+text-done at.NoMemory is = absurd (let wrong : ⊥ = cc in wrong)
+text-done at.SentLimit is = absurd (let wrong : ⊥ = cc in wrong)
+
+pub text-write-fault : (ended : TextEnd) → text_status ended ≡ WriteFault → ended ≡ at.WriteFault
+text-write-fault at.Done is = absurd (let wrong : ⊥ = cc in wrong)
+text-write-fault at.Malformed is = absurd (let wrong : ⊥ = cc in wrong)
+text-write-fault at.WriteFault is = refl
+text-write-fault at.NoMemory is = absurd (let wrong : ⊥ = cc in wrong)
+text-write-fault at.SentLimit is = absurd (let wrong : ⊥ = cc in wrong)

@@ -1,24 +1,27 @@
--- What a run answers that wrote nothing.
-use Rattle.std.proofs.Common.{◌≡◌, ℕ, ◌<◌, List, [], length, inl, inr, refl, subst}
+-- What a run answers that wrote nothing, and how a command ended whose text was come by.
+use Rattle.std.proofs.Common.{◌≡◌, ℕ, ◌<◌, List, [], Result, Ok, Err, length, inl, inr, refl, subst}
 use Rattle.std.proofs.KnownBytes.{Appends-nil}
 use Rattle.pv_base.specs.declared.limits.TheConstants.{MAX_INPUT}
 use Rattle.pv_disk.specs.BayModel.{BayModel}
+use Rattle.pv_io.specs.declared.read_end.ReadEnd.{ReadEnd}
+use Rattle.pv_io.specs.declared.read_end.ReadEnd.TheVariants as why
 use Rattle.pv_io.specs.declared.sink.Sink.{Ghosts}
 use Rattle.pv_model.specs.Events.{Schedule}
 use Rattle.pv_model.specs.Schedule.{IsSchedule}
 use Rattle.pv_run.specs.Ends.{AnswersRun}
 use Rattle.pv_run.specs.Headline.{KeepsPromises}
 use Rattle.pv_run.specs.InputAnswers.{Answers, GivesUp, output_of, output_within}
+use Rattle.pv_run.specs.Statuses.{unread_status}
 use Rattle.pv_run.specs.declared.form.Form.{Form}
 use Rattle.pv_run.specs.declared.status.Status.{Status}
-use Rattle.pv_run.specs.declared.status.Status.TheVariants.{WriteFault, TooLong}
+use Rattle.pv_run.specs.declared.status.Status.TheVariants.{ReadFault, WriteFault, TooLong, NoMemory}
 use Rattle.pv_run.proofs.AnswerLemmas.{status_of_answer}
 use Rattle.pv_site.specs.SiteState.{setup_of}
 
 module _ {W B : Type 0} (sink : Ghosts W) (M : BayModel B) (form : Form) (same : W) (bay : B) (input : List ℕ)
     (promises : (schedule : Schedule) → IsSchedule input schedule → KeepsPromises (setup_of schedule.catalog) schedule.events) where
   -- It gave up, and not for the output.
-  pub given-up : (status : Status) → GivesUp status → (status ≡ WriteFault → ⊥) → AnswersRun sink M form same same bay bay status input
+  given-up : (status : Status) → GivesUp status → (status ≡ WriteFault → ⊥) → AnswersRun sink M form same same bay bay status input
   given-up status gives unfailed = record {
     promises = promises;
     done = λ is. absurd (subst GivesUp is gives);
@@ -31,7 +34,7 @@ module _ {W B : Type 0} (sink : Ghosts W) (M : BayModel B) (form : Form) (same :
   }
 
   -- The input is too long.
-  pub too-long : MAX_INPUT < length input → AnswersRun sink M form same same bay bay TooLong input
+  too-long : MAX_INPUT < length input → AnswersRun sink M form same same bay bay TooLong input
   too-long long =
       let answered : Answers sink (output_of form) (output_within form) input TooLong same same = inr ([], Appends-nil (sink.held same), (long, refl)) in
       record {
@@ -48,3 +51,16 @@ module _ {W B : Type 0} (sink : Ghosts W) (M : BayModel B) (form : Form) (same :
         );
         kept = λ is. absurd (let wrong : ⊥ = cc in wrong);
       }
+
+  -- The input wasn't read.
+  pub unread : (end : ReadEnd) → (end ≡ why.TooLong → MAX_INPUT < length input) → AnswersRun sink M form same same bay bay (unread_status end) input
+  unread why.Failed long = given-up ReadFault tt (λ is. let wrong : ⊥ = cc in wrong)
+  unread why.TooLong long = too-long (long refl)
+  unread why.NoMemory long = given-up NoMemory tt (λ is. let wrong : ⊥ = cc in wrong)
+
+-- What was come by is the same, whatever could have been in its place.
+pub same-end : {T E : Type 0} (one other : T) → Ok {T} {E} one ≡ Ok other → one ≡ other
+same-end one other is = let same : one ≡ other = cc in same
+
+pub same-reason : {T E : Type 0} (one other : E) → Err {T} {E} one ≡ Err other → one ≡ other
+same-reason one other is = let same : one ≡ other = cc in same

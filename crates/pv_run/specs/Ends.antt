@@ -1,10 +1,13 @@
 -- How the commands end that run a schedule or make one: what was read, what was written, what the bay keeps, and when each status comes.
-use Rattle.std.specs.Prelude.{◌≡◌, ◌≢◌, ◌⊎◌, ℕ, ◌≤◌, List, [], Some, length}
+use Rattle.std.specs.Bool.{⊤}
+use Rattle.std.specs.Prelude.{◌≡◌, ◌≢◌, ℕ, ◌≤◌, List, [], Some, Result, Ok, Err, OnErr, length}
 use Rattle.pv_base.specs.Fault.{Rose}
 use Rattle.pv_base.specs.declared.limits.TheConstants.{MAX_INPUT}
 use Rattle.pv_disk.specs.BayModel.{BayModel}
-use Rattle.pv_io.specs.SinkEffects.{HasFailed, Writes, WritesNothing, WritesPrefix}
+use Rattle.pv_io.specs.SinkEffects.{HasFailed, Writes, WritesAll, WritesNothing, WritesPrefix}
 use Rattle.pv_io.specs.Stream.{TakesAtMost}
+use Rattle.pv_io.specs.declared.read_end.ReadEnd.{ReadEnd}
+use Rattle.pv_io.specs.declared.read_end.ReadEnd.TheVariants as why
 use Rattle.pv_io.specs.declared.sink.Sink as sinks
 use Rattle.pv_io.specs.declared.source.Source as sources
 use Rattle.pv_model.specs.Events.{Schedule}
@@ -12,10 +15,16 @@ use Rattle.pv_model.specs.Schedule.{IsSchedule}
 use Rattle.pv_run.specs.Headline.{KeepsPromises}
 use Rattle.pv_run.specs.InputAnswers.{Answers, GivesUpOr, IsRunAnswer, IsSummaryAnswer, output_of, output_within}
 use Rattle.pv_run.specs.KeptDisks.{KeepsSites, last_world}
+use Rattle.pv_run.specs.Statuses.{big_status, run_status}
 use Rattle.pv_run.specs.Summary.{summary_of}
+use Rattle.pv_run.specs.WriteEndView.{IsWriteFault}
 use Rattle.pv_run.specs.declared.form.Form.{Form}
 use Rattle.pv_run.specs.declared.status.Status.{Status}
-use Rattle.pv_run.specs.declared.status.Status.TheVariants.{Done, Usage, ReadFault, WriteFault, TooLong, NoMemory, SentLimit, BayFault}
+use Rattle.pv_run.specs.declared.status.Status.TheVariants.{Done, SentLimit}
+use Rattle.pv_run.specs.declared.text_end.LongText.{LongText}
+use Rattle.pv_run.specs.declared.text_end.TextEnd.{TextEnd}
+use Rattle.pv_run.specs.declared.text_end.TextEnd.TheVariants as text
+use Rattle.pv_run.specs.declared.write_end.WriteEnd.{WriteEnd}
 use Rattle.pv_script.specs.Generated.{made_text}
 use Rattle.pv_site.specs.SiteState.{setup_of}
 
@@ -39,48 +48,39 @@ module _ {W B : Type 0} (sink : sinks.Ghosts W) (M : BayModel B) (form : Form) (
     -- Where it is done the bay keeps a disk for each site of the run's last world, which holds a journal of the site's records there.
     pub kept : status ≡ Done → (schedule : Schedule) → IsSchedule input schedule → KeepsSites M old new (last_world schedule).sites
 
--- How `run` and `json` end.
-module _ {R W B : Type 0} (source : sources.Ghosts R) (sink : sinks.Ghosts W) (M : BayModel B) (form : Form) (unread left : R) (before after : W) (old new : B) (status : Status) where
+-- How `run` and `json` end: as the text does that was read, or with why none was.
+module _ {R W B : Type 0} (source : sources.Ghosts R) (sink : sinks.Ghosts W) (M : BayModel B) (form : Form) (unread left : R) (before after : W) (old new : B)
+    (ended : Result TextEnd ReadEnd) where
   pub record EndsRun : Type 0 where
     -- Where the source tells its bytes, what is answered to them, with the headline.
-    pub answers : (input : List ℕ) → source.left unread ≡ Some input → AnswersRun sink M form before after old new status input
+    pub answers : (input : List ℕ) → source.left unread ≡ Some input → AnswersRun sink M form before after old new (run_status ended) input
     -- Where it is done, the whole input was read.
-    pub read : status ≡ Done → (input : List ℕ) → source.left unread ≡ Some input → source.left left ≡ Some []
+    pub read : ended ≡ Ok text.Done → (input : List ℕ) → source.left unread ≡ Some input → source.left left ≡ Some []
     -- It gives up for the input only where a fault of it was counted, before more than the limit had come, and then nothing was written.
-    pub read_fault : status ≡ ReadFault →
+    pub read_fault : ended ≡ Err why.Failed →
         Rose (source.faults unread) (source.faults left) × TakesAtMost (source.left unread) (source.left left) MAX_INPUT × WritesNothing sink before after
     -- And for the output only where a fault of that was counted, and the input is no longer than it may be.
-    pub write_fault : status ≡ WriteFault → HasFailed sink before after × ((input : List ℕ) → source.left unread ≡ Some input → length input ≤ MAX_INPUT)
+    pub write_fault : ended ≡ Ok text.WriteFault → HasFailed sink before after × ((input : List ℕ) → source.left unread ≡ Some input → length input ≤ MAX_INPUT)
     -- Of an input that is too long nothing was written.
-    pub too_long : status ≡ TooLong → WritesNothing sink before after
+    pub too_long : ended ≡ Err why.TooLong → WritesNothing sink before after
     -- Where it is done the bay was given the disks of a run to keep.
-    pub kept : status ≡ Done → (schedule : Schedule) × KeepsSites M old new (last_world schedule).sites
+    pub kept : ended ≡ Ok text.Done → (schedule : Schedule) × KeepsSites M old new (last_world schedule).sites
     -- However else it ends, the bay is as it was.
-    pub alone : status ≢ Done → new ≡ old
-    -- It never ends in one of the other ways.
-    pub others : (status ≢ Usage) × (status ≢ BayFault)
+    pub alone : ended ≢ Ok text.Done → new ≡ old
 
-module _ {W : Type 0} (sink : sinks.Ghosts W) (n : ℕ) (before after : W) (status : Status) where
-  -- How `make` ends.
-  pub record EndsMake : Type 0 where
-    -- It wrote a beginning of the schedule of this number. Where that is empty, no write has failed.
-    pub made : GivesUpOr sink status Done (made_text n) before after
-    -- Where it is done that is the whole.
-    pub done : status ≡ Done → Writes sink before after (made_text n)
-    -- It gives up for the output only where a fault of that was counted.
-    pub write_fault : status ≡ WriteFault → HasFailed sink before after
-    -- It ends in no other way than these.
-    pub ways : (status ≡ Done) ⊎ ((status ≡ WriteFault) ⊎ (status ≡ NoMemory))
+-- How `make` ends: with the whole schedule of this number written, or with why it wasn't.
+module _ {W : Type 0} (sink : sinks.Ghosts W) (n : ℕ) (before after : W) (ended : Result ⊤ WriteEnd) where
+  abbrev pub EndsMake : Type 0
+  EndsMake = WritesAll sink IsWriteFault before after (made_text n) ended
 
-  -- How `big` ends.
+-- How `big` ends: as the made text does, or since that is longer than a text may be.
+module _ {W : Type 0} (sink : sinks.Ghosts W) (n : ℕ) (before after : W) (ended : Result TextEnd LongText) where
   pub record EndsBig : Type 0 where
     -- It gave up, or wrote the one answer to the made schedule, whose status this is: `IsSummaryAnswer` says when each comes.
-    pub answered : Answers sink summary_of (λ schedule. []) (made_text n) status before after
+    pub answered : Answers sink summary_of (λ schedule. []) (made_text n) (big_status ended) before after
     -- Whatever the answer is, it gave up or ended with the status of that, and wrote a beginning of it. Where that is empty, no write has failed.
-    pub exact : (answer : Status) (output : List ℕ) → IsSummaryAnswer (made_text n) answer output → GivesUpOr sink status answer output before after
+    pub exact : (answer : Status) (output : List ℕ) → IsSummaryAnswer (made_text n) answer output → GivesUpOr sink (big_status ended) answer output before after
     -- It gives up for the output only where a fault of that was counted.
-    pub write_fault : status ≡ WriteFault → HasFailed sink before after
-    -- It never gives up for an input.
-    pub no_input : status ≢ ReadFault
+    pub write_fault : ended ≡ Ok text.WriteFault → HasFailed sink before after
     -- Of a schedule that is too long nothing was written.
-    pub too_long : status ≡ TooLong → WritesNothing sink before after
+    pub too_long : OnErr ended (WritesNothing sink before after)

@@ -1,13 +1,11 @@
 -- What the program has to answer.
-use Rattle.std.specs.Prelude.{◌≡◌, ◌≢◌, ◌⊎◌, ℕ, ◌<◌, ◌≤◌, List, [], ◌++◌, length, Option, Some, None, Result, Ok, Err}
+use Rattle.std.specs.Prelude.{◌≡◌, ◌≢◌, ◌⊎◌, ℕ, ◌<◌, ◌≤◌, List, [], ◌++◌, length, Option, Some, None}
 use Rattle.std.specs.Io.KnownBytes.{Appends}
 use Rattle.pv_base.specs.declared.limits.TheConstants.{MAX_INPUT, MAX_SENT}
 use Rattle.pv_io.specs.SinkEffects.{WritesPrefix}
 use Rattle.pv_io.specs.declared.sink.Sink.{Ghosts}
 use Rattle.pv_run.specs.declared.status.Status.{Status}
 use Rattle.pv_run.specs.declared.status.Status.TheVariants.{Done, Usage, Malformed, ReadFault, WriteFault, TooLong, NoMemory, SentLimit, BayFault}
-use Rattle.pv_run.specs.declared.running.RunEnd.{RunEnd}
-use Rattle.pv_run.specs.declared.running.RunEnd.TheVariants as end
 use Rattle.pv_model.specs.LineCauses.{LineCause}
 use Rattle.pv_model.specs.Events.{Schedule}
 use Rattle.pv_script.specs.CauseTexts.{refused_text}
@@ -78,17 +76,6 @@ module _ {W : Type 0} (sink : Ghosts W) where
   -- It gave up, or answered with this status and a beginning of this output. Where that is empty, no write has failed.
   abbrev pub GivesUpOr : Status → Status → List ℕ → W → W → Type 0
   GivesUpOr result status output old new = (GivesUp result ⊎ (result ≡ status)) × WritesPrefix sink old new output × (result ≡ WriteFault → output ≢ [])
-
--- the status of a run that wrote all that it had to, by the total that passed the limit
-abbrev pub status_within : Option ℕ → Status
-status_within None = Done
-status_within (Some total) = SentLimit
-
--- the status of a run
-abbrev pub status_of : Result (Option ℕ) RunEnd → Status
-status_of (Ok over) = status_within over
-status_of (Err end.WriteFault) = WriteFault
-status_of (Err end.NoMemory) = NoMemory
 
 -- the exit code of a status
 abbrev pub exit_code : Status → ℕ

@@ -3,5 +3,6 @@ pub mod Forms
 pub mod Headline
 pub mod InputAnswers
 pub mod KeptDisks
-pub mod RunEndView
+pub mod Statuses
 pub mod Summary
+pub mod WriteEndView

@@ -4,7 +4,7 @@ ghost use Rattle.pv_base.specs.declared.limits.TheConstants.{MAX_SITES};
 ghost use Rattle.pv_run.specs.Forms.{lines_in};
 ghost use Rattle.pv_run.specs.InputAnswers.{output_within, within_limit};
 ghost use Rattle.pv_run.specs.KeptDisks.{KeepsSites, last_world};
-ghost use Rattle.pv_run.specs.RunEndView.{IsWriteFault};
+ghost use Rattle.pv_run.specs.WriteEndView.{IsWriteFault};
 ghost use Rattle.pv_io.specs.SinkEffects.{WritesAll};
 ghost use Rattle.pv_protocol.specs.State.{Site};
 ghost use Rattle.pv_protocol.specs.WellFormed.{IsWellFormed};
@@ -14,41 +14,13 @@ ghost use Rattle.pv_script.specs.ScheduleView.{HasPlan, event_of, schedule_of};
 ghost use Rattle.pv_world.specs.Disks.{HoldSites};
 
 use crate::form::Form;
-use pv_base::{Catalog, Failed, MAX_SENT, NoMemory, SiteId};
+use crate::write_end::WriteEnd;
+use pv_base::{Catalog, MAX_SENT, NoMemory, SiteId};
 use pv_disk::{Bay, MemDisk};
 use pv_io::{Sink, write_all};
 use pv_script::{Line, Schedule};
 use pv_world::{World, WorldError};
 use std::alloc::Global;
-
-/// Why a run was given up. What was written is a beginning of what it prints.
-#[derive(Clone, Copy, Debug, PartialEq, Eq)]
-pub enum RunEnd {
-    /// The output failed.
-    WriteFault,
-    /// There was no memory.
-    NoMemory,
-}
-
-impl From<Failed> for RunEnd {
-    ghost use Rattle.pv_run.specs.declared.running.RunEnd.TheVariants.{WriteFault};
-
-    ghost from_gives = { λ _ e. e ≡ WriteFault };
-
-    fn from(_: Failed) -> Self {
-        RunEnd::WriteFault
-    }
-}
-
-impl From<NoMemory> for RunEnd {
-    ghost use Rattle.pv_run.specs.declared.running.RunEnd.TheVariants as end;
-
-    ghost from_gives = { λ _ e. e ≡ end.NoMemory };
-
-    fn from(_: NoMemory) -> Self {
-        RunEnd::NoMemory
-    }
-}
 
 /// Runs a schedule, and writes what it prints in this form, up to the event whose messages pass the limit on bytes, if there is one. The answer is
 /// how many bytes all messages would have there, `None` where the limit isn't passed. Then the bay is given the disk of each site to keep, as the run left
@@ -57,15 +29,15 @@ impl From<NoMemory> for RunEnd {
 /// Each event has to be well formed over the schedule's catalog, as those of a text are, and to have the plan of its program. Takes time in proportion
 /// to what is printed and what the events send and touch, and memory for the world and for the lines of one event.
 ///
-/// - [`RunEnd::WriteFault`]: the output failed.
-/// - [`RunEnd::NoMemory`]: there was no memory.
+/// - [`WriteEnd::WriteFault`]: the output failed.
+/// - [`WriteEnd::NoMemory`]: there was no memory.
 pub fn run<W: Sink, B: Bay>(
     alloc: Global,
     schedule: &Schedule,
     form: Form,
     sink: &mut W,
     bay: &mut B,
-) -> Result<Option<u64>, RunEnd>
+) -> Result<Option<u64>, WriteEnd>
     requires well_formed { All (IsWellFormed schedule.now.catalog) (schedule_of schedule.now).events }
     requires plans { All (HasPlan schedule.now.catalog) schedule.now.events.items }
     ensures over { IfOk result (λ over. over ≡ (within_limit (schedule_of schedule.now)).over) }
@@ -79,7 +51,7 @@ pub fn run<W: Sink, B: Bay>(
         match world.step(event) {
             Ok(lines) => write_lines(&lines, form, &schedule.catalog, &mut text, sink)?,
             Err(WorldError::SentLimit(total)) => return Ok(Some(total)),
-            Err(WorldError::NoMemory) => return Err(RunEnd::NoMemory),
+            Err(WorldError::NoMemory) => return Err(WriteEnd::NoMemory),
         }
     }
     keep_all(world.close(), bay);
@@ -105,7 +77,7 @@ fn write_lines<W: Sink>(
     catalog: &Catalog,
     text: &mut Vec<u8>,
     sink: &mut W,
-) -> Result<(), RunEnd>
+) -> Result<(), WriteEnd>
     requires { All (NamesOnlyItems catalog.now) (map line_of lines.now) }
     ensures { WritesAll W.Sink IsWriteFault sink.old sink.new (lines_in form catalog.now (map line_of lines.now)) result }
 {

@@ -21,7 +21,7 @@ returns-in-Ok-sum_up-clause-answered g c = λ input short says.
     let counted = c.len.ensures ∙ whole ∙ sym (length-map c.args.schedule.now.events.items event_of) in
     let lines = ap (map line_of) c.deref.ensures.value ∙ c.in-Ok.ensures.lines ∙ lines-within-limit schedule within in
     let same = summary-is schedule c.len.result (map line_of c.deref.result.now) c.in-Ok-sum_up.text.items counted lines c.in-Ok-sum_up.ensures in
-    answered_summary input schedule c.write_all.result c.status_of_write.result old new short says within c.status_of_write.ensures
+    answered_summary input schedule c.write_all.result c.end_of_summary.result old new short says within c.end_of_summary.ensures
     (subst (λ (text : List ℕ). OnOk c.write_all.result (Appends old new text)) (c.deref-in-Ok-sum_up.ensures.value ∙ same) c.write_all.ensures.writes.written)
 
 pub returns-in-Ok-sum_up-clause-prefix : goal.returns-in-Ok-sum_up-clause-prefix
@@ -46,6 +46,6 @@ returns-in-Ok-sum_up-clause-some g c = λ input short says status output is faul
     let counted = c.len.ensures ∙ whole ∙ sym (length-map c.args.schedule.now.events.items event_of) in
     let lines = ap (map line_of) c.deref.ensures.value ∙ c.in-Ok.ensures.lines ∙ lines-within-limit schedule within in
     let same = summary-is schedule c.len.result (map line_of c.deref.result.now) c.in-Ok-sum_up.text.items counted lines c.in-Ok-sum_up.ensures in
-    let some = wanted_of_write c.write_all.result c.status_of_write.result c.deref-in-Ok-sum_up.result.now c.status_of_write.ensures c.write_all.ensures.writes.some fault in
+    let some = wanted_of_write c.write_all.result c.end_of_summary.result c.deref-in-Ok-sum_up.result.now c.end_of_summary.ensures c.write_all.ensures.writes.some fault in
     wanted_of_answer summary_of (λ schedule. []) input Done status (summary_of schedule) output (short, schedule, says, within, refl)
     (subst (λ (text : List ℕ). text ≢ []) (c.deref-in-Ok-sum_up.ensures.value ∙ same) some) is
