@@ -5,10 +5,11 @@ use Rattle.pv_disk.specs.BayModel.{BayModel, Berth}
 use Rattle.pv_disk.specs.Folder.{folder_berth_of}
 use Rattle.pv_disk.specs.MemBay.{MemBayState, MemBerth, berth_of, first_berth, mem_bay}
 use Rattle.pv_disk.specs.MemDisk.{MemState}
+use Rattle.pv_io.specs.declared.read_end.ReadEnd.{ReadEnd}
 use Rattle.pv_protocol.specs.State.{Site}
 use Rattle.pv_run.specs.KeptDisks.{KeepsSites}
-use Rattle.pv_run.specs.declared.status.Status.{Status}
-use Rattle.pv_run.specs.declared.status.Status.TheVariants.{Done, Usage, Malformed, ReadFault, WriteFault, TooLong, NoMemory, SentLimit, BayFault}
+use Rattle.pv_run.specs.declared.text_end.TextEnd.{TextEnd}
+use Rattle.pv_run.specs.declared.text_end.TextEnd.TheVariants as at
 use Rattle.pv_show.specs.Bays.{IsAtRest}
 
 module _ {W : Type 0} (M : BayModel W) (old new : W) where
@@ -19,16 +20,14 @@ module _ {W : Type 0} (M : BayModel W) (old new : W) where
   same-rest rest same = subst (IsAtRest M) (sym same) rest
 
   -- After a run that gave it disks to keep where it is done, and else left it alone.
-  pub rest-after : (status : Status) → IsAtRest M old → (status ≡ Done → (sites : List Site) × KeepsSites M old new sites) → (status ≢ Done → new ≡ old) → IsAtRest M new
-  rest-after Done rest keeps alone = let kept = keeps refl in kept-rest kept.0 rest kept.1
-  rest-after Usage rest keeps alone = same-rest rest (alone (λ is. let wrong : ⊥ = cc in wrong))
-  rest-after Malformed rest keeps alone = same-rest rest (alone (λ is. let wrong : ⊥ = cc in wrong))
-  rest-after ReadFault rest keeps alone = same-rest rest (alone (λ is. let wrong : ⊥ = cc in wrong))
-  rest-after WriteFault rest keeps alone = same-rest rest (alone (λ is. let wrong : ⊥ = cc in wrong))
-  rest-after TooLong rest keeps alone = same-rest rest (alone (λ is. let wrong : ⊥ = cc in wrong))
-  rest-after NoMemory rest keeps alone = same-rest rest (alone (λ is. let wrong : ⊥ = cc in wrong))
-  rest-after SentLimit rest keeps alone = same-rest rest (alone (λ is. let wrong : ⊥ = cc in wrong))
-  rest-after BayFault rest keeps alone = same-rest rest (alone (λ is. let wrong : ⊥ = cc in wrong))
+  pub rest-after : (ended : Result TextEnd ReadEnd) → IsAtRest M old → (ended ≡ Ok at.Done → (sites : List Site) × KeepsSites M old new sites)
+      → (ended ≢ Ok at.Done → new ≡ old) → IsAtRest M new
+  rest-after (Ok at.Done) rest keeps alone = let kept = keeps refl in kept-rest kept.0 rest kept.1
+  rest-after (Ok at.Malformed) rest keeps alone = same-rest rest (alone (λ is. let wrong : ⊥ = cc in wrong))
+  rest-after (Ok at.WriteFault) rest keeps alone = same-rest rest (alone (λ is. let wrong : ⊥ = cc in wrong))
+  rest-after (Ok at.NoMemory) rest keeps alone = same-rest rest (alone (λ is. let wrong : ⊥ = cc in wrong))
+  rest-after (Ok at.SentLimit) rest keeps alone = same-rest rest (alone (λ is. let wrong : ⊥ = cc in wrong))
+  rest-after (Err why) rest keeps alone = same-rest rest (alone (λ is. let wrong : ⊥ = cc in wrong))
 
 -- No site of a new bay on a folder has its disk out.
 pub folder-none : (count site : ℕ) → (folder_berth_of (slice_get (replicate count (record { is_out = false; faults = 0 })) site)).is_out ≡ false

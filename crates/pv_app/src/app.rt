@@ -1,16 +1,20 @@
 // The top call: from the words and the input's bytes to the output's bytes and a status.
-ghost use Rattle.std.specs.Prelude.{◌≡◌, ◌⊎◌, map};
+ghost use Rattle.std.specs.Prelude.{◌≡◌, map};
 ghost use Rattle.std.specs.String.{string_bytes};
-ghost use Rattle.pv_io.specs.SinkEffects.{HasFailed, Writes, WritesPrefix};
+ghost use Rattle.pv_io.specs.SinkEffects.{WritesAll};
 ghost use Rattle.pv_app.specs.Commands.{IsCommand, usage_text};
-ghost use Rattle.pv_app.specs.Ends.{Ends, EndsUsage};
+ghost use Rattle.pv_app.specs.Ends.{Ends, EndsUsage, usage_status};
 ghost use Rattle.pv_show.specs.Bays.{IsAtRest};
 
 use crate::command::{Command, command_of};
-use crate::showing::read_and_show;
+use crate::showing::{read_and_show, status_of_show};
+use pv_base::Failed;
 use pv_disk::Bay;
 use pv_io::{Sink, Source, write_all};
-use pv_run::{Status, read_and_run, status_of_write, write_made, write_summary_of_number};
+use pv_run::{
+    Status, read_and_run, status_of_big, status_of_make, status_of_run, write_made,
+    write_summary_of_number,
+};
 use std::alloc::Global;
 
 const USAGE: &[u8] = b"usage: polydb run | json | make N | big N | show\n";
@@ -49,20 +53,27 @@ pub fn polydb<R: Source, W: Sink, B: Bay>(
     ensures handed_back { IsAtRest B.model bay.old → IsAtRest B.model bay.new }
 {
     match command_of(words) {
-        Some(Command::Run(form)) => read_and_run(alloc, form, source, sink, bay),
-        Some(Command::Show) => read_and_show(alloc, source, sink, bay),
-        Some(Command::Make(number)) => write_made(alloc, number, sink),
-        Some(Command::Big(number)) => write_summary_of_number(alloc, number, sink),
-        None => write_usage(sink),
+        Some(Command::Run(form)) => status_of_run(read_and_run(alloc, form, source, sink, bay)),
+        Some(Command::Show) => status_of_show(read_and_show(alloc, source, sink, bay)),
+        Some(Command::Make(number)) => status_of_make(write_made(alloc, number, sink)),
+        Some(Command::Big(number)) => status_of_big(write_summary_of_number(alloc, number, sink)),
+        None => status_of_usage(write_usage(sink)),
     }
 }
 
 // Writes the usage line.
-fn write_usage<W: Sink>(sink: &mut W) -> Status
-    ensures written { result ≡ Status.Usage → Writes W.Sink sink.old sink.new usage_text }
-    ensures prefix { WritesPrefix W.Sink sink.old sink.new usage_text }
-    ensures fault { result ≡ Status.WriteFault → HasFailed W.Sink sink.old sink.new }
-    ensures others { (result ≡ Status.Usage) ⊎ (result ≡ Status.WriteFault) }
+fn write_usage<W: Sink>(sink: &mut W) -> Result<(), Failed>
+    ensures { WritesAll W.Sink (λ _. Unit {0}) sink.old sink.new usage_text result }
 {
-    status_of_write(write_all(sink, USAGE), Status::Usage)
+    write_all(sink, USAGE)
+}
+
+// The status of words that are no command, by how the usage line was written.
+fn status_of_usage(written: Result<(), Failed>) -> Status
+    ensures { result ≡ usage_status written }
+{
+    match written {
+        Ok(()) => Status::Usage,
+        Err(Failed) => Status::WriteFault,
+    }
 }

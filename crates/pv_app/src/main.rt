@@ -3,6 +3,7 @@
 
 mod app;
 mod command;
+mod show_end;
 mod showing;
 
 use crate::app::polydb;

@@ -2,35 +2,34 @@
 use Rattle.std.proofs.Common.{◌≡◌, ◌⊎◌, inl, inr, ℕ, ◌<◌, Some, Result, Ok, Err, IfOk, List, [], ◌++◌, length, refl, sym, ap, ◌∙◌, subst}
 use Rattle.pv_base.specs.declared.limits.TheConstants.{MAX_INPUT}
 use Rattle.pv_run.specs.InputAnswers.{GivesUp, GrowsBySome, IsRunAnswer, exit_code}
+use Rattle.pv_run.specs.Statuses.{text_status}
 use Rattle.pv_run.specs.declared.form.Form.TheVariants.{Text}
 use Rattle.pv_run.specs.declared.status.Status.{Status}
-use Rattle.pv_run.specs.declared.status.Status.TheVariants.{Done, Usage, Malformed, ReadFault, WriteFault, TooLong, NoMemory, SentLimit, BayFault}
+use Rattle.pv_run.specs.declared.status.Status.TheVariants.{TooLong}
+use Rattle.pv_run.specs.declared.text_end.TextEnd.{TextEnd}
+use Rattle.pv_run.specs.declared.text_end.TextEnd.TheVariants as at
 use Rattle.pv_embed_world.specs.Run.{Is, IsAnswer}
 use Rattle.pv_embed_world.specs.declared.ran.Ran.{Ran}
 
--- With another status than these it didn't give up.
-gave-up : (status : Status) → GivesUp status → (status ≡ WriteFault → ⊥) → (status ≡ NoMemory → ⊥) → (status ≡ ReadFault → ⊥) → ⊥
-gave-up Done gives write memory read = gives
-gave-up Usage gives write memory read = gives
-gave-up Malformed gives write memory read = gives
-gave-up ReadFault gives write memory read = read refl
-gave-up WriteFault gives write memory read = write refl
-gave-up TooLong gives write memory read = gives
-gave-up NoMemory gives write memory read = memory refl
-gave-up SentLimit gives write memory read = gives
-gave-up BayFault gives write memory read = gives
+-- With another end than these it didn't give up.
+gave-up : (ended : TextEnd) → GivesUp (text_status ended) → (ended ≡ at.WriteFault → ⊥) → (ended ≡ at.NoMemory → ⊥) → ⊥
+gave-up at.Done gives write memory = gives
+gave-up at.Malformed gives write memory = gives
+gave-up at.WriteFault gives write memory = write refl
+gave-up at.NoMemory gives write memory = memory refl
+gave-up at.SentLimit gives write memory = gives
 
-module _ (input : List ℕ) (ran : Ran) (status : Status) (code : ran.status ≡ exit_code status) where
-  -- What the sink holds then is the text of the answer.
-  pub ran-answers : (first held : List ℕ) → first ≡ [] → ran.text.items ≡ held → GivesUp status ⊎ GrowsBySome (Some first) (Some held) (IsRunAnswer Text input status)
-      → (status ≡ WriteFault → ⊥) → (status ≡ NoMemory → ⊥) → (status ≡ ReadFault → ⊥) → IsAnswer input ran
-  ran-answers first held none text (inl gives) write memory read = absurd (gave-up status gives write memory read)
-  ran-answers first held none text (inr (output, grown, is)) write memory read =
-      (status, output, is, record { code = code; text = text ∙ grown ∙ ap (λ (front : List ℕ). front ++ output) none })
+-- What the sink holds then is the text of the answer.
+pub ran-answers : (input : List ℕ) (ran : Ran) (ended : TextEnd) (first held : List ℕ) → ran.status ≡ exit_code (text_status ended) → first ≡ [] → ran.text.items ≡ held
+    → GivesUp (text_status ended) ⊎ GrowsBySome (Some first) (Some held) (IsRunAnswer Text input (text_status ended)) → (ended ≡ at.WriteFault → ⊥) → (ended ≡ at.NoMemory → ⊥)
+    → IsAnswer input ran
+ran-answers input ran ended first held code none text (inl gives) write memory = absurd (gave-up ended gives write memory)
+ran-answers input ran ended first held code none text (inr (output, grown, is)) write memory =
+    (text_status ended, output, is, record { code = code; text = text ∙ grown ∙ ap (λ (front : List ℕ). front ++ output) none })
 
-  -- A text that is too long has no output.
-  pub too-long-answers : MAX_INPUT < length input → status ≡ TooLong → ran.text.items ≡ [] → IsAnswer input ran
-  too-long-answers long is none = (status, [], subst (λ (s : Status). IsRunAnswer Text input s []) (sym is) (long, refl), record { code = code; text = none })
+-- A text that is too long has no output.
+pub too-long-answers : (input : List ℕ) (ran : Ran) → ran.status ≡ exit_code TooLong → MAX_INPUT < length input → ran.text.items ≡ [] → IsAnswer input ran
+too-long-answers input ran code long none = (TooLong, [], (long, refl), record { code = code; text = none })
 
 -- An input has no other answer, since answers are one.
 module _ (input : List ℕ)

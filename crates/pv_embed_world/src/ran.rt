@@ -12,7 +12,7 @@ ghost use Rattle.pv_embed_world.specs.Run.{Is, IsAnswer};
 use pv_base::{MAX_INPUT, NoMemory};
 use pv_disk::MemBay;
 use pv_io::MemSink;
-use pv_run::{Form, Status, answers_are_one, promises_are_kept, run_text};
+use pv_run::{Form, Status, TextEnd, answers_are_one, promises_are_kept, run_text};
 use std::alloc::Global;
 
 /// What a run answers.
@@ -49,11 +49,11 @@ fn answer(alloc: Global, input: &[u8]) -> Result<Ran, NoMemory>
     let mut sink = MemSink::new(alloc, Vec::new(alloc));
     let mut bay = MemBay::new(Vec::new(alloc))?;
     match run_text(alloc, input, Form::Text, &mut sink, &mut bay) {
-        Status::WriteFault | Status::NoMemory => Err(NoMemory),
-        status => {
+        TextEnd::WriteFault | TextEnd::NoMemory => Err(NoMemory),
+        end => {
             let text = Vec::from_slice(alloc, sink.bytes())?;
             Ok(Ran {
-                status: u32::from(status.code()),
+                status: u32::from(end.status().code()),
                 text,
             })
         }

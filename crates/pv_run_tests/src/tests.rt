@@ -15,9 +15,9 @@ fn a_text_is_run_and_its_disks_are_kept(rt: HostRuntime) -> Result<(), Fail> {
         b"sites 2\nitem a 0 100\nitem b 1 50\nsubmit 0 a := a - 10 ; b := b + 10\npump\nreport\n".as_slice();
     let mut sink = MemSink::new(alloc, Vec::new(alloc));
     let mut bay = MemBay::new(Vec::new(alloc))?;
-    let status = run_text(alloc, text, Form::Text, &mut sink, &mut bay);
-    assert_eq!(rt; status, Status::Done);
-    assert_eq!(rt; status.code(), 0);
+    let end = run_text(alloc, text, Form::Text, &mut sink, &mut bay);
+    assert_eq!(rt; end, TextEnd::Done);
+    assert_eq!(rt; end.status().code(), 0);
     assert_eq!(rt; sink.bytes(), TRANSFER_OUTPUT.as_bytes());
     assert!(rt; bay.kept(SiteId(0)).is_some());
     assert!(rt; bay.kept(SiteId(1)).is_some());

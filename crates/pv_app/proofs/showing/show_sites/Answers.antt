@@ -8,8 +8,8 @@ use Rattle.pv_app.proofs.showing.show_sites.Goals as goal
 
 pub returns-in-Ok-clause-shown : goal.returns-in-Ok-clause-shown
 returns-in-Ok-clause-shown g c =
-    shows-written g.B.Bay.model g.B.D.Disk.model g.W.Sink c.args.catalog.now c.write_all.result c.status_of_write.result c.args.bay.now c.show.new.bay c.args.sink.now
-    c.write_all.new.sink c.deref.result.now c.status_of_write.ensures
+    shows-written g.B.Bay.model g.B.D.Disk.model g.W.Sink c.args.catalog.now c.write_all.result c.end_of_shown.result c.args.bay.now c.show.new.bay c.args.sink.now
+    c.write_all.new.sink c.deref.result.now c.end_of_shown.ensures
     (subst (λ (text : List ℕ). ShowsAll g.B.Bay.model g.B.D.Disk.model c.args.catalog.now c.args.bay.now c.show.new.bay text) (sym c.deref.ensures.value) c.in-Ok.ensures.text)
     c.write_all.ensures.writes.written c.write_all.ensures.writes.prefix
 

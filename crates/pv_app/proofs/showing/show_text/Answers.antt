@@ -1,7 +1,8 @@
 -- The text is one live script, or is malformed at one line for one cause.
-use Rattle.std.proofs.Common.{◌≡◌, ◌≢◌, List, ℕ, [], IfSome, inl, refl, ◌∙◌, subst}
+use Rattle.std.proofs.Common.{◌≡◌, ◌≢◌, List, ℕ, [], IfSome, OnErr, OnOk, inl, refl, ◌∙◌, subst}
 use Rattle.std.proofs.KnownBytes.{Appends-nil}
 use Rattle.std.specs.Io.KnownBytes.{Appends}
+use Rattle.pv_io.specs.SinkEffects.{HasFailed}
 use Rattle.pv_io.specs.Stream.{AppendsPrefix}
 use Rattle.pv_base.specs.declared.limits.TheConstants.{MAX_SITES}
 use Rattle.pv_law_schedules.proofs.OneScheduleLemmas.{no_live_fault, one_fault, one_live_script}
@@ -11,7 +12,7 @@ use Rattle.pv_model.specs.Schedule.{IsMalformedLiveScript}
 use Rattle.pv_script.specs.LiveView.{live_script_of}
 use Rattle.pv_script.specs.ScriptErrors.{IsMalformedLiveAt, line_cause_of, refused_line}
 use Rattle.pv_script.specs.declared.schedule.ScriptError.{ScriptError}
-use Rattle.pv_app.proofs.ShowLemmas.{OnlyReadsDisks-wider, refused-not-done, refused-or-not, has-looked}
+use Rattle.pv_app.proofs.ShowLemmas.{OnlyReadsDisks-wider, at_refusal_fault, at_refused, prefix-either, refused-not-bay, refused-not-done, refused-or-not, show-write-fault}
 use Rattle.pv_app.specs.ShowEnds.{ShowsSites}
 use Rattle.pv_run.specs.InputAnswers.{fault_text}
 use Rattle.pv_show.specs.Bays.{OnlyReadsDisks}
@@ -42,20 +43,11 @@ returns-in-Ok-clause-only_declared g c = λ script says.
     (one_live_script c.args.input.now (live_script_of c.in-Ok.script) script c.in-Ok.ensures.answer.given says) c.show_sites.ensures.only_reads
 
 pub returns-in-Ok-clause-alone : goal.returns-in-Ok-clause-alone
-returns-in-Ok-clause-alone g c = λ apart.
-    absurd (apart (has-looked g.B.Bay.model g.B.D.Disk.model g.W.Sink c.in-Ok.script.catalog c.args.bay.now c.show_sites.new.bay c.args.sink.now c.show_sites.new.sink
-    c.show_sites.result c.show_sites.ensures.read_fault c.show_sites.ensures.shown))
+returns-in-Ok-clause-alone g c = λ is.
+    absurd (subst (ShowsSites g.B.Bay.model g.B.D.Disk.model g.W.Sink c.in-Ok.script.catalog c.args.bay.now c.show_sites.new.bay c.args.sink.now c.show_sites.new.sink) is c.show_sites.ensures.shown)
 
 pub returns-in-Ok-clause-bay_fault : goal.returns-in-Ok-clause-bay_fault
 returns-in-Ok-clause-bay_fault g c = λ is.
-    subst (ShowsSites g.B.Bay.model g.B.D.Disk.model g.W.Sink c.in-Ok.script.catalog c.args.bay.now c.show_sites.new.bay c.args.sink.now c.show_sites.new.sink) is c.show_sites.ensures.shown
-
-pub returns-in-Ok-clause-command : goal.returns-in-Ok-clause-command
-returns-in-Ok-clause-command g c = λ is.
-    subst (ShowsSites g.B.Bay.model g.B.D.Disk.model g.W.Sink c.in-Ok.script.catalog c.args.bay.now c.show_sites.new.bay c.args.sink.now c.show_sites.new.sink) is c.show_sites.ensures.shown
-
-pub returns-in-Ok-clause-too_long : goal.returns-in-Ok-clause-too_long
-returns-in-Ok-clause-too_long g c = λ is.
     subst (ShowsSites g.B.Bay.model g.B.D.Disk.model g.W.Sink c.in-Ok.script.catalog c.args.bay.now c.show_sites.new.bay c.args.sink.now c.show_sites.new.sink) is c.show_sites.ensures.shown
 
 pub returns-in-Err-Malformed-clause-shown : goal.returns-in-Err-Malformed-clause-shown
@@ -76,18 +68,29 @@ returns-in-Err-Malformed-clause-refused g c = λ number reported is.
     subst (λ (e : ScriptError). IfSome (refused_line e) (IsMalformedLiveAt c.args.input.now)) c.in-Err-Malformed.field-0-is c.in-Err-Malformed.ensures.answer.refused in
     let same = one_fault live c.args.input.now line number (line_cause_of cause) reported refused is in
     let first : fault_text _ (line_cause_of _) ≡ fault_text line (line_cause_of cause) = λ i. fault_text (c.in-Err-Malformed.line-is i) (line_cause_of (c.in-Err-Malformed.cause-is i)) in
-    let text : fault_text line (line_cause_of cause) ≡ fault_text number reported = λ i. fault_text (same.0 i) (same.1 i) in (
+    let text : fault_text line (line_cause_of cause) ≡ fault_text number reported = λ i. fault_text (same.0 i) (same.1 i) in
+    let written = subst (λ (t : List ℕ). OnOk c.refuse.result (Appends old new t)) (first ∙ text) c.refuse.ensures.written in
+    let ended = c.end_of_refusal.result in
+    let so = c.end_of_refusal.ensures in (
       (
-        refused-or-not c.refuse.result c.refuse.ensures.others,
-        subst (AppendsPrefix old new) (first ∙ text) c.refuse.ensures.prefix,
-        λ fault. subst (λ (t : List ℕ). t ≢ []) (first ∙ text) (c.refuse.ensures.some fault),
+        refused-or-not c.refuse.result ended so,
+        prefix-either c.refuse.result old new (fault_text number reported) written (subst (λ (t : List ℕ). OnErr c.refuse.result (AppendsPrefix old new t)) (first ∙ text) c.refuse.ensures.prefix),
+        λ fault. subst (λ (t : List ℕ). t ≢ []) (first ∙ text)
+            (at_refusal_fault c.refuse.result ended (fault_text _ (line_cause_of _) ≢ []) so c.refuse.ensures.some (show-write-fault ended fault)),
       ),
       refl,
-      λ malformed. subst (Appends old new) (first ∙ text) (c.refuse.ensures.written malformed),
+      at_refused c.refuse.result ended (Appends old new (fault_text number reported)) so written,
     )
 
 pub returns-in-Err-Malformed-clause-done : goal.returns-in-Err-Malformed-clause-done
-returns-in-Err-Malformed-clause-done g c = λ done. absurd (refused-not-done c.refuse.result c.refuse.ensures.others done)
+returns-in-Err-Malformed-clause-done g c = λ done. absurd (refused-not-done c.refuse.result c.end_of_refusal.result c.end_of_refusal.ensures done)
+
+pub returns-in-Err-Malformed-clause-bay_fault : goal.returns-in-Err-Malformed-clause-bay_fault
+returns-in-Err-Malformed-clause-bay_fault g c = λ is. absurd (refused-not-bay c.refuse.result c.end_of_refusal.result c.end_of_refusal.ensures is)
+
+pub returns-in-Err-Malformed-clause-write_fault : goal.returns-in-Err-Malformed-clause-write_fault
+returns-in-Err-Malformed-clause-write_fault g c =
+    at_refusal_fault c.refuse.result c.end_of_refusal.result (HasFailed g.W.Sink c.args.sink.now c.refuse.new.sink) c.end_of_refusal.ensures c.refuse.ensures.fault
 
 pub returns-in-Err-Malformed-clause-malformed : goal.returns-in-Err-Malformed-clause-malformed
 returns-in-Err-Malformed-clause-malformed g c = λ is. (

@@ -1,0 +1,16 @@
+// How what is shown of a text ends.
+
+/// How it ended to show what the disks of a text's sites hold.
+#[derive(Clone, Copy, Debug, PartialEq, Eq)]
+pub(crate) enum ShowEnd {
+    /// What was found on each disk was written.
+    Done,
+    /// The text is malformed. Its first line at fault was named.
+    Malformed,
+    /// The output failed. A beginning of what was to be written was.
+    WriteFault,
+    /// There was no memory. A beginning of what was to be written was.
+    NoMemory,
+    /// The bay failed to hand out a disk. Nothing was written.
+    BayFault,
+}
