@@ -1,4 +1,4 @@
--- What a run answers that wrote nothing, and how a command ended whose text was come by.
+-- What a run answers that wrote nothing, and what results that are the same hold.
 use Rattle.std.proofs.Common.{◌≡◌, ℕ, ◌<◌, List, [], Result, Ok, Err, length, inl, inr, refl, subst}
 use Rattle.std.proofs.KnownBytes.{Appends-nil}
 use Rattle.pv_base.specs.declared.limits.TheConstants.{MAX_INPUT}
@@ -58,9 +58,9 @@ module _ {W B : Type 0} (sink : Ghosts W) (M : BayModel B) (form : Form) (same :
   unread why.TooLong long = too-long (long refl)
   unread why.NoMemory long = given-up NoMemory tt (λ is. let wrong : ⊥ = cc in wrong)
 
--- What was come by is the same, whatever could have been in its place.
-pub same-end : {T E : Type 0} (one other : T) → Ok {T} {E} one ≡ Ok other → one ≡ other
-same-end one other is = let same : one ≡ other = cc in same
+-- What stands behind `Ok` is the same where the results are, and what stands behind `Err`.
+pub same-end : {T E : Type 0} (one other : T) → Path (Result T E) (Ok one) (Ok other) → one ≡ other
+same-end one other is = cc
 
-pub same-reason : {T E : Type 0} (one other : E) → Err {T} {E} one ≡ Err other → one ≡ other
-same-reason one other is = let same : one ≡ other = cc in same
+pub same-reason : {T E : Type 0} (one other : E) → Path (Result T E) (Err one) (Err other) → one ≡ other
+same-reason one other is = cc
