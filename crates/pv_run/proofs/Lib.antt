@@ -1,5 +1,5 @@
 mod AnswerLemmas
-mod EndLemmas
+pub mod EndLemmas
 mod KeepLemmas
 mod LimitLemmas
 mod OutputLemmas
