@@ -13,6 +13,6 @@ returns-then-input-gt-MAX_INPUT c =
 pub returns : goal.returns
 returns c =
     let ran : Ran = record { status = c.from-in_default.result; text = c.in_ok-text-in_default.text } in
-    ran-answers c.args.input.now ran c.run_text.result c.new-sink.result.held c.run_text.new.sink.held (c.from-in_default.ensures ∙ c.code-in_default.ensures ∙ ap exit_code c.status-in_default.ensures)
+    ran-answers c.args.input.now ran c.run_text.result c.new-sink.result.held c.run_text.new.sink.held (c.from-in_default.ensures ∙ c.code-in_default.ensures ∙ ap exit_code c.status.ensures)
     (ap (λ (sink : SinkState). sink.held) c.new-sink.ensures) (c.in_ok-text-in_default.ensures.items ∙ c.bytes.ensures) c.run_text.ensures.answers.answered
     c.in_default.not-WriteFault c.in_default.not-NoMemory
