@@ -1,5 +1,5 @@
--- What a run answers that wrote nothing, and what results that are the same hold.
-use Rattle.std.proofs.Common.{◌≡◌, ℕ, ◌<◌, List, [], Result, Ok, Err, length, inl, inr, refl, subst}
+-- What a run answers that wrote nothing.
+use Rattle.std.proofs.Common.{◌≡◌, ℕ, ◌<◌, List, [], length, inl, inr, refl, subst}
 use Rattle.std.proofs.KnownBytes.{Appends-nil}
 use Rattle.pv_base.specs.declared.limits.TheConstants.{MAX_INPUT}
 use Rattle.pv_disk.specs.BayModel.{BayModel}
@@ -57,10 +57,3 @@ module _ {W B : Type 0} (sink : Ghosts W) (M : BayModel B) (form : Form) (same :
   unread why.Failed long = given-up ReadFault tt (λ is. let wrong : ⊥ = cc in wrong)
   unread why.TooLong long = too-long (long refl)
   unread why.NoMemory long = given-up NoMemory tt (λ is. let wrong : ⊥ = cc in wrong)
-
--- What stands behind `Ok` is the same where the results are, and what stands behind `Err`.
-pub same-end : {T E : Type 0} (one other : T) → Path (Result T E) (Ok one) (Ok other) → one ≡ other
-same-end one other is = cc
-
-pub same-reason : {T E : Type 0} (one other : E) → Path (Result T E) (Err one) (Err other) → one ≡ other
-same-reason one other is = cc

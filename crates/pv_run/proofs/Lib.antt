@@ -1,5 +1,5 @@
 mod AnswerLemmas
-pub mod EndLemmas
+mod EndLemmas
 mod KeepLemmas
 mod LimitLemmas
 mod OutputLemmas

@@ -1,11 +1,9 @@
 -- What was read is what the source had left. Where it wasn't read to its end, nothing is shown.
-use Rattle.std.proofs.Common.{rules, ℕ, List, length, Err, refl, ap, sym, ◌∙◌, subst, arith}
-use Rattle.pv_io.specs.declared.read_end.ReadEnd.TheVariants as why
+use Rattle.std.proofs.Common.{◌≡◌, rules, ℕ, List, length, Err, refl, ap, sym, ◌∙◌, subst, arith}
+use Rattle.std.proofs.lemmas.Result.{IfErr-at_err, IfOk-at_ok}
 use Rattle.pv_model.specs.Schedule.{IsLiveScript, IsMalformedLiveScript}
-use Rattle.pv_run.proofs.EndLemmas.{same-end, same-reason}
 use Rattle.pv_show.specs.Bays.{OnlyReadsDisks}
 use Rattle.pv_app.proofs.ShowLemmas.{unread}
-use Rattle.pv_app.specs.declared.show_end.ShowEnd.TheVariants as at
 use Rattle.pv_app.proofs.showing.read_and_show.Goals as goal
 
 pub returns-in-Ok-clause-ends : goal.returns-in-Ok-clause-ends
@@ -19,21 +17,21 @@ returns-in-Ok-clause-ends g c =
             shown = λ short script says. c.show_text.ensures.shown script (subst (λ (text : List ℕ). IsLiveScript text script) (sym same) says);
             refused = λ short number cause is.
                 let refused = c.show_text.ensures.refused number cause (subst (λ (text : List ℕ). IsMalformedLiveScript text number cause) (sym same) is) in
-                (refused.0, refused.1, λ malformed. refused.2 (same-end ended at.Malformed malformed));
+                (refused.0, refused.1, λ malformed. refused.2 (IfOk-at_ok (λ e. ended ≡ e) malformed refl));
             long = λ long. absurd (omega (arith, ap length same, long, c.deref.ensures.len, c.in-Ok.ensures.within));
             done = λ done.
-                let script = c.show_text.ensures.done (same-end ended at.Done done) in
+                let script = c.show_text.ensures.done (IfOk-at_ok (λ e. ended ≡ e) done refl) in
                 (whole.1, script.0, subst (λ (text : List ℕ). IsLiveScript text script.0) same script.1);
             malformed = λ is.
-                let first = c.show_text.ensures.malformed (same-end ended at.Malformed is) in
+                let first = c.show_text.ensures.malformed (IfOk-at_ok (λ e. ended ≡ e) is refl) in
                 (first.0, first.1, subst (λ (text : List ℕ). IsMalformedLiveScript text first.0 first.1) same first.2);
             only_declared = λ script says. c.show_text.ensures.only_declared script (subst (λ (text : List ℕ). IsLiveScript text script) (sym same) says);
           };
       only_reads = c.show_text.ensures.only_reads;
-      alone = (tt, λ is. c.show_text.ensures.alone (same-end ended at.Malformed is));
-      bay_fault = λ is. c.show_text.ensures.bay_fault (same-end ended at.BayFault is);
+      alone = (tt, λ is. c.show_text.ensures.alone (IfOk-at_ok (λ e. ended ≡ e) is refl));
+      bay_fault = λ is. c.show_text.ensures.bay_fault (IfOk-at_ok (λ e. ended ≡ e) is refl);
       read_fault = λ is. absurd (let wrong : ⊥ = cc in wrong);
-      write_fault = λ is. c.show_text.ensures.write_fault (same-end ended at.WriteFault is);
+      write_fault = λ is. c.show_text.ensures.write_fault (IfOk-at_ok (λ e. ended ≡ e) is refl);
       too_long = λ is. absurd (let wrong : ⊥ = cc in wrong);
     }
 
@@ -48,7 +46,7 @@ returns-in-Err-clause-ends g c =
       alone = (refl, λ is. refl);
       bay_fault = λ is. absurd (let wrong : ⊥ = cc in wrong);
       read_fault = λ is.
-          let failed = same-reason end why.Failed is in
+          let failed = IfErr-at_err (λ e. end ≡ e) is refl in
           (c.in-Err.ensures.fault (ap Err failed), c.in-Err.ensures.failed_within (ap Err failed), search rules);
       write_fault = λ is. absurd (let wrong : ⊥ = cc in wrong);
       too_long = λ is. search rules;

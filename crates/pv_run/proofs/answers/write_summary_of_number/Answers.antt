@@ -1,12 +1,11 @@
 -- The text that was made has one answer.
-use Rattle.std.proofs.Common.{◌≡◌, List, ℕ, [], sym, ◌∙◌, subst}
+use Rattle.std.proofs.Common.{◌≡◌, List, ℕ, [], refl, sym, ◌∙◌, subst}
+use Rattle.std.proofs.lemmas.Result.{IfOk-at_ok}
 use Rattle.pv_script.specs.Generated.{made_text}
 use Rattle.pv_run.specs.InputAnswers.{Answers, IsSummaryAnswer}
 use Rattle.pv_run.specs.Statuses.{text_status}
 use Rattle.pv_run.specs.Summary.{summary_of}
-use Rattle.pv_run.specs.declared.text_end.TextEnd.TheVariants as at
 use Rattle.pv_run.proofs.AnswerLemmas.{status_of_answer, text-write-fault}
-use Rattle.pv_run.proofs.EndLemmas.{same-end}
 use Rattle.pv_run.proofs.answers.write_summary_of_number.Goals as goal
 
 pub returns : goal.returns
@@ -24,6 +23,6 @@ returns g c =
             c.write_summary_of_text.ensures.prefix answer output same,
             λ fault. c.write_summary_of_text.ensures.some answer output same (text-write-fault ended fault),
           );
-      write_fault = λ is. c.write_summary_of_text.ensures.write_fault (same-end ended at.WriteFault is);
+      write_fault = λ is. c.write_summary_of_text.ensures.write_fault (IfOk-at_ok (λ e. ended ≡ e) is refl);
       too_long = tt;
     }

@@ -1,10 +1,9 @@
 -- What was read is what the source had left, and what was written is the answer to it.
-use Rattle.std.proofs.Common.{rules, List, ℕ, length, Ok, Err, refl, ap, ◌∙◌, subst, arith}
-use Rattle.pv_io.specs.declared.read_end.ReadEnd.TheVariants as why
+use Rattle.std.proofs.Common.{◌≡◌, rules, List, ℕ, length, Ok, Err, refl, ap, ◌∙◌, subst, arith}
+use Rattle.std.proofs.lemmas.Result.{IfErr-at_err, IfOk-at_ok}
 use Rattle.pv_run.specs.Ends.{AnswersRun}
 use Rattle.pv_run.specs.Statuses.{text_status}
-use Rattle.pv_run.specs.declared.text_end.TextEnd.TheVariants as at
-use Rattle.pv_run.proofs.EndLemmas.{same-end, same-reason, unread}
+use Rattle.pv_run.proofs.EndLemmas.{unread}
 use Rattle.pv_run.proofs.commands.read_and_run.Goals as goal
 
 pub returns-in-Ok : goal.returns-in-Ok
@@ -18,15 +17,15 @@ returns-in-Ok g c =
       read = λ done input left. (c.in-Ok.ensures.whole input left).1;
       read_fault = λ is. absurd (let wrong : ⊥ = cc in wrong);
       write_fault = λ is. (
-        c.run_text.ensures.write_fault (same-end ended at.WriteFault is),
+        c.run_text.ensures.write_fault (IfOk-at_ok (λ e. ended ≡ e) is refl),
         λ input left.
             let whole = c.in-Ok.ensures.whole input left in
             omega (arith, ap length (c.deref.ensures.value ∙ whole.0), c.deref.ensures.len, c.in-Ok.ensures.within),
       );
       too_long = λ is. absurd (let wrong : ⊥ = cc in wrong);
       kept = λ done.
-          let at_done = c.run_text.ensures.answers.done (ap text_status (same-end ended at.Done done)) in
-          (at_done.0, c.run_text.ensures.answers.kept (ap text_status (same-end ended at.Done done)) at_done.0 at_done.1);
+          let at_done = c.run_text.ensures.answers.done (ap text_status (IfOk-at_ok (λ e. ended ≡ e) done refl)) in
+          (at_done.0, c.run_text.ensures.answers.kept (ap text_status (IfOk-at_ok (λ e. ended ≡ e) done refl)) at_done.0 at_done.1);
       alone = λ other. c.run_text.ensures.alone (λ done. other (ap Ok done));
     }
 
@@ -40,7 +39,7 @@ returns-in-Err g c =
           (λ is. c.in-Err.ensures.too_long (ap Err is) input left);
       read = λ done. absurd (let wrong : ⊥ = cc in wrong);
       read_fault = λ is.
-          let failed = same-reason end why.Failed is in
+          let failed = IfErr-at_err (λ e. end ≡ e) is refl in
           (c.in-Err.ensures.fault (ap Err failed), c.in-Err.ensures.failed_within (ap Err failed), search rules);
       write_fault = λ is. absurd (let wrong : ⊥ = cc in wrong);
       too_long = λ is. search rules;
