@@ -48,6 +48,9 @@ export const askTheorem = (world, commit) => post(`worlds/${world}/theorem`, { c
 /** How many choices of the open transactions there are, and in how many all agrees. */
 export const tryChoices = (world) => post(`worlds/${world}/choices`, {});
 
+/** The picture of the newest events, or of those up to a number, with so many characters of each event's line. */
+export const askPicture = (world, last, characters) => post(`worlds/${world}/picture`, { last, characters });
+
 /** Tells the server that the page goes away. */
 export function closeWorld(world) {
   const options = { method: "POST", headers: { "Content-Type": "application/json" }, body: "{}", keepalive: true };

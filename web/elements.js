@@ -2,15 +2,7 @@
 
 /** An element of a page with attributes and children: elements or texts. An attribute that is null or false is left out. */
 export function element(name, attributes = {}, ...children) {
-  return filled(document.createElement(name), attributes, children);
-}
-
-/** The same of a drawing. */
-export function drawn(name, attributes = {}, ...children) {
-  return filled(document.createElementNS("http://www.w3.org/2000/svg", name), attributes, children);
-}
-
-function filled(made, attributes, children) {
+  const made = document.createElement(name);
   for (const [key, value] of Object.entries(attributes)) {
     if (value === null || value === false) continue;
     if (key === "onclick") made.addEventListener("click", value);
@@ -23,6 +15,32 @@ function filled(made, attributes, children) {
 /** The element of the page with this name. */
 export function part(name) {
   return document.getElementById(name);
+}
+
+const keys = new WeakMap();
+
+/**
+ * Makes the children of a list those of these texts, in this order: what stands there for a text stays, and what isn't there yet is made, by its place. So a
+ * long list costs what has changed in it.
+ */
+export function keepChildren(list, texts, make) {
+  const wanted = new Set(texts);
+  for (const child of [...list.children]) if (!wanted.has(keys.get(child))) child.remove();
+  let next = list.firstElementChild;
+  texts.forEach((text, place) => {
+    if (next && keys.get(next) === text) {
+      next = next.nextElementSibling;
+      return;
+    }
+    const made = make(place);
+    keys.set(made, text);
+    list.insertBefore(made, next);
+  });
+  while (next) {
+    const rest = next.nextElementSibling;
+    next.remove();
+    next = rest;
+  }
 }
 
 /**

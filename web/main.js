@@ -2,8 +2,8 @@
 
 import { appendLines, closeWorld, openWorld, readStories, replaceSchedule, undoLines } from "./client.js";
 import { element, keepingFocus, part } from "./elements.js";
-import { showMessages } from "./view-messages.js";
-import { showPicture } from "./view-picture.js";
+import { showMessages, watchDone } from "./view-messages.js";
+import { showPicture, watchPicture } from "./view-picture.js";
 import { copy, sharedSchedule, showFault, showSchedule } from "./view-schedule.js";
 import { showSites, watchFaults } from "./view-sites.js";
 import { fillStories, showStory, stepsDone } from "./view-story.js";
@@ -26,19 +26,18 @@ function show(next) {
   for (const number of [...kept]) if (!state.fresh.includes(number)) kept.delete(number);
   part("trouble").textContent = "";
   part("request-fault").replaceChildren();
-  let compared;
+  const asked = [];
   keepingFocus(() => {
     showStory(story(), state);
     showMessages(state, kept, run, toggleKept);
     showSites(state, run);
-    showPicture(state);
     showSchedule(state);
     showExample();
     part("undo").disabled = state.moments.length === 0;
-    compared = showTheorem(state, trouble);
+    asked.push(showPicture(state, trouble), showTheorem(state, trouble));
   });
   say(state.moments.slice(before).slice(-3).map((moment) => momentInWords(moment, state.messages)).join(" "));
-  return compared;
+  return Promise.all(asked);
 }
 
 function toggleKept(number) {
@@ -164,6 +163,8 @@ function wire() {
   addEventListener("pagehide", () => state && closeWorld(state.world));
   addEventListener("pageshow", (event) => event.persisted && location.reload());
   watchFaults();
+  watchDone();
+  watchPicture(trouble);
 }
 
 async function begin() {

@@ -1,18 +1,20 @@
-"""The run of a schedule as it grows: what each line printed, which messages are under way, which sites are up, and what the items show.
+"""The run of a schedule as it grows, event by event, and back again.
 
-The engine says all of it. `sent` prints every message, `report` what the items show; which messages are fresh, and which sites are up, is kept here as
-`docs/SEMANTICS.md` says. A `pump` is taken apart into its deliveries, so that each has a moment of its own in the picture.
+The engine says all of it. `sent` prints every message, `report` what the items show; what follows from the lines besides is in `tally.py`. A `pump` is
+taken apart into its deliveries, so that each has a moment of its own.
 """
 
 import re
-from bisect import bisect_left, insort
 from time import monotonic
+from typing import NamedTuple, Optional
 
 import engine as engines
+from pictures import is_unsettled
+from tally import Tally, message_of
 
 #: What one run may have at most.
 MOST_BYTES = 131072
-MOST_LINES = 1000
+MOST_LINES = 1200
 MOST_MESSAGES = 2000
 MOST_SECONDS = 10
 
@@ -24,8 +26,6 @@ DECLARATIONS = ("sites", "journal", "item")
 
 _PUMP = re.compile(r"[ \t]*pump(?:[ \t]+0*([1-9][0-9]{0,6}))?[ \t]*\Z")
 _COLUMN = re.compile(r"column ([0-9]+)\Z")
-_SENT = re.compile(r"sent ([0-9]+) ([0-9]+)>([0-9]+) ([a-z]+) (\S+)\Z")
-_SITE_LINE = re.compile(r"(stopped|fault|started) ([0-9]+)(?: [0-9]+)?\Z")
 
 
 class Fault(Exception):
@@ -43,6 +43,19 @@ class TooMuch(Exception):
     """The schedule is longer, or takes longer, than the server allows."""
 
 
+class Moment(NamedTuple):
+    """An event, or one delivery of a `pump`: the place of its line, the line that the engine was given, what the tally takes it for, which messages it sent, what the
+    page is told of it, and which items of the site that it is about are held or in doubt then.
+    """
+
+    place: int
+    given: str
+    meant: str
+    sent: list
+    told: dict
+    unsettled: Optional[dict]
+
+
 class Run:
     """The run of a schedule, from its declarations to its last event."""
 
@@ -50,7 +63,15 @@ class Run:
         """The run of a whole schedule. It raises Fault or TooMuch, and then nothing stays open."""
         self._engine = engine
         self._world = None
-        self._begin(_lines_of(text))
+        lines = _lines_of(text)
+        first = next((place for place, line in enumerate(lines) if _is_event(line)), len(lines))
+        self._start_clock()
+        self._open(lines[:first])
+        try:
+            self._take(lines[first:])
+        except (Fault, TooMuch):
+            self.close()
+            raise
 
     def close(self):
         """Frees the engine's world."""
@@ -60,47 +81,29 @@ class Run:
 
     def append(self, lines):
         """Runs more lines. Where one can't be run, the run is as it was before all of them, and Fault or TooMuch is raised."""
-        before = list(self.lines)
+        count, moments = len(self.lines), len(self.moments)
         self._start_clock()
         try:
             self._take(lines)
         except (Fault, TooMuch):
-            self._begin(before)
+            if len(self.moments) > moments or self._is_over:
+                self._go_back(count)
+            del self.lines[count:]
             raise
 
     def undo(self, count):
-        """The run without its last events, this many, and what stands behind the first of them: it is run again."""
+        """The run without its last events, this many, and what stands behind the first of them."""
         events = [place for place, line in enumerate(self.lines) if _is_event(line)]
         if events:
-            self._begin(self.lines[: events[max(len(events) - count, 0)]])
+            self._start_clock()
+            self._go_back(events[max(len(events) - count, 0)])
 
     @property
     def text(self):
         """The schedule."""
         return "".join(line + "\n" for line in self.lines)
 
-    def report(self):
-        """What a report prints now, line by line."""
-        return self._print("report")
-
     # ---- running ----
-
-    def _begin(self, lines):
-        self.close()
-        self.lines = []
-        self.moments = []
-        self.messages = []
-        self.fresh = []
-        self.programs = {}
-        self.replies = {}
-        self._start_clock()
-        first = next((place for place, line in enumerate(lines) if _is_event(line)), len(lines))
-        self._open(lines[:first])
-        try:
-            self._take(lines[first:])
-        except (Fault, TooMuch):
-            self.close()
-            raise
 
     def _open(self, declarations):
         _check_room(declarations, [])
@@ -109,132 +112,98 @@ class Run:
             self._world = self._engine.open_world(text)
         except engines.BadLine as error:
             raise self._fault_of(text) from error
+        self._is_over = False
+        self._declared = len(declarations)
         self.lines = list(declarations)
+        self.moments = []
         words = [_words_of(line) for line in declarations if _is_significant(line)]
         self.items = [(word[1], int(word[2]), int(word[3])) for word in words if word[0] == "item"]
-        sites = next(int(word[1]) for word in words if word[0] == "sites")
-        self.up = [True] * sites
-        self.armed = [None] * sites
+        self.tally = Tally(next(int(word[1]) for word in words if word[0] == "sites"))
+        self._sent_length = 0
+        self.report = self._ask("report").splitlines()
 
     def _take(self, lines):
         _check_room(self.lines, lines)
         for line in lines:
-            self._take_line(line)
+            if _is_significant(line):
+                self._take_line(line)
+            self.lines.append(line)
 
     def _take_line(self, line):
-        if not _is_significant(line):
-            self.lines.append(line)
-            return
         most = _pumped(line)
         if most is None:
-            self._event(line)
-        else:
-            self._pump(len(self.lines), most)
-        self.lines.append(line)
-
-    def _event(self, line):
-        try:
-            printed = self._print(line)
-        except engines.BadLine as error:
-            raise self._fault_of("\n".join([*self.lines, line])) from error
-        words = _words_of(line)
-        self._note(len(self.lines), line, words, printed)
-
-    def _pump(self, place, most):
+            self._event(line, line)
+            return
         delivered = 0
-        while self.fresh and delivered < most:
-            number = self.fresh[0]
-            printed = self._print("pump 1")
-            self._note(place, f"deliver {number}", ["deliver", str(number)], printed)
+        while delivered < most and self.tally.fresh:
+            self._event("pump 1", f"deliver {self.tally.fresh[0]}")
             delivered += 1
         if not delivered:
-            self.moments.append({"line": place, "act": "pump", "printed": [], "sent": []})
+            self._event("pump 1", "pump")
 
-    # What an event has changed, beside what the engine keeps.
-    def _note(self, place, line, words, printed):
-        moment = {"line": place, "act": words[0], "printed": printed, **self._fates(words)}
-        if words[0] in ("submit", "query"):
-            self._note_program(line, words, printed)
-        if words[0] in ("cut", "fail", "mend"):
-            self.armed[int(words[1])] = None if words[0] == "mend" else " ".join([words[0], *words[2:]])
-        self._note_replies(printed)
-        self._note_sites(words[0], printed)
-        moment["sent"] = self._note_messages()
-        self.moments.append(moment)
-
-    # What an event is about: a message, which is done with it, or a site; and which messages it loses.
-    def _fates(self, words):
-        if len(words) == 1:
-            return {}
-        number = int(words[1])
-        if words[0] in ("deliver", "lose"):
-            settled = self._settle([number])
-            about = {"message": number} if number < len(self.messages) else {}
-            return {**about, "lost": settled} if words[0] == "lose" else about
-        if words[0] == "drop":
-            return {"site": number, "lost": self._settle([it for it in self.fresh if self.messages[it]["to"] == number])}
-        return {"site": number}
-
-    def _settle(self, numbers):
-        settled = []
-        for number in numbers:
-            place = bisect_left(self.fresh, number)
-            if place < len(self.fresh) and self.fresh[place] == number:
-                del self.fresh[place]
-                settled.append(number)
-        return settled
-
-    def _note_program(self, line, words, printed):
-        for answer in printed:
-            if answer.startswith("txn "):
-                program = line.split(None, 2)[2].rstrip()
-                self.programs[answer[4:]] = {"site": int(words[1]), "kind": words[0], "program": program}
-
-    def _note_replies(self, printed):
-        for answer in printed:
-            if answer.startswith("commit "):
-                _, transaction, _, *replies = answer.split()
-                self.replies[transaction] = replies
-
-    # A stop that no `stop` asked for is an armed fault that has fired, and it fires once.
-    def _note_sites(self, act, printed):
-        for answer in printed:
-            found = _SITE_LINE.match(answer)
-            if found:
-                site = int(found[2])
-                self.up[site] = found[1] == "started"
-                if found[1] != "started" and act != "stop":
-                    self.armed[site] = None
-
-    def _note_messages(self):
-        texts = self._print("sent")[len(self.messages) :]
-        numbers = []
-        for text in texts:
-            number, sender, to, kind, transaction = _SENT.match(text).groups()
-            self.messages.append({"number": int(number), "from": int(sender), "to": int(to), "kind": kind, "transaction": transaction})
-            insort(self.fresh, int(number))
-            numbers.append(int(number))
-        if len(self.messages) > MOST_MESSAGES:
+    # An event: the engine is given it, and asked what it has changed.
+    def _event(self, given, meant):
+        printed = self._give(given)
+        text = self._ask("sent")
+        sent = [message_of(line) for line in text[self._sent_length :].splitlines()]
+        self._sent_length = len(text)
+        self.report = self._ask("report").splitlines()
+        told = {"line": len(self.lines), **self.tally.note(meant, printed, sent)}
+        self.moments.append(Moment(len(self.lines), given, meant, sent, told, self._unsettled(told)))
+        if len(self.tally.messages) > MOST_MESSAGES:
             raise TooMuch(f"a run may have {MOST_MESSAGES} messages")
-        return numbers
 
-    def _print(self, line):
-        if self._world is None:
-            raise TooMuch("this run has ended: run another schedule")
+    # Which items are held or in doubt now at the site that an event is about, and how: each behind the three lists of the report.
+    def _unsettled(self, told):
+        site = self.tally.messages[told["message"]]["to"] if "message" in told else told.get("site")
+        shown = {name: line.split(" ", 2)[2] for (name, at, _), line in zip(self.items, self.report[3:]) if at == site}
+        return {name: text for name, text in shown.items() if is_unsettled(text)}
+
+    # The run without its lines from this place on. The events before are run again in a new world, which isn't asked what each has changed: that is known.
+    def _go_back(self, place):
+        lines, moments = self.lines[:place], [moment for moment in self.moments if moment.place < place]
+        self.close()
+        self._open(lines[: self._declared])
+        try:
+            for moment in moments:
+                printed = self._give(moment.given)
+                assert printed == moment.told["printed"], f"the engine prints other lines than before: {printed}"
+                self.tally.note(moment.meant, printed, moment.sent)
+        except TooMuch:
+            self.close()
+            raise
+        self.lines, self.moments = lines, moments
+        self._sent_length = len(self._ask("sent"))
+        self.report = self._ask("report").splitlines()
+
+    # ---- the engine ----
+
+    # What an event prints, line by line.
+    def _give(self, line):
         if monotonic() > self._until:
             raise TooMuch(f"a run may take {MOST_SECONDS} seconds")
         try:
-            return self._world.step(line).splitlines()
+            return self._ask(line).splitlines()
+        except engines.BadLine as error:
+            raise self._fault_of("\n".join([*self.lines, line])) from error
+
+    def _ask(self, line):
+        if self._world is None:
+            raise TooMuch("this run has ended: run another schedule")
+        try:
+            return self._world.step(line)
         except engines.Over as error:
+            self._is_over = True
             raise TooMuch("the messages passed their limit") from error
 
     def _start_clock(self):
         self._until = monotonic() + MOST_SECONDS
 
-    # The text is malformed, so nothing of it is run.
+    # Why the engine has refused the last line of a text. The text is malformed, so nothing of it is run; or else the line declares something.
     def _fault_of(self, text):
         status, said = self._engine.run(text)
-        assert status == engines.MALFORMED, f"the engine takes the text that it has refused ({status})"
+        if status != engines.MALFORMED:
+            return Fault(text.count("\n") + 1, "no event")
         place, cause = said.strip().split(": ", 1)
         return Fault(int(place.removeprefix("line ")), cause)
 

@@ -10,6 +10,7 @@ from threading import BoundedSemaphore, Thread
 from time import monotonic
 from traceback import print_exc
 
+from pictures import STYLE
 from run import Fault, TooMuch
 from worlds import BadRequest, NoWorld, TooManyWorlds, Worlds
 
@@ -28,6 +29,9 @@ _KINDS = {".html": "text/html; charset=utf-8", ".css": "text/css; charset=utf-8"
 
 #: The files that are given out, by the path behind the token.
 FILES = {"": HERE / "index.html", **{path.name: path for path in HERE.iterdir() if path.suffix in (".css", ".js", ".svg")}}
+
+#: The style of pictures, which is no file: the drawing code has it.
+PICTURE_STYLE = "picture.css"
 
 _HEADERS = {
     "Content-Security-Policy": "default-src 'none'; script-src 'self'; style-src 'self'; connect-src 'self'; img-src 'self'; "
@@ -156,6 +160,8 @@ class _Handler(BaseHTTPRequestHandler):
     def _get(self, owner, path):
         if path == "stories":
             return HTTPStatus.OK, "application/json", _json(owner.worlds.stories())
+        if path == PICTURE_STYLE:
+            return HTTPStatus.OK, _KINDS[".css"], STYLE.encode()
         file = FILES.get(path)
         if file is None:
             raise Refusal(HTTPStatus.NOT_FOUND, "no such page")

@@ -12,17 +12,17 @@ _LISTS = ("order", "committed", "open")
 
 def state_of(run):
     """All that the page shows of a run."""
-    report = report_of(run.report())
+    tally = run.tally
     return {
         "schedule": run.text,
         "lines": run.lines,
         "items": [{"name": name, "site": site, "first": value} for name, site, value in run.items],
-        "sites": [{"number": number, "up": up, "armed": run.armed[number]} for number, up in enumerate(run.up)],
-        "moments": run.moments,
-        "messages": run.messages,
-        "fresh": run.fresh,
-        "programs": run.programs,
-        "report": report,
+        "sites": [{"number": number, "up": up, "armed": tally.armed[number]} for number, up in enumerate(tally.up)],
+        "moments": [moment.told for moment in run.moments],
+        "messages": tally.messages,
+        "fresh": tally.fresh,
+        "programs": tally.programs,
+        "report": report_of(run.report),
     }
 
 
@@ -55,12 +55,12 @@ def _case_of(text):
 
 def theorem_of(engine, run, switched_on):
     """The serial run where the committed transactions and those that are switched on commit: its values and replies, beside what was shown and printed."""
-    report = report_of(run.report())
+    report = report_of(run.report)
     chosen = set(report["committed"]) | (set(switched_on) & set(report["open"]))
     order = [transaction for transaction in report["order"] if transaction in chosen]
-    values, answers = serial_of(engine, run.items, [run.programs[transaction] for transaction in order])
+    values, answers = serial_of(engine, run.items, [run.tally.programs[transaction] for transaction in order])
     met = {name: value_met(shown["cases"], chosen) for name, shown in report["items"].items() if "cases" in shown}
-    replies = [{"transaction": name, "serial": reply, "printed": run.replies.get(name)} for name, reply in zip(order, answers)]
+    replies = [{"transaction": name, "serial": reply, "printed": run.tally.replies.get(name)} for name, reply in zip(order, answers)]
     return {
         "commit": order,
         "items": {name: {"serial": values[name], "shown": met.get(name)} for name in values},
@@ -72,7 +72,7 @@ def theorem_of(engine, run, switched_on):
 
 def choices_of(engine, run):
     """How many choices there are for the open transactions, how many of them were tried, and in how many all agrees."""
-    open_ones = report_of(run.report())["open"]
+    open_ones = report_of(run.report)["open"]
     tried = [choice for size in range(len(open_ones) + 1) for choice in islice(combinations(open_ones, size), MOST_CHOICES)][:MOST_CHOICES]
     agree = sum(theorem_of(engine, run, choice)["agree"] for choice in tried)
     return {"choices": 2 ** len(open_ones), "tried": len(tried), "agree": agree}

@@ -1,20 +1,38 @@
 // The messages: those under way, to be delivered, lost or kept, and those that are done, to be delivered once more.
 
-import { button, element, part } from "./elements.js";
+import { button, element, keepChildren, part } from "./elements.js";
 import { doingOf, messageInWords } from "./words.js";
 
 /** Shows the messages. `kept` are the numbers of those that the person keeps back; `run` runs lines. */
 export function showMessages(state, kept, run, toggle) {
-  const fresh = new Set(state.fresh);
-  const done = state.messages.filter((message) => !fresh.has(message.number));
-  part("messages-none").hidden = fresh.size > 0;
-  part("fresh-messages").replaceChildren(...state.fresh.map((number) => freshEntry(state.messages[number], kept.has(number), run, toggle)));
-  part("done-messages").replaceChildren(...done.reverse().map((message) => doneEntry(message, run)));
-  part("done-count").textContent = String(done.length);
-  const free = state.fresh.filter((number) => !kept.has(number));
-  part("deliver-next").disabled = free.length === 0;
-  part("deliver-all").disabled = free.length === 0;
+  const fresh = state.fresh.map((number) => state.messages[number]);
+  part("messages-none").hidden = fresh.length > 0;
+  const texts = fresh.map((message) => `${textOf(message)} ${kept.has(message.number)}`);
+  keepChildren(part("fresh-messages"), texts, (place) => freshEntry(fresh[place], kept.has(fresh[place].number), run, toggle));
+  part("done-count").textContent = String(state.messages.length - fresh.length);
+  showDone = () => showDoneOf(state, run);
+  showDone();
+  const isNoneFree = fresh.every((message) => kept.has(message.number));
+  part("deliver-next").disabled = isNoneFree;
+  part("deliver-all").disabled = isNoneFree;
 }
+
+let showDone = () => {};
+
+/** Shows the messages that are done once a person opens their list. */
+export function watchDone() {
+  part("done").addEventListener("toggle", () => showDone());
+}
+
+// The newest stand first. A long list is made only for who opens it.
+function showDoneOf(state, run) {
+  if (!part("done").open) return;
+  const fresh = new Set(state.fresh);
+  const done = state.messages.filter((message) => !fresh.has(message.number)).reverse();
+  keepChildren(part("done-messages"), done.map(textOf), (place) => doneEntry(done[place], run));
+}
+
+const textOf = (message) => `${message.number} ${message.from} ${message.to} ${message.kind} ${message.transaction}`;
 
 function freshEntry(message, isKept, run, toggle) {
   const number = message.number;

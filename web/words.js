@@ -30,11 +30,12 @@ export function momentInWords(moment, messages) {
 
 function actInWords(moment, messages) {
   const message = messages[moment.message];
+  const again = moment.again ? " again" : "";
   switch (moment.act) {
     case "deliver":
-      return message ? `${messageInWords(message)} is delivered` : "there is no such message";
+      return message ? `${messageInWords(message)} is delivered${again}` : "there is no such message";
     case "lose":
-      return message ? `${messageInWords(message)} is lost` : "there is no such message";
+      return message ? `${messageInWords(message)} is lost${again}` : "there is no such message";
     case "drop":
       return `messages to site ${moment.site} are lost: ${moment.lost.join(", ") || "none"}`;
     case "pump":

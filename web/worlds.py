@@ -4,6 +4,7 @@ import secrets
 from threading import Lock
 from time import monotonic
 
+from pictures import CHARACTERS, picture_of
 from run import Run
 from state import choices_of, state_of, theorem_of
 from stories import read_stories
@@ -98,6 +99,9 @@ class Worlds:
     def _choices(self, _, run, __):
         return choices_of(self._engine, run)
 
+    def _picture(self, _, run, call):
+        return picture_of(run, *_view_of(call))
+
     def _close(self, name, *_):
         self._drop(name)
         return {}
@@ -117,6 +121,7 @@ _VERBS = {
     "schedule": Worlds._replace,
     "theorem": Worlds._theorem,
     "choices": Worlds._choices,
+    "picture": Worlds._picture,
     "close": Worlds._close,
 }
 
@@ -151,6 +156,14 @@ def _count_of(call):
     if type(count) is not int or not 1 <= count <= 1000:
         raise BadRequest("a count is needed")
     return count
+
+
+# Which events a page wants to see, and how many characters of each.
+def _view_of(call):
+    last, characters = call.get("last"), call.get("characters")
+    if last is not None and type(last) is not int or type(characters) is not int or characters not in CHARACTERS:
+        raise BadRequest("the number of an event, and of characters, is needed")
+    return last, characters
 
 
 # Whether a text has bytes: JSON may hold halves of pairs that none have.

@@ -90,10 +90,11 @@ class Life:
 
 @dataclass
 class Picture:
-    """A picture: blocks in order, and what lies between them."""
+    """A picture: blocks in order, what lies between them, and how many characters of a text on the left are shown."""
 
     sites: int
     blocks: list
+    characters: int = LEFT_CHARACTERS
     arrows: list = field(default_factory=list)
     bars: list = field(default_factory=list)
     lives: list = field(default_factory=list)
@@ -268,7 +269,7 @@ def column_places(picture):
             labels[step.site] = max(labels[step.site], len(shortened(step.label, LABEL_CHARACTERS)))
         for site, rows in block.report.items():
             labels[site] = max(labels[site], *(len(shortened(text, LABEL_CHARACTERS)) for text, _ in rows))
-    texts = [len(shortened(text, LEFT_CHARACTERS)) for block in picture.blocks for text in block.texts]
+    texts = [len(shortened(text, picture.characters)) for block in picture.blocks for text in block.texts]
     x = picture.left = GUTTER + max(texts, default=8) * CHARACTER + 20
     for site in range(picture.sites):
         line = x + lanes[site] * LANE + LOOP
@@ -405,12 +406,12 @@ def stub(picture, message, y):
     return Arrow((x, y), (x + length, y + 10), "waiting", f"{arrow_title(message)}, no end of it is drawn", message.number)
 
 
-def draw(trace, first, last):
-    """The picture of the events from the first to the last of these numbers."""
+def draw(trace, first, last, characters=LEFT_CHARACTERS):
+    """The picture of the events from the first to the last of these numbers, with so many characters of each text on the left."""
     teller = Teller(trace)
     blocks = [teller.block(number, part) for number, part in enumerate(trace.parts, 1)]
     before, shown = blocks[: first - 1], blocks[first - 1 : last]
-    picture = Picture(trace.schedule.sites, shown)
+    picture = Picture(trace.schedule.sites, shown, characters)
     picture.height = place_blocks(shown)
     picture.bars = bars_of(before, shown, picture.sites, trace.schedule.items, picture.height)
     picture.lives = lives_of(before, shown, picture.sites, picture.height)

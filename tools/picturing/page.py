@@ -2,7 +2,7 @@
 from html import escape
 from textwrap import wrap
 
-from .layout import CHARACTER, GUTTER, LABEL_CHARACTERS, LABEL_GAP, LANE, LEFT_CHARACTERS, ROW, SMALL_CHARACTER, shortened
+from .layout import CHARACTER, GUTTER, LABEL_CHARACTERS, LABEL_GAP, LANE, ROW, SMALL_CHARACTER, shortened
 
 HEAD = 30
 CROSS_GAP = 8
@@ -10,12 +10,15 @@ REPEAT = 600
 NOTE_CHARACTERS = 100
 FONT = "ui-monospace, 'DejaVu Sans Mono', Menlo, Consolas, monospace"
 
-STYLE = """
-:root { color-scheme: light dark; --paper: #fff; --ink: #1c2430; --faint: #5a6675; --rule: #e3e7ec; --hover: #eef4fb; --focus: #1463b8;
+COLOURS = """
+ROOT { color-scheme: light dark; --paper: #fff; --ink: #1c2430; --faint: #5a6675; --rule: #e3e7ec; --hover: #eef4fb; --focus: #1463b8;
   --message: #2f6db5; --good: #1b7a3d; --bad: #b3261e; --held: #ffd98a; --held-ink: #5b3d00; --doubt: #d9cdf7; --doubt-ink: #4a2a99; }
-@media (prefers-color-scheme: dark) { :root {
+@media (prefers-color-scheme: dark) { ROOT {
   --paper: #14181e; --ink: #e4e9f0; --faint: #9aa7b6; --rule: #29313b; --hover: #1d2732; --focus: #7db8f5;
   --message: #7fb2ee; --good: #6fd08f; --bad: #ff8f84; --held: #5e4714; --held-ink: #ffdf9e; --doubt: #3d2f6b; --doubt-ink: #d3c4ff; } }
+"""
+
+RULES = """
 svg.picture { background: var(--paper); font: 11px FONT; }
 svg.picture text { fill: var(--ink); white-space: pre; }
 svg.picture .faint { fill: var(--faint); }
@@ -49,6 +52,13 @@ svg.picture .mark.open { fill: var(--paper); stroke: var(--ink); stroke-width: 1
 svg.picture .cross { stroke: var(--bad); stroke-width: 2px; fill: none; }
 svg.picture .tip { fill: var(--message); }
 """.replace("FONT", FONT)
+
+
+
+def style_of(root=":root"):
+    """The style of pictures. The colours are named at this element, so that a page around it may use such names for others."""
+    return COLOURS.replace("ROOT", root) + RULES
+
 
 PAGE_STYLE = """
 * { box-sizing: border-box; }
@@ -125,7 +135,7 @@ def event_element(picture, block, place):
     parts.append(tag("rect", x=1, y=block.y, width=picture.width - 2, height=block.height, class_="ground"))
     parts.append(text_at(GUTTER - 10, block.row(0), str(block.number), "faint", text_anchor="end"))
     for row, text in enumerate(block.texts):
-        parts.append(text_at(GUTTER, block.row(row), shortened(text, LEFT_CHARACTERS), "plain" if row == 0 else "faint"))
+        parts.append(text_at(GUTTER, block.row(row), shortened(text, picture.characters), "plain" if row == 0 else "faint"))
     style = "event even" if place % 2 else "event"
     choice = {"tabindex": 0, "role": "button", "data_number": block.number, "aria_label": block.part.event.text}
     return tag("g", "".join(parts), class_=style, **choice)
@@ -264,9 +274,15 @@ def svg_of(picture, name, notes):
     width = max(picture.width, *(len(row) * CHARACTER + 2 * GUTTER for row in written))
     height = HEAD + picture.height + ROW * (len(written) + 2)
     rows = [text_at(GUTTER, HEAD + picture.height + ROW * (place + 1), row, "faint") for place, row in enumerate(written)]
-    content = [titled(name), tag("desc", escape(" ".join(notes))), tag("style", STYLE), head_of(picture, HEAD / 2)]
+    content = [titled(name), tag("desc", escape(" ".join(notes))), tag("style", style_of()), head_of(picture, HEAD / 2)]
     content += [tag("g", body_of(picture), transform=f"translate(0 {HEAD})"), *rows]
     return svg_tag("\n".join(content), width, height) + "\n"
+
+
+def pieces_of(picture):
+    """The head and the rest of a picture, as two SVG elements for a page that has `style_of`: the head can stay while the rest goes by."""
+    head = svg_tag(head_of(picture, HEAD / 2), picture.width, HEAD).replace('class="picture"', 'class="picture head"')
+    return head, svg_tag(body_of(picture), picture.width, picture.height, role="group", aria_label="the run, time downwards")
 
 
 # The page.
@@ -312,16 +328,14 @@ def list_of_lines(picture, headers):
 
 def html_of(picture, name, notes, headers):
     """The picture as one page of HTML."""
-    head = svg_tag(head_of(picture, HEAD / 2), picture.width, HEAD).replace('class="picture"', 'class="picture head"')
-    body = svg_tag(body_of(picture), picture.width, picture.height, role="group", aria_label="the run, time downwards")
-    canvas = tag("div", head + body, class_="canvas")
+    canvas = tag("div", "".join(pieces_of(picture)), class_="canvas")
     aside = tag("h2", "An event", id="chosen") + tag("pre", INVITATION, id="chosen-lines")
     return "\n".join(
         [
             '<!DOCTYPE html>\n<html lang="en">\n<head>\n<meta charset="utf-8">',
             '<meta name="viewport" content="width=device-width, initial-scale=1">',
             tag("title", escape(name)),
-            tag("style", STYLE + PAGE_STYLE),
+            tag("style", style_of() + PAGE_STYLE),
             "</head>\n<body>",
             tag("header", tag("h1", escape(name)) + "".join(tag("p", escape(note)) for note in notes) + key_of()),
             tag("main", canvas + tag("aside", aside, aria_live="polite")),
