@@ -121,8 +121,8 @@ class Browser:
         self.call("Emulation.setEmulatedMedia", {"features": [scheme]})
 
     def press(self, key, code=None):
-        """Presses a key: `Tab`, `Enter` or ` `."""
-        words = {"key": key, "code": code or key, "windowsVirtualKeyCode": {"Tab": 9, "Enter": 13, " ": 32}[key]}
+        """Presses a key: `Tab`, `Enter`, ` `, `ArrowUp` or `ArrowDown`."""
+        words = {"key": key, "code": code or key, "windowsVirtualKeyCode": {"Tab": 9, "Enter": 13, " ": 32, "ArrowUp": 38, "ArrowDown": 40}[key]}
         text = {"Enter": "\r", " ": " "}.get(key)
         self.call("Input.dispatchKeyEvent", {"type": "keyDown", **words, **({"text": text} if text else {})})
         self.call("Input.dispatchKeyEvent", {"type": "keyUp", **words})

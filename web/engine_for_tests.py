@@ -15,13 +15,19 @@ MARKED = "no message 18446744073709551615\n"
 ROOT = Path(__file__).resolve().parent.parent
 
 
+def find_program():
+    """The program `polydb`: the one that POLYDB_PROGRAM names, or the one that was built, or none."""
+    program = Path(os.environ.get("POLYDB_PROGRAM", ROOT / "crates" / "pv_app" / "out" / "pv_app"))
+    return program if program.exists() else None
+
+
 def find_engine():
     """The engine and its name, or none where there is neither."""
     try:
         return engine.LibraryEngine(), "the library"
     except ImportError:
-        program = Path(os.environ.get("POLYDB_PROGRAM", ROOT / "crates" / "pv_app" / "out" / "pv_app"))
-        if program.exists():
+        program = find_program()
+        if program:
             return ProgramEngine(program), f"the program {program.name}, as there is no library"
         return None, "left out: neither the library nor the program is built"
 

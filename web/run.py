@@ -81,6 +81,7 @@ class Run:
 
     def append(self, lines):
         """Runs more lines. Where one can't be run, the run is as it was before all of them, and Fault or TooMuch is raised."""
+        self._check_world()
         count, moments = len(self.lines), len(self.moments)
         self._start_clock()
         try:
@@ -93,9 +94,9 @@ class Run:
 
     def undo(self, count):
         """The run without its last events, this many, and what stands behind the first of them."""
+        self._check_world()
         events = [place for place, line in enumerate(self.lines) if _is_event(line)]
         if events:
-            self._start_clock()
             self._go_back(events[max(len(events) - count, 0)])
 
     @property
@@ -163,6 +164,7 @@ class Run:
     def _go_back(self, place):
         lines, moments = self.lines[:place], [moment for moment in self.moments if moment.place < place]
         self.close()
+        self._start_clock()
         self._open(lines[: self._declared])
         try:
             for moment in moments:
@@ -188,13 +190,15 @@ class Run:
             raise self._fault_of("\n".join([*self.lines, line])) from error
 
     def _ask(self, line):
-        if self._world is None:
-            raise TooMuch("this run has ended: run another schedule")
         try:
             return self._world.step(line)
         except engines.Over as error:
             self._is_over = True
             raise TooMuch("the messages passed their limit") from error
+
+    def _check_world(self):
+        if self._world is None:
+            raise TooMuch("this run has ended: run another schedule")
 
     def _start_clock(self):
         self._until = monotonic() + MOST_SECONDS
