@@ -30,17 +30,20 @@ function post(path, call) {
 /** All stories. */
 export const readStories = () => answerOf("stories");
 
+// The next four answer all that the page shows of a run. `view` says how: `characters` is how many of each event's line the picture has room for, and `commit`
+// which open transactions are switched on.
+
 /** A new world that has run a schedule. */
-export const openWorld = (schedule) => post("worlds", { schedule });
+export const openWorld = (schedule, view) => post("worlds", { schedule, ...view });
 
 /** The world after more lines. */
-export const appendLines = (world, lines) => post(`worlds/${world}/lines`, { lines });
+export const appendLines = (world, lines, view) => post(`worlds/${world}/lines`, { lines, ...view });
 
 /** The world without its last lines that are events, this many. */
-export const undoLines = (world, count) => post(`worlds/${world}/undo`, { count });
+export const undoLines = (world, count, view) => post(`worlds/${world}/undo`, { count, ...view });
 
 /** The world after another schedule. */
-export const replaceSchedule = (world, schedule) => post(`worlds/${world}/schedule`, { schedule });
+export const replaceSchedule = (world, schedule, view) => post(`worlds/${world}/schedule`, { schedule, ...view });
 
 /** What the serial run gives where these open transactions commit. */
 export const askTheorem = (world, commit) => post(`worlds/${world}/theorem`, { commit });
@@ -48,7 +51,7 @@ export const askTheorem = (world, commit) => post(`worlds/${world}/theorem`, { c
 /** How many choices of the open transactions there are, and in how many all agrees. */
 export const tryChoices = (world) => post(`worlds/${world}/choices`, {});
 
-/** The picture of the newest events, or of those up to a number, with so many characters of each event's line. */
+/** The picture of the events up to a number, with so many characters of each event's line. */
 export const askPicture = (world, last, characters) => post(`worlds/${world}/picture`, { last, characters });
 
 /** Tells the server that the page goes away. */

@@ -3,11 +3,11 @@
 import { appendLines, closeWorld, openWorld, readStories, replaceSchedule, undoLines } from "./client.js";
 import { element, keepingFocus, part } from "./elements.js";
 import { showMessages, watchDone } from "./view-messages.js";
-import { showPicture, watchPicture } from "./view-picture.js";
-import { copy, sharedSchedule, showFault, showSchedule } from "./view-schedule.js";
+import { charactersShown, showPicture, watchPicture } from "./view-picture.js";
+import { copy, share, sharedSchedule, showFault, showSchedule } from "./view-schedule.js";
 import { showSites, watchFaults } from "./view-sites.js";
 import { fillStories, showStory, stepsDone } from "./view-story.js";
-import { showChoices, showTheorem } from "./view-theorem.js";
+import { showChoices, showTheorem, switchedOn } from "./view-theorem.js";
 import { momentInWords } from "./words.js";
 
 let stories = [];
@@ -15,6 +15,7 @@ let state = null;
 const kept = new Set();
 
 const story = () => stories[Number(part("story-choice").value)];
+const view = () => ({ characters: charactersShown(), commit: switchedOn() });
 const trouble = (refusal) => (part("trouble").textContent = refusal.message);
 const say = (text) => (part("said").textContent = text);
 
@@ -26,7 +27,6 @@ function show(next) {
   for (const number of [...kept]) if (!state.fresh.includes(number)) kept.delete(number);
   part("trouble").textContent = "";
   part("request-fault").replaceChildren();
-  const asked = [];
   keepingFocus(() => {
     showStory(story(), state);
     showMessages(state, kept, run, toggleKept);
@@ -34,10 +34,10 @@ function show(next) {
     showSchedule(state);
     showExample();
     part("undo").disabled = state.moments.length === 0;
-    asked.push(showPicture(state, trouble), showTheorem(state, trouble));
+    showTheorem(state, trouble);
+    showPicture(state);
   });
   say(state.moments.slice(before).slice(-3).map((moment) => momentInWords(moment, state.messages)).join(" "));
-  return Promise.all(asked);
 }
 
 function toggleKept(number) {
@@ -54,7 +54,7 @@ async function once(call, refused = trouble) {
   isBusy = true;
   document.body.setAttribute("aria-busy", "true");
   try {
-    await show(await call());
+    show(await call());
   } catch (refusal) {
     refused(refusal);
   }
@@ -63,12 +63,12 @@ async function once(call, refused = trouble) {
 }
 
 function run(lines, refused) {
-  return once(() => appendLines(state.world, lines), refused);
+  return once(() => appendLines(state.world, lines, view()), refused);
 }
 
 /** Runs a schedule in the page's world, or in a first one. */
 function load(schedule, refused) {
-  return once(() => (state ? replaceSchedule(state.world, schedule) : openWorld(schedule)), refused);
+  return once(() => (state ? replaceSchedule(state.world, schedule, view()) : openWorld(schedule, view())), refused);
 }
 
 // ---- messages ----
@@ -109,7 +109,7 @@ function toTheEnd() {
 
 function stepBack() {
   const done = stepsDone(story(), state.lines);
-  if (done > 0) once(() => undoLines(state.world, story().steps[done - 1].lines.length));
+  if (done > 0) once(() => undoLines(state.world, story().steps[done - 1].lines.length, view()));
 }
 
 // ---- requests ----
@@ -150,11 +150,11 @@ function wire() {
     "story-back": stepBack,
     "deliver-next": deliverNext,
     "deliver-all": deliverAll,
-    undo: () => once(() => undoLines(state.world, 1)),
+    undo: () => once(() => undoLines(state.world, 1, view())),
     "theorem-choices": () => showChoices(state, trouble),
     "schedule-run": () => load(part("schedule-text").value, showFault),
     "schedule-copy": () => copy(part("schedule-text").value, say),
-    "address-copy": () => copy(location.href, say),
+    "address-copy": () => copy(share(), say),
   };
   for (const [name, act] of Object.entries(clicks)) part(name).addEventListener("click", act);
   part("story-choice").addEventListener("change", beginStory);

@@ -11,19 +11,19 @@ _TOOLS = str(Path(__file__).resolve().parent.parent / "tools")
 if _TOOLS not in sys.path:
     sys.path.append(_TOOLS)
 
-from picturing.layout import draw
+from picturing.layout import Start, draw_from
 from picturing.page import pieces_of, style_of
 from picturing.protocol import Delivery, Happening, Message, is_unsettled
 from picturing.schedule import Event, Item, Schedule
 from picturing.trace import Part, Trace
 
-__all__ = ["STYLE", "is_unsettled", "picture_of", "trace_of"]
+__all__ = ["STYLE", "drawn", "is_unsettled", "picture_of"]
 
 #: The style of pictures in the page, whose colours are set at the element that holds them.
 STYLE = style_of("#drawing")
 
 #: How many events a picture shows at most: the rest is drawn when it is asked for.
-MOST_DRAWN = 50
+MOST_DRAWN = 40
 #: Of how many characters of an event's text a page has the choice: at the least of its word, at the most of all.
 CHARACTERS = range(8, 47)
 
@@ -32,20 +32,37 @@ _OF_A_SITE = ("submit", "query", "drop", "tick", "stop", "start", "cut", "fail",
 
 def picture_of(run, last, characters):
     """The picture of the newest events of a run, or of those up to a number: its head and the rest, and which events it shows of how many."""
-    trace = trace_of(run)
-    count = len(trace.parts)
-    last = count if last is None else min(max(last, MOST_DRAWN), count)
+    events = [list(moments) for _, moments in groupby(run.moments, lambda moment: moment.place)]
+    last = len(events) if last is None else min(max(last, MOST_DRAWN), len(events))
     first = max(1, last - MOST_DRAWN + 1)
-    head, body = pieces_of(draw(trace, first, last, characters))
-    return {"first": first, "last": last, "count": count, "head": head, "body": body}
+    head, body = pieces_of(drawn(run, events, first, last, characters))
+    return {"first": first, "last": last, "count": len(events), "head": head, "body": body}
 
 
-def trace_of(run):
-    """A run as the drawing code takes it."""
+def drawn(run, events, first, last, characters):
+    """The drawing of the events from the first to the last of these numbers. Each event is the list of its moments."""
     messages = [Message(it["kind"], it["from"], it["to"], it["transaction"], number=it["number"]) for it in run.tally.messages]
     schedule = Schedule(len(run.tally.up), items={name: Item(name, site, value) for name, site, value in run.items})
-    parts = [_part_of(run.lines[place], list(moments), messages) for place, moments in groupby(run.moments, lambda moment: moment.place)]
-    return Trace(schedule, [], parts)
+    parts = [_part_of(run.lines[moments[0].place], moments, messages) for moments in events[first - 1 : last]]
+    return draw_from(_start_after(events[: first - 1], run.tally.messages), Trace(schedule, [], parts), first, characters)
+
+
+# What stands after these events. Of an event that is about a site, what its moment says of the site's items stands until the next one.
+def _start_after(events, messages):
+    start = Start()
+    for moment in (moment for moments in events for moment in moments):
+        told = moment.told
+        if "message" in told:
+            start.unsettled[messages[told["message"]]["to"]] = moment.unsettled
+            start.greatest = max(start.greatest, told["message"] if told["act"] == "deliver" else -1)
+        elif "site" in told:
+            start.unsettled[told["site"]] = moment.unsettled
+        for word, site in (line.split()[:2] for line in told["printed"] if line.startswith(_TURNS)):
+            (start.down.discard if word in ("started", "up") else start.down.add)(int(site))
+    return start
+
+
+_TURNS = ("stopped ", "fault ", "started ", "down ", "up ")
 
 
 # An event with what it printed and what it came to: of a `pump` that is all of its deliveries.

@@ -1,26 +1,31 @@
 // The picture of the run, which the server draws, and the same in words.
 
 import { askPicture } from "./client.js";
-import { element, keepChildren, part } from "./elements.js";
+import { element, keepChildren, keepingFocus, part } from "./elements.js";
 import { momentInWords } from "./words.js";
 
-/** Below this width there is room for an event's first word alone. */
-const NARROW = 480;
+// On a small screen there is room for an event's first word alone.
+const small = matchMedia("(max-width: 34rem)");
 
 let shown = null;
+let drawn = null;
 let asked = 0;
 
-/** Shows the newest events of a run. `trouble` says what the server has refused. */
-export async function showPicture(state, trouble) {
+/** How many characters of each event's line the picture has room for. */
+export const charactersShown = () => (small.matches ? 8 : 16);
+
+/** Shows the newest events of a run. */
+export function showPicture(state) {
   shown = state;
-  showWords();
-  await drawUpTo(null, trouble);
+  asked++;
+  part("picture").removeAttribute("aria-busy");
+  showAnswer(state.picture);
 }
 
-/** Lets a person look at earlier events, and choose one by pointer or by the arrow keys. */
+/** Lets a person look at earlier events, and choose one by pointer or by the arrow keys. `trouble` says what the server has refused. */
 export function watchPicture(trouble) {
-  part("picture-earlier").addEventListener("click", () => drawUpTo(Number(part("picture").dataset.before), trouble));
-  part("picture-later").addEventListener("click", () => drawUpTo(Number(part("picture").dataset.next), trouble));
+  part("picture-earlier").addEventListener("click", () => drawUpTo(drawn.first - 1, trouble));
+  part("picture-later").addEventListener("click", () => drawUpTo(2 * drawn.last - drawn.first + 1, trouble));
   part("words").addEventListener("toggle", showWords);
   const drawing = part("drawing");
   drawing.addEventListener("click", (event) => event.target.closest(".event")?.focus());
@@ -28,13 +33,13 @@ export function watchPicture(trouble) {
   drawing.addEventListener("keydown", step);
 }
 
-// The picture up to an event, or up to the newest. Of several that are asked for, the last one is shown.
+// The picture up to an event. Of several that are asked for, the last one is shown.
 async function drawUpTo(last, trouble) {
   const turn = ++asked;
   part("picture").setAttribute("aria-busy", "true");
   try {
-    const picture = await askPicture(shown.world, last, part("drawing").clientWidth < NARROW ? 8 : 16);
-    if (turn === asked) showAnswer(picture);
+    const picture = await askPicture(shown.world, last, charactersShown());
+    if (turn === asked) keepingFocus(() => showAnswer(picture));
   } catch (refusal) {
     if (turn === asked) trouble(refusal);
   }
@@ -42,6 +47,9 @@ async function drawUpTo(last, trouble) {
 }
 
 function showAnswer(picture) {
+  drawn = picture;
+  showSpan();
+  showWords();
   const place = part("drawing");
   const focused = place.contains(document.activeElement) ? document.activeElement.dataset.number : undefined;
   place.replaceChildren(drawingOf(picture.head), drawingOf(picture.body));
@@ -49,17 +57,15 @@ function showAnswer(picture) {
   for (const event of events) event.setAttribute("tabindex", "-1");
   events.at(-1)?.setAttribute("tabindex", "0");
   place.scrollTop = place.scrollHeight;
-  showSpan(picture);
   part("event-lines").hidden = true;
   if (focused !== undefined) (events.find((event) => event.dataset.number === focused) ?? events.at(-1) ?? place).focus();
 }
 
-// The server's drawing has no style of its own, since the page's policy allows none.
-const drawingOf = (text) => document.importNode(new DOMParser().parseFromString(text, "image/svg+xml").documentElement, true);
+// The server's drawing has no style of its own, since the page's policy allows none. (As HTML it is parsed twice as fast as XML.)
+const drawingOf = (text) => new DOMParser().parseFromString(text, "text/html").body.firstElementChild;
 
-function showSpan({ first, last, count }) {
-  part("picture").dataset.before = String(first - 1);
-  part("picture").dataset.next = String(last + last - first + 1);
+function showSpan() {
+  const { first, last, count } = drawn;
   part("picture-span").textContent = count === 0 ? "No event yet." : `Events ${first} to ${last} of ${count}.`;
   part("picture-earlier").hidden = part("picture-later").hidden = first <= 1 && last >= count;
   part("picture-earlier").disabled = first <= 1;
@@ -90,9 +96,26 @@ function choose(event) {
 
 // ---- in words ----
 
-// A long list is made only for who opens it.
+// The events that are drawn, in words, for who opens the list.
 function showWords() {
-  if (!shown || !part("words").open) return;
-  const words = shown.moments.map((moment) => momentInWords(moment, shown.messages));
-  keepChildren(part("moments"), words, (place) => element("li", {}, words[place]));
+  if (!drawn || !part("words").open) return;
+  const moments = momentsOf(drawn);
+  const words = moments.map(({ number, moment }) => `${number} ${momentInWords(moment, shown.messages)}`);
+  keepChildren(part("moments"), words, (place) => {
+    const { number, moment } = moments[place];
+    return element("li", { value: number }, momentInWords(moment, shown.messages));
+  });
+}
+
+// The moments of some events, with the numbers of these: a `pump` has a moment for each message.
+function momentsOf({ first, last }) {
+  const found = [];
+  let number = 0;
+  let line = null;
+  for (const moment of shown.moments) {
+    if (moment.line !== line) number++;
+    line = moment.line;
+    if (number >= first && number <= last) found.push({ number, moment });
+  }
+  return found;
 }

@@ -5,13 +5,27 @@ import { part } from "./elements.js";
 /** The longest text that is put into the address. */
 const MOST_SHARED = 20000;
 
-/** Shows the schedule so far, and puts it into the address. */
+/** How long nothing has to change, in milliseconds, before the address is changed: with a long text that costs the browser as much as all else of a click. */
+const QUIET = 300;
+
+let shared = null;
+let waiting = 0;
+
+/** Shows the schedule so far, and puts it into the address soon. */
 export function showSchedule(state) {
   part("schedule-text").value = state.schedule;
   part("schedule-fault").textContent = "";
-  const fragment = state.schedule.length <= MOST_SHARED ? `#${encodeURIComponent(state.schedule)}` : "";
-  history.replaceState(null, "", location.pathname + fragment);
-  part("address-copy").disabled = fragment === "";
+  part("address-copy").disabled = state.schedule.length > MOST_SHARED;
+  shared = state.schedule;
+  clearTimeout(waiting);
+  waiting = setTimeout(share, QUIET);
+}
+
+/** Puts the schedule into the address now, and gives the address. */
+export function share() {
+  clearTimeout(waiting);
+  if (shared !== null) history.replaceState(null, "", location.pathname + (shared.length <= MOST_SHARED ? `#${encodeURIComponent(shared)}` : ""));
+  return location.href;
 }
 
 /** The schedule that the address holds, or nothing. */

@@ -1,21 +1,31 @@
 // What the theorem says, to be touched: a switch for each open transaction, and the values of a database of one thread.
 
-import { element, part } from "./elements.js";
+import { element, keepChildren, part } from "./elements.js";
 import { askTheorem, tryChoices } from "./client.js";
 import { shownInWords } from "./words.js";
 
 // The open transactions that are switched on.
-const switchedOn = new Set();
+const switched = new Set();
 let asked = 0;
 
+/** The open transactions that are switched on. */
+export const switchedOn = () => [...switched];
+
 /** Shows the switches and the comparison for a run. `trouble` says what the server has refused. */
-export async function showTheorem(state, trouble) {
-  const open = state.report.open;
-  for (const transaction of [...switchedOn]) if (!open.includes(transaction)) switchedOn.delete(transaction);
-  part("switch-list").replaceChildren(...state.report.committed.map(committedEntry), ...open.map((it) => switchOf(it, state, trouble)));
-  if (!part("switch-list").children.length) part("switch-list").append(element("p", { class: "note" }, "None has committed, and none may commit yet."));
+export function showTheorem(state, trouble) {
+  const { committed, open } = state.report;
+  for (const transaction of [...switched]) if (!open.includes(transaction)) switched.delete(transaction);
+  const switches = open.map((it) => switchOf(it, state, trouble));
+  part("switch-list").replaceChildren(element("p", { class: "note" }, committedInWords(committed, open)), ...switches);
   part("choices-said").textContent = "";
-  await compare(state, trouble);
+  asked++;
+  part("theorem").removeAttribute("aria-busy");
+  showAnswer(state, state.theorem);
+}
+
+function committedInWords(committed, open) {
+  if (committed.length) return `${committed.join(", ")} ${committed.length === 1 ? "has" : "have"} committed.`;
+  return open.length ? "None has committed yet." : "None has committed, and none may commit yet.";
 }
 
 /** Tries every choice of the open transactions, and says in how many all agrees. */
@@ -33,17 +43,13 @@ function choicesInWords({ choices, tried, agree }) {
   return choices === 1 ? `There is one choice: ${end}.` : `${tried} choices tried${rest}: ${end}.`;
 }
 
-function committedEntry(transaction) {
-  return element("p", { class: "switch" }, `${transaction} has committed`);
-}
-
 function switchOf(transaction, state, trouble) {
   const words = { type: "checkbox", role: "switch", id: `commits-${transaction}`, "data-key": `commits-${transaction}`, "data-group": "commits" };
   const made = element("input", words);
-  made.checked = switchedOn.has(transaction);
+  made.checked = switched.has(transaction);
   made.addEventListener("change", () => {
-    if (made.checked) switchedOn.add(transaction);
-    else switchedOn.delete(transaction);
+    if (made.checked) switched.add(transaction);
+    else switched.delete(transaction);
     compare(state, trouble);
   });
   const program = state.programs[transaction]?.program ?? "";
@@ -54,7 +60,7 @@ async function compare(state, trouble) {
   const turn = ++asked;
   part("theorem").setAttribute("aria-busy", "true");
   try {
-    const answer = await askTheorem(state.world, [...switchedOn]);
+    const answer = await askTheorem(state.world, switchedOn());
     if (turn === asked) showAnswer(state, answer);
   } catch (refusal) {
     if (turn === asked) trouble(refusal);
@@ -66,7 +72,8 @@ function showAnswer(state, answer) {
   const order = answer.commit.length ? `One thread runs ${answer.commit.join(", then ")}.` : "One thread runs nothing.";
   part("theorem-order").textContent = order;
   part("theorem-items").replaceChildren(...state.items.map((item) => rowOf(item.name, state.report.items[item.name], answer.items[item.name])));
-  part("theorem-replies").replaceChildren(...answer.replies.filter((reply) => reply.printed).map(replyEntry));
+  const replies = answer.replies.filter((reply) => reply.printed).map(replyInWords);
+  keepChildren(part("theorem-replies"), replies, (place) => element("li", {}, replies[place]));
   part("theorem-verdict").textContent = verdictOf(answer);
   part("theorem-verdict").className = answer.agree ? "agree" : "differ";
 }
@@ -86,9 +93,9 @@ function rowOf(name, shown, value) {
 }
 
 // The reply of the serial run is one of those that were printed.
-function replyEntry(reply) {
+function replyInWords(reply) {
   const printed = reply.printed.length > 1 ? `one of ${reply.printed.join(", ")}` : reply.printed[0];
-  return element("li", {}, `${reply.transaction} answered ${printed}; one thread answers ${reply.serial}.`);
+  return `${reply.transaction} answered ${printed}; one thread answers ${reply.serial}.`;
 }
 
 function verdictOf(answer) {

@@ -53,7 +53,7 @@ class Worlds:
             raise BadRequest("an object is needed")
         with self._lock:
             if path == "worlds":
-                return self._open(_text_of(call, "schedule"))
+                return self._open(call)
             words = path.split("/")
             if len(words) != 3 or words[0] != "worlds" or words[2] not in _VERBS:
                 raise BadRequest("no such call")
@@ -69,29 +69,34 @@ class Worlds:
             for name in list(self._worlds):
                 self._drop(name)
 
-    def _open(self, text):
+    def _open(self, call):
         self._drop_idle()
         if len(self._worlds) >= MOST_WORLDS:
             raise TooManyWorlds(f"{MOST_WORLDS} worlds are open: close another page")
-        run = Run(self._engine, text)
+        run = Run(self._engine, _text_of(call, "schedule"))
         name = secrets.token_hex(8)
         self._worlds[name] = _Kept(run)
-        return _named(name, run)
+        return self._shown(name, run, call)
 
     def _append(self, name, run, call):
         run.append(_lines_of(call))
-        return _named(name, run)
+        return self._shown(name, run, call)
 
     def _undo(self, name, run, call):
         run.undo(_count_of(call))
-        return _named(name, run)
+        return self._shown(name, run, call)
 
     # Another schedule in the same world. Where it is faulty, the world stays as it is.
     def _replace(self, name, run, call):
         other = Run(self._engine, _text_of(call, "schedule"))
         run.close()
         self._worlds[name].run = other
-        return _named(name, other)
+        return self._shown(name, other, call)
+
+    # All that the page shows of a run, in one answer: the picture of its newest events and the comparison with the serial run among it.
+    def _shown(self, name, run, call):
+        picture = picture_of(run, None, _characters_of(call))
+        return {"world": name, **state_of(run), "picture": picture, "theorem": theorem_of(self._engine, run, _names_of(call))}
 
     def _theorem(self, _, run, call):
         return theorem_of(self._engine, run, _names_of(call))
@@ -100,7 +105,7 @@ class Worlds:
         return choices_of(self._engine, run)
 
     def _picture(self, _, run, call):
-        return picture_of(run, *_view_of(call))
+        return picture_of(run, _last_of(call), _characters_of(call))
 
     def _close(self, name, *_):
         self._drop(name)
@@ -126,10 +131,6 @@ _VERBS = {
 }
 
 
-def _named(name, run):
-    return {"world": name, **state_of(run)}
-
-
 def _text_of(call, key):
     text = call.get(key)
     if not isinstance(text, str) or not _is_whole(text):
@@ -144,8 +145,9 @@ def _lines_of(call):
     return lines
 
 
+# Which open transactions are switched on.
 def _names_of(call):
-    names = call.get("commit")
+    names = call.get("commit", [])
     if not isinstance(names, list) or not all(isinstance(name, str) for name in names):
         raise BadRequest("a list of transactions is needed")
     return names
@@ -158,12 +160,20 @@ def _count_of(call):
     return count
 
 
-# Which events a page wants to see, and how many characters of each.
-def _view_of(call):
-    last, characters = call.get("last"), call.get("characters")
-    if last is not None and type(last) is not int or type(characters) is not int or characters not in CHARACTERS:
-        raise BadRequest("the number of an event, and of characters, is needed")
-    return last, characters
+# The last event that a picture is to show.
+def _last_of(call):
+    last = call.get("last")
+    if type(last) is not int:
+        raise BadRequest("the number of an event is needed")
+    return last
+
+
+# How many characters of each event a picture has room for.
+def _characters_of(call):
+    characters = call.get("characters", CHARACTERS[-1])
+    if type(characters) is not int or characters not in CHARACTERS:
+        raise BadRequest(f"from {CHARACTERS[0]} to {CHARACTERS[-1]} characters are shown")
+    return characters
 
 
 # Whether a text has bytes: JSON may hold halves of pairs that none have.

@@ -89,6 +89,15 @@ class Life:
 
 
 @dataclass
+class Start:
+    """What stands where a picture begins: the items of each site that are held or in doubt, the sites that are down, and the greatest message that was delivered."""
+
+    unsettled: dict = field(default_factory=dict)
+    down: set = field(default_factory=set)
+    greatest: int = -1
+
+
+@dataclass
 class Picture:
     """A picture: blocks in order, what lies between them, and how many characters of a text on the left are shown."""
 
@@ -140,10 +149,10 @@ def message_text(message):
 class Teller:
     """Makes blocks of parts, in order: it remembers which messages have come, and which ones the trace tells."""
 
-    def __init__(self, trace):
+    def __init__(self, trace, greatest=-1):
         self.trace = trace
         self.sites = trace.schedule.sites
-        self.greatest = -1
+        self.greatest = greatest
         self.told = told_messages(trace)
 
     def block(self, number, part):
@@ -322,10 +331,10 @@ class Bars:
             self.at(site, {}, y)
 
 
-def bars_of(before, blocks, sites, items, height):
+def bars_of(start, blocks, sites, items, height):
     """The bars of the items that are held or in doubt, also from before the picture. Where the rules don't tell, they end with a report."""
     bars = Bars(sites, height)
-    for site, unsettled in unsettled_after(before).items():
+    for site, unsettled in start.unsettled.items():
         bars.at(site, unsettled, 0.0)
     for block in blocks:
         if block.part.happening is None:
@@ -355,11 +364,9 @@ def turns_of(blocks):
                 yield step.site, word in ("started", "up"), block.row(place)
 
 
-def lives_of(before, blocks, sites, height):
+def lives_of(start, blocks, sites, height):
     """The stretches in which each site is up or down, as the printed lines say, also those before the picture."""
-    lives, since = [], [(0.0, True)] * sites
-    for site, is_up, _ in turns_of(before):
-        since[site] = (0.0, is_up)
+    lives, since = [], [(0.0, site not in start.down) for site in range(sites)]
     for site, is_up, y in turns_of(blocks):
         top, was_up = since[site]
         if is_up != was_up:
@@ -406,15 +413,32 @@ def stub(picture, message, y):
     return Arrow((x, y), (x + length, y + 10), "waiting", f"{arrow_title(message)}, no end of it is drawn", message.number)
 
 
-def draw(trace, first, last, characters=LEFT_CHARACTERS):
-    """The picture of the events from the first to the last of these numbers, with so many characters of each text on the left."""
-    teller = Teller(trace)
-    blocks = [teller.block(number, part) for number, part in enumerate(trace.parts, 1)]
-    before, shown = blocks[: first - 1], blocks[first - 1 : last]
-    picture = Picture(trace.schedule.sites, shown, characters)
-    picture.height = place_blocks(shown)
-    picture.bars = bars_of(before, shown, picture.sites, trace.schedule.items, picture.height)
-    picture.lives = lives_of(before, shown, picture.sites, picture.height)
+def start_after(blocks):
+    """What stands after these blocks."""
+    is_up = {site: is_up for site, is_up, _ in turns_of(blocks)}
+    return Start(unsettled_after(blocks), {site for site in is_up if not is_up[site]})
+
+
+def placed(schedule, start, blocks, characters):
+    """The picture of these blocks, where so much stands before them."""
+    picture = Picture(schedule.sites, blocks, characters)
+    picture.height = place_blocks(blocks)
+    picture.bars = bars_of(start, blocks, picture.sites, schedule.items, picture.height)
+    picture.lives = lives_of(start, blocks, picture.sites, picture.height)
     column_places(picture)
     picture.arrows = arrows_of(picture)
     return picture
+
+
+def draw(trace, first, last, characters=LEFT_CHARACTERS):
+    """The picture of the events from the first to the last of these numbers, with so many characters of each text on the left."""
+    teller = Teller(trace)
+    blocks = [teller.block(number, part) for number, part in enumerate(trace.parts[:last], 1)]
+    return placed(trace.schedule, start_after(blocks[: first - 1]), blocks[first - 1 :], characters)
+
+
+def draw_from(start, trace, first, characters):
+    """The same of a trace that is a part of a longer one: its first event has this number, and so much stands before it."""
+    teller = Teller(trace, start.greatest)
+    blocks = [teller.block(number, part) for number, part in enumerate(trace.parts, first)]
+    return placed(trace.schedule, start, blocks, characters)
