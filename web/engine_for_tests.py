@@ -21,6 +21,12 @@ def find_program():
     return program if program.exists() else None
 
 
+def printed_by(program, schedule):
+    """The status of a schedule, and what `polydb run` prints for it."""
+    done = subprocess.run([program, "run"], input=schedule.encode(), capture_output=True, check=False)
+    return done.returncode, done.stdout.decode("ascii")
+
+
 def find_engine():
     """The engine and its name, or none where there is neither."""
     try:

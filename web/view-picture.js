@@ -56,9 +56,16 @@ function showAnswer(picture) {
   const events = [...place.querySelectorAll(".event")];
   for (const event of events) event.setAttribute("tabindex", "-1");
   events.at(-1)?.setAttribute("tabindex", "0");
-  place.scrollTop = place.scrollHeight;
+  showNewest(place);
   part("event-lines").hidden = true;
   if (focused !== undefined) (events.find((event) => event.dataset.number === focused) ?? events.at(-1) ?? place).focus();
+}
+
+// The last label is in view, on a small screen also sideways.
+function showNewest(place) {
+  const label = place.querySelector(".labels > :last-child")?.getBBox();
+  place.scrollTop = place.scrollHeight;
+  place.scrollLeft = label ? label.x + label.width + 12 - place.clientWidth : 0;
 }
 
 // The server's drawing has no style of its own, since the page's policy allows none. (As HTML it is parsed twice as fast as XML.)
