@@ -6,7 +6,7 @@ taken apart into its deliveries, so that each has a moment of its own.
 
 import re
 from time import monotonic
-from typing import NamedTuple, Optional
+from typing import NamedTuple
 
 import engine as engines
 from pictures import is_unsettled
@@ -53,7 +53,7 @@ class Moment(NamedTuple):
     meant: str
     sent: list
     told: dict
-    unsettled: Optional[dict]
+    unsettled: dict
 
 
 class Run:
