@@ -18,8 +18,7 @@ ROOT { color-scheme: light dark; --paper: #fff; --ink: #1c2430; --faint: #5a6675
   --message: #7fb2ee; --good: #6fd08f; --bad: #ff8f84; --held: #5e4714; --held-ink: #ffdf9e; --doubt: #3d2f6b; --doubt-ink: #d3c4ff; } }
 """
 
-RULES = """
-svg.picture { background: var(--paper); font: 11px FONT; }
+RULES = """svg.picture { background: var(--paper); font: 11px FONT; }
 svg.picture text { fill: var(--ink); white-space: pre; }
 svg.picture .faint { fill: var(--faint); }
 svg.picture .site { font-weight: bold; }
