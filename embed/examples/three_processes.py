@@ -1,7 +1,7 @@
 """Three processes with a site each: the coordinator is killed while a transfer is in doubt, and work goes on with both values.
 
-Each process is a host: it carries its site's messages as datagrams on 127.0.0.1, keeps its journal in a file that it syncs, and takes
-commands as lines on its standard input. `Journal` and `Host` are to be copied. What happens:
+Each process is a host: it carries its site's messages as datagrams on 127.0.0.1, keeps its journal in a folder by `polydb.FileHost`, and takes
+commands as lines on its standard input. What happens:
 
  1. Ten go from `a` at site 0 to `b` at site 1, and site 0 is killed (SIGKILL) once it has decided, before anyone hears of it.
  2. Site 1 has promised and doesn't know. After a few ticks it lets go of `b` and shows both values, each with its condition.
@@ -9,7 +9,6 @@ commands as lines on its standard input. `Journal` and `Host` are to be copied. 
  4. Site 0 starts again on its file. Site 1 asks, hears of the commit, and the two values become one.
 """
 
-import fcntl
 import os
 import select
 import shutil
@@ -19,7 +18,6 @@ import subprocess
 import sys
 import tempfile
 import time
-from pathlib import Path
 
 import polydb
 
@@ -35,41 +33,13 @@ PATIENCE = 60.0  # seconds until the driver gives up
 # ---- a host: one process, one site ----
 
 
-class Journal:
-    """A site's file. What is held of it is on the disk, and so is its entry in the folder, before the site is opened."""
-
-    def __init__(self, path):
-        path = Path(path)
-        # One open site at a time has the file. The lock is on a file of its own, as the journal's is about to be replaced, and goes with the process.
-        self.lock = os.open(path.with_suffix(".lock"), os.O_RDWR | os.O_CREAT, 0o600)
-        fcntl.flock(self.lock, fcntl.LOCK_EX | fcntl.LOCK_NB)
-        # A process that was killed, or a sync that failed, may have left bytes that can be read and aren't on the disk. So what is there is written anew,
-        # under another name, and takes the old file's place once it is synced. A new file is made the same way: it is never there in part.
-        self.held = path.read_bytes() if path.exists() else polydb.EMPTY_JOURNAL
-        copy = path.with_suffix(".new")
-        self.file = os.open(copy, os.O_RDWR | os.O_CREAT | os.O_TRUNC, 0o600)
-        self.write(0, self.held)
-        os.rename(copy, path)
-        folder = os.open(path.parent, os.O_RDONLY)
-        os.fsync(folder)
-        os.close(folder)
-
-    def write(self, place, data):
-        """Writes the bytes into the file, from this place on, and syncs it. (Python itself goes on where a signal has come in between.)"""
-        while data:
-            count = os.pwrite(self.file, data, place)
-            data, place = data[count:], place + count
-        os.fsync(self.file)
-
-
 class Host:
-    """Carries the messages of a site, writes its journal, and does what it is told on standard input."""
+    """Carries the messages of a site, and does what it is told on standard input. Its files are `polydb.FileHost`'s."""
 
     def __init__(self, config, me, folder, ports):
         self.me = me
         self.addresses = [("127.0.0.1", port) for port in ports]
-        self.journal = Journal(journal_path(folder, me))
-        self.site = polydb.Site(config, me, self.journal.held)
+        self.site = polydb.FileHost(folder, config, me, self.carry)
         self.socket = socket.socket(socket.AF_INET, socket.SOCK_DGRAM)
         self.socket.bind(self.addresses[me])
         self.commands = b""
@@ -81,41 +51,22 @@ class Host:
         print(f"site {self.me}: {line}", file=sys.stderr, flush=True)
 
     def settle(self):
-        """Writes and syncs what the site's steps have put into its journal, and then carries what it lets out, until there is nothing.
+        """Writes and syncs what the site's steps have put into its journal, and carries what it lets out, until there is nothing.
 
-        A write or sync that fails isn't told to the site. It lets nothing out that rests on it, and asks for the same bytes the next time: they are written
-        again, as a sync that answers without an error after one that failed says nothing of the bytes before.
+        Where a write or sync fails, nothing is let out that rests on it, and the next time it is made again.
         """
         try:
-            while self.let_out():
-                pass
+            self.site.settle()
         except (OSError, polydb.PolydbError) as error:
             self.complain(error)
 
-    def let_out(self):
-        """One round of that. Gives whether there was something to carry."""
-        while (write := self.site.next_write()) is not None:
-            self.journal.write(write.place, write.bytes)
-            self.site.written(write)
-        outputs = []
-        try:
-            while (output := self.site.take()) is not None:
-                outputs.append(output)
-        finally:
-            self.carry(outputs)  # also where there was no memory for the next one
-        return bool(outputs)
-
-    def carry(self, outputs):
-        for output in outputs:
-            if isinstance(output, polydb.Report):
-                self.say("report " + output.line)
-            else:
-                self.send(output)
+    def carry(self, output):
+        if isinstance(output, polydb.Report):
+            self.say("report " + output.line)
+        else:
+            self.send(output)
 
     def send(self, message):
-        if message.to == self.me:
-            self.hear(message.bytes)
-            return
         try:
             self.socket.sendto(message.bytes, self.addresses[message.to])
         except (OSError, IndexError) as error:
@@ -167,18 +118,20 @@ class Host:
 class DoomedHost(Host):
     """Comes to a stop once its site has decided, before anyone hears of it."""
 
-    def carry(self, outputs):
-        if any(isinstance(output, polydb.Report) and output.line.startswith("commit ") for output in outputs):
+    def settle(self):
+        self.kept = []
+        super().settle()
+        if any(isinstance(output, polydb.Report) and output.line.startswith("commit ") for output in self.kept):
             self.say("decided")
             signal.pause()  # until it is killed
-        super().carry(outputs)
+        for output in self.kept:
+            super().carry(output)
+
+    def carry(self, output):
+        self.kept.append(output)
 
 
 # ---- the driver: starts the hosts, kills one, and looks ----
-
-
-def journal_path(folder, me):
-    return Path(folder) / f"site-{me}.pv"  # as `polydb show` looks for it
 
 
 class Ended(Exception):

@@ -44,21 +44,22 @@ class MortalHost(Host):
     def __init__(self, *words, seed):
         self.chance = random.Random(seed)
         super().__init__(*words)
-        whole = self.journal.write
+        files = self.site.files
+        whole = files.write
 
         def write(place, data):
             if self.chance.random() < TEARS:
                 left = self.chance.randbytes(self.chance.randint(0, len(data)))
                 if self.chance.random() < 0.5:
                     left = data[: len(left)]
-                os.pwrite(self.journal.file, left, place)
+                os.pwrite(files._journal, left, place)
                 os.kill(os.getpid(), signal.SIGKILL)
             if self.chance.random() < FAILS:
-                os.pwrite(self.journal.file, data[: self.chance.randint(0, len(data))], place)
+                os.pwrite(files._journal, data[: self.chance.randint(0, len(data))], place)
                 raise OSError(errno.EIO, "the disk fails")
             whole(place, data)
 
-        self.journal.write = write
+        files.write = write
 
     def complain(self, line):
         pass  # much fails here

@@ -8,18 +8,21 @@ A status other than POLYDB_DONE is raised here as an exception of its own, and l
 POLYDB_TOO_SMALL is never seen, as the call is made again with more room; `run` raises nothing, and gives its status; and SentLimit and BrokenOff
 end the world: it takes no more steps, and what it has printed can still be taken.
 
-The library is libpolydb.so beside this file or in `out`, or the file that the environment variable POLYDB_LIBRARY names.
+The library is libpolydb.so in this folder, or in `out` beside it, or the file that the environment variable POLYDB_LIBRARY names.
 """
+
+from __future__ import annotations
 
 import ctypes
 import os
 from ctypes import POINTER, byref, c_bool, c_char_p, c_size_t, c_uint8, c_uint32, c_uint64, c_void_p, string_at
 from pathlib import Path
 from threading import Lock
-from typing import NamedTuple, Optional
+from typing import Any, Callable, NamedTuple, Optional, Tuple, Union
 
 __all__ = [
     "EMPTY_JOURNAL",
+    "Output",
     "World",
     "Site",
     "JournalWrite",
@@ -192,7 +195,11 @@ _ERRORS = {
 }
 
 
-def _check(status, what):
+Text = Union[str, bytes, bytearray, memoryview]
+Bytes = Union[bytes, bytearray, memoryview]
+
+
+def _check(status: int, what: str) -> None:
     if status != _DONE:
         error = _ERRORS.get(status, PolydbError)
         raise error(f"{what}: {error.__doc__ or ''} (status {status})")
@@ -204,10 +211,10 @@ class _Handle(ctypes.Structure):
     _fields_ = [("live", c_bool), ("at", c_void_p)]
 
 
-def _load():
+def _load() -> ctypes.CDLL:
     named = os.environ.get("POLYDB_LIBRARY")
     here = Path(__file__).resolve().parent
-    places = [Path(named)] if named else [here / "libpolydb.so", here / "out" / "libpolydb.so"]
+    places = [Path(named)] if named else [here / "libpolydb.so", here.parent / "out" / "libpolydb.so"]
     for place in places:
         if place.exists():
             return ctypes.CDLL(str(place))
@@ -217,7 +224,7 @@ def _load():
 _library = _load()
 
 
-def _declare(name, *arguments, result=c_uint32):
+def _declare(name: str, *arguments: Any, result: Any = c_uint32) -> Any:
     call = getattr(_library, name)
     call.argtypes = arguments
     call.restype = result
@@ -245,19 +252,19 @@ _site_read = _declare("polydb_site_read", _handle, c_char_p, c_size_t, _out, c_s
 _site_close = _declare("polydb_site_close", _handle, result=None)
 
 
-def _raw(data):
+def _raw(data: Bytes) -> bytes:
     """Bytes as they are. A number isn't taken for so many zeroes, as `bytes` takes it, nor a list for bytes."""
     if not isinstance(data, (bytes, bytearray, memoryview)):
         raise TypeError(f"bytes are needed, not {type(data).__name__}")
     return bytes(data)
 
 
-def _bytes(text):
+def _bytes(text: Text) -> bytes:
     """The bytes of a text, or bytes as they are."""
     return text.encode() if isinstance(text, str) else _raw(text)
 
 
-def _fill(call):
+def _fill(call: Callable[[Any, int, Any], int]) -> Tuple[int, bytes]:
     """What a call writes: it is called with a buffer and its room, and once more with a larger one where it is too small."""
     room = _FIRST_ROOM
     while True:
@@ -269,7 +276,7 @@ def _fill(call):
         room = written.value
 
 
-def run(schedule):
+def run(schedule: Text) -> Tuple[int, bytes]:
     """The status and the text that `polydb run` gives for a schedule: (0, text) where all of it was run."""
     text = _bytes(schedule)
     return _fill(lambda out, room, written: _run(text, len(text), out, room, written))
@@ -285,38 +292,38 @@ class _Open:
       thread may come in between. Two threads that both take from one world or site each get some of what there is, in no order between them.
     """
 
-    _close_call = None
+    _close_call: Any = None
 
-    def __init__(self):
+    def __init__(self) -> None:
         self._handle = _Handle()
         self._lock = Lock()
 
-    def _call(self, call, *arguments):
+    def _call(self, call: Any, *arguments: Any) -> Any:
         with self._lock:
             return call(byref(self._handle), *arguments)
 
-    def close(self):
+    def close(self) -> None:
         """Closes it and frees its memory. It may be closed already."""
         self._call(self._close_call)
 
-    def __enter__(self):
+    def __enter__(self) -> Any:
         return self
 
-    def __exit__(self, *_):
+    def __exit__(self, *_: object) -> None:
         self.close()
 
-    def __del__(self):
+    def __del__(self) -> None:
         if hasattr(self, "_lock"):
             self.close()
 
     # A copy of a handle would be freed twice.
-    def __copy__(self):
+    def __copy__(self) -> Any:
         raise TypeError("a world or site can't be copied")
 
-    def __deepcopy__(self, _):
+    def __deepcopy__(self, _: object) -> Any:
         raise TypeError("a world or site can't be copied")
 
-    def __reduce__(self):
+    def __reduce__(self) -> Any:
         raise TypeError("a world or site can't be pickled")
 
 
@@ -325,18 +332,18 @@ class World(_Open):
 
     _close_call = staticmethod(_world_close)
 
-    def __init__(self, catalog):
+    def __init__(self, catalog: Text) -> None:
         """A world with the sites and items of a catalog: the first lines of a schedule."""
         super().__init__()
         text = _bytes(catalog)
         _check(self._call(_world_open, text, len(text)), "open")
 
-    def step(self, line):
+    def step(self, line: Text) -> None:
         """One event, as a line of a schedule."""
         text = _bytes(line)
         _check(self._call(_world_step, text, len(text)), "step")
 
-    def take(self):
+    def take(self) -> bytes:
         """All that was printed and not taken, as bytes."""
         pieces = []
         out = (c_uint8 * _FIRST_ROOM)()
@@ -368,12 +375,15 @@ class Report(NamedTuple):
     line: str
 
 
+Output = Union[Message, Report]
+
+
 class Site(_Open):
     """One site, for a host that carries its messages and writes its journal."""
 
     _close_call = staticmethod(_site_close)
 
-    def __init__(self, config, me, journal):
+    def __init__(self, config: Text, me: int, journal: Bytes) -> None:
         """Site `me` of a configuration, going on from what the host's file holds: EMPTY_JOURNAL in a new site's, which the host has made and synced."""
         super().__init__()
         if not 0 <= me <= 255:  # in C it is a byte, and the rest would be cut off
@@ -382,17 +392,17 @@ class Site(_Open):
         journal = _raw(journal)
         _check(self._call(_site_open, text, len(text), me, journal, len(journal)), "open")
 
-    def submit(self, program, query=False):
+    def submit(self, program: Text, query: bool = False) -> None:
         """A request, with this site as its coordinator. A query assigns nothing and has a `return`."""
         text = _bytes(program)
         _check(self._call(_site_submit, text, len(text), query), "submit")
 
-    def receive(self, message):
+    def receive(self, message: Bytes) -> None:
         """A message that another site, or this one, has let out."""
         message = _raw(message)
         _check(self._call(_site_receive, message, len(message)), "receive")
 
-    def tick(self):
+    def tick(self) -> None:
         """Time has passed."""
         _check(self._call(_site_tick), "tick")
 
@@ -405,11 +415,11 @@ class Site(_Open):
         _check(status, "next_write")
         return JournalWrite(place.value, data)
 
-    def written(self, write):
+    def written(self, write: JournalWrite) -> None:
         """This has been written, and the file was synced."""
         _check(self._call(_site_journal_synced, write.place, len(write.bytes)), "written")
 
-    def take(self):
+    def take(self) -> Optional[Output]:
         """The next Message or Report that is let out, or None for now: nothing comes before the journal has what it rests on."""
         to = c_uint64(0)
         status, data = _fill(lambda out, room, written: self._call(_site_take_message, out, room, written, byref(to)))
@@ -418,7 +428,7 @@ class Site(_Open):
         _check(status, "take")
         return Report(data.decode().rstrip("\n")) if to.value == _REPORT else Message(to.value, data)
 
-    def read(self, name):
+    def read(self, name: Text) -> str:
         """What the site shows of its item of this name, once all is written: `90`, `50 if -0.1.0 ; 60 if +0.1.0`, or `locked 0.1.0`."""
         text = _bytes(name)
         status, line = _fill(lambda out, room, written: self._call(_site_read, text, len(text), out, room, written))

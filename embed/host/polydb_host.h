@@ -1,0 +1,149 @@
+/*
+ * A site of polydb on a folder: what every host of a site in C needs of files, over the calls of `polydb.h`.
+ *
+ * A host of this kind opens a site on a folder, writes what the site wants written, syncs it, and hands over what the site lets out by two calls of
+ * the program: one for messages to other sites, one for reports. The program carries messages, and tells the site of requests, messages and time:
+ *
+ *     polydb_host *host;
+ *     polydb_host_found found;
+ *     polydb_host_error error;
+ *     if (polydb_host_open(&host, &setup, &found, &error) != POLYDB_HOST_DONE) { polydb_host_describe(&error, text, sizeof text); .. }
+ *     for ever:
+ *         polydb_host_settle(host, &error)          the messages and reports come within this call
+ *         polydb_host_submit, polydb_host_receive, polydb_host_tick, as many as there are
+ *     polydb_host_close(host);
+ *
+ * What it does of that which `polydb.h` says a host owes:
+ *   - a lock excludes every other process, and every other opening in this one (an open file description lock, fcntl(2), on `site-S.lock`);
+ *   - after a fork the child is refused (POLYDB_HOST_FORKED), and the parent goes on;
+ *   - the folder says which site it is and with which configuration (`site-S.id`), in its file and its folder's entry before anything else is written, and is
+ *     compared at each opening;
+ *   - a new journal is on the disk with its entry in the folder before the site is opened. A file without a byte counts as new, as `polydb show` makes one;
+ *   - where the process before didn't end by polydb_host_close, or one of its writes or syncs has failed, the bytes that can be read needn't be on the disk, and a
+ *     sync alone needn't bring them there: the journal is written anew under another name, synced, and takes the old one's place;
+ *   - a write or a sync that fails is never told to the site. The same bytes are written again at the next polydb_host_settle;
+ *   - a message of the site to itself is given back to it at once.
+ *
+ * What the program owes: the folder is on a file system of this machine on which the system keeps to locks and syncs; nobody else writes files `site-S.*` of
+ * it; a message is given to the site only if a site of the same configuration has let it out; and no host is used by two threads at once.
+ *
+ * Files of site S in its folder, which several sites may share: `site-S.pv` the journal; `site-S.id` the number and the configuration; `site-S.lock` the lock,
+ * whose text says whether the last process ended well; `site-S.new` and `site-S.id.new`, which are there for a moment. To move a site, close it and move all.
+ *
+ * It opens files and calls the program back, which the library of `polydb.h` never does. Link it before that: `libpolydb_host.a libpolydb.a`.
+ */
+#ifndef POLYDB_HOST_H
+#define POLYDB_HOST_H
+
+#include <stdbool.h>
+#include <stddef.h>
+#include <stdint.h>
+
+#ifdef __cplusplus
+extern "C" {
+#endif
+
+/* Why a call was refused. But where the text says otherwise nothing has changed, and the call can be made again. */
+typedef enum {
+    POLYDB_HOST_DONE = 0,
+    /* The system refused something: `number` is its errno. */
+    POLYDB_HOST_SYSTEM = 1,
+    /* Another process has the site open, or this one has already. */
+    POLYDB_HOST_BUSY = 2,
+    /* The folder's files are those of a site with another number. */
+    POLYDB_HOST_OTHER_SITE = 3,
+    /* The site was opened first with another configuration. */
+    POLYDB_HOST_OTHER_CONFIG = 4,
+    /* The journal has records, and nothing says of which site and configuration. `adopts` takes it. */
+    POLYDB_HOST_UNNAMED = 5,
+    /* The site was opened before, and its journal isn't there, or has no byte. */
+    POLYDB_HOST_LOST = 6,
+    /* The file that says which site it is can't be read as such. */
+    POLYDB_HOST_DAMAGED = 7,
+    /* The library refused it: `status` says why, as `polydb.h` has it. */
+    POLYDB_HOST_ENGINE = 8,
+    /* There was no memory. */
+    POLYDB_HOST_NO_MEMORY = 9,
+    /* This process is a child of the one that opened the site. */
+    POLYDB_HOST_FORKED = 10
+} polydb_host_cause;
+
+/* A refusal with its circumstances. */
+typedef struct {
+    polydb_host_cause cause;
+    int number;      /* errno, where the cause is POLYDB_HOST_SYSTEM; else 0 */
+    uint32_t status; /* of polydb.h, where the cause is POLYDB_HOST_ENGINE; else 0 */
+    char what[56];   /* what was done with which file: "fdatasync site-0.pv" */
+} polydb_host_error;
+
+/* What to open, and whom to hand what the site lets out. All that is pointed to but the context may be freed after the opening. */
+typedef struct {
+    const char *folder; /* is there already */
+    const uint8_t *config;
+    size_t config_length;
+    uint8_t site;
+    bool adopts; /* takes a journal with records beside which nothing says whose it is */
+
+    /* Called within polydb_host_settle alone. They call no function of this host. Neither pointer may be null. */
+    void *context;
+    /* A message for site `to`, another one. `to` may be no site of the configuration: then it is lost. */
+    void (*message)(void *context, uint8_t to, const uint8_t *bytes, size_t length);
+    /* A report, as a run prints it, without its line feed. */
+    void (*report)(void *context, const char *line, size_t length);
+} polydb_host_setup;
+
+/* What an opening has found. */
+typedef struct {
+    bool is_new;      /* nobody has opened this site here before */
+    bool is_copied;   /* the process before didn't end well: the journal was written anew */
+    uint64_t records; /* how many the journal had */
+    uint64_t length;  /* how long the journal was, from its header to its closed gate */
+} polydb_host_found;
+
+/* A site that is open. */
+typedef struct polydb_host polydb_host;
+
+/*
+ * Opens a site on its folder. With another answer than POLYDB_HOST_DONE `*host` is null, and of the files nothing has changed that counts.
+ * It takes memory for what the journal holds, whatever stands in the file behind it.
+ */
+polydb_host_cause polydb_host_open(polydb_host **host, const polydb_host_setup *setup, polydb_host_found *found, polydb_host_error *error);
+
+/* A request, as polydb_site_submit takes it. */
+polydb_host_cause polydb_host_submit(polydb_host *host, const uint8_t *program, size_t length, bool is_query, polydb_host_error *error);
+
+/* A message of another site comes. */
+polydb_host_cause polydb_host_receive(polydb_host *host, const uint8_t *message, size_t length, polydb_host_error *error);
+
+/* Time has passed. */
+polydb_host_cause polydb_host_tick(polydb_host *host, polydb_host_error *error);
+
+/*
+ * Writes and syncs what the site wants written, hands over what it lets out, and goes on until there is nothing of either. Where a write fails, what
+ * doesn't rest on it is handed over all the same. The rest waits, and the next call tries again.
+ */
+polydb_host_cause polydb_host_settle(polydb_host *host, polydb_host_error *error);
+
+/*
+ * What the site shows of an item, as a line without its line feed, which is good until the next call on this host: `item a 90`. Where it is refused with
+ * the status POLYDB_UNWRITTEN, polydb_host_settle comes first.
+ */
+polydb_host_cause polydb_host_read(polydb_host *host, const uint8_t *name, size_t name_length, const char **line, size_t *length, polydb_host_error *error);
+
+/* How long the journal in the file is, by what was written and synced. */
+uint64_t polydb_host_length(const polydb_host *host);
+
+/*
+ * Closes the site and lets go of its lock. What wasn't settled is lost, as in a crash. In the child of a fork it closes the child's descriptors alone: the
+ * parent has the site as before. Null is fine.
+ */
+void polydb_host_close(polydb_host *host);
+
+/* An error in words: `fdatasync site-0.pv: No space left on device`. At most `room` bytes with the zero at the end; gives `out`. */
+const char *polydb_host_describe(const polydb_host_error *error, char *out, size_t room);
+
+#ifdef __cplusplus
+}
+#endif
+
+#endif

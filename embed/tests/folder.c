@@ -1,0 +1,482 @@
+/*
+ * A site on a folder (`host/`): two openings, a fork, folders of another site or configuration, journals that are lost, empty, cut or long, processes that are killed
+ * within a write, and writes, syncs and renames that fail in turn. Linked with its own pwrite, fdatasync, fsync, renameat and malloc, which fail when they are told.
+ */
+#define _GNU_SOURCE
+
+#include <assert.h>
+#include <errno.h>
+#include <fcntl.h>
+#include <signal.h>
+#include <stdio.h>
+#include <stdlib.h>
+#include <string.h>
+#include <sys/resource.h>
+#include <sys/stat.h>
+#include <sys/wait.h>
+#include <unistd.h>
+
+#include "host/polydb_host.h"
+#include "polydb.h"
+
+static const char CONFIG[] = "sites 1\nitem a 0 100\nitem b 0 50\n";
+static const char GROWN[] = "sites 1\nitem a 0 100\nitem b 0 50\nitem c 0 0\n";
+static const char TRANSFER[] = "a := a - 10 ; b := b + 10";
+
+/* ---- calls that fail ---- */
+
+typedef enum { NOTHING, PWRITE, FDATASYNC, FSYNC, RENAMEAT } call;
+static call failing;
+static int fails_in;   /* the call of this kind that fails, from 1 on; 0 for none */
+static int fails_with; /* errno */
+static bool dies;      /* it doesn't fail, but kills the process; a write is made in part before */
+
+static bool is_hit(call which) {
+    if (failing != which || fails_in == 0 || --fails_in > 0) {
+        return false;
+    }
+    if (dies && which != PWRITE) {
+        raise(SIGKILL);
+    }
+    errno = fails_with;
+    return true;
+}
+
+ssize_t __real_pwrite(int file, const void *bytes, size_t length, off_t place);
+ssize_t __wrap_pwrite(int file, const void *bytes, size_t length, off_t place);
+ssize_t __wrap_pwrite(int file, const void *bytes, size_t length, off_t place) {
+    if (!is_hit(PWRITE)) {
+        return __real_pwrite(file, bytes, length, place);
+    }
+    ssize_t part = __real_pwrite(file, bytes, length / 2, place);
+    if (dies) {
+        raise(SIGKILL);
+    }
+    errno = fails_with;
+    return part < 0 ? part : -1;
+}
+
+int __real_fdatasync(int file);
+int __wrap_fdatasync(int file);
+int __wrap_fdatasync(int file) { return is_hit(FDATASYNC) ? -1 : __real_fdatasync(file); }
+
+int __real_fsync(int file);
+int __wrap_fsync(int file);
+int __wrap_fsync(int file) { return is_hit(FSYNC) ? -1 : __real_fsync(file); }
+
+int __real_renameat(int from, const char *old, int to, const char *new);
+int __wrap_renameat(int from, const char *old, int to, const char *new);
+int __wrap_renameat(int from, const char *old, int to, const char *new) { return is_hit(RENAMEAT) ? -1 : __real_renameat(from, old, to, new); }
+
+static void fail(call which, int nth, int with) {
+    failing = which;
+    fails_in = nth;
+    fails_with = with;
+}
+
+/* ---- a folder, and a site on it ---- */
+
+static char folder[64];
+static int reports, commits;
+static char last_report[128];
+
+static void on_report(void *context, const char *line, size_t length) {
+    (void)context;
+    assert(strlen(line) == length);
+    reports++;
+    commits += strncmp(line, "commit ", 7) == 0;
+    snprintf(last_report, sizeof last_report, "%s", line);
+}
+
+static void on_message(void *context, uint8_t to, const uint8_t *bytes, size_t length) {
+    (void)context, (void)bytes, (void)length;
+    assert(to != 0 && "there is no other site");
+}
+
+static const char *path_of(const char *name) {
+    static char path[128];
+    snprintf(path, sizeof path, "%s/%s", folder, name);
+    return path;
+}
+
+static void new_folder(void) {
+    strcpy(folder, "/tmp/polydb-XXXXXX");
+    assert(mkdtemp(folder) != NULL);
+}
+
+static void drop_folder(void) {
+    static const char *const NAMES[] = {"site-0.pv", "site-0.id", "site-0.lock", "site-0.new", "site-0.id.new", "site-1.pv", "site-1.id", "site-1.lock"};
+    for (size_t i = 0; i < sizeof NAMES / sizeof *NAMES; i++) {
+        unlink(path_of(NAMES[i]));
+    }
+    assert(rmdir(folder) == 0);
+}
+
+static polydb_host_found found;
+static polydb_host_error error;
+
+static polydb_host_cause open_as(polydb_host **host, uint8_t site, const char *config, bool adopts) {
+    polydb_host_setup setup = {.folder = folder,
+                               .config = (const uint8_t *)config,
+                               .config_length = strlen(config),
+                               .site = site,
+                               .adopts = adopts,
+                               .message = on_message,
+                               .report = on_report};
+    polydb_host_cause cause = polydb_host_open(host, &setup, &found, &error);
+    assert((cause == POLYDB_HOST_DONE) == (*host != NULL));
+    assert(error.cause == cause);
+    return cause;
+}
+
+static polydb_host *opened(void) {
+    polydb_host *host;
+    if (open_as(&host, 0, CONFIG, false) != POLYDB_HOST_DONE) {
+        char words[160];
+        fprintf(stderr, "%s\n", polydb_host_describe(&error, words, sizeof words));
+        abort();
+    }
+    return host;
+}
+
+static void is_refused(polydb_host_cause wanted, uint8_t site, const char *config) {
+    polydb_host *host;
+    char words[160];
+    assert(open_as(&host, site, config, false) == wanted);
+    assert(strlen(polydb_host_describe(&error, words, sizeof words)) > 10);
+}
+
+static void settles(polydb_host *host) { assert(polydb_host_settle(host, &error) == POLYDB_HOST_DONE); }
+
+/* A transfer, which commits. */
+static void transfer(polydb_host *host) {
+    int before = commits;
+    assert(polydb_host_submit(host, (const uint8_t *)TRANSFER, sizeof TRANSFER - 1, false, &error) == POLYDB_HOST_DONE);
+    settles(host);
+    assert(commits == before + 1);
+}
+
+static void shows(polydb_host *host, const char *wanted) {
+    const char *line;
+    size_t length;
+    settles(host);
+    assert(polydb_host_read(host, (const uint8_t *)"a", 1, &line, &length, &error) == POLYDB_HOST_DONE);
+    assert(strcmp(line, wanted) == 0 && length == strlen(wanted));
+}
+
+static ino_t inode_of(const char *name) {
+    struct stat about;
+    assert(stat(path_of(name), &about) == 0);
+    return about.st_ino;
+}
+
+static void put(const char *name, const void *bytes, size_t length) {
+    int file = open(path_of(name), O_RDWR | O_CREAT | O_TRUNC, 0600);
+    assert(file >= 0 && write(file, bytes, length) == (ssize_t)length && close(file) == 0);
+}
+
+/* Runs a part in a child, and gives whether it was killed. */
+static bool was_killed(void (*part)(void)) {
+    pid_t child = fork();
+    assert(child >= 0);
+    if (child == 0) {
+        part();
+        _exit(0);
+    }
+    int status;
+    assert(waitpid(child, &status, 0) == child);
+    assert(WIFSIGNALED(status) ? WTERMSIG(status) == SIGKILL : WEXITSTATUS(status) == 0);
+    return WIFSIGNALED(status);
+}
+
+/* ---- the lock ---- */
+
+static void child_is_refused(void) { is_refused(POLYDB_HOST_BUSY, 0, CONFIG); }
+
+static polydb_host *shared;
+
+static void child_calls(void) {
+    const char *line;
+    size_t length;
+    assert(polydb_host_settle(shared, &error) == POLYDB_HOST_FORKED);
+    assert(polydb_host_tick(shared, &error) == POLYDB_HOST_FORKED);
+    assert(polydb_host_submit(shared, (const uint8_t *)TRANSFER, sizeof TRANSFER - 1, false, &error) == POLYDB_HOST_FORKED);
+    assert(polydb_host_receive(shared, (const uint8_t *)"", 0, &error) == POLYDB_HOST_FORKED);
+    assert(polydb_host_read(shared, (const uint8_t *)"a", 1, &line, &length, &error) == POLYDB_HOST_FORKED);
+    polydb_host_close(shared); /* the parent keeps the lock */
+}
+
+static void one_at_a_time(void) {
+    new_folder();
+    polydb_host *host = opened();
+    assert(found.is_new && !found.is_copied && found.records == 0 && found.length == 9);
+    is_refused(POLYDB_HOST_BUSY, 0, CONFIG);
+    assert(!was_killed(child_is_refused));
+    close(open(path_of("site-0.lock"), O_RDONLY)); /* a lock of a process would be lost here */
+    is_refused(POLYDB_HOST_BUSY, 0, CONFIG);
+    assert(!was_killed(child_is_refused));
+    shared = host;
+    assert(!was_killed(child_calls));
+    is_refused(POLYDB_HOST_BUSY, 0, CONFIG);
+    transfer(host);
+    polydb_host_close(host);
+    host = opened();
+    shows(host, "item a 90");
+    assert(unlink(path_of("site-0.lock")) == 0); /* who removes the lock while the site is open gets two of them: a host owes not to */
+    polydb_host_close(host);
+    drop_folder();
+}
+
+/* A child that lives on has the descriptors: the parent lets go of the lock all the same. */
+static void children_keep_no_lock(void) {
+    new_folder();
+    polydb_host *host = opened();
+    int gate[2];
+    assert(pipe(gate) == 0);
+    pid_t child = fork();
+    if (child == 0) {
+        char byte;
+        close(gate[1]);
+        (void)!read(gate[0], &byte, 1);
+        _exit(0);
+    }
+    polydb_host_close(host);
+    polydb_host_close(opened());
+    close(gate[0]);
+    close(gate[1]);
+    assert(waitpid(child, NULL, 0) == child);
+    drop_folder();
+}
+
+/* ---- who the site is ---- */
+
+static void names_are_compared(void) {
+    new_folder();
+    polydb_host *host = opened();
+    settles(host);
+    transfer(host);
+    polydb_host_close(host);
+    is_refused(POLYDB_HOST_OTHER_CONFIG, 0, GROWN);
+    assert(strstr(error.what, "line 4") != NULL);
+    is_refused(POLYDB_HOST_OTHER_CONFIG, 0, "sites 1\n");
+    drop_folder();
+}
+
+static void copy_file(const char *from, const char *to) {
+    uint8_t bytes[4096];
+    int file = open(path_of(from), O_RDONLY);
+    ssize_t length = read(file, bytes, sizeof bytes);
+    assert(length >= 0 && close(file) == 0);
+    put(to, bytes, (size_t)length);
+}
+
+static void sites_are_compared(void) {
+    new_folder();
+    polydb_host *host = opened();
+    transfer(host);
+    polydb_host_close(host);
+    copy_file("site-0.id", "site-1.id");
+    copy_file("site-0.pv", "site-1.pv");
+    is_refused(POLYDB_HOST_OTHER_SITE, 1, CONFIG);
+    put("site-0.id", "polydb site 1\nsite 0\nconfig 9\n", 30);
+    is_refused(POLYDB_HOST_DAMAGED, 0, CONFIG);
+    put("site-0.id", "nonsense", 8);
+    is_refused(POLYDB_HOST_DAMAGED, 0, CONFIG);
+    put("site-0.id", "", 0);
+    is_refused(POLYDB_HOST_DAMAGED, 0, CONFIG);
+    unlink(path_of("site-0.id"));
+    is_refused(POLYDB_HOST_UNNAMED, 0, CONFIG);
+    assert(open_as(&host, 0, CONFIG, true) == POLYDB_HOST_DONE);
+    assert(!found.is_new && found.records > 1);
+    settles(host);
+    shows(host, "item a 90");
+    polydb_host_close(host);
+    polydb_host_close(opened());
+    drop_folder();
+}
+
+/* ---- journals ---- */
+
+static void empty_files_are_new(void) {
+    new_folder();
+    put("site-0.pv", "", 0);
+    polydb_host *host = opened();
+    assert(found.is_new);
+    transfer(host);
+    polydb_host_close(host);
+    put("site-0.pv", "", 0);
+    is_refused(POLYDB_HOST_LOST, 0, CONFIG);
+    unlink(path_of("site-0.pv"));
+    is_refused(POLYDB_HOST_LOST, 0, CONFIG);
+    drop_folder();
+
+    new_folder();
+    put("site-0.pv", POLYDB_EMPTY_JOURNAL, sizeof POLYDB_EMPTY_JOURNAL);
+    polydb_host_close(opened());
+    assert(found.is_new);
+    drop_folder();
+}
+
+static void no_journals_are_refused(void) {
+    static const struct {
+        const char *bytes;
+        size_t length;
+    } NONE[] = {{"P", 1}, {"PVJRNL0", 7}, {"PVJRNL01", 8}, {"QVJRNL01\0", 9}, {"PVJRNL01\1", 9}, {"PVJRNL01\1\0\0\0\0", 13}, {"PVJRNL01\1\xff\xff\xff\xff", 13}, {"PVJRNL01\1\0\0\0\5\1", 14}};
+    for (size_t i = 0; i < sizeof NONE / sizeof *NONE; i++) {
+        new_folder();
+        put("site-0.pv", NONE[i].bytes, NONE[i].length);
+        is_refused(POLYDB_HOST_ENGINE, 0, CONFIG);
+        assert(error.status == POLYDB_NOT_OURS);
+        assert(access(path_of("site-0.id"), F_OK) != 0); /* nothing else has come */
+        drop_folder();
+    }
+    new_folder();
+    is_refused(POLYDB_HOST_ENGINE, 0, "no configuration\n");
+    assert(error.status == POLYDB_MALFORMED && access(path_of("site-0.pv"), F_OK) != 0);
+    is_refused(POLYDB_HOST_ENGINE, 1, CONFIG);
+    assert(error.status == POLYDB_NO_SITE);
+    drop_folder();
+    strcpy(folder, "/tmp/polydb-isn't-there");
+    is_refused(POLYDB_HOST_SYSTEM, 0, CONFIG);
+    assert(error.number == ENOENT);
+}
+
+/* A short journal in a long file takes no memory for what stands behind it. */
+static void long_files_take_no_memory(void) {
+    new_folder();
+    polydb_host *host = opened();
+    transfer(host);
+    uint64_t length = polydb_host_length(host);
+    polydb_host_close(host);
+    assert(truncate(path_of("site-0.pv"), (off_t)400 << 20) == 0);
+    struct rusage before, after;
+    getrusage(RUSAGE_SELF, &before);
+    host = opened();
+    getrusage(RUSAGE_SELF, &after);
+    assert(found.length == length);
+    assert(after.ru_maxrss - before.ru_maxrss < 4096); /* KiB */
+    shows(host, "item a 90");
+    polydb_host_close(host);
+    drop_folder();
+}
+
+/* ---- doubt ---- */
+
+static void transfers_and_dies(void) {
+    polydb_host *host = opened();
+    settles(host);
+    transfer(host);
+    raise(SIGKILL);
+}
+
+static void doubt_makes_a_copy(void) {
+    new_folder();
+    polydb_host *host = opened();
+    transfer(host);
+    polydb_host_close(host);
+    ino_t first = inode_of("site-0.pv");
+    host = opened();
+    assert(!found.is_copied && inode_of("site-0.pv") == first);
+    polydb_host_close(host);
+
+    assert(was_killed(transfers_and_dies));
+    host = opened();
+    ino_t second = inode_of("site-0.pv");
+    assert(found.is_copied && second != first);
+    settles(host);
+    shows(host, "item a 80");
+    fail(FDATASYNC, 1, EIO);
+    assert(polydb_host_submit(host, (const uint8_t *)TRANSFER, sizeof TRANSFER - 1, false, &error) == POLYDB_HOST_DONE);
+    assert(polydb_host_settle(host, &error) == POLYDB_HOST_SYSTEM && error.number == EIO);
+    settles(host);
+    shows(host, "item a 70");
+    polydb_host_close(host); /* a sync has failed, so the next opening makes a copy */
+    host = opened();
+    assert(found.is_copied && inode_of("site-0.pv") != second);
+    shows(host, "item a 70");
+    polydb_host_close(host);
+    drop_folder();
+}
+
+/* ---- each write, sync and rename failing in turn ---- */
+
+static const call CALLS[] = {PWRITE, FDATASYNC, FSYNC, RENAMEAT};
+
+static void failures_say_nothing_too_early(int with) {
+    for (size_t i = 0; i < sizeof CALLS / sizeof *CALLS; i++) {
+        for (int nth = 1;; nth++) {
+            new_folder();
+            commits = 0;
+            fail(CALLS[i], nth, with);
+            polydb_host *host;
+            while (open_as(&host, 0, CONFIG, false) != POLYDB_HOST_DONE) {
+                assert(error.cause == POLYDB_HOST_SYSTEM && error.number == with);
+            }
+            assert(polydb_host_submit(host, (const uint8_t *)TRANSFER, sizeof TRANSFER - 1, false, &error) == POLYDB_HOST_DONE);
+            while (polydb_host_settle(host, &error) != POLYDB_HOST_DONE) {
+                assert(error.cause == POLYDB_HOST_SYSTEM && error.number == with && commits == 0);
+            }
+            assert(commits == 1);
+            bool was_hit = fails_in == 0;
+            fail(NOTHING, 0, 0);
+            polydb_host_close(host);
+            host = opened();
+            shows(host, "item a 90");
+            polydb_host_close(host);
+            drop_folder();
+            if (!was_hit) {
+                assert(nth > (CALLS[i] == PWRITE || CALLS[i] == FDATASYNC ? 5 : 2));
+                break;
+            }
+        }
+    }
+}
+
+static call dying;
+static int dies_in;
+
+static void lives_until_it_dies(void) {
+    dies = true;
+    fail(dying, dies_in, 0);
+    polydb_host *host = opened();
+    transfer(host);
+    polydb_host_close(host);
+}
+
+static void deaths_leave_a_journal(void) {
+    for (size_t i = 0; i < sizeof CALLS / sizeof *CALLS; i++) {
+        bool died = true;
+        for (int nth = 1; died; nth++) {
+            new_folder();
+            dying = CALLS[i];
+            dies_in = nth;
+            died = was_killed(lives_until_it_dies);
+            commits = 0;
+            polydb_host *host = opened();
+            settles(host);
+            transfer(host);
+            const char *line;
+            size_t length;
+            assert(polydb_host_read(host, (const uint8_t *)"a", 1, &line, &length, &error) == POLYDB_HOST_DONE);
+            assert(strcmp(line, "item a 90") == 0 || strcmp(line, "item a 80") == 0);
+            assert(died || strcmp(line, "item a 80") == 0);
+            polydb_host_close(host);
+            drop_folder();
+        }
+    }
+}
+
+int main(void) {
+    one_at_a_time();
+    children_keep_no_lock();
+    names_are_compared();
+    sites_are_compared();
+    empty_files_are_new();
+    no_journals_are_refused();
+    long_files_take_no_memory();
+    doubt_makes_a_copy();
+    failures_say_nothing_too_early(EIO);
+    failures_say_nothing_too_early(ENOSPC);
+    deaths_leave_a_journal();
+    return 0;
+}

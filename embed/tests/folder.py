@@ -1,0 +1,181 @@
+"""A site on a folder in Python: it and the host in C exclude one another, use the same files, and refuse the same things."""
+
+import errno
+import os
+import shutil
+import signal
+import sys
+import tempfile
+from pathlib import Path
+
+sys.path.insert(0, str(Path(__file__).resolve().parent.parent))
+
+import polydb  # noqa: E402
+
+CONFIG = "sites 1\nitem a 0 100\nitem b 0 50\n"
+TRANSFER = "a := a - 10 ; b := b + 10"
+
+
+class Folder:
+    """A folder that is there for a test, and the reports of the sites on it."""
+
+    def __enter__(self):
+        self.path = Path(tempfile.mkdtemp(prefix="polydb-"))
+        self.reports = []
+        return self
+
+    def __exit__(self, *_):
+        shutil.rmtree(self.path)
+
+    def open(self, config=CONFIG, me=0, adopts=False):
+        return polydb.FileHost(self.path, config, me, self.hear, adopts)
+
+    def hear(self, output):
+        assert isinstance(output, polydb.Report), output
+        self.reports.append(output.line)
+
+    def transfer(self, host):
+        host.submit(TRANSFER)
+        host.settle()
+        assert self.reports[-1].startswith("commit "), self.reports
+
+    def journal(self):
+        return self.path / "site-0.pv"
+
+
+def refused(error, call, *arguments, **more):
+    """That the call is refused by exactly this error."""
+    try:
+        call(*arguments, **more)
+    except (polydb.PolydbError, OSError) as found:
+        assert type(found) is error, (error, found)
+        return found
+    raise AssertionError(f"not refused: {error}")
+
+
+def in_child(part):
+    """Runs a part in a child of this process, and gives its status as `os.waitpid` does."""
+    child = os.fork()
+    if child == 0:
+        try:
+            part()
+        except BaseException as error:
+            print(error, file=sys.stderr)
+            os._exit(1)
+        os._exit(0)
+    return os.waitpid(child, 0)[1]
+
+
+def one_at_a_time():
+    with Folder() as folder:
+        host = folder.open()
+        assert host.found == polydb.Found(True, False, 0, 9), host.found
+        refused(polydb.Busy, folder.open)
+        assert in_child(lambda: refused(polydb.Busy, folder.open)) == 0
+        os.close(os.open(folder.path / "site-0.lock", os.O_RDONLY))  # a lock of a process would be lost here
+        refused(polydb.Busy, folder.open)
+
+        def child():
+            refused(polydb.Forked, host.settle)
+            refused(polydb.Forked, host.submit, TRANSFER)
+            host.close()
+
+        assert in_child(child) == 0
+        refused(polydb.Busy, folder.open)
+        folder.transfer(host)
+        host.close()
+        with folder.open() as host:
+            assert not host.found.is_new and not host.found.is_copied and host.found.records > 1
+            host.settle()
+            assert host.read("a") == "90"
+
+
+def names_are_compared():
+    with Folder() as folder:
+        with folder.open() as host:
+            folder.transfer(host)
+        assert "line 3" in str(refused(polydb.OtherConfig, folder.open, CONFIG.replace("50", "51")))
+        for end in ("id", "pv"):
+            shutil.copy(folder.path / f"site-0.{end}", folder.path / f"site-1.{end}")
+        refused(polydb.OtherSite, folder.open, me=1)
+        for nonsense in (b"", b"nonsense", b"polydb site 1\nsite 0\nconfig 9\n"):
+            (folder.path / "site-0.id").write_bytes(nonsense)
+            refused(polydb.Damaged, folder.open)
+        (folder.path / "site-0.id").unlink()
+        refused(polydb.Unnamed, folder.open)
+        folder.open(adopts=True).close()
+        folder.open().close()
+
+
+def journals():
+    with Folder() as folder:
+        folder.journal().write_bytes(b"")
+        with folder.open() as host:
+            assert host.found.is_new
+            folder.transfer(host)
+        kept = folder.journal().read_bytes()
+        os.truncate(folder.journal(), 400 << 20)
+        with folder.open() as host:
+            assert host.found.length == len(kept)
+        folder.journal().write_bytes(b"")
+        refused(polydb.Lost, folder.open)
+        folder.journal().unlink()
+        refused(polydb.Lost, folder.open)
+    for none in (b"P", b"PVJRNL0", b"PVJRNL01", b"QVJRNL01\0", b"PVJRNL01\1", b"PVJRNL01\1\0\0\0\0", b"PVJRNL01\1\xff\xff\xff\xff", b"PVJRNL01\1\0\0\0\5\1"):
+        with Folder() as folder:
+            folder.journal().write_bytes(none)
+            refused(polydb.NotOurs, folder.open)
+            assert not (folder.path / "site-0.id").exists()
+    with Folder() as folder:
+        refused(polydb.Malformed, folder.open, "nonsense\n")
+        refused(polydb.NoSite, folder.open, me=1)
+        assert sorted(path.suffix for path in folder.path.iterdir()) == [".lock", ".lock"]
+
+
+def doubt():
+    with Folder() as folder:
+        with folder.open() as host:
+            folder.transfer(host)
+        first = folder.journal().stat().st_ino
+        with folder.open() as host:
+            assert not host.found.is_copied and folder.journal().stat().st_ino == first
+
+        def dies():
+            folder.transfer(folder.open())
+            os.kill(os.getpid(), signal.SIGKILL)
+
+        assert os.WTERMSIG(in_child(dies)) == signal.SIGKILL
+        with folder.open() as host:
+            second = folder.journal().stat().st_ino
+            assert host.found.is_copied and second != first
+            sync, os.fdatasync = os.fdatasync, failing_once(errno.ENOSPC)
+            try:
+                host.submit(TRANSFER)
+                assert refused(OSError, host.settle).errno == errno.ENOSPC
+                assert len(folder.reports) == 2, folder.reports
+            finally:
+                os.fdatasync = sync
+            host.settle()
+            assert host.read("a") == "70"
+        with folder.open() as host:
+            assert host.found.is_copied and folder.journal().stat().st_ino != second
+
+
+def failing_once(number):
+    """A sync that fails."""
+
+    def sync(_):
+        raise OSError(number, os.strerror(number))
+
+    return sync
+
+
+def main():
+    one_at_a_time()
+    names_are_compared()
+    journals()
+    doubt()
+
+
+if __name__ == "__main__":
+    main()
