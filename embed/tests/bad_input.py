@@ -10,6 +10,7 @@ from pathlib import Path
 sys.path.insert(0, str(Path(__file__).resolve().parent.parent))
 
 import polydb  # noqa: E402
+from polydb import engine  # noqa: E402
 from polydb import JournalWrite, Message, Report, Site, World, run  # noqa: E402
 
 CONFIG = "sites 2\nitem a 0 100\nitem b 1 50\n"
@@ -220,8 +221,8 @@ def small_rooms():
     host = Hosted(0)
     host.site.submit(TRANSFER)
     calls = [
-        (polydb._site_take_journal, lambda: host.site.next_write().bytes),
-        (polydb._site_take_message, None),
+        (engine._site_take_journal, lambda: host.site.next_write().bytes),
+        (engine._site_take_message, None),
     ]
     for call, wanted in calls:
         if wanted is None:

@@ -175,6 +175,21 @@ static void put(const char *name, const void *bytes, size_t length) {
     assert(file >= 0 && write(file, bytes, length) == (ssize_t)length && close(file) == 0);
 }
 
+/* Lets time pass until an item shows one value; gives its line. */
+static const char *certain(polydb_host *host, const char *name) {
+    const char *line = NULL;
+    size_t length;
+    for (int ticks = 0; ticks < 20; ticks++) {
+        settles(host);
+        assert(polydb_host_read(host, (const uint8_t *)name, strlen(name), &line, &length, &error) == POLYDB_HOST_DONE);
+        if (strstr(line, " if ") == NULL && strstr(line, " locked ") == NULL) {
+            return line;
+        }
+        assert(polydb_host_tick(host, &error) == POLYDB_HOST_DONE);
+    }
+    abort();
+}
+
 /* Runs a part in a child, and gives whether it was killed. */
 static bool was_killed(void (*part)(void)) {
     pid_t child = fork();
@@ -455,11 +470,9 @@ static void deaths_leave_a_journal(void) {
             polydb_host *host = opened();
             settles(host);
             transfer(host);
-            const char *line;
-            size_t length;
-            assert(polydb_host_read(host, (const uint8_t *)"a", 1, &line, &length, &error) == POLYDB_HOST_DONE);
-            assert(strcmp(line, "item a 90") == 0 || strcmp(line, "item a 80") == 0);
-            assert(died || strcmp(line, "item a 80") == 0);
+            int left = atoi(certain(host, "a") + 7);
+            assert(left == (died ? left : 80) && (left == 90 || left == 80));
+            assert(atoi(certain(host, "b") + 7) == 150 - left); /* a transfer is made whole or not at all */
             polydb_host_close(host);
             drop_folder();
         }
