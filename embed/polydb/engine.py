@@ -18,7 +18,7 @@ import os
 from ctypes import POINTER, byref, c_bool, c_char_p, c_size_t, c_uint8, c_uint32, c_uint64, c_void_p, string_at
 from pathlib import Path
 from threading import Lock
-from typing import Any, Callable, NamedTuple, Optional, Tuple, Union
+from typing import Any, Callable, List, NamedTuple, Optional, Tuple, Union
 
 __all__ = [
     "EMPTY_JOURNAL",
@@ -264,7 +264,7 @@ def _bytes(text: Text) -> bytes:
     return text.encode() if isinstance(text, str) else _raw(text)
 
 
-def _fill(call: Callable[[Any, int, Any], int]) -> Tuple[int, bytes]:
+def _fill(call: Callable[[Any, int, Any], Any]) -> Tuple[int, bytes]:
     """What a call writes: it is called with a buffer and its room, and once more with a larger one where it is too small."""
     room = _FIRST_ROOM
     while True:
@@ -345,7 +345,7 @@ class World(_Open):
 
     def take(self) -> bytes:
         """All that was printed and not taken, as bytes."""
-        pieces = []
+        pieces: List[bytes] = []
         out = (c_uint8 * _FIRST_ROOM)()
         written = c_size_t(0)
         while True:

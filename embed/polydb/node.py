@@ -1,0 +1,506 @@
+"""A node for asyncio: a site on a folder that talks with the sites of other processes over ZeroMQ. It speaks what the node in C speaks (`embed/node/polydb_node.h`), with the
+same files of peers and keys. It needs pyzmq.
+
+    async with await Node.open("data", CONFIG, 1, peers="peers", key="data/site-1.key") as node:
+        answer = await node.submit("a := a - 10 ; b := b + 10")
+        if isinstance(answer, Commit): ..
+        item = await node.read("b")                         # item.cases has both values where it is in doubt
+
+The syncs are made in a thread of their own, so the loop goes on meanwhile; what comes in that time is written together afterwards.
+"""
+
+from __future__ import annotations
+
+import asyncio
+import hashlib
+import logging
+import os
+import re
+import time
+from concurrent.futures import ThreadPoolExecutor
+from pathlib import Path
+from typing import Any, Callable, Dict, List, NamedTuple, Optional, Union, cast
+
+import zmq
+import zmq.asyncio
+from zmq.auth.asyncio import AsyncioAuthenticator
+from zmq.utils import z85
+
+from .answers import Answer, Item, answer_of, item_of
+from .engine import Message, NoMemory, Output, PolydbError, Report, Text, Unwritten, _bytes
+from .files import FileHost, Found
+
+__all__ = ["Node", "Peer", "BadFile", "Unknown", "read_peers", "read_key", "new_key"]
+
+_VERSION = 1
+_HELLO, _WELCOME, _NO, _MESSAGE = b"hwnm"
+_HEAD = 20
+_MOST_MESSAGE = 364661  # bytes of the longest message, by its format
+_QUEUE = 4096  # frames that wait for a peer
+_LINGER = 250  # milliseconds in which what was sent last may still go
+_HANDSHAKE = 5000  # milliseconds that a connection has to show its key
+_BEAT, _SILENT = 1.0, 4.0  # seconds between two hellos; without a sign of a peer until it counts as away
+_LOGGER = logging.getLogger("polydb")
+
+
+class BadFile(PolydbError, ValueError):
+    """The file of peers, or of a key, isn't as it should be."""
+
+
+class Unknown(PolydbError):
+    """The node was closed before the request had its answer: it may have committed or not."""
+
+
+class Peer(NamedTuple):
+    """A site in the file of peers."""
+
+    address: str
+    key: bytes  #: its public key in the letters of Z85
+
+
+def read_peers(path: Union[str, Path]) -> Dict[int, Peer]:
+    """The peers of a file, whose lines are `SITE ADDRESS KEY`, by their numbers."""
+    peers: Dict[int, Peer] = {}
+    for number, line in enumerate(Path(path).read_text().splitlines(), 1):
+        words = line.split()
+        if not words or words[0].startswith("#"):
+            continue
+        is_good = len(words) == 3 and re.fullmatch(r"\d+", words[0]) and int(words[0]) < 16 and int(words[0]) not in peers and len(words[2]) == 40
+        if not is_good or words[2].encode() in [peer.key for peer in peers.values()]:
+            raise BadFile(f"line {number} of the file of peers: {BadFile.__doc__}")
+        peers[int(words[0])] = Peer(words[1], words[2].encode())
+    return peers
+
+
+def read_key(path: Union[str, Path]) -> bytes:
+    """The secret key of a file, as polydbd --new-key makes one."""
+    found = re.fullmatch(rb"secret (\S{40})\r?\n?", Path(path).read_bytes())
+    if found is None:
+        raise BadFile(f"the file of the key: {BadFile.__doc__}")
+    return found[1]
+
+
+def new_key(path: Union[str, Path]) -> str:
+    """Makes a new pair of keys, and a file of the secret one, which isn't there yet and which only its owner can read. Gives the public one."""
+    public, secret = zmq.curve_keypair()
+    file = os.open(path, os.O_WRONLY | os.O_CREAT | os.O_EXCL, 0o600)
+    with os.fdopen(file, "wb") as stream:
+        stream.write(b"secret " + secret + b"\n")
+        stream.flush()
+        os.fsync(file)
+    return public.decode()
+
+
+class _Link:
+    """What a node knows of a peer."""
+
+    def __init__(self, socket: Any) -> None:
+        self.socket = socket
+        self.heard: Optional[float] = None
+        self.is_away = self.is_odd = False
+
+
+class _Keys:
+    """Says which keys may come in."""
+
+    def __init__(self, peers: Dict[int, Peer], me: int, notice: Callable[[str], object]) -> None:
+        self._keys = {peer.key for site, peer in peers.items() if site != me}
+        self._notice = notice
+
+    def callback(self, _domain: str, key: bytes) -> bool:
+        may = key in self._keys
+        if not may:
+            self._notice("a stranger was kept out, whose key is in no line of the file of peers")
+        return may
+
+
+class Node:
+    """A site on a folder, and its peers. `Node.open` makes one. All its calls are made in the loop in which it was opened."""
+
+    me: int
+    host: FileHost
+    found: Found
+    _notice: Callable[[str], object]
+    _tick: float
+    _digest: bytes
+    _peers: Dict[int, Peer]
+    _secret: bytes
+    _public: bytes
+    _disk: ThreadPoolExecutor
+    _wake: asyncio.Event
+
+    def __init__(self) -> None:
+        self._inputs: List[Callable[[], None]] = []
+        self._outputs: List[Output] = []
+        self._links: Dict[int, _Link] = {}
+        self._waiting: List[asyncio.Future[Answer]] = []
+        self._numbered: Dict[str, asyncio.Future[Answer]] = {}
+        self._tasks: List[asyncio.Task[None]] = []
+        self._readers: List[Callable[[], None]] = []
+        self._is_failing = self._is_closed = self._is_spent = False
+        self._beaten = 0.0
+        self.sent = self.taken = self.lost = self.refused = 0
+
+    @classmethod
+    async def open(
+        cls,
+        folder: Union[str, Path],
+        config: Text,
+        me: int,
+        peers: Union[str, Path],
+        key: Union[str, Path, None] = None,
+        listen: Optional[str] = None,
+        tick: float = 0.1,
+        adopts: bool = False,
+        notice: Callable[[str], object] = _LOGGER.warning,
+    ) -> "Node":
+        """Opens site `me` on its folder, and listens. `key` is the file of the secret key, `site-ME.key` in the folder if it isn't said. `notice` is
+        told in words what who looks after the node should know: a peer that has come, or that is refused; a write that has failed."""
+        node = cls()
+        node.me = me
+        node._notice = notice
+        node._tick = tick
+        node._digest = _digest_of(config)
+        node._peers = read_peers(peers)
+        node._secret = read_key(key if key is not None else Path(folder) / f"site-{me}.key")
+        node._public = zmq.curve_public(node._secret)
+        if me not in node._peers or node._peers[me].key != node._public:
+            raise BadFile(f"the file of peers has no site {me}, or another key of it")
+        node.host = FileHost(folder, config, me, node._outputs.append, adopts)
+        node.found = node.host.found
+        node._disk = ThreadPoolExecutor(1, "polydb-disk")
+        try:
+            node._listen(listen or node._peers[me].address)
+        except BaseException:
+            node._drop()
+            raise
+        node._wake = asyncio.Event()
+        node._wake.set()  # there is something at first: the record of the epoch
+        loop = asyncio.get_running_loop()
+        node._tasks = [loop.create_task(part()) for part in (node._work, node._hear_all, node._time)]
+        return node
+
+    # ---- what a program asks for ----
+
+    async def submit(self, program: Text) -> Answer:
+        """A request, with this site as its coordinator: its end, a Commit or a Refusal. Where this is cancelled, it goes on all the same."""
+        return await self._ask(program, False)
+
+    async def query(self, program: Text) -> Answer:
+        """A request that assigns nothing and has a `return`."""
+        return await self._ask(program, True)
+
+    async def read(self, name: str) -> Item:
+        """What the site shows of its item of this name, once all is written."""
+        done: asyncio.Future[Item] = asyncio.get_running_loop().create_future()
+
+        def look() -> None:
+            try:
+                shown = self.host.read(name)
+            except Unwritten:
+                self._readers.append(look)
+            except PolydbError as error:
+                _fail(done, error)
+            else:
+                _give(done, item_of(name, shown))
+
+        self._readers.append(look)
+        self._give_input(lambda: None)
+        return await done
+
+    async def certain(self, name: str, pause: float = 0.02) -> int:
+        """The value of an item, once it is neither held nor in doubt."""
+        while not (item := await self.read(name)).is_certain:
+            await asyncio.sleep(pause)
+        return item.value
+
+    def hears(self, site: int) -> bool:
+        """Whether something was heard from this site within the last seconds."""
+        link = self._links.get(site)
+        return link is not None and link.heard is not None and not link.is_away and not link.is_odd
+
+    async def close(self) -> None:
+        """Stops. What was under way goes on when the node is opened again, and its requests here are Unknown."""
+        if self._is_closed:
+            return
+        self._is_closed = True
+        for task in self._tasks:
+            task.cancel()
+        await asyncio.gather(*self._tasks, return_exceptions=True)
+        self._disk.shutdown(wait=True)  # a write that is under way is waited for: nobody may write once the lock is gone
+        self._drop()
+        for future in [*self._waiting, *self._numbered.values()]:
+            _fail(future, Unknown(str(Unknown.__doc__)))
+
+    async def __aenter__(self) -> "Node":
+        return self
+
+    async def __aexit__(self, *_: object) -> None:
+        await self.close()
+
+    # ---- inputs and outputs ----
+
+    async def _ask(self, program: Text, is_query: bool) -> Answer:
+        if self._is_closed or self._is_spent:
+            raise Unknown("the node is closed" if self._is_closed else "the site has no number left: open it again")
+        done: asyncio.Future[Answer] = asyncio.get_running_loop().create_future()
+
+        def give() -> None:
+            try:
+                self.host.submit(program, is_query)
+            except PolydbError as error:
+                _fail(done, error)
+            else:
+                self._waiting.append(done)  # numbers are given in the order of the requests
+
+        self._give_input(give)
+        return await done
+
+    def _give_input(self, give: Callable[[], None]) -> None:
+        self._inputs.append(give)
+        self._wake.set()
+
+    async def _work(self) -> None:
+        """Gives the site what came, writes what it wants written, in another thread, and hands over what it lets out. The site is used by one thread at a time."""
+        loop = asyncio.get_running_loop()
+        while True:
+            await self._wake.wait()
+            self._wake.clear()
+            inputs, self._inputs = self._inputs, []
+            for give in inputs:
+                give()
+            settling = loop.run_in_executor(self._disk, self.host.settle)
+            try:
+                await asyncio.shield(settling)
+            except asyncio.CancelledError:
+                await asyncio.wait([settling])
+                raise
+            except (OSError, PolydbError) as error:
+                self._say_failing(error)
+            else:
+                if self._is_failing:
+                    self._is_failing = False
+                    self._notice("what had failed is written")
+            outputs = self._outputs[:]
+            self._outputs.clear()
+            for output in outputs:
+                self._hand_over(output)
+            readers, self._readers = self._readers, []
+            for look in readers:
+                look()
+
+    def _say_failing(self, error: Exception) -> None:
+        if not self._is_failing:
+            self._is_failing = True
+            self._notice(f"{error}; nothing is let out that rests on it, and it is made again")
+
+    def _hand_over(self, output: Output) -> None:
+        if isinstance(output, Report):
+            self._report(output.line)
+        else:
+            self._send(output)
+
+    def _report(self, line: str) -> None:
+        word, _, rest = line.partition(" ")
+        if word == "txn" and self._waiting:
+            self._numbered[rest] = self._waiting.pop(0)
+        elif word in ("commit", "refuse"):
+            done = self._numbered.pop(rest.split(" ", 1)[0], None)
+            if done is not None:
+                _give(done, answer_of(line))
+        else:
+            self._notice(line)  # `full ..`, `spent ..`
+            if word == "spent":  # for a request or for a grant: from here on a number can't be told from another's
+                self._is_spent = True
+                while self._waiting:
+                    _fail(self._waiting.pop(0), Unknown("the site has no number left: open it again"))
+
+    def _send(self, message: Message) -> None:
+        link = self._links.get(message.to)
+        if link is not None and self._send_frame(link, _MESSAGE, message.bytes):
+            self.sent += 1
+        else:
+            self.lost += 1
+
+    # ---- frames ----
+
+    def _head(self, kind: int) -> bytes:
+        return bytes((ord("P"), ord("V"), _VERSION, kind)) + self._digest
+
+    def _send_frame(self, link: _Link, kind: int, data: bytes = b"") -> bool:
+        try:
+            link.socket.send(self._head(kind) + data, zmq.DONTWAIT)
+        except zmq.ZMQError:
+            return False
+        return True
+
+    def _kind(self, frame: bytes) -> Union[int, str]:
+        """The kind of a frame, or what is wrong about it."""
+        if len(frame) < _HEAD or frame[:2] != b"PV" or frame[2] != _VERSION:
+            return "another version" if frame[:2] == b"PV" and len(frame) > 2 else "another protocol"
+        return frame[3] if frame[4:_HEAD] == self._digest else "another configuration"
+
+    def _hear(self, site: int) -> None:
+        link = self._links[site]
+        if link.is_away or link.is_odd or link.heard is None:
+            self._notice(f"site {site} is here")
+        link.heard = time.monotonic()
+        link.is_away = link.is_odd = False
+
+    def _say_odd(self, site: int, what: str) -> None:
+        if not self._links[site].is_odd:
+            self._links[site].is_odd = True
+            self._notice(f"site {site} is refused: it has {what}")
+
+    async def _hear_all(self) -> None:
+        while True:
+            parts = await self._all.recv_multipart(copy=False)
+            if len(parts) != 2:
+                self.refused += 1
+                continue
+            try:
+                site = self._site_of[cast(Any, parts[1]).get("User-Id")]
+            except (KeyError, zmq.ZMQError):
+                self.refused += 1
+                continue
+            self._take(site, parts[0].bytes, parts[1].bytes)
+
+    def _take(self, site: int, route: bytes, frame: bytes) -> None:
+        kind = self._kind(frame)
+        if isinstance(kind, str):
+            self.refused += 1
+            self._say_odd(site, kind)
+            self._answer(route, _NO)
+        elif kind == _HELLO:
+            self._hear(site)
+            self._answer(route, _WELCOME)
+        elif kind == _MESSAGE:
+            self._hear(site)
+            self._give_input(lambda: self._receive(site, frame[_HEAD:]))
+        else:
+            self.refused += 1
+
+    def _receive(self, site: int, message: bytes) -> None:
+        """A message that names another sender than the one whose key it came by is nobody's."""
+        try:
+            if len(message) < 2 or message[1] != site:
+                self.refused += 1
+                return
+            self.host.receive(message)
+            self.taken += 1
+        except PolydbError:
+            self.refused += 1
+
+    def _answer(self, route: bytes, kind: int) -> None:
+        """Answers by the connection that a frame came by. Where it can't be sent now, the next hello has another answer."""
+        try:
+            self._back.send_multipart([route, self._head(kind)], zmq.DONTWAIT)
+        except zmq.ZMQError:
+            pass
+
+    # ---- time ----
+
+    async def _time(self) -> None:
+        """Ticks: one at a time, however long nobody looked."""
+        due = time.monotonic() + self._tick
+        while True:
+            await asyncio.sleep(max(0.0, due - time.monotonic()))
+            due = max(due + self._tick, time.monotonic())
+            self._give_input(self._give_tick)
+            for site, link in self._links.items():
+                self._take_answers(site, link)
+            now = time.monotonic()
+            if now - self._beaten >= _BEAT:
+                self._say_hello()
+                for site, link in self._links.items():
+                    if link.heard is not None and not link.is_away and now - link.heard > _SILENT:
+                        link.is_away = True
+                        self._notice(f"site {site} is away")
+
+    def _give_tick(self) -> None:
+        try:
+            self.host.tick()
+        except NoMemory:
+            self._notice("a tick is left out: no memory")
+
+    def _say_hello(self) -> None:
+        self._beaten = time.monotonic()
+        for link in self._links.values():
+            self._send_frame(link, _HELLO)
+
+    def _take_answers(self, site: int, link: _Link) -> None:
+        while True:
+            try:
+                frame = link.socket.recv(zmq.DONTWAIT)
+            except zmq.ZMQError:
+                return
+            kind = self._kind(frame)
+            if isinstance(kind, str):
+                self.refused += 1
+                self._say_odd(site, kind)
+            elif kind == _WELCOME:
+                self._hear(site)
+
+    # ---- sockets ----
+
+    def _listen(self, address: str) -> None:
+        self._net = zmq.asyncio.Context()
+        self._keeper = AsyncioAuthenticator(self._net)
+        self._keeper.start()
+        self._keeper.configure_curve_callback(domain="polydb", credentials_provider=_Keys(self._peers, self.me, self._notice))
+        self._site_of = {peer.key.decode(): site for site, peer in self._peers.items()}
+        self._all = self._net.socket(zmq.ROUTER)
+        self._set_limits(self._all)
+        self._all.curve_server = True
+        self._all.curve_secretkey = self._secret
+        self._all.zap_domain = b"polydb"
+        self._all.bind(address)
+        self._back = zmq.Socket.shadow(self._all.underlying)  # the same socket, for sending at once
+        plain = zmq.Context.shadow(self._net.underlying)
+        for site, peer in self._peers.items():
+            if site != self.me:
+                socket = plain.socket(zmq.DEALER)
+                self._set_limits(socket)
+                socket.curve_serverkey = peer.key
+                socket.curve_publickey = self._public
+                socket.curve_secretkey = self._secret
+                socket.connect(peer.address)
+                self._links[site] = _Link(socket)
+        self._say_hello()
+
+    @staticmethod
+    def _set_limits(socket: Any) -> None:
+        socket.linger = _LINGER
+        socket.handshake_ivl = _HANDSHAKE
+        socket.sndhwm = socket.rcvhwm = _QUEUE
+        socket.heartbeat_ivl = int(_BEAT * 1000)
+        socket.heartbeat_timeout = int(_SILENT * 1000)
+        socket.reconnect_ivl, socket.reconnect_ivl_max = 50, 1000
+        socket.maxmsgsize = _HEAD + _MOST_MESSAGE
+
+    def _drop(self) -> None:
+        """Closes the sockets and the site."""
+        for link in self._links.values():
+            link.socket.close()
+        if hasattr(self, "_all"):
+            self._all.close()
+        if hasattr(self, "_keeper"):
+            self._keeper.stop()
+        if hasattr(self, "_net"):
+            self._net.term()
+        self._disk.shutdown(wait=True)
+        self.host.close()
+
+
+def _digest_of(config: Text) -> bytes:
+    return hashlib.blake2b(_bytes(config), digest_size=16).digest()
+
+
+def _give(future: "asyncio.Future[Any]", result: Any) -> None:
+    if not future.done():
+        future.set_result(result)
+
+
+def _fail(future: "asyncio.Future[Any]", error: Exception) -> None:
+    if not future.done():
+        future.set_exception(error)
