@@ -9,5 +9,8 @@ fn main() {
     };
     println!("cargo:rustc-link-search=native={}", folder.display());
     println!("cargo:rerun-if-env-changed=POLYDB_FOLDER");
-    println!("cargo:rerun-if-changed={}", folder.join("libpolydb.a").display());
+    println!(
+        "cargo:rerun-if-changed={}",
+        folder.join("libpolydb.a").display()
+    );
 }

@@ -76,6 +76,9 @@ async def talk(sites):
     await refused(polydb.NotHere, first.read("b"))
     await refused(polydb.UnknownName, first.read("z"))
     await refused(polydb.Busy, opened(sites, 0, notices[0]))
+    await refused(polydb.Busy, opened(sites, 2, notices[0]))  # a polydbd has it
+    second_here = await asyncio.to_thread(nodes.subprocess.run, sites.words(0), capture_output=True, text=True)
+    assert second_here.returncode == 3 and "has the site open" in second_here.stderr, second_here
     await refused(polydb.OtherConfig, Node.open(await closed(second, sites), nodes.CONFIG + "\n", 1, sites.peers))
 
     # Several at once are answered each on its own.

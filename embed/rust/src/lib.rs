@@ -1,8 +1,13 @@
 //! polydb in a Rust program: a [`World`] of the database, or one [`Site`] of several, as a value that is closed when it is dropped;
-//! and [`run`], for a whole schedule.
+//! and [`run`], for a whole schedule. A [`FileHost`] is a site on a folder: it locks it, writes and syncs the site's journal there, and hands over what the site lets out.
 //!
 //! The functions that are called are those of `polydb.h`; what each does is written there. Nothing but `std` is needed.
 #![warn(missing_docs)]
+
+mod files;
+mod host;
+
+pub use host::{FileHost, Found, HostError};
 
 use std::error;
 use std::ffi::c_void;
