@@ -198,9 +198,9 @@ def program():
     return place if os.access(place, os.X_OK) else None
 
 
-def show(folder):
+def show(folder, config=CONFIG):
     """What `polydb show` shows of each item, by the files alone."""
-    said = subprocess.run([program(), "show"], cwd=folder, input=CONFIG.encode(), stdout=subprocess.PIPE, check=True).stdout.decode()
+    said = subprocess.run([program(), "show"], cwd=folder, input=config.encode(), stdout=subprocess.PIPE, check=True).stdout.decode()
     return dict(line.removeprefix("item ").split(" ", 1) for line in said.splitlines() if line.startswith("item "))
 
 

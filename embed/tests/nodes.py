@@ -71,10 +71,11 @@ class Client:
 class Sites:
     """Processes with a site each, in a folder that goes at the end."""
 
-    def __init__(self, config=CONFIG, count=3, tick=40):
+    def __init__(self, config=CONFIG, count=3, tick=40, one_folder=False):
         self.folder = Path(tempfile.mkdtemp(prefix="polydb-"))
         self.count = count
         self.tick = tick
+        self.one_folder = one_folder
         self.config = self.folder / "config"
         self.config.write_text(config)
         self.peers = self.folder / "peers"
@@ -83,7 +84,7 @@ class Sites:
         self.logs = [self.folder / f"log-{me}" for me in range(count)]
         lines = []
         for me in range(count):
-            self.data(me).mkdir()
+            self.data(me).mkdir(exist_ok=True)
             key = subprocess.run([PROGRAMS / "polydbd", "--new-key", self.data(me) / f"site-{me}.key"], check=True, capture_output=True, text=True).stdout
             lines.append(f"{me} tcp://127.0.0.1:{self.ports[me]} {key}")
         self.peers.write_text("# site, address, public key\n" + "".join(lines))
@@ -101,7 +102,7 @@ class Sites:
         shutil.rmtree(self.folder)
 
     def data(self, me):
-        return self.folder / f"data-{me}"
+        return self.folder / ("data" if self.one_folder else f"data-{me}")
 
     def socket(self, me):
         return self.data(me) / f"site-{me}.sock"
