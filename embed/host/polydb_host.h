@@ -84,7 +84,7 @@ typedef struct {
     uint8_t site;
     bool adopts; /* takes a journal with records beside which nothing says whose it is */
 
-    /* Called within polydb_host_settle alone. They call no function of this host. Neither pointer may be null. */
+    /* Called within polydb_host_settle alone. Of this host's functions they may call polydb_host_submit, polydb_host_receive and polydb_host_tick. Neither pointer may be null. */
     void *context;
     /* A message for site `to`, another one. `to` may be no site of the configuration: then it is lost. */
     void (*message)(void *context, uint8_t to, const uint8_t *bytes, size_t length);
