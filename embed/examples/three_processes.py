@@ -143,7 +143,7 @@ class Process:
 
     def __init__(self, words, me):
         self.me = me
-        self.process = subprocess.Popen([sys.executable, *words], stdin=subprocess.PIPE, stdout=subprocess.PIPE, bufsize=0)
+        self.process = subprocess.Popen(words, stdin=subprocess.PIPE, stdout=subprocess.PIPE, bufsize=0)
         self.left = b""
         self.wait_for("ready")
 
@@ -220,7 +220,7 @@ def drive(folder):
     ports = free_ports(3)
 
     def start(me, word="host"):
-        return Process([__file__, word, str(me), folder, ",".join(map(str, ports))], me)
+        return Process([sys.executable, __file__, word, str(me), folder, ",".join(map(str, ports))], me)
 
     processes = [start(0, "doomed"), start(1), start(2)]
     try:

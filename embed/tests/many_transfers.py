@@ -1,8 +1,8 @@
 """Transfers between three processes with a site each, while they are killed at random: the total is kept.
 
-    many_transfers.py [COUNT [SEED]]
+    many_transfers.py [COUNT [SEED [PROGRAM]]]
 
-Each process is a host as in the example `three_processes`. At random moments one is killed by SIGKILL, and now and then one dies within a write to
+Each process is a host as in the example `three_processes`, or PROGRAM, as the example `process` in Rust; that one is killed, but doesn't die within a write by itself. At random moments one is killed by SIGKILL, and now and then one dies within a write to
 its journal, of which any bytes are left. It starts again on its file. And now and then a write fails, of which a part is left, and is made again. After COUNT commits (10,000) the killing ends, and once all is known the
 items have their first total, and `polydb show` shows each item, by the journals alone, as its site does. The program is looked for where `rt ci`
 leaves it, or in the variable POLYDB_PROGRAM; without it that last look is left out, and the last line says so.
@@ -68,8 +68,9 @@ class MortalHost(Host):
 class Driver:
     """Keeps one transfer under way at each process that is up."""
 
-    def __init__(self, count, seed, folder):
+    def __init__(self, count, seed, folder, program):
         self.count = count
+        self.program = program
         self.chance = random.Random(seed)
         self.folder = folder
         self.ports = free_ports(SITES)
@@ -80,9 +81,12 @@ class Driver:
 
     def start(self, me):
         ports = ",".join(map(str, self.ports))
+        words = [sys.executable, __file__, "host", str(me), self.folder, ports, str(self.chance.getrandbits(32))]
+        if self.program is not None:
+            words = [self.program, str(me), self.folder, ports]
         while True:
             try:
-                return Process([__file__, "host", str(me), self.folder, ports, str(self.chance.getrandbits(32))], me)
+                return Process(words, me)
             except Ended:
                 self.torn += 1  # while it wrote the record of its epoch
 
@@ -213,10 +217,12 @@ def main():
         return
     count = int(sys.argv[1]) if len(sys.argv) > 1 else 10_000
     seed = int(sys.argv[2]) if len(sys.argv) > 2 else random.SystemRandom().getrandbits(32)
+    host = sys.argv[3] if len(sys.argv) > 3 else None
     print(f"seed {seed}", flush=True)
     folder = tempfile.mkdtemp(prefix="polydb-")
+    (Path(folder) / "config").write_text(CONFIG)
     begun = time.monotonic()
-    driver = Driver(count, seed, folder)
+    driver = Driver(count, seed, folder, host)
     try:
         driver.run()
         shown = driver.end()
