@@ -36,7 +36,7 @@ class LibraryWorld:
 
 
 class LibraryEngine:
-    """The engine in `libpolydb.so`, by `embed/polydb.py`. Making one raises ImportError where the library isn't built."""
+    """The engine in `libpolydb.so`, by `embed/polydb/`. Making one raises ImportError where the library isn't built."""
 
     def __init__(self):
         folder = str(Path(__file__).resolve().parent.parent / "embed")

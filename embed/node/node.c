@@ -55,6 +55,7 @@ typedef struct {
 
 struct polydb_node {
     polydb_host *host;
+    pid_t process; /* the one that opened it */
     uint8_t me;
     unsigned tick;
     key_pair keys;
@@ -474,6 +475,7 @@ polydb_host_cause polydb_node_open(polydb_node **node, const polydb_node_setup *
     if (made == NULL) {
         return node_refuse(error, POLYDB_HOST_NO_MEMORY, 0, "open");
     }
+    made->process = getpid();
     made->epoll = made->timer = made->again = -1;
     made->me = setup->site;
     made->tick = setup->tick == 0 ? FIRST_TICK : setup->tick;
@@ -513,6 +515,10 @@ static void close_file(int file) {
 
 void polydb_node_close(polydb_node *node) {
     if (node == NULL) {
+        return;
+    }
+    if (node->process != getpid()) { /* in a child the threads of libzmq aren't there, so its sockets can't be closed */
+        polydb_host_close(node->host);
         return;
     }
     for (int site = 0; site < SITES; site++) {
@@ -613,6 +619,9 @@ static bool take_some(polydb_node *node) {
 
 polydb_host_cause polydb_node_work(polydb_node *node, polydb_host_error *error) {
     uint64_t count;
+    if (node->process != getpid()) {
+        return node_refuse(error, POLYDB_HOST_FORKED, 0, "a call in a child of the process");
+    }
     (void)!read(node->again, &count, sizeof count);
     bool has_ticked = tick(node);
     bool any = take_some(node);

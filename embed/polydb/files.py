@@ -283,6 +283,10 @@ class SiteFolder:
                 os.close(file)
         self._journal = self._lock = self._folder = -1
 
+    def __del__(self) -> None:
+        if hasattr(self, "_lock"):
+            self.close()
+
 
 class FileHost:
     """A site that is open on its folder. It is used by one thread at a time."""
