@@ -19,7 +19,7 @@ import re
 import time
 from concurrent.futures import ThreadPoolExecutor
 from pathlib import Path
-from typing import Any, Callable, Dict, List, NamedTuple, Optional, Union, cast
+from typing import Any, Callable, Dict, List, NamedTuple, Optional, Set, Union, cast
 
 import zmq
 import zmq.asyncio
@@ -48,7 +48,7 @@ class BadFile(PolydbError, ValueError):
 
 
 class Unknown(PolydbError):
-    """The node was closed before the request had its answer: it may have committed or not."""
+    """The node was closed, or has failed, before the request had its answer: it may have committed or not."""
 
 
 class Peer(NamedTuple):
@@ -137,6 +137,7 @@ class Node:
         self._numbered: Dict[str, asyncio.Future[Answer]] = {}
         self._tasks: List[asyncio.Task[None]] = []
         self._readers: List[Callable[[], None]] = []
+        self._open: Set[asyncio.Future[Any]] = set()  # all that somebody waits for
         self._is_failing = self._is_closed = self._is_spent = False
         self._beaten = 0.0
         self.sent = self.taken = self.lost = self.refused = 0
@@ -178,6 +179,8 @@ class Node:
         node._wake.set()  # there is something at first: the record of the epoch
         loop = asyncio.get_running_loop()
         node._tasks = [loop.create_task(part()) for part in (node._work, node._hear_all, node._time)]
+        for task in node._tasks:
+            task.add_done_callback(node._has_ended)
         return node
 
     # ---- what a program asks for ----
@@ -192,7 +195,9 @@ class Node:
 
     async def read(self, name: str) -> Item:
         """What the site shows of its item of this name, once all is written."""
-        done: asyncio.Future[Item] = asyncio.get_running_loop().create_future()
+        if self._is_closed:
+            raise Unknown("the node is closed")
+        done = self._new_future()
 
         def look() -> None:
             try:
@@ -206,7 +211,7 @@ class Node:
 
         self._readers.append(look)
         self._give_input(lambda: None)
-        return await done
+        return cast(Item, await done)
 
     async def certain(self, name: str, pause: float = 0.02) -> int:
         """The value of an item, once it is neither held nor in doubt."""
@@ -229,8 +234,7 @@ class Node:
         await asyncio.gather(*self._tasks, return_exceptions=True)
         self._disk.shutdown(wait=True)  # a write that is under way is waited for: nobody may write once the lock is gone
         self._drop()
-        for future in [*self._waiting, *self._numbered.values()]:
-            _fail(future, Unknown(str(Unknown.__doc__)))
+        self._give_up()
 
     async def __aenter__(self) -> "Node":
         return self
@@ -238,12 +242,25 @@ class Node:
     async def __aexit__(self, *_: object) -> None:
         await self.close()
 
+    def _has_ended(self, task: "asyncio.Task[None]") -> None:
+        """A part of the node has come to its end by a fault, which none of them is meant to: nobody is to wait for it."""
+        if not task.cancelled() and task.exception() is not None:
+            self._is_spent = True
+            self._notice(f"the node has failed, close it: {task.exception()!r}")
+            self._give_up()
+
+    def _give_up(self) -> None:
+        for future in list(self._open):
+            _fail(future, Unknown(str(Unknown.__doc__)))
+        self._waiting.clear()
+        self._numbered.clear()
+
     # ---- inputs and outputs ----
 
     async def _ask(self, program: Text, is_query: bool) -> Answer:
         if self._is_closed or self._is_spent:
             raise Unknown("the node is closed" if self._is_closed else "the site has no number left: open it again")
-        done: asyncio.Future[Answer] = asyncio.get_running_loop().create_future()
+        done = self._new_future()
 
         def give() -> None:
             try:
@@ -254,7 +271,13 @@ class Node:
                 self._waiting.append(done)  # numbers are given in the order of the requests
 
         self._give_input(give)
-        return await done
+        return cast(Answer, await done)
+
+    def _new_future(self) -> "asyncio.Future[Any]":
+        done: asyncio.Future[Any] = asyncio.get_running_loop().create_future()
+        self._open.add(done)
+        done.add_done_callback(self._open.discard)
+        return done
 
     def _give_input(self, give: Callable[[], None]) -> None:
         self._inputs.append(give)
