@@ -40,6 +40,7 @@ enum {
     LINGER = 250,             /* milliseconds in which what was sent last may still go */
     HANDSHAKE = 5000,         /* milliseconds that a connection has to show its key */
     BEAT = 1000, SILENT = 4000, /* milliseconds between two hellos; without a sign of a peer until it counts as away */
+    RECONNECT = 20, RECONNECT_MOST = 200, /* milliseconds until a peer is tried again that is away: first, and later */
     FIRST_TICK = 100          /* milliseconds between two ticks, if nothing is said */
 };
 
@@ -341,7 +342,7 @@ static bool set_limits(void *socket) {
     int64_t most = HEAD + MOST_MESSAGE;
     return set_number(socket, ZMQ_LINGER, LINGER) && set_number(socket, ZMQ_HANDSHAKE_IVL, HANDSHAKE) && set_number(socket, ZMQ_SNDHWM, QUEUE) &&
            set_number(socket, ZMQ_RCVHWM, QUEUE) && set_number(socket, ZMQ_HEARTBEAT_IVL, BEAT) && set_number(socket, ZMQ_HEARTBEAT_TIMEOUT, SILENT) &&
-           set_number(socket, ZMQ_RECONNECT_IVL, 50) && set_number(socket, ZMQ_RECONNECT_IVL_MAX, 1000) && zmq_setsockopt(socket, ZMQ_MAXMSGSIZE, &most, sizeof most) == 0;
+           set_number(socket, ZMQ_RECONNECT_IVL, RECONNECT) && set_number(socket, ZMQ_RECONNECT_IVL_MAX, RECONNECT_MOST) && zmq_setsockopt(socket, ZMQ_MAXMSGSIZE, &most, sizeof most) == 0;
 }
 
 /* Lets the epoll know of a descriptor. */

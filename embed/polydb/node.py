@@ -39,6 +39,7 @@ _MOST_MESSAGE = 364661  # bytes of the longest message, by its format
 _QUEUE = 4096  # frames that wait for a peer
 _LINGER = 250  # milliseconds in which what was sent last may still go
 _HANDSHAKE = 5000  # milliseconds that a connection has to show its key
+_RECONNECT, _RECONNECT_MOST = 20, 200  # milliseconds until a peer is tried again that is away: first, and later
 _BEAT, _SILENT = 1.0, 4.0  # seconds between two hellos; without a sign of a peer until it counts as away
 _LOGGER = logging.getLogger("polydb")
 
@@ -498,7 +499,7 @@ class Node:
         socket.sndhwm = socket.rcvhwm = _QUEUE
         socket.heartbeat_ivl = int(_BEAT * 1000)
         socket.heartbeat_timeout = int(_SILENT * 1000)
-        socket.reconnect_ivl, socket.reconnect_ivl_max = 50, 1000
+        socket.reconnect_ivl, socket.reconnect_ivl_max = _RECONNECT, _RECONNECT_MOST
         socket.maxmsgsize = _HEAD + _MOST_MESSAGE
 
     def _drop(self) -> None:

@@ -93,7 +93,7 @@ async def talk(sites):
     for _ in range(100):
         client = sites.client(2)
         client.send("submit", "c := c - 1 ; b := b + 1")
-        await asyncio.sleep(random.uniform(0.0, 0.04))
+        await asyncio.sleep(random.uniform(0.0, 0.2))
         sites.kill(2)
         while (item := await second.read("b")).locked:
             await asyncio.sleep(0.02)

@@ -141,7 +141,8 @@ def doubt():
             assert not host.found.is_copied and folder.journal().stat().st_ino == first
 
         def dies():
-            folder.transfer(folder.open())
+            host = folder.open()  # what nobody has any more is closed, and ends well
+            folder.transfer(host)
             os.kill(os.getpid(), signal.SIGKILL)
 
         assert os.WTERMSIG(in_child(dies)) == signal.SIGKILL
