@@ -191,7 +191,7 @@ void polydb_world_close(polydb_world *world);
  * agreement are of a world.) Time is the host's: a site that waits for an answer gives up at its third tick, lets go of its locks at their third, and then
  * asks again at each tick; and never without one.
  *
- * What the host owes besides:
+ * What the host owes besides (`host/polydb_host.h` does what is on files of it, for a site on a folder, and `node/polydb_node.h` carries messages and ticks too):
  *   - the file, and for a new one its entry in the folder, is synced before its bytes are read for polydb_site_open: the site counts as written all that it
  *     finds, and of a process that was killed the file may show bytes that aren't on the disk yet;
  *   - the file holds what was written and synced before polydb_site_journal_synced was called, until the site is opened again. A crash in

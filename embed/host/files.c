@@ -9,6 +9,8 @@
 #include <sys/types.h>
 #include <unistd.h>
 
+#include "polydb.h"
+
 polydb_host_cause refuse(polydb_host_error *error, polydb_host_cause cause, const char *what, const char *name) {
     *error = (polydb_host_error){.cause = cause};
     snprintf(error->what, sizeof error->what, "%s%s%s", what, *name == '\0' ? "" : " ", name);
@@ -23,7 +25,7 @@ polydb_host_cause refuse_system(polydb_host_error *error, const char *what, cons
 }
 
 polydb_host_cause refuse_status(polydb_host_error *error, const char *what, uint32_t status) {
-    refuse(error, status == 7 ? POLYDB_HOST_NO_MEMORY : POLYDB_HOST_ENGINE, what, "");
+    refuse(error, status == POLYDB_NO_MEMORY ? POLYDB_HOST_NO_MEMORY : POLYDB_HOST_ENGINE, what, "");
     error->status = status;
     return error->cause;
 }

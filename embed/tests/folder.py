@@ -1,9 +1,14 @@
-"""A site on a folder in Python: it and the host in C exclude one another, use the same files, and refuse the same things."""
+"""A site on a folder in Python: it and the hosts in C and Rust exclude one another, use the same files, and refuse the same things.
+
+    folder.py [PROGRAM]          with PROGRAM, the example `process` in Rust, only that the two exclude one another and take over from one another
+"""
 
 import errno
 import os
 import shutil
 import signal
+import socket
+import subprocess
 import sys
 import tempfile
 from pathlib import Path
@@ -171,7 +176,47 @@ def failing_once(number):
     return sync
 
 
+def with_another(program):
+    """A site goes from a process in another language to this one and back; while one has it, the other is refused."""
+    with Folder() as folder:
+        (folder.path / "config").write_text(CONFIG)
+        with socket.socket(socket.AF_INET, socket.SOCK_DGRAM) as one:
+            one.bind(("127.0.0.1", 0))
+            port = one.getsockname()[1]
+        words = [program, "0", folder.path, str(port)]
+
+        def start():
+            process = subprocess.Popen(words, stdin=subprocess.PIPE, stdout=subprocess.PIPE, text=True)
+            assert process.stdout.readline() == "ready\n"
+            return process
+
+        def ask(process, line, wanted):
+            process.stdin.write(line + "\n")
+            process.stdin.flush()
+            assert (found := process.stdout.readline().strip()) == wanted, (found, wanted)
+
+        process = start()
+        refused(polydb.Busy, folder.open)
+        ask(process, "submit " + TRANSFER, "report txn 0.1.0")
+        assert process.stdout.readline() == "report commit 0.1.0 certain nothing\n"
+        process.communicate()
+        with folder.open() as host:
+            assert not host.found.is_new and not host.found.is_copied
+            folder.transfer(host)
+            refused_process = subprocess.run(words, stdin=subprocess.DEVNULL, capture_output=True, text=True)
+            assert refused_process.returncode != 0 and "Busy" in refused_process.stderr, refused_process
+        process = start()
+        ask(process, "read a", "value 80")
+        process.kill()
+        process.wait()
+        with folder.open() as host:
+            assert host.found.is_copied
+
+
 def main():
+    if len(sys.argv) > 1:
+        with_another(sys.argv[1])
+        return
     one_at_a_time()
     names_are_compared()
     journals()

@@ -185,8 +185,8 @@ def a_transfer_and_a_kill():
         assert sites.polydbc(0, "read", "a") == ["item a 90"]
         assert sites.polydbc(1, "read", "--certain", "b") == ["item b 60"]
         assert re.fullmatch(r"commit 2\.1\.\d+ certain 150", sites.polydbc_commits(2, "query", "return a + b")[-1])
-        assert sites.polydbc(1, "submit", "a := ", status=1)[0].startswith("error a request: the text is no program")
-        assert sites.polydbc(1, "read", "a", status=1)[0].startswith("error an item: it belongs to another site")
+        assert re.match("error .*text is no program", sites.polydbc(1, "submit", "a := ", status=1)[0])
+        assert re.match("error .*another", sites.polydbc(1, "read", "a", status=1)[0])
         [first, last] = [json.loads(line) for line in sites.polydbc_commits(0, "--json", "submit", "require a > 1000")]
         assert first.keys() == {"tag", "txn"} and last["replies"] == ["declined-require"], (first, last)
         assert json.loads(sites.polydbc(1, "--json", "read", "b")[0]) == {"cases": [{"value": 60, "when": []}], "item": "b", "tag": 1}
