@@ -19,7 +19,7 @@ import re
 import time
 from concurrent.futures import ThreadPoolExecutor
 from pathlib import Path
-from typing import Any, Callable, Dict, List, NamedTuple, Optional, Set, Union, cast
+from typing import Any, Callable, Dict, List, NamedTuple, Optional, Set, Tuple, Union, cast
 
 import zmq
 import zmq.asyncio
@@ -134,8 +134,8 @@ class Node:
         self._inputs: List[Callable[[], None]] = []
         self._outputs: List[Output] = []
         self._links: Dict[int, _Link] = {}
-        self._waiting: List[asyncio.Future[Answer]] = []
-        self._numbered: Dict[str, asyncio.Future[Answer]] = {}
+        self._waiting: List[Tuple[asyncio.Future[Any], Optional[Callable[[str], object]]]] = []
+        self._numbered: Dict[str, asyncio.Future[Any]] = {}
         self._tasks: List[asyncio.Task[None]] = []
         self._readers: List[Callable[[], None]] = []
         self._open: Set[asyncio.Future[Any]] = set()  # all that somebody waits for
@@ -186,13 +186,16 @@ class Node:
 
     # ---- what a program asks for ----
 
-    async def submit(self, program: Text) -> Answer:
-        """A request, with this site as its coordinator: its end, a Commit or a Refusal. Where this is cancelled, it goes on all the same."""
-        return await self._ask(program, False)
+    async def submit(self, program: Text, begun: Optional[Callable[[str], object]] = None) -> Answer:
+        """A request, with this site as its coordinator: its end, a Commit or a Refusal. Where this is cancelled, it goes on all the same.
 
-    async def query(self, program: Text) -> Answer:
+        `begun` is told the transaction's number as soon as it has one.
+        """
+        return await self._ask(program, False, begun)
+
+    async def query(self, program: Text, begun: Optional[Callable[[str], object]] = None) -> Answer:
         """A request that assigns nothing and has a `return`."""
-        return await self._ask(program, True)
+        return await self._ask(program, True, begun)
 
     async def read(self, name: str) -> Item:
         """What the site shows of its item of this name, once all is written."""
@@ -258,7 +261,7 @@ class Node:
 
     # ---- inputs and outputs ----
 
-    async def _ask(self, program: Text, is_query: bool) -> Answer:
+    async def _ask(self, program: Text, is_query: bool, begun: Optional[Callable[[str], object]]) -> Answer:
         if self._is_closed or self._is_spent:
             raise Unknown("the node is closed" if self._is_closed else "the site has no number left: open it again")
         done = self._new_future()
@@ -269,7 +272,7 @@ class Node:
             except PolydbError as error:
                 _fail(done, error)
             else:
-                self._waiting.append(done)  # numbers are given in the order of the requests
+                self._waiting.append((done, begun))  # numbers are given in the order of the requests
 
         self._give_input(give)
         return cast(Answer, await done)
@@ -327,7 +330,9 @@ class Node:
     def _report(self, line: str) -> None:
         word, _, rest = line.partition(" ")
         if word == "txn" and self._waiting:
-            self._numbered[rest] = self._waiting.pop(0)
+            self._numbered[rest], begun = self._waiting.pop(0)
+            if begun is not None:
+                begun(rest)
         elif word in ("commit", "refuse"):
             done = self._numbered.pop(rest.split(" ", 1)[0], None)
             if done is not None:
@@ -337,7 +342,7 @@ class Node:
             if word == "spent":  # for a request or for a grant: from here on a number can't be told from another's
                 self._is_spent = True
                 while self._waiting:
-                    _fail(self._waiting.pop(0), Unknown("the site has no number left: open it again"))
+                    _fail(self._waiting.pop(0)[0], Unknown("the site has no number left: open it again"))
 
     def _send(self, message: Message) -> None:
         link = self._links.get(message.to)

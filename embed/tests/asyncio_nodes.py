@@ -63,6 +63,8 @@ async def talk(sites):
     sites.wait_for_log(2, "site 0 is here")
     assert first.found.is_new and first.hears(2)
 
+    numbers = []
+    assert (await first.submit("a := a + 0", numbers.append)).transaction in numbers
     commit = await commits(first, "a := a - 10 ; b := b + 10 ; return a")
     assert commit.reply == 90 and commit.is_certain, commit
     assert await first.certain("a") == 90 and await second.certain("b") == 60

@@ -40,7 +40,7 @@ class Client:
         verb, tag, rest = (line.split(" ", 2) + ["", ""])[:3]
         try:
             if verb in ("submit", "query"):
-                answer = await (self.node.submit if verb == "submit" else self.node.query)(rest)
+                answer = await (self.node.submit if verb == "submit" else self.node.query)(rest, lambda number: self.say(f"txn {tag} {number}"))
                 self.say(f"{'commit' if answer else 'refuse'} {tag} {words_of(answer)}")
             elif verb == "read":
                 self.say(f"item {tag} {rest} {cases_of(await self.node.read(rest))}")
