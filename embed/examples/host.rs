@@ -14,7 +14,9 @@ fn settle(host: &mut FileHost) -> Result<bool, polydb::HostError> {
     let mut has_ended = false;
     host.settle(|output| {
         if let Output::Report(line) = output {
-            has_ended |= line.starts_with(b"commit ") || line.starts_with(b"refuse ") || line.starts_with(b"spent ");
+            has_ended |= line.starts_with(b"commit ")
+                || line.starts_with(b"refuse ")
+                || line.starts_with(b"spent ");
             print!("{}", String::from_utf8_lossy(&line));
         }
     })?;

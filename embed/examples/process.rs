@@ -32,7 +32,11 @@ fn hear_sites(socket: UdpSocket, addresses: Vec<SocketAddr>, inputs: Sender<Inpu
     let mut bytes = vec![0; MOST_DATAGRAM];
     loop {
         if let Ok((count, sender)) = socket.recv_from(&mut bytes) {
-            if addresses.contains(&sender) && inputs.send(Input::Message(bytes[..count].to_vec())).is_err() {
+            if addresses.contains(&sender)
+                && inputs
+                    .send(Input::Message(bytes[..count].to_vec()))
+                    .is_err()
+            {
                 return;
             }
         }
@@ -59,7 +63,10 @@ impl Process {
     fn settle(&mut self) {
         let (socket, addresses) = (&self.socket, &self.addresses);
         let settled = self.site.settle(|output| match output {
-            Output::Report(line) => say(&format!("report {}", String::from_utf8_lossy(&line).trim_end())),
+            Output::Report(line) => say(&format!(
+                "report {}",
+                String::from_utf8_lossy(&line).trim_end()
+            )),
             Output::Message { to, bytes } => {
                 if let Some(address) = addresses.get(to as usize) {
                     let _ = socket.send_to(&bytes, address); // a message may be lost
@@ -80,7 +87,10 @@ impl Process {
                 self.settle();
                 self.site.read(rest.as_bytes()).map(|line| {
                     let line = String::from_utf8_lossy(&line);
-                    say(&format!("value {}", line.trim_end().trim_start_matches(&format!("item {rest} "))));
+                    say(&format!(
+                        "value {}",
+                        line.trim_end().trim_start_matches(&format!("item {rest} "))
+                    ));
                 })
             }
             _ => return say(&format!("error no command: {line}")),
@@ -113,7 +123,10 @@ fn main() -> Result<(), Box<dyn Error>> {
     };
     let (me, folder): (u8, PathBuf) = (me.parse()?, folder.into());
     let ports: Vec<u16> = ports.split(',').map(str::parse).collect::<Result<_, _>>()?;
-    let addresses: Vec<SocketAddr> = ports.iter().map(|&port| ([127, 0, 0, 1], port).into()).collect();
+    let addresses: Vec<SocketAddr> = ports
+        .iter()
+        .map(|&port| ([127, 0, 0, 1], port).into())
+        .collect();
     let site = FileHost::open(&folder, &fs::read(folder.join("config"))?, me, false)?;
     let socket = UdpSocket::bind(*addresses.get(usize::from(me)).ok_or("no such site")?)?;
     let (sender, inputs) = channel();

@@ -1,10 +1,10 @@
 /*
  * A node: a site on a folder, the sockets to its peers, and the clock.
  *
- * One socket takes what all peers send (a ROUTER, as the server of CURVE), and one for each peer sends there (a DEALER, as its client); what a peer answers to a hello comes back by the
- * latter. libzmq asks of each connection whether its key may come in, by ZAP (its RFC 27), and gives the site's number with each frame. All descriptors stand in one epoll, so
- * that a program waits for a node by one descriptor. Those of libzmq say only once that something has come: so work goes on until nothing is left, or is
- * noted in an eventfd.
+ * One socket takes what all peers send (a ROUTER, as the server of CURVE), and one for each peer sends there (a DEALER, as its client); what a peer answers to a
+ * hello comes back by the latter. libzmq asks of each connection whether its key may come in, by ZAP (its RFC 27), and gives the site's number with each frame.
+ * All descriptors stand in one epoll, so that a program waits for a node by one descriptor. Those of libzmq say only once that something has come: so work goes
+ * on until nothing is left, or is noted in an eventfd.
  */
 #define _GNU_SOURCE
 
@@ -342,7 +342,8 @@ static bool set_limits(void *socket) {
     int64_t most = HEAD + MOST_MESSAGE;
     return set_number(socket, ZMQ_LINGER, LINGER) && set_number(socket, ZMQ_HANDSHAKE_IVL, HANDSHAKE) && set_number(socket, ZMQ_SNDHWM, QUEUE) &&
            set_number(socket, ZMQ_RCVHWM, QUEUE) && set_number(socket, ZMQ_HEARTBEAT_IVL, BEAT) && set_number(socket, ZMQ_HEARTBEAT_TIMEOUT, SILENT) &&
-           set_number(socket, ZMQ_RECONNECT_IVL, RECONNECT) && set_number(socket, ZMQ_RECONNECT_IVL_MAX, RECONNECT_MOST) && zmq_setsockopt(socket, ZMQ_MAXMSGSIZE, &most, sizeof most) == 0;
+           set_number(socket, ZMQ_RECONNECT_IVL, RECONNECT) && set_number(socket, ZMQ_RECONNECT_IVL_MAX, RECONNECT_MOST) &&
+           zmq_setsockopt(socket, ZMQ_MAXMSGSIZE, &most, sizeof most) == 0;
 }
 
 /* Lets the epoll know of a descriptor. */

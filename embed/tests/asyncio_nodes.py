@@ -186,7 +186,9 @@ def bad_frames(sites):
     digest = polydb.node._digest_of(nodes.CONFIG)
     head = b"PV\1m" + digest
     from_1 = b"\5\1\0" + bytes(9)
-    for frame in (b"", b"P", b"PV\2h" + digest, b"PV\1h" + bytes(16), head, head + b"\5", head + from_1, head + b"\5\2\1" + bytes(9), head + random.randbytes(5000), b"PV\1x" + digest, random.randbytes(300_000)):
+    headless = (b"", b"P", b"PV\2h" + digest, b"PV\1h" + bytes(16), b"PV\1x" + digest, random.randbytes(300_000))
+    messages = (b"", b"\5", from_1, b"\5\2\1" + bytes(9), random.randbytes(5000))
+    for frame in (*headless, *(head + message for message in messages)):
         dealer.send(frame)
     dealer.send_multipart([head, b"more"])
     nodes.until(lambda: counted(sites, 0, "refused") >= 12, "frames are refused")

@@ -2,7 +2,8 @@
 
     many_transfers.py [COUNT [SEED [PROGRAM]]]
 
-Each process is a host as in the example `three_processes`, or PROGRAM, as the example `process` in Rust; that one is killed, but doesn't die within a write by itself. At random moments one is killed by SIGKILL, and now and then one dies within a write to
+Each process is a host as in the example `three_processes`, or PROGRAM, as the example `process` in Rust; that one is killed, but doesn't die within a write by
+itself. At random moments one is killed by SIGKILL, and now and then one dies within a write to
 its journal, of which any bytes are left. It starts again on its file. And now and then a write fails, of which a part is left, and is made again. After COUNT commits (10,000) the killing ends, and once all is known the
 items have their first total, and `polydb show` shows each item, by the journals alone, as its site does. The program is looked for where `rt ci`
 leaves it, or in the variable POLYDB_PROGRAM; without it that last look is left out, and the last line says so.

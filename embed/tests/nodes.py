@@ -259,7 +259,8 @@ def who_may_not():
             except OSError:
                 pass
             threading.Timer(2.0, stranger.close).start()
-        for data in (b"\n\n", b"submit\n", b"submit x a\n", b"submit 99999999999999999999999 a\n", b"submit 1\0\n", b"nonsense 1 2\n", random.randbytes(1000) + b"\n", b"x" * 100_000, b"read 1 \n", b"submit 1 " + b"a" * 1500 + b"\n"):
+        lines = (b"\n\n", b"submit\n", b"submit x a\n", b"submit 99999999999999999999999 a\n", b"submit 1\0\n", b"nonsense 1 2\n", b"read 1 \n")
+        for data in (*lines, random.randbytes(1000) + b"\n", b"x" * 100_000, b"submit 1 " + b"a" * 1500 + b"\n"):
             stranger = socket.socket(socket.AF_UNIX)
             stranger.connect(str(sites.socket(0)))
             try:
@@ -277,7 +278,8 @@ def peers_that_are_wrong():
     """Files of peers that aren't as they should be."""
     with Sites() as sites:
         good = sites.peers.read_text()
-        for text, words in (("", "has no site 0"), ("0\n", "line 1"), ("0 tcp://127.0.0.1:1 short\n", "line 1"), (good + good, "line 6"), ("x y z\n", "line 1"), (good.replace("tcp", "nonsense", 1), "listen on")):
+        wrong = [("", "has no site 0"), ("0\n", "line 1"), ("0 tcp://127.0.0.1:1 short\n", "line 1"), ("x y z\n", "line 1"), (good + good, "line 6")]
+        for text, words in (*wrong, (good.replace("tcp", "nonsense", 1), "listen on")):
             sites.peers.write_text(text)
             refused = subprocess.run(sites.words(0), capture_output=True, text=True)
             assert refused.returncode == 3 and words in refused.stderr, (text, refused)
@@ -290,7 +292,8 @@ def peers_that_are_wrong():
 
 
 def disks_that_fail():
-    """A full disk and a sync that fails, by a library that is loaded before: nothing is let out that isn't in the file, a line says so, and what was asked for goes on afterwards."""
+    """A full disk and a sync that fails, by a library that is loaded before: nothing is let out that isn't in the file, a line says so, and what was asked
+    for goes on afterwards."""
     library = PROGRAMS / "libfailing.so"
     for call, number in (("pwrite", "28"), ("fdatasync", "5")):
         with Sites() as sites:

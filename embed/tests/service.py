@@ -1,8 +1,10 @@
-"""The example of a service: two warehouses and a shop, any of which is killed at any time. Orders are retried by their numbers. At the end no piece is gone or sold twice, and each order is paid once.
+"""The example of a service: two warehouses and a shop, any of which is killed at any time. Orders are retried by their numbers. At the end no piece is
+gone or sold twice, and each order is paid once.
 
     service.py [doubt]
 
-With the word `doubt` it kills the shop until the stock of the north is in doubt, and shows what a customer and a warehouse see. It needs a python3 with zmq, and the programs that `embed/build` makes.
+With the word `doubt` it kills the shop until the stock of the north is in doubt, and shows what a customer and a warehouse see. It needs a python3 with
+zmq, and the programs that `embed/build` makes.
 """
 
 import random
@@ -48,7 +50,8 @@ class Service:
         shutil.rmtree(self.place)
 
     def start(self, *names):
-        subprocess.run([SHOP / "start", self.folder, *names], check=True, stdout=subprocess.DEVNULL, env={**nodes.os.environ, "PYTHON": sys.executable, "POLYDB_PROGRAMS": str(nodes.PROGRAMS)})
+        environment = {**nodes.os.environ, "PYTHON": sys.executable, "POLYDB_PROGRAMS": str(nodes.PROGRAMS)}
+        subprocess.run([SHOP / "start", self.folder, *names], check=True, stdout=subprocess.DEVNULL, env=environment)
 
     def kill(self, name):
         number = int((self.folder / f"{name}.pid").read_text())
