@@ -29,6 +29,7 @@ typedef struct {
     bool is_json, is_certain; /* is_certain: an item is asked for again while it is locked or in doubt */
     int64_t end;              /* when to give up, in milliseconds; -1 for never */
     text in;
+    size_t heard;  /* how much of it was heard: a line is dropped when the next one is asked for */
     unsigned open; /* requests that have no end yet */
     int status;
 } connection;
@@ -105,14 +106,14 @@ static bool wait_for_more(const connection *with) {
 }
 
 /* The next line, without its end; null where there is none. It is good until the next call. */
-static char *next_line(connection *with, size_t *dropped) {
-    text_drop(&with->in, *dropped);
-    *dropped = 0;
+static char *next_line(connection *with) {
+    text_drop(&with->in, with->heard);
+    with->heard = 0;
     for (;;) {
         char *end = with->in.length == 0 ? NULL : memchr(with->in.bytes, '\n', with->in.length);
         if (end != NULL) {
             *end = '\0';
-            *dropped = (size_t)(end - with->in.bytes) + 1;
+            with->heard = (size_t)(end - with->in.bytes) + 1;
             return with->in.bytes;
         }
         if (!wait_for_more(with)) {
@@ -190,9 +191,8 @@ static bool hear(connection *with, const char *line) {
 
 /* Hears answers until each request has its end. */
 static int hear_all(connection *with) {
-    size_t dropped = 0;
     while (with->open > 0) {
-        const char *line = next_line(with, &dropped);
+        const char *line = next_line(with);
         if (line == NULL) {
             return complain("no answer");
         }

@@ -148,9 +148,10 @@ class Sites:
         """What polydbc prints of a request that commits, which is asked for again where the machine is slow and it expires."""
         return until(lambda: (said := self.polydbc(me, *words, status=None)) and "refuse" not in said[-1] and said, words)
 
-    def polydbc(self, me, *words, status=0):
+    def polydbc(self, me, *words, status=0, lines=""):
         """What polydbc prints."""
-        done = subprocess.run([PROGRAMS / "polydbc", "--socket", self.socket(me), "--timeout", str(PATIENCE), *words], capture_output=True, text=True)
+        call = [PROGRAMS / "polydbc", "--socket", self.socket(me), "--timeout", str(PATIENCE), *words]
+        done = subprocess.run(call, capture_output=True, text=True, input=lines)
         assert status in (None, done.returncode), (done.returncode, done.stdout, done.stderr)
         return done.stdout.splitlines()
 
@@ -190,6 +191,9 @@ def a_transfer_and_a_kill():
         [first, last] = [json.loads(line) for line in sites.polydbc_commits(0, "--json", "submit", "require a > 1000")]
         assert first.keys() == {"tag", "txn"} and last["replies"] == ["declined-require"], (first, last)
         assert json.loads(sites.polydbc(1, "--json", "read", "b")[0]) == {"cases": [{"value": 60, "when": []}], "item": "b", "tag": 1}
+        said = sites.polydbc(0, "lines", status=None, lines="submit a := a + 0\n\nread a\nquery return a\nread a\n")
+        assert [line.split()[0] for line in said if line.startswith("item ")] == ["item"] * 2 and len(said) == 6, said
+        assert said[0].startswith("txn 0.") and said[3].startswith("txn 0.") and said[0] != said[3], said
         # Both processes are stopped in turn where it hurts, until a kill of the coordinator leaves its participant in doubt.
         doubted = None
         for _ in range(200):
