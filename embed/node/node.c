@@ -41,6 +41,7 @@ enum {
     HANDSHAKE = 5000,         /* milliseconds that a connection has to show its key */
     BEAT = 1000, SILENT = 4000, /* milliseconds between two hellos; without a sign of a peer until it counts as away */
     RECONNECT = 20, RECONNECT_MOST = 200, /* milliseconds until a peer is tried again that is away: first, and later */
+    SAID_AGAIN = 60000,       /* milliseconds until it is said again that strangers are kept out */
     FIRST_TICK = 100          /* milliseconds between two ticks, if nothing is said */
 };
 
@@ -67,7 +68,8 @@ struct polydb_node {
     void *all;    /* takes what all peers send */
     void *zap;    /* answers who may come in */
     int epoll, timer, again;
-    int64_t beaten; /* when a hello was sent last */
+    int64_t beaten;   /* when a hello was sent last */
+    int64_t kept_out; /* when it was said last that a stranger was; 0 for never */
     requests requests;
     bool is_spent;
     bool is_failing; /* a write has failed, and that was said */
@@ -294,6 +296,16 @@ static bool take_answer(polydb_node *node, int site) {
     return true;
 }
 
+/* A stranger comes again and again: that is said now and then. */
+static void keep_out(polydb_node *node) {
+    int64_t now = milliseconds();
+    node->counts.refused++;
+    if (node->kept_out == 0 || now - node->kept_out > SAID_AGAIN) {
+        node->kept_out = now;
+        notice(node, "a stranger was kept out, whose key is in no line of the file of peers");
+    }
+}
+
 /* Answers one question of libzmq, whether a key may come in; whether there was one. Its parts: version, number, domain, address, identity, mechanism, key. */
 static bool answer_zap(polydb_node *node) {
     enum { NUMBER = 1, MECHANISM = 5, KEY = 6, PARTS = 7 };
@@ -321,8 +333,7 @@ static bool answer_zap(polydb_node *node) {
     if (may) {
         snprintf(user, sizeof user, "site-%d", site);
     } else {
-        node->counts.refused++;
-        notice(node, "a stranger was kept out, whose key is in no line of the file of peers");
+        keep_out(node);
     }
     const char *status = may ? "200" : "400", *text = may ? "OK" : "no";
     zmq_send(node->zap, "1.0", 3, ZMQ_SNDMORE);

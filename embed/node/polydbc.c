@@ -40,6 +40,17 @@ static int64_t milliseconds(void) {
     return (int64_t)now.tv_sec * 1000 + now.tv_nsec / 1000000;
 }
 
+/* When so many seconds will have gone; whether the text is a number of them. */
+static bool take_seconds(const char *words, int64_t *end) {
+    char *rest;
+    double seconds = strtod(words, &rest);
+    if (rest == words || *rest != '\0' || !(seconds >= 0 && seconds < 1e9)) {
+        return false;
+    }
+    *end = milliseconds() + (int64_t)(seconds * 1000);
+    return true;
+}
+
 static int complain(const char *what) {
     fprintf(stderr, "polydbc: %s: %s\n", what, strerror(errno));
     return UNKNOWN;
@@ -254,7 +265,12 @@ int main(int count, char **words) {
         switch (name) {
         case 's': path = optarg; break;
         case 'j': with.is_json = true; break;
-        case 't': with.end = milliseconds() + (int64_t)(strtod(optarg, NULL) * 1000); break;
+        case 't':
+            if (!take_seconds(optarg, &with.end)) {
+                fputs(USAGE, stderr);
+                return WRONG_USE;
+            }
+            break;
         case 'c': with.is_certain = true; break;
         case 'v': puts("polydbc " POLYDB_VERSION); return DONE;
         default: fputs(USAGE, stderr); return WRONG_USE;

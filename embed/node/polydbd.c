@@ -284,7 +284,25 @@ static int serve(server *all) {
 
 /* ---- starting ---- */
 
-/* Listens for clients. Under the lock of the site nobody else has the socket's name: what has it is left over. */
+/* Removes a socket that a process has left, which is no more; and nothing else that has this name. */
+static bool make_way(const struct sockaddr_un *address) {
+    struct stat about;
+    if (lstat(address->sun_path, &about) != 0) {
+        return errno == ENOENT;
+    }
+    int file = socket(AF_UNIX, SOCK_STREAM | SOCK_CLOEXEC, 0);
+    bool is_used = !S_ISSOCK(about.st_mode) || file < 0 || connect(file, (const struct sockaddr *)address, sizeof *address) == 0;
+    if (file >= 0) {
+        close(file);
+    }
+    if (is_used) {
+        errno = EADDRINUSE;
+        return false;
+    }
+    return unlink(address->sun_path) == 0;
+}
+
+/* Listens for clients. */
 static int listen_for_clients(const char *path) {
     struct sockaddr_un address = {.sun_family = AF_UNIX};
     if (strlen(path) >= sizeof address.sun_path) {
@@ -292,11 +310,10 @@ static int listen_for_clients(const char *path) {
         return NO_FILE;
     }
     strcpy(address.sun_path, path);
-    int file = socket(AF_UNIX, SOCK_STREAM | SOCK_CLOEXEC | SOCK_NONBLOCK, 0);
+    int file = make_way(&address) ? socket(AF_UNIX, SOCK_STREAM | SOCK_CLOEXEC | SOCK_NONBLOCK, 0) : NO_FILE;
     if (file < 0) {
         return NO_FILE;
     }
-    unlink(path);
     mode_t mask = umask(0177); /* the owner alone */
     bool is_bound = bind(file, (struct sockaddr *)&address, sizeof address) == 0 && listen(file, 64) == 0;
     umask(mask);

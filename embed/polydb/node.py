@@ -41,6 +41,7 @@ _LINGER = 250  # milliseconds in which what was sent last may still go
 _HANDSHAKE = 5000  # milliseconds that a connection has to show its key
 _RECONNECT, _RECONNECT_MOST = 20, 200  # milliseconds until a peer is tried again that is away: first, and later
 _BEAT, _SILENT = 1.0, 4.0  # seconds between two hellos; without a sign of a peer until it counts as away
+_SAID_AGAIN = 60.0  # seconds until it is said again that strangers are kept out
 _LOGGER = logging.getLogger("polydb")
 
 
@@ -107,10 +108,13 @@ class _Keys:
     def __init__(self, peers: Dict[int, Peer], me: int, notice: Callable[[str], object]) -> None:
         self._keys = {peer.key for site, peer in peers.items() if site != me}
         self._notice = notice
+        self._said: Optional[float] = None  # a stranger comes again and again: that is said now and then
 
     def callback(self, _domain: str, key: bytes) -> bool:
         may = key in self._keys
-        if not may:
+        now = time.monotonic()
+        if not may and (self._said is None or now - self._said > _SAID_AGAIN):
+            self._said = now
             self._notice("a stranger was kept out, whose key is in no line of the file of peers")
         return may
 

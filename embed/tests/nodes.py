@@ -293,6 +293,13 @@ def peers_that_are_wrong():
         assert refused.returncode == 3 and "the file of the key" in refused.stderr, refused
         for words in ([], ["--site", "1"], ["--site", "16", "--config", "x", "--peers", "x", "--data", "x"], ["--nonsense"]):
             assert subprocess.run([PROGRAMS / "polydbd", *words], capture_output=True).returncode == 2
+        sites.start(1)
+        # The name of another's socket, or of a file that is none.
+        for path in (sites.socket(1), sites.config):
+            taken = subprocess.run(sites.words(2, "--socket", path), capture_output=True, text=True)
+            assert taken.returncode == 3 and "Address already in use" in taken.stderr and path.exists(), taken
+        for words in (["read"], ["submit"], ["nonsense"], ["submit", "a", "b"], ["--timeout", "x", "info"]):
+            sites.polydbc(1, *words, status=2)
 
 
 def disks_that_fail():
