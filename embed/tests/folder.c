@@ -375,6 +375,24 @@ static void long_files_take_no_memory(void) {
     drop_folder();
 }
 
+/* Each start has its record. A journal that has no room for one more stays as it is. */
+static void full_journals_stay(void) {
+    static const char SMALL[] = "sites 1\njournal 40\nitem a 0 100\n";
+    new_folder();
+    polydb_host *host;
+    int starts = 0;
+    while (open_as(&host, 0, SMALL, false) == POLYDB_HOST_DONE) {
+        settles(host);
+        polydb_host_close(host);
+        starts++;
+    }
+    assert(starts == 3 && error.cause == POLYDB_HOST_ENGINE && error.status == POLYDB_FULL);
+    ino_t file = inode_of("site-0.pv");
+    is_refused(POLYDB_HOST_ENGINE, 0, SMALL);
+    assert(error.status == POLYDB_FULL && inode_of("site-0.pv") == file);
+    drop_folder();
+}
+
 /* ---- doubt ---- */
 
 static void transfers_and_dies(void) {
@@ -487,6 +505,7 @@ int main(void) {
     empty_files_are_new();
     no_journals_are_refused();
     long_files_take_no_memory();
+    full_journals_stay();
     doubt_makes_a_copy();
     failures_say_nothing_too_early(EIO);
     failures_say_nothing_too_early(ENOSPC);
