@@ -46,7 +46,7 @@ impl<V: Entries + Drop> Turn<V> {
             unreachable!()
         };
         // The value is back before the turn is free.
-        shared.store::<Releases>(&mut seat.token, 0, 0);
+        shared.store::<SetsBack<V>>(&mut seat.token, 1, count);
         shared.store::<Releases>(&mut seat.token, 0, 0);
     }
 }

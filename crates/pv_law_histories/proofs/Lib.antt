@@ -1,0 +1,4 @@
+mod CourseLemmas
+mod EventLemmas
+mod MergeLemmas
+mod MomentLemmas

@@ -1,0 +1,4 @@
+pub mod Course
+pub mod Fitting
+pub mod History
+pub mod Merge

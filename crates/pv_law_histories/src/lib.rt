@@ -1,0 +1,22 @@
+//! The law of histories: what threads let sites take in, each in an order of its own, is one run of the world, in the order of stamps. The
+//! functions do nothing: each states a law.
+#![tactic(auto)]
+
+ghost use Rattle.std.specs.Prelude.{◌≡◌, ℕ, ◌<◌, List};
+ghost use Rattle.pv_law_histories.specs.Course.{course};
+ghost use Rattle.pv_law_histories.specs.Fitting.{FitTogether, history_of};
+ghost use Rattle.pv_law_histories.specs.History.{Stamped};
+ghost use Rattle.pv_law_histories.specs.Merge.{Moment, IsMerge, events_of_merge, lines_of_merge};
+ghost use Rattle.pv_protocol.specs.Run.{printed, run, world_after};
+ghost use Rattle.pv_protocol.specs.State.{Setup};
+ghost use Rattle.pv_protocol.specs.World.{first_site, opening, site_at};
+
+/// The merge of histories that fit together is a run of the world: its events print the moments' lines, and leave each site where the site's
+/// own history leaves it.
+pub fn merged_histories_are_a_run()
+    ensures lines { (setup : Setup) (histories : List (List Stamped)) (moments : List Moment) → FitTogether setup histories → IsMerge histories moments →
+        printed setup (events_of_merge moments) ≡ lines_of_merge moments }
+    ensures sites { (setup : Setup) (histories : List (List Stamped)) (moments : List Moment) → FitTogether setup histories → IsMerge histories moments →
+        (n : ℕ) → n < setup.catalog.sites →
+        site_at (world_after (opening setup) (run setup (opening setup) (events_of_merge moments))) n ≡ course setup n first_site (history_of histories n) }
+{}
