@@ -1,4 +1,5 @@
 mod CourseLemmas
 mod EventLemmas
 mod MergeLemmas
+mod MergingLemmas
 mod MomentLemmas

@@ -2,11 +2,11 @@
 //! functions do nothing: each states a law.
 #![tactic(auto)]
 
-ghost use Rattle.std.specs.Prelude.{◌≡◌, ℕ, ◌<◌, List};
+ghost use Rattle.std.specs.Prelude.{◌≡◌, ℕ, ◌<◌, List, length};
 ghost use Rattle.pv_law_histories.specs.Course.{course};
-ghost use Rattle.pv_law_histories.specs.Fitting.{FitTogether, history_of};
+ghost use Rattle.pv_law_histories.specs.Fitting.{FitTogether, HasRisingStamps, history_of};
 ghost use Rattle.pv_law_histories.specs.History.{Stamped};
-ghost use Rattle.pv_law_histories.specs.Merge.{Moment, IsMerge, events_of_merge, lines_of_merge};
+ghost use Rattle.pv_law_histories.specs.Merge.{Moment, IsMerge, events_of_merge, lines_of_merge, merge};
 ghost use Rattle.pv_protocol.specs.Run.{printed, run, world_after};
 ghost use Rattle.pv_protocol.specs.State.{Setup};
 ghost use Rattle.pv_protocol.specs.World.{first_site, opening, site_at};
@@ -19,4 +19,10 @@ pub fn merged_histories_are_a_run()
     ensures sites { (setup : Setup) (histories : List (List Stamped)) (moments : List Moment) → FitTogether setup histories → IsMerge histories moments →
         (n : ℕ) → n < setup.catalog.sites →
         site_at (world_after (opening setup) (run setup (opening setup) (events_of_merge moments))) n ≡ course setup n first_site (history_of histories n) }
+{}
+
+/// Histories at rising stamps have one merge.
+pub fn histories_have_one_merge()
+    ensures there { (histories : List (List Stamped)) → ((n : ℕ) → n < length histories → HasRisingStamps (history_of histories n)) → IsMerge histories (merge histories) }
+    ensures only { (histories : List (List Stamped)) (moments others : List Moment) → IsMerge histories moments → IsMerge histories others → moments ≡ others }
 {}
