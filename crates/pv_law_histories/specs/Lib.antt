@@ -1,4 +1,5 @@
 pub mod Course
+pub mod Examples
 pub mod Fitting
 pub mod History
 pub mod Merge

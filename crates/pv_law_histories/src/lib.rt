@@ -2,6 +2,8 @@
 //! functions do nothing: each states a law.
 #![tactic(auto)]
 
+mod examples;
+
 ghost use Rattle.std.specs.Prelude.{◌≡◌, ℕ, ◌<◌, List, length};
 ghost use Rattle.pv_law_histories.specs.Course.{course};
 ghost use Rattle.pv_law_histories.specs.Fitting.{FitTogether, HasRisingStamps, history_of};
@@ -10,6 +12,8 @@ ghost use Rattle.pv_law_histories.specs.Merge.{Moment, IsMerge, events_of_merge,
 ghost use Rattle.pv_protocol.specs.Run.{printed, run, world_after};
 ghost use Rattle.pv_protocol.specs.State.{Setup};
 ghost use Rattle.pv_protocol.specs.World.{first_site, opening, site_at};
+
+pub use examples::{fault_takes_a_site_down, one_request_is_served, two_sites_step_at_one_stamp};
 
 /// The merge of histories that fit together is a run of the world: its events print the moments' lines, and leave each site where the site's
 /// own history leaves it.
