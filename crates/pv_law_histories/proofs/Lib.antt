@@ -3,3 +3,4 @@ mod EventLemmas
 mod MergeLemmas
 mod MergingLemmas
 mod MomentLemmas
+mod WellFormedLemmas

@@ -1,8 +1,10 @@
 -- When the histories of all sites fit together.
 use Rattle.std.specs.Prelude.{◌≡◌, ℕ, ◌<◌, List, [], ◌∷◌, length, get_or, All, ⊤}
 use Rattle.pv_law_histories.specs.Course.{AreSteps, Sent}
-use Rattle.pv_law_histories.specs.History.{Intake, parcel, Stamped}
+use Rattle.pv_law_histories.specs.History.{Intake, request, parcel, Stamped}
+use Rattle.pv_base.specs.Catalog.{Declared}
 use Rattle.pv_protocol.specs.State.{Setup}
+use Rattle.pv_protocol.specs.WellFormed.{CanRun}
 use Rattle.pv_protocol.specs.World.{first_site}
 
 -- the history of the site of this number
@@ -27,3 +29,12 @@ pub record FitTogether (setup : Setup) (histories : List (List Stamped)) : Type 
   pub rising : (n : ℕ) → n < length histories → HasRisingStamps (history_of histories n)
   pub steps : (n : ℕ) → n < length histories → AreSteps setup n first_site (history_of histories n)
   pub sent : (n : ℕ) → n < length histories → All (λ entry. WasSentBefore setup histories n entry.stamp entry.intake) (history_of histories n)
+
+-- What was asked for can run.
+abbrev pub CanBeDone : Declared → Intake → Type 0
+CanBeDone catalog (request client asked) = CanRun catalog asked.program
+CanBeDone catalog other = ⊤
+
+-- All that clients asked for can run.
+abbrev pub CanAllBeDone : Declared → List (List Stamped) → Type 0
+CanAllBeDone catalog histories = (n : ℕ) → n < length histories → All (λ entry. CanBeDone catalog entry.intake) (history_of histories n)

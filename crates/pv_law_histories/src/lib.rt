@@ -4,13 +4,14 @@
 
 mod examples;
 
-ghost use Rattle.std.specs.Prelude.{◌≡◌, ℕ, ◌<◌, List, length};
+ghost use Rattle.std.specs.Prelude.{◌≡◌, ℕ, ◌<◌, List, length, map, All};
 ghost use Rattle.pv_law_histories.specs.Course.{course};
-ghost use Rattle.pv_law_histories.specs.Fitting.{FitTogether, HasRisingStamps, history_of};
+ghost use Rattle.pv_law_histories.specs.Fitting.{CanAllBeDone, FitTogether, HasRisingStamps, history_of};
 ghost use Rattle.pv_law_histories.specs.History.{Stamped};
 ghost use Rattle.pv_law_histories.specs.Merge.{Moment, IsMerge, events_of_merge, lines_of_merge, merge};
 ghost use Rattle.pv_protocol.specs.Run.{printed, run, world_after};
 ghost use Rattle.pv_protocol.specs.State.{Setup};
+ghost use Rattle.pv_protocol.specs.WellFormed.{IsWellFormed};
 ghost use Rattle.pv_protocol.specs.World.{first_site, opening, site_at};
 
 pub use examples::{fault_takes_a_site_down, one_request_is_served, two_sites_step_at_one_stamp};
@@ -29,4 +30,10 @@ pub fn merged_histories_are_a_run()
 pub fn histories_have_one_merge()
     ensures there { (histories : List (List Stamped)) → ((n : ℕ) → n < length histories → HasRisingStamps (history_of histories n)) → IsMerge histories (merge histories) }
     ensures only { (histories : List (List Stamped)) (moments others : List Moment) → IsMerge histories moments → IsMerge histories others → moments ≡ others }
+{}
+
+/// Where all that clients asked for can run, the events of the merge are well formed, so that all that is promised of runs is promised of it.
+pub fn merged_events_are_well_formed()
+    ensures { (setup : Setup) (histories : List (List Stamped)) (moments : List Moment) → FitTogether setup histories → IsMerge histories moments →
+        CanAllBeDone setup.catalog histories → All (IsWellFormed setup.catalog) (events_of_merge moments) }
 {}
