@@ -3,4 +3,5 @@ mod EventLemmas
 mod MergeLemmas
 mod MergingLemmas
 mod MomentLemmas
+mod PostingLemmas
 mod WellFormedLemmas

@@ -3,3 +3,4 @@ pub mod Examples
 pub mod Fitting
 pub mod History
 pub mod Merge
+pub mod Posting

@@ -9,6 +9,7 @@ ghost use Rattle.pv_law_histories.specs.Course.{course};
 ghost use Rattle.pv_law_histories.specs.Fitting.{CanAllBeDone, FitTogether, HasRisingStamps, history_of};
 ghost use Rattle.pv_law_histories.specs.History.{Stamped};
 ghost use Rattle.pv_law_histories.specs.Merge.{Moment, IsMerge, events_of_merge, lines_of_merge, merge};
+ghost use Rattle.pv_law_histories.specs.Posting.{PassMessages};
 ghost use Rattle.pv_protocol.specs.Run.{printed, run, world_after};
 ghost use Rattle.pv_protocol.specs.State.{Setup};
 ghost use Rattle.pv_protocol.specs.WellFormed.{IsWellFormed};
@@ -36,4 +37,9 @@ pub fn histories_have_one_merge()
 pub fn merged_events_are_well_formed()
     ensures { (setup : Setup) (histories : List (List Stamped)) (moments : List Moment) → FitTogether setup histories → IsMerge histories moments →
         CanAllBeDone setup.catalog histories → All (IsWellFormed setup.catalog) (events_of_merge moments) }
+{}
+
+/// Where each message that was taken in was posted by the history of its sender, the histories fit together.
+pub fn posted_messages_were_sent()
+    ensures { (setup : Setup) (histories : List (List Stamped)) → PassMessages setup histories → FitTogether setup histories }
 {}
