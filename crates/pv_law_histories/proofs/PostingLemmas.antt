@@ -1,10 +1,10 @@
 -- What was posted was sent.
-use Rattle.std.proofs.Common.{◌≡◌, ℕ, ◌+◌, ◌-◌, Bool, true, false, Some, ◌==◌, if◌then◌else◌, List, [], ◌∷◌, ◌++◌, length, length-append, drop, take-append-drop, slice_get, All, append_assoc, eqb-true, sym, refl, ap, ◌∙◌, inl, inr, arith}
-use Rattle.std.proofs.lemmas.List.Elements.{All-nil, All-cons, All-append, All-weaker, All-contains}
+use Rattle.std.proofs.Common.{◌≡◌, ℕ, ◌+◌, ◌-◌, ◌<◌, Bool, true, false, Some, ◌==◌, if◌then◌else◌, List, [], ◌∷◌, ◌++◌, length, length-append, drop, take-append-drop, slice_get, All, append_assoc, eqb-true, sym, refl, ap, ◌∙◌, inl, inr, arith}
+use Rattle.std.proofs.lemmas.List.Elements.{All-nil, All-cons, All-head, All-tail, All-append, All-weaker, All-contains}
 use Rattle.pv_law_histories.specs.Course.{left_by, sent_by, Sent}
-use Rattle.pv_law_histories.specs.Fitting.{history_of, WasSentBefore, FitTogether}
+use Rattle.pv_law_histories.specs.Fitting.{history_of, HasRisingStamps, WasSentBefore, FitTogether}
 use Rattle.pv_law_histories.specs.History.{Intake, request, parcel, tick, Stamped}
-use Rattle.pv_law_histories.specs.Posting.{Parcel, parcels_to, kept_by, posted_to, WasPosted, PassMessages}
+use Rattle.pv_law_histories.specs.Posting.{Parcel, parcels_to, kept_by, posted_to, stamp_with, AreStamped, WasPosted, PassMessages}
 use Rattle.pv_protocol.specs.State.{Setup, Site, Outgoing}
 use Rattle.pv_protocol.specs.World.{first_site}
 
@@ -50,23 +50,48 @@ module _ (setup : Setup) (me to : ℕ) where
       (parcels-among to entry.stamp sends [] kept (drop (length sends - entry.short) sends) 0 (sym (take-append-drop (length sends - entry.short) sends)) refl))
       (All-weaker (IsSent left entries) (IsSent site (entry ∷ entries)) (λ posted later. inr later) (posted_to setup me to left entries) (posted-sent left entries))
 
-was-sent : (setup : Setup) (histories : List (List Stamped)) (to stamp : ℕ) (intake : Intake) → WasPosted setup histories to stamp intake
+-- ## Stamps
+stamped-rise : (last : ℕ) (entries : List Stamped) → AreStamped last entries → All (λ entry. last < entry.stamp) entries × HasRisingStamps entries
+stamped-rise last [] are = (All-nil (λ (entry : Stamped). last < entry.stamp), tt)
+stamped-rise last (entry ∷ entries) are =
+    let rest = stamped-rise entry.stamp entries are.1 in
+    let is = are.0 in
+    let above : last < entry.stamp = omega arith in (
+      All-cons (λ (e : Stamped). last < e.stamp) entry entries above
+          (All-weaker (λ (e : Stamped). entry.stamp < e.stamp) (λ (e : Stamped). last < e.stamp) (λ e later. omega arith) entries rest.0),
+      (rest.0, rest.1),
+    )
+
+stamped-above : (last : ℕ) (entries : List Stamped) → AreStamped last entries → All (λ entry. stamp_with entry.intake < entry.stamp) entries
+stamped-above last [] are = All-nil (λ (entry : Stamped). stamp_with entry.intake < entry.stamp)
+stamped-above last (entry ∷ entries) are =
+    let is = are.0 in
+    All-cons (λ (e : Stamped). stamp_with e.intake < e.stamp) entry entries (omega arith) (stamped-above entry.stamp entries are.1)
+
+-- ## All histories
+was-sent : (setup : Setup) (histories : List (List Stamped)) (to stamp : ℕ) (intake : Intake) → stamp_with intake < stamp → WasPosted setup histories to intake
     → WasSentBefore setup histories to stamp intake
-was-sent setup histories to stamp (request client asked) was = tt
-was-sent setup histories to stamp (parcel from sent place message) was = (
+was-sent setup histories to stamp (request client asked) above was = tt
+was-sent setup histories to stamp (parcel from sent place message) above was = (
   was.0,
-  was.1,
+  above,
   All-contains (IsSent setup from to first_site (history_of histories from)) (posted_to setup from to first_site (history_of histories from))
-      record { stamp = sent; place = place; message = message } (posted-sent setup from to first_site (history_of histories from)) was.2,
+      record { stamp = sent; place = place; message = message } (posted-sent setup from to first_site (history_of histories from)) was.1,
 )
-was-sent setup histories to stamp tick was = tt
+was-sent setup histories to stamp tick above was = tt
+
+all-both : {A : Type 0} (P Q R : A → Type 0) (xs : List A) → ((x : A) → P x → Q x → R x) → All P xs → All Q xs → All R xs
+all-both P Q R [] joins ps qs = All-nil R
+all-both P Q R (x ∷ xs) joins ps qs =
+    All-cons R x xs (joins x (All-head P x xs ps) (All-head Q x xs qs)) (all-both P Q R xs joins (All-tail P x xs ps) (All-tail Q x xs qs))
 
 pub fit-together : (setup : Setup) (histories : List (List Stamped)) → PassMessages setup histories → FitTogether setup histories
 fit-together setup histories pass = record {
   count = pass.count;
-  rising = pass.rising;
+  rising = λ n within. (stamped-rise 0 (history_of histories n) (pass.stamps n within)).1;
   steps = pass.steps;
-  sent = λ n within. All-weaker (λ (entry : Stamped). WasPosted setup histories n entry.stamp entry.intake)
-      (λ (entry : Stamped). WasSentBefore setup histories n entry.stamp entry.intake)
-      (λ entry was. was-sent setup histories n entry.stamp entry.intake was) (history_of histories n) (pass.posted n within);
+  sent = λ n within. all-both (λ (entry : Stamped). stamp_with entry.intake < entry.stamp) (λ (entry : Stamped). WasPosted setup histories n entry.intake)
+      (λ (entry : Stamped). WasSentBefore setup histories n entry.stamp entry.intake) (history_of histories n)
+      (λ entry above was. was-sent setup histories n entry.stamp entry.intake above was)
+      (stamped-above 0 (history_of histories n) (pass.stamps n within)) (pass.posted n within);
 }

@@ -1,8 +1,8 @@
--- What is put into the rings between sites: a site's messages, each with its stamp and its place, as its history says.
-use Rattle.std.specs.Prelude.{◌≡◌, ℕ, ◌+◌, ◌-◌, ◌<◌, ◌==◌, List, [], ◌∷◌, ◌++◌, length, take, All, Contains, ⊤, if◌then◌else◌}
+-- What sites that pass messages on put into the rings between them, and how they stamp what they take in.
+use Rattle.std.specs.Prelude.{◌≡◌, ℕ, ◌+◌, ◌-◌, max, ◌<◌, ◌==◌, List, [], ◌∷◌, ◌++◌, length, take, All, Contains, ⊤, if◌then◌else◌}
 use Rattle.pv_format.specs.Message.{Message}
 use Rattle.pv_law_histories.specs.Course.{left_by, sent_by, AreSteps}
-use Rattle.pv_law_histories.specs.Fitting.{history_of, HasRisingStamps}
+use Rattle.pv_law_histories.specs.Fitting.{history_of}
 use Rattle.pv_law_histories.specs.History.{Intake, parcel, Stamped}
 use Rattle.pv_protocol.specs.State.{Setup, Site, Outgoing}
 use Rattle.pv_protocol.specs.World.{first_site}
@@ -30,17 +30,29 @@ module _ (setup : Setup) (me : ℕ) where
   posted_to to site [] = []
   posted_to to site (entry ∷ entries) = parcels_to to entry.stamp 0 (kept_by site entry) ++ posted_to to (left_by setup me site entry) entries
 
--- A message that the site of this number took in at this stamp was posted to it by another site, at a lesser stamp.
-abbrev pub WasPosted : Setup → List (List Stamped) → (to stamp : ℕ) → Intake → Type 0
-WasPosted setup histories to stamp (parcel from sent place message) =
-    (from < length histories) × (sent < stamp)
-    × Contains (posted_to setup from to first_site (history_of histories from)) record { stamp = sent; place = place; message = message }
-WasPosted setup histories to stamp other = ⊤
+-- ## Stamps
+-- the stamp that comes with what is taken in: a message brings that of its sending, and nothing else brings one
+abbrev pub stamp_with : Intake → ℕ
+stamp_with (parcel from stamp place message) = stamp
+stamp_with other = 0
 
--- The histories, one of each site, are what boxes have that pass messages through rings: each is its site's own steps at rising stamps, and each message
--- that was taken in was posted.
+-- Each entry's stamp is one more than the greater of the stamp before it and the one that came with what it took in (Lamport, 1978).
+abbrev pub AreStamped : ℕ → List Stamped → Type 0
+AreStamped last [] = ⊤
+AreStamped last (entry ∷ entries) = (entry.stamp ≡ max last (stamp_with entry.intake) + 1) × AreStamped entry.stamp entries
+
+-- ## All histories
+-- A message that the site of this number took in was posted to it by another site.
+abbrev pub WasPosted : Setup → List (List Stamped) → (to : ℕ) → Intake → Type 0
+WasPosted setup histories to (parcel from stamp place message) =
+    (from < length histories)
+    × Contains (posted_to setup from to first_site (history_of histories from)) record { stamp = stamp; place = place; message = message }
+WasPosted setup histories to other = ⊤
+
+-- The histories, one of each site, are what sites have that pass messages on: each is its site's own steps, each entry is stamped, and each message that was
+-- taken in was posted.
 pub record PassMessages (setup : Setup) (histories : List (List Stamped)) : Type 0 where
   pub count : length histories ≡ setup.catalog.sites
-  pub rising : (n : ℕ) → n < length histories → HasRisingStamps (history_of histories n)
+  pub stamps : (n : ℕ) → n < length histories → AreStamped 0 (history_of histories n)
   pub steps : (n : ℕ) → n < length histories → AreSteps setup n first_site (history_of histories n)
-  pub posted : (n : ℕ) → n < length histories → All (λ entry. WasPosted setup histories n entry.stamp entry.intake) (history_of histories n)
+  pub posted : (n : ℕ) → n < length histories → All (λ entry. WasPosted setup histories n entry.intake) (history_of histories n)

@@ -39,7 +39,8 @@ pub fn merged_events_are_well_formed()
         CanAllBeDone setup.catalog histories → All (IsWellFormed setup.catalog) (events_of_merge moments) }
 {}
 
-/// Where each message that was taken in was posted by the history of its sender, the histories fit together.
-pub fn posted_messages_were_sent()
+/// Histories of sites that pass messages on fit together: it is enough that each site makes its own steps, stamps what it takes in, and takes in
+/// what was posted to it.
+pub fn passed_messages_fit_together()
     ensures { (setup : Setup) (histories : List (List Stamped)) → PassMessages setup histories → FitTogether setup histories }
 {}
