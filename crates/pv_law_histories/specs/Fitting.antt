@@ -16,7 +16,7 @@ abbrev pub HasRisingStamps : List Stamped → Type 0
 HasRisingStamps [] = ⊤
 HasRisingStamps (entry ∷ entries) = All (λ later. entry.stamp < later.stamp) entries × HasRisingStamps entries
 
--- A message that the site of this number took in at this stamp was sent to it by another site's history, at a lesser stamp and at this place.
+-- A message that the site of this number took in at this stamp was sent to it by a site, as that site's history says, at a lesser stamp and at this place.
 abbrev pub WasSentBefore : Setup → List (List Stamped) → (to stamp : ℕ) → Intake → Type 0
 WasSentBefore setup histories to stamp (parcel from sent place message) =
     (from < length histories) × (sent < stamp) × Sent setup from first_site (history_of histories from) sent place record { to = to; message = message }

@@ -42,7 +42,7 @@ AreStamped last [] = ⊤
 AreStamped last (entry ∷ entries) = (entry.stamp ≡ max last (stamp_with entry.intake) + 1) × AreStamped entry.stamp entries
 
 -- ## All histories
--- A message that the site of this number took in was posted to it by another site.
+-- A message that the site of this number took in was posted to it by the site that it came from.
 abbrev pub WasPosted : Setup → List (List Stamped) → (to : ℕ) → Intake → Type 0
 WasPosted setup histories to (parcel from stamp place message) =
     (from < length histories)

@@ -7,6 +7,7 @@ ghost use Rattle.pv_base.specs.declared.reply.Reply.TheVariants.{Nothing};
 ghost use Rattle.pv_law_histories.specs.Examples.{served, failed, first_of_two, second_of_two};
 ghost use Rattle.pv_law_histories.specs.Fitting.{FitTogether};
 ghost use Rattle.pv_law_histories.specs.Merge.{events_of_merge, lines_of_merge, merge};
+ghost use Rattle.pv_law_histories.specs.Posting.{PassMessages};
 ghost use Rattle.pv_law_step.specs.Examples.{bank, txn_at};
 ghost use Rattle.pv_law_world.specs.Schedules.{alone, one_more, transfer};
 ghost use Rattle.pv_model.specs.Events.{deliver, arm, tick};
@@ -28,6 +29,7 @@ pub fn fault_takes_a_site_down()
 
 /// Of two sites that step at one stamp the one with the lesser number comes first, and its message has the lesser number.
 pub fn two_sites_step_at_one_stamp()
+    ensures passes { PassMessages bank (first_of_two ∷ second_of_two ∷ []) }
     ensures fits { FitTogether bank (first_of_two ∷ second_of_two ∷ []) }
     ensures events { events_of_merge (merge (first_of_two ∷ second_of_two ∷ [])) ≡ transfer ∷ deliver 0 ∷ deliver 1 ∷ deliver 3 ∷ [] }
     ensures lines { lines_of_merge (merge (first_of_two ∷ second_of_two ∷ [])) ≡ Line.txn (txn_at 0 0) ∷ [] }

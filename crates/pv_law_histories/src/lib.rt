@@ -4,7 +4,7 @@
 
 mod examples;
 
-ghost use Rattle.std.specs.Prelude.{◌≡◌, ℕ, ◌<◌, List, length, map, All};
+ghost use Rattle.std.specs.Prelude.{◌≡◌, ℕ, ◌<◌, List, length, All};
 ghost use Rattle.pv_law_histories.specs.Course.{course};
 ghost use Rattle.pv_law_histories.specs.Fitting.{CanAllBeDone, FitTogether, HasRisingStamps, history_of};
 ghost use Rattle.pv_law_histories.specs.History.{Stamped};
