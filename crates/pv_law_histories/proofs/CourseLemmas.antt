@@ -11,6 +11,12 @@ module _ (setup : Setup) (me : ℕ) where
   course-append site [] more = refl
   course-append site (entry ∷ entries) more = course-append (left_by setup me site entry) entries more
 
+  -- One step more makes steps of all.
+  pub steps-append : (site : Site) (entries : List Stamped) (entry : Stamped) → AreSteps setup me site entries
+      → IsStep setup me (course setup me site entries) entry → AreSteps setup me site (entries ++ entry ∷ [])
+  steps-append site [] entry are is = (is, tt)
+  steps-append site (first ∷ entries) entry are is = (are.0, steps-append (left_by setup me site first) entries entry are.1 is)
+
   -- An entry is a step of the site that those before it leave.
   pub step-within : (site : Site) (entries : List Stamped) (entry : Stamped) (more : List Stamped)
       → AreSteps setup me site (entries ++ entry ∷ more) → IsStep setup me (course setup me site entries) entry

@@ -1,10 +1,10 @@
 -- What was posted was sent.
-use Rattle.std.proofs.Common.{◌≡◌, ℕ, ◌+◌, ◌-◌, ◌<◌, Bool, true, false, Some, ◌==◌, if◌then◌else◌, List, [], ◌∷◌, ◌++◌, length, length-append, drop, take-append-drop, slice_get, All, append_assoc, eqb-true, sym, refl, ap, ◌∙◌, inl, inr, arith}
+use Rattle.std.proofs.Common.{◌≡◌, ℕ, ◌+◌, ◌-◌, ◌<◌, max, Bool, true, false, Some, ◌==◌, if◌then◌else◌, List, [], ◌∷◌, ◌++◌, length, length-append, drop, take-append-drop, slice_get, All, append_assoc, append-nil, eqb-true, sym, refl, ap, ◌∙◌, inl, inr, arith}
 use Rattle.std.proofs.lemmas.List.Elements.{All-nil, All-cons, All-head, All-tail, All-append, All-weaker, All-contains}
-use Rattle.pv_law_histories.specs.Course.{left_by, sent_by, Sent}
+use Rattle.pv_law_histories.specs.Course.{course, left_by, sent_by, Sent}
 use Rattle.pv_law_histories.specs.Fitting.{history_of, HasRisingStamps, WasSentBefore, FitTogether}
 use Rattle.pv_law_histories.specs.History.{Intake, request, parcel, tick, Stamped}
-use Rattle.pv_law_histories.specs.Posting.{Parcel, parcels_to, kept_by, posted_to, stamp_with, AreStamped, WasPosted, PassMessages}
+use Rattle.pv_law_histories.specs.Posting.{Parcel, parcels_to, kept_by, posted_to, stamp_with, AreStamped, last_stamp, WasPosted, PassMessages}
 use Rattle.pv_protocol.specs.State.{Setup, Site, Outgoing}
 use Rattle.pv_protocol.specs.World.{first_site}
 
@@ -67,6 +67,20 @@ stamped-above last [] are = All-nil (λ (entry : Stamped). stamp_with entry.inta
 stamped-above last (entry ∷ entries) are =
     let is = are.0 in
     All-cons (λ (e : Stamped). stamp_with e.intake < e.stamp) entry entries (omega arith) (stamped-above entry.stamp entries are.1)
+
+pub stamped-append : (last : ℕ) (entries : List Stamped) (entry : Stamped) → AreStamped last entries
+    → entry.stamp ≡ max (last_stamp last entries) (stamp_with entry.intake) + 1 → AreStamped last (entries ++ entry ∷ [])
+stamped-append last [] entry are is = (is, tt)
+stamped-append last (first ∷ entries) entry are is = (are.0, stamped-append first.stamp entries entry are.1 is)
+
+pub posted-append : (setup : Setup) (me to : ℕ) (site : Site) (entries : List Stamped) (entry : Stamped)
+    → posted_to setup me to site (entries ++ entry ∷ []) ≡ posted_to setup me to site entries ++ parcels_to to entry.stamp 0 (kept_by setup me (course setup me site entries) entry)
+posted-append setup me to site [] entry = append-nil (parcels_to to entry.stamp 0 (kept_by setup me site entry))
+posted-append setup me to site (first ∷ entries) entry =
+    let here = parcels_to to first.stamp 0 (kept_by setup me site first) in
+    let left = left_by setup me site first in
+    ap (λ (rest : List Parcel). here ++ rest) (posted-append setup me to left entries entry)
+    ∙ sym (append_assoc here (posted_to setup me to left entries) (parcels_to to entry.stamp 0 (kept_by setup me (course setup me left entries) entry)))
 
 -- ## All histories
 was-sent : (setup : Setup) (histories : List (List Stamped)) (to stamp : ℕ) (intake : Intake) → stamp_with intake < stamp → WasPosted setup histories to intake

@@ -41,6 +41,11 @@ abbrev pub AreStamped : ℕ → List Stamped → Type 0
 AreStamped last [] = ⊤
 AreStamped last (entry ∷ entries) = (entry.stamp ≡ max last (stamp_with entry.intake) + 1) × AreStamped entry.stamp entries
 
+-- the last of these stamps, or the one before them
+abbrev pub last_stamp : ℕ → List Stamped → ℕ
+last_stamp last [] = last
+last_stamp last (entry ∷ entries) = last_stamp entry.stamp entries
+
 -- ## All histories
 -- A message that the site of this number took in was posted to it by the site that it came from.
 abbrev pub WasPosted : Setup → List (List Stamped) → (to : ℕ) → Intake → Type 0

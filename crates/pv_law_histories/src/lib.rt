@@ -4,14 +4,14 @@
 
 mod examples;
 
-ghost use Rattle.std.specs.Prelude.{◌≡◌, ℕ, ◌<◌, List, length, All};
-ghost use Rattle.pv_law_histories.specs.Course.{course};
+ghost use Rattle.std.specs.Prelude.{◌≡◌, ℕ, ◌+◌, ◌<◌, max, List, [], ◌∷◌, ◌++◌, length, All};
+ghost use Rattle.pv_law_histories.specs.Course.{AreSteps, IsStep, course, left_by};
 ghost use Rattle.pv_law_histories.specs.Fitting.{CanAllBeDone, FitTogether, HasRisingStamps, history_of};
 ghost use Rattle.pv_law_histories.specs.History.{Stamped};
 ghost use Rattle.pv_law_histories.specs.Merge.{Moment, IsMerge, events_of_merge, lines_of_merge, merge};
-ghost use Rattle.pv_law_histories.specs.Posting.{PassMessages};
+ghost use Rattle.pv_law_histories.specs.Posting.{AreStamped, PassMessages, kept_by, last_stamp, parcels_to, posted_to, stamp_with};
 ghost use Rattle.pv_protocol.specs.Run.{printed, run, world_after};
-ghost use Rattle.pv_protocol.specs.State.{Setup};
+ghost use Rattle.pv_protocol.specs.State.{Setup, Site};
 ghost use Rattle.pv_protocol.specs.WellFormed.{IsWellFormed};
 ghost use Rattle.pv_protocol.specs.World.{first_site, opening, site_at};
 
@@ -43,4 +43,17 @@ pub fn merged_events_are_well_formed()
 /// what was posted to it.
 pub fn passed_messages_fit_together()
     ensures { (setup : Setup) (histories : List (List Stamped)) → PassMessages setup histories → FitTogether setup histories }
+{}
+
+/// A history grows entry by entry: what one more entry has to be, and what it adds to where its site stands and to what the site has posted.
+pub fn histories_grow()
+    ensures steps { (setup : Setup) (n : ℕ) (site : Site) (entries : List Stamped) (entry : Stamped) → AreSteps setup n site entries →
+        IsStep setup n (course setup n site entries) entry → AreSteps setup n site (entries ++ entry ∷ []) }
+    ensures course { (setup : Setup) (n : ℕ) (site : Site) (entries : List Stamped) (entry : Stamped) →
+        course setup n site (entries ++ entry ∷ []) ≡ left_by setup n (course setup n site entries) entry }
+    ensures stamps { (last : ℕ) (entries : List Stamped) (entry : Stamped) → AreStamped last entries →
+        entry.stamp ≡ max (last_stamp last entries) (stamp_with entry.intake) + 1 → AreStamped last (entries ++ entry ∷ []) }
+    ensures posted { (setup : Setup) (n to : ℕ) (site : Site) (entries : List Stamped) (entry : Stamped) →
+        posted_to setup n to site (entries ++ entry ∷ []) ≡
+        posted_to setup n to site entries ++ parcels_to to entry.stamp 0 (kept_by setup n (course setup n site entries) entry) }
 {}
