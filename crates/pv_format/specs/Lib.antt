@@ -1,3 +1,4 @@
+pub mod Checkpoint
 pub mod Contents
 pub mod FirstFault
 pub mod Journal

@@ -8,8 +8,10 @@ use Rattle.pv_base.proofs.MapLemmas.{Contains-unmap}
 use Rattle.pv_base.specs.Named.{names_of}
 use Rattle.pv_base.specs.Polyvalue.{Case}
 use Rattle.pv_base.specs.declared.txn.TxnId.{TxnId}
+use Rattle.pv_format.specs.Checkpoint.{Standing, greatest_number}
 use Rattle.pv_format.specs.Message.{Envelope}
 use Rattle.pv_law_answers.proofs.Origin.{IsTxnLine, Gives, request, delivery, time, Ends, at_once_done, whole, broken, IsNoted}
+use Rattle.pv_law_step.proofs.StepCases.{if_case}
 use Rattle.pv_law_world.proofs.EventView.{by-beginning}
 use Rattle.pv_law_world.specs.EventView.{Beginning, Printed, lines_printed, begun_by, IsAsked, IsGuarded}
 use Rattle.pv_model.specs.Events.{Event}
@@ -17,7 +19,7 @@ use Rattle.pv_model.specs.PossibleAnswers.{sums}
 use Rattle.pv_protocol.specs.Anywhere as anywhere
 use Rattle.pv_protocol.specs.Anywhere.{MayEnd, MayCome}
 use Rattle.pv_protocol.specs.Arms.{broken_line, completed, Reached, waits, fires, reached, calls_of, attempted}
-use Rattle.pv_protocol.specs.Attempt.{Attempt, Begun, at_once, attempts, begun, given, delivered, lost, halted, opened, of_start, of_step}
+use Rattle.pv_protocol.specs.Attempt.{Attempt, Begun, at_once, attempts, begun, given, delivered, lost, halted, opened, packed, of_start, of_step, of_checkpoint}
 use Rattle.pv_protocol.specs.Committed.{is_committed, is_open}
 use Rattle.pv_protocol.specs.Lines.{Line, line_of}
 use Rattle.pv_protocol.specs.Report.{Reading, cases, locked, down, item_line, item_lines, total_from, total_of, report_of, sent_from, sent_lines, readings, txns_in_order}
@@ -111,8 +113,8 @@ ended-ends (attempts world n attempt) = attempted-ends world n attempt (reached 
 
 end-ends : (world : World) (n : ℕ) (attempt : Attempt) (lines : List Line) (after : World) → MayEnd world n attempt lines after → Ends (attempts world n attempt) lines after
 end-ends world n attempt lines after anywhere.whole = whole world n attempt None
-end-ends world n attempt lines after (anywhere.without stops some) = broken world _ n attempt stops
-end-ends world n attempt lines after (anywhere.with_record stops appended is) = broken world _ n attempt stops
+end-ends world n attempt lines after (anywhere.without stops some standing may) = broken world _ n attempt stops
+end-ends world n attempt lines after (anywhere.with_record stops appended is standing may) = broken world _ n attempt stops
 
 pub come-ends : (b : Begun) (lines : List Line) (after : World) → MayCome b lines after → Ends b lines after
 come-ends b lines after (anywhere.without_attempt lines' after') = at_once_done lines after
@@ -174,6 +176,19 @@ module _ (setup : Setup) (world : World) (line : Line) (decides : IsTxnLine line
   opened-quiet n (Some running) lines after ends h = once-quiet (Line.up n ∷ []) world lines after ends (quiet-one (Line.up n) (λ d. d)) h
   opened-quiet n None lines after ends h = start-quietly n (site_start setup (site_at world n).records) lines after ends h
 
+  packing-quietly : (n : ℕ) (standing : Standing) (running : Running) (lines : List Line) (after : World) → Ends (attempts world n (of_checkpoint standing running)) lines after
+      → Contains lines line → ⊥
+  packing-quietly n standing running lines after (whole found' n' attempt' arm) h = quiet-nil line h decides
+  packing-quietly n standing running lines after (broken found' after' n' attempt' stops) h = broken-quiet n stops line h decides
+
+  packed-quiet : (n : ℕ) (running : Option Running) (lines : List Line) (after : World) → Ends (packed world n running) lines after → Contains lines line → ⊥
+  packed-quiet n None lines after ends h = once-quiet (Line.down n ∷ []) world lines after ends (quiet-one (Line.down n) (λ d. d)) h
+  packed-quiet n (Some running) lines after ends h =
+      if_case (λ (b : Begun). Ends b lines after → ⊥) (nat_lt (site_at world n).standing.number greatest_number)
+      (λ left done. packing-quietly n (site_at world n).standing running lines after done h)
+      (λ spent done. once-quiet (Line.spent n ∷ []) world lines after done (quiet-one (Line.spent n) (λ d. d)) h)
+      ends
+
   asked-gives : (event : Event) (n : ℕ) (input : Input) → IsAsked event n input → Gives world event n input world
   asked-gives event n (submit program) (query, (text, is)) = subst (λ (e : Event). Gives world e n (submit program) world) (sym is) (request n query text program)
   asked-gives event n (receive from message) never = absurd never
@@ -194,6 +209,7 @@ module _ (setup : Setup) (world : World) (line : Line) (decides : IsTxnLine line
   beginning-noted event (Beginning.drops n) guard lines after ends h = absurd (once-quiet [] _ lines after ends quiet-nil h)
   beginning-noted event (Beginning.halts n) guard lines after ends h = absurd (halted-quiet n (site_at world n).running lines after ends h)
   beginning-noted event (Beginning.opens n) guard lines after ends h = absurd (opened-quiet n (site_at world n).running lines after ends h)
+  beginning-noted event (Beginning.packs n) guard lines after ends h = absurd (packed-quiet n (site_at world n).running lines after ends h)
   beginning-noted event (Beginning.arms n arm) guard lines after ends h = absurd (once-quiet [] _ lines after ends quiet-nil h)
   beginning-noted event (Beginning.prints printed) guard lines after ends h = absurd (once-quiet (lines_printed setup world printed) world lines after ends (printed-quiet printed) h)
 

@@ -1,12 +1,15 @@
 -- What one transition of a run does to the sites and to what was sent.
 use Rattle.std.proofs.Common.{◌≡◌, ◌≢◌, ℕ, zero, suc, ◌<◌, Some, None, Option, List, [], ◌∷◌, ◌++◌, length, refl, sym, ap, subst, ◌∙◌}
-use Rattle.std.specs.Prelude.{slice_get, option_to_list, get_or, set}
+use Rattle.std.specs.Prelude.{slice_get, option_to_list, get_or, set, nat_lt}
 use Rattle.std.proofs.lemmas.List.{append-nil, get_or-set_same, get_or-set_other}
+use Rattle.pv_format.specs.Checkpoint.{Standing, done, greatest_number}
 use Rattle.pv_format.specs.Message.{Envelope}
 use Rattle.pv_law_acts.proofs.SiteLemmas.{up-within}
 use Rattle.pv_law_acts.specs.Seen.{records_at, memory_at}
 use Rattle.pv_law_refusals.proofs.MoveLemmas.{asked-comes}
+use Rattle.pv_law_acts.proofs.ListLemmas.{none-some}
 use Rattle.pv_law_refusals.proofs.Moves.{Comes}
+use Rattle.pv_law_step.proofs.StepCases.{if_case}
 use Rattle.pv_law_world.proofs.DisarmLemmas.{site-disarmed}
 use Rattle.pv_law_world.proofs.EventView.{by-beginning}
 use Rattle.pv_law_world.specs.EventView.{Beginning, begun_by, IsGuarded}
@@ -14,7 +17,7 @@ use Rattle.pv_model.specs.Events.{Event}
 use Rattle.pv_protocol.specs.Anywhere as anywhere
 use Rattle.pv_protocol.specs.Anywhere.{MayEnd, MayCome, MayFollow, disarmed}
 use Rattle.pv_protocol.specs.Arms.{completed}
-use Rattle.pv_protocol.specs.Attempt.{Attempt, Begun, at_once, begun, given, delivered, lost, halted, opened, of_start, of_step, without_site}
+use Rattle.pv_protocol.specs.Attempt.{Attempt, Begun, at_once, attempts, begun, given, delivered, lost, halted, opened, packed, of_start, of_step, of_checkpoint, without_site}
 use Rattle.pv_protocol.specs.Lines.{Line}
 use Rattle.pv_protocol.specs.Start.{Started, starts, too_long, no_epoch, site_start}
 use Rattle.pv_protocol.specs.State.{Setup, Site, Arm, Running, Input, submit, receive, tick, Step}
@@ -76,7 +79,7 @@ module _ (setup : Setup) (w : World) where
   whole-makes : (n : ℕ) (step : Step) (found : World) → found.sites ≡ w.sites → found.sent ≡ w.sent → (running : Running) → memory_at w n ≡ Some running
       → MakesItsStep w (completed found n (of_step n step) None) n step
   whole-makes n step found sites sent running up =
-      let site : Site = record { records = records_at found n ++ option_to_list step.appended; arm = None; running = Some step.running } in
+      let site : Site = record { records = records_at found n ++ option_to_list step.appended; standing = (site_at found n).standing; arm = None; running = Some step.running } in
       record {
         others = others found sites n site (completed found n (of_step n step) None) refl;
         memory = ap (λ (s : Site). s.running) (own-site found sites n running up site);
@@ -88,11 +91,11 @@ module _ (setup : Setup) (w : World) where
       → (lines : List Line) (left : World) → MayEnd found n (of_step n (site_step setup n (records_at w n) running input)) lines left → Goes setup w event left
   step-goes event n input found sites sent comes running up lines left anywhere.whole =
       steps n running input comes up (whole-makes n (site_step setup n (records_at w n) running input) found sites sent running up)
-  step-goes event n input found sites sent comes running up lines left (anywhere.without stops some) =
-      let site : Site = record { records = records_at found n ++ []; arm = None; running = None } in
+  step-goes event n input found sites sent comes running up lines left (anywhere.without stops some standing may) =
+      let site : Site = record { records = records_at found n ++ []; standing = standing; arm = None; running = None } in
       halts n (others found sites n site left refl) (ap (λ (s : Site). s.running) (own-site found sites n running up site)) sent
-  step-goes event n input found sites sent comes running up lines left (anywhere.with_record stops appended is) =
-      let site : Site = record { records = records_at found n ++ appended ∷ []; arm = None; running = None } in
+  step-goes event n input found sites sent comes running up lines left (anywhere.with_record stops appended is standing may) =
+      let site : Site = record { records = records_at found n ++ appended ∷ []; standing = standing; arm = None; running = None } in
       halts n (others found sites n site left refl) (ap (λ (s : Site). s.running) (own-site found sites n running up site)) sent
 
   once-goes : (event : Event) (reported : List Line) (then_world : World) (lines : List Line) (left : World) → MayCome (at_once reported then_world) lines left → Goes setup w event then_world → Goes setup w event left
@@ -124,13 +127,36 @@ module _ (setup : Setup) (w : World) where
 
   start-goes : (event : Event) (n : ℕ) (attempt : Attempt) → attempt.sends ≡ [] → memory_at w n ≡ None → (lines : List Line) (left : World) → MayEnd w n attempt lines left → Goes setup w event left
   start-goes event n attempt none down lines left anywhere.whole = opens n (others w refl n _ left refl) down (ap (λ sends. w.sent ++ from_site n sends) none ∙ append-nil w.sent)
-  start-goes event n attempt none down lines left (anywhere.without stops some) = opens n (others w refl n _ left refl) down refl
-  start-goes event n attempt none down lines left (anywhere.with_record stops appended is) = opens n (others w refl n _ left refl) down refl
+  start-goes event n attempt none down lines left (anywhere.without stops some standing may) = opens n (others w refl n _ left refl) down refl
+  start-goes event n attempt none down lines left (anywhere.with_record stops appended is standing may) = opens n (others w refl n _ left refl) down refl
 
   opened-goes : (event : Event) (n : ℕ) (running : Option Running) → memory_at w n ≡ running → (lines : List Line) (left : World) → MayCome (opened setup w n running) lines left → Goes setup w event left
   opened-goes event n (Some running) up lines left come = once-goes event _ w lines left come (stays (same-sites w refl) refl)
   opened-goes event n None down lines left (anywhere.by_attempt found' left' n' attempt' lines' ends) =
       start-goes event n (of_start n (site_start setup (records_at w n))) (start-silent n (site_start setup (records_at w n))) down lines left ends
+
+  -- a checkpoint leaves records and memories, or its site down
+  packing-goes : (event : Event) (n : ℕ) (was : Standing) (running : Running) → memory_at w n ≡ Some running → (lines : List Line) (left : World)
+      → MayEnd w n (of_checkpoint was running) lines left → Goes setup w event left
+  packing-goes event n was running up lines left anywhere.whole =
+      let site : Site = record { records = records_at w n ++ []; standing = done (site_at w n).standing; arm = None; running = Some running } in
+      stays (λ m. record {
+        records = put-same (λ (s : Site). s.records) w.sites n m site (append-nil (records_at w n));
+        memory = put-same (λ (s : Site). s.running) w.sites n m site (sym up);
+      }) (append-nil w.sent)
+  packing-goes event n was running up lines left (anywhere.without stops some standing may) =
+      let site : Site = record { records = records_at w n ++ []; standing = standing; arm = None; running = None } in
+      halts n (others w refl n site left refl) (ap (λ (s : Site). s.running) (own-site w refl n running up site)) refl
+  packing-goes event n was running up lines left (anywhere.with_record stops appended is standing may) = absurd (none-some is)
+
+  packed-goes : (event : Event) (n : ℕ) (running : Option Running) → memory_at w n ≡ running → (lines : List Line) (left : World) → MayCome (packed w n running) lines left → Goes setup w event left
+  packed-goes event n None up lines left come = once-goes event _ w lines left come (stays (same-sites w refl) refl)
+  packed-goes event n (Some running) up lines left come =
+      if_case (λ (b : Begun). MayCome b lines left → Goes setup w event left) (nat_lt (site_at w n).standing.number greatest_number)
+      (λ some began. attempted began)
+      (λ spent began. once-goes event _ w lines left began (stays (same-sites w refl) refl)) come where
+        attempted : MayCome (attempts w n (of_checkpoint (site_at w n).standing running)) lines left → Goes setup w event left
+        attempted (anywhere.by_attempt found' left' n' attempt' lines' ends) = packing-goes event n (site_at w n).standing running up lines left ends
 
   armed-goes : (event : Event) (n : ℕ) (arm : Option Arm) (lines : List Line) (left : World) → MayCome (at_once [] (with_site w n (record (site_at w n) { arm = arm }))) lines left → Goes setup w event left
   armed-goes event n arm lines left come =
@@ -149,6 +175,7 @@ module _ (setup : Setup) (w : World) where
       let now : World = record w { fresh = without_site n w.sent w.fresh } in once-goes event [] now lines left come (stays (same-sites now refl) refl)
   beginning-goes event (Beginning.halts n) guard lines left come = halted-goes event n (memory_at w n) refl lines left come
   beginning-goes event (Beginning.opens n) guard lines left come = opened-goes event n (memory_at w n) refl lines left come
+  beginning-goes event (Beginning.packs n) guard lines left come = packed-goes event n (memory_at w n) refl lines left come
   beginning-goes event (Beginning.arms n arm) guard lines left come = armed-goes event n arm lines left come
   beginning-goes event (Beginning.prints printed) guard lines left come = once-goes event _ w lines left come (stays (same-sites w refl) refl)
 
@@ -185,11 +212,11 @@ module _ (setup : Setup) (w : World) where
   up-makes : (n : ℕ) (step : Step) (found : World) → found.sites ≡ w.sites → found.sent ≡ w.sent → (running : Running) → memory_at w n ≡ Some running
       → (lines : List Line) (left : World) → MayEnd found n (of_step n step) lines left → (memory_at left n ≡ None → ⊥) → MakesItsStep w left n step
   up-makes n step found sites sent running up lines left anywhere.whole still = whole-makes n step found sites sent running up
-  up-makes n step found sites sent running up lines left (anywhere.without stops some) still =
-      let site : Site = record { records = records_at found n ++ []; arm = None; running = None } in
+  up-makes n step found sites sent running up lines left (anywhere.without stops some standing may) still =
+      let site : Site = record { records = records_at found n ++ []; standing = standing; arm = None; running = None } in
       absurd (still (ap (λ (s : Site). s.running) (own-site found sites n running up site)))
-  up-makes n step found sites sent running up lines left (anywhere.with_record stops appended is) still =
-      let site : Site = record { records = records_at found n ++ appended ∷ []; arm = None; running = None } in
+  up-makes n step found sites sent running up lines left (anywhere.with_record stops appended is standing may) still =
+      let site : Site = record { records = records_at found n ++ appended ∷ []; standing = standing; arm = None; running = None } in
       absurd (still (ap (λ (s : Site). s.running) (own-site found sites n running up site)))
 
   given-makes : (n : ℕ) (input : Input) (found : World) → found.sites ≡ w.sites → found.sent ≡ w.sent → (running : Running) → memory_at w n ≡ Some running

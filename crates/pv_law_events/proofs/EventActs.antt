@@ -6,6 +6,7 @@ use Rattle.std.proofs.lemmas.List.{append-nil, append_assoc, length-set, length-
 use Rattle.std.proofs.lemmas.Option.{slice_get_within, get_or_from_slice_get}
 use Rattle.pv_base.proofs.ContainsLemmas.{Contains-first, Contains-behind, Contains-nil}
 use Rattle.pv_base.proofs.MapLemmas.{Contains-unmap}
+use Rattle.pv_format.specs.Checkpoint.{Standing, greatest_number}
 use Rattle.pv_format.specs.Contents.{greatest_epoch}
 use Rattle.pv_format.specs.Message.{Message, lock, granted, denied, prepare, vote_yes, vote_no, outcome_reported, ask, Envelope}
 use Rattle.pv_format.specs.Record.{Record, epoch_begun}
@@ -22,6 +23,7 @@ use Rattle.pv_law_events.proofs.WorldLemmas.{no-more-itself, nothing-new, At, ow
 use Rattle.pv_law_outcomes.proofs.DecidedLemmas.{IsSettled}
 use Rattle.pv_law_outcomes.proofs.OutcomeLemmas.{settled-after}
 use Rattle.pv_law_step.proofs.StartLemmas.{start-case}
+use Rattle.pv_law_step.proofs.StepCases.{if_case}
 use Rattle.pv_law_step.specs.StartCases as of_starts
 use Rattle.pv_law_step.specs.StartCases.{StartCase}
 use Rattle.pv_law_world.proofs.DisarmLemmas.{site-disarmed}
@@ -31,8 +33,8 @@ use Rattle.pv_law_world.specs.Sites.{AreEpochsRecorded, AreMemoriesInOrder}
 use Rattle.pv_model.specs.Events.{Event}
 use Rattle.pv_protocol.specs.Anywhere as anywhere
 use Rattle.pv_protocol.specs.Anywhere.{MayEnd, MayCome, MayFollow, disarmed_site, disarmed}
-use Rattle.pv_protocol.specs.Arms.{Reached, waits, fires, reached, calls_of, is_kept, completed, broken, attempted}
-use Rattle.pv_protocol.specs.Attempt.{Attempt, Begun, at_once, attempts, begun, given, delivered, lost, halted, opened, of_step, refused_start, of_start}
+use Rattle.pv_protocol.specs.Arms.{Reached, waits, fires, reached, calls_of, is_kept, standing_made, standing_left, completed, broken, attempted}
+use Rattle.pv_protocol.specs.Attempt.{Attempt, Begun, at_once, attempts, begun, given, delivered, lost, halted, opened, packed, of_step, refused_start, of_start, of_checkpoint}
 use Rattle.pv_protocol.specs.Lines.{Line}
 use Rattle.pv_protocol.specs.Start.{Started, starts, just_started, site_start}
 use Rattle.pv_protocol.specs.State.{Setup, Running, Site, Arm, Input, submit, receive, tick, Outgoing, Placed, Step}
@@ -104,23 +106,24 @@ module _ (setup : Setup) where
   -- What a site attempts is some acts: where all of it is written, and where it stops with its record.
   pub record IsAttemptActs (w : World) (n : ℕ) (attempt : Attempt) : Type 0 where
     pub whole : (arm : Option Arm) → Acts setup w (completed w n attempt arm)
-    pub with_record : (appended : Record) → attempt.appended ≡ Some appended → Acts setup w (broken w n (Some appended))
+    pub with_record : (appended : Record) → attempt.appended ≡ Some appended → (standing : Standing) → Acts setup w (broken w n (Some appended) standing)
 
   module _ (w : World) (n : ℕ) where
     -- Where a site goes down in a step without its record.
-    pub broken-acts : Acts setup w (broken w n None)
-    broken-acts =
-        one_more w (with_content w n (records_at w n) None) (broken w n None) (one-act setup w n (with_content w n (records_at w n) None) (acts.goes_down n))
-        (acts.forgets (broken w n None)
-        (nothing-new w.sites n (record (site_at w n) { running = None }) (record { records = records_at w n ++ []; arm = None; running = None }) w.sent w.fresh w.fresh w.order
+    pub broken-acts : (standing : Standing) → Acts setup w (broken w n None standing)
+    broken-acts standing =
+        one_more w (with_content w n (records_at w n) None) (broken w n None standing) (one-act setup w n (with_content w n (records_at w n) None) (acts.goes_down n))
+        (acts.forgets (broken w n None standing)
+        (nothing-new w.sites n (record (site_at w n) { running = None }) (record { records = records_at w n ++ []; standing = standing; arm = None; running = None }) w.sent w.fresh w.fresh w.order
         (sym (append-nil (records_at w n))) (no-more-itself None)))
 
     -- to where it is down with these records
-    down-acts : (records : List Record) (left : Option Record) → Acts setup w (At w n records None w.order) → records ≡ records_at w n ++ option_to_list left → Acts setup w (broken w n left)
-    down-acts records left so_far is =
-        one_more w (At w n records None w.order) (broken w n left) so_far
-        (acts.forgets (broken w n left)
-        (nothing-new w.sites n (record (site_at w n) { records = records; running = None }) (record { records = records_at w n ++ option_to_list left; arm = None; running = None }) w.sent w.fresh w.fresh w.order
+    down-acts : (records : List Record) (left : Option Record) → Acts setup w (At w n records None w.order) → records ≡ records_at w n ++ option_to_list left
+        → (standing : Standing) → Acts setup w (broken w n left standing)
+    down-acts records left so_far is standing =
+        one_more w (At w n records None w.order) (broken w n left standing) so_far
+        (acts.forgets (broken w n left standing)
+        (nothing-new w.sites n (record (site_at w n) { records = records; running = None }) (record { records = records_at w n ++ option_to_list left; standing = standing; arm = None; running = None }) w.sent w.fresh w.fresh w.order
         is (no-more-itself None)))
 
     -- to where all of an attempt is written
@@ -140,7 +143,7 @@ module _ (setup : Setup) where
         (acts.forgets last
         (subst (λ (o : List Placed). HasNothingNew (record u { sent = u.sent ++ sends; order = o }) last) (sym places)
         (nothing-new w.sites n (record (site_at w n) { records = records; running = attempt.running })
-        (record { records = records_at w n ++ option_to_list attempt.appended; arm = arm; running = attempt.running })
+        (record { records = records_at w n ++ option_to_list attempt.appended; standing = standing_made attempt.packs (site_at w n).standing; arm = arm; running = attempt.running })
         (w.sent ++ sends) w.fresh last.fresh last.order appends (no-more-itself attempt.running))))
 
     pub step-acts : (step : Step) → IsActs setup w n step → IsAttemptActs w n (of_step n step)
@@ -148,6 +151,15 @@ module _ (setup : Setup) where
       whole = λ arm. complete-acts (of_step n step) is.records is.order arm is.acts is.appends is.places is.sends;
       with_record = λ appended same. down-acts is.records (Some appended) (is.stops appended same)
           (is.appends ∙ ap (λ (left : Option Record). records_at w n ++ option_to_list left) same);
+    }
+
+    -- a checkpoint, which changes nothing but how the log stands
+    pub checkpoint-acts : (standing : Standing) (running : Running) → memory_at w n ≡ Some running → IsAttemptActs w n (of_checkpoint standing running)
+    checkpoint-acts standing running up = record {
+      whole = λ arm. complete-acts (of_checkpoint standing running) (records_at w n) w.order arm
+          (subst (λ memory. Acts setup w (At w n (records_at w n) memory w.order)) up (subst (Acts setup w) (sym (own-site w n)) (no_act w)))
+          (sym (append-nil (records_at w n))) (sym (append-nil w.order)) (λ sent h. absurd (Contains-nil sent h));
+      with_record = λ appended is. absurd (none-some is);
     }
 
     -- A start.
@@ -270,6 +282,14 @@ module _ (setup : Setup) where
         goes_on w n (of_start n (site_start setup (records_at w n))) (no_act w)
         (start-acts w n (subst (λ m. n < m) (sym count) within) is (site_start setup (records_at w n)) (start-case setup (records_at w n)))
 
+    packed-acts : (n : ℕ) (running : Option Running) → memory_at w n ≡ running → IsBegunActs w (packed w n running)
+    packed-acts n None is = settles _ w (no_act w)
+    packed-acts n (Some running) is =
+        let standing : Standing = (site_at w n).standing in
+        if_case (IsBegunActs w) (nat_lt standing.number greatest_number)
+        (λ left. goes_on w n (of_checkpoint standing running) (no_act w) (checkpoint-acts w n standing running is))
+        (λ spent. settles _ w (no_act w))
+
     -- a site whose disk is armed otherwise
     armed-acts : (n : ℕ) (arm : Option Arm) → Acts setup w (with_site w n (record (site_at w n) { arm = arm }))
     armed-acts n arm =
@@ -292,6 +312,7 @@ module _ (setup : Setup) where
     beginning-acts event well (Beginning.drops n) guard = settles _ _ (marked-acts w _)
     beginning-acts event well (Beginning.halts n) guard = halted-acts n (memory_at w n)
     beginning-acts event well (Beginning.opens n) guard = opened-acts n (guard.within setup.catalog well) (memory_at w n) refl
+    beginning-acts event well (Beginning.packs n) guard = packed-acts n (memory_at w n) refl
     beginning-acts event well (Beginning.arms n arm) guard = settles _ _ (armed-acts n arm)
     beginning-acts event well (Beginning.prints printed) guard = settles _ w (no_act w)
 
@@ -302,11 +323,14 @@ module _ (setup : Setup) where
 
   attempted-acts : (w : World) (n : ℕ) (attempt : Attempt) → IsAttemptActs w n attempt → (left : Reached) → Acts setup w (attempted w n attempt left).1
   attempted-acts w n attempt is (waits arm) = is.whole arm
-  attempted-acts w n attempt is (fires arm) = by (nat_lt (attempt.syncs + 2) arm.call && is_kept arm.mode) attempt.appended refl where
-    by : (there : Bool) (appended : Option Record) → attempt.appended ≡ appended → Acts setup w (broken w n (if there then appended else None))
-    by true None same = broken-acts w n
-    by true (Some appended) same = is.with_record appended same
-    by false appended same = broken-acts w n
+  attempted-acts w n attempt is (fires arm) = by (nat_lt (attempt.calls + 2) arm.call && is_kept arm.mode) attempt.appended refl where
+    standing : Standing
+    standing = standing_left attempt.packs arm (site_at w n).standing
+
+    by : (there : Bool) (appended : Option Record) → attempt.appended ≡ appended → Acts setup w (broken w n (if there then appended else None) standing)
+    by true None same = broken-acts w n standing
+    by true (Some appended) same = is.with_record appended same standing
+    by false appended same = broken-acts w n standing
 
   ended-acts : (w : World) (b : Begun) → IsBegunActs w b → Acts setup w (ended b).1
   ended-acts w b (settles lines after reached) = reached
@@ -316,8 +340,8 @@ module _ (setup : Setup) where
 
   end-acts : (w : World) (n : ℕ) (attempt : Attempt) → IsAttemptActs w n attempt → (lines : List Line) (after : World) → MayEnd w n attempt lines after → Acts setup w after
   end-acts w n attempt is lines after anywhere.whole = is.whole None
-  end-acts w n attempt is lines after (anywhere.without stops some) = broken-acts w n
-  end-acts w n attempt is lines after (anywhere.with_record stops appended same) = is.with_record appended same
+  end-acts w n attempt is lines after (anywhere.without stops some standing may) = broken-acts w n standing
+  end-acts w n attempt is lines after (anywhere.with_record stops appended same standing may) = is.with_record appended same standing
 
   come-acts : (w : World) (b : Begun) → IsBegunActs w b → (lines : List Line) (after : World) → MayCome b lines after → Acts setup w after
   come-acts w b (settles reported world reached) lines after (anywhere.without_attempt reported' world') = reached

@@ -1,6 +1,7 @@
 -- The course of a site along a history that is cut in two, and what was sent in each part.
 use Rattle.std.proofs.Common.{◌≡◌, ◌⊎◌, ℕ, ◌<◌, Option, Some, None, List, [], ◌∷◌, ◌++◌, length, All, sym, refl, inl, inr, ⊎_elim, arith}
 use Rattle.std.proofs.lemmas.List.Elements.{All-head, All-tail}
+use Rattle.pv_format.specs.Checkpoint.{first_standing}
 use Rattle.pv_format.specs.Record.{Record}
 use Rattle.pv_law_histories.specs.Course.{left_up, left_at, left_by, sent_up, sent_at, sent_by, IsStepUp, IsStepAt, IsStep, course, AreSteps, Sent}
 use Rattle.pv_law_histories.specs.History.{Came, done, fault, down, Stamped}
@@ -36,6 +37,20 @@ module _ (setup : Setup) (me : ℕ) where
   pub course-arm : (site : Site) (entries : List Stamped) → site.arm ≡ None → (course setup me site entries).arm ≡ None
   course-arm site [] unarmed = unarmed
   course-arm site (entry ∷ entries) unarmed = course-arm (left_by setup me site entry) entries (left_at-arm site.records site.running entry)
+
+  -- ## The log of each stands as it was formatted
+  left_up-formatted : (records : List Record) (running : Running) (entry : Stamped) (came : Came) → (left_up setup me records running entry came).standing ≡ first_standing
+  left_up-formatted records running entry (done notes) = refl
+  left_up-formatted records running entry fault = refl
+  left_up-formatted records running entry down = refl
+
+  left_at-formatted : (records : List Record) (running : Option Running) (entry : Stamped) → (left_at setup me records running entry).standing ≡ first_standing
+  left_at-formatted records None entry = refl
+  left_at-formatted records (Some running) entry = left_up-formatted records running entry entry.came
+
+  pub course-formatted : (site : Site) (entries : List Stamped) → site.standing ≡ first_standing → (course setup me site entries).standing ≡ first_standing
+  course-formatted site [] formatted = formatted
+  course-formatted site (entry ∷ entries) formatted = course-formatted (left_by setup me site entry) entries (left_at-formatted site.records site.running entry)
 
   -- ## What was sent
   -- An entry counts what it sent.

@@ -1,8 +1,9 @@
 -- What the events of a moment do to a world in which its site stands where its history has left it.
-use Rattle.std.proofs.Common.{◌≡◌, ◌≢◌, ℕ, zero, suc, ◌+◌, ◌<◌, Option, Some, None, List, [], ◌∷◌, ◌++◌, set, get_or, length, get_or-set_same, get_or-set_other, false, sym, refl, ap, ◌∙◌, subst, arith}
+use Rattle.std.proofs.Common.{◌≡◌, ◌≢◌, ℕ, zero, suc, ◌+◌, ◌<◌, Option, Some, None, List, [], ◌∷◌, ◌++◌, set, get_or, length, get_or-set_same, get_or-set_other, false, sym, refl, ap, ap₂, ◌∙◌, subst, arith}
 use Rattle.std.specs.Prelude.{slice_get, option_to_list, IsSome}
 use Rattle.std.proofs.lemmas.List.{append-nil, length-set}
 use Rattle.pv_base.specs.declared.mode.Mode.TheVariants.{Lost}
+use Rattle.pv_format.specs.Checkpoint.{Standing, first_standing}
 use Rattle.pv_format.specs.Message.{Envelope}
 use Rattle.pv_format.specs.Record.{Record}
 use Rattle.pv_law_histories.specs.Course.{input_of, step_at, left_up, left_at, left_by, sent_up, sent_at, sent_by, IsStepUp, IsStepAt, IsStep}
@@ -83,10 +84,10 @@ module _ (setup : Setup) (n : ℕ) where
   reached-unarmed (suc more) = refl
 
   up-plain : (world : World) (entry : Stamped) (records : List Record) (running : Running) (came : Came) → n < length world.sites
-      → (site_at world n).records ≡ records → IsStepUp setup n records running entry came → IsPlain came
+      → (site_at world n).records ≡ records → (site_at world n).standing ≡ first_standing → IsStepUp setup n records running entry came → IsPlain came
       → Comes world n (left_up setup n records running entry came) (sent_up setup n records running entry came) (lines_of_came n came)
       (end_at world entry records None (Some running))
-  up-plain world entry records running (done notes) within same is plain =
+  up-plain world entry records running (done notes) within same formatted is plain =
       let step = step_at setup n records running entry in
       let attempt : Attempt = attempt_at records running entry in
       let site = left_up setup n records running entry (done notes) in
@@ -94,13 +95,16 @@ module _ (setup : Setup) (n : ℕ) where
       record {
         prints = ap (lines_of n) (sym is.0);
         becomes = set-becomes world (completed world n attempt None) site step.sends within
-            (ap (λ (before : List Record). set world.sites n record { records = before ++ option_to_list step.appended; arm = None; running = Some step.running }) same) refl;
+            (ap₂
+            (λ (before : List Record) (standing : Standing). set world.sites n
+            record { records = before ++ option_to_list step.appended; standing = standing; arm = None; running = Some step.running })
+            same formatted) refl;
       }
-  up-plain world entry records running fault within same is plain = absurd plain
-  up-plain world entry records running down within same is plain = absurd is
+  up-plain world entry records running fault within same formatted is plain = absurd plain
+  up-plain world entry records running down within same formatted is plain = absurd is
 
   at-plain : (world : World) (entry : Stamped) (records : List Record) (running : Option Running) → n < length world.sites
-      → site_at world n ≡ record { records = records; arm = None; running = running } → IsStepAt setup n records running entry → IsPlain entry.came
+      → site_at world n ≡ record { records = records; standing = first_standing; arm = None; running = running } → IsStepAt setup n records running entry → IsPlain entry.came
       → Comes world n (left_at setup n records running entry) (sent_at setup n records running entry) (lines_of_came n entry.came)
       (end_at world entry records None running)
   at-plain world entry records None within stands is plain = record {
@@ -108,7 +112,7 @@ module _ (setup : Setup) (n : ℕ) where
     becomes = record { width = refl; here = stands; others = λ other apart. refl; sent = sym (append-nil world.sent) };
   }
   at-plain world entry records (Some running) within stands is plain =
-      up-plain world entry records running entry.came within (ap (λ (site : Site). site.records) stands) is plain
+      up-plain world entry records running entry.came within (ap (λ (site : Site). site.records) stands) (ap (λ (site : Site). site.standing) stands) is plain
 
   -- ## A site whose next write or sync fails
   reached-failing : (appended : Option Record) → IsSome appended → reached (0 + calls_of_append appended) (Some failing) ≡ fires failing
@@ -116,17 +120,18 @@ module _ (setup : Setup) (n : ℕ) where
   reached-failing (Some more) is = refl
 
   up-fault : (world : World) (entry : Stamped) (records : List Record) (running : Running) → n < length world.sites
-      → (site_at world n).records ≡ records → IsSome (step_at setup n records running entry).appended
+      → (site_at world n).records ≡ records → (site_at world n).standing ≡ first_standing → IsSome (step_at setup n records running entry).appended
       → Comes world n (left_up setup n records running entry fault) [] (Line.fault n ∷ []) (end_at world entry records (Some failing) (Some running))
-  up-fault world entry records running within same is =
+  up-fault world entry records running within same formatted is =
       let step = step_at setup n records running entry in
       let attempt : Attempt = attempt_at records running entry in
       let site = left_up setup n records running entry fault in
       subst (λ what. Comes world n site [] (Line.fault n ∷ []) (attempted world n attempt what)) (sym (reached-failing step.appended is))
       record {
         prints = refl;
-        becomes = set-becomes world (broken world n None) site [] within
-            (ap (λ (before : List Record). set world.sites n record { records = before; arm = None; running = None }) (append-nil (site_at world n).records ∙ same))
+        becomes = set-becomes world (broken world n None (site_at world n).standing) site [] within
+            (ap₂ (λ (before : List Record) (standing : Standing). set world.sites n record { records = before; standing = standing; arm = None; running = None })
+            (append-nil (site_at world n).records ∙ same) formatted)
             (sym (append-nil world.sent));
       }
 
@@ -171,11 +176,11 @@ module _ (setup : Setup) (n : ℕ) where
 
   -- Where the site stands so when it has taken the intake, the event ends as that.
   event-end : (world : World) (moments : List Moment) (entry : Stamped) (records : List Record) (arm : Option Arm) (running : Option Running)
-      → IsThere world moments n entry.intake → site_at world n ≡ record { records = records; arm = arm; running = running }
+      → IsThere world moments n entry.intake → site_at world n ≡ record { records = records; standing = first_standing; arm = arm; running = running }
       → run_end world (event_of moments n entry.intake ∷ []) ≡ end_at (taking world moments entry.intake) entry records arm running
   event-end world moments entry records arm running there stands =
       let taken = taking world moments entry.intake in
-      let same : site_at taken n ≡ record { records = records; arm = arm; running = running } =
+      let same : site_at taken n ≡ record { records = records; standing = first_standing; arm = arm; running = running } =
       ap (λ (all : List Site). get_or all n no_site) (taking-sites world moments entry.intake) ∙ stands in
       ap (λ transitions. (lines_of_transitions transitions, world_after world transitions)) (event-run world moments entry.intake there)
       ∙ (let end = ended (given setup taken n (input_of entry.intake) (site_at world n).running) in
@@ -185,7 +190,7 @@ module _ (setup : Setup) (n : ℕ) where
       ∙ ap (λ (site : Site). end_at taken entry site.records site.arm running) same
 
   moment-plain : (world : World) (moments : List Moment) (entry : Stamped) (records : List Record) (running : Option Running) → n < length world.sites
-      → site_at world n ≡ record { records = records; arm = None; running = running } → IsStepAt setup n records running entry
+      → site_at world n ≡ record { records = records; standing = first_standing; arm = None; running = running } → IsStepAt setup n records running entry
       → IsThere world moments n entry.intake → IsPlain entry.came
       → Comes world n (left_at setup n records running entry) (sent_at setup n records running entry) (lines_of_came n entry.came)
       (run_end world (event_of moments n entry.intake ∷ []))
@@ -210,8 +215,8 @@ module _ (setup : Setup) (n : ℕ) where
   arm-run world event = refl
 
   armed-site : (world : World) (records : List Record) (arm : Option Arm) (running : Option Running) → n < length world.sites
-      → site_at world n ≡ record { records = records; arm = arm; running = running }
-      → site_at (armed world) n ≡ record { records = records; arm = Some failing; running = running }
+      → site_at world n ≡ record { records = records; standing = first_standing; arm = arm; running = running }
+      → site_at (armed world) n ≡ record { records = records; standing = first_standing; arm = Some failing; running = running }
   armed-site world records arm running within stands =
       get_or-set_same world.sites n (record (site_at world n) { arm = Some failing }) no_site within
       ∙ ap (λ (site : Site). record site { arm = Some failing }) stands
@@ -235,7 +240,7 @@ module _ (setup : Setup) (n : ℕ) where
   there-armed world moments tick there = tt
 
   moment-fault : (world : World) (moments : List Moment) (entry : Stamped) (records : List Record) (running : Running) → n < length world.sites
-      → site_at world n ≡ record { records = records; arm = None; running = Some running } → IsSome (step_at setup n records running entry).appended
+      → site_at world n ≡ record { records = records; standing = first_standing; arm = None; running = Some running } → IsSome (step_at setup n records running entry).appended
       → IsThere world moments n entry.intake
       → Comes world n (left_up setup n records running entry fault) [] (Line.fault n ∷ [])
       (run_end world (events.arm n 1 Lost false ∷ (event_of moments n entry.intake ∷ [])))
@@ -254,11 +259,12 @@ module _ (setup : Setup) (n : ℕ) where
       (sym (event-end world' moments entry records (Some failing) (Some running) (there-armed world moments entry.intake there) stands'))
       (as-before world' taken site [] (Line.fault n ∷ []) (end_at taken entry records (Some failing) (Some running)) same (taking-sent world' moments entry.intake)
       (up-fault taken entry records running (subst (λ (all : List Site). n < length all) (sym same) within')
-      (ap (λ (all : List Site). (get_or all n no_site).records) same ∙ ap (λ (here : Site). here.records) stands') is))))
+      (ap (λ (all : List Site). (get_or all n no_site).records) same ∙ ap (λ (here : Site). here.records) stands')
+      (ap (λ (all : List Site). (get_or all n no_site).standing) same ∙ ap (λ (here : Site). here.standing) stands') is))))
 
   -- ## The events of a moment
   by-came : (world : World) (moments : List Moment) (entry : Stamped) (records : List Record) (running : Option Running) (came : Came) → n < length world.sites
-      → site_at world n ≡ record { records = records; arm = None; running = running } → IsStepAt setup n records running entry
+      → site_at world n ≡ record { records = records; standing = first_standing; arm = None; running = running } → IsStepAt setup n records running entry
       → IsThere world moments n entry.intake → entry.came ≡ came
       → Comes world n (left_at setup n records running entry) (sent_at setup n records running entry) (lines_of_came n entry.came)
       (run_end world (with_fault n came (event_of moments n entry.intake)))
@@ -274,9 +280,9 @@ module _ (setup : Setup) (n : ℕ) where
       (sym what) (moment-fault world moments entry records running within stands step.0 there)
 
   pub moment-comes : (world : World) (moments : List Moment) (entry : Stamped) (site : Site) → n < length world.sites
-      → site_at world n ≡ site → site.arm ≡ None → IsStep setup n site entry → IsThere world moments n entry.intake
+      → site_at world n ≡ site → site.arm ≡ None → site.standing ≡ first_standing → IsStep setup n site entry → IsThere world moments n entry.intake
       → Comes world n (left_by setup n site entry) (sent_by setup n site entry) (lines_of_came n entry.came)
       (run_end world (events_at moments record { site = n; entry = entry }))
-  moment-comes world moments entry site within stands unarmed is there =
+  moment-comes world moments entry site within stands unarmed formatted is there =
       by-came world moments entry site.records site.running entry.came within
-      (stands ∙ ap (λ (arm : Option Arm). record { records = site.records; arm = arm; running = site.running }) unarmed) is there refl
+      (stands ∙ ap₂ (λ (arm : Option Arm) (standing : Standing). record { records = site.records; standing = standing; arm = arm; running = site.running }) unarmed formatted) is there refl

@@ -12,7 +12,7 @@ use Rattle.pv_law_histories.specs.Course.{left_by, sent_by, IsStep, course, AreS
 use Rattle.pv_law_histories.specs.Fitting.{history_of, WasSentBefore, FitTogether}
 use Rattle.pv_law_histories.specs.History.{Intake, request, parcel, tick, Stamped}
 use Rattle.pv_law_histories.specs.Merge.{Moment, IsMerge, entries_of, number_of, events_at, events_of_merge, lines_at, lines_of_merge}
-use Rattle.pv_law_histories.proofs.CourseLemmas.{course-append, step-within, course-arm, sent_by-length, Sent-append, Sent-later}
+use Rattle.pv_law_histories.proofs.CourseLemmas.{course-append, step-within, course-arm, course-formatted, sent_by-length, Sent-append, Sent-later}
 use Rattle.pv_law_histories.proofs.EventLemmas.{Becomes, IsThere, moment-comes}
 use Rattle.pv_law_histories.proofs.MomentLemmas.{All-middle, entries-same, entries-apart, entries-append, entries-later, order-before, order-rest, order-later, total, total-append, is_of-itself, has, has-front, has-last, number-front, number-back, number-here, before-none}
 use Rattle.pv_law_world.proofs.AppendLemmas.{run-append, world_after-append}
@@ -180,7 +180,7 @@ module _ (setup : Setup) (histories : List (List Stamped)) where
         let was = All-middle (λ (entry : Stamped). WasSentBefore setup histories n entry.stamp entry.intake) entries moment.entry (entries_of n more)
         (subst (All (λ entry. WasSentBefore setup histories n entry.stamp entry.intake)) own (fit.sent n within)) in
         let comes = moment-comes setup n world all moment.entry site (let width = stands.width in omega arith) (stands.sites n within)
-        (course-arm setup n first_site entries refl) is (there before moment more world moment.entry.intake split stands was) in
+        (course-arm setup n first_site entries refl) (course-formatted setup n first_site entries refl) is (there before moment more world moment.entry.intake split stands was) in
         let first = events_at all moment in
         let rest = flat_map (events_at all) more in
         let after = world_after world (run setup world first) in

@@ -1,5 +1,6 @@
 -- The course of a site: what its history makes of it, step by step.
 use Rattle.std.specs.Prelude.{◌≡◌, ◌⊎◌, ℕ, Option, Some, None, List, [], ◌∷◌, length, slice_get, IsSome, ⊤}
+use Rattle.pv_format.specs.Checkpoint.{first_standing}
 use Rattle.pv_format.specs.Record.{Record}
 use Rattle.pv_law_histories.specs.History.{Intake, request, parcel, tick, Came, done, fault, down, Stamped}
 use Rattle.pv_protocol.specs.State as state
@@ -18,15 +19,15 @@ module _ (setup : Setup) (me : ℕ) where
   step_at records running entry = site_step setup me records running (input_of entry.intake)
 
   -- ## The site after it
-  -- A step that meets a fault leaves no record, and the site is down.
+  -- A step that meets a fault leaves no record, and the site is down. No history has a checkpoint, so the site's log stands as it was formatted.
   abbrev pub left_up : List Record → Running → Stamped → Came → Site
   left_up records running entry (done notes) =
-      let step = step_at records running entry in record { records = records_after records step; arm = None; running = Some step.running }
-  left_up records running entry fault = record { records = records; arm = None; running = None }
-  left_up records running entry down = record { records = records; arm = None; running = Some running }
+      let step = step_at records running entry in record { records = records_after records step; standing = first_standing; arm = None; running = Some step.running }
+  left_up records running entry fault = record { records = records; standing = first_standing; arm = None; running = None }
+  left_up records running entry down = record { records = records; standing = first_standing; arm = None; running = Some running }
 
   abbrev pub left_at : List Record → Option Running → Stamped → Site
-  left_at records None entry = record { records = records; arm = None; running = None }
+  left_at records None entry = record { records = records; standing = first_standing; arm = None; running = None }
   left_at records (Some running) entry = left_up records running entry entry.came
 
   abbrev pub left_by : Site → Stamped → Site

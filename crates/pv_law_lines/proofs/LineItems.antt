@@ -7,15 +7,17 @@ use Rattle.pv_base.specs.Catalog.{Item}
 use Rattle.pv_base.specs.Named.{names_of}
 use Rattle.pv_base.specs.Polyvalue.{Case}
 use Rattle.pv_base.specs.declared.txn.TxnId.{TxnId}
+use Rattle.pv_format.specs.Checkpoint.{greatest_number}
 use Rattle.pv_format.specs.Message.{Envelope, txn_of}
 use Rattle.pv_law_lines.proofs.NoteItems.{note-fine}
 use Rattle.pv_law_step.proofs.Lists.{all-from}
+use Rattle.pv_law_step.proofs.StepCases.{if_case}
 use Rattle.pv_law_world.proofs.EventView.{by-beginning}
 use Rattle.pv_law_world.specs.EventView.{Beginning, Printed, lines_printed, begun_by}
 use Rattle.pv_model.specs.Events.{Event}
 use Rattle.pv_model.specs.PossibleAnswers.{sums}
 use Rattle.pv_protocol.specs.Arms.{broken_line, Reached, waits, fires, reached, calls_of, attempted}
-use Rattle.pv_protocol.specs.Attempt.{Attempt, Begun, begun, given, delivered, lost, halted, opened, of_start, of_step}
+use Rattle.pv_protocol.specs.Attempt.{Attempt, Begun, begun, given, delivered, lost, halted, opened, packed, of_start, of_step, of_checkpoint}
 use Rattle.pv_protocol.specs.Committed.{is_committed, is_open}
 use Rattle.pv_format.specs.Record.{Record}
 use Rattle.pv_protocol.specs.Here.{Here}
@@ -140,6 +142,14 @@ module _ (setup : Setup) where
       let attempt = of_start n (site_start setup (site_at world n).records) in
       attempted-fine world n attempt (reached (calls_of attempt) (site_at world n).arm) (start-fine n (site_start setup (site_at world n).records))
 
+  packed-fine : (world : World) (n : ℕ) (running : Option Running) → EndsFine (packed world n running)
+  packed-fine world n None = fine-one (Line.down n) tt
+  packed-fine world n (Some running) =
+      if_case EndsFine (nat_lt (site_at world n).standing.number greatest_number)
+      (λ left. let attempt = of_checkpoint (site_at world n).standing running in
+      attempted-fine world n attempt (reached (calls_of attempt) (site_at world n).arm) (All-nil Fine))
+      (λ spent. fine-one (Line.spent n) tt)
+
   printed-fine : (world : World) (printed : Printed) → All Fine (lines_printed setup world printed)
   printed-fine world Printed.nothing = All-nil Fine
   printed-fine world Printed.messages = sents-fine world
@@ -153,6 +163,7 @@ module _ (setup : Setup) where
   beginning-fine world (Beginning.drops n) = All-nil Fine
   beginning-fine world (Beginning.halts n) = halted-fine world n (site_at world n).running
   beginning-fine world (Beginning.opens n) = opened-fine world n (site_at world n).running
+  beginning-fine world (Beginning.packs n) = packed-fine world n (site_at world n).running
   beginning-fine world (Beginning.arms n arm) = All-nil Fine
   beginning-fine world (Beginning.prints printed) = printed-fine world printed
 

@@ -1,12 +1,13 @@
 -- Each event is a move, wherever it stops a site.
 use Rattle.std.proofs.Common.{◌≡◌, ◌⊎◌, ⊎_elim, ℕ, zero, suc, ◌+◌, Bool, true, false, Some, None, Option, List, [], ◌∷◌, ◌++◌, inl, inr, refl, sym, ap, subst, ◌∙◌}
-use Rattle.std.specs.Prelude.{◌≢◌, ◌==◌, get_or, set, slice_get, option_to_list}
+use Rattle.std.specs.Prelude.{◌≢◌, ◌==◌, get_or, set, slice_get, option_to_list, nat_lt}
 use Rattle.std.specs.List.{Contains}
 use Rattle.std.proofs.lemmas.Bool.{eqb-true, eq-eqb, false≢true}
 use Rattle.std.proofs.lemmas.List.{append-nil, get_or-set_other}
 use Rattle.std.proofs.lemmas.List.Elements.{Contains-append_cases}
 use Rattle.pv_base.proofs.MapLemmas.{Contains-unmap}
 use Rattle.pv_base.specs.declared.txn.TxnId.{TxnId}
+use Rattle.pv_format.specs.Checkpoint.{Standing, greatest_number}
 use Rattle.pv_format.specs.Contents.{greatest_epoch}
 use Rattle.pv_format.specs.Message.{Envelope}
 use Rattle.pv_format.specs.Record.{Record}
@@ -14,6 +15,7 @@ use Rattle.pv_law_acts.proofs.ListLemmas.{none-some}
 use Rattle.pv_law_acts.specs.Seen.{records_at, memory_at}
 use Rattle.pv_law_refusals.proofs.Moves.{Comes, TakesInput, IsSentNow, SiteAfter, is_as_it_was, has_no_entry, has_stepped, IsMove}
 use Rattle.pv_law_step.proofs.StartLemmas.{start-case}
+use Rattle.pv_law_step.proofs.StepCases.{if_case}
 use Rattle.pv_law_step.specs.StartCases as of_starts
 use Rattle.pv_law_step.specs.StartCases.{StartCase}
 use Rattle.pv_law_world.proofs.DisarmLemmas.{site-disarmed}
@@ -22,8 +24,8 @@ use Rattle.pv_law_world.specs.EventView.{Beginning, begun_by, IsAsked, IsGuarded
 use Rattle.pv_model.specs.Events.{Event}
 use Rattle.pv_protocol.specs.Anywhere as anywhere
 use Rattle.pv_protocol.specs.Anywhere.{MayEnd, MayCome, MayFollow, disarmed}
-use Rattle.pv_protocol.specs.Arms.{Reached, waits, fires, reached, calls_of, completed, broken, attempted}
-use Rattle.pv_protocol.specs.Attempt.{Attempt, Begun, at_once, attempts, begun, given, delivered, lost, halted, opened, of_step, of_start}
+use Rattle.pv_protocol.specs.Arms.{Reached, waits, fires, reached, calls_of, standing_made, completed, broken, attempted}
+use Rattle.pv_protocol.specs.Attempt.{Attempt, Begun, at_once, attempts, begun, given, delivered, lost, halted, opened, packed, of_step, of_start, of_checkpoint}
 use Rattle.pv_protocol.specs.Committed.{entry_in}
 use Rattle.pv_protocol.specs.Lines.{Line}
 use Rattle.pv_protocol.specs.Start.{Started, no_epoch, just_started, site_start}
@@ -94,6 +96,8 @@ module _ (setup : Setup) (w : World) (event : Event) where
     settles : (lines : List Line) (after : World) → IsMove setup w event after → BeginsMove (at_once lines after)
     steps : (fresh : List Bool) (n : ℕ) (running : Running) (input : Input) → TakesInput w event n running input → ((m : ℕ) → n ≢ m → is_tick_of m event ≡ false)
         → BeginsMove (attempts (record w { fresh = fresh }) n (of_step n (site_step setup n (records_at w n) running input)))
+    packs : (n : ℕ) (standing : Standing) (running : Running) → memory_at w n ≡ Some running → ((m : ℕ) → is_tick_of m event ≡ false)
+        → BeginsMove (attempts w n (of_checkpoint standing running))
     opens : (n : ℕ) (started : Started) → StartCase setup (records_at w n) started → ((m : ℕ) → is_tick_of m event ≡ false) → BeginsMove (attempts w n (of_start n started))
 
   -- nothing is sent, and each memory is as it was, or is empty
@@ -136,6 +140,12 @@ module _ (setup : Setup) (w : World) (event : Event) where
   opened-makes n untimed (Some running) = settles _ w (untouched w refl refl untimed)
   opened-makes n untimed None = opens n (site_start setup (records_at w n)) (start-case setup (records_at w n)) untimed
 
+  packed-makes : (n : ℕ) → ((m : ℕ) → is_tick_of m event ≡ false) → (running : Option Running) → memory_at w n ≡ running → BeginsMove (packed w n running)
+  packed-makes n untimed None is = settles _ w (untouched w refl refl untimed)
+  packed-makes n untimed (Some running) is =
+      if_case BeginsMove (nat_lt (site_at w n).standing.number greatest_number) (λ left. packs n (site_at w n).standing running is untimed)
+      (λ spent. settles _ w (untouched w refl refl untimed))
+
   -- How it ends.
 
   whole-step : (fresh : List Bool) (n : ℕ) (running : Running) (input : Input) → TakesInput w event n running input → ((m : ℕ) → n ≢ m → is_tick_of m event ≡ false) → (arm : Option Arm)
@@ -143,7 +153,7 @@ module _ (setup : Setup) (w : World) (event : Event) where
   whole-step fresh n running input takes untimed arm =
       let step : Step = site_step setup n (records_at w n) running input in
       let before : World = record w { fresh = fresh; order = w.order ++ option_to_list step.placed } in
-      let site : Site = record { records = records_at w n ++ option_to_list step.appended; arm = arm; running = Some step.running } in
+      let site : Site = record { records = records_at w n ++ option_to_list step.appended; standing = (site_at w n).standing; arm = arm; running = Some step.running } in
       record {
         sent = λ from to message h. ⊎_elim
             (λ old. inl old)
@@ -167,7 +177,8 @@ module _ (setup : Setup) (w : World) (event : Event) where
   start-move n attempt arm none new untimed =
       silent (completed w n attempt arm) (ap (λ (sends : List Outgoing). w.sent ++ from_site n sends) none ∙ append-nil w.sent)
       (put-sites (record w { order = w.order ++ option_to_list attempt.placed }) refl n
-      (record { records = records_at w n ++ option_to_list attempt.appended; arm = arm; running = attempt.running }) new (λ m apart. untimed m))
+      (record { records = records_at w n ++ option_to_list attempt.appended; standing = standing_made attempt.packs (site_at w n).standing; arm = arm; running = attempt.running })
+      new (λ m apart. untimed m))
 
   whole-start : (n : ℕ) (started : Started) → StartCase setup (records_at w n) started → ((m : ℕ) → is_tick_of m event ≡ false) → (arm : Option Arm)
       → IsMove setup w event (completed w n (of_start n started) arm)
@@ -175,43 +186,63 @@ module _ (setup : Setup) (w : World) (event : Event) where
   whole-start n started (of_starts.no_room h i) untimed arm = start-move n (of_start n started) arm refl (empty n) untimed
   whole-start n started (of_starts.begins h i) untimed arm = start-move n (of_start n started) arm refl (fresh_start n (greatest_epoch (records_at w n) + 1)) untimed
 
-  broken-move : (fresh : List Bool) (n : ℕ) (left : Option Record) → ((m : ℕ) → n ≢ m → is_tick_of m event ≡ false) → IsMove setup w event (broken (record w { fresh = fresh }) n left)
-  broken-move fresh n left untimed =
-      silent (broken (record w { fresh = fresh }) n left) refl
-      (put-sites (record w { fresh = fresh }) refl n (record { records = records_at w n ++ option_to_list left; arm = None; running = None }) (empty n) untimed)
+  -- a checkpoint sends nothing, and leaves the memory as it is
+  whole-packing : (n : ℕ) (standing : Standing) (running : Running) → memory_at w n ≡ Some running → ((m : ℕ) → is_tick_of m event ≡ false) → (arm : Option Arm)
+      → IsMove setup w event (completed w n (of_checkpoint standing running) arm)
+  whole-packing n standing running is untimed arm = start-move n (of_checkpoint standing running) arm refl (subst (After n) is (as-was n (untimed n))) untimed
+
+  broken-move : (fresh : List Bool) (n : ℕ) (left : Option Record) (standing : Standing) → ((m : ℕ) → n ≢ m → is_tick_of m event ≡ false)
+      → IsMove setup w event (broken (record w { fresh = fresh }) n left standing)
+  broken-move fresh n left standing untimed =
+      silent (broken (record w { fresh = fresh }) n left standing) refl
+      (put-sites (record w { fresh = fresh }) refl n (record { records = records_at w n ++ option_to_list left; standing = standing; arm = None; running = None }) (empty n) untimed)
 
   attempted-steps : (fresh : List Bool) (n : ℕ) (running : Running) (input : Input) → TakesInput w event n running input → ((m : ℕ) → n ≢ m → is_tick_of m event ≡ false) → (left : Reached)
       → IsMove setup w event (attempted (record w { fresh = fresh }) n (of_step n (site_step setup n (records_at w n) running input)) left).1
   attempted-steps fresh n running input takes untimed (waits arm) = whole-step fresh n running input takes untimed arm
-  attempted-steps fresh n running input takes untimed (fires arm) = broken-move fresh n _ untimed
+  attempted-steps fresh n running input takes untimed (fires arm) = broken-move fresh n _ _ untimed
 
   attempted-opens : (n : ℕ) (started : Started) → StartCase setup (records_at w n) started → ((m : ℕ) → is_tick_of m event ≡ false) → (left : Reached) → IsMove setup w event (attempted w n (of_start n started) left).1
   attempted-opens n started case untimed (waits arm) = whole-start n started case untimed arm
-  attempted-opens n started case untimed (fires arm) = broken-move w.fresh n _ (λ m apart. untimed m)
+  attempted-opens n started case untimed (fires arm) = broken-move w.fresh n _ _ (λ m apart. untimed m)
+
+  attempted-packs : (n : ℕ) (standing : Standing) (running : Running) → memory_at w n ≡ Some running → ((m : ℕ) → is_tick_of m event ≡ false) → (left : Reached)
+      → IsMove setup w event (attempted w n (of_checkpoint standing running) left).1
+  attempted-packs n standing running is untimed (waits arm) = whole-packing n standing running is untimed arm
+  attempted-packs n standing running is untimed (fires arm) = broken-move w.fresh n _ _ (λ m apart. untimed m)
 
   ended-move : (b : Begun) → BeginsMove b → IsMove setup w event (ended b).1
   ended-move b (settles lines after move) = move
   ended-move b (steps fresh n running input takes untimed) =
       attempted-steps fresh n running input takes untimed (reached (calls_of (of_step n (site_step setup n (records_at w n) running input))) (site_at w n).arm)
   ended-move b (opens n started case untimed) = attempted-opens n started case untimed (reached (calls_of (of_start n started)) (site_at w n).arm)
+  ended-move b (packs n standing running is untimed) = attempted-packs n standing running is untimed (reached (calls_of (of_checkpoint standing running)) (site_at w n).arm)
 
   end-steps : (fresh : List Bool) (n : ℕ) (running : Running) (input : Input) → TakesInput w event n running input → ((m : ℕ) → n ≢ m → is_tick_of m event ≡ false)
       → (lines : List Line) (after : World) → MayEnd (record w { fresh = fresh }) n (of_step n (site_step setup n (records_at w n) running input)) lines after → IsMove setup w event after
   end-steps fresh n running input takes untimed lines after anywhere.whole = whole-step fresh n running input takes untimed None
-  end-steps fresh n running input takes untimed lines after (anywhere.without stops some) = broken-move fresh n None untimed
-  end-steps fresh n running input takes untimed lines after (anywhere.with_record stops appended is) = broken-move fresh n (Some appended) untimed
+  end-steps fresh n running input takes untimed lines after (anywhere.without stops some standing may) = broken-move fresh n None standing untimed
+  end-steps fresh n running input takes untimed lines after (anywhere.with_record stops appended is standing may) = broken-move fresh n (Some appended) standing untimed
 
   end-opens : (n : ℕ) (started : Started) → StartCase setup (records_at w n) started → ((m : ℕ) → is_tick_of m event ≡ false)
       → (lines : List Line) (after : World) → MayEnd w n (of_start n started) lines after → IsMove setup w event after
   end-opens n started case untimed lines after anywhere.whole = whole-start n started case untimed None
-  end-opens n started case untimed lines after (anywhere.without stops some) = broken-move w.fresh n None (λ m apart. untimed m)
-  end-opens n started case untimed lines after (anywhere.with_record stops appended is) = broken-move w.fresh n (Some appended) (λ m apart. untimed m)
+  end-opens n started case untimed lines after (anywhere.without stops some standing may) = broken-move w.fresh n None standing (λ m apart. untimed m)
+  end-opens n started case untimed lines after (anywhere.with_record stops appended is standing may) = broken-move w.fresh n (Some appended) standing (λ m apart. untimed m)
+
+  end-packs : (n : ℕ) (was : Standing) (running : Running) → memory_at w n ≡ Some running → ((m : ℕ) → is_tick_of m event ≡ false)
+      → (lines : List Line) (after : World) → MayEnd w n (of_checkpoint was running) lines after → IsMove setup w event after
+  end-packs n was running up untimed lines after anywhere.whole = whole-packing n was running up untimed None
+  end-packs n was running up untimed lines after (anywhere.without stops some standing may) = broken-move w.fresh n None standing (λ m apart. untimed m)
+  end-packs n was running up untimed lines after (anywhere.with_record stops appended is standing may) = broken-move w.fresh n (Some appended) standing (λ m apart. untimed m)
 
   pub come-move : (b : Begun) → BeginsMove b → (lines : List Line) (after : World) → MayCome b lines after → IsMove setup w event after
   come-move b (settles reported after move) lines after' (anywhere.without_attempt reported' world') = move
   come-move b (steps fresh n running input takes untimed) lines after (anywhere.by_attempt before' after' n' attempt' lines' ends) =
       end-steps fresh n running input takes untimed lines after ends
   come-move b (opens n started case untimed) lines after (anywhere.by_attempt before' after' n' attempt' lines' ends) = end-opens n started case untimed lines after ends
+  come-move b (packs n standing running is untimed) lines after (anywhere.by_attempt before' after' n' attempt' lines' ends) =
+      end-packs n standing running is untimed lines after ends
 
 -- What an event asks of a site comes to it.
 pub asked-comes : (w : World) (event : Event) (n : ℕ) (input : Input) → IsAsked event n input → Comes w event n input
@@ -234,6 +265,7 @@ module _ (setup : Setup) (w : World) where
   beginning-makes event (Beginning.drops n) guard = settles _ _ (untouched setup w event _ refl refl guard)
   beginning-makes event (Beginning.halts n) guard = halted-makes setup w event n guard (memory_at w n)
   beginning-makes event (Beginning.opens n) guard = opened-makes setup w event n guard.timeless (memory_at w n)
+  beginning-makes event (Beginning.packs n) guard = packed-makes setup w event n guard.timeless (memory_at w n) refl
   beginning-makes event (Beginning.arms n arm) guard = put-makes setup w event _ n _ (as-was setup w event n (guard n)) guard
   beginning-makes event (Beginning.prints printed) guard = settles _ w (untouched setup w event w refl refl guard)
 

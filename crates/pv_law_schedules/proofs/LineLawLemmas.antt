@@ -87,6 +87,7 @@ event-fits before line (events.tick m) is = fits-site before line is.kind is.sit
 event-fits before line (events.stop m) is = fits-site before line is.kind is.sites (codes "stop") m is.text is.said refl refl refl is.says
 event-fits before line (events.start m) is = fits-site before line is.kind is.sites (codes "start") m is.text is.said refl refl refl is.says
 event-fits before line (events.mend m) is = fits-site before line is.kind is.sites (codes "mend") m is.text is.said refl refl refl is.says
+event-fits before line (events.checkpoint m) is = fits-site before line is.kind is.sites (codes "checkpoint") m is.text is.said refl refl refl is.says
 event-fits before line (events.arm m call mode true) is = fits-arm before line is.kind is.sites (codes "cut") m call mode is.text is.said refl refl refl is.says
 event-fits before line (events.arm m call mode false) is = fits-arm before line is.kind is.sites (codes "fail") m call mode is.text is.said refl refl refl is.says
 event-fits before line events.sent is = fits-alone before line is.kind is.sites (codes "sent") is.text is.said refl refl refl is.says

@@ -148,7 +148,7 @@ programless-forms scheduled word plain =
                               (λ e. refl),
                               (
                                 (λ e. refl),
-                                ((λ e. refl), ((λ e. refl), ((λ e. refl), ((λ e. refl), ((λ e. refl), tt))))),
+                                ((λ e. refl), ((λ e. refl), ((λ e. refl), ((λ e. refl), ((λ e. refl), ((λ e. refl), tt)))))),
                               ),
                             ),
                           ),

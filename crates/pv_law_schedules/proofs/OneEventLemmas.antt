@@ -44,10 +44,11 @@ event_of word given =
     (if bytes_eq word (codes "stop") then events.stop (number_of_digits (leading_word given)) else
     (if bytes_eq word (codes "start") then events.start (number_of_digits (leading_word given)) else
     (if bytes_eq word (codes "mend") then events.mend (number_of_digits (leading_word given)) else
+    (if bytes_eq word (codes "checkpoint") then events.checkpoint (number_of_digits (leading_word given)) else
     (if bytes_eq word (codes "cut") then events.arm (number_of_digits (leading_word given)) (number_of_digits (second_of given)) (mode_of (third_of given)) true else
     (if bytes_eq word (codes "fail") then events.arm (number_of_digits (leading_word given)) (number_of_digits (second_of given)) (mode_of (third_of given)) false else
     (if bytes_eq word (codes "sent") then events.sent else
-    (if bytes_eq word (codes "report") then events.report else events.total)))))))))))
+    (if bytes_eq word (codes "report") then events.report else events.total))))))))))))
 
 abbrev line_event : List (List ℕ) → Event
 line_event said = event_of (leading_word said) (later_words said)
@@ -84,6 +85,7 @@ says-event before line (events.tick n) isnt is = one-of line (codes "tick") n _ 
 says-event before line (events.stop n) isnt is = one-of line (codes "stop") n _ events.stop (λ w h. h.0.value) (λ w. refl) is
 says-event before line (events.start n) isnt is = one-of line (codes "start") n _ events.start (λ w h. h.0.value) (λ w. refl) is
 says-event before line (events.mend n) isnt is = one-of line (codes "mend") n _ events.mend (λ w h. h.0.value) (λ w. refl) is
+says-event before line (events.checkpoint n) isnt is = one-of line (codes "checkpoint") n _ events.checkpoint (λ w h. h.0.value) (λ w. refl) is
 says-event before line (events.arm m call mode true) isnt is = arm-of before line (codes "cut") m call mode true (λ at number left. refl) is
 says-event before line (events.arm m call mode false) isnt is = arm-of before line (codes "fail") m call mode false (λ at number left. refl) is
 says-event before line events.sent isnt is = sym (ap line_event is)
@@ -108,6 +110,7 @@ takes-submit before line (events.tick n) is = takes-one line (codes "tick") _ is
 takes-submit before line (events.stop n) is = takes-one line (codes "stop") _ is
 takes-submit before line (events.start n) is = takes-one line (codes "start") _ is
 takes-submit before line (events.mend n) is = takes-one line (codes "mend") _ is
+takes-submit before line (events.checkpoint n) is = takes-one line (codes "checkpoint") _ is
 takes-submit before line (events.arm m call mode true) is = ap (λ (ws : List (List ℕ)). takes_program (leading_word ws)) is.3
 takes-submit before line (events.arm m call mode false) is = ap (λ (ws : List (List ℕ)). takes_program (leading_word ws)) is.3
 takes-submit before line events.sent is = ap (λ (ws : List (List ℕ)). takes_program (leading_word ws)) is
@@ -276,6 +279,7 @@ says-no-declaring before line (events.tick n) is = declaring-one line (codes "ti
 says-no-declaring before line (events.stop n) is = declaring-one line (codes "stop") _ is
 says-no-declaring before line (events.start n) is = declaring-one line (codes "start") _ is
 says-no-declaring before line (events.mend n) is = declaring-one line (codes "mend") _ is
+says-no-declaring before line (events.checkpoint n) is = declaring-one line (codes "checkpoint") _ is
 says-no-declaring before line (events.arm m call mode true) is = ap (λ (ws : List (List ℕ)). is_declaring (leading_word ws)) is.3
 says-no-declaring before line (events.arm m call mode false) is = ap (λ (ws : List (List ℕ)). is_declaring (leading_word ws)) is.3
 says-no-declaring before line events.sent is = ap (λ (ws : List (List ℕ)). is_declaring (leading_word ws)) is

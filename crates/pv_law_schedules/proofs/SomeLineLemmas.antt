@@ -104,6 +104,10 @@ mend-line : (before : Before) (line : TextLine) (kind : before.script ≡ schedu
 unfolding line_forms takes_program
 mend-line before line kind = means-site before line kind (codes "mend") events.mend (record { some = some-word _ _; plain = refl }) refl (λ n. refl) (λ n is. is)
 
+checkpoint-line : (before : Before) (line : TextLine) (kind : before.script ≡ scheduled) → Handles before line (codes "checkpoint")
+unfolding line_forms takes_program
+checkpoint-line before line kind = means-site before line kind (codes "checkpoint") events.checkpoint (record { some = some-word _ _; plain = refl }) refl (λ n. refl) (λ n is. is)
+
 sent-line : (before : Before) (line : TextLine) (kind : before.script ≡ scheduled) → Handles before line (codes "sent")
 unfolding line_forms takes_program
 sent-line before line kind = means-alone before line kind (codes "sent") events.sent (record { some = some-word _ _; plain = refl }) refl (λ n. refl) (λ is. is)
@@ -409,10 +413,13 @@ handled before line kind = (
                           (
                             mend-line before line kind,
                             (
-                              cut-line before line kind,
+                              checkpoint-line before line kind,
                               (
-                                fail-line before line kind,
-                                (sent-line before line kind, (report-line before line kind, (total-line before line kind, tt))),
+                                cut-line before line kind,
+                                (
+                                  fail-line before line kind,
+                                  (sent-line before line kind, (report-line before line kind, (total-line before line kind, tt))),
+                                ),
                               ),
                             ),
                           ),

@@ -37,12 +37,12 @@ module _ (setup : Setup) where
       (sends : All (IsEnvelopeWithin setup.catalog.sites) (from_site n attempt.sends)) where
     end-fine : (lines : List Line) (after : World) → MayEnd before n attempt lines after → IsWorldInRange setup after
     end-fine lines after anywhere.whole = attempted-range setup before n attempt fine may sends (waits None)
-    end-fine lines after (anywhere.without stops some) = put-world setup before n _ fine (λ within site. down-in-range site _ (append-nil _) refl)
-    end-fine lines after (anywhere.with_record stops appended is) =
+    end-fine lines after (anywhere.without stops some standing stands) = put-world setup before n _ fine (λ within site. down-in-range site _ (append-nil _) refl)
+    end-fine lines after (anywhere.with_record stops appended is standing stands) =
         put-world setup before n _ fine
         (λ within site.
         down-in-range
-        ((may within site).whole (record { records = (site_at before n).records ++ option_to_list attempt.appended; arm = None; running = attempt.running }) refl refl)
+        ((may within site).whole (record { records = (site_at before n).records ++ option_to_list attempt.appended; standing = standing; arm = None; running = attempt.running }) refl refl)
         _ (ap (λ (left : Option Record). (site_at before n).records ++ option_to_list left) (sym is)) refl)
 
   come-fine : (b : Begun) (lines : List Line) (after : World) → IsBegunInRange setup b → MayCome b lines after → IsWorldInRange setup after

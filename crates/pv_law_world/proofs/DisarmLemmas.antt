@@ -1,5 +1,5 @@
 -- A world without armed faults does what the same world does with them, but for where they fire.
-use Rattle.std.proofs.Common.{arith, ◌≡◌, ℕ, zero, suc, ◌<◌, Bool, true, false, Some, None, Option, List, [], ◌∷◌, ◌++◌, map, refl, sym, ap, ◌∙◌, subst}
+use Rattle.std.proofs.Common.{arith, ◌≡◌, ◌⊎◌, inl, inr, ℕ, zero, suc, ◌<◌, Bool, true, false, Some, None, Option, List, [], ◌∷◌, ◌++◌, map, refl, sym, ap, ◌∙◌, subst}
 use Rattle.std.specs.Prelude.{set, slice_get, option_to_list, replicate, nat_lt, ◌+◌, ◌&&◌, filter, if◌then◌else◌, All}
 use Rattle.std.specs.List.{list_all}
 use Rattle.std.proofs.lemmas.List.{map-set}
@@ -7,6 +7,9 @@ use Rattle.std.proofs.lemmas.List.Elements.{All-head, All-tail}
 use Rattle.std.proofs.Math.ListN as lists
 use Rattle.pv_base.specs.Catalog.{Item}
 use Rattle.pv_base.specs.declared.txn.TxnId.{TxnId}
+use Rattle.pv_base.specs.declared.mode.Mode.{Mode}
+use Rattle.pv_base.specs.declared.mode.Mode.TheVariants.{Lost, Kept, Torn}
+use Rattle.pv_format.specs.Checkpoint.{Standing, greatest_number, Part, storing, closing, naming, opening, part_of, left_by, MayLeaveInAll}
 use Rattle.pv_format.specs.Message.{Envelope}
 use Rattle.pv_format.specs.Record.{Record}
 use Rattle.pv_law_world.proofs.EventView.{view-of-event}
@@ -15,9 +18,9 @@ use Rattle.pv_law_world.proofs.TransitionLemmas.{run-transitions}
 use Rattle.pv_law_world.specs.EventView.{Beginning, Printed, begun_by}
 use Rattle.pv_law_world.specs.Transitions.{AreTransitions, one_more}
 use Rattle.pv_model.specs.Events.{Event}
-use Rattle.pv_protocol.specs.Anywhere.{MayEnd, whole, without, with_record, MayCome, without_attempt, by_attempt, disarmed_site, disarmed, MayFollow, IsRunWithFaults, ends, goes_on, without_arms}
-use Rattle.pv_protocol.specs.Arms.{Reached, waits, fires, reached, calls_of, is_kept, completed, broken, broken_line, attempted}
-use Rattle.pv_protocol.specs.Attempt.{Attempt, Begun, at_once, attempts, begun, given, delivered, lost, halted, opened, without_site, of_step, of_start}
+use Rattle.pv_protocol.specs.Anywhere.{MayStand, MayEnd, whole, without, with_record, MayCome, without_attempt, by_attempt, disarmed_site, disarmed, MayFollow, IsRunWithFaults, ends, goes_on, without_arms}
+use Rattle.pv_protocol.specs.Arms.{Reached, waits, fires, reached, calls_of, is_kept, standing_made, standing_left, completed, broken, broken_line, attempted}
+use Rattle.pv_protocol.specs.Attempt.{Attempt, Begun, at_once, attempts, begun, given, delivered, lost, halted, opened, packed, packs_up, without_site, of_step, of_start}
 use Rattle.pv_protocol.specs.Committed.{is_committed, entry_of, is_bound, is_open}
 use Rattle.pv_protocol.specs.Lines.{Line}
 use Rattle.pv_protocol.specs.Report.{readings_from, report_of, total_of, sent_lines}
@@ -26,7 +29,8 @@ use Rattle.pv_protocol.specs.Start.{site_start}
 use Rattle.pv_protocol.specs.State.{Setup, Running, Site, Arm, Input, receive, TakenGrant, Placed}
 use Rattle.pv_protocol.specs.Step.{site_step}
 use Rattle.pv_protocol.specs.WellFormed.{IsWellFormed}
-use Rattle.pv_protocol.specs.World.{World, no_site, first_site, site_at, with_site, with_done, opening}
+use Rattle.pv_protocol.specs.World.{World, no_site, first_site, site_at, with_site, with_done}
+use Rattle.pv_protocol.specs.World as worlds
 use Rattle.pv_protocol.specs.WorldStep.{Transition, ended, transition_of}
 
 pub site-disarmed : (world : World) (n : ℕ) → site_at (disarmed world) n ≡ disarmed_site (site_at world n)
@@ -97,6 +101,9 @@ records-same world n = ap (λ (site : Site). site.records) (sym (site-disarmed w
 running-same : (world : World) (n : ℕ) → (site_at world n).running ≡ (site_at (disarmed world) n).running
 running-same world n = ap (λ (site : Site). site.running) (sym (site-disarmed world n))
 
+standing-same : (world : World) (n : ℕ) → (site_at world n).standing ≡ (site_at (disarmed world) n).standing
+standing-same world n = ap (λ (site : Site). site.standing) (sym (site-disarmed world n))
+
 module _ (setup : Setup) where
   given-same : (before : World) (n : ℕ) (input : Input) (running : Option Running)
       → AreSame (given setup before n input running) (given setup (disarmed before) n input running)
@@ -138,6 +145,18 @@ module _ (setup : Setup) where
       subst (λ (records : List Record). AreSame (opened setup world n None) (attempts (disarmed world) n (of_start n (site_start setup records))))
       (records-same world n) (both_attempt world n _)
 
+  -- the same test decides in both
+  either-same : (test : Bool) {first other second another : Begun} → AreSame first second → AreSame other another
+      → AreSame (if test then first else other) (if test then second else another)
+  either-same true held failed = held
+  either-same false held failed = failed
+
+  packed-same : (world : World) (n : ℕ) (running : Option Running) → AreSame (packed world n running) (packed (disarmed world) n running)
+  packed-same world n None = both_settle _ world (disarmed world) (disarmed-twice world)
+  packed-same world n (Some running) =
+      subst (λ (standing : Standing). AreSame (packed world n (Some running)) (packs_up (disarmed world) n standing running)) (standing-same world n)
+      (either-same (nat_lt (site_at world n).standing.number greatest_number) (both_attempt world n _) (both_settle _ world (disarmed world) (disarmed-twice world)))
+
   -- the same lines, with nothing changed
   printed-same : (world : World) (lines others : List Line) → others ≡ lines → AreSame (at_once lines world) (at_once others (disarmed world))
   printed-same world lines others is =
@@ -156,6 +175,9 @@ module _ (setup : Setup) where
   beginning-same world (Beginning.opens n) =
       subst (λ (running : Option Running). AreSame (opened setup world n (site_at world n).running) (opened setup (disarmed world) n running))
       (running-same world n) (opened-same world n (site_at world n).running)
+  beginning-same world (Beginning.packs n) =
+      subst (λ (running : Option Running). AreSame (packed world n (site_at world n).running) (packed (disarmed world) n running))
+      (running-same world n) (packed-same world n (site_at world n).running)
   beginning-same world (Beginning.arms n arm) = both_settle _ _ _ (changed-same world n (λ site. record site { arm = arm }) (λ site. refl))
   beginning-same world (Beginning.prints Printed.nothing) = printed-same world [] [] refl
   beginning-same world (Beginning.prints Printed.messages) = printed-same world _ _ refl
@@ -170,6 +192,22 @@ module _ (setup : Setup) where
 
 -- ---- how an attempt ends
 
+-- What a part of a checkpoint leaves is what may be left in all of it.
+left-in-all : (part : Part) (mode : Mode) (standing : Standing) → MayLeaveInAll standing (left_by part mode standing)
+left-in-all storing mode standing = inl refl
+left-in-all closing Lost standing = inl refl
+left-in-all closing Kept standing = inr (inl refl)
+left-in-all closing Torn standing = inr (inl refl)
+left-in-all naming mode standing = inr (inl refl)
+left-in-all opening Lost standing = inr (inl refl)
+left-in-all opening Kept standing = inr (inr refl)
+left-in-all opening Torn standing = inr (inl refl)
+
+-- A fault leaves the log standing as a stop anywhere may.
+may-stand : (packs : Bool) (arm : Arm) (standing : Standing) → MayStand packs standing (standing_left packs arm standing)
+may-stand false arm standing = refl
+may-stand true arm standing = left-in-all (part_of standing.other_open arm.call) arm.mode standing
+
 -- These lines and this world, without armed faults, may come of what an event has begun.
 record IsPossible (b : Begun) (lines : List Line) (world : World) : Type 0 where
   left : World
@@ -180,34 +218,41 @@ module _ (before : World) (n : ℕ) (attempt : Attempt) where
   completed-same : (arm : Option Arm) → disarmed (completed before n attempt arm) ≡ disarmed (completed (disarmed before) n attempt None)
   completed-same arm =
       ap (λ (sites : List Site). record (completed before n attempt arm) { sites = sites })
-      (sym (put-same before.sites n
-      (record { records = (site_at before n).records ++ option_to_list attempt.appended; arm = arm; running = attempt.running })
-      (record { records = (site_at (disarmed before) n).records ++ option_to_list attempt.appended; arm = None; running = attempt.running })
-      (ap (λ (records : List Record). record { records = records ++ option_to_list attempt.appended; arm = None; running = attempt.running }) (sym (records-same before n)))))
+      (sym (put-same before.sites n (made arm (site_at before n)) (made None (site_at (disarmed before) n)) (ap (made None) (site-disarmed before n))))
+    where
+      made : Option Arm → Site → Site
+      made armed site =
+          record {
+            records = site.records ++ option_to_list attempt.appended;
+            standing = standing_made attempt.packs site.standing;
+            arm = armed;
+            running = attempt.running;
+          }
 
-  broken-same : (left : Option Record) → disarmed (broken before n left) ≡ disarmed (broken (disarmed before) n left)
-  broken-same left =
-      ap (λ (sites : List Site). record before { sites = sites })
-      (sym (put-same before.sites n
-      (record { records = (site_at before n).records ++ option_to_list left; arm = None; running = None })
-      (record { records = (site_at (disarmed before) n).records ++ option_to_list left; arm = None; running = None })
-      (ap (λ (records : List Record). record { records = records ++ option_to_list left; arm = None; running = None }) (sym (records-same before n)))))
+  module _ (stops : Bool) (standing : Standing) where
+    broken-same : (left : Option Record) → disarmed (broken before n left standing) ≡ disarmed (broken (disarmed before) n left standing)
+    broken-same left =
+        ap (λ (sites : List Site). record before { sites = sites })
+        (sym (put-same before.sites n (down (site_at before n)) (down (site_at (disarmed before) n)) (ap down (site-disarmed before n))))
+      where
+        down : Site → Site
+        down site = record { records = site.records ++ option_to_list left; standing = standing; arm = None; running = None }
 
-  -- a stop or a fault that leaves this record
-  broken-possible : (stops : Bool) (left : Option Record) → MayEnd (disarmed before) n attempt (broken_line n stops ∷ []) (broken (disarmed before) n left)
-      → IsPossible (attempts (disarmed before) n attempt) (broken_line n stops ∷ []) (broken before n left)
-  broken-possible stops left may = record { left = broken (disarmed before) n left; comes = by_attempt _ _ n attempt _ may; after = broken-same left }
+    -- a stop or a fault that leaves this record
+    broken-possible : (left : Option Record) → MayEnd (disarmed before) n attempt (broken_line n stops ∷ []) (broken (disarmed before) n left standing)
+        → IsPossible (attempts (disarmed before) n attempt) (broken_line n stops ∷ []) (broken before n left standing)
+    broken-possible left may = record { left = broken (disarmed before) n left standing; comes = by_attempt _ _ n attempt _ may; after = broken-same left }
 
-  without-possible : (stops : Bool) → 0 < calls_of attempt
-      → IsPossible (attempts (disarmed before) n attempt) (broken_line n stops ∷ []) (broken before n None)
-  without-possible stops some = broken-possible stops None (without stops some)
-
-  -- the record that a stop leaves is the attempt's or none
-  left-possible : (stops : Bool) → 0 < calls_of attempt → (kept : Bool) (appended : Option Record) → attempt.appended ≡ appended
-      → IsPossible (attempts (disarmed before) n attempt) (broken_line n stops ∷ []) (broken before n (if kept then appended else None))
-  left-possible stops some false appended is = without-possible stops some
-  left-possible stops some true None is = without-possible stops some
-  left-possible stops some true (Some more) is = broken-possible stops (Some more) (with_record stops more is)
+    -- the record that a stop leaves is the attempt's or none
+    left-possible : 0 < calls_of attempt → MayStand attempt.packs (site_at before n).standing standing → (kept : Bool) (appended : Option Record) → attempt.appended ≡ appended
+        → IsPossible (attempts (disarmed before) n attempt) (broken_line n stops ∷ []) (broken before n (if kept then appended else None) standing)
+    left-possible some stands kept appended is = go kept appended is (subst (λ (was : Standing). MayStand attempt.packs was standing) (standing-same before n) stands)
+      where
+        go : (kept : Bool) (appended : Option Record) → attempt.appended ≡ appended → MayStand attempt.packs (site_at (disarmed before) n).standing standing
+            → IsPossible (attempts (disarmed before) n attempt) (broken_line n stops ∷ []) (broken before n (if kept then appended else None) standing)
+        go false appended is may = broken-possible None (without stops some standing may)
+        go true None is may = broken-possible None (without stops some standing may)
+        go true (Some more) is may = broken-possible (Some more) (with_record stops more is standing may)
 
   -- A fault fires only among some calls.
   fires-among : (calls : ℕ) (arm : Option Arm) (fired : Arm) → reached calls arm ≡ fires fired → 0 < calls
@@ -219,7 +264,8 @@ module _ (before : World) (n : ℕ) (attempt : Attempt) where
   reached-possible (waits arm) is =
       record { left = completed (disarmed before) n attempt None; comes = by_attempt _ _ n attempt _ whole; after = completed-same arm }
   reached-possible (fires arm) is =
-      left-possible arm.stops (fires-among (calls_of attempt) (site_at before n).arm arm is) (nat_lt (attempt.syncs + 2) arm.call && is_kept arm.mode) attempt.appended refl
+      left-possible arm.stops (standing_left attempt.packs arm (site_at before n).standing) (fires-among (calls_of attempt) (site_at before n).arm arm is)
+      (may-stand attempt.packs arm (site_at before n).standing) (nat_lt (attempt.calls + 2) arm.call && is_kept arm.mode) attempt.appended refl
 
 ended-possible : (b other : Begun) → AreSame b other → IsPossible other (ended b).0 (ended b).1
 ended-possible b other (both_settle lines after left same) = record { left = left; comes = without_attempt lines left; after = same }
@@ -242,15 +288,15 @@ transitions-may setup world (transition ∷ transitions) (one_more world' transi
     (transition-may setup world transition.event (All-head (HasGoodEvent setup) transition transitions good)))
     (transitions-may setup transition.world transitions rest (All-tail (HasGoodEvent setup) transition transitions good))
 
-opening-disarmed : (setup : Setup) → disarmed (opening setup) ≡ opening setup
+opening-disarmed : (setup : Setup) → disarmed (worlds.opening setup) ≡ worlds.opening setup
 opening-disarmed setup = ap (λ (sites : List Site). record { sites = sites; sent = []; fresh = []; order = [] }) (all-disarmed setup.catalog.sites)
   where
     all-disarmed : (count : ℕ) → map disarmed_site (replicate count first_site) ≡ replicate count first_site
     all-disarmed zero = refl
     all-disarmed (suc count) = ap (λ (sites : List Site). first_site ∷ sites) (all-disarmed count)
 
-pub run-may : (setup : Setup) (events : List Event) → All (IsWellFormed setup.catalog) events → IsRunWithFaults setup (opening setup) (map without_arms (run setup (opening setup) events))
+pub run-may : (setup : Setup) (events : List Event) → All (IsWellFormed setup.catalog) events → IsRunWithFaults setup (worlds.opening setup) (map without_arms (run setup (worlds.opening setup) events))
 run-may setup events good =
-    subst (λ (first : World). IsRunWithFaults setup first (map without_arms (run setup (opening setup) events))) (opening-disarmed setup)
-    (transitions-may setup (opening setup) (run setup (opening setup) events) (run-transitions setup (opening setup) events)
-    (run-good setup (opening setup) events good))
+    subst (λ (first : World). IsRunWithFaults setup first (map without_arms (run setup (worlds.opening setup) events))) (opening-disarmed setup)
+    (transitions-may setup (worlds.opening setup) (run setup (worlds.opening setup) events) (run-transitions setup (worlds.opening setup) events)
+    (run-good setup (worlds.opening setup) events good))

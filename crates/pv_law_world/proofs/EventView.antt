@@ -25,6 +25,8 @@ view-of-event (Event.start n) =
 view-of-event (Event.arm n call mode stops) =
     (Beginning.arms n (Some (record { call = call; mode = mode; stops = stops })), record { same = λ setup world. refl; guard = λ n. refl })
 view-of-event (Event.mend n) = (Beginning.arms n None, record { same = λ setup world. refl; guard = λ n. refl })
+view-of-event (Event.checkpoint n) =
+    (Beginning.packs n, record { same = λ setup world. refl; guard = record { timeless = λ n. refl; of = λ world. refl; within = λ catalog well. well } })
 view-of-event Event.sent = (Beginning.prints Printed.messages, record { same = λ setup world. refl; guard = λ n. refl })
 view-of-event Event.report = (Beginning.prints Printed.reported, record { same = λ setup world. refl; guard = λ n. refl })
 view-of-event Event.total = (Beginning.prints Printed.summed, record { same = λ setup world. refl; guard = λ n. refl })

@@ -1,17 +1,19 @@
 -- Records, sent messages and the order only grow, each message is marked, and a site that is down sends nothing.
 use Rattle.std.proofs.Common.{◌≡◌, ℕ, zero, suc, ◌⊎◌, inl, inr, Bool, Some, None, Option, List, [], ◌∷◌, ◌++◌, length, length-append, true, false, ◌+◌, refl, sym, ap, ◌∙◌, subst}
-use Rattle.std.specs.Prelude.{get_or, set, replicate, slice_get, option_to_list, All, IsSome, is_some}
+use Rattle.std.specs.Prelude.{get_or, set, replicate, nat_lt, slice_get, option_to_list, All, IsSome, is_some}
 use Rattle.std.proofs.lemmas.List.{append-nil, length-set, length-replicate}
 use Rattle.std.proofs.lemmas.List.Elements.{All-nil, All-map}
+use Rattle.pv_format.specs.Checkpoint.{greatest_number}
 use Rattle.pv_format.specs.Message.{Envelope}
 use Rattle.pv_format.specs.Record.{Record}
+use Rattle.pv_law_step.proofs.StepCases.{if_case}
 use Rattle.pv_law_world.proofs.EventView.{by-beginning, asked-site}
 use Rattle.pv_law_world.specs.EventView.{Beginning, begun_by, IsGuarded}
 use Rattle.pv_law_world.specs.Pumps.{AreMarked}
 use Rattle.pv_law_world.specs.Transitions.{receiver_of, site_of}
 use Rattle.pv_model.specs.Events.{Event}
 use Rattle.pv_protocol.specs.Arms.{Reached, waits, fires, reached, calls_of, record_left, attempted}
-use Rattle.pv_protocol.specs.Attempt.{Attempt, Begun, at_once, attempts, begun, given, delivered, lost, without_site, halted, opened, of_start}
+use Rattle.pv_protocol.specs.Attempt.{Attempt, Begun, at_once, attempts, begun, given, delivered, lost, without_site, halted, opened, packed, of_start}
 use Rattle.pv_protocol.specs.Lines.{Line}
 use Rattle.pv_protocol.specs.Start.{Started, starts, too_long, no_epoch, site_start}
 use Rattle.pv_protocol.specs.State.{Setup, Running, Site, Input, receive, Placed}
@@ -101,6 +103,12 @@ module _ (setup : Setup) (world : World) where
   opened-leaves n (Some running) = settles _ world keeps-all
   opened-leaves n None = goes_on world n _ refl refl refl refl refl (inr (start-silent n (site_start setup (site_at world n).records)))
 
+  packed-leaves : (n : ℕ) (running : Option Running) → Leaves world (Some n) (packed world n running)
+  packed-leaves n None = settles _ world keeps-all
+  packed-leaves n (Some running) =
+      if_case (Leaves world (Some n)) (nat_lt (site_at world n).standing.number greatest_number) (λ left. goes_on world n _ refl refl refl refl refl (inr refl))
+      (λ spent. settles _ world keeps-all)
+
   beginning-leaves : (event : Event) (beginning : Beginning) → IsGuarded event beginning → Leaves world (site_of world event) (begun_by setup world beginning)
   beginning-leaves event (Beginning.gives n input) guard =
       subst (λ (source : Option ℕ). Leaves world source (begun_by setup world (Beginning.gives n input))) (sym (asked-site world event n input guard))
@@ -113,6 +121,8 @@ module _ (setup : Setup) (world : World) where
   beginning-leaves event (Beginning.halts n) guard = halted-leaves (site_of world event) n (site_at world n).running
   beginning-leaves event (Beginning.opens n) guard =
       subst (λ (source : Option ℕ). Leaves world source (begun_by setup world (Beginning.opens n))) (sym (guard.of world)) (opened-leaves n (site_at world n).running)
+  beginning-leaves event (Beginning.packs n) guard =
+      subst (λ (source : Option ℕ). Leaves world source (begun_by setup world (Beginning.packs n))) (sym (guard.of world)) (packed-leaves n (site_at world n).running)
   beginning-leaves event (Beginning.arms n arm) guard = settles _ _ (put-keeps n _ refl)
   beginning-leaves event (Beginning.prints printed) guard = settles _ world keeps-all
 
@@ -166,7 +176,7 @@ module _ (world : World) (source : Option ℕ) (before : World) (n : ℕ) (attem
         (ap (λ (count : ℕ). count + length (from_site n attempt.sends)) (before-marked marked));
   }
   attempted-grown its audible (fires arm) = record {
-    records = put-extends _ (option_to_list (record_left attempt.syncs attempt.appended arm)) refl;
+    records = put-extends _ (option_to_list (record_left attempt.calls attempt.appended arm)) refl;
     order = ([], order ∙ sym (append-nil _));
     sent = ([], messages ∙ sym (append-nil _), All-nil _);
     marked = before-marked;

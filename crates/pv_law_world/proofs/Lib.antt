@@ -1,5 +1,6 @@
 pub mod AnyRunRangeLemmas
 pub mod AppendLemmas
+pub mod CheckpointLemmas
 pub mod DisarmLemmas
 pub mod EpochLemmas
 pub mod EventView

@@ -3,6 +3,7 @@ use Rattle.std.proofs.Common.{arith, ◌≡◌, ℕ, zero, suc, ◌+◌, Some, N
 use Rattle.std.specs.Prelude.{get_or, set, slice_get, nat_lt, nat_le}
 use Rattle.pv_base.proofs.Basics.{Some_inj}
 use Rattle.pv_base.specs.declared.limits.TheConstants.{NEVER_GIVEN}
+use Rattle.pv_format.specs.Checkpoint.{greatest_number}
 use Rattle.pv_format.specs.Contents.{greatest_epoch}
 use Rattle.pv_format.specs.Message.{Envelope}
 use Rattle.pv_format.specs.Record.{Record, epoch_begun}
@@ -13,7 +14,7 @@ use Rattle.pv_law_world.proofs.EventView.{by-beginning}
 use Rattle.pv_law_world.specs.EventView.{Beginning, begun_by}
 use Rattle.pv_model.specs.Events.{Event}
 use Rattle.pv_protocol.specs.Arms.{Reached, waits, fires, reached, calls_of, attempted}
-use Rattle.pv_protocol.specs.Attempt.{Attempt, Begun, at_once, attempts, begun, given, delivered, lost, halted, opened, of_step, of_start}
+use Rattle.pv_protocol.specs.Attempt.{Attempt, Begun, at_once, attempts, begun, given, delivered, lost, halted, opened, packed, of_step, of_start}
 use Rattle.pv_protocol.specs.Lines.{Line}
 use Rattle.pv_protocol.specs.Records.{record_bytes, journal_bytes}
 use Rattle.pv_protocol.specs.Start.{Started, site_start}
@@ -107,6 +108,13 @@ module _ (setup : Setup) (world : World) where
   opened-rising n (Some running) is = rising-same _
   opened-rising n None is = goes_on world n _ refl (started-later n is)
 
+  packed-rising : (n : ℕ) (running : Option Running) → (site_at world n).running ≡ running → Rising world (packed world n running)
+  packed-rising n None is = rising-same _
+  packed-rising n (Some running) is =
+      if_case (Rising world) (nat_lt (site_at world n).standing.number greatest_number)
+      (λ left. goes_on world n _ refl (subst (IsLater (site_at world n)) is (same-later (site_at world n))))
+      (λ spent. rising-same _)
+
   beginning-rising : (beginning : Beginning) → Rising world (begun_by setup world beginning)
   beginning-rising (Beginning.gives n input) = given-rising world refl n input _ refl
   beginning-rising (Beginning.delivers number) = delivered-rising number (slice_get world.sent number)
@@ -114,6 +122,7 @@ module _ (setup : Setup) (world : World) where
   beginning-rising (Beginning.drops n) = settles _ _ (λ m. same-later (site_at world m))
   beginning-rising (Beginning.halts n) = halted-rising n (site_at world n).running
   beginning-rising (Beginning.opens n) = opened-rising n (site_at world n).running refl
+  beginning-rising (Beginning.packs n) = packed-rising n (site_at world n).running refl
   beginning-rising (Beginning.arms n arm) = settles _ _ (put-later world.sites n _ (same-later (site_at world n)))
   beginning-rising (Beginning.prints printed) = rising-same _
 

@@ -6,15 +6,17 @@ use Rattle.std.proofs.lemmas.List.Elements.{All-append, All-map, All-nil, All-co
 use Rattle.std.proofs.lemmas.Option.{slice_get_within, get_or_from_slice_get}
 use Rattle.pv_base.proofs.Basics.{Some_inj}
 use Rattle.pv_base.specs.declared.limits.TheConstants.{MAX_SITES}
+use Rattle.pv_format.specs.Checkpoint.{greatest_number}
 use Rattle.pv_format.specs.Message.{Envelope}
 use Rattle.pv_format.specs.Range.{IsEnvelopeWithin, IsRecordWithin}
 use Rattle.pv_format.specs.Record.{Record}
+use Rattle.pv_law_step.proofs.StepCases.{if_case}
 use Rattle.pv_law_world.proofs.EventView.{by-beginning, asked-runs}
 use Rattle.pv_law_world.specs.EventView.{Beginning, begun_by, IsAsked, IsGuarded}
 use Rattle.pv_law_world.specs.Ranges.{IsSiteInRange, IsWorldInRange}
 use Rattle.pv_model.specs.Events.{Event}
-use Rattle.pv_protocol.specs.Arms.{Reached, waits, fires, reached, calls_of, is_kept, attempted}
-use Rattle.pv_protocol.specs.Attempt.{Attempt, Begun, at_once, attempts, begun, given, delivered, lost, halted, opened, of_start}
+use Rattle.pv_protocol.specs.Arms.{Reached, waits, fires, reached, calls_of, is_kept, standing_made, standing_left, attempted}
+use Rattle.pv_protocol.specs.Attempt.{Attempt, Begun, at_once, attempts, begun, given, delivered, lost, halted, opened, packed, of_start}
 use Rattle.pv_protocol.specs.Here.{Here}
 use Rattle.pv_protocol.specs.Lines.{Line}
 use Rattle.pv_protocol.specs.Sound.{IsRunningInRange, IsSetupInRange, IsHereInRange, IsInputInRange, IsSentInRange}
@@ -92,16 +94,16 @@ module _ (setup : Setup) where
       → (n < length before.sites → IsSiteInRange setup n (site_at before n) → IsAttemptInRange setup (site_at before n) n attempt)
       → All (IsEnvelopeWithin setup.catalog.sites) (from_site n attempt.sends) → (left : Reached) → IsWorldInRange setup (attempted before n attempt left).1
   attempted-range before n attempt fine may sends (waits arm) =
-      let put : IsWorldInRange setup (with_site before n (record { records = (site_at before n).records ++ option_to_list attempt.appended; arm = arm; running = attempt.running }))
+      let put : IsWorldInRange setup (with_site before n (record { records = (site_at before n).records ++ option_to_list attempt.appended; standing = standing_made attempt.packs (site_at before n).standing; arm = arm; running = attempt.running }))
       = put-world before n _ fine (λ within site_fine. (may within site_fine).whole _ refl refl) in
       record { count = put.count; sites = put.sites; sent = All-append (IsEnvelopeWithin setup.catalog.sites) before.sent (from_site n attempt.sends) fine.sent sends }
-  attempted-range before n attempt fine may sends (fires arm) = left-over (nat_lt (attempt.syncs + 2) arm.call && is_kept arm.mode)
+  attempted-range before n attempt fine may sends (fires arm) = left-over (nat_lt (attempt.calls + 2) arm.call && is_kept arm.mode)
     where
       left-over : (kept : Bool) → IsWorldInRange setup
-          (with_site before n (record { records = (site_at before n).records ++ option_to_list (if kept then attempt.appended else None); arm = None; running = None }))
+          (with_site before n (record { records = (site_at before n).records ++ option_to_list (if kept then attempt.appended else None); standing = standing_left attempt.packs arm (site_at before n).standing; arm = None; running = None }))
       left-over true =
           put-world before n _ fine (λ within site_fine.
-          down-in-range ((may within site_fine).whole (record { records = (site_at before n).records ++ option_to_list attempt.appended; arm = None; running = attempt.running }) refl refl)
+          down-in-range ((may within site_fine).whole (record { records = (site_at before n).records ++ option_to_list attempt.appended; standing = standing_made attempt.packs (site_at before n).standing; arm = None; running = attempt.running }) refl refl)
           _ refl refl)
       left-over false = put-world before n _ fine (λ within site_fine. down-in-range site_fine _ (append-nil _) refl)
 
@@ -227,6 +229,25 @@ module _ (sends_stay : SendsInRange) (sound_stays : StaysSound) (starts_sound : 
   opened-range n None =
       goes_on world n _ fine (started-range n (site_start setup (site_at world n).records) refl) (start-silent n (site_start setup (site_at world n).records))
 
+  packed-range : (n : ℕ) (running : Option Running) → (site_at world n).running ≡ running → IsBegunInRange setup (packed world n running)
+  packed-range n None is = settles _ world fine
+  packed-range n (Some running) is =
+      if_case (IsBegunInRange setup) (nat_lt (site_at world n).standing.number greatest_number)
+      (λ left. goes_on world n _ fine
+      (λ within site. record {
+        whole = λ whole records memory.
+            let same = records ∙ append-nil _ in
+            record {
+              records = rw same site.records;
+              narrow = subst (IsNarrow setup.held_names setup.catalog n) (sym same) site.narrow;
+              room = rw same site.room;
+              running = λ now was. site.running now (is ∙ (sym memory ∙ was));
+            };
+        sends = All-nil (IsEnvelopeWithin setup.catalog.sites);
+      })
+      (All-nil (IsEnvelopeWithin setup.catalog.sites)))
+      (λ spent. settles _ world fine)
+
   -- what an event asks of a site
   asked-range : (event : Event) (n : ℕ) (input : Input) → IsAsked event n input → IsWellFormed setup.catalog event → (running : Running)
       → IsInputInRange setup.catalog.sites (here_at setup world n running) input
@@ -241,6 +262,7 @@ module _ (sends_stay : SendsInRange) (sound_stays : StaysSound) (starts_sound : 
   beginning-range event good (Beginning.drops n) guard = settles _ _ (record { count = fine.count; sites = fine.sites; sent = fine.sent })
   beginning-range event good (Beginning.halts n) guard = halted-range n (site_at world n).running
   beginning-range event good (Beginning.opens n) guard = opened-range n (site_at world n).running
+  beginning-range event good (Beginning.packs n) guard = packed-range n (site_at world n).running refl
   beginning-range event good (Beginning.arms n arm) guard =
       settles _ _ (changed-range n _ (λ site. record { records = site.records; narrow = site.narrow; room = site.room; running = site.running }))
   beginning-range event good (Beginning.prints printed) guard = settles _ world fine

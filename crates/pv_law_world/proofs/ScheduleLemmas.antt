@@ -8,7 +8,7 @@ use Rattle.pv_law_world.proofs.NumeralLemmas.{small-numbers}
 use Rattle.pv_model.specs.LineCauses.{Before, or_default, declared_by, at_first}
 use Rattle.pv_model.specs.Check.{names_item}
 use Rattle.pv_model.specs.LineForms.{scheduled}
-use Rattle.pv_model.specs.Events.{Event, submit, deliver, pump, lose, drop, tick, stop, start, arm, mend, sent, report, total, Schedule}
+use Rattle.pv_model.specs.Events.{Event, submit, deliver, pump, lose, drop, tick, stop, start, arm, mend, checkpoint, sent, report, total, Schedule}
 use Rattle.pv_model.specs.Schedule.{IsDeclaredSite, Says, Declares, AreLines, none, declaration, event, with_event, IsSchedule}
 use Rattle.pv_model.specs.Text.{TextLine}
 use Rattle.pv_protocol.specs.WellFormed.{IsWellFormed}
@@ -75,6 +75,7 @@ module _ (before last : Before) (count : ℕ) (said : before.sites ≡ Some coun
   says-well line (arm n call mode true) says = (site-well says.0 n says.4, says.5.1)
   says-well line (arm n call mode false) says = (site-well says.0 n says.4, says.5.1)
   says-well line (mend n) says = site-well says.0 n says.2
+  says-well line (checkpoint n) says = site-well says.0 n says.2
   says-well line sent says = tt
   says-well line report says = tt
   says-well line total says = tt

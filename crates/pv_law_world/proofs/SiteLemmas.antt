@@ -3,8 +3,10 @@ use Rattle.std.proofs.Common.{◌≡◌, ℕ, ◌<◌, Bool, true, false, Some, 
 use Rattle.std.specs.Prelude.{get_or, slice_get, option_to_list, nat_lt, ◌+◌, ◌&&◌, if◌then◌else◌, All}
 use Rattle.std.proofs.lemmas.List.{append-nil, length-set, length-map, get_or-replicate, length-replicate}
 use Rattle.std.proofs.lemmas.List.Elements.{All-cons, All-nil, All-get_or, All-from_get_or}
+use Rattle.pv_format.specs.Checkpoint.{Standing, greatest_number}
 use Rattle.pv_format.specs.Message.{Envelope}
 use Rattle.pv_format.specs.Record.{Record, epoch_begun}
+use Rattle.pv_law_step.proofs.StepCases.{if_case}
 use Rattle.pv_law_world.proofs.DisarmLemmas.{site-disarmed}
 use Rattle.pv_law_world.proofs.EventView.{by-beginning}
 use Rattle.pv_law_world.proofs.RangeLemmas.{put-in-range, up-within}
@@ -14,8 +16,8 @@ use Rattle.pv_law_world.specs.Transitions.{AreTransitions, one_more}
 use Rattle.pv_model.specs.Events.{Event}
 use Rattle.pv_protocol.specs.Anywhere as anywhere
 use Rattle.pv_protocol.specs.Anywhere.{MayEnd, MayCome, MayFollow, IsRunWithFaults, disarmed_site, disarmed}
-use Rattle.pv_protocol.specs.Arms.{Reached, waits, fires, reached, calls_of, is_kept, attempted}
-use Rattle.pv_protocol.specs.Attempt.{Attempt, Begun, at_once, attempts, begun, given, delivered, lost, halted, opened, of_start}
+use Rattle.pv_protocol.specs.Arms.{Reached, waits, fires, reached, calls_of, is_kept, standing_left, attempted}
+use Rattle.pv_protocol.specs.Attempt.{Attempt, Begun, at_once, attempts, begun, given, delivered, lost, halted, opened, packed, of_start}
 use Rattle.pv_protocol.specs.Lines.{Line}
 use Rattle.pv_protocol.specs.Run.{run, worlds_of}
 use Rattle.pv_protocol.specs.Start.{just_started, site_start}
@@ -77,6 +79,15 @@ module _ (setup : Setup) (P : ℕ → List Record → Option Running → Type 0)
     opened-keeps n None is =
         goes_on world n _ holds (λ within. kept.begins n (site_at world n).records (subst (P n (site_at world n).records) is (holds n within)))
 
+    packed-keeps : (n : ℕ) (running : Option Running) → (site_at world n).running ≡ running → KeepsIt (packed world n running)
+    packed-keeps n None is = settles _ world holds
+    packed-keeps n (Some running) is =
+        if_case KeepsIt (nat_lt (site_at world n).standing.number greatest_number)
+        (λ left. goes_on world n _ holds
+        (λ within. subst (λ (records : List Record). P n records (Some running)) (sym (append-nil (site_at world n).records))
+        (subst (P n (site_at world n).records) is (holds n within))))
+        (λ spent. settles _ world holds)
+
     beginning-keeps : (beginning : Beginning) → KeepsIt (begun_by setup world beginning)
     beginning-keeps (Beginning.gives n input) = given-keeps world refl n input _ refl
     beginning-keeps (Beginning.delivers number) = delivered-keeps number (slice_get world.sent number)
@@ -84,6 +95,7 @@ module _ (setup : Setup) (P : ℕ → List Record → Option Running → Type 0)
     beginning-keeps (Beginning.drops n) = settles _ _ holds
     beginning-keeps (Beginning.halts n) = halted-keeps n (site_at world n).running
     beginning-keeps (Beginning.opens n) = opened-keeps n (site_at world n).running refl
+    beginning-keeps (Beginning.packs n) = packed-keeps n (site_at world n).running refl
     beginning-keeps (Beginning.arms n arm) = settles _ _ (put-holds world n _ holds (λ within. holds n within))
     beginning-keeps (Beginning.prints printed) = settles _ world holds
 
@@ -93,28 +105,28 @@ module _ (setup : Setup) (P : ℕ → List Record → Option Running → Type 0)
   module _ (before : World) (n : ℕ) (attempt : Attempt) (holds : Holds before)
       (new : n < length before.sites → P n ((site_at before n).records ++ option_to_list attempt.appended) attempt.running) where
     -- a stop without a record, and with it
-    without-holds : Holds (with_site before n (record { records = (site_at before n).records ++ []; arm = None; running = None }))
-    without-holds =
+    without-holds : (standing : Standing) → Holds (with_site before n (record { records = (site_at before n).records ++ []; standing = standing; arm = None; running = None }))
+    without-holds standing =
         put-holds before n _ holds
         (λ within. subst (λ (records : List Record). P n records None) (sym (append-nil (site_at before n).records)) (kept.stops n _ _ (holds n within)))
 
-    with-holds : Holds (with_site before n (record { records = (site_at before n).records ++ option_to_list attempt.appended; arm = None; running = None }))
-    with-holds = put-holds before n _ holds (λ within. kept.stops n _ _ (new within))
+    with-holds : (standing : Standing) → Holds (with_site before n (record { records = (site_at before n).records ++ option_to_list attempt.appended; standing = standing; arm = None; running = None }))
+    with-holds standing = put-holds before n _ holds (λ within. kept.stops n _ _ (new within))
 
     attempted-holds : (left : Reached) → Holds (attempted before n attempt left).1
     attempted-holds (waits arm) = put-holds before n _ holds new
-    attempted-holds (fires arm) = left-over (nat_lt (attempt.syncs + 2) arm.call && is_kept arm.mode)
+    attempted-holds (fires arm) = left-over (nat_lt (attempt.calls + 2) arm.call && is_kept arm.mode)
       where
         left-over : (there : Bool) → Holds
-            (with_site before n (record { records = (site_at before n).records ++ option_to_list (if there then attempt.appended else None); arm = None; running = None }))
-        left-over true = with-holds
-        left-over false = without-holds
+            (with_site before n (record { records = (site_at before n).records ++ option_to_list (if there then attempt.appended else None); standing = standing_left attempt.packs arm (site_at before n).standing; arm = None; running = None }))
+        left-over true = with-holds _
+        left-over false = without-holds _
 
     end-holds : (lines : List Line) (after : World) → MayEnd before n attempt lines after → Holds after
     end-holds lines after anywhere.whole = put-holds before n _ holds new
-    end-holds lines after (anywhere.without stops some) = without-holds
-    end-holds lines after (anywhere.with_record stops appended is) =
-        subst (λ (left : Option Record). Holds (with_site before n (record { records = (site_at before n).records ++ option_to_list left; arm = None; running = None }))) is with-holds
+    end-holds lines after (anywhere.without stops some standing may) = without-holds standing
+    end-holds lines after (anywhere.with_record stops appended is standing may) =
+        subst (λ (left : Option Record). Holds (with_site before n (record { records = (site_at before n).records ++ option_to_list left; standing = standing; arm = None; running = None }))) is (with-holds standing)
 
   ended-holds : (b : Begun) → KeepsIt b → Holds (ended b).1
   ended-holds b (settles lines after holds) = holds

@@ -3,7 +3,7 @@ use Rattle.std.specs.Prelude.{◌≡◌, ℕ, Bool, false, Option, Some, List, [
 use Rattle.pv_base.specs.Catalog.{Declared}
 use Rattle.pv_law_world.specs.Transitions.{site_of}
 use Rattle.pv_model.specs.Events.{Event}
-use Rattle.pv_protocol.specs.Attempt.{Begun, at_once, begun, given, delivered, lost, without_site, halted, opened, with_arm}
+use Rattle.pv_protocol.specs.Attempt.{Begun, at_once, begun, given, delivered, lost, without_site, halted, opened, packed, with_arm}
 use Rattle.pv_protocol.specs.Lines.{Line}
 use Rattle.pv_protocol.specs.Report.{report_of, total_of, sent_lines}
 use Rattle.pv_protocol.specs.State.{Setup, Arm, Input, submit, receive, tick}
@@ -30,6 +30,8 @@ pub data Beginning : Type 0 where
   -- a site stops between steps, or is started
   halts : (site : ℕ) → Beginning
   opens : (site : ℕ) → Beginning
+  -- a site writes its log anew
+  packs : (site : ℕ) → Beginning
   -- a site's disk is armed with this fault, or with none
   arms : (site : ℕ) (arm : Option Arm) → Beginning
   -- nothing is done
@@ -50,6 +52,7 @@ begun_by setup world (Beginning.loses number) = lost world number (slice_get wor
 begun_by setup world (Beginning.drops n) = at_once [] (record world { fresh = without_site n world.sent world.fresh })
 begun_by setup world (Beginning.halts n) = halted world n (site_at world n).running
 begun_by setup world (Beginning.opens n) = opened setup world n (site_at world n).running
+begun_by setup world (Beginning.packs n) = packed world n (site_at world n).running
 begun_by setup world (Beginning.arms n arm) = at_once [] (with_arm world n arm)
 begun_by setup world (Beginning.prints printed) = at_once (lines_printed setup world printed) world
 
@@ -63,8 +66,8 @@ IsAsked event n tick = event ≡ Event.tick n
 abbrev pub IsTimeless : Event → Type 0
 IsTimeless event = (n : ℕ) → is_tick_of n event ≡ false
 
--- The event starts this site: it is of this site, and of one of the catalog where it is well formed.
-pub record IsStartOf (event : Event) (n : ℕ) : Type 0 where
+-- The event is of this site, of one of the catalog where it is well formed, and no tick.
+pub record IsOfSite (event : Event) (n : ℕ) : Type 0 where
   pub timeless : IsTimeless event
   pub of : (world : World) → site_of world event ≡ Some n
   pub within : (catalog : Declared) → IsWellFormed catalog event → HasSite catalog n
@@ -73,7 +76,8 @@ pub record IsStartOf (event : Event) (n : ℕ) : Type 0 where
 abbrev pub IsGuarded : Event → Beginning → Type 0
 IsGuarded event (Beginning.gives n input) = IsAsked event n input
 IsGuarded event (Beginning.delivers number) = event ≡ Event.deliver number
-IsGuarded event (Beginning.opens n) = IsStartOf event n
+IsGuarded event (Beginning.opens n) = IsOfSite event n
+IsGuarded event (Beginning.packs n) = IsOfSite event n
 IsGuarded event other = IsTimeless event
 
 -- The event begins so, in whatever world.

@@ -1,7 +1,7 @@
 -- Which site an event is of, which transitions follow one another, and which transition a message was sent in.
 use Rattle.std.specs.Prelude.{◌≡◌, ℕ, Option, Some, None, List, [], ◌∷◌, slice_get, IsSome}
 use Rattle.pv_format.specs.Message.{Envelope}
-use Rattle.pv_model.specs.Events.{Event, submit, deliver, tick, stop, start, arm, mend}
+use Rattle.pv_model.specs.Events.{Event, submit, deliver, tick, stop, start, arm, mend, checkpoint}
 use Rattle.pv_protocol.specs.Places.{Place, world_before}
 use Rattle.pv_protocol.specs.State.{Setup}
 use Rattle.pv_protocol.specs.World.{World, site_at}
@@ -21,6 +21,7 @@ site_of world (stop n) = Some n
 site_of world (start n) = Some n
 site_of world (arm n call mode stops) = Some n
 site_of world (mend n) = Some n
+site_of world (checkpoint n) = Some n
 site_of world other = None
 
 -- Each transition is what its event does in the world before it, the first of them in this world.

@@ -26,6 +26,6 @@ pub use runs::{
 pub use sites::{epochs_are_recorded, memories_are_in_order};
 pub use steps::{
     down_sites_are_silent, numbers_rise_in_transitions, other_sites_stay, reports_change_nothing,
-    transition_adds_records,
+    silent_checkpoints_are_done, transition_adds_records,
 };
 pub use texts::lines_are_spelled;

@@ -1,5 +1,6 @@
 // Laws of single transitions.
-ghost use Rattle.std.specs.Prelude.{◌≡◌, ◌+◌, ℕ, Some, None, List, ◌++◌, All, IsSome};
+ghost use Rattle.std.specs.Prelude.{◌≡◌, ◌+◌, ◌<◌, ℕ, Some, None, List, [], ◌++◌, length, All, IsSome};
+ghost use Rattle.pv_format.specs.Checkpoint.{done};
 ghost use Rattle.pv_format.specs.Contents.{greatest_epoch};
 ghost use Rattle.pv_format.specs.Message.{Envelope};
 ghost use Rattle.pv_format.specs.Record.{Record};
@@ -44,4 +45,10 @@ pub fn numbers_rise_in_transitions()
         (site_at (transition_of setup world event).world n).running ≡ Some after → Rises before after }
     ensures start { (setup : Setup) (world : World) (event : Event) (n : ℕ) (after : Running) → (site_at world n).running ≡ None →
         (site_at (transition_of setup world event).world n).running ≡ Some after → after.epoch ≡ greatest_epoch (site_at world n).records + 1 }
+{}
+
+/// After an event `checkpoint` without a line the number in force on the disk of its site is one more, and the gate of the root that isn't in force is 1.
+pub fn silent_checkpoints_are_done()
+    ensures { (setup : Setup) (world : World) (n : ℕ) → n < length world.sites → (transition_of setup world (Event.checkpoint n)).lines ≡ [] →
+        (site_at (transition_of setup world (Event.checkpoint n)).world n).standing ≡ done (site_at world n).standing }
 {}

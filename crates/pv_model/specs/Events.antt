@@ -18,6 +18,8 @@ pub data Event : Type 0 where
   -- the site's call of this number from now on stops it, or fails
   arm : (site call : ℕ) (mode : Mode) (stops : Bool) → Event
   mend : (site : ℕ) → Event
+  -- the site writes its log anew, packed
+  checkpoint : (site : ℕ) → Event
   sent : Event
   report : Event
   total : Event

@@ -43,7 +43,7 @@ line_forms scheduled =
     ∷ (codes "deliver", number 0 (2 ^ 64 - 1) ∷ []) ∷ (codes "lose", number 0 (2 ^ 64 - 1) ∷ [])
     ∷ (codes "pump", []) ∷ (codes "pump", number 1 MAX_PUMP ∷ [])
     ∷ (codes "drop", site ∷ []) ∷ (codes "tick", site ∷ []) ∷ (codes "stop", site ∷ []) ∷ (codes "start", site ∷ [])
-    ∷ (codes "mend", site ∷ [])
+    ∷ (codes "mend", site ∷ []) ∷ (codes "checkpoint", site ∷ [])
     ∷ (codes "cut", site ∷ number 1 MAX_CALL ∷ mode ∷ []) ∷ (codes "fail", site ∷ number 1 MAX_CALL ∷ mode ∷ [])
     ∷ (codes "sent", []) ∷ (codes "report", []) ∷ (codes "total", []) ∷ []
     )

@@ -7,7 +7,7 @@ use Rattle.pv_base.specs.declared.mode.Mode.{Mode}
 use Rattle.pv_base.specs.declared.mode.Mode.TheVariants.{Lost, Kept, Torn}
 use Rattle.pv_model.specs.LineCauses.{Before, at_first, or_default, declared_by, last_requests, LineCause, sites_expected, IsFirstCause}
 use Rattle.pv_model.specs.Check.{AreItems, has_assignment, has_return}
-use Rattle.pv_model.specs.Events.{Event, submit, deliver, pump, lose, drop, tick, stop, start, arm, mend, sent, report, total, Schedule}
+use Rattle.pv_model.specs.Events.{Event, submit, deliver, pump, lose, drop, tick, stop, start, arm, mend, checkpoint, sent, report, total, Schedule}
 use Rattle.pv_model.specs.FirstMisplaced.{without_numbers}
 use Rattle.pv_model.specs.LineForms.{Script, scheduled, live, most_bytes, arguments}
 use Rattle.pv_model.specs.LiveScript.{Request, Client, FaultPlan, LiveScript}
@@ -77,6 +77,7 @@ Says before line (tick site) = IsOne (codes "tick") (λ word. IsDeclaredSite bef
 Says before line (stop site) = IsOne (codes "stop") (λ word. IsDeclaredSite before word site) line
 Says before line (start site) = IsOne (codes "start") (λ word. IsDeclaredSite before word site) line
 Says before line (mend site) = IsOne (codes "mend") (λ word. IsDeclaredSite before word site) line
+Says before line (checkpoint site) = IsOne (codes "checkpoint") (λ word. IsDeclaredSite before word site) line
 Says before line (arm site call mode true) = IsArm before (codes "cut") site call mode line
 Says before line (arm site call mode false) = IsArm before (codes "fail") site call mode line
 Says before line sent = IsAlone (codes "sent") line

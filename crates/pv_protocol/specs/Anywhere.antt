@@ -1,21 +1,28 @@
 -- The run in which any write or sync may stop its site or fail, whatever is armed.
-use Rattle.std.specs.Prelude.{◌≡◌, ℕ, ◌<◌, Bool, Some, None, List, [], ◌∷◌, map}
+use Rattle.std.specs.Prelude.{◌≡◌, ℕ, ◌<◌, Bool, true, false, Some, None, List, [], ◌∷◌, map}
+use Rattle.pv_format.specs.Checkpoint.{Standing, MayLeaveInAll}
 use Rattle.pv_format.specs.Record.{Record}
 use Rattle.pv_protocol.specs.Arms.{calls_of, completed, broken, broken_line}
 use Rattle.pv_protocol.specs.Attempt.{Attempt, Begun, at_once, attempts, begun}
 use Rattle.pv_protocol.specs.Lines.{Line}
 use Rattle.pv_protocol.specs.State.{Setup, Site}
 use Rattle.pv_protocol.specs.WellFormed.{IsWellFormed}
-use Rattle.pv_protocol.specs.World.{World}
+use Rattle.pv_protocol.specs.World.{World, site_at}
 use Rattle.pv_protocol.specs.WorldStep.{Transition}
 
+-- How the log may stand where a write or sync stops the site or fails: as before, or, where it is packed, with the other gate not 1 or as after a checkpoint that is done.
+abbrev pub MayStand : Bool → Standing → Standing → Type 0
+MayStand false was left = left ≡ was
+MayStand true was left = MayLeaveInAll was left
+
 -- An attempt may end so: all of it is written; or, where it makes writes or syncs, the site stops in one of them or one of them
--- fails, and its record, if it appends one, is there or isn't.
+-- fails, its record, if it appends one, is there or isn't, and its log may stand so.
 pub data MayEnd (world : World) (n : ℕ) (attempt : Attempt) : List Line → World → Type 0 where
   whole : MayEnd world n attempt attempt.lines (completed world n attempt None)
-  without : (stops : Bool) → 0 < calls_of attempt → MayEnd world n attempt (broken_line n stops ∷ []) (broken world n None)
-  with_record : (stops : Bool) (appended : Record) → attempt.appended ≡ Some appended
-      → MayEnd world n attempt (broken_line n stops ∷ []) (broken world n (Some appended))
+  without : (stops : Bool) → 0 < calls_of attempt → (left : Standing) → MayStand attempt.packs (site_at world n).standing left
+      → MayEnd world n attempt (broken_line n stops ∷ []) (broken world n None left)
+  with_record : (stops : Bool) (appended : Record) → attempt.appended ≡ Some appended → (left : Standing) → MayStand attempt.packs (site_at world n).standing left
+      → MayEnd world n attempt (broken_line n stops ∷ []) (broken world n (Some appended) left)
 
 -- What an event has begun may come to these lines and this world.
 pub data MayCome : Begun → List Line → World → Type 0 where

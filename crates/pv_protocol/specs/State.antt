@@ -5,6 +5,7 @@ use Rattle.pv_base.specs.Want.{Want}
 use Rattle.pv_base.specs.declared.grant.GrantId.{GrantId}
 use Rattle.pv_base.specs.declared.mode.Mode.{Mode}
 use Rattle.pv_base.specs.declared.txn.TxnId.{TxnId}
+use Rattle.pv_format.specs.Checkpoint.{Standing}
 use Rattle.pv_format.specs.Message.{Message}
 use Rattle.pv_format.specs.Record.{Record}
 use Rattle.pv_model.specs.Alternatives.{Read}
@@ -64,9 +65,10 @@ pub record Arm : Type 0 where
   pub mode : Mode
   pub stops : Bool
 
--- A site: its records, oldest first, its disk's armed fault, and what it has in memory where it is up.
+-- A site: its records, oldest first, how its log in two areas stands on its disk, the disk's armed fault, and what it has in memory where it is up.
 pub record Site : Type 0 where
   pub records : List Record
+  pub standing : Standing
   pub arm : Option Arm
   pub running : Option Running
 

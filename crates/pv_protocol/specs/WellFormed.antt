@@ -3,7 +3,7 @@ use Rattle.std.specs.Prelude.{ℕ, ◌<◌, ◌≤◌, Bool, true, ◌&&◌, Lis
 use Rattle.pv_base.specs.declared.limits.TheConstants.{MAX_PROGRAM_ITEMS}
 use Rattle.pv_base.specs.Catalog.{Declared}
 use Rattle.pv_model.specs.Check.{AreItems}
-use Rattle.pv_model.specs.Events.{Event, submit, deliver, pump, lose, drop, tick, stop, start, arm, mend, sent, report, total}
+use Rattle.pv_model.specs.Events.{Event, submit, deliver, pump, lose, drop, tick, stop, start, arm, mend, checkpoint, sent, report, total}
 use Rattle.pv_model.specs.Meaning.{fits_i64}
 use Rattle.pv_model.specs.Syntax.{Expr, number, item, minus, negation, two, Program, end, assign, require, return, when, when_else}
 
@@ -51,6 +51,7 @@ IsWellFormed catalog (stop site) = HasSite catalog site
 IsWellFormed catalog (start site) = HasSite catalog site
 IsWellFormed catalog (arm site call mode stops) = HasSite catalog site × (1 ≤ call)
 IsWellFormed catalog (mend site) = HasSite catalog site
+IsWellFormed catalog (checkpoint site) = HasSite catalog site
 IsWellFormed catalog (deliver n) = ⊤
 IsWellFormed catalog (pump most) = ⊤
 IsWellFormed catalog (lose n) = ⊤

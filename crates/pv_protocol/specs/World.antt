@@ -1,5 +1,6 @@
 -- The world: the sites, the messages between them, and the order of the transactions.
 use Rattle.std.specs.Prelude.{ℕ, Bool, true, false, Some, None, List, [], ◌∷◌, ◌++◌, length, map, replicate, get_or, set}
+use Rattle.pv_format.specs.Checkpoint.{first_standing}
 use Rattle.pv_format.specs.Message.{Envelope}
 use Rattle.pv_format.specs.Record.{epoch_begun}
 use Rattle.pv_protocol.specs.Start as start
@@ -16,7 +17,7 @@ pub record World : Type 0 where
 
 -- a site that isn't there: nothing is recorded, and it is down
 abbrev pub no_site : Site
-no_site = record { records = []; arm = None; running = None }
+no_site = record { records = []; standing = first_standing; arm = None; running = None }
 
 -- the site of this number
 abbrev pub site_at : World → ℕ → Site
@@ -40,7 +41,7 @@ with_done world n = record world { fresh = set world.fresh n false }
 
 -- A site that was started once: its first epoch is 1, and nothing has happened in it.
 abbrev pub first_site : Site
-first_site = record { records = epoch_begun 1 ∷ []; arm = None; running = Some (start.just_started 1) }
+first_site = record { records = epoch_begun 1 ∷ []; standing = first_standing; arm = None; running = Some (start.just_started 1) }
 
 -- Where a run begins: each site was started once, nothing was sent and no transaction has reached its lock point.
 abbrev pub opening : Setup → World
