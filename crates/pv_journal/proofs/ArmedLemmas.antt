@@ -26,19 +26,19 @@ use Rattle.pv_journal.specs.declared.open_log.OpenLog.TheVariants.{Failed, NotOu
 use Rattle.pv_journal.proofs.AppendLemmas.{front, opened_record, staged_is, torn_behind}
 
 -- Where a disk is between two calls.
-record IsAt (content : List ℕ) (now : Moment) (armed : Option Arm) (fired : Option Bool) (disk : MemState) : Type 0 where
-  content_is : disk.image.content ≡ content
-  now_is : disk.image.now ≡ now
-  armed_is : disk.arms.armed ≡ armed
-  fired_is : disk.arms.fired ≡ fired
-  reads_is : disk.arms.fail_read ≡ None
+pub record IsAt (content : List ℕ) (now : Moment) (armed : Option Arm) (fired : Option Bool) (disk : MemState) : Type 0 where
+  pub content_is : disk.image.content ≡ content
+  pub now_is : disk.image.now ≡ now
+  pub armed_is : disk.arms.armed ≡ armed
+  pub fired_is : disk.arms.fired ≡ fired
+  pub reads_is : disk.arms.fail_read ≡ None
 
 -- What fires leaves this, synced.
-abbrev Fell : Arm → List ℕ → Bool → MemState → Type 0
+abbrev pub Fell : Arm → List ℕ → Bool → MemState → Type 0
 Fell arm content ok new = (ok ≡ false) × IsAt content (settled_at content) None (Some arm.stop) new
 
 -- A write or a sync that would make this content, and this the moment, by what is armed.
-abbrev Called : Option Arm → List ℕ → Moment → Moment → Bool → MemState → Type 0
+abbrev pub Called : Option Arm → List ℕ → Moment → Moment → Bool → MemState → Type 0
 Called None content before after ok new = (ok ≡ true) × IsAt content after None None new
 Called (Some arm) content before after ok new =
     MatchBool (nat_le arm.left 1) (Fell arm (left_by arm.mode before content) ok new) ((ok ≡ true) × IsAt content after (Some (nearer 1 arm)) None new)
@@ -71,7 +71,7 @@ module _ (old : MemState) (content : List ℕ) (before after : Moment) (ok : Boo
 
 -- A write, and a sync, of a disk that is there.
 module _ (bytes : List ℕ) (now : Moment) (armed : Option Arm) (old : MemState) (is : IsAt bytes now armed None old) (ok : Bool) (new : MemState) where
-  wrote : (place : ℕ) (more : List ℕ) → MemGoes old (write place more) ok new
+  pub wrote : (place : ℕ) (more : List ℕ) → MemGoes old (write place more) ok new
       → Called armed (overlaid bytes place more) (written_at now place (length more)) (written_at now place (length more)) ok new
   wrote place more goes =
       subst (λ (m : Moment). Called armed (overlaid bytes place more) (written_at m place (length more)) (written_at m place (length more)) ok new) is.now_is
@@ -79,7 +79,7 @@ module _ (bytes : List ℕ) (now : Moment) (armed : Option Arm) (old : MemState)
       (called old (overlaid old.image.content place more) (written_at old.image.now place (length more)) (written_at old.image.now place (length more)) ok new armed is.armed_is
       is.fired_is is.reads_is goes))
 
-  synced : MemGoes old sync ok new → Called armed bytes now (settled_at bytes) ok new
+  pub synced : MemGoes old sync ok new → Called armed bytes now (settled_at bytes) ok new
   synced goes =
       subst (λ (m : Moment). Called armed bytes m (settled_at bytes) ok new) is.now_is
       (subst (λ (l : List ℕ). Called armed l old.image.now (settled_at l) ok new) is.content_is
@@ -87,12 +87,12 @@ module _ (bytes : List ℕ) (now : Moment) (armed : Option Arm) (old : MemState)
 
 -- A call, and those after it where it doesn't fire.
 module _ (old : MemState) (call : DiskCall) (calls : List DiskCall) (ok : Bool) (new : MemState) (content : List ℕ) (before after : Moment) where
-  then-none : (Q : Type 0) → ((went : Bool) (mid : MemState) → MemGoes old call went mid → Called None content before after went mid)
+  pub then-none : (Q : Type 0) → ((went : Bool) (mid : MemState) → MemGoes old call went mid → Called None content before after went mid)
       → ((mid : MemState) → IsAt content after None None mid → Makes MemGoes mid calls ok new → Q) → Makes MemGoes old (call ∷ calls) ok new → Q
   then-none Q goes later (inl (broke, failed)) = absurd (true≢false (sym (goes false new failed).0))
   then-none Q goes later (inr (mid, went, rest)) = later mid (goes true mid went).1 rest
 
-  then-arm : (arm : Arm) (fires : Bool) (Q : Type 0)
+  pub then-arm : (arm : Arm) (fires : Bool) (Q : Type 0)
       → ((went : Bool) (mid : MemState) → MemGoes old call went mid
       → MatchBool fires (Fell arm (left_by arm.mode before content) went mid) ((went ≡ true) × IsAt content after (Some (nearer 1 arm)) None mid))
       → ((mid : MemState) → IsAt content after (Some (nearer 1 arm)) None mid → Makes MemGoes mid calls ok new → Q) → Makes MemGoes old (call ∷ calls) ok new
@@ -395,44 +395,58 @@ reads-same old new (one_more mid call ok _ before is_read goes) unread =
     let same : mid ≡ old = reads-same old mid before unread in
     read-same mid call ok new is_read goes (ap (λ (disk : MemState). disk.arms.fail_read) same ∙ unread) ∙ same
 
--- A sync of what is synced.
+-- What a sync of a disk comes to that is synced already.
+abbrev pub Settles : Option Arm → List ℕ → Bool → MemState → Type 0
+Settles None bytes ok new = (ok ≡ true) × IsAt bytes (settled_at bytes) None None new
+Settles (Some arm) bytes ok new =
+    MatchBool (nat_lt 1 arm.left) ((ok ≡ true) × IsAt bytes (settled_at bytes) (Some (nearer 1 arm)) None new)
+    ((ok ≡ false) × IsAt bytes (settled_at bytes) None (Some arm.stop) new)
+
+module _ (bytes : List ℕ) (old new : MemState) (ok : Bool) (goes : MemGoes old sync ok new) where
+  left-settled : (mode : Mode) → left_by mode (settled_at bytes) bytes ≡ bytes
+  left-settled Lost = refl
+  left-settled Kept = refl
+  left-settled TornAll = refl
+
+  by-left : (arm : Arm) (first late : Bool) → (first ≡ true → late ≡ false) → (first ≡ false → late ≡ true)
+      → MatchBool first (Fell arm (left_by arm.mode (settled_at bytes) bytes) ok new) ((ok ≡ true) × IsAt bytes (settled_at bytes) (Some (nearer 1 arm)) None new)
+      → MatchBool late ((ok ≡ true) × IsAt bytes (settled_at bytes) (Some (nearer 1 arm)) None new) ((ok ≡ false) × IsAt bytes (settled_at bytes) None (Some arm.stop) new)
+  by-left arm true true early later called = absurd (true≢false (early refl))
+  by-left arm true false early later (broke, at) = (broke, subst (λ (l : List ℕ). IsAt l (settled_at l) None (Some arm.stop) new) (left-settled arm.mode) at)
+  by-left arm false true early later called = called
+  by-left arm false false early later called = absurd (true≢false (sym (later refl)))
+
+  pub settles : (armed : Option Arm) → IsAt bytes (settled_at bytes) armed None old → Settles armed bytes ok new
+  settles None is = synced bytes (settled_at bytes) None old is ok new goes
+  settles (Some arm) is =
+      by-left arm (nat_le arm.left 1) (nat_lt 1 arm.left) (λ fine. grind (arith, nat_tests, fine)) (λ broke. grind (arith, nat_tests, broke))
+      (synced bytes (settled_at bytes) (Some arm) old is ok new goes)
+
+-- One of two, by what follows from each.
+pub either-way : (b : Bool) (F G P Q : Type 0) → (F → P) → (G → Q) → MatchBool b F G → MatchBool b P Q
+either-way true F G P Q first second it = first it
+either-way false F G P Q first second it = second it
+
 sync-settled : (contents : Contents) (armed : Option Arm) (old new : MemState) (ok : Bool) → Holds contents armed None old → MemGoes old sync ok new → SyncsArmed contents armed ok new
 sync-settled contents armed old new ok holds goes = by armed holds
   where
-    whole : (a fired_armed : Option Arm) (fired : Option Bool) → Holds contents a None old → IsAt old.image.content (settled_at old.image.content) fired_armed fired new → Holds contents fired_armed fired new
-    whole a fired_armed fired is at = record {
-      journal = subst (IsJournal contents) (sym at.content_is) is.journal;
+    whole : (after : Option Arm) (fired : Option Bool) → IsAt old.image.content (settled_at old.image.content) after fired new → Holds contents after fired new
+    whole after fired at = record {
+      journal = subst (IsJournal contents) (sym at.content_is) holds.journal;
       settled = at.now_is ∙ ap settled_at (sym at.content_is);
       armed = at.armed_is;
       fired = at.fired_is;
       reads = at.reads_is;
     }
 
-    left-settled : (mode : Mode) → left_by mode (settled_at old.image.content) old.image.content ≡ old.image.content
-    left-settled Lost = refl
-    left-settled Kept = refl
-    left-settled TornAll = refl
-
-    by-left : (arm : Arm) → Holds contents (Some arm) None old → (first late : Bool) → (first ≡ true → late ≡ false) → (first ≡ false → late ≡ true)
-        → MatchBool first (Fell arm (left_by arm.mode (settled_at old.image.content) old.image.content) ok new)
-        ((ok ≡ true) × IsAt old.image.content (settled_at old.image.content) (Some (nearer 1 arm)) None new)
-        → MatchBool late ((ok ≡ true) × Holds contents (Some (nearer 1 arm)) None new) ((ok ≡ false) × Holds contents None (Some arm.stop) new)
-    by-left arm is true true early later called = absurd (true≢false (early refl))
-    by-left arm is true false early later (broke, at) =
-        (broke, whole (Some arm) None (Some arm.stop) is (subst (λ (l : List ℕ). IsAt l (settled_at l) None (Some arm.stop) new) (left-settled arm.mode) at))
-    by-left arm is false true early later (fine, at) = (fine, whole (Some arm) (Some (nearer 1 arm)) None is at)
-    by-left arm is false false early later called = absurd (true≢false (sym (later refl)))
-
     at-rest : (a : Option Arm) → Holds contents a None old → IsAt old.image.content (settled_at old.image.content) a None old
     at-rest a is = record { content_is = refl; now_is = is.settled; armed_is = is.armed; fired_is = is.fired; reads_is = is.reads }
 
     by : (a : Option Arm) → Holds contents a None old → SyncsArmed contents a ok new
-    by None is =
-        let made = synced old.image.content (settled_at old.image.content) None old (at-rest None is) ok new goes in
-        (made.0, whole None None None is made.1)
+    by None is = let made = settles old.image.content old new ok goes None (at-rest None is) in (made.0, whole None None made.1)
     by (Some arm) is =
-        by-left arm is (nat_le arm.left 1) (nat_lt 1 arm.left) (λ fine. grind (arith, nat_tests, fine)) (λ broke. grind (arith, nat_tests, broke))
-        (synced old.image.content (settled_at old.image.content) (Some arm) old (at-rest (Some arm) is) ok new goes)
+        either-way (nat_lt 1 arm.left) _ _ _ _ (λ made. (made.0, whole (Some (nearer 1 arm)) None made.1)) (λ made. (made.0, whole None (Some arm.stop) made.1))
+        (settles old.image.content old new ok goes (Some arm) (at-rest (Some arm) is))
 
 -- The calls of a journal.
 module _ (contents : Contents) (armed : Option Arm) where

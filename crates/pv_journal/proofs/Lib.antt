@@ -1,7 +1,7 @@
 mod AppendLemmas
-mod ArmedLemmas
+pub mod ArmedLemmas
 mod FormatLemmas
-mod GivenLemmas
-mod LogLemmas
-mod LookLemmas
-mod ReadLemmas
+pub mod GivenLemmas
+pub mod LogLemmas
+pub mod LookLemmas
+pub mod ReadLemmas

@@ -107,8 +107,8 @@ fn write_record<D: Disk>(disk: &mut D, end: u64, frame: &[u8]) -> Result<(), Fai
     disk.sync()
 }
 
-// The content with its length before it and a closed gate after it.
-fn make_frame(frame: &mut Vec<u8>, content: &[u8])
+/// Makes of the frame the content with its length before it and a closed gate after it.
+pub fn make_frame(frame: &mut Vec<u8>, content: &[u8])
     requires short { length content.now < 2 ^ 32 }
     requires room { 5 + length content.now ≤ vec_capacity frame.old }
     ensures { frame.new.items ≡ framed content.now ++ 0 ∷ [] }

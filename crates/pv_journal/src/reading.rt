@@ -25,9 +25,9 @@ pub(crate) enum Gate {
     Open(u32),
 }
 
-// How long the disk is.
+/// How long the disk is.
 #[tactic(auto, using(crate::proofs::LookLemmas::looking))]
-fn size_of_disk<D: Disk>(disk: &mut D) -> Result<u64, LookError>
+pub fn size_of_disk<D: Disk>(disk: &mut D) -> Result<u64, LookError>
     ensures effect { LooksBy D.model disk.old disk.new result }
     ensures size { IfOk result (λ size. (bytes : List ℕ) → D.model.content disk.old ≡ Some bytes → size ≡ length bytes) }
     ensures bounded { IfOk result (λ size. size ≤ MAX_LENGTH) }
@@ -40,9 +40,9 @@ fn size_of_disk<D: Disk>(disk: &mut D) -> Result<u64, LookError>
     }
 }
 
-// Fills `into` from this place on.
+/// Fills `into` from this place on.
 #[tactic(auto, using(crate::proofs::LookLemmas::looking))]
-fn read_from<D: Disk>(disk: &mut D, place: u64, into: &mut [u8]) -> Result<(), LookError>
+pub fn read_from<D: Disk>(disk: &mut D, place: u64, into: &mut [u8]) -> Result<(), LookError>
     requires { (bytes : List ℕ) → D.model.content disk.old ≡ Some bytes → place + length into.old ≤ length bytes }
     ensures effect { LooksBy D.model disk.old disk.new result }
     ensures bytes { OnOk result ((bytes : List ℕ) → D.model.content disk.old ≡ Some bytes → into.new ≡ take (length into.old) (drop place bytes)) }
@@ -111,11 +111,11 @@ pub(crate) fn read_contents<D: Disk>(alloc: Global, disk: &mut D) -> Result<Vec<
     }
 }
 
-// The content of the record at a gate, on a disk of this size; none where the gate is closed.
-//
-// - [`LookError::NotOurs`]: as in [`gate_at`].
+/// The content of the record at a gate, on a disk of this size; none where the gate is closed.
+///
+/// - [`LookError::NotOurs`]: as in [`gate_at`].
 #[tactic(auto, using(crate::proofs::LookLemmas::looking))]
-fn read_record<D: Disk>(
+pub fn read_record<D: Disk>(
     alloc: Global,
     disk: &mut D,
     size: u64,
@@ -195,9 +195,9 @@ fn gate_at<D: Disk>(disk: &mut D, size: u64, place: u64) -> Result<Gate, LookErr
     Ok(Gate::Open(count))
 }
 
-// So many bytes from this place on.
+/// So many bytes from this place on.
 #[tactic(auto, using(crate::proofs::LookLemmas::looking))]
-fn read_content<D: Disk>(
+pub fn read_content<D: Disk>(
     alloc: Global,
     disk: &mut D,
     place: u64,
@@ -215,8 +215,8 @@ fn read_content<D: Disk>(
     Ok(content)
 }
 
-// How far the bytes are what is expected.
-fn agreement(bytes: &[u8], expected: &[u8]) -> usize
+/// How far the bytes are what is expected.
+pub fn agreement(bytes: &[u8], expected: &[u8]) -> usize
     ensures within { result ≤ length bytes.now }
     ensures within_expected { result ≤ length expected.now }
     ensures same { take result bytes.now ≡ take result expected.now }
@@ -232,8 +232,8 @@ fn agreement(bytes: &[u8], expected: &[u8]) -> usize
     place
 }
 
-// The number that four bytes are.
-fn number_in(bytes: &[u8]) -> u32
+/// The number that four bytes are, the most significant first.
+pub fn number_in(bytes: &[u8]) -> u32
     requires { length bytes.now ≡ 4 }
     ensures { big_endian 4 result ≡ bytes.now }
 {

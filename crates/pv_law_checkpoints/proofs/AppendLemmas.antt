@@ -92,10 +92,13 @@ module _ (at : ℕ) (packed later : Contents) (content staged : List ℕ) (is : 
         (λ zero_is_one. absurd (omega (arith, zero_is_one)))
         (ap (λ g. records_of later ++ g ∷ (framed content ++ 0 ∷ is.tail)) opened ∙ one_record_more later content is.tail)
 
+    pub closed_log : get_or left (end_at staged at later) 0 ≢ 1 → IsLog at packed later left × AreSameRoots staged left at
+    closed_log closed = (log_left later (get_or left (end_at staged at later) 0) (framed content ++ 0 ∷ is.tail) is.log.short closed refl, roots_left)
+
     pub gate_decides : IsWithOrWithout at packed later content left × AreSameRoots staged left at
     gate_decides = elim (cases_eq (get_or left (end_at staged at later) 0) 1) [
       | inl opened ↦ (inr (opened_log opened), roots_left)
-      | inr closed ↦ (inl (log_left later (get_or left (end_at staged at later) 0) (framed content ++ 0 ∷ is.tail) is.log.short closed refl), roots_left)
+      | inr closed ↦ let kept = closed_log closed in (inl kept.0, kept.1)
     ]
 
   -- What the write of the gate makes.

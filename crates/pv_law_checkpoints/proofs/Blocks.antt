@@ -12,14 +12,14 @@ use Rattle.pv_law_journal.proofs.SizeLemmas.{length-framed, end_of-size}
 use Rattle.pv_law_checkpoints.specs.TwoAreas.{block_of}
 
 -- Bytes that begin with a framed content begin with no other one.
-framed_begins : (x y rest more : List ℕ) → length x < 2 ^ 32 → length y < 2 ^ 32 → framed x ++ rest ≡ framed y ++ more → (x ≡ y) × (rest ≡ more)
+pub framed_begins : (x y rest more : List ℕ) → length x < 2 ^ 32 → length y < 2 ^ 32 → framed x ++ rest ≡ framed y ++ more → (x ≡ y) × (rest ≡ more)
 framed_begins x y rest more short_x short_y is =
     let left = append_assoc (big_endian 4 (length x)) x rest in
     let right = append_assoc (big_endian 4 (length y)) y more in
     let numbers = big_endian-begins 4 (length x) (length y) (x ++ rest) (y ++ more) short_x short_y (sym left ∙ is ∙ right) in
     append-same_length x y rest more numbers.0 numbers.1
 
-framed_some : (content rest : List ℕ) → [] ≡ framed content ++ rest → ⊥
+pub framed_some : (content rest : List ℕ) → [] ≡ framed content ++ rest → ⊥
 framed_some content rest is = absurd (omega (arith, ap length is, length-append (framed content) rest, length-framed content))
 
 pub same_block : (a b : Contents) → AreShort a → AreShort b → block_of a ≡ block_of b → a ≡ b

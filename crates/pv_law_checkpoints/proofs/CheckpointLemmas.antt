@@ -15,7 +15,8 @@ use Rattle.pv_format.specs.Journal.{records_of, AreShort}
 use Rattle.pv_law_journal.proofs.SizeLemmas.{end_of-size}
 use Rattle.pv_law_checkpoints.specs.Roots.{fields_of, other_root, gate_at, number_at, place_at, size_at, IsRoot, IsInForce, IsSameRoot}
 use Rattle.pv_law_checkpoints.specs.TwoAreas.{block_of, end_at, greatest_place, HasBlock, IsLog}
-use Rattle.pv_law_checkpoints.specs.Stages.{Standing, standing_at, done, shut, Part, storing, closing, naming, opening, MayLeave, MayLeaveInAll, IsUnderWay, left_by, free_place, writes_at, writes, Holds, IsNamed, IsMade, IsNext, IsLeft, LeadsOn, made_by, IsBlockPlace, IsPacked, parts_of, made_by_all}
+use Rattle.pv_format.specs.Checkpoint.{Standing, done, shut, Part, storing, closing, naming, opening, MayLeave, MayLeaveInAll, left_by, parts_of}
+use Rattle.pv_law_checkpoints.specs.Stages.{standing_at, IsUnderWay, free_place, writes_at, writes, Holds, IsNamed, IsMade, IsNext, IsLeft, LeadsOn, made_by, IsBlockPlace, IsPacked, made_by_all}
 use Rattle.pv_law_checkpoints.proofs.Blocks.{block_size, records_size}
 use Rattle.pv_law_checkpoints.proofs.LogLemmas.{extent, end_within, log_kept}
 use Rattle.pv_law_checkpoints.proofs.RootLemmas.{root_kept, other_is, other_is_root, other_twice, IsRoot-le, gate_before, number_behind_gate, place_behind_gate, size_behind_gate, starts_kept}
@@ -203,7 +204,7 @@ module _ (at place : ℕ) (packed later : Contents) (bytes : List ℕ) (next : I
       let held = new_block_kept closing at place packed later bytes next o 1 (omega arith) (omega arith) made torn next.made.0 in
       (kept.1, next_from closing at place packed later bytes next naming made kept.0 kept.1 (held, λ opened. absurd (omega (arith, gate, opened))))
 
-length-fields : (number place size : ℕ) → length (fields_of number place size) ≡ 24
+pub length-fields : (number place size : ℕ) → length (fields_of number place size) ≡ 24
 length-fields number place size =
     omega (
       arith,

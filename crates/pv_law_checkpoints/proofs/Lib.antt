@@ -7,4 +7,4 @@ pub mod LogLemmas
 pub mod OneAnswer
 pub mod RootLemmas
 pub mod Slices
-mod WorkedLemmas
+pub mod WorkedLemmas

@@ -4,7 +4,8 @@ use Rattle.std.proofs.lemmas.List.Elements.{All-nil, All-cons}
 use Rattle.pv_base.specs.BigEndian.{big_endian, number_of}
 use Rattle.pv_format.specs.Journal.{AreShort}
 use Rattle.pv_law_checkpoints.specs.Roots.{place_at}
-use Rattle.pv_law_checkpoints.specs.Stages.{standing_at, parts_of, made_by_all, free_place}
+use Rattle.pv_format.specs.Checkpoint.{parts_of}
+use Rattle.pv_law_checkpoints.specs.Stages.{standing_at, made_by_all, free_place}
 use Rattle.pv_law_checkpoints.specs.TwoAreas.{block_of, end_at, IsLog, formatted}
 use Rattle.pv_law_checkpoints.specs.Worked.{begun, prepared, committed, three, appended, packed_once, packed_twice}
 

@@ -5,7 +5,8 @@ ghost use Rattle.pv_base.specs.declared.mode.Mode.{Mode};
 ghost use Rattle.pv_disk_model.specs.Disk.{Torn};
 ghost use Rattle.pv_disk_model.specs.Size.{Contents, size_of};
 ghost use Rattle.pv_law_checkpoints.specs.Roots.{gate_at, number_at, other_root, place_at};
-ghost use Rattle.pv_law_checkpoints.specs.Stages.{IsBlockPlace, IsLeft, IsNext, IsPacked, IsUnderWay, LeadsOn, MayLeave, MayLeaveInAll, Part, Standing, free_place, left_by, made_by, made_by_all, parts_of, shut, standing_at, storing, writes, writes_at};
+ghost use Rattle.pv_format.specs.Checkpoint.{MayLeave, MayLeaveInAll, Part, Standing, left_by, parts_of, shut, storing};
+ghost use Rattle.pv_law_checkpoints.specs.Stages.{IsBlockPlace, IsLeft, IsNext, IsPacked, IsUnderWay, LeadsOn, free_place, made_by, made_by_all, standing_at, writes, writes_at};
 ghost use Rattle.pv_law_checkpoints.specs.TwoAreas.{IsLog, block_of, end_at};
 
 /// A log within the limit whose number can be raised is ready for a checkpoint. Each part of it makes what the next one needs, and the last a log of the same

@@ -4,7 +4,8 @@ ghost use Rattle.pv_base.specs.Answer.{HasOneAnswer};
 ghost use Rattle.pv_disk_model.specs.Size.{Contents};
 ghost use Rattle.pv_law_checkpoints.specs.LogContents.{log_contents_of};
 ghost use Rattle.pv_law_checkpoints.specs.Roots.{place_at};
-ghost use Rattle.pv_law_checkpoints.specs.Stages.{Standing, free_place, made_by_all, parts_of, standing_at};
+ghost use Rattle.pv_format.specs.Checkpoint.{Standing, parts_of};
+ghost use Rattle.pv_law_checkpoints.specs.Stages.{free_place, made_by_all, standing_at};
 ghost use Rattle.pv_law_checkpoints.specs.TwoAreas.{IsCheckpointed, IsLog, IsNotOurs, block_of, end_at, formatted};
 ghost use Rattle.pv_law_checkpoints.specs.Worked.{appended, packed_once, packed_twice, three};
 

@@ -1,0 +1,11 @@
+pub mod Appending
+pub mod Armed
+pub mod Checkpointing
+pub mod CkptLog
+pub mod CkptModel
+pub mod Lending
+pub mod Opening
+pub mod Packing
+pub mod Reading
+pub mod Roots
+pub mod Writing

@@ -1,0 +1,4 @@
+use Rattle.pv_ckpt_tests.proofs.crash_tests.add_all.Given as goal
+
+abbrev pub invariant-loop : goal.invariant-loop
+invariant-loop g l = g.L.Log.model.is_intact l.log

@@ -1,0 +1,7 @@
+//! The tests of pv_ckpt.
+#![tactic(auto)]
+
+#[cfg(test)]
+mod crash_tests;
+#[cfg(test)]
+mod tests;
