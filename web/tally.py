@@ -1,5 +1,5 @@
 """What follows from the lines of a run and is printed nowhere: which messages are fresh, which sites are up, which faults are armed, and which transaction has which
-program. `docs/SEMANTICS.md` says how.
+program and replies. `docs/SEMANTICS.md` says how.
 """
 
 import re

@@ -52,6 +52,8 @@ function actInWords(moment, messages) {
     case "cut":
     case "fail":
       return `a fault is armed at the disk of site ${moment.site}`;
+    case "checkpoint":
+      return `site ${moment.site} writes its log anew, packed`;
     case "mend":
       return `the disk of site ${moment.site} is mended`;
     default:

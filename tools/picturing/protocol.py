@@ -95,6 +95,8 @@ class Site:
         self.length = HEADER_BYTES + RECORD_BYTES + EPOCH_BYTES
         self.greatest_epoch = 1
         self.arm = None
+        # Whether the gate of the root that isn't in force is 1: it is from the first checkpoint on that is done.
+        self.other_open = False
         self.begin(1)
 
     def begin(self, epoch):
@@ -402,6 +404,18 @@ class Happening:
     unsettled: Optional[dict] = None
 
 
+def pack_leaves_open(other_open, call, mode):
+    """Whether the other root's gate is 1 after a fault in this call of a checkpoint: before the gate is closed it is as it was, and once the new root is open it is that of
+    the root which was in force."""
+    closing = 3 if other_open else None
+    opening = 7 if other_open else 5
+    if call < 3:
+        return other_open
+    if closing is not None and call < 5:
+        return mode == "lost"
+    return call >= opening and mode == "kept"
+
+
 class World:
     """All sites, every message that was sent, those that are fresh, and the order of lock points."""
 
@@ -438,6 +452,20 @@ class World:
             self.sent.append(message)
             self.fresh[message.number] = True
         return deed.lines, deed.sends
+
+    def pack(self, site):
+        """The calls of a checkpoint, or what an armed fault leaves of them: the lines."""
+        calls = 8 if site.other_open else 6
+        if not site.arm or site.arm[0] > calls:
+            if site.arm:
+                site.arm = (site.arm[0] - calls, *site.arm[1:])
+            site.other_open = True
+            return []
+        call, mode, line = site.arm
+        site.other_open = pack_leaves_open(site.other_open, call, mode)
+        site.arm = None
+        site.end()
+        return [f"{line} {site.number}"]
 
     def break_off(self, site, deed):
         """The site's armed fault fires."""
@@ -538,8 +566,11 @@ class World:
         return Happening()
 
     def do_checkpoint(self, event):
-        """A journal is written anew, which changes no record. How many calls that makes isn't known here, so no fault fires in it."""
-        return Happening([] if self.sites[event.site].is_up else [f"down {event.site}"])
+        """A log is written anew, packed, which changes no record."""
+        site = self.sites[event.site]
+        if not site.is_up:
+            return Happening([f"down {event.site}"])
+        return Happening(self.pack(site))
 
     def do_sent(self, event):
         """The messages."""

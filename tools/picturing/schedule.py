@@ -12,7 +12,7 @@ NAME = re.compile(r"[a-z][a-z0-9_]{0,15}\Z")
 MODES = ("lost", "kept", "torn")
 SITE, MESSAGE, AMOUNT, CALL, MODE, VALUE, NEW_NAME, SITES, BYTES, TEXT = range(10)
 
-# The words of a line behind its first one. An event `checkpoint` writes a journal anew, where the program has it.
+# The words of a line behind its first one, in each form that it may have.
 FORMS = {
     "sites": [(SITES,)],
     "journal": [(BYTES,)],

@@ -24,11 +24,11 @@ const USAGE: &[u8] = b"usage: polydb run | json | make N | big N | show\n";
 ///
 /// - `run` reads a schedule from the source to its end, runs it, and writes each event's lines when the event is done; `json` does the same with
 ///   each line as a JSON object. Takes time in proportion to the input, what is printed and what the events send and touch. At [`Status::Done`] the
-///   bay is given the disks on which the sites kept their journals, each as the run left it, to keep.
+///   bay is given the disks on which the sites kept their logs, each as the run left it, to keep.
 /// - `make N` writes the long schedule of this number, and `big N` makes it, runs it, and writes the summary of what it prints. Neither reads
 ///   anything.
-/// - `show` reads a live script, with or without clients, looks at the bay's disks, and writes of each site what its journal holds and how that shows
-///   the site's items. It changes no disk. Takes time in proportion to the input and the journals, and to the sites times the items.
+/// - `show` reads a live script, with or without clients, looks at the bay's disks, and writes of each site what its log holds and how that shows
+///   the site's items. It changes no disk. Takes time in proportion to the input and the logs, and to the sites times the items.
 ///
 /// The status says how it ended. After [`Status::WriteFault`] and [`Status::NoMemory`] the sink has taken a beginning of what was to be written.
 pub fn polydb<R: Source, W: Sink, B: Bay>(

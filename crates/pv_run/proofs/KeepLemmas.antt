@@ -14,7 +14,7 @@ use Rattle.pv_protocol.specs.Run.{run, transitions_of, world_after}
 use Rattle.pv_protocol.specs.State.{Setup, Site}
 use Rattle.pv_protocol.specs.World.{World, opening}
 use Rattle.pv_script.specs.declared.schedule.Event as code
-use Rattle.pv_world.specs.Disks.{HoldSites, IsJournalOf}
+use Rattle.pv_world.specs.Disks.{HoldSites, IsLogOfSite}
 use Rattle.pv_run.proofs.RunLemmas.{after_events, events_of, setup_for, world_at}
 use Rattle.pv_run.specs.KeptDisks.{KeepsSites, last_world}
 
@@ -54,7 +54,7 @@ pub record EndsIn (front : List MemState) (disk : MemState) (sites : List Site) 
   pub last : Site
   pub is : sites ≡ before ++ last ∷ []
   pub hold : HoldSites front before
-  pub journal : IsJournalOf last.records disk.image.content
+  pub journal : IsLogOfSite last disk.image.content
 
 pub hold-split : (front : List MemState) (disk : MemState) (sites : List Site) → HoldSites (front ++ disk ∷ []) sites → EndsIn front disk sites
 hold-split [] disk [] hold = absurd hold
@@ -96,14 +96,14 @@ module _ {W : Type 0} (M : BayModel W) where
 
   -- The disk of the next site was given to it.
   pub keeps-next : (old mid new : W) (front : List Site) (last : Site) (bytes : List ℕ) → KeepsSites M old mid front → KeepsDisk M mid new (length front) bytes
-      → IsJournalOf last.records bytes → KeepsSites M old new (front ++ last ∷ [])
+      → IsLogOfSite last bytes → KeepsSites M old new (front ++ last ∷ [])
   keeps-next old mid new front last bytes keeps takes journal = record {
     kept = λ tells n site is.
         elim (eqb_tells n (length front)) [
           | inl here ↦ (
             bytes,
             ap (λ (m : ℕ). (M.berth new m).kept) here.1 ∙ takes.kept (keeps.tells ∙ tells),
-            subst (λ (s : Site). IsJournalOf s.records bytes) (at-last front last site (subst (λ (m : ℕ). slice_get (front ++ last ∷ []) m ≡ Some site) here.1 is)) journal,
+            subst (λ (s : Site). IsLogOfSite s bytes) (at-last front last site (subst (λ (m : ℕ). slice_get (front ++ last ∷ []) m ≡ Some site) here.1 is)) journal,
           )
           | inr apart ↦
               let before = keeps.kept tells n site (in-front front last site n is apart.1) in

@@ -45,7 +45,7 @@ module _ {W B : Type 0} (sink : sinks.Ghosts W) (M : BayModel B) (form : Form) (
     pub answered : Answers sink (output_of form) (output_within form) input status before after
     -- Whatever the answer to the input is, it gave up or ended with the status of that, and wrote a beginning of it. Where that is empty, no write has failed.
     pub exact : (answer : Status) (output : List ℕ) → IsRunAnswer form input answer output → GivesUpOr sink status answer output before after
-    -- Where it is done the bay keeps a disk for each site of the run's last world, which holds a journal of the site's records there.
+    -- Where it is done the bay keeps a disk for each site of the run's last world, which holds the site's log there.
     pub kept : status ≡ Done → (schedule : Schedule) → IsSchedule input schedule → KeepsSites M old new (last_world schedule).sites
 
 -- How `run` and `json` end: as the text does that was read, or with why none was.

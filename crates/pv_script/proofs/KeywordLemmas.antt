@@ -11,7 +11,7 @@ use Rattle.pv_base.specs.declared.limits.TheConstants.{MAX_JOURNAL, MAX_SITES, M
 use Rattle.pv_model.specs.LineForms.{Script, scheduled, live, Field, number, site, value, name, program, line_forms, forms_of, takes_program}
 use Rattle.pv_script.specs.Keywords.{keyword_beside, command_word, command_forms}
 use Rattle.pv_script.specs.declared.keyword.Command as code
-use Rattle.pv_script.specs.declared.keyword.Command.TheVariants.{Deliver, Pump, Lose, Drop, Tick, Stop, Start, Cut, Fail, Mend, Sent, Report, Total}
+use Rattle.pv_script.specs.declared.keyword.Command.TheVariants.{Deliver, Pump, Lose, Drop, Tick, Stop, Start, Cut, Fail, Mend, Checkpoint, Sent, Report, Total}
 
 -- ---- the forms of each word
 
@@ -27,6 +27,7 @@ forms-command Start = refl
 forms-command Cut = refl
 forms-command Fail = refl
 forms-command Mend = refl
+forms-command Checkpoint = refl
 forms-command Sent = refl
 forms-command Report = refl
 forms-command Total = refl
@@ -42,6 +43,7 @@ some-command Start none = cc
 some-command Cut none = cc
 some-command Fail none = cc
 some-command Mend none = cc
+some-command Checkpoint none = cc
 some-command Sent none = cc
 some-command Report none = cc
 some-command Total none = cc
@@ -58,6 +60,7 @@ plain-command Start = refl
 plain-command Cut = refl
 plain-command Fail = refl
 plain-command Mend = refl
+plain-command Checkpoint = refl
 plain-command Sent = refl
 plain-command Report = refl
 plain-command Total = refl
@@ -80,6 +83,7 @@ no_declaration Start = refl
 no_declaration Cut = refl
 no_declaration Fail = refl
 no_declaration Mend = refl
+no_declaration Checkpoint = refl
 no_declaration Sent = refl
 no_declaration Report = refl
 no_declaration Total = refl

@@ -10,7 +10,7 @@ use Rattle.pv_script.specs.declared.keyword.Command as code_command
 use Rattle.pv_script.specs.declared.keyword.Keyword.TheVariants.{Sites, Journal, Item, Submit, Query, Command}
 use Rattle.pv_script.specs.declared.keyword.LiveKeyword as code_live
 use Rattle.pv_script.specs.declared.keyword.LiveKeyword.TheVariants as live_word
-use Rattle.pv_script.specs.declared.keyword.Command.TheVariants.{Deliver, Pump, Lose, Drop, Tick, Stop, Start, Cut, Fail, Mend, Sent, Report, Total}
+use Rattle.pv_script.specs.declared.keyword.Command.TheVariants.{Deliver, Pump, Lose, Drop, Tick, Stop, Start, Cut, Fail, Mend, Checkpoint, Sent, Report, Total}
 
 abbrev pub command_word : code_command.Command → List ℕ
 command_word Deliver = codes "deliver"
@@ -23,6 +23,7 @@ command_word Start = codes "start"
 command_word Cut = codes "cut"
 command_word Fail = codes "fail"
 command_word Mend = codes "mend"
+command_word Checkpoint = codes "checkpoint"
 command_word Sent = codes "sent"
 command_word Report = codes "report"
 command_word Total = codes "total"
@@ -39,6 +40,7 @@ command_forms Start = (site ∷ []) ∷ []
 command_forms Cut = (site ∷ number 1 MAX_CALL ∷ mode ∷ []) ∷ []
 command_forms Fail = (site ∷ number 1 MAX_CALL ∷ mode ∷ []) ∷ []
 command_forms Mend = (site ∷ []) ∷ []
+command_forms Checkpoint = (site ∷ []) ∷ []
 command_forms Sent = [] ∷ []
 command_forms Report = [] ∷ []
 command_forms Total = [] ∷ []

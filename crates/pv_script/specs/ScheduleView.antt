@@ -4,7 +4,7 @@ use Rattle.pv_base.specs.Catalog.{Declared}
 use Rattle.pv_model.specs.Check.{IsPlan}
 use Rattle.pv_model.specs.Events as model
 use Rattle.pv_script.specs.declared.schedule.Event.{Event}
-use Rattle.pv_script.specs.declared.schedule.Event.TheVariants.{Submit, Deliver, Pump, Lose, Drop, Tick, Stop, Start, Arm, Mend, Sent, Report, Total}
+use Rattle.pv_script.specs.declared.schedule.Event.TheVariants.{Submit, Deliver, Pump, Lose, Drop, Tick, Stop, Start, Arm, Mend, Checkpoint, Sent, Report, Total}
 use Rattle.pv_script.specs.declared.schedule.Schedule.{Schedule}
 
 abbrev pub event_of : Event → model.Event
@@ -18,6 +18,7 @@ event_of (Stop site) = model.stop site.0
 event_of (Start site) = model.start site.0
 event_of (Arm site k mode stop) = model.arm site.0 k mode stop
 event_of (Mend site) = model.mend site.0
+event_of (Checkpoint site) = model.checkpoint site.0
 event_of Sent = model.sent
 event_of Report = model.report
 event_of Total = model.total

@@ -48,6 +48,7 @@ pub fn event_in(command: Command, args: &[&[u8]], sites: u8) -> Result<Event, Li
         Command::Cut => arm_in(args, sites, true),
         Command::Fail => arm_in(args, sites, false),
         Command::Mend => Ok(Event::Mend(site_alone(args, sites)?)),
+        Command::Checkpoint => Ok(Event::Checkpoint(site_alone(args, sites)?)),
         Command::Sent => {
             nothing_in(args)?;
             Ok(Event::Sent)

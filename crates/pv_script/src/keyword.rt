@@ -43,6 +43,8 @@ pub enum Command {
     Fail,
     /// `mend`
     Mend,
+    /// `checkpoint`
+    Checkpoint,
     /// `sent`
     Sent,
     /// `report`
@@ -71,7 +73,7 @@ pub enum LiveKeyword {
 }
 
 // Each word of schedules with what it is.
-const KEYWORDS: [(&[u8], Keyword); 18] = [
+const KEYWORDS: [(&[u8], Keyword); 19] = [
     (b"sites", Keyword::Sites),
     (b"journal", Keyword::Journal),
     (b"item", Keyword::Item),
@@ -87,6 +89,7 @@ const KEYWORDS: [(&[u8], Keyword); 18] = [
     (b"cut", Keyword::Command(Command::Cut)),
     (b"fail", Keyword::Command(Command::Fail)),
     (b"mend", Keyword::Command(Command::Mend)),
+    (b"checkpoint", Keyword::Command(Command::Checkpoint)),
     (b"sent", Keyword::Command(Command::Sent)),
     (b"report", Keyword::Command(Command::Report)),
     (b"total", Keyword::Command(Command::Total)),

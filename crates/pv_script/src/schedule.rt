@@ -53,6 +53,8 @@ pub enum Event {
     },
     /// No write or sync of the site is to stop or to fail any more.
     Mend(SiteId),
+    /// A site writes its log anew, packed.
+    Checkpoint(SiteId),
     /// A list of the messages.
     Sent,
     /// A report of the transactions and of all items.

@@ -1,6 +1,8 @@
 // What no clause says: that calls succeed, what texts say to one who reads them, and how a refusal is printed.
 use pv_base::{ItemId, MAX_JOURNAL, SiteId};
-use pv_script::{CatalogText, Event, LineCause, MAX_SCHEDULE, Schedule, ScriptError, make, read_schedule};
+use pv_script::{
+    CatalogText, Event, LineCause, MAX_SCHEDULE, Schedule, ScriptError, make, read_schedule,
+};
 use std::process::Abort;
 use std::test::Fail;
 

@@ -1,4 +1,5 @@
-pub mod ItemLemmas
+pub mod FoundLemmas
+mod ItemLemmas
 pub mod ReadLemmas
 pub mod RestLemmas
 pub mod ShowLemmas

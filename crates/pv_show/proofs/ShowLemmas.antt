@@ -12,11 +12,10 @@ use Rattle.pv_journal.specs.Opening.{contents_in, place_in}
 use Rattle.pv_journal.specs.Reading.{LooksBy}
 use Rattle.pv_disk_model.specs.Calls.{OnlyReads}
 use Rattle.pv_disk_model.specs.DiskModel.{DiskModel}
-use Rattle.pv_format.specs.Journal.{IsJournal, IsNotOurs}
 use Rattle.pv_show.specs.Bays.{ReadsDisk}
 use Rattle.pv_show.specs.LookText.{IsToldOfLook}
 use Rattle.pv_show.specs.Showing.{ShowsFirst, ShowsSite}
-use Rattle.pv_show.specs.SiteText.{journal, no_journal}
+use Rattle.pv_show.specs.SiteText.{IsFoundIn, log, no_log}
 use Rattle.pv_show.proofs.ReadLemmas.{failure-counted}
 
 -- What a look answers.
@@ -39,12 +38,12 @@ module _ {B V : Type 0} (M : BayModel B) (D : DiskModel V) where
   -- What is told of a look at the disk is told of the site.
   pub site-shown : (catalog : Declared) (old new : B) (site : ℕ) (taken given : V) (read : ReadsDisk M D old new site taken given) (looked : Looked) (part : List ℕ)
       → LooksBy D taken given looked
-      → ((bytes : List ℕ) → D.content taken ≡ Some bytes → Answers (λ contents. IsJournal contents bytes) (IsNotOurs bytes) contents_in place_in looked)
+      → ((bytes : List ℕ) → D.content taken ≡ Some bytes → Answers (λ contents. IsFoundIn bytes (log contents)) (λ place. IsFoundIn bytes (no_log place)) contents_in place_in looked)
       → IsToldOfLook catalog site looked part → ShowsSite M D catalog old new site part
   site-shown catalog old new site taken given read (Ok contents) part looks answer told =
-      record { taken = taken; given = given; disk = read; says = inl (journal (contents_in contents), told, (λ bytes is. (answer bytes is).given), looks.1) }
+      record { taken = taken; given = given; disk = read; says = inl (log (contents_in contents), told, (λ bytes is. (answer bytes is).given), looks.1) }
   site-shown catalog old new site taken given read (Err (NotOurs place)) part looks answer told =
-      record { taken = taken; given = given; disk = read; says = inl (no_journal place, told, (λ bytes is. (answer bytes is).refused), looks.1) }
+      record { taken = taken; given = given; disk = read; says = inl (no_log place, told, (λ bytes is. (answer bytes is).refused), looks.1) }
   site-shown catalog old new site taken given read (Err Failed) part looks answer told =
       record { taken = taken; given = given; disk = read; says = inr (told, failure-counted M D old new site taken given read looks.1) }
   site-shown catalog old new site taken given read (Err NoMemory) part looks answer told = absurd told

@@ -1,25 +1,29 @@
 -- What is told of a site, by what is found on its disk.
-use Rattle.std.specs.Prelude.{◌≡◌, ◌⊎◌, ℕ, List, ◌++◌, length, flat_map, codes, decimal, Option, Some, None}
+use Rattle.std.specs.Prelude.{◌≡◌, ◌⊎◌, ℕ, List, ◌++◌, length, flat_map, codes, decimal, take, MatchBool, Option, Some, None}
+use Rattle.std.specs.Str.{bytes_eq}
 use Rattle.pv_base.specs.Catalog.{Declared}
 use Rattle.pv_format.specs.Contents.{IsFirstBadContent, SpellRecords, greatest_epoch}
 use Rattle.pv_format.specs.Record.{Record}
 use Rattle.pv_disk_model.specs.Size.{Contents}
 use Rattle.pv_format.specs.Journal.{IsJournal, IsNotOurs}
+use Rattle.pv_law_checkpoints.specs.Roots.{start}
+use Rattle.pv_law_checkpoints.specs.TwoAreas as two_areas
+use Rattle.pv_law_checkpoints.specs.TwoAreas.{IsCheckpointed}
 use Rattle.pv_model.specs.ReplyText.{line_feed}
 use Rattle.pv_protocol.specs.LineText.{line_text}
 use Rattle.pv_protocol.specs.Lines.{Line}
 use Rattle.pv_protocol.specs.Shown.{shown}
 use Rattle.pv_store.specs.Refusals.{site_items, too_many_in}
 
--- What is found on a disk: a journal with its contents, or no journal, which shows at a place.
+-- What is found on a disk: a log with its contents, or no log, which shows at a place.
 pub data Found : Type 0 where
-  journal : Contents → Found
-  no_journal : (place : ℕ) → Found
+  log : Contents → Found
+  no_log : (place : ℕ) → Found
 
--- The bytes of the disk are that.
+-- The bytes of the disk are that: of a log in two areas where they begin as such a log does, and else of a journal.
 abbrev pub IsFoundIn : List ℕ → Found → Type 0
-IsFoundIn bytes (journal contents) = IsJournal contents bytes
-IsFoundIn bytes (no_journal place) = IsNotOurs bytes place
+IsFoundIn bytes (log contents) = MatchBool (bytes_eq (take 8 bytes) start) (IsCheckpointed contents bytes) (IsJournal contents bytes)
+IsFoundIn bytes (no_log place) = MatchBool (bytes_eq (take 8 bytes) start) (two_areas.IsNotOurs bytes place) (IsNotOurs bytes place)
 
 -- a line about a site, which ends so
 abbrev pub site_line : ℕ → List ℕ → List ℕ
@@ -56,7 +60,7 @@ records_text catalog site records = text_unless (too_many_in catalog site record
 
 -- What is found on the disk of a site is told by this text: by the records that the contents spell, or by the first content that spells none.
 abbrev pub IsTold : Declared → ℕ → Found → List ℕ → Type 0
-IsTold catalog site (no_journal place) text = text ≡ refusal_text site (codes "not-ours") place
-IsTold catalog site (journal contents) text =
+IsTold catalog site (no_log place) text = text ≡ refusal_text site (codes "not-ours") place
+IsTold catalog site (log contents) text =
     ((records : List Record) × SpellRecords records contents × (text ≡ records_text catalog site records))
     ⊎ ((index : ℕ) × IsFirstBadContent contents index × (text ≡ refusal_text site (codes "bad-record") index))

@@ -1,7 +1,8 @@
-//! What the disks of a bay hold: the records of each site's journal, and the items as they show them.
+//! What the disks of a bay hold: the records of each site's log, and the items as they show them.
 #![tactic(auto)]
 
 mod items;
+mod look;
 mod pieces;
 mod show_error;
 mod site;

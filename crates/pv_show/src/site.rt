@@ -5,14 +5,14 @@ ghost use Rattle.pv_replay.specs.Values.{contents_of, records_of};
 ghost use Rattle.pv_show.specs.Bays.{IsAtRest, OnlyReadsDisks, RisesAtBayFault};
 ghost use Rattle.pv_show.specs.LookText.{IsToldOfLook};
 ghost use Rattle.pv_show.specs.Showing.{ShowsSite};
-ghost use Rattle.pv_show.specs.SiteText.{IsTold, journal, records_text};
+ghost use Rattle.pv_show.specs.SiteText.{IsTold, log, records_text};
 
 use crate::ShowError;
 use crate::items::push_items;
+use crate::look::look;
 use crate::pieces::{push_failure, push_head, push_refusal};
 use pv_base::{Catalog, NoMemory, SiteId};
 use pv_disk::{Bay, BayError, LookError};
-use pv_journal::look;
 use pv_replay::{Past, ReplayError, replay};
 use pv_store::{Store, StoreError};
 use std::alloc::Global;
@@ -62,7 +62,7 @@ fn push_look(
     }
 }
 
-// What the contents of a site's journal tell.
+// What the contents of a site's log tell.
 fn push_contents(
     alloc: Global,
     site: SiteId,
@@ -71,7 +71,7 @@ fn push_contents(
     text: &mut Vec<u8>,
 ) -> Result<(), NoMemory>
     ensures { OnOk result ((part : List ℕ) × (text.new.items ≡ text.old.items ++ part)
-        × IsTold catalog.now site.0 (journal (contents_of contents.now)) part) }
+        × IsTold catalog.now site.0 (log (contents_of contents.now)) part) }
 {
     match replay(alloc, contents) {
         Ok(past) => push_past(alloc, site, catalog, &past, text),
@@ -80,7 +80,7 @@ fn push_contents(
     }
 }
 
-// What the records of a site's journal tell.
+// What the records of a site's log tell.
 fn push_past(
     alloc: Global,
     site: SiteId,

@@ -13,7 +13,7 @@ use std::alloc::Global;
 /// What the disks of all sites of the catalog hold, as text, in the order of the sites. No disk of the bay may be out, and none is afterwards.
 ///
 /// Each disk is handed out, only read, and handed back before the next one is asked for. A disk that fails has a line that says so, and the
-/// others are still shown. Takes time in proportion to the journals, and to the sites times the items.
+/// others are still shown. Takes time in proportion to the logs, and to the sites times the items.
 ///
 /// - [`ShowError::BayFault`]: the bay failed to hand a disk out, and counted that.
 /// - [`ShowError::NoMemory`]: there was no memory.

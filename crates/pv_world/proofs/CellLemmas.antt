@@ -4,14 +4,16 @@ use Rattle.std.specs.Prelude.{All, IfOk, is_some, option_to_list}
 use Rattle.std.proofs.lemmas.Bool.{true≢false}
 use Rattle.std.proofs.lemmas.List.{append-nil}
 use Rattle.std.proofs.lemmas.Option.{none-some}
+use Rattle.pv_format.specs.Checkpoint.{Standing}
+use Rattle.pv_base.proofs.Basics.{Some_inj}
 use Rattle.pv_base.specs.Catalog.{Declared}
 use Rattle.pv_base.specs.Polyvalue.{Case}
 use Rattle.pv_base.specs.declared.txn.TxnId.{TxnId}
 use Rattle.pv_disk.specs.MemDisk.{MemState}
 use Rattle.pv_disk.specs.MemLaws.{mem_model}
 use Rattle.pv_format.specs.Record.{Record}
-use Rattle.pv_journal.specs.JournalModel.{journal_model}
-use Rattle.pv_journal.specs.declared.journal.Journal.{Journal}
+use Rattle.pv_ckpt.specs.CkptModel.{ckpt_model}
+use Rattle.pv_ckpt.specs.declared.ckpt_log.CkptLog.{CkptLog}
 use Rattle.pv_law_events.specs.Replays.{CanBeReplayed}
 use Rattle.pv_protocol.specs.Arms.{Reached, calls_of, fires, reached, record_left}
 use Rattle.pv_protocol.specs.Attempt.{of_step}
@@ -44,13 +46,13 @@ use Rattle.pv_world.specs.declared.cell.Stepped.TheVariants as stepped
 use Rattle.pv_world.specs.declared.cell.Stepped.{Stepped}
 
 -- A cell that is up.
-pub is-up : (catalog : Declared) (n : ℕ) (cell : Cell) (up : SiteState (Journal MemState)) (is : model.Site) → cell ≡ Up up → StandsForSite catalog n cell is
+pub is-up : (catalog : Declared) (n : ℕ) (cell : Cell) (up : SiteState (CkptLog MemState)) (is : model.Site) → cell ≡ Up up → StandsForSite catalog n cell is
     → IsUp catalog n up is
 is-up catalog n cell up is same stands = subst (λ (now : Cell). StandsForSite catalog n now is) same stands
 
-module _ (catalog : Declared) (n : ℕ) (old : SiteState (Journal MemState)) (is : model.Site) (up : IsUp catalog n old is) where
+module _ (catalog : Declared) (n : ℕ) (old : SiteState (CkptLog MemState)) (is : model.Site) (up : IsUp catalog n old is) where
   -- It isn't down.
-  not-down : (X : Type 0) → old.running ≡ None → X
+  pub not-down : (X : Type 0) → old.running ≡ None → X
   not-down X none = absurd (true≢false (sym up.runs ∙ ap (λ (running : Option Running). is_some running) none))
 
   here-same : (running : Running) → here_with old running ≡ record { me = n; setup = setup_of catalog; records = is.records; running = running }
@@ -60,53 +62,53 @@ module _ (catalog : Declared) (n : ℕ) (old : SiteState (Journal MemState)) (is
       ∙ ap (λ (records : List Record). record { me = n; setup = setup_of catalog; records = records; running = running }) up.records)
 
   -- What outlives its memory.
-  old-left : left_by old ≡ record { me = n; catalog = catalog; records = is.records }
+  pub old-left : left_by old ≡ record { me = n; catalog = catalog; records = is.records }
   old-left = λ i. record { me = up.me i; catalog = up.catalog i; records = up.records i }
 
   -- Its journal is as long as its records make it.
-  size-known : old.log.length ≡ journal_bytes is.records
+  pub size-known : old.log.length ≡ journal_bytes is.records
   size-known = by old.running up.runs up.ready.holds ∙ ap journal_bytes up.records
     where
-      by : (running : Option Running) → is_some running ≡ true → HoldsWhatRuns (journal_model mem_model) old.log old.records running
+      by : (running : Option Running) → is_some running ≡ true → HoldsWhatRuns (ckpt_model mem_model) old.log old.records running
           → old.log.length ≡ journal_bytes old.records
       by None none holds = absurd (true≢false (sym none))
       by (Some running) some holds = holds.size
 
   -- A step.
 
-  module _ (rests : Rests) (appends : Appends) (new : SiteState (Journal MemState)) where
+  module _ (rests : Rests) (appends : Appends) (new : SiteState (CkptLog MemState)) where
     -- The site is there with all that the step makes of it.
-    is-done : (answer : Step) (step : model.Step) → HasMade (journal_model mem_model) old new answer step → IsReady (journal_model mem_model) new
+    is-done : (answer : Step) (step : model.Step) → HasMade (ckpt_model mem_model) old new answer step → IsReady (ckpt_model mem_model) new
         → IsDone catalog n (Up new) is (of_step n step)
     is-done answer step made ready =
-        let (armed, waiting, disk) = step-made rests appends is.records is.arm old.log new.log up.ready.intact up.disk step.appended made.log in
+        let (armed, waiting, disk) = step-made rests appends is.records is.standing is.arm old.log new.log up.ready.intact up.disk step.appended made.log in
         record {
           armed = armed;
           waits = waiting;
           stands = record {
-            me = ap (λ (site : SiteState (Journal MemState)). site.me) made.site ∙ up.me;
-            catalog = ap (λ (site : SiteState (Journal MemState)). site.catalog) made.site ∙ up.catalog;
-            records = ap (λ (site : SiteState (Journal MemState)). site.records) made.site
+            me = ap (λ (site : SiteState (CkptLog MemState)). site.me) made.site ∙ up.me;
+            catalog = ap (λ (site : SiteState (CkptLog MemState)). site.catalog) made.site ∙ up.catalog;
+            records = ap (λ (site : SiteState (CkptLog MemState)). site.records) made.site
                 ∙ ap (λ (records : List Record). records ++ option_to_list step.appended) up.records;
-            runs = ap (λ (site : SiteState (Journal MemState)). is_some site.running) made.site;
-            running = ap (λ (site : SiteState (Journal MemState)). site.running) made.site;
+            runs = ap (λ (site : SiteState (CkptLog MemState)). is_some site.running) made.site;
+            running = ap (λ (site : SiteState (CkptLog MemState)). site.running) made.site;
             ready = ready;
             disk = disk;
           };
         }
 
     -- The site has made the step of the definition.
-    pub has-stepped : (input : model.Input) (answer : Step) → Steps (journal_model mem_model) old new old.running input (Ok answer)
-        → IsReady (journal_model mem_model) new → All (IsSpelledFrom old.me) answer.sends.items
+    pub has-stepped : (input : model.Input) (answer : Step) → Steps (ckpt_model mem_model) old new old.running input (Ok answer)
+        → IsReady (ckpt_model mem_model) new → All (IsSpelledFrom old.me) answer.sends.items
         → HasStepped catalog n (Up old) (Up new) is is.running input (stepped.Made answer)
     has-stepped input answer steps ready spelled = by old.running refl steps
       where
-        by : (was : Option Running) → old.running ≡ was → Steps (journal_model mem_model) old new was input (Ok answer)
+        by : (was : Option Running) → old.running ≡ was → Steps (ckpt_model mem_model) old new was input (Ok answer)
             → HasStepped catalog n (Up old) (Up new) is is.running input (stepped.Made answer)
         by None none made = not-down _ none
         by (Some running) at made =
-            let made_so : HasMade (journal_model mem_model) old new answer (site_step (setup_of catalog) n is.records running input) =
-            subst (λ (here : Here). HasMade (journal_model mem_model) old new answer (step_on here input)) (here-same running) made in
+            let made_so : HasMade (ckpt_model mem_model) old new answer (site_step (setup_of catalog) n is.records running input) =
+            subst (λ (here : Here). HasMade (ckpt_model mem_model) old new answer (step_on here input)) (here-same running) made in
             subst (λ (now : Option Running). HasStepped catalog n (Up old) (Up new) is now input (stepped.Made answer)) (sym at ∙ up.running) (
               made_so.answered,
               subst (λ (me : ℕ). All (IsSpelledFrom me) answer.sends.items) up.me spelled,
@@ -117,43 +119,44 @@ module _ (catalog : Declared) (n : ℕ) (old : SiteState (Journal MemState)) (is
     abbrev BreaksOff : model.Step → Type 0
     BreaksOff step =
         ((fired : Arm) × (reached (calls_of (of_step n step)) is.arm ≡ fires fired)
-        × Spells (is.records ++ option_to_list (record_left 0 step.appended fired)) None (Some fired.stops) new.log.disk)
-        ⊎ Spells is.records is.arm None new.log.disk
+        × Spells (is.records ++ option_to_list (record_left 0 step.appended fired)) is.standing None (Some fired.stops) new.log.disk)
+        ⊎ Spells is.records is.standing is.arm None new.log.disk
 
-    breaks-off : (running : Running) (input : model.Input) → Breaks (journal_model mem_model) old new (step_on (here_with old running) input)
+    breaks-off : (running : Running) (input : model.Input) → Breaks (ckpt_model mem_model) old new (step_on (here_with old running) input)
         → BreaksOff (site_step (setup_of catalog) n is.records running input)
     breaks-off running input breaks =
-        let broken : Breaks (journal_model mem_model) old new (site_step (setup_of catalog) n is.records running input) =
-        subst (λ (here : Here). Breaks (journal_model mem_model) old new (step_on here input)) (here-same running) breaks in
-        step-broken rests appends is.records is.arm old.log new.log up.ready.intact up.disk (site_step (setup_of catalog) n is.records running input) broken.log
+        let broken : Breaks (ckpt_model mem_model) old new (site_step (setup_of catalog) n is.records running input) =
+        subst (λ (here : Here). Breaks (ckpt_model mem_model) old new (step_on here input)) (here-same running) breaks in
+        step-broken rests appends is.records is.standing is.arm old.log new.log up.ready.intact up.disk (site_step (setup_of catalog) n is.records running input) broken.log
 
     -- Its memory is outlived by what was there before the step.
-    left-is : (running : Running) (input : model.Input) → Breaks (journal_model mem_model) old new (step_on (here_with old running) input)
+    left-is : (running : Running) (input : model.Input) → Breaks (ckpt_model mem_model) old new (step_on (here_with old running) input)
         → record { me = n; catalog = catalog; records = is.records } ≡ left_by new
-    left-is running input breaks = sym (ap (λ (site : SiteState (Journal MemState)). left_by site) breaks.site ∙ old-left)
+    left-is running input breaks = sym (ap (λ (site : SiteState (CkptLog MemState)). left_by site) breaks.site ∙ old-left)
 
     -- With its disk.
-    up-over : (running : Running) (input : model.Input) → Breaks (journal_model mem_model) old new (step_on (here_with old running) input)
-        → (added : Option Record) (armed : Option Arm) (fired : Option Bool) → Spells (is.records ++ option_to_list added) armed fired new.log.disk
-        → IsUpOver (record { me = n; catalog = catalog; records = is.records }) added armed fired (Up new)
+    up-over : (running : Running) (input : model.Input) → Breaks (ckpt_model mem_model) old new (step_on (here_with old running) input)
+        → (added : Option Record) (armed : Option Arm) (fired : Option Bool) → Spells (is.records ++ option_to_list added) is.standing armed fired new.log.disk
+        → IsUpOver (record { me = n; catalog = catalog; records = is.records }) added is.standing armed fired (Up new)
     up-over running input breaks added armed fired disk = (left-is running input breaks, disk)
 
     -- Nothing more is on the disk.
-    none-more : Spells is.records is.arm None new.log.disk → Spells (is.records ++ option_to_list None) is.arm None new.log.disk
-    none-more disk = subst (λ (all : List Record). Spells all is.arm None new.log.disk) (sym (append-nil is.records)) disk
+    none-more : Spells is.records is.standing is.arm None new.log.disk → Spells (is.records ++ option_to_list None) is.standing is.arm None new.log.disk
+    none-more disk = subst (λ (all : List Record). Spells all is.standing is.arm None new.log.disk) (sym (append-nil is.records)) disk
 
     -- It can be taken from memory.
-    pub can-fall : (input : model.Input) (length : ℕ) → length ≡ old.log.length → Steps (journal_model mem_model) old new old.running input (Err step_error.Fault)
+    pub can-fall : (input : model.Input) (length : ℕ) → length ≡ old.log.length → Steps (ckpt_model mem_model) old new old.running input (Err step_error.Fault)
         → CanBeReplayed (setup_of catalog) n is.records → CanBeReplayed (setup_of catalog) n (site_after_input catalog n is is.running input).records
         → CanFall length (Up new)
     can-fall input length asked steps replayable after = by old.running refl steps
       where
-        from : (running : Running) → Breaks (journal_model mem_model) old new (step_on (here_with old running) input)
+        from : (running : Running) → Breaks (ckpt_model mem_model) old new (step_on (here_with old running) input)
             → CanBeReplayed (setup_of catalog) n (site_after_input catalog n is (Some running) input).records
             → BreaksOff (site_step (setup_of catalog) n is.records running input) → CanFall length (Up new)
         from running breaks then (inl (fired, reaches, disk)) = record {
           left = record { me = n; catalog = catalog; records = is.records };
           added = record_left 0 (site_step (setup_of catalog) n is.records running input).appended fired;
+          standing = is.standing;
           armed = None;
           fired = Some fired.stops;
           over = up-over running input breaks (record_left 0 (site_step (setup_of catalog) n is.records running input).appended fired) None (Some fired.stops) disk;
@@ -163,6 +166,7 @@ module _ (catalog : Declared) (n : ℕ) (old : SiteState (Journal MemState)) (is
         from running breaks then (inr disk) = record {
           left = record { me = n; catalog = catalog; records = is.records };
           added = None;
+          standing = is.standing;
           armed = is.arm;
           fired = None;
           over = up-over running input breaks None is.arm None (none-more disk);
@@ -170,7 +174,7 @@ module _ (catalog : Declared) (n : ℕ) (old : SiteState (Journal MemState)) (is
           replayable = subst (CanBeReplayed (setup_of catalog) n) (sym (append-nil is.records)) replayable;
         }
 
-        by : (was : Option Running) → old.running ≡ was → Steps (journal_model mem_model) old new was input (Err step_error.Fault) → CanFall length (Up new)
+        by : (was : Option Running) → old.running ≡ was → Steps (ckpt_model mem_model) old new was input (Err step_error.Fault) → CanFall length (Up new)
         by None none broke = not-down _ none
         by (Some running) at broke =
             from running broke
@@ -178,56 +182,36 @@ module _ (catalog : Declared) (n : ℕ) (old : SiteState (Journal MemState)) (is
             (breaks-off running input broke)
 
     -- Once it is, the step is broken off.
-    pub has-broken : {E : Type 0} (input : model.Input) (cell : Cell) (result : Result Stepped E)
-        → Steps (journal_model mem_model) old new old.running input (Err step_error.Fault)
-        → ((left : Remains) (added : Option Record) (armed : Option Arm) (fired : Option Bool) → IsUpOver left added armed fired (Up new)
-        → IfOk result (HasFallen left added fired cell))
-        → IfOk result (HasStepped catalog n (Up old) cell is is.running input)
-    has-broken {E = E} input cell result steps fell = by old.running refl steps
+    pub has-broken : (input : model.Input) (cell : Cell) (stops : Bool) → Steps (ckpt_model mem_model) old new old.running input (Err step_error.Fault)
+        → ((left : Remains) (added : Option Record) (standing : Standing) (armed : Option Arm) (fired : Option Bool) → IsUpOver left added standing armed fired (Up new)
+        → HasFallen left added standing fired cell stops)
+        → HasStepped catalog n (Up old) cell is is.running input (stepped.Broke stops)
+    has-broken input cell stops steps fell = by old.running refl steps
       where
-        broken : (running : Running) (fired : Arm) → reached (calls_of (of_step n (site_step (setup_of catalog) n is.records running input))) is.arm ≡ fires fired
-            → (answer : Result Stepped E)
-            → IfOk answer (HasFallen (record { me = n; catalog = catalog; records = is.records })
-            (record_left 0 (site_step (setup_of catalog) n is.records running input).appended fired) (Some fired.stops) cell)
-            → IfOk answer (HasStepped catalog n (Up old) cell is (Some running) input)
-        broken running fired reaches (Err error) has = tt
-        broken running fired reaches (Ok stepped.Down) has = absurd has
-        broken running fired reaches (Ok (stepped.Made answer)) has = absurd has
-        broken running fired reaches (Ok (stepped.Broke stops)) has =
-            record { arm = fired; fires = reaches; kind = (let same : fired.stops ≡ stops = cc in same); stands = has.1 }
+        left : Remains
+        left = record { me = n; catalog = catalog; records = is.records }
 
-        unfired : (running : Running) (answer : Result Stepped E)
-            → IfOk answer (HasFallen (record { me = n; catalog = catalog; records = is.records }) None None cell)
-            → IfOk answer (HasStepped catalog n (Up old) cell is (Some running) input)
-        unfired running (Err error) has = tt
-        unfired running (Ok stepped.Down) has = absurd has
-        unfired running (Ok (stepped.Made answer)) has = absurd has
-        unfired running (Ok (stepped.Broke stops)) has = absurd (none-some stops has.0)
-
-        from : (running : Running) → Breaks (journal_model mem_model) old new (step_on (here_with old running) input)
-            → BreaksOff (site_step (setup_of catalog) n is.records running input)
-            → IfOk result (HasStepped catalog n (Up old) cell is (Some running) input)
+        from : (running : Running) → Breaks (ckpt_model mem_model) old new (step_on (here_with old running) input)
+            → BreaksOff (site_step (setup_of catalog) n is.records running input) → HasStepped catalog n (Up old) cell is (Some running) input (stepped.Broke stops)
         from running breaks (inl (fired, reaches, disk)) =
-            broken running fired reaches result
-            (fell (record { me = n; catalog = catalog; records = is.records }) (record_left 0 (site_step (setup_of catalog) n is.records running input).appended fired) None
-            (Some fired.stops)
-            (up-over running input breaks (record_left 0 (site_step (setup_of catalog) n is.records running input).appended fired) None (Some fired.stops) disk))
+            let added = record_left 0 (site_step (setup_of catalog) n is.records running input).appended fired in
+            let fallen = fell left added is.standing None (Some fired.stops) (up-over running input breaks added None (Some fired.stops) disk) in
+            record { arm = fired; fires = reaches; kind = Some_inj fallen.kind; stands = fallen.stands }
         from running breaks (inr disk) =
-            unfired running result
-            (fell (record { me = n; catalog = catalog; records = is.records }) None is.arm None (up-over running input breaks None is.arm None (none-more disk)))
+            absurd (none-some stops (fell left None is.standing is.arm None (up-over running input breaks None is.arm None (none-more disk))).kind)
 
-        by : (was : Option Running) → old.running ≡ was → Steps (journal_model mem_model) old new was input (Err step_error.Fault)
-            → IfOk result (HasStepped catalog n (Up old) cell is is.running input)
+        by : (was : Option Running) → old.running ≡ was → Steps (ckpt_model mem_model) old new was input (Err step_error.Fault)
+            → HasStepped catalog n (Up old) cell is is.running input (stepped.Broke stops)
         by None none broke = not-down _ none
         by (Some running) at broke =
-            subst (λ (now : Option Running). IfOk result (HasStepped catalog n (Up old) cell is now input)) (sym at ∙ up.running)
+            subst (λ (now : Option Running). HasStepped catalog n (Up old) cell is now input (stepped.Broke stops)) (sym at ∙ up.running)
             (from running broke (breaks-off running input broke))
 
   -- It isn't answered that the site is down.
-  pub not-down-now : (new : SiteState (Journal MemState)) (input : model.Input) → Steps (journal_model mem_model) old new old.running input (Err step_error.Down) → ⊥
+  pub not-down-now : (new : SiteState (CkptLog MemState)) (input : model.Input) → Steps (ckpt_model mem_model) old new old.running input (Err step_error.Down) → ⊥
   not-down-now new input steps = by old.running refl steps
     where
-      by : (was : Option Running) → old.running ≡ was → Steps (journal_model mem_model) old new was input (Err step_error.Down) → ⊥
+      by : (was : Option Running) → old.running ≡ was → Steps (ckpt_model mem_model) old new was input (Err step_error.Down) → ⊥
       by None none made = not-down _ none
       by (Some running) some made = made
 
@@ -248,13 +232,13 @@ module _ (catalog : Declared) (n : ℕ) (old : SiteState (Journal MemState)) (is
               catalog = ap (λ (was : Remains). was.catalog) leaves ∙ up.catalog;
               records = ap (λ (was : Remains). was.records) leaves ∙ up.records;
               down = refl;
-              disk = subst (Spells is.records is.arm None) (sym same) up.disk;
+              disk = subst (Spells is.records is.standing is.arm None) (sym same) up.disk;
             },
           )
 
 -- What is read.
 
-module _ (catalog : Declared) (n : ℕ) (up : SiteState (Journal MemState)) (is : model.Site) (stands : IsUp catalog n up is) where
+module _ (catalog : Declared) (n : ℕ) (up : SiteState (CkptLog MemState)) (is : model.Site) (stands : IsUp catalog n up is) where
   -- A site that is up shows its item as the definitions read it.
   pub reads-up : (item : ℕ) (result : Shown) → Shows up up.running item result → reading_in n result ≡ reading_at n is.running item (shown catalog is.records item)
   reads-up item result shows = by up.running refl shows

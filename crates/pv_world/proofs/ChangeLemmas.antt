@@ -1,10 +1,14 @@
 -- What comes of an event that changes one site and prints one line.
-use Rattle.std.proofs.Common.{◌≡◌, ℕ, ◌<◌, Bool, true, false, Option, Some, None, List, [], ◌∷◌, ◌++◌, length, refl, sym, ap, subst, ◌∙◌}
-use Rattle.std.specs.Prelude.{get_or, Ok}
+use Rattle.std.proofs.Common.{◌≡◌, ℕ, ◌<◌, ◌≤◌, Bool, true, false, arith, Option, Some, None, List, [], ◌∷◌, ◌++◌, length, refl, sym, ap, subst, ◌∙◌}
+use Rattle.std.specs.Prelude.{get_or, Ok, nat_lt, if◌then◌else◌}
 use Rattle.std.specs.Vec.{with_item}
-use Rattle.std.proofs.lemmas.List.{map-append}
+use Rattle.std.proofs.lemmas.Bool.Decides.{nat_tests}
+use Rattle.std.proofs.lemmas.List.{append-nil, map-append}
+use Rattle.pv_format.specs.Checkpoint.{greatest_number}
 use Rattle.pv_law_events.specs.Replays.{AreReplayable, CanBeReplayed}
-use Rattle.pv_protocol.specs.Attempt.{Attempt, Begun, halted, opened}
+use Rattle.pv_protocol.specs.Arms.{attempted}
+use Rattle.pv_law_world.specs.Ranges.{IsWorldInRange}
+use Rattle.pv_protocol.specs.Attempt.{Attempt, Begun, at_once, attempts, halted, opened, packed, of_checkpoint}
 use Rattle.pv_protocol.specs.Lines as protocol
 use Rattle.pv_protocol.specs.State as state
 use Rattle.pv_protocol.specs.State.{Running}
@@ -18,11 +22,13 @@ use Rattle.pv_site.specs.Values.{input_of}
 use Rattle.pv_site.specs.declared.input.Input.{Input}
 use Rattle.pv_world.proofs.GiveLemmas.{broken-off, comes-by, site-given, site-opened}
 use Rattle.pv_world.proofs.StandLemmas.{site-stands, stands-with-site}
-use Rattle.pv_world.proofs.StartLemmas.{halted-down, halted-up, opened-done, opened-down, opened-up, with-own}
-use Rattle.pv_world.specs.Cells.{CanStart, HasBegun, HasEnded, HasStarted, HasStopped, TakesInput, broken_site, completed_site, start_attempt, start_line}
+use Rattle.pv_world.proofs.StartLemmas.{halted-down, halted-up, opened-done, opened-down, opened-up, quiet, with-own}
+use Rattle.pv_world.specs.Cells.{CanPack, CanStart, HasBegun, HasEnded, HasPacked, HasStarted, HasStopped, TakesInput, broken_site, completed_site, packed_lines, start_attempt, start_line}
 use Rattle.pv_world.specs.Stands.{Stands, StandsForSite}
 use Rattle.pv_world.specs.Steps.{CanGive, Comes, IsSameBeside, lines_of}
 use Rattle.pv_world.specs.declared.cell.Cell.{Cell}
+use Rattle.pv_world.specs.declared.cell.Packed.{Packed}
+use Rattle.pv_world.specs.declared.cell.Packed.TheVariants as packed_as
 use Rattle.pv_world.specs.declared.cell.Start.{Start}
 use Rattle.pv_world.specs.declared.cell.Start.TheVariants.{Up, Started, Full, Spent, Broke}
 use Rattle.pv_world.specs.declared.world.World.{World}
@@ -35,16 +41,26 @@ with_cell world n cell = record world { cells = with_item world.cells n cell }
 pub pushed : (before after : List Line) (line : Line) → after ≡ before ++ line ∷ [] → lines_of after ≡ lines_of before ++ line_of line ∷ []
 pushed before after line is = ap lines_of is ∙ map-append line_of before (line ∷ [])
 
--- The event prints this line, and the world in memory stands for the one after it.
-pub record Ends (new : World) (begun : Begun) (line : protocol.Line) : Type 0 where
+-- The event prints these lines, and the world in memory stands for the one after it.
+pub record EndsIn (new : World) (begun : Begun) (lines : List protocol.Line) : Type 0 where
   pub next : model.World
-  pub ends : ended begun ≡ (line ∷ [], next)
+  pub ends : ended begun ≡ (lines, next)
   pub stands : Stands new next
+
+-- It prints this line.
+abbrev pub Ends : World → Begun → protocol.Line → Type 0
+Ends new begun line = EndsIn new begun (line ∷ [])
 
 pub ends-come : {X : Type 0} (old new : World) (before after : List Line) (begun : Begun) (line : Line) (x : X) → Ends new begun (line_of line) → IsSameBeside old new
     → after ≡ before ++ line ∷ [] → Comes {X = X} old new before after begun (Ok x)
 ends-come {X} old new before after begun line x end same more =
     comes-by {X = X} old new before after begun (line_of line ∷ []) end.next (Ok x) end.ends (end.stands, same, pushed before after line more)
+
+-- No line more.
+pub silent-ends-come : {X : Type 0} (old new : World) (lines : List Line) (begun : Begun) (x : X) → EndsIn new begun [] → IsSameBeside old new
+    → Comes {X = X} old new lines lines begun (Ok x)
+silent-ends-come {X} old new lines begun x end same =
+    comes-by {X = X} old new lines lines begun [] end.next (Ok x) end.ends (end.stands, same, sym (append-nil (lines_of lines)))
 
 module _ (old : World) (is : model.World) (stands : Stands old is) (n : ℕ) (within : n < old.catalog.sites) (cell : Cell) (at : cell ≡ get_or old.cells.items n cell) where
   -- The cell is the site of its number.
@@ -136,6 +152,64 @@ module _ (old : World) (is : model.World) (stands : Stands old is) (n : ℕ) (wi
     pub start-ends : (answer : Start) → HasStarted old.catalog n cell new (site_at is n) (site_at is n).running answer
         → Ends (with_cell old n new) (opened (setup_of old.catalog) is n (site_at is n).running) (start_line n answer)
     start-ends answer started = started-ends (site_at is n).running answer refl started
+
+  -- A checkpoint.
+
+  pub own-can-pack : AreReplayable (setup_of old.catalog) is → IsWorldInRange (setup_of old.catalog) is → CanPack cell
+  own-can-pack replayable range = record {
+    catalog = old.catalog;
+    n = n;
+    is = site_at is n;
+    stands = own-stands;
+    room = (range.sites n within).room;
+    replayable = replayable n within;
+  }
+
+  module _ (new : Cell) (running : Running) (memory : (site_at is n).running ≡ Some running) where
+    abbrev OwnCheckpoint : Attempt
+    OwnCheckpoint = of_checkpoint (site_at is n).standing running
+
+    -- A site that is up begins it, unless the number in force is the greatest.
+    packing : (site_at is n).standing.number < greatest_number → ended (packed is n (site_at is n).running) ≡ ended (attempts is n OwnCheckpoint)
+    packing some =
+        let test : nat_lt (site_at is n).standing.number greatest_number ≡ true = grind (arith, nat_tests, some) in
+        ap (λ (m : Option Running). ended (packed is n m)) memory
+        ∙ ap (λ (b : Bool). ended (if b then attempts is n OwnCheckpoint else at_once (protocol.Line.spent n ∷ []) is)) test
+
+    spending : greatest_number ≤ (site_at is n).standing.number → ended (packed is n (site_at is n).running) ≡ (protocol.Line.spent n ∷ [], is)
+    spending most =
+        let test : nat_lt (site_at is n).standing.number greatest_number ≡ false = grind (arith, nat_tests, most) in
+        ap (λ (m : Option Running). ended (packed is n m)) memory
+        ∙ ap (λ (b : Bool). ended (if b then attempts is n OwnCheckpoint else at_once (protocol.Line.spent n ∷ []) is)) test
+
+    up-packed-ends : (answer : Packed) → HasPacked old.catalog n cell new (site_at is n) (Some running) answer
+        → EndsIn (with_cell old n new) (packed is n (site_at is n).running) (packed_lines n answer)
+    up-packed-ends packed_as.Down has = absurd has
+    up-packed-ends packed_as.Done (some, made) = record {
+      next = with_site is n (completed_site (site_at is n) OwnCheckpoint made.armed);
+      ends = packing some ∙ ap (attempted is n OwnCheckpoint) made.waits
+          ∙ ap (λ (world : model.World). ([], world)) (quiet is n (completed_site (site_at is n) OwnCheckpoint made.armed));
+      stands = put-stands new (completed_site (site_at is n) OwnCheckpoint made.armed) made.stands;
+    }
+    up-packed-ends packed_as.Spent (most, same) = record { next = is; ends = spending most; stands = kept-stands new same }
+    up-packed-ends (packed_as.Broke stops) (some, broken) = record {
+      next = with_site is n (broken_site (site_at is n) OwnCheckpoint broken.arm);
+      ends = packing some ∙ broken-off is n OwnCheckpoint broken.arm stops broken.fires broken.kind;
+      stands = put-stands new (broken_site (site_at is n) OwnCheckpoint broken.arm) broken.stands;
+    }
+
+  pub packed-ends : (new : Cell) (answer : Packed) → HasPacked old.catalog n cell new (site_at is n) (site_at is n).running answer
+      → EndsIn (with_cell old n new) (packed is n (site_at is n).running) (packed_lines n answer)
+  packed-ends new answer has = by (site_at is n).running refl has
+    where
+      by : (running : Option Running) → (site_at is n).running ≡ running → HasPacked old.catalog n cell new (site_at is n) running answer
+          → EndsIn (with_cell old n new) (packed is n (site_at is n).running) (packed_lines n answer)
+      by None memory (down, same) = record {
+        next = is;
+        ends = ap (λ (m : Option Running). ended (packed is n m)) memory ∙ ap (λ (a : Packed). (packed_lines n a, is)) (sym down);
+        stands = kept-stands new same;
+      }
+      by (Some running) memory some = up-packed-ends new running memory answer some
 
 -- A site that is given an input takes it.
 pub own-takes : (world : World) (n : ℕ) (input : Input) → (can : CanGive world n input) → (cell : Cell) → cell ≡ get_or world.cells.items n cell

@@ -3,20 +3,19 @@ use Rattle.std.proofs.Common.{◌≡◌, ℕ, zero, suc, ◌+◌, ◌<◌, ◌�
 use Rattle.std.proofs.lemmas.List.{append_assoc, append-nil, drop_all}
 use Rattle.pv_base.specs.Catalog.{Declared}
 use Rattle.pv_disk.specs.MemDisk.{MemState}
-use Rattle.pv_format.specs.Record.{Record}
-use Rattle.pv_format.specs.Journal.{IsJournal}
+use Rattle.pv_law_checkpoints.specs.Stages.{Stands}
 use Rattle.pv_protocol.specs.State.{Arm, Site}
 use Rattle.pv_protocol.specs.World.{no_site}
 use Rattle.pv_world.proofs.StandLemmas.{stands-count, stands-from}
-use Rattle.pv_world.specs.Disks.{HoldSites, IsJournalOf, Spells}
+use Rattle.pv_world.specs.Disks.{HoldSites, IsLogOfSite, Spells}
 use Rattle.pv_world.specs.Stands.{StandForSites, StandsForSite}
 use Rattle.pv_world.specs.declared.cell.Cell.{Cell}
 
--- What a disk spells is a journal of it.
-pub journal-spelled : (records : List Record) (armed : Option Arm) (fired : Option Bool) (disk same : MemState) → same ≡ disk → Spells records armed fired disk
-    → IsJournalOf records same.image.content
-journal-spelled records armed fired disk same is spells =
-    (spells.contents, subst (λ (d : MemState). IsJournal spells.contents d.image.content) (sym is) spells.holds.journal, spells.spelled)
+-- What a disk spells is a log of it.
+pub log-spelled : (site : Site) (armed : Option Arm) (fired : Option Bool) (disk same : MemState) → same ≡ disk → Spells site.records site.standing armed fired disk
+    → IsLogOfSite site same.image.content
+log-spelled site armed fired disk same is spells =
+    (spells.contents, subst (λ (d : MemState). Stands spells.contents site.standing d.image.content) (sym is) spells.holds.stands, spells.spelled)
 
 -- A list from a place on, where there is something.
 from-place : (sites : List Site) (n : ℕ) → n < length sites → drop n sites ≡ get_or sites n no_site ∷ drop (suc n) sites
@@ -37,7 +36,7 @@ cell-is catalog cells sites n d stands within =
 
 -- One more disk, and whatever holds the rest.
 pub hold-next : (catalog : Declared) (cells : List Cell) (sites : List Site) (n : ℕ) (front more : List MemState) (disk : MemState) → StandForSites catalog 0 cells sites
-    → n < length cells → IsJournalOf (get_or sites n no_site).records disk.image.content
+    → n < length cells → IsLogOfSite (get_or sites n no_site) disk.image.content
     → ((rest : List MemState) → HoldSites rest (drop n sites) → HoldSites (front ++ rest) sites)
     → HoldSites more (drop (suc n) sites) → HoldSites ((front ++ disk ∷ []) ++ more) sites
 hold-next catalog cells sites n front more disk stands within here before rest =

@@ -4,11 +4,12 @@ use Rattle.std.specs.Prelude.{option_to_list}
 use Rattle.std.proofs.lemmas.List.{append-nil}
 use Rattle.pv_disk.specs.MemDisk.{MemState}
 use Rattle.pv_disk.specs.MemLaws.{mem_model}
+use Rattle.pv_format.specs.Checkpoint.{Standing}
 use Rattle.pv_format.specs.Record.{Record}
-use Rattle.pv_journal.specs.Armed.{Holds}
-use Rattle.pv_journal.specs.JournalModel.{journal_model}
-use Rattle.pv_journal.specs.Opening as opening
-use Rattle.pv_journal.specs.declared.journal.Journal.{Journal}
+use Rattle.pv_ckpt.specs.Armed.{Holds}
+use Rattle.pv_ckpt.specs.CkptModel.{ckpt_model}
+use Rattle.pv_ckpt.specs.Opening as opening
+use Rattle.pv_ckpt.specs.declared.ckpt_log.CkptLog.{CkptLog}
 use Rattle.pv_law_step.proofs.JournalLemmas.{journal-more}
 use Rattle.pv_protocol.specs.Records.{journal_bytes}
 use Rattle.pv_site.specs.Recovered.{Remains}
@@ -26,41 +27,41 @@ none-added records (Some more) same =
     absurd (omega (arith, as_long, journal-more records more))
 
 -- What a disk in memory holds that is mended, once it was opened as a journal.
-module _ (laws : Laws) (on : MemState) (journal : Journal MemState) (limit : ℕ) (opened : opening.Opens mem_model on limit (Ok journal)) (records : List Record)
-    (spells : Spells records None None on) where
-  still-holds : Holds spells.contents None None journal.disk
-  still-holds = (laws.opens spells.contents None on limit journal spells.holds opened).1
+module _ (laws : Laws) (on : MemState) (journal : CkptLog MemState) (limit : ℕ) (opened : opening.Opens mem_model on limit (Ok journal)) (records : List Record) (standing : Standing)
+    (spells : Spells records standing None None on) where
+  still-holds : Holds spells.contents standing None None journal.disk
+  still-holds = (laws.opens spells.contents standing None on limit journal spells.holds opened).1
 
   -- It holds what it held.
-  pub still-spells : Spells records None None journal.disk
+  pub still-spells : Spells records standing None None journal.disk
   still-spells = record { contents = spells.contents; spelled = spells.spelled; holds = still-holds }
 
   -- The journal is as long as the records make it.
   pub opened-long : Sizes → journal.length ≡ journal_bytes records
   opened-long sizes =
-      (journal_model mem_model).size_is journal spells.contents opened.3 opened.4 (holds-contents spells.contents None None journal still-holds)
+      (ckpt_model mem_model).size_is journal spells.contents opened.3 opened.4 (holds-contents spells.contents standing None None journal still-holds)
       ∙ sizes records spells.contents spells.spelled
 
 -- Where it is as long as it was, what was left is still so.
-pub down-as-left : (laws : Laws) (sizes : Sizes) (on : MemState) (journal : Journal MemState) (limit : ℕ) → opening.Opens mem_model on limit (Ok journal)
+pub down-as-left : (laws : Laws) (sizes : Sizes) (on : MemState) (journal : CkptLog MemState) (limit : ℕ) → opening.Opens mem_model on limit (Ok journal)
     → (left : Remains) (length : ℕ) → length ≡ journal_bytes left.records → journal.length ≡ length
-    → (added : Option Record) → Spells (left.records ++ option_to_list added) None None on
-    → StandsForSite left.catalog left.me (Down journal.disk left) (record { records = left.records ++ option_to_list added; arm = None; running = None })
-down-as-left laws sizes on journal limit opened left length was as_long added spells =
+    → (added : Option Record) (standing : Standing) → Spells (left.records ++ option_to_list added) standing None None on
+    → StandsForSite left.catalog left.me (Down journal.disk left) (record { records = left.records ++ option_to_list added; standing = standing; arm = None; running = None })
+down-as-left laws sizes on journal limit opened left length was as_long added standing spells =
     let none : added ≡ None = none-added left.records added
-    (sym (opened-long laws on journal limit opened (left.records ++ option_to_list added) spells sizes) ∙ (as_long ∙ was)) in
+    (sym (opened-long laws on journal limit opened (left.records ++ option_to_list added) standing spells sizes) ∙ (as_long ∙ was)) in
     record {
       me = refl;
       catalog = refl;
       records = sym (ap (λ (more : Option Record). left.records ++ option_to_list more) none ∙ append-nil left.records);
       down = refl;
-      disk = still-spells laws on journal limit opened (left.records ++ option_to_list added) spells;
+      disk = still-spells laws on journal limit opened (left.records ++ option_to_list added) standing spells;
     }
 
 -- Where the records were read, what is left has them.
-pub down-again : (on : MemState) (left now : Remains) (records : List Record) → now ≡ record left { records = records } → Spells records None None on
-    → StandsForSite left.catalog left.me (Down on now) (record { records = records; arm = None; running = None })
-down-again on left now records same spells = record {
+pub down-again : (on : MemState) (left now : Remains) (records : List Record) (standing : Standing) → now ≡ record left { records = records } → Spells records standing None None on
+    → StandsForSite left.catalog left.me (Down on now) (record { records = records; standing = standing; arm = None; running = None })
+down-again on left now records standing same spells = record {
   me = ap (λ (r : Remains). r.me) same;
   catalog = ap (λ (r : Remains). r.catalog) same;
   records = ap (λ (r : Remains). r.records) same;

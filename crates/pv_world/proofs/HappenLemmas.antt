@@ -6,7 +6,7 @@ use Rattle.std.proofs.lemmas.List.{append-nil}
 use Rattle.pv_base.specs.declared.mode.Mode.{Mode}
 use Rattle.pv_model.specs.Events.{Event, pump}
 use Rattle.pv_model.specs.Syntax.{Program}
-use Rattle.pv_protocol.specs.Attempt.{at_once, begun, delivered, given, halted, lost, opened, with_arm, without_site}
+use Rattle.pv_protocol.specs.Attempt.{at_once, begun, delivered, given, halted, lost, opened, packed, with_arm, without_site}
 use Rattle.pv_protocol.specs.Lines as protocol
 use Rattle.pv_protocol.specs.Report.{report_of, sent_lines, total_of}
 use Rattle.pv_protocol.specs.Run.{lines_of_transitions, transitions_of}
@@ -57,6 +57,11 @@ module _ {X : Type 0} (old new : World) (before after : List Line) (is : model.W
       → Comes old new before after (begun (setup_of old.catalog) is event) result
   unfolding begun
   comes-stopped n same comes = subst (λ (e : Event). Comes old new before after (begun (setup_of old.catalog) is e) result) (sym same) comes
+
+  pub comes-packed : (n : ℕ) → event ≡ Event.checkpoint n → Comes old new before after (packed is n (site_at is n).running) result
+      → Comes old new before after (begun (setup_of old.catalog) is event) result
+  unfolding begun
+  comes-packed n same comes = subst (λ (e : Event). Comes old new before after (begun (setup_of old.catalog) is e) result) (sym same) comes
 
   pub comes-started : (n : ℕ) → event ≡ Event.start n → Comes old new before after (opened (setup_of old.catalog) is n (site_at is n).running) result
       → Comes old new before after (begun (setup_of old.catalog) is event) result

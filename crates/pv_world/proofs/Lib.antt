@@ -2,6 +2,7 @@ pub mod ArmLemmas
 pub mod BeginLemmas
 pub mod CellLemmas
 pub mod ChangeLemmas
+pub mod CheckpointLemmas
 pub mod CloseLemmas
 pub mod DeliverLemmas
 pub mod DownLemmas

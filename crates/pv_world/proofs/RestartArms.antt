@@ -6,8 +6,9 @@ use Rattle.std.proofs.lemmas.Bool.{true≢false}
 use Rattle.std.proofs.lemmas.Bool.Decides.{nat_tests}
 use Rattle.pv_disk.specs.MemDisk.{MemState}
 use Rattle.pv_disk.specs.declared.arms.Arm as disk
+use Rattle.pv_format.specs.Checkpoint.{Standing}
 use Rattle.pv_format.specs.Record.{Record}
-use Rattle.pv_journal.specs.Armed.{ComesTo, Holds}
+use Rattle.pv_ckpt.specs.Armed.{ComesTo, Holds}
 use Rattle.pv_disk_model.specs.Size.{Contents}
 use Rattle.pv_protocol.specs.Arms.{waits, fires, reached, calls_of, is_kept, record_left}
 use Rattle.pv_protocol.specs.Attempt.{of_start}
@@ -41,28 +42,28 @@ waited-far more arm armed is = by (nat_lt (suc more) arm.call) refl is
     by true test same = (grind (arith, nat_tests, test), let both : Some (later_by (suc more) arm) ≡ armed = cc in sym both)
     by false test same = absurd (let wrong : ⊥ = cc in wrong)
 
-module _ (more : ℕ) (made : Contents) (left : disk.Arm → Contents) (on : MemState) where
+module _ (more : ℕ) (made : Contents × Standing) (left : disk.Arm → Contents × Standing) (on : MemState) where
   -- Where the calls succeed, what was armed waits by the definitions too.
   pub comes-through : (arm : Option Arm) → ComesTo (suc more) (option_map armed_as arm) made left true on
-      → (armed : Option Arm) × (reached (suc more) arm ≡ waits armed) × Holds made (option_map armed_as armed) None on
+      → (armed : Option Arm) × (reached (suc more) arm ≡ waits armed) × Holds made.0 made.1 (option_map armed_as armed) None on
   comes-through None comes = (None, refl, comes.1)
   comes-through (Some arm) comes = by (nat_lt (suc more) arm.call) refl comes
     where
       by : (b : Bool) → nat_lt (suc more) arm.call ≡ b
-          → MatchBool b ((true ≡ true) × Holds made (Some (armed_as (later_by (suc more) arm))) None on) ((true ≡ false) × Holds (left (armed_as arm)) None (Some arm.stops) on)
-          → (armed : Option Arm) × (reached (suc more) (Some arm) ≡ waits armed) × Holds made (option_map armed_as armed) None on
+          → MatchBool b ((true ≡ true) × Holds made.0 made.1 (Some (armed_as (later_by (suc more) arm))) None on) ((true ≡ false) × Holds (left (armed_as arm)).0 (left (armed_as arm)).1 None (Some arm.stops) on)
+          → (armed : Option Arm) × (reached (suc more) (Some arm) ≡ waits armed) × Holds made.0 made.1 (option_map armed_as armed) None on
       by true test (same, holds) = (Some (later_by (suc more) arm), waits-still more arm (grind (arith, nat_tests, test)), holds)
       by false test (same, holds) = absurd (true≢false same)
 
   -- Where they don't, it was near enough, and the disk holds what it leaves.
   pub comes-fired : (arm : Option Arm) → ComesTo (suc more) (option_map armed_as arm) made left false on
-      → (fault : Arm) × (arm ≡ Some fault) × (fault.call ≤ suc more) × Holds (left (armed_as fault)) None (Some fault.stops) on
+      → (fault : Arm) × (arm ≡ Some fault) × (fault.call ≤ suc more) × Holds (left (armed_as fault)).0 (left (armed_as fault)).1 None (Some fault.stops) on
   comes-fired None comes = absurd (true≢false (sym comes.0))
   comes-fired (Some arm) comes = by (nat_lt (suc more) arm.call) refl comes
     where
       by : (b : Bool) → nat_lt (suc more) arm.call ≡ b
-          → MatchBool b ((false ≡ true) × Holds made (Some (armed_as (later_by (suc more) arm))) None on) ((false ≡ false) × Holds (left (armed_as arm)) None (Some arm.stops) on)
-          → (fault : Arm) × (Some arm ≡ Some fault) × (fault.call ≤ suc more) × Holds (left (armed_as fault)) None (Some fault.stops) on
+          → MatchBool b ((false ≡ true) × Holds made.0 made.1 (Some (armed_as (later_by (suc more) arm))) None on) ((false ≡ false) × Holds (left (armed_as arm)).0 (left (armed_as arm)).1 None (Some arm.stops) on)
+          → (fault : Arm) × (Some arm ≡ Some fault) × (fault.call ≤ suc more) × Holds (left (armed_as fault)).0 (left (armed_as fault)).1 None (Some fault.stops) on
       by true test (same, holds) = absurd (true≢false (sym same))
       by false test (same, holds) = (arm, refl, grind (arith, nat_tests, test), holds)
 
@@ -96,16 +97,17 @@ fires-late (Some arm) armed fault first is near =
     let same : fault ≡ later_by 1 arm = let both : Some fault ≡ Some (later_by 1 arm) = sym is ∙ far.1 in cc in
     record { first = arm; is = refl; late = far.0; near = omega (arith, near, ap (λ (a : Arm). a.call) same); same = same }
 
-abbrev none_if : Bool → Option Record
+-- Of no record none is left.
+abbrev pub none_if : Bool → Option Record
 none_if b = if b then None else None
 
-no-record : (b : Bool) → none_if b ≡ None
+pub no-record : (b : Bool) → none_if b ≡ None
 no-record true = refl
 no-record false = refl
 
 -- What fires in the sync of a start leaves no record.
 pub fires-early : (n : ℕ) (started : Started) (fault : Arm) → fault.call ≤ 1
-    → (reached (calls_of (of_start n started)) (Some fault) ≡ fires fault) × (record_left (of_start n started).syncs (of_start n started).appended fault ≡ None)
+    → (reached (calls_of (of_start n started)) (Some fault) ≡ fires fault) × (record_left (of_start n started).calls (of_start n started).appended fault ≡ None)
 fires-early n (starts running epoch) fault near = (
   fires-within 4 fault (omega (arith, near)),
   let test : nat_lt 3 fault.call ≡ false = grind (arith, nat_tests, near) in

@@ -3,6 +3,7 @@ use Rattle.std.proofs.Common.{◌≡◌, ℕ, ◌+◌, ◌-◌, ◌<◌, Bool, t
 use Rattle.std.specs.Prelude.{◌&&◌, if◌then◌else◌, nat_lt, option_to_list}
 use Rattle.std.proofs.lemmas.Bool.Decides.{nat_tests}
 use Rattle.std.proofs.lemmas.List.{append-nil}
+use Rattle.pv_format.specs.Checkpoint.{Standing}
 use Rattle.pv_base.specs.declared.mode.Mode.{Mode}
 use Rattle.pv_base.specs.declared.mode.Mode.TheVariants.{Lost, Kept, Torn}
 use Rattle.pv_disk.specs.MemDisk.{MemState}
@@ -11,34 +12,42 @@ use Rattle.pv_disk.specs.declared.arms.Arm as disk
 use Rattle.pv_format.specs.Contents.{SpellRecords}
 use Rattle.pv_format.specs.Record.{Record}
 use Rattle.pv_format.specs.RecordSpelling.{SpellsRecord}
-use Rattle.pv_journal.specs.Armed.{Holds, contents_left, opened_in}
-use Rattle.pv_journal.specs.Journal.{contents_now}
-use Rattle.pv_journal.specs.declared.journal.Journal.{Journal}
+use Rattle.pv_ckpt.specs.Armed.{Holds}
+use Rattle.pv_journal.specs.Armed.{contents_left, opened_in}
+use Rattle.pv_ckpt.specs.CkptLog.{contents_now}
+use Rattle.pv_ckpt.specs.declared.ckpt_log.CkptLog.{CkptLog}
 use Rattle.pv_disk_model.specs.Size.{Contents}
-use Rattle.pv_law_journal.proofs.ContentsLemmas.{contents_of-is}
-use Rattle.pv_format.specs.Journal.{IsJournal}
+use Rattle.pv_law_checkpoints.proofs.ContentsLemmas.{log_contents_of-is}
+use Rattle.pv_law_checkpoints.specs.Stages.{Stands}
+use Rattle.pv_law_checkpoints.specs.TwoAreas.{IsCheckpointed}
 use Rattle.pv_protocol.specs.Arms.{is_kept, record_left}
 use Rattle.pv_protocol.specs.State.{Arm}
 use Rattle.pv_world.proofs.RestartArms.{later_by}
 use Rattle.pv_world.specs.Disks.{Spells, armed_as}
 
--- The contents of a journal are those that its disk holds.
-pub holds-contents : (contents : Contents) (armed : Option disk.Arm) (fired : Option Bool) (journal : Journal MemState) → Holds contents armed fired journal.disk
+-- A log that stands so is one with these contents.
+pub checkpointed : (contents : Contents) (standing : Standing) (bytes : List ℕ) → Stands contents standing bytes → IsCheckpointed contents bytes
+checkpointed contents standing bytes stands = record { at = stands.at; packed = stands.packed; later = stands.later; log = stands.log; is = stands.contents_are }
+
+-- The contents of a log are those that its disk holds.
+pub holds-contents : (contents : Contents) (standing : Standing) (armed : Option disk.Arm) (fired : Option Bool) (journal : CkptLog MemState) → Holds contents standing armed fired journal.disk
     → contents_now mem_model journal ≡ Some contents
-holds-contents contents armed fired journal holds = contents_of-is contents journal.disk.image.content holds.journal
+holds-contents contents standing armed fired journal holds =
+    log_contents_of-is contents journal.disk.image.content (checkpointed contents standing journal.disk.image.content holds.stands)
 
 -- Contents that are read of the disk spell the records.
-pub look-spells : (records : List Record) (armed : Option Arm) (fired : Option Bool) (on : MemState) (read : Contents) → Spells records armed fired on
-    → ((contents : Contents) → IsJournal contents on.image.content → read ≡ contents) → SpellRecords records read
-look-spells records armed fired on read spells is = subst (SpellRecords records) (sym (is spells.contents spells.holds.journal)) spells.spelled
+pub look-spells : (records : List Record) (standing : Standing) (armed : Option Arm) (fired : Option Bool) (on : MemState) (read : Contents) → Spells records standing armed fired on
+    → ((contents : Contents) → IsCheckpointed contents on.image.content → read ≡ contents) → SpellRecords records read
+look-spells records standing armed fired on read spells is =
+    subst (SpellRecords records) (sym (is spells.contents (checkpointed spells.contents standing on.image.content spells.holds.stands))) spells.spelled
 
 -- A disk that is mended holds what it held.
-pub spells-mended : (records : List Record) (armed : Option Arm) (fired : Option Bool) (on : MemState) → Spells records armed fired on
-    → Spells records None None (record on { arms = record on.arms { armed = None; fired = None } })
-spells-mended records armed fired on spells = record {
+pub spells-mended : (records : List Record) (standing : Standing) (armed : Option Arm) (fired : Option Bool) (on : MemState) → Spells records standing armed fired on
+    → Spells records standing None None (record on { arms = record on.arms { armed = None; fired = None } })
+spells-mended records standing armed fired on spells = record {
   contents = spells.contents;
   spelled = spells.spelled;
-  holds = record { journal = spells.holds.journal; settled = spells.holds.settled; armed = refl; fired = refl; reads = spells.holds.reads };
+  holds = record { stands = spells.holds.stands; settled = spells.holds.settled; armed = refl; fired = refl; reads = spells.holds.reads };
 }
 
 -- One content more spells one record more.

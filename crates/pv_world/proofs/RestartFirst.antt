@@ -6,6 +6,7 @@ use Rattle.std.proofs.lemmas.List.Elements.{All-cons, All-nil}
 use Rattle.pv_base.specs.Catalog.{Declared}
 use Rattle.pv_base.specs.declared.limits.TheConstants.{HELD_NAMES, MIN_JOURNAL}
 use Rattle.pv_disk.specs.MemDisk.{MemState}
+use Rattle.pv_format.specs.Checkpoint.{first_standing}
 use Rattle.pv_format.specs.Record.{Record, epoch_begun}
 use Rattle.pv_format.specs.RecordSpelling.{SpellsRecord}
 use Rattle.pv_law_events.specs.Replays.{CanBeReplayed}
@@ -57,7 +58,7 @@ module _ (catalog : Declared) (least : MIN_JOURNAL ≤ catalog.journal) where
       absurd (let wrong : ⊥ = cc in wrong)
 
   -- Before it the site is down and has no records.
-  pub stands-empty : (n : ℕ) (on : MemState) (left : Remains) → Spells [] None None on → left ≡ record { me = n; catalog = catalog; records = [] }
+  pub stands-empty : (n : ℕ) (on : MemState) (left : Remains) → Spells [] first_standing None None on → left ≡ record { me = n; catalog = catalog; records = [] }
       → IsDown catalog n on left no_site
   stands-empty n on left disk empty = record {
     me = ap (λ (now : Remains). now.me) empty;
@@ -85,7 +86,7 @@ module _ (catalog : Declared) (least : MIN_JOURNAL ≤ catalog.journal) where
       narrow = narrow_then;
     }
 
-    pub can-start : (on : MemState) (left : Remains) → Spells [] None None on → left ≡ record { me = n; catalog = catalog; records = [] }
+    pub can-start : (on : MemState) (left : Remains) → Spells [] first_standing None None on → left ≡ record { me = n; catalog = catalog; records = [] }
         → CanStart catalog n (Down on left)
     can-start on left disk empty = record {
       is = no_site;

@@ -1,10 +1,11 @@
 -- What comes of a start of a site that is down, on a disk that holds its records: the site runs, or is refused, or the start is broken off.
-use Rattle.std.proofs.Common.{◌≡◌, ◌⊎◌, inl, inr, ℕ, ◌+◌, Bool, true, false, List, [], ◌∷◌, ◌++◌, Option, Some, None, ◌<◌, Result, Ok, Err, refl, sym, ap, subst, ◌∙◌}
+use Rattle.std.proofs.Common.{◌≡◌, ◌⊎◌, inl, inr, ℕ, ◌+◌, ◌-◌, ◌^◌, ◌≤◌, Bool, true, false, List, [], ◌∷◌, ◌++◌, Option, Some, None, ◌<◌, Result, Ok, Err, refl, sym, ap, subst, ◌∙◌}
 use Rattle.std.specs.Prelude.{IfOk, if◌then◌else◌, is_some, length, nat_le, nat_lt, option_to_list}
 use Rattle.std.specs.Option.{option_map}
 use Rattle.std.proofs.lemmas.Bool.{true≢false}
 use Rattle.std.proofs.lemmas.List.{append-nil}
 use Rattle.std.proofs.lemmas.Option.{none-some}
+use Rattle.pv_format.specs.Checkpoint.{Standing}
 use Rattle.pv_base.proofs.Basics.{Some_inj}
 use Rattle.pv_base.specs.Catalog.{Declared}
 use Rattle.pv_base.specs.declared.failure.NoMemory.{NoMemory}
@@ -15,16 +16,18 @@ use Rattle.pv_disk.specs.declared.arms.Arm as disk
 use Rattle.pv_format.specs.Contents.{SpellRecords, greatest_epoch}
 use Rattle.pv_format.specs.Record.{Record, epoch_begun}
 use Rattle.pv_format.specs.RecordSpelling.{SpellsRecord}
-use Rattle.pv_journal.specs.Armed.{AppendsArmed, Holds, HoldsUp, SyncsArmed, contents_left}
-use Rattle.pv_journal.specs.Journal.{IsIntact, JournalGoes, contents_now}
-use Rattle.pv_journal.specs.JournalModel.{journal_model}
-use Rattle.pv_journal.specs.Opening as opening
-use Rattle.pv_journal.specs.declared.journal.Journal.{Journal}
-use Rattle.pv_journal.specs.declared.open_log.OpenLog.TheVariants as unopened
+use Rattle.pv_ckpt.specs.Armed.{AppendsArmed, Holds, HoldsUp, SyncsArmed, PacksArmed}
+use Rattle.pv_ckpt.specs.Checkpointing.{CheckpointMakes}
+use Rattle.pv_journal.specs.Armed.{contents_left}
+use Rattle.pv_ckpt.specs.CkptLog.{IsIntact, LogGoes, contents_now}
+use Rattle.pv_ckpt.specs.CkptModel.{ckpt_model}
+use Rattle.pv_ckpt.specs.Opening as opening
+use Rattle.pv_ckpt.specs.declared.ckpt_log.CkptLog.{CkptLog}
+use Rattle.pv_ckpt.specs.declared.open_ckpt.OpenCkpt.TheVariants as unopened
 use Rattle.pv_disk_model.specs.Calls.{Makes, OnlyReads, read_all, reserve, append}
 use Rattle.pv_disk_model.specs.Size.{Contents, size_of}
 use Rattle.pv_law_events.specs.Replays.{CanBeReplayed}
-use Rattle.pv_protocol.specs.Arms.{Reached, calls_of, fires, reached, record_left}
+use Rattle.pv_protocol.specs.Arms.{Reached, calls_of, fires, reached, record_left, standing_left}
 use Rattle.pv_protocol.specs.Attempt.{Attempt, of_start, refused_start}
 use Rattle.pv_protocol.specs.Lines as protocol
 use Rattle.pv_protocol.specs.Records.{journal_bytes, record_bytes}
@@ -48,22 +51,33 @@ use Rattle.pv_world.specs.declared.cell.Cell.{Cell}
 use Rattle.pv_world.specs.declared.cell.Start.TheVariants as start
 use Rattle.pv_world.specs.declared.cell.Start.{Start}
 
--- What is true of journals on disks in memory.
+-- A start leaves it as it is how the log stands.
+start-leaves : (n : ℕ) (started : Started) (fault : Arm) (standing : Standing) → standing_left (of_start n started).packs fault standing ≡ standing
+start-leaves n (starts running epoch) fault standing = refl
+start-leaves n (too_long length) fault standing = refl
+start-leaves n no_epoch fault standing = refl
+
+-- What is true of logs on disks in memory.
 abbrev pub Laws : Type 0
 Laws = record {
   looks : (old new : MemState) → OnlyReads MemGoes old new → old.arms.fail_read ≡ None → new ≡ old;
-  intact : (contents : Contents) (armed : Option disk.Arm) (journal : Journal MemState) → IsIntact mem_model journal → journal.down ≡ false
-      → Holds contents armed None journal.disk → HoldsUp contents armed journal;
-  reads : (contents : Contents) (armed : Option disk.Arm) (old new : Journal MemState) (ok : Bool) → HoldsUp contents armed old
-      → JournalGoes mem_model old read_all ok new → Holds contents armed None new.disk × (ok ≡ true → HoldsUp contents armed new);
-  appends : (contents : Contents) (armed : Option disk.Arm) (old new : Journal MemState) (content : List ℕ) (ok : Bool) → HoldsUp contents armed old
-      → Makes (JournalGoes mem_model) old (reserve (length content) ∷ append content ∷ []) ok new
-      → AppendsArmed contents content armed ok new.disk ⊎ ((ok ≡ false) × Holds contents armed None new.disk);
-  opens : (contents : Contents) (armed : Option disk.Arm) (old : MemState) (limit : ℕ) (journal : Journal MemState) → Holds contents armed None old
-      → opening.Opens mem_model old limit (Ok journal) → SyncsArmed contents armed true journal.disk;
-  fails : (contents : Contents) (armed : Option disk.Arm) (old : MemState) (limit : ℕ) (new : MemState) → Holds contents armed None old
-      → opening.Opens mem_model old limit (Err (unopened.Failed new)) → SyncsArmed contents armed false new ⊎ SyncsArmed contents armed true new;
-  ours : (contents : Contents) (armed : Option disk.Arm) (old : MemState) (limit : ℕ) (new : MemState) (place : ℕ) → Holds contents armed None old
+  intact : (contents : Contents) (standing : Standing) (armed : Option disk.Arm) (journal : CkptLog MemState) → IsIntact mem_model journal → journal.down ≡ false
+      → Holds contents standing armed None journal.disk → HoldsUp contents standing armed journal;
+  numbers : (contents : Contents) (standing : Standing) (armed : Option disk.Arm) (journal : CkptLog MemState) → HoldsUp contents standing armed journal
+      → journal.root.number ≡ standing.number;
+  reads : (contents : Contents) (standing : Standing) (armed : Option disk.Arm) (old new : CkptLog MemState) (ok : Bool) → HoldsUp contents standing armed old
+      → LogGoes mem_model old read_all ok new → Holds contents standing armed None new.disk × (ok ≡ true → HoldsUp contents standing armed new);
+  appends : (contents : Contents) (standing : Standing) (armed : Option disk.Arm) (old new : CkptLog MemState) (content : List ℕ) (ok : Bool) → HoldsUp contents standing armed old
+      → Makes (LogGoes mem_model) old (reserve (length content) ∷ append content ∷ []) ok new
+      → AppendsArmed contents standing content armed ok new.disk ⊎ ((ok ≡ false) × Holds contents standing armed None new.disk);
+  packs : (contents : Contents) (standing : Standing) (armed : Option disk.Arm) (old new : CkptLog MemState) (ok : Bool) → IsIntact mem_model old
+      → HoldsUp contents standing armed old → old.length ≤ old.limit → old.root.number < 2 ^ 64 - 1 → CheckpointMakes mem_model old new ok
+      → PacksArmed contents standing armed ok new.disk ⊎ ((ok ≡ false) × Holds contents standing armed None new.disk);
+  opens : (contents : Contents) (standing : Standing) (armed : Option disk.Arm) (old : MemState) (limit : ℕ) (journal : CkptLog MemState) → Holds contents standing armed None old
+      → opening.Opens mem_model old limit (Ok journal) → SyncsArmed contents standing armed true journal.disk;
+  fails : (contents : Contents) (standing : Standing) (armed : Option disk.Arm) (old : MemState) (limit : ℕ) (new : MemState) → Holds contents standing armed None old
+      → opening.Opens mem_model old limit (Err (unopened.Failed new)) → SyncsArmed contents standing armed false new ⊎ SyncsArmed contents standing armed true new;
+  ours : (contents : Contents) (standing : Standing) (armed : Option disk.Arm) (old : MemState) (limit : ℕ) (new : MemState) (place : ℕ) → Holds contents standing armed None old
       → opening.Opens mem_model old limit (Err (unopened.NotOurs new place)) → ⊥;
 }
 
@@ -83,15 +97,15 @@ module _ (catalog : Declared) (n : ℕ) (is : model.Site) where
   pub record HasFired (on : MemState) : Type 0 where
     pub fault : Arm
     pub fires : reached (calls_of (start_attempt catalog n is)) is.arm ≡ fires fault
-    pub disk : Spells (broken_site is (start_attempt catalog n is) fault).records None (Some fault.stops) on
+    pub disk : Spells (broken_site is (start_attempt catalog n is) fault).records is.standing None (Some fault.stops) on
 
   -- Or something else failed, and the disk holds what it held.
   abbrev pub StartFails : MemState → Type 0
-  StartFails on = HasFired on ⊎ ((armed : Option Arm) × Spells is.records armed None on)
+  StartFails on = HasFired on ⊎ ((armed : Option Arm) × Spells is.records is.standing armed None on)
 
   -- Nothing more is on the disk.
-  none-more : (armed : Option Arm) (on : MemState) → Spells is.records armed None on → Spells (is.records ++ option_to_list None) armed None on
-  none-more armed on spells = subst (λ (all : List Record). Spells all armed None on) (sym (append-nil is.records)) spells
+  none-more : (armed : Option Arm) (on : MemState) → Spells is.records is.standing armed None on → Spells (is.records ++ option_to_list None) is.standing armed None on
+  none-more armed on spells = subst (λ (all : List Record). Spells all is.standing armed None on) (sym (append-nil is.records)) spells
 
   -- The site can read its records then.
   pub can-be-read : (left : Remains) (on : MemState) → KeepsRecords catalog n is.records left → StartFails on → CanBeReplayed (setup_of catalog) n is.records
@@ -104,7 +118,8 @@ module _ (catalog : Declared) (n : ℕ) (is : model.Site) where
         None,
         Some fired.fault.stops,
         (
-          record_left (start_attempt catalog n is).syncs (start_attempt catalog n is).appended fired.fault,
+          record_left (start_attempt catalog n is).calls (start_attempt catalog n is).appended fired.fault,
+          is.standing,
           fired.disk,
           subst (λ (r : Reached). CanBeReplayed (setup_of catalog) n (site_after is (start_attempt catalog n is) r).records) fired.fires after,
         ),
@@ -112,43 +127,51 @@ module _ (catalog : Declared) (n : ℕ) (is : model.Site) where
       by (inr (armed, spells)) = (
         armed,
         None,
-        (None, none-more armed on spells, subst (CanBeReplayed (setup_of catalog) n) (sym (append-nil is.records)) replayable),
+        (None, is.standing, none-more armed on spells, subst (CanBeReplayed (setup_of catalog) n) (sym (append-nil is.records)) replayable),
       )
 
   -- A site that fell then, as what fired says, has broken off its start.
   pub is-broken : (left : Remains) (on : MemState) (cell : Cell) (stops : Bool) → KeepsRecords catalog n is.records left → StartFails on
-      → ((added : Option Record) (armed : Option Arm) (fired : Option Bool) → Spells (left.records ++ option_to_list added) armed fired on
+      → ((added : Option Record) (standing : Standing) (armed : Option Arm) (fired : Option Bool) → Spells (left.records ++ option_to_list added) standing armed fired on
       → (fired ≡ Some stops)
-      × StandsForSite left.catalog left.me cell (record { records = left.records ++ option_to_list added; arm = None; running = None }))
+      × StandsForSite left.catalog left.me cell (record { records = left.records ++ option_to_list added; standing = standing; arm = None; running = None }))
       → HasBegun catalog n cell is (start.Broke stops)
   is-broken left on cell stops keeps fails falls =
       by fails
-      (subst (λ (now : Remains). (added : Option Record) (armed : Option Arm) (fired : Option Bool) → Spells (now.records ++ option_to_list added) armed fired on
+      (subst (λ (now : Remains). (added : Option Record) (standing : Standing) (armed : Option Arm) (fired : Option Bool) → Spells (now.records ++ option_to_list added) standing armed fired on
       → (fired ≡ Some stops)
-      × StandsForSite now.catalog now.me cell (record { records = now.records ++ option_to_list added; arm = None; running = None }))
+      × StandsForSite now.catalog now.me cell (record { records = now.records ++ option_to_list added; standing = standing; arm = None; running = None }))
       (keeps-is catalog n is.records left keeps) falls)
     where
       by : StartFails on
-          → ((added : Option Record) (armed : Option Arm) (fired : Option Bool) → Spells (is.records ++ option_to_list added) armed fired on
-          → (fired ≡ Some stops) × StandsForSite catalog n cell (record { records = is.records ++ option_to_list added; arm = None; running = None }))
+          → ((added : Option Record) (standing : Standing) (armed : Option Arm) (fired : Option Bool) → Spells (is.records ++ option_to_list added) standing armed fired on
+          → (fired ≡ Some stops) × StandsForSite catalog n cell (record { records = is.records ++ option_to_list added; standing = standing; arm = None; running = None }))
           → HasBegun catalog n cell is (start.Broke stops)
       by (inl fired) fell =
-          let has = fell (record_left (start_attempt catalog n is).syncs (start_attempt catalog n is).appended fired.fault) None (Some fired.fault.stops) fired.disk in
-          record { arm = fired.fault; fires = fired.fires; kind = Some_inj has.0; stands = has.1 }
-      by (inr (armed, spells)) fell = absurd (none-some stops (fell None armed None (none-more armed on spells)).0)
+          let added = record_left (start_attempt catalog n is).calls (start_attempt catalog n is).appended fired.fault in
+          let has = fell added is.standing None (Some fired.fault.stops) fired.disk in
+          record {
+            arm = fired.fault;
+            fires = fired.fires;
+            kind = Some_inj has.0;
+            stands = subst
+                (λ (standing : Standing). StandsForSite catalog n cell (record { records = is.records ++ option_to_list added; standing = standing; arm = None; running = None }))
+                (sym (start-leaves n (site_start (setup_of catalog) is.records) fired.fault is.standing)) has.1;
+          }
+      by (inr (armed, spells)) fell = absurd (none-some stops (fell None is.standing armed None (none-more armed on spells)).0)
 
   -- The sync that comes first fails, and leaves no record; or something else failed.
   abbrev pub FailsEarly : MemState → Type 0
   FailsEarly on =
-      ((fired : HasFired on) × (record_left (start_attempt catalog n is).syncs (start_attempt catalog n is).appended fired.fault ≡ None))
-      ⊎ ((armed : Option Arm) × Spells is.records armed None on)
+      ((fired : HasFired on) × (record_left (start_attempt catalog n is).calls (start_attempt catalog n is).appended fired.fault ≡ None))
+      ⊎ ((armed : Option Arm) × Spells is.records is.standing armed None on)
 
   -- A site that is down then over the disk once that is mended, with what outlived its memory, has broken off its start.
   pub is-broken-early : (left : Remains) (on : MemState) (now : MemState) (stops : Bool) → KeepsRecords catalog n is.records left → FailsEarly on
-      → ((records : List Record) (armed : Option Arm) (fired : Option Bool) → Spells records armed fired on → (fired ≡ Some stops) × Spells records None None now)
+      → ((records : List Record) (standing : Standing) (armed : Option Arm) (fired : Option Bool) → Spells records standing armed fired on → (fired ≡ Some stops) × Spells records standing None None now)
       → HasBegun catalog n (Down now left) is (start.Broke stops)
   is-broken-early left on now stops keeps (inl (fired, none)) mends =
-      let mended = mends (broken_site is (start_attempt catalog n is) fired.fault).records None (Some fired.fault.stops) fired.disk in
+      let mended = mends (broken_site is (start_attempt catalog n is) fired.fault).records is.standing None (Some fired.fault.stops) fired.disk in
       record {
         arm = fired.fault;
         fires = fired.fires;
@@ -158,16 +181,17 @@ module _ (catalog : Declared) (n : ℕ) (is : model.Site) where
           catalog = keeps.catalog;
           records = keeps.records ∙ sym (ap (λ (added : Option Record). is.records ++ option_to_list added) none ∙ append-nil is.records);
           down = refl;
-          disk = mended.1;
+          disk = subst (λ (standing : Standing). Spells (broken_site is (start_attempt catalog n is) fired.fault).records standing None None now)
+              (sym (start-leaves n (site_start (setup_of catalog) is.records) fired.fault is.standing)) mended.1;
         };
       }
-  is-broken-early left on now stops keeps (inr (armed, spells)) mends = absurd (none-some stops (mends is.records armed None spells).0)
+  is-broken-early left on now stops keeps (inr (armed, spells)) mends = absurd (none-some stops (mends is.records is.standing armed None spells).0)
 
   -- The sync that comes first.
   module _ (contents : Contents) (on : MemState) (spelled : SpellRecords is.records contents) where
-    pub sync-fails : SyncsArmed contents (option_map armed_as is.arm) false on ⊎ SyncsArmed contents (option_map armed_as is.arm) true on → FailsEarly on
+    pub sync-fails : SyncsArmed contents is.standing (option_map armed_as is.arm) false on ⊎ SyncsArmed contents is.standing (option_map armed_as is.arm) true on → FailsEarly on
     sync-fails (inl fired) =
-        let (fault, armed, near, holds) = comes-fired 0 contents (λ arm. contents) on is.arm fired in
+        let (fault, armed, near, holds) = comes-fired 0 (contents, is.standing) (λ arm. (contents, is.standing)) on is.arm fired in
         let early = fires-early n (site_start (setup_of catalog) is.records) fault near in
         inl (
           record {
@@ -183,13 +207,13 @@ module _ (catalog : Declared) (n : ℕ) (is : model.Site) where
           early.1,
         )
     sync-fails (inr passed) =
-        let (armed, still, holds) = comes-through 0 contents (λ arm. contents) on is.arm passed in
+        let (armed, still, holds) = comes-through 0 (contents, is.standing) (λ arm. (contents, is.standing)) on is.arm passed in
         inr (armed, record { contents = contents; spelled = spelled; holds = holds })
 
-    pub sync-passes : (journal : Journal MemState) (left : Remains) → journal.disk ≡ on → KeepsRecords catalog n is.records left → IsIntact mem_model journal → journal.down ≡ false
-        → journal.limit ≡ catalog.journal → SyncsArmed contents (option_map armed_as is.arm) true on → IsSynced catalog n journal left is
+    pub sync-passes : (journal : CkptLog MemState) (left : Remains) → journal.disk ≡ on → KeepsRecords catalog n is.records left → IsIntact mem_model journal → journal.down ≡ false
+        → journal.limit ≡ catalog.journal → SyncsArmed contents is.standing (option_map armed_as is.arm) true on → IsSynced catalog n journal left is
     sync-passes journal left same keeps intact up limit passed =
-        let (armed, still, holds) = comes-through 0 contents (λ arm. contents) on is.arm passed in
+        let (armed, still, holds) = comes-through 0 (contents, is.standing) (λ arm. (contents, is.standing)) on is.arm passed in
         record {
           keeps = keeps;
           intact = intact;
@@ -197,7 +221,7 @@ module _ (catalog : Declared) (n : ℕ) (is : model.Site) where
           limit = limit;
           armed = armed;
           waits = still;
-          disk = record { contents = contents; spelled = spelled; holds = subst (Holds contents (option_map armed_as armed) None) (sym same) holds };
+          disk = record { contents = contents; spelled = spelled; holds = subst (Holds contents is.standing (option_map armed_as armed) None) (sym same) holds };
         }
 
 -- The opening of the journal.
@@ -206,20 +230,20 @@ module _ (catalog : Declared) (n : ℕ) (on : MemState) (left : Remains) (is : m
   abbrev pub down_arms : Option disk.Arm
   down_arms = option_map armed_as is.arm
 
-  pub is-synced : (laws : Laws) (journal : Journal MemState) (limit : ℕ) → limit ≡ catalog.journal → opening.Opens mem_model on limit (Ok journal)
+  pub is-synced : (laws : Laws) (journal : CkptLog MemState) (limit : ℕ) → limit ≡ catalog.journal → opening.Opens mem_model on limit (Ok journal)
       → IsSynced catalog n journal left is
   is-synced laws journal limit within opens =
       sync-passes catalog n is down.disk.contents journal.disk down.disk.spelled journal left refl
       (record { site = down.me; catalog = down.catalog; records = down.records }) opens.3 opens.4 (opens.5 ∙ within)
-      (laws.opens down.disk.contents down_arms on limit journal down.disk.holds opens)
+      (laws.opens down.disk.contents is.standing down_arms on limit journal down.disk.holds opens)
 
   pub not-opened : (laws : Laws) (new : MemState) (limit : ℕ) → opening.Opens mem_model on limit (Err (unopened.Failed new)) → FailsEarly catalog n is new
   not-opened laws new limit failed =
-      sync-fails catalog n is down.disk.contents new down.disk.spelled (laws.fails down.disk.contents down_arms on limit new down.disk.holds failed)
+      sync-fails catalog n is down.disk.contents new down.disk.spelled (laws.fails down.disk.contents is.standing down_arms on limit new down.disk.holds failed)
 
   -- Its disk holds a journal.
   pub is-ours : (laws : Laws) (new : MemState) (limit place : ℕ) → opening.Opens mem_model on limit (Err (unopened.NotOurs new place)) → ⊥
-  is-ours laws new limit place foreign = laws.ours down.disk.contents down_arms on limit new place down.disk.holds foreign
+  is-ours laws new limit place foreign = laws.ours down.disk.contents is.standing down_arms on limit new place down.disk.holds foreign
 
   -- A site that is down begins.
   pub started-down : (result : Result (Cell × Start) NoMemory) → IfOk result (λ made. HasBegun catalog n made.0 is made.1)
@@ -253,7 +277,7 @@ module _ (setup : Setup) (records : List Record) (running : Running) (epoch : �
 
 -- On a journal that was synced.
 
-module _ (laws : Laws) (catalog : Declared) (n : ℕ) (journal : Journal MemState) (left : Remains) (is : model.Site) (synced : IsSynced catalog n journal left is) where
+module _ (laws : Laws) (catalog : Declared) (n : ℕ) (journal : CkptLog MemState) (left : Remains) (is : model.Site) (synced : IsSynced catalog n journal left is) where
   abbrev held : Contents
   held = synced.disk.contents
 
@@ -261,16 +285,16 @@ module _ (laws : Laws) (catalog : Declared) (n : ℕ) (journal : Journal MemStat
   arms = option_map armed_as synced.armed
 
   known : contents_now mem_model journal ≡ Some held
-  known = holds-contents held arms None journal synced.disk.holds
+  known = holds-contents held is.standing arms None journal synced.disk.holds
 
-  holds-up : HoldsUp held arms journal
-  holds-up = laws.intact held arms journal synced.intact synced.up synced.disk.holds
+  holds-up : HoldsUp held is.standing arms journal
+  holds-up = laws.intact held is.standing arms journal synced.intact synced.up synced.disk.holds
 
   -- The journal holds the site's records.
-  holds-records : Sizes → HoldsRecords (journal_model mem_model) journal is.records
+  holds-records : Sizes → HoldsRecords (ckpt_model mem_model) journal is.records
   holds-records sizes = record {
     up = synced.up;
-    size = (journal_model mem_model).size_is journal held synced.intact synced.up known ∙ sizes is.records held synced.disk.spelled;
+    size = (ckpt_model mem_model).size_is journal held synced.intact synced.up known ∙ sizes is.records held synced.disk.spelled;
     held = λ contents told. subst (SpellRecords is.records) (Some_inj (sym known ∙ told)) synced.disk.spelled;
   }
 
@@ -282,41 +306,41 @@ module _ (laws : Laws) (catalog : Declared) (n : ℕ) (journal : Journal MemStat
   is-long sizes length asked = asked ∙ ((holds-records sizes).size ∙ ap journal_bytes (sym synced.keeps.records))
 
   -- So the site can go on over it.
-  pub can-resume : Sizes → n < catalog.sites → CanResume (journal_model mem_model) journal left
+  pub can-resume : Sizes → n < catalog.sites → CanResume (ckpt_model mem_model) journal left
   can-resume sizes within =
-      subst (CanResume (journal_model mem_model) journal) (sym left-is) (record { intact = synced.intact; limit = synced.limit; holds = holds-records sizes; site = within })
+      subst (CanResume (ckpt_model mem_model) journal) (sym left-is) (record { intact = synced.intact; limit = synced.limit; holds = holds-records sizes; site = within })
 
   start-is : (started : Started) → site_start (setup_of left.catalog) left.records ≡ started → start_attempt catalog n is ≡ of_start n started
   start-is started begins = ap (λ (now : Remains). of_start n (site_start (setup_of now.catalog) now.records)) (sym left-is) ∙ ap (of_start n) begins
 
   -- The site runs.
-  after-append : (content : List ℕ) (new : Journal MemState) → Makes (JournalGoes mem_model) journal (reserve (length content) ∷ append content ∷ []) true new
-      → AppendsArmed held content arms true new.disk
-  after-append content new makes = elim (laws.appends held arms journal new content true holds-up makes) [
+  after-append : (content : List ℕ) (new : CkptLog MemState) → Makes (LogGoes mem_model) journal (reserve (length content) ∷ append content ∷ []) true new
+      → AppendsArmed held is.standing content arms true new.disk
+  after-append content new makes = elim (laws.appends held is.standing arms journal new content true holds-up makes) [
     | inl appends ↦ appends
     | inr (same, holds) ↦ absurd (true≢false same)
   ]
 
-  pub has-begun : (up : SiteState (Journal MemState)) → HasResumed (journal_model mem_model) journal left false up → IsReady (journal_model mem_model) up
+  pub has-begun : (up : SiteState (CkptLog MemState)) → HasResumed (ckpt_model mem_model) journal left false up → IsReady (ckpt_model mem_model) up
       → HasBegun catalog n (Up up) is (start.Started up.epoch)
   has-begun up resumed ready =
       let attempt = start-is (starts resumed.running (epoch_begun resumed.epoch)) resumed.starts in
-      let (later, still, holds) = comes-through 3 (held ++ resumed.content ∷ []) (contents_left held resumed.content) up.log.disk synced.armed
+      let (later, still, holds) = comes-through 3 (held ++ resumed.content ∷ [], is.standing) (λ fired. (contents_left held resumed.content fired, is.standing)) up.log.disk synced.armed
       (after-append resumed.content up.log resumed.calls) in (
         ap (λ (a : Attempt). a.lines) attempt
             ∙ ap (λ (epoch : ℕ). protocol.Line.started n epoch ∷ [])
-            (epoch-runs (setup_of left.catalog) left.records resumed.running resumed.epoch resumed.starts ∙ sym (ap (λ (s : SiteState (Journal MemState)). s.epoch) resumed.site)),
+            (epoch-runs (setup_of left.catalog) left.records resumed.running resumed.epoch resumed.starts ∙ sym (ap (λ (s : SiteState (CkptLog MemState)). s.epoch) resumed.site)),
         subst (IsDone catalog n (Up up) is) (sym attempt)
             (record {
               armed = later;
               waits = waits-both is.arm synced.armed later synced.waits still;
               stands = record {
-                me = ap (λ (s : SiteState (Journal MemState)). s.me) resumed.site ∙ synced.keeps.site;
-                catalog = ap (λ (s : SiteState (Journal MemState)). s.catalog) resumed.site ∙ synced.keeps.catalog;
-                records = ap (λ (s : SiteState (Journal MemState)). s.records) resumed.site
+                me = ap (λ (s : SiteState (CkptLog MemState)). s.me) resumed.site ∙ synced.keeps.site;
+                catalog = ap (λ (s : SiteState (CkptLog MemState)). s.catalog) resumed.site ∙ synced.keeps.catalog;
+                records = ap (λ (s : SiteState (CkptLog MemState)). s.records) resumed.site
                     ∙ ap (λ (all : List Record). all ++ epoch_begun resumed.epoch ∷ []) synced.keeps.records;
-                runs = ap (λ (s : SiteState (Journal MemState)). is_some s.running) resumed.site;
-                running = ap (λ (s : SiteState (Journal MemState)). s.running) resumed.site;
+                runs = ap (λ (s : SiteState (CkptLog MemState)). is_some s.running) resumed.site;
+                running = ap (λ (s : SiteState (CkptLog MemState)). s.running) resumed.site;
                 ready = ready;
                 disk = record {
                   contents = held ++ resumed.content ∷ [];
@@ -351,45 +375,45 @@ module _ (laws : Laws) (catalog : Declared) (n : ℕ) (journal : Journal MemStat
   )
 
   -- What comes back is what was there.
-  come-back : (new : Journal MemState) (back : Remains) (answer : Start) → new ≡ journal → back ≡ left → HasBegun catalog n (Down journal.disk left) is answer
+  come-back : (new : CkptLog MemState) (back : Remains) (answer : Start) → new ≡ journal → back ≡ left → HasBegun catalog n (Down journal.disk left) is answer
       → HasBegun catalog n (Down new.disk back) is answer
   come-back new back answer same given begun =
-      subst (λ (now : Journal MemState). HasBegun catalog n (Down now.disk back) is answer) (sym same)
+      subst (λ (now : CkptLog MemState). HasBegun catalog n (Down now.disk back) is answer) (sym same)
       (subst (λ (now : Remains). HasBegun catalog n (Down journal.disk now) is answer) (sym given) begun)
 
-  pub has-no-room : (new : Journal MemState) (back : Remains) (length : ℕ) → Resumes (journal_model mem_model) journal left false (Err (refused.Full new back length))
+  pub has-no-room : (new : CkptLog MemState) (back : Remains) (length : ℕ) → Resumes (ckpt_model mem_model) journal left false (Err (refused.Full new back length))
       → HasBegun catalog n (Down new.disk back) is (start.Full length)
   has-no-room new back length (same, given, cause) =
       come-back new back (start.Full length) same given (is-refused (protocol.Line.full n length) (start-is (too_long length) cause))
 
-  pub has-no-epoch : (new : Journal MemState) (back : Remains) → Resumes (journal_model mem_model) journal left false (Err (refused.EpochsSpent new back))
+  pub has-no-epoch : (new : CkptLog MemState) (back : Remains) → Resumes (ckpt_model mem_model) journal left false (Err (refused.EpochsSpent new back))
       → HasBegun catalog n (Down new.disk back) is start.Spent
   has-no-epoch new back (same, given, cause) = come-back new back start.Spent same given (is-refused (protocol.Line.spent n) (start-is no_epoch cause))
 
-  append-fires : (running : Running) (epoch : ℕ) (content : List ℕ) (new : Journal MemState)
+  append-fires : (running : Running) (epoch : ℕ) (content : List ℕ) (new : CkptLog MemState)
       → site_start (setup_of left.catalog) left.records ≡ starts running (epoch_begun epoch)
-      → SpellsRecord (epoch_begun epoch) content → AppendsArmed held content arms false new.disk → HasFired catalog n is new.disk
+      → SpellsRecord (epoch_begun epoch) content → AppendsArmed held is.standing content arms false new.disk → HasFired catalog n is new.disk
   append-fires running epoch content new begins one fired =
-      let (fault, armed, near, holds) = comes-fired 3 (held ++ content ∷ []) (contents_left held content) new.disk synced.armed fired in
+      let (fault, armed, near, holds) = comes-fired 3 (held ++ content ∷ [], is.standing) (λ fault. (contents_left held content fault, is.standing)) new.disk synced.armed fired in
       let late : FiresLate is.arm fault = fires-late is.arm synced.armed fault synced.waits armed near in
       let attempt = start-is (starts running (epoch_begun epoch)) begins in
       record {
         fault = late.first;
         fires = ap (λ (a : Attempt). reached (calls_of a) is.arm) attempt ∙ (ap (λ (arm : Option Arm). reached 5 arm) late.is ∙ fires-within 4 late.first late.near);
-        disk = subst (λ (a : Attempt). Spells (broken_site is a late.first).records None (Some late.first.stops) new.disk) (sym attempt)
+        disk = subst (λ (a : Attempt). Spells (broken_site is a late.first).records is.standing None (Some late.first.stops) new.disk) (sym attempt)
             (record {
               contents = contents_left held content (armed_as (later_by 1 late.first));
               spelled = spell-left is.records held (epoch_begun epoch) content synced.disk.spelled one 1 late.first late.late;
-              holds = subst (λ (f : Arm). Holds (contents_left held content (armed_as f)) None (Some f.stops) new.disk) late.same holds;
+              holds = subst (λ (f : Arm). Holds (contents_left held content (armed_as f)) is.standing None (Some f.stops) new.disk) late.same holds;
             });
       }
 
   -- Its journal failed at the epoch.
-  pub resuming-fails : (new : Journal MemState) → FailsToResume (journal_model mem_model) journal left new → StartFails catalog n is new.disk
+  pub resuming-fails : (new : CkptLog MemState) → FailsToResume (ckpt_model mem_model) journal left new → StartFails catalog n is new.disk
   resuming-fails new fails =
-      let calls : Makes (JournalGoes mem_model) journal (reserve (length fails.content) ∷ append fails.content ∷ []) false new =
+      let calls : Makes (LogGoes mem_model) journal (reserve (length fails.content) ∷ append fails.content ∷ []) false new =
       elim fails.calls [ inl (kept, reserves) ↦ inl (refl, reserves) | inr (roomy, kept, reserves, appends) ↦ inr (roomy, reserves, inl (refl, appends)) ] in
-      elim (laws.appends held arms journal new fails.content false holds-up calls) [
+      elim (laws.appends held is.standing arms journal new fails.content false holds-up calls) [
         | inl fired ↦ inl (append-fires fails.running fails.epoch fails.content new fails.starts fails.content_is fired)
         | inr (same, holds) ↦ inr (synced.armed, record { contents = held; spelled = synced.disk.spelled; holds = holds })
       ]

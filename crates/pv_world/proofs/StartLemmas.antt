@@ -19,7 +19,7 @@ pub with-own : (is : World) (n : ℕ) → with_site is n (site_at is n) ≡ is
 with-own is n = ap (λ (sites : List state.Site). record is { sites = sites }) (set-get_or is.sites n no_site)
 
 -- Nothing is sent, and the order stays.
-quiet : (is : World) (n : ℕ) (site : state.Site) → with_sent (with_site (record is { order = is.order ++ [] }) n site) [] ≡ with_site is n site
+pub quiet : (is : World) (n : ℕ) (site : state.Site) → with_sent (with_site (record is { order = is.order ++ [] }) n site) [] ≡ with_site is n site
 quiet is n site =
     ap (λ (order : List state.Placed). with_sent (with_site (record is { order = order }) n site) []) (append-nil is.order)
     ∙ ap₂ (λ (sent : List Envelope) (fresh : List Bool). record (with_site is n site) { sent = sent; fresh = fresh }) (append-nil is.sent) (append-nil is.fresh)

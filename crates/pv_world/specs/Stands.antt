@@ -4,8 +4,8 @@ use Rattle.pv_base.specs.Catalog.{Declared}
 use Rattle.pv_base.specs.declared.txn.TxnId.{TxnId}
 use Rattle.pv_disk.specs.MemDisk.{MemState}
 use Rattle.pv_disk.specs.MemLaws.{mem_model}
-use Rattle.pv_journal.specs.JournalModel.{journal_model}
-use Rattle.pv_journal.specs.declared.journal.Journal.{Journal}
+use Rattle.pv_ckpt.specs.CkptModel.{ckpt_model}
+use Rattle.pv_ckpt.specs.declared.ckpt_log.CkptLog.{CkptLog}
 use Rattle.pv_protocol.specs.Limit.{over_limit}
 use Rattle.pv_protocol.specs.Sound.{IsSetupInRange}
 use Rattle.pv_protocol.specs.State as state
@@ -23,14 +23,14 @@ use Rattle.pv_world.specs.declared.order.TakenGrant.{TakenGrant}
 use Rattle.pv_world.specs.declared.world.World.{World}
 
 -- The site that runs is this one, and its disk holds its records.
-pub record IsUp (declared : Declared) (n : ℕ) (up : SiteState (Journal MemState)) (site : state.Site) : Type 0 where
+pub record IsUp (declared : Declared) (n : ℕ) (up : SiteState (CkptLog MemState)) (site : state.Site) : Type 0 where
   pub me : up.me ≡ n
   pub catalog : up.catalog ≡ declared
   pub records : up.records ≡ site.records
   pub runs : is_some up.running ≡ true
   pub running : up.running ≡ site.running
-  pub ready : IsReady (journal_model mem_model) up
-  pub disk : Spells site.records site.arm None up.log.disk
+  pub ready : IsReady (ckpt_model mem_model) up
+  pub disk : Spells site.records site.standing site.arm None up.log.disk
 
 -- The site is down. Its disk holds its records, and what outlived its memory is of these.
 pub record IsDown (declared : Declared) (n : ℕ) (on : MemState) (left : Remains) (site : state.Site) : Type 0 where
@@ -38,7 +38,7 @@ pub record IsDown (declared : Declared) (n : ℕ) (on : MemState) (left : Remain
   pub catalog : left.catalog ≡ declared
   pub records : left.records ≡ site.records
   pub down : site.running ≡ None
-  pub disk : Spells site.records site.arm None on
+  pub disk : Spells site.records site.standing site.arm None on
 
 -- The cell is the site of this number.
 abbrev pub StandsForSite : Declared → ℕ → Cell → state.Site → Type 0

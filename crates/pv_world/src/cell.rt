@@ -2,6 +2,7 @@
 // know what the sites stand on.
 ghost use Rattle.std.specs.Prelude.{◌≡◌, ◌<◌, ◌≤◌, ℕ, Bool, List, Option, IfOk, None, Some, is_some};
 ghost use Rattle.pv_base.specs.Catalog.{Declared};
+ghost use Rattle.pv_format.specs.Checkpoint.{Standing};
 ghost use Rattle.pv_format.specs.Record.{Record};
 ghost use Rattle.pv_protocol.specs.Committed.{entry_in};
 ghost use Rattle.pv_protocol.specs.Records.{is_prepared, known};
@@ -12,15 +13,15 @@ ghost use Rattle.pv_protocol.specs.World.{first_site};
 ghost use Rattle.pv_site.specs.Asked.{grant_held, grant_taken, voting_at};
 ghost use Rattle.pv_site.specs.Recovered.{Remains};
 ghost use Rattle.pv_site.specs.Values.{input_of};
-ghost use Rattle.pv_world.specs.Cells.{CanFall, CanStart, HasFallen, HasStarted, HasStepped, HasStopped, IsUpOver, TakesInput};
-ghost use Rattle.pv_world.specs.Disks.{IsJournalOf};
+ghost use Rattle.pv_world.specs.Cells.{CanFall, CanPack, CanStart, HasFallen, HasPacked, HasStarted, HasStepped, HasStopped, IsUpOver, TakesInput};
+ghost use Rattle.pv_world.specs.Disks.{IsLogOfSite};
 ghost use Rattle.pv_world.specs.Readings.{OwnsItem, reading_in};
 ghost use Rattle.pv_world.specs.Stands.{IsSomeSite, StandsForSite};
 
 use crate::restart::{fallen, first_started, started};
 use pv_base::{Catalog, GrantId, ItemId, Mode, NoMemory, SiteId, TxnId};
+use pv_ckpt::{CkptError, CkptLog, armed_logs};
 use pv_disk::MemDisk;
-use pv_journal::{Journal, armed_journals};
 use pv_site::{Input, Recovered, Shown, Site, Step, StepError};
 use std::alloc::Global;
 use std::mem::replace;
@@ -29,7 +30,7 @@ use std::mem::replace;
 #[derive(Drop)]
 pub(crate) enum Cell {
     /// It is up.
-    Up(Site<Journal<MemDisk>>),
+    Up(Site<CkptLog<MemDisk>>),
     /// It is down: its disk, and what outlived its memory.
     Down(MemDisk, Recovered),
     /// It is being stopped or started, or there was no memory for that.
@@ -50,6 +51,22 @@ pub(crate) enum Stepped {
     },
 }
 
+/// What came of a checkpoint.
+#[derive(Clone, Copy, Debug, PartialEq, Eq)]
+pub(crate) enum Packed {
+    /// The site was down.
+    Down,
+    /// Its log is packed.
+    Done,
+    /// The number in force is the greatest.
+    Spent,
+    /// A write or a sync of its disk fired, and it is down.
+    Broke {
+        /// Whether that stands for a stop of the site, and not for a fault of the disk.
+        stops: bool,
+    },
+}
+
 /// What came of a start.
 #[derive(Clone, Copy, Debug, PartialEq, Eq)]
 pub(crate) enum Start {
@@ -57,7 +74,7 @@ pub(crate) enum Start {
     Up,
     /// It has started in this epoch.
     Started(u32),
-    /// Its journal would have this length with the record of the epoch, above its limit.
+    /// Its log would have this length with the record of the epoch, above its limit.
     Full(u64),
     /// No epoch is left.
     Spent,
@@ -89,33 +106,60 @@ impl Cell {
         ensures { (is : model.Site) → StandsForSite catalog.now site.0 self.old is →
             IfOk result (HasStepped catalog.now site.0 self.old self.new is is.running (input_of input.now)) }
     {
-        armed_journals();
+        armed_logs();
         let Cell::Up(up) = self else {
             return Ok(Stepped::Down);
         };
         let length = up.length();
         match up.step(input) {
             Ok(step) => Ok(Stepped::Made(step)),
-            Err(StepError::Fault) => self.fall(length, alloc),
+            Err(StepError::Fault) => Ok(Stepped::Broke {
+                stops: self.fall(length, alloc)?,
+            }),
             Err(StepError::NoMemory) => Err(NoMemory),
             // The site is up.
             Err(StepError::Down) => unreachable!(),
         }
     }
 
-    // Takes a site from memory whose journal failed, and had this length before.
-    fn fall(&mut self, length: u64, alloc: Global) -> Result<Stepped, NoMemory>
+    /// The site, if it is up, writes its log anew, packed. Where a write or a sync of its disk fires it is down, with the records that it had. Takes time in
+    /// proportion to the log.
+    pub(crate) fn checkpoint(&mut self, alloc: Global) -> Result<Packed, NoMemory>
+        requires { CanPack self.old }
+        ensures { (catalog : Declared) (n : ℕ) (is : model.Site) → StandsForSite catalog n self.old is →
+            IfOk result (HasPacked catalog n self.old self.new is is.running) }
+    {
+        armed_logs();
+        let Cell::Up(up) = self else {
+            return Ok(Packed::Down);
+        };
+        let length = up.length();
+        match up.log().checkpoint() {
+            Ok(()) => Ok(Packed::Done),
+            Err(CkptError::Spent) => Ok(Packed::Spent),
+            Err(CkptError::Failed) => Ok(Packed::Broke {
+                stops: self.fall(length, alloc)?,
+            }),
+            Err(CkptError::NoMemory) => Err(NoMemory),
+            // The site is up.
+            Err(CkptError::Down) => unreachable!(),
+        }
+    }
+
+    // Takes a site from memory whose log failed, and had this length before. Answers whether what fired stands for a stop.
+    fn fall(&mut self, length: u64, alloc: Global) -> Result<bool, NoMemory>
         requires { CanFall length self.old }
-        ensures { (left : Remains) (added : Option Record) (armed : Option model.Arm) (fired : Option Bool) → IsUpOver left added armed fired self.old →
-            IfOk result (HasFallen left added fired self.new) }
+        ensures { (left : Remains) (added : Option Record) (standing : Standing) (armed : Option model.Arm) (fired : Option Bool) → IsUpOver left added standing armed fired self.old →
+            IfOk result (HasFallen left added standing fired self.new) }
     {
         let Cell::Up(up) = replace(self, Cell::Vacant) else {
-            return Ok(Stepped::Down);
+            // The site is up.
+            unreachable!()
         };
-        let (journal, left) = up.leave();
-        let (cell, stops) = fallen(journal.close(), length, left, alloc)?;
+        let (log, left) = up.leave();
+        let (cell, stops) = fallen(log.close(), length, left, alloc)?;
         *self = cell;
-        Ok(Stepped::Broke { stops })
+        Ok(stops)
     }
 
     /// Stops a site that is up, and answers whether it was. What its records say is kept, so that nothing is read.
@@ -125,8 +169,8 @@ impl Cell {
     {
         match replace(self, Cell::Vacant) {
             Cell::Up(up) => {
-                let (journal, left) = up.leave();
-                *self = Cell::Down(journal.close(), left);
+                let (log, left) = up.leave();
+                *self = Cell::Down(log.close(), left);
                 true
             }
             down => {
@@ -136,8 +180,8 @@ impl Cell {
         }
     }
 
-    /// Starts a site that is down: its journal is opened, which reads the length of each record, and it goes on from what it kept. Takes time in
-    /// proportion to the records, and where a write or a sync fires, to the journal and the catalog.
+    /// Starts a site that is down: its log is opened, which reads the length of each record, and it goes on from what it kept. Takes time in
+    /// proportion to the records, and where a write or a sync fires, to the log and the catalog.
     pub(crate) fn start(
         &mut self,
         alloc: Global,
@@ -191,7 +235,7 @@ impl Cell {
     /// The site's disk.
     pub(crate) fn close(self) -> MemDisk
         requires { IsSomeSite self }
-        ensures { (catalog : Declared) (n : ℕ) (is : model.Site) → StandsForSite catalog n self is → IsJournalOf is.records result.image.content }
+        ensures { (catalog : Declared) (n : ℕ) (is : model.Site) → StandsForSite catalog n self is → IsLogOfSite is result.image.content }
     {
         match self {
             Cell::Up(up) => up.close().close(),

@@ -1,6 +1,6 @@
 // What each event of a schedule makes of the world.
 ghost use Rattle.std.specs.Prelude.{◌≡◌, false, slice_get};
-ghost use Rattle.pv_protocol.specs.Attempt.{begun, delivered, given, halted, lost, opened};
+ghost use Rattle.pv_protocol.specs.Attempt.{begun, delivered, given, halted, lost, opened, packed};
 ghost use Rattle.pv_protocol.specs.Run.{transitions_of};
 ghost use Rattle.pv_protocol.specs.State.{submit};
 ghost use Rattle.pv_protocol.specs.WellFormed.{CanRun, HasSite, IsWellFormed};
@@ -15,7 +15,7 @@ ghost use Rattle.pv_world.specs.Stands.{StandsFor, StandsForSome};
 ghost use Rattle.pv_world.specs.Stands as world;
 ghost use Rattle.pv_world.specs.Steps.{Comes, MakesTransitions};
 
-use crate::cell::Start;
+use crate::cell::{Packed, Start};
 use crate::laws::reached_worlds_are_lawful;
 use crate::lines::broken_line;
 use crate::spelled::envelope;
@@ -83,6 +83,7 @@ impl World {
                 self.cells[site.0 as usize].mend();
                 Ok(())
             }
+            Event::Checkpoint(site) => self.checkpoint(*site, lines),
             // A pump is its deliveries.
             Event::Pump(_) => Ok(()),
         }
@@ -173,6 +174,23 @@ impl World {
         } else {
             Line::Down(site)
         })?)
+    }
+
+    // The site writes its log anew, packed.
+    fn checkpoint(&mut self, site: SiteId, lines: &mut Vec<Line>) -> Result<(), WorldError>
+        requires stands { StandsForSome self.old }
+        requires site { HasSite self.old.catalog site.0 }
+        ensures { (is : model.World) → StandsFor self.old is →
+            Comes self.old self.new lines.old.items lines.new.items (packed is site.0 (site_at is site.0).running) result }
+    {
+        reached_worlds_are_lawful();
+        let line = match self.cells[site.0 as usize].checkpoint(self.alloc)? {
+            Packed::Done => return Ok(()),
+            Packed::Down => Line::Down(site),
+            Packed::Spent => Line::Spent(site),
+            Packed::Broke { stops } => broken_line(site, stops),
+        };
+        Ok(lines.push(line)?)
     }
 
     // The site starts.

@@ -1,4 +1,4 @@
-//! A world of sites in one process: the sites over journals on disks in memory, the messages between them, and the events of a schedule, one after another.
+//! A world of sites in one process: the sites over logs in two areas on disks in memory, the messages between them, and the events of a schedule, one after another.
 #![tactic(auto)]
 
 mod cell;

@@ -20,7 +20,7 @@ use pv_script::{Event, Line};
 use pv_site::setup_is_in_range;
 use std::alloc::Global;
 
-/// All sites of a database, each over a journal on a disk in memory, the messages between them, and the order of the transactions. The events of
+/// All sites of a database, each over a log in two areas on a disk in memory, the messages between them, and the order of the transactions. The events of
 /// a schedule change it, one after another: what is delivered, lost or repeated, which site stops, and in which write or sync, is the schedule's
 /// to say.
 #[derive(Drop)]
@@ -64,7 +64,7 @@ impl World {
 
     /// What the event prints; the world is then the one after it. The event's sites are the catalog's, a write or sync that it arms is counted
     /// from 1, and a request has the plan that `check` answers for its program. Takes time in proportion to what the event prints, sends and
-    /// touches; where a site starts, or its disk fails, besides in proportion to its journal and the items, and a tick to what stands at the site.
+    /// touches; where a site starts, or its disk fails, besides in proportion to its log and the items, and a tick to what stands at the site.
     ///
     /// - [`WorldError::SentLimit`]: the encoded bytes of all messages, with those of the first one that passes the limit, are so many. The world
     ///   is then to be dropped.
@@ -80,7 +80,7 @@ impl World {
         Ok(lines)
     }
 
-    /// The disks of the sites, by their numbers, those of sites that are down too. Each holds a journal of its site's records. It wants no memory.
+    /// The disks of the sites, by their numbers, those of sites that are down too. Each holds the log of its site. It wants no memory.
     pub fn close(self) -> Vec<MemDisk>
         requires { StandsForSome self }
         ensures { (is : model.World) → StandsFor self is → HoldSites result.items is.sites }

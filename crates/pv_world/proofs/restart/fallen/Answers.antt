@@ -7,9 +7,10 @@ use Rattle.pv_world.specs.Cells.{CanBeRead}
 pub down-requires-clause-readable : goal.down-requires-clause-readable
 down-requires-clause-readable c =
     let read : (armed : Option Arm) × (fired : Option Bool) × CanBeRead c.args.left armed fired c.args.disk = c.requires.readable in
-    (read.2.0, (c.in_ok-disk.ensures (c.args.left.records ++ option_to_list read.2.0) read.0 read.1 read.2.1).1, read.2.2)
+    let (added, standing, spells, replayable) = read.2 in
+    (added, standing, (c.in_ok-disk.ensures (c.args.left.records ++ option_to_list added) standing read.0 read.1 spells).1, replayable)
 
 pub returns : goal.returns
-returns c = λ added armed fired spells.
-    let mends = c.in_ok-disk.ensures (c.args.left.records ++ option_to_list added) armed fired spells in
-    (mends.0, c.in_ok-cell.ensures added mends.1)
+returns c = λ added standing armed fired spells.
+    let mends = c.in_ok-disk.ensures (c.args.left.records ++ option_to_list added) standing armed fired spells in
+    (mends.0, c.in_ok-cell.ensures added standing mends.1)

@@ -11,21 +11,21 @@ use Rattle.pv_site.specs.Resumes.{Recovers}
 use Rattle.pv_store.specs.Refusals.{too_many_in}
 use Rattle.pv_store.specs.declared.error.StoreError.{StoreError}
 use Rattle.pv_world.proofs.RecordLemmas.{narrow-is-taken}
-use Rattle.pv_world.proofs.RestartDisks.{look-spells}
+use Rattle.pv_world.proofs.RestartDisks.{checkpointed, look-spells}
 use Rattle.pv_world.proofs.restart.read_again.Goals as goal
 
 pub unreachable-requires : goal.unreachable-requires
 unreachable-requires c =
-    let (added, spells, replayable) = c.requires in
+    let (added, standing, spells, replayable) = c.requires in
     let records : List Record = c.args.left.records ++ option_to_list added in
-    let none : place_in c.in-Err-NotOurs.field-0 ≡ None = ((c.in-Err-NotOurs.ensures.answer c.args.disk.now.image.content refl).gives spells.contents spells.holds.journal).1 in
+    let none : place_in c.in-Err-NotOurs.field-0 ≡ None = ((c.in-Err-NotOurs.ensures.answer c.args.disk.now.image.content refl).gives spells.contents (checkpointed spells.contents standing _ spells.holds.stands)).1 in
     none-some c.in-Err-NotOurs.field-0-0 (sym none ∙ ap place_in c.in-Err-NotOurs.field-0-is)
 
 pub unreachable-requires-in-Err-BadRecord : goal.unreachable-requires-in-Err-BadRecord
 unreachable-requires-in-Err-BadRecord c =
-    let (added, spells, replayable) = c.requires in
+    let (added, standing, spells, replayable) = c.requires in
     let records : List Record = c.args.left.records ++ option_to_list added in
-    let spelled : SpellRecords records (contents_of c.in-Ok.contents.items) = look-spells records None None c.args.disk.now (contents_of c.in-Ok.contents.items) spells
+    let spelled : SpellRecords records (contents_of c.in-Ok.contents.items) = look-spells records standing None None c.args.disk.now (contents_of c.in-Ok.contents.items) spells
     (λ contents journal. ((c.in-Ok.ensures.answer c.args.disk.now.image.content refl).gives contents journal).0) in
     let given : SpellRecords records (contents_of c.deref.result.now) =
     subst (λ (contents : List (Vec ℕ)). SpellRecords records (contents_of contents)) (sym c.deref.ensures.value) spelled in
@@ -39,12 +39,12 @@ again-requires-clause-range c =
 
 pub unreachable-requires-in-Err-TooManyOutcomes : goal.unreachable-requires-in-Err-TooManyOutcomes
 unreachable-requires-in-Err-TooManyOutcomes c =
-    let (added, spells, replayable) = c.requires in
+    let (added, standing, spells, replayable) = c.requires in
     let records : List Record = c.args.left.records ++ option_to_list added in
     let catalog : Declared = c.args.left.catalog in
     let site : ℕ = c.args.left.me in
     let read : List Record = records_of c.in-Ok-replay.past.records.items in
-    let spelled : SpellRecords records (contents_of c.in-Ok.contents.items) = look-spells records None None c.args.disk.now (contents_of c.in-Ok.contents.items) spells
+    let spelled : SpellRecords records (contents_of c.in-Ok.contents.items) = look-spells records standing None None c.args.disk.now (contents_of c.in-Ok.contents.items) spells
     (λ contents journal. ((c.in-Ok.ensures.answer c.args.disk.now.image.content refl).gives contents journal).0) in
     let given : SpellRecords records (contents_of c.deref.result.now) =
     subst (λ (contents : List (Vec ℕ)). SpellRecords records (contents_of contents)) (sym c.deref.ensures.value) spelled in
@@ -56,8 +56,8 @@ unreachable-requires-in-Err-TooManyOutcomes c =
     none-some c.in-Err-TooManyOutcomes.field-0-0 (sym none ∙ told)
 
 pub returns-in-Ok-again-clause-left : goal.returns-in-Ok-again-clause-left
-returns-in-Ok-again-clause-left c = λ records spells.
-    let spelled : SpellRecords records (contents_of c.in-Ok.contents.items) = look-spells records None None c.args.disk.now (contents_of c.in-Ok.contents.items) spells
+returns-in-Ok-again-clause-left c = λ records standing spells.
+    let spelled : SpellRecords records (contents_of c.in-Ok.contents.items) = look-spells records standing None None c.args.disk.now (contents_of c.in-Ok.contents.items) spells
     (λ contents journal. ((c.in-Ok.ensures.answer c.args.disk.now.image.content refl).gives contents journal).0) in
     let given : SpellRecords records (contents_of c.deref.result.now) =
     subst (λ (contents : List (Vec ℕ)). SpellRecords records (contents_of contents)) (sym c.deref.ensures.value) spelled in

@@ -1,8 +1,7 @@
 use Rattle.std.proofs.Common.{ℕ, Err, sym, subst}
-use Rattle.std.specs.Prelude.{IfOk}
 use Rattle.pv_base.specs.Catalog.{Declared}
 use Rattle.pv_disk.specs.MemLaws.{mem_model}
-use Rattle.pv_journal.specs.JournalModel.{journal_model}
+use Rattle.pv_ckpt.specs.CkptModel.{ckpt_model}
 use Rattle.pv_site.specs.Inputs.{IsInputFor}
 use Rattle.pv_site.specs.Steps.{Steps}
 use Rattle.pv_site.specs.Values.{input_of}
@@ -13,14 +12,14 @@ use Rattle.pv_world.specs.Cells.{HasStepped}
 use Rattle.pv_world.specs.Stands.{StandsForSite}
 use Rattle.pv_world.specs.declared.cell.Cell.{Cell}
 use Rattle.pv_world.specs.declared.cell.Cell.TheVariants.{Up}
-use Rattle.pv_world.specs.declared.cell.Stepped.TheVariants.{Made}
+use Rattle.pv_world.specs.declared.cell.Stepped.TheVariants.{Broke, Made}
 
 pub returns-in-Ok : goal.returns-in-Ok
 returns-in-Ok c = λ is stands.
     subst (λ (cell : Cell). StandsForSite c.args.catalog.now c.args.site.0 cell is
     → HasStepped c.args.catalog.now c.args.site.0 cell (Up c.step.new.self) is is.running (input_of c.args.input.now) (Made c.in-Ok.step))
     (sym c.in-Up.is)
-    (λ up. has-stepped c.args.catalog.now c.args.site.0 c.in-Up.up is up c.armed_journals.ensures.intact c.armed_journals.ensures.appends c.step.new.self
+    (λ up. has-stepped c.args.catalog.now c.args.site.0 c.in-Up.up is up c.armed_logs.ensures.intact c.armed_logs.ensures.appends c.step.new.self
     (input_of c.args.input.now) c.in-Ok.step c.in-Ok.ensures.step c.in-Ok.ensures.ready c.in-Ok.ensures.spelled)
     stands
 
@@ -38,27 +37,27 @@ step-requires-clause-input c =
 pub fall-requires : goal.fall-requires
 fall-requires c =
     let up = is-up c.args.catalog.now c.args.site.0 c.args.self.now c.in-Up.up c.requires.is c.in-Up.is c.requires.stands in
-    can-fall c.args.catalog.now c.args.site.0 c.in-Up.up c.requires.is up c.armed_journals.ensures.intact c.armed_journals.ensures.appends c.step.new.self
+    can-fall c.args.catalog.now c.args.site.0 c.in-Up.up c.requires.is up c.armed_logs.ensures.intact c.armed_logs.ensures.appends c.step.new.self
     (input_of c.args.input.now) c.length-length.result c.length-length.ensures
-    (subst (λ (e : StepError). Steps (journal_model mem_model) c.in-Up.up c.step.new.self c.in-Up.up.running (input_of c.args.input.now) (Err e))
+    (subst (λ (e : StepError). Steps (ckpt_model mem_model) c.in-Up.up c.step.new.self c.in-Up.up.running (input_of c.args.input.now) (Err e))
     c.in-Err-Fault.field-0-is c.in-Err-Fault.ensures.step)
     c.requires.replayable c.requires.after
 
-pub returns-in-Err-Fault : goal.returns-in-Err-Fault
-returns-in-Err-Fault c = λ is stands.
+pub returns-in_ok-fall-in-Err-Fault : goal.returns-in_ok-fall-in-Err-Fault
+returns-in_ok-fall-in-Err-Fault c = λ is stands.
     subst (λ (cell : Cell). StandsForSite c.args.catalog.now c.args.site.0 cell is
-    → IfOk c.fall.result (HasStepped c.args.catalog.now c.args.site.0 cell c.fall.new.self is is.running (input_of c.args.input.now)))
+    → HasStepped c.args.catalog.now c.args.site.0 cell c.fall.new.self is is.running (input_of c.args.input.now) (Broke c.in_ok-fall-in-Err-Fault.field-0))
     (sym c.in-Up.is)
-    (λ up. has-broken c.args.catalog.now c.args.site.0 c.in-Up.up is up c.armed_journals.ensures.intact c.armed_journals.ensures.appends c.step.new.self
-    (input_of c.args.input.now) c.fall.new.self c.fall.result
-    (subst (λ (e : StepError). Steps (journal_model mem_model) c.in-Up.up c.step.new.self c.in-Up.up.running (input_of c.args.input.now) (Err e))
+    (λ up. has-broken c.args.catalog.now c.args.site.0 c.in-Up.up is up c.armed_logs.ensures.intact c.armed_logs.ensures.appends c.step.new.self
+    (input_of c.args.input.now) c.fall.new.self c.in_ok-fall-in-Err-Fault.field-0
+    (subst (λ (e : StepError). Steps (ckpt_model mem_model) c.in-Up.up c.step.new.self c.in-Up.up.running (input_of c.args.input.now) (Err e))
     c.in-Err-Fault.field-0-is c.in-Err-Fault.ensures.step)
-    c.fall.ensures)
+    c.in_ok-fall-in-Err-Fault.ensures)
     stands
 
 pub unreachable-requires : goal.unreachable-requires
 unreachable-requires c =
     let up = is-up c.args.catalog.now c.args.site.0 c.args.self.now c.in-Up.up c.requires.is c.in-Up.is c.requires.stands in
     not-down-now c.args.catalog.now c.args.site.0 c.in-Up.up c.requires.is up c.step.new.self (input_of c.args.input.now)
-    (subst (λ (e : StepError). Steps (journal_model mem_model) c.in-Up.up c.step.new.self c.in-Up.up.running (input_of c.args.input.now) (Err e))
+    (subst (λ (e : StepError). Steps (ckpt_model mem_model) c.in-Up.up c.step.new.self c.in-Up.up.running (input_of c.args.input.now) (Err e))
     c.in-Err-Down.field-0-is c.in-Err-Down.ensures.step)

@@ -7,7 +7,7 @@ use Rattle.pv_disk.specs.MemDisk.{MemState}
 use Rattle.pv_protocol.specs.State.{Site}
 use Rattle.pv_protocol.specs.World.{no_site}
 use Rattle.pv_base.specs.Catalog.{Declared}
-use Rattle.pv_world.specs.Disks.{HoldSites, IsJournalOf}
+use Rattle.pv_world.specs.Disks.{HoldSites, IsLogOfSite}
 use Rattle.pv_world.specs.Stands.{IsSomeSite, StandForSites, StandsForSite}
 use Rattle.pv_world.specs.declared.cell.Cell.{Cell}
 use Rattle.pv_world.proofs.room.Room.fill.Goals as goal

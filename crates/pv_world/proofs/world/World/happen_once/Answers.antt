@@ -4,7 +4,7 @@ use Rattle.pv_script.specs.ScheduleView.{event_of}
 use Rattle.pv_site.specs.SiteState.{setup_of}
 use Rattle.pv_world.proofs.DeliverLemmas.{orderly}
 use Rattle.pv_world.proofs.EventLemmas.{reached-ticked}
-use Rattle.pv_world.proofs.HappenLemmas.{begun-armed, begun-mended, comes-delivered, comes-dropped, comes-lost, comes-pumped, comes-rearmed, comes-reported, comes-sent, comes-started, comes-stopped, comes-submitted, comes-ticked, comes-totalled}
+use Rattle.pv_world.proofs.HappenLemmas.{begun-armed, begun-mended, comes-delivered, comes-dropped, comes-lost, comes-packed, comes-pumped, comes-rearmed, comes-reported, comes-sent, comes-started, comes-stopped, comes-submitted, comes-ticked, comes-totalled}
 use Rattle.pv_world.proofs.StandLemmas.{cells-count}
 use Rattle.pv_world.proofs.world.World.happen_once.Goals as goal
 
@@ -61,6 +61,11 @@ pub returns-in-Start : goal.returns-in-Start
 returns-in-Start c is stands =
     comes-started c.args.self.now c.start.new.self c.args.lines.now.items c.start.new.lines.items is (event_of c.args.event.now) c.start.result _
     (ap event_of c.in-Start.is) (c.start.ensures is stands)
+
+pub returns-in-Checkpoint : goal.returns-in-Checkpoint
+returns-in-Checkpoint c is stands =
+    comes-packed c.args.self.now c.checkpoint.new.self c.args.lines.now.items c.checkpoint.new.lines.items is (event_of c.args.event.now) c.checkpoint.result _
+    (ap event_of c.in-Checkpoint.is) (c.checkpoint.ensures is stands)
 
 pub returns-in_ok-push_sent-in-Sent : goal.returns-in_ok-push_sent-in-Sent
 returns-in_ok-push_sent-in-Sent c is stands =
