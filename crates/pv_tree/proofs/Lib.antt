@@ -1,0 +1,10 @@
+pub mod AddedNames
+pub mod ChosenLemmas
+pub mod KeptLemmas
+pub mod MeaningLemmas
+pub mod NotedLemmas
+pub mod PolyLemmas
+pub mod RootLemmas
+pub mod SameLemmas
+pub mod SettleLemmas
+pub mod SettlesLemmas

@@ -1,0 +1,15 @@
+-- What is settled is a polyvalue.
+use Rattle.std.proofs.Common.{ℕ, List}
+use Rattle.pv_base.specs.declared.literal.Literal.{Literal}
+use Rattle.pv_base.specs.Polyvalue.{Case, NamesAtMost, IsPolyvalue}
+use Rattle.pv_law_polyvalues.proofs.NameLemmas.{NamesAtMost-fewer}
+use Rattle.pv_tree.specs.Meanings.{cases_at}
+use Rattle.pv_tree.specs.Settling.{Settles}
+
+-- It names no more than what it was.
+pub settles-polyvalue : {V : Type 0} (limit : ℕ) (literals : List Literal) (cases : List (Case V)) (meanings : List (List (Case V))) (number : ℕ) → NamesAtMost limit cases
+    → Settles literals cases meanings number → IsPolyvalue limit (cases_at meanings number)
+settles-polyvalue limit literals cases meanings number few is = record {
+  canonical = is.canonical;
+  few = NamesAtMost-fewer limit (cases_at meanings number) cases is.named few;
+}

@@ -1,0 +1,4 @@
+use Rattle.pv_tree.proofs.nodes.Nodes.+push_names.Given as goal
+
+abbrev pub decreases-push_names : goal.decreases-push_names
+decreases-push_names g l = l.number

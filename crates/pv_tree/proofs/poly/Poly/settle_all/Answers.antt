@@ -1,0 +1,16 @@
+-- What is settled names no more than before.
+use Rattle.std.proofs.Common.{sym, subst}
+use Rattle.pv_base.specs.Polyvalue.{IsPolyvalue}
+use Rattle.pv_base.specs.declared.limits.TheConstants.{HELD_NAMES}
+use Rattle.pv_tree.proofs.PolyLemmas.{settles-polyvalue}
+use Rattle.pv_tree.proofs.poly.Poly.settle_all.Goals as goal
+
+pub invariant_of-result : goal.invariant_of-result
+invariant_of-result g c =
+    subst (IsPolyvalue HELD_NAMES) (sym c.in_ok-of_nodes.ensures)
+    (settles-polyvalue HELD_NAMES c.args.literals.now c.self.inside.tree c.settle.new.target c.in_ok-root.root c.self.invariant.few c.in_ok-root.ensures.settled)
+
+pub returns-clause-polyvalue : goal.returns-clause-polyvalue
+returns-clause-polyvalue g c =
+    subst (IsPolyvalue HELD_NAMES) (sym c.in_ok-of_nodes.ensures)
+    (settles-polyvalue HELD_NAMES c.args.literals.now c.self.inside.tree c.settle.new.target c.in_ok-root.root c.self.invariant.few c.in_ok-root.ensures.settled)

@@ -1,0 +1,22 @@
+-- The cases that a polyvalue holds, and the nodes beside them.
+use Rattle.std.specs.Prelude.{◌≡◌, ◌≤◌, ◌-◌, List, length}
+use Rattle.pv_base.specs.Polyvalue.{Case}
+use Rattle.pv_tree.specs.declared.tree.Held.{Held}
+use Rattle.pv_tree.specs.declared.tree.Held.TheVariants.{One, Many}
+use Rattle.pv_tree.specs.Meanings.{cases_at}
+
+module _ {V : Type 0} where
+  -- The last node is that of these cases.
+  pub record IsLast (meanings : List (List (Case V))) (cases : List (Case V)) : Type 0 where
+    pub some : 1 ≤ length meanings
+    pub is : cases_at meanings (length meanings - 1) ≡ cases
+
+  -- the cases, wherever they stand
+  abbrev pub held_cases : Held V → List (Case V)
+  held_cases (One cases) = cases
+  held_cases (Many nodes cases) = cases.items
+
+  -- There is one case, or the nodes beside the cases are a tree of these.
+  abbrev pub HasTree : Held V → Type 0
+  HasTree (One cases) = length cases ≡ 1
+  HasTree (Many nodes cases) = IsLast nodes cases.items

@@ -1,0 +1,86 @@
+// Nodes that choose by an outcome.
+ghost use Rattle.std.specs.Prelude.{◌≡◌, ◌<◌, ◌≤◌, false, length, IfOk, OnOk};
+ghost use Rattle.pv_base.specs.Polyvalue.{names};
+ghost use Rattle.pv_poly.specs.From.{NamesFrom, IsFirst, IsSide, before, earlier, first_before};
+ghost use Rattle.pv_tree.specs.Meanings.{cases_at, Keeps, Chooses};
+
+use crate::nodes::{Node, Nodes};
+use pv_base::{Exact, NoMemory, TxnId};
+
+impl<V: Exact> Nodes<V> {
+    /// The number of the node that is the second one where the transaction commits, and else the first. The nodes that this wants are made. Takes
+    /// time in proportion to the tests of earlier transactions.
+    pub fn choose(&mut self, txn: TxnId, aborted: u32, committed: u32) -> Result<u32, NoMemory>
+        requires aborted_there { aborted < length self.old }
+        requires committed_there { committed < length self.old }
+        requires aborted_unnamed { names (cases_at self.old aborted) txn ≡ false }
+        requires committed_unnamed { names (cases_at self.old committed) txn ≡ false }
+        ensures kept { OnOk result (Keeps self.old self.new) }
+        ensures chosen { IfOk result (Chooses txn (cases_at self.old aborted) (cases_at self.old committed) self.new) }
+    {
+        match first_before(txn, self.top(aborted), self.top(committed)) {
+            None => self.test(txn, aborted, committed),
+            Some(first) => {
+                let front = self.side(aborted, first, false);
+                let back = self.side(committed, first, false);
+                let aborted_back = self.side(aborted, first, true);
+                let committed_back = self.side(committed, first, true);
+                let front = self.choose(txn, front, back)?;
+                let back = self.choose(txn, aborted_back, committed_back)?;
+                self.test(first, front, back)
+            }
+        }
+    }
+
+    // The transaction that the node tests first.
+    fn top(&self, number: u32) -> Option<TxnId>
+        requires { number < length self.now }
+        ensures { IsFirst (cases_at self.now number) result }
+    {
+        match self.node(number) {
+            Node::Leaf(_) => None,
+            Node::Test(txn, _, _) => Some(txn),
+        }
+    }
+
+    // The node once the outcome of the transaction is known, where it tests no earlier one.
+    fn side(&self, number: u32, txn: TxnId, commits: bool) -> u32
+        requires there { number < length self.now }
+        requires from { NamesFrom txn (cases_at self.now number) }
+        ensures there { result ≤ number }
+        ensures side { IsSide txn commits (cases_at self.now number) (cases_at self.now result) }
+    {
+        match self.node(number) {
+            Node::Test(tested, aborted, committed) if tested == txn => {
+                if commits { committed } else { aborted }
+            }
+            _ => number,
+        }
+    }
+}
+
+// The earlier of the two, if there is one and it comes before `txn`.
+fn first_before(txn: TxnId, top: Option<TxnId>, other: Option<TxnId>) -> Option<TxnId>
+    ensures { result ≡ first_before txn top other }
+{
+    match (top, other) {
+        (Some(top), Some(other)) => before(txn, earlier(top, other)),
+        (Some(top), None) => before(txn, top),
+        (None, Some(other)) => before(txn, other),
+        (None, None) => None,
+    }
+}
+
+// The earlier of two transactions.
+fn earlier(top: TxnId, other: TxnId) -> TxnId
+    ensures { result ≡ earlier top other }
+{
+    if other < top { other } else { top }
+}
+
+// The transaction `top`, if it is before `txn`.
+fn before(txn: TxnId, top: TxnId) -> Option<TxnId>
+    ensures { result ≡ before txn top }
+{
+    if top < txn { Some(top) } else { None }
+}

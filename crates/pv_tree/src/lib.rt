@@ -1,0 +1,17 @@
+//! Polyvalues: values that depend on the outcomes of named transactions, as decision trees in lists of nodes, beside their canonical cases.
+#![tactic(auto)]
+
+mod choice;
+mod laws;
+mod names;
+mod nodes;
+mod poly;
+mod read;
+mod settling;
+mod table;
+mod tree;
+
+pub use laws::equal_polyvalues_are_one;
+pub use poly::Poly;
+pub use pv_base::{Case, CaseError, NameError};
+pub use read::Read;

@@ -1,0 +1,215 @@
+// The canonical cases of a polyvalue, and a decision tree of them.
+ghost use Rattle.std.specs.Prelude.{◌≡◌, ◌<◌, ◌≤◌, ◌^◌, [], ◌∷◌, ◌++◌, length, Some, IfOk, OnOk};
+ghost use Rattle.pv_base.specs.Assignment.{AreAscending};
+ghost use Rattle.pv_base.specs.Polyvalue.{value_at, names, AreNames, AreValues, IsCanonical};
+ghost use Rattle.pv_base.specs.declared.limits.TheConstants.{HELD_NAMES};
+ghost use Rattle.pv_poly.specs.CasesAt.{under_all};
+ghost use Rattle.pv_tree.specs.Meanings.{cases_at, Keeps};
+ghost use Rattle.pv_tree.specs.Settling.{Settles};
+
+use crate::nodes::{Node, Nodes};
+use crate::settling::nothing_noted;
+use pv_base::{Case, Exact, HELD_NAMES, Literal, NoMemory, TxnId};
+use pv_cases::{copy_cases, ordered};
+use std::alloc::Global;
+use std::marker::Model;
+
+/// The cases, and the tree beside them.
+#[derive(Debug, Drop)]
+pub enum Held<V> {
+    /// One case, as an array, which is lent as a slice. It wants no tree.
+    One([Case<V>; 1]),
+    /// The nodes of the tree, of which the last is the root, and its cases, from left to right.
+    Many(Nodes<V>, Vec<Case<V>>),
+}
+
+/// The canonical cases of a polyvalue, beside a decision tree of them, on which it is worked. Most values depend on no outcome and have one case:
+/// it stands within the polyvalue, so that such a value takes no memory.
+#[derive(Debug, Drop)]
+pub struct Tree<V> {
+    held: Held<V>,
+}
+
+impl<V> Model for Tree<V> {
+    ghost use Rattle.std.specs.Prelude.{List};
+    ghost use Rattle.pv_base.specs.Polyvalue as model;
+
+    ghost Value = { List (model.Case V) };
+
+    ghost use Rattle.pv_tree.specs.HeldCases.{held_cases, HasTree};
+
+    ghost view = { λ tree. held_cases tree.held };
+
+    ghost invariant = { λ tree. HasTree tree.held };
+}
+
+impl<V> Tree<V> {
+    /// The cases, wherever they stand.
+    pub fn cases(&self) -> &[Case<V>]
+        ensures { result.now ≡ self.now }
+    {
+        match &self.held {
+            Held::One(case) => case,
+            Held::Many(_, cases) => cases,
+        }
+    }
+}
+
+impl<V: Exact> Tree<V> {
+    /// This value at every assignment. It takes no memory.
+    pub fn sure(alloc: Global, value: V) -> Tree<V>
+        ensures { result ≡ record { when = []; value = value } ∷ [] }
+    {
+        Tree {
+            held: Held::One([Case {
+                when: Vec::new(alloc),
+                value,
+            }]),
+        }
+    }
+
+    /// The cases of the node, which are made here.
+    pub fn of_nodes(alloc: Global, nodes: Nodes<V>, root: u32) -> Result<Tree<V>, NoMemory>
+        requires { root < length nodes }
+        ensures { IfOk result (λ tree. tree ≡ cases_at nodes root) }
+    {
+        match nodes.node(root) {
+            Node::Leaf(value) => Ok(Tree::sure(alloc, value)),
+            Node::Test(..) => {
+                let nodes = nodes.up_to(root);
+                let mut cases = Vec::with_capacity(alloc, nodes.len() as usize)?;
+                nodes.push_cases(root, &mut Vec::new(alloc), &mut cases)?;
+                Ok(Tree {
+                    held: Held::Many(nodes, cases),
+                })
+            }
+        }
+    }
+
+    /// Equal cases and an equal tree, which share nothing with these.
+    pub fn copy(&self, alloc: Global) -> Result<Tree<V>, NoMemory>
+        ensures { IfOk result (λ copy. copy ≡ self.now) }
+    {
+        let held = match &self.held {
+            Held::One([case]) => Held::One([case.copy(alloc)?]),
+            Held::Many(nodes, cases) => Held::Many(nodes.copy(alloc)?, copy_cases(alloc, cases)?),
+        };
+        Ok(Tree { held })
+    }
+
+    /// The value where exactly the transactions of `yes` commit.
+    pub fn value_at(&self, yes: &[TxnId]) -> V
+        requires { IsCanonical self.now }
+        ensures { value_at self.now yes.now ≡ Some result }
+    {
+        match &self.held {
+            Held::One(case) => only_value(case),
+            Held::Many(nodes, _) => nodes.value_at(nodes.len() - 1, yes),
+        }
+    }
+
+    /// Puts the tree, once the outcomes of these transactions are known, among the nodes, and tells the number of its root there.
+    pub fn settle(
+        &self,
+        alloc: Global,
+        literals: &[Literal],
+        target: &mut Nodes<V>,
+    ) -> Result<u32, NoMemory>
+        requires { IsCanonical self.now }
+        ensures kept { OnOk result (Keeps target.old target.new) }
+        ensures settled { IfOk result (Settles literals.now self.now target.new) }
+    {
+        match &self.held {
+            Held::One(case) => target.leaf(only_value(case)),
+            Held::Many(nodes, _) => {
+                let mut noted = nothing_noted(alloc, nodes.len())?;
+                nodes.settle(nodes.len() - 1, literals, target, &mut noted)
+            }
+        }
+    }
+
+    /// The transactions that the tree names, ascending, each once.
+    pub fn names(&self, alloc: Global) -> Result<Vec<TxnId>, NoMemory>
+        requires { IsCanonical self.now }
+        ensures { IfOk result (λ txns. AreNames self.now txns.items) }
+    {
+        match &self.held {
+            Held::One(_) => Ok(Vec::new(alloc)),
+            Held::Many(nodes, _) => {
+                let mut txns = Vec::new(alloc);
+                let mut seen = vec![in alloc; false; nodes.len() as usize]?;
+                nodes.push_names(nodes.len() - 1, &mut seen, &mut txns)?;
+                Ok(ordered(txns))
+            }
+        }
+    }
+
+    /// The value at every assignment of these transactions.
+    pub fn table(&self, alloc: Global, txns: &[TxnId]) -> Result<Vec<V>, NoMemory>
+        requires canonical { IsCanonical self.now }
+        requires ascending { AreAscending txns.now }
+        requires few { length txns.now ≤ HELD_NAMES }
+        ensures { IfOk result (λ values. AreValues self.now txns.now values.items) }
+    {
+        match &self.held {
+            Held::One(case) => {
+                let mut nodes = Nodes::new(alloc);
+                let leaf = nodes.leaf(only_value(case))?;
+                let mut values = Vec::with_capacity(alloc, 1 << txns.len())?;
+                nodes.push_table(leaf, txns, &mut values)?;
+                Ok(values)
+            }
+            Held::Many(nodes, _) => {
+                let mut values = Vec::with_capacity(alloc, 1 << txns.len())?;
+                nodes.push_table(nodes.len() - 1, txns, &mut values)?;
+                Ok(values)
+            }
+        }
+    }
+}
+
+impl<V: Exact> Nodes<V> {
+    // Appends the node's cases, each under the literals of the way down to here.
+    fn push_cases(
+        &self,
+        number: u32,
+        way: &mut Vec<Literal>,
+        cases: &mut Vec<Case<V>>,
+    ) -> Result<(), NoMemory>
+        requires there { number < length self.now }
+        ensures cases { OnOk result (cases.new.items ≡ cases.old.items ++ under_all way.old.items (cases_at self.now number)) }
+        ensures way { OnOk result (way.new.items ≡ way.old.items) }
+    {
+        match self.node(number) {
+            Node::Leaf(value) => {
+                cases.push(Case {
+                    when: way.clone()?,
+                    value,
+                })?;
+                Ok(())
+            }
+            Node::Test(txn, aborted, committed) => {
+                way.push(Literal {
+                    txn,
+                    commits: false,
+                })?;
+                self.push_cases(aborted, way, cases)?;
+                way.pop();
+                way.push(Literal { txn, commits: true })?;
+                self.push_cases(committed, way, cases)?;
+                way.pop();
+                Ok(())
+            }
+        }
+    }
+}
+
+// The value of one case alone, which is always met.
+fn only_value<V: Copy>(cases: &[Case<V>]) -> V
+    requires canonical { IsCanonical cases.now }
+    requires one { length cases.now ≡ 1 }
+    ensures { cases.now ≡ record { when = []; value = result } ∷ [] }
+{
+    let case = &cases[0];
+    case.value
+}
