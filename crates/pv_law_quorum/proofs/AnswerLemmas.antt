@@ -23,7 +23,7 @@ txn_of (value_accepted txn ballot commits) = txn
 pub promise-value : {txn other : TxnId} {ballot taken : Ballot} {commits : Bool} → ballot_promised txn ballot ≡ value_accepted other taken commits → ⊥
 promise-value e = cc
 
-same-phase-eq : (phase other : Phase) → is_same_phase phase other ≡ true → phase ≡ other
+pub same-phase-eq : (phase other : Phase) → is_same_phase phase other ≡ true → phase ≡ other
 same-phase-eq asking asking h = refl
 same-phase-eq asking accepting h = absurd (false≢true h)
 same-phase-eq accepting asking h = absurd (false≢true h)

@@ -16,13 +16,13 @@ use Rattle.pv_law_quorum.specs.Steps.{Holds, entries_in, MayGrow, as_was, one_mo
 use Rattle.pv_law_quorum.proofs.AnswerLemmas.{AppendsNew, Fits, IsGiven, step-fits}
 
 -- A decider that is up is one of the world's.
-up-listed : (deciders : List Decider) (n : ℕ) (memory : List Entry) → (get_or deciders n no_decider).memory ≡ Some memory → n < length deciders
+pub up-listed : (deciders : List Decider) (n : ℕ) (memory : List Entry) → (get_or deciders n no_decider).memory ≡ Some memory → n < length deciders
 up-listed [] n memory is = cc
 up-listed (first ∷ rest) zero memory is = omega arith
 up-listed (first ∷ rest) (suc n) memory is = let later : n < length rest = up-listed rest n memory is in omega (arith, later)
 
 -- What holds of each decider, where one is put among them of which it holds.
-put-each : (P : ℕ → Decider → Type 0) (deciders : List Decider) (k : ℕ) (decider : Decider) → P k decider
+pub put-each : (P : ℕ → Decider → Type 0) (deciders : List Decider) (k : ℕ) (decider : Decider) → P k decider
     → ((n : ℕ) → P n (get_or deciders n no_decider)) → (n : ℕ) → P n (get_or (set deciders k decider) n no_decider)
 put-each P [] k decider new old n = old n
 put-each P (first ∷ rest) zero decider new old zero = new

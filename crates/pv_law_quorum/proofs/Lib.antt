@@ -1,9 +1,15 @@
 pub mod AgreementLemmas
 pub mod AnswerLemmas
 pub mod BallotLemmas
+pub mod BeginningLemmas
+pub mod DeliveryLemmas
 pub mod EventLemmas
 pub mod OrderLemmas
 pub mod RecordLemmas
+pub mod ReplyLemmas
 pub mod RunLemmas
 pub mod SoundLemmas
 pub mod StableLemmas
+pub mod StageLemmas
+pub mod TurnLemmas
+pub mod UndisturbedLemmas

@@ -79,7 +79,7 @@ same-ballot-eq ballot other h =
     let parts = and_parts (ballot.number == other.number) (ballot.decider == other.decider) h in
     (λ i. record { number = eqb-true ballot.number other.number parts.0 i; decider = eqb-true ballot.decider other.decider parts.1 i })
 
-same-ballot-refl : (ballot : Ballot) → is_same_ballot ballot ballot ≡ true
+pub same-ballot-refl : (ballot : Ballot) → is_same_ballot ballot ballot ≡ true
 same-ballot-refl ballot = and_from _ _ (eq-eqb ballot.number ballot.number refl) (eq-eqb ballot.decider ballot.decider refl)
 
 accepts-eq : (txn : TxnId) (ballot : Ballot) (commits : Bool) (kept : Record) → accepts txn ballot commits kept ≡ true → value_accepted txn ballot commits ≡ kept

@@ -70,7 +70,7 @@ after-append setup [] more w = refl
 after-append setup (event ∷ events) more w = after-append setup events more (after_event setup w event)
 
 module _ (setup : Setup) (fit : IsFit setup) where
-  sound-any : (events : List Event) → IsSound setup (λ txn commits. ⊤) (after setup (opening setup) events)
+  pub sound-any : (events : List Event) → IsSound setup (λ txn commits. ⊤) (after setup (opening setup) events)
   sound-any events = sound-run setup fit (λ txn commits. ⊤) events (λ event h. any-proposal event)
 
   pub one-ever-chosen : (events more : List Event) (txn : TxnId) (one other : Bool) → IsChosen setup (after setup (opening setup) events) txn one

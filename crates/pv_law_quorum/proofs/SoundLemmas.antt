@@ -29,12 +29,12 @@ value_in (ballot_promised txn ballot) = true
 value_in (value_accepted txn ballot commits) = commits
 
 -- A ballot of a byte.
-abbrev IsSmall : Option Ballot → Type 0
+abbrev pub IsSmall : Option Ballot → Type 0
 IsSmall None = ⊤
 IsSmall (Some ballot) = ballot.decider < 256
 
 -- A ballot with the next number is above each that is promised.
-next-above : (other : Option Ballot) (decider k : ℕ) → IsSmall other → Reaches (λ (b : Ballot). b) other k
+pub next-above : (other : Option Ballot) (decider k : ℕ) → IsSmall other → Reaches (λ (b : Ballot). b) other k
     → k < rank (record { number = number_in other + 1; decider = decider })
 next-above None decider k small h = absurd h
 next-above (Some ballot) decider k small h = omega (arith, small, h)
@@ -116,7 +116,7 @@ module _ (setup : Setup) (Proposed : TxnId → Bool → Type 0) (w : World) (sou
   pub has-within : (n : ℕ) (kept : Record) → Has w n kept → n < length w.deciders
   has-within n kept h = records-listed w.deciders n kept h
 
-  named-small : (n : ℕ) (txn : TxnId) (kept : Record) → Has w n kept → IsSmall (named txn kept)
+  pub named-small : (n : ℕ) (txn : TxnId) (kept : Record) → Has w n kept → IsSmall (named txn kept)
   named-small n txn (ballot_promised other ballot) h =
       let within = has-within ballot.decider (ballot_promised other ballot) (sound.records n (ballot_promised other ballot) h) in
       if-either IsSmall (is_same_txn txn other) (Some ballot) None (omega (arith, within, sound.few)) tt
@@ -126,7 +126,7 @@ module _ (setup : Setup) (Proposed : TxnId → Bool → Type 0) (w : World) (sou
       if-either IsSmall (is_same_txn txn other) (Some ballot) None (omega (arith, within, sound.few)) tt
 
   -- A ballot with the next number is above each in which a value is accepted here.
-  next-above-value : (n : ℕ) (txn : TxnId) (decider : ℕ) (ballot : Ballot) (commits : Bool) → Has w n (value_accepted txn ballot commits)
+  pub next-above-value : (n : ℕ) (txn : TxnId) (decider : ℕ) (ballot : Ballot) (commits : Bool) → Has w n (value_accepted txn ballot commits)
       → rank ballot < rank (record { number = number_in (promised txn (records_at w n)) + 1; decider = decider })
   next-above-value n txn decider ballot commits h =
       next-above (promised txn (records_at w n)) decider (rank ballot)

@@ -7,7 +7,8 @@ ghost use Rattle.std.specs.List.{Contains};
 ghost use Rattle.pv_base.specs.declared.txn.TxnId.{TxnId};
 ghost use Rattle.pv_law_quorum.specs.Ballot.{Ballot, is_below};
 ghost use Rattle.pv_law_quorum.specs.Decider.{Setup, decided};
-ghost use Rattle.pv_law_quorum.specs.World.{Event, Ending, whole, proposal, deliveries, IsChosen, IsFit, after, opening};
+ghost use Rattle.pv_law_quorum.specs.Undisturbed.{IsUndisturbed, IsSettled, unreported, next_ballot, after_all};
+ghost use Rattle.pv_law_quorum.specs.World.{Event, Ending, whole, proposal, deliveries, IsChosen, IsFit, after, after_event, opening};
 
 /// At most one value is ever chosen for a transaction: what is chosen after some events of a run is what is chosen after more of them.
 /// And every line that says that a value is decided, in the whole run, names a value that is chosen.
@@ -22,6 +23,17 @@ pub fn one_value_is_chosen()
 pub fn what_is_chosen_was_proposed()
     ensures { (setup : Setup) → IsFit setup → (events : List Event) (txn : TxnId) (v : Bool) → IsChosen setup (after setup (opening setup) events) txn v →
         (n : ℕ) × ((ending : Ending) × Contains events (proposal n txn v ending)) }
+{}
+
+/// A proposal that nothing disturbs comes to its end. After any events of a run a decider proposes a value, and then messages are
+/// delivered in any order, also again, each of the proposal's at least once; the proposer and a majority are up, and no decider
+/// promises a higher ballot of the transaction. Then the proposer reports that a value is decided, unless a log is full or no ballot
+/// number is left.
+pub fn an_undisturbed_proposal_is_settled()
+    ensures { (setup : Setup) → IsFit setup → (events : List Event) (n : ℕ) (txn : TxnId) (v : Bool) (members : ℕ → Bool) (numbers : List ℕ) →
+        let before = unreported (after setup (opening setup) events) in
+        let begun = after_event setup before (proposal n txn v whole) in
+        IsUndisturbed setup members n txn (next_ballot before n txn) begun numbers → IsSettled (after_all setup begun numbers) n txn }
 {}
 
 /// For example, of three deciders: when 0 has decided on yes, 1, which proposes no, decides on yes too. And where 0 has promises of a
