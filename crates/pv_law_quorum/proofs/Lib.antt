@@ -8,6 +8,7 @@ pub mod OrderLemmas
 pub mod RecordLemmas
 pub mod ReplyLemmas
 pub mod RunLemmas
+pub mod SinceLemmas
 pub mod SoundLemmas
 pub mod StableLemmas
 pub mod StageLemmas

@@ -1,11 +1,11 @@
 -- A proposal that nothing disturbs: messages are delivered, and nothing else happens.
-use Rattle.std.specs.Prelude.{◌≡◌, ◌⊎◌, ℕ, ◌+◌, ◌<◌, Bool, true, false, Some, List, [], ◌∷◌, slice_get}
+use Rattle.std.specs.Prelude.{◌≡◌, ◌⊎◌, ℕ, ◌+◌, ◌<◌, Bool, true, false, Some, List, [], ◌∷◌, map, slice_get}
 use Rattle.std.specs.List.{Contains}
 use Rattle.pv_base.specs.declared.txn.TxnId.{TxnId}
 use Rattle.pv_law_quorum.specs.Ballot.{Ballot, is_passed, is_majority}
 use Rattle.pv_law_quorum.specs.Record.{promised}
 use Rattle.pv_law_quorum.specs.Decider.{Setup, Message, prepare, promise, accept, accepted, Entry, Line, decided, spent, full, number_in}
-use Rattle.pv_law_quorum.specs.World.{World, Envelope, whole, delivery, decider_at, records_at, after_event}
+use Rattle.pv_law_quorum.specs.World.{World, Envelope, whole, Event, delivery, decider_at, records_at, after_event, after}
 
 -- the world, with nothing reported so far
 abbrev pub unreported : World → World
@@ -15,10 +15,13 @@ unreported world = record world { lines = [] }
 abbrev pub next_ballot : World → ℕ → TxnId → Ballot
 next_ballot world n txn = record { number = number_in (promised txn (records_at world n)) + 1; decider = n }
 
--- the world after the messages of these numbers are delivered, one after another
+-- the messages of these numbers are delivered, one after another
+abbrev pub delivering : List ℕ → List Event
+delivering numbers = map (λ number. delivery number whole) numbers
+
+-- the world after that
 abbrev pub after_all : Setup → World → List ℕ → World
-after_all setup world [] = world
-after_all setup world (number ∷ numbers) = after_all setup (after_event setup world (delivery number whole)) numbers
+after_all setup world numbers = after setup world (delivering numbers)
 
 -- The message is among those that are delivered, after it was sent.
 abbrev pub IsDelivered : Setup → Envelope → World → List ℕ → Type 0
