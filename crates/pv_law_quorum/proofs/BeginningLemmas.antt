@@ -1,5 +1,5 @@
 -- A proposal begins a ballot that is new, and all that deliveries keep holds then.
-use Rattle.std.proofs.Common.{◌≡◌, ℕ, ◌+◌, ◌<◌, Bool, Some, None, Option, List, [], ◌∷◌, ◌++◌, length, inl, refl, sym, subst, ◌∙◌, arith}
+use Rattle.std.proofs.Common.{◌≡◌, ℕ, ◌+◌, ◌<◌, Bool, true, Some, None, Option, List, [], ◌∷◌, ◌++◌, length, inl, refl, sym, subst, ◌∙◌, arith}
 use Rattle.std.specs.Prelude.{nat_lt, nat_le, slice_get, ⊤}
 use Rattle.std.specs.List.{Contains}
 use Rattle.std.proofs.lemmas.List.Elements.{Contains-append_left}
@@ -60,7 +60,7 @@ module _ (setup : Setup) (fit : IsFit setup) (w : World) (sound : IsSound setup 
   Undisturbed v = IsUndisturbed setup members n txn ballot v numbers
 
   abbrev Settled : World → Type 0
-  Settled v = IsSettled (after_all setup v numbers) n txn
+  Settled v = IsSettled members (after_all setup v numbers) n txn
 
   -- No decider has a record of the ballot.
 
@@ -97,8 +97,8 @@ module _ (setup : Setup) (fit : IsFit setup) (w : World) (sound : IsSound setup 
     abbrev first : Entry
     first = record { txn = txn; ballot = ballot; commits = commits; phase = asking; counted = n ∷ []; last = last_vote txn (records_at w n) }
 
-    begun-stage : Stage setup fit.least n txn ballot (λ entry. ⊤) (After w n begun)
-    begun-stage =
+    begun-stage : (included : members n ≡ true) → Stage setup fit.least members n included txn ballot (λ entry. ⊤) (After w n begun)
+    begun-stage included =
         works first (record {
           found = subst (λ (d : Decider). entry_of txn (entries_in d.memory) ≡ Some first) (sym (now-here w n begun (up-listed w.deciders n memory up))) (put-own first memory);
           of = refl;
@@ -111,14 +111,14 @@ module _ (setup : Setup) (fit : IsFit setup) (w : World) (sound : IsSound setup 
     begun-settled : IsSound setup Any (After w n begun) → Undisturbed (After w n begun) → Settled (After w n begun)
     begun-settled begun_sound is =
         let small : n < setup.deciders = is.within n is.own in
-        let kept : Kept setup fit members n txn ballot refl small (After w n begun) = record {
+        let kept : Kept setup fit members n txn ballot refl small is.own (After w n begun) = record {
           sound = begun_sound;
           up = is.up;
-          stage = begun-stage;
+          stage = begun-stage is.own;
           replies = λ k apart kept h. fresh (After w n begun) k kept (subst (λ (d : Decider). Contains d.records kept) (other-same w n begun k apart) h);
         } in
-        settles setup fit members n txn ballot refl small is.most is.within numbers (After w n begun)
-        (run setup fit members n txn ballot refl small numbers (After w n begun) kept is.unpassed)
+        settles setup fit members n txn ballot refl small is.own is.most is.within numbers (After w n begun)
+        (run setup fit members n txn ballot refl small is.own numbers (After w n begun) kept is.unpassed)
         (λ k inside apart. sent-new w n begun k (prepare txn ballot) (others-told setup.deciders n (prepare txn ballot) k inside apart))
         is.delivered
 
@@ -140,7 +140,7 @@ module _ (setup : Setup) (fit : IsFit setup) (w : World) (sound : IsSound setup 
               let long = setup.length (records_at w n ++ ballot_promised txn ballot ∷ []) in
               let over : Answer = record { entries = memory; appended = None; sends = []; lines = full n long ∷ [] } in
               if-either Settles (nat_lt setup.limit long) over begun
-              (λ answer_sound is. by_full_log n long (lines-all setup numbers (After w n over) (full n long) (line-new w n over (full n long) (Contains-first (full n long) []))))
+              (λ answer_sound is. by_full_log n long is.own (lines-all setup numbers (After w n over) (full n long) (line-new w n over (full n long) (Contains-first (full n long) []))))
               begun-settled
 
   given-settled : (memory : Option (List Entry)) → (decider_at w n).memory ≡ memory → IsSound setup Any (given setup w n (propose txn commits) whole memory)
@@ -158,7 +158,7 @@ module _ (setup : Setup) (fit : IsFit setup) (w : World) (sound : IsSound setup 
 pub undisturbed-settled : (setup : Setup) → IsFit setup → (events : List Event) (n : ℕ) (txn : TxnId) (commits : Bool) (members : ℕ → Bool) (numbers : List ℕ)
     → IsUndisturbed setup members n txn (next_ballot (unreported (after setup (opening setup) events)) n txn)
     (after_event setup (unreported (after setup (opening setup) events)) (proposal n txn commits whole)) numbers
-    → IsSettled (after_all setup (after_event setup (unreported (after setup (opening setup) events)) (proposal n txn commits whole)) numbers) n txn
+    → IsSettled members (after_all setup (after_event setup (unreported (after setup (opening setup) events)) (proposal n txn commits whole)) numbers) n txn
 undisturbed-settled setup fit events n txn commits members numbers is =
     let w = after setup (opening setup) events in
     proposal-settled setup fit (unreported w) (unreported-sound setup w (sound-any setup fit events)) n txn commits members numbers is

@@ -22,7 +22,7 @@ use Rattle.pv_law_quorum.proofs.RecordLemmas.{named-reached, promised-each, foun
 use Rattle.pv_law_quorum.proofs.EventLemmas.{up-listed, put-each, event-step}
 use Rattle.pv_law_quorum.proofs.StableLemmas.{has-stays}
 use Rattle.pv_law_quorum.proofs.SoundLemmas.{IsSmall, named-small, sound-stays}
-use Rattle.pv_law_quorum.proofs.StageLemmas.{After, now-here, sent-new, line-stays, line-new, Failed, Carries, stays_in, moves_on, Works, Stage, stage-stays}
+use Rattle.pv_law_quorum.proofs.StageLemmas.{After, now-here, sent-new, line-new, Failed, failed-stays, Carries, stays_in, moves_on, Works, Stage, stage-stays}
 use Rattle.pv_law_quorum.proofs.ReplyLemmas.{Any, Replies, replies-stay}
 
 -- The decider is up.
@@ -95,12 +95,13 @@ module _ (txn : TxnId) (ballot : Ballot) where
         by None h = refl
         by (Some other) h = h other refl
 
-module _ (setup : Setup) (fit : IsFit setup) (members : ℕ → Bool) (n : ℕ) (txn : TxnId) (ballot : Ballot) (own : ballot.decider ≡ n) (small : n < setup.deciders) where
+module _ (setup : Setup) (fit : IsFit setup) (members : ℕ → Bool) (n : ℕ) (txn : TxnId) (ballot : Ballot) (own : ballot.decider ≡ n) (small : n < setup.deciders)
+    (included : members n ≡ true) where
   -- What each delivery keeps.
   pub record Kept (u : World) : Type 0 where
     pub sound : IsSound setup Any u
     pub up : (k : ℕ) → members k ≡ true → Up u k
-    pub stage : Stage setup fit.least n txn ballot (λ entry. ⊤) u
+    pub stage : Stage setup fit.least members n included txn ballot (λ entry. ⊤) u
     pub replies : Replies n txn ballot own u
 
   pub record Fine (u : World) : Type 0 where
@@ -111,7 +112,7 @@ module _ (setup : Setup) (fit : IsFit setup) (members : ℕ → Bool) (n : ℕ) 
   kept-stays u fine number = record {
     sound = sound-stays setup Any u fine.kept.sound (after_event setup u (delivery number whole)) (event-step setup Any u (delivery number whole) tt);
     up = λ k member. delivered-up setup u (slice_get u.sent number) k (fine.kept.up k member);
-    stage = stage-stays setup fit.least n txn ballot (λ entry. ⊤) (λ entry after carries q. q) u (fine.free n) number fine.kept.stage;
+    stage = stage-stays setup fit.least members n included txn ballot (λ entry. ⊤) (λ entry after carries q. q) u (fine.free n) number fine.kept.stage;
     replies = replies-stay n txn ballot own setup u fine.kept.sound fine.kept.replies number;
   }
 
@@ -147,14 +148,11 @@ module _ (setup : Setup) (fit : IsFit setup) (members : ℕ → Bool) (n : ℕ) 
     eventually envelope makes (number ∷ numbers) u is (inr later) =
         eventually envelope makes numbers (after_event setup u (delivery number whole)) is.1 later
 
-  failed-stays : (u : World) (k : ℕ) (answer : Answer) → Failed u → Failed (After u k answer)
-  failed-stays u k answer h = (h.0, (h.1.0, line-stays u k answer (full h.0 h.1.0) h.1.1))
-
-  given-failed : (u : World) (k from : ℕ) (message : Message) (memory : Option (List Entry)) → Failed u → Failed (given setup u k (receive from message) whole memory)
+  given-failed : (u : World) (k from : ℕ) (message : Message) (memory : Option (List Entry)) → Failed members u → Failed members (given setup u k (receive from message) whole memory)
   given-failed u k from message None h = h
-  given-failed u k from message (Some memory) h = failed-stays u k (step setup (record { me = k; records = records_at u k; entries = memory }) (receive from message)) h
+  given-failed u k from message (Some memory) h = failed-stays members u k (step setup (record { me = k; records = records_at u k; entries = memory }) (receive from message)) h
 
-  delivered-failed : (u : World) (found : Option Envelope) → Failed u → Failed (delivered setup u whole found)
+  delivered-failed : (u : World) (found : Option Envelope) → Failed members u → Failed members (delivered setup u whole found)
   delivered-failed u None h = h
   delivered-failed u (Some envelope) h = given-failed u envelope.to envelope.from envelope.message (decider_at u envelope.to).memory h
 
@@ -168,7 +166,7 @@ module _ (setup : Setup) (fit : IsFit setup) (members : ℕ → Bool) (n : ℕ) 
 
   -- A log is full, or the decider has a record of the ballot.
   abbrev pub MayHaveTaken : ℕ → World → Type 0
-  MayHaveTaken k u = Failed u ⊎ HasTaken u k
+  MayHaveTaken k u = Failed members u ⊎ HasTaken u k
 
   pub may_have-stays : (k : ℕ) (u : World) (number : ℕ) → Fine u → MayHaveTaken k u → MayHaveTaken k (after_event setup u (delivery number whole))
   may_have-stays k u number fine (inl h) = inl (delivered-failed u (slice_get u.sent number) h)
@@ -177,7 +175,7 @@ module _ (setup : Setup) (fit : IsFit setup) (members : ℕ → Bool) (n : ℕ) 
 
   -- A log is full, or the decider has said that it accepted.
   abbrev pub MayHaveSaid : ℕ → World → Type 0
-  MayHaveSaid k u = Failed u ⊎ Sent u k n (accepted txn ballot)
+  MayHaveSaid k u = Failed members u ⊎ Sent u k n (accepted txn ballot)
 
   said-stays : (k : ℕ) (u : World) (found : Option Envelope) → MayHaveSaid k u → MayHaveSaid k (delivered setup u whole found)
   said-stays k u found (inl h) = inl (delivered-failed u found h)
@@ -219,7 +217,7 @@ module _ (setup : Setup) (fit : IsFit setup) (members : ℕ → Bool) (n : ℕ) 
         promised-each (λ (o : Option Ballot). Reaches (λ (b : Ballot). b) o (rank ballot) → HasTaken u k) (λ wrong. absurd wrong) txn (records_at u k) taken-each
 
     -- A decider that is up is asked to promise, or to accept.
-    module _ (memory : List Entry) (up : (decider_at u k).memory ≡ Some memory) where
+    module _ (member : members k ≡ true) (memory : List Entry) (up : (decider_at u k).memory ≡ Some memory) where
       abbrev here : Here
       here = record { me = k; records = records_at u k; entries = memory }
 
@@ -227,13 +225,13 @@ module _ (setup : Setup) (fit : IsFit setup) (members : ℕ → Bool) (n : ℕ) 
       has-after answer kept h =
           subst (λ (d : Decider). Contains d.records kept) (sym (now-here u k answer (up-listed u.deciders k memory up))) h
 
-      limit-or : (P : World → Type 0) → ((v : World) → Failed v → P v) → (answer : Answer) (kept : Record) → P (After u k answer)
+      limit-or : (P : World → Type 0) → ((v : World) → Failed members v → P v) → (answer : Answer) (kept : Record) → P (After u k answer)
           → P (After u k (within_limit setup here answer (Some kept)))
       limit-or P fails answer kept h =
           let long = setup.length (records_at u k ++ kept ∷ []) in
           let over : Answer = record { entries = memory; appended = None; sends = []; lines = full k long ∷ [] } in
           if-either (λ (a : Answer). P (After u k a)) (nat_lt setup.limit long) over answer
-          (fails (After u k over) (k, (long, line-new u k over (full k long) (Contains-first (full k long) [])))) h
+          (fails (After u k over) (k, (member, (long, line-new u k over (full k long) (Contains-first (full k long) []))))) h
 
       prepared : MayHaveTaken k (After u k (step setup here (receive n (prepare txn ballot))))
       prepared =
@@ -287,15 +285,15 @@ module _ (setup : Setup) (fit : IsFit setup) (members : ℕ → Bool) (n : ℕ) 
         (subst (λ (m : Option (List Entry)). P (given setup u k (receive n message) whole m)) (sym up.1) (makes up.0 up.1))
 
     pub prepare-makes : slice_get u.sent number ≡ Some (record { from = n; to = k; message = prepare txn ballot }) → MayHaveTaken k (after_event setup u (delivery number whole))
-    prepare-makes is = given-by (MayHaveTaken k) (prepare txn ballot) (λ memory up. prepared u fine k memory up) is
+    prepare-makes is = given-by (MayHaveTaken k) (prepare txn ballot) (λ memory up. prepared u fine k member memory up) is
 
     pub accept-makes : (commits : Bool) → slice_get u.sent number ≡ Some (record { from = n; to = k; message = accept txn ballot commits })
         → MayHaveSaid k (after_event setup u (delivery number whole))
-    accept-makes commits is = given-by (MayHaveSaid k) (accept txn ballot commits) (λ memory up. agreed u fine k memory up commits) is
+    accept-makes commits is = given-by (MayHaveSaid k) (accept txn ballot commits) (λ memory up. agreed u fine k member memory up commits) is
 
   -- The proposer's entry, while it asks, and no value of its ballot is accepted; and when it doesn't any more.
 
-  entry-asking : (u : World) → Fine u → (entry : Entry) → Works setup fit.least n txn ballot u entry → entry.phase ≡ asking → (commits : Bool)
+  entry-asking : (u : World) → Fine u → (entry : Entry) → Works setup fit.least members n included txn ballot u entry → entry.phase ≡ asking → (commits : Bool)
       → Has u n (value_accepted txn ballot commits) → ⊥
   entry-asking u fine entry is phase commits h = by (decider_at u n).memory refl where
     by : (memory : Option (List Entry)) → (decider_at u n).memory ≡ memory → ⊥
@@ -312,7 +310,7 @@ module _ (setup : Setup) (fit : IsFit setup) (members : ℕ → Bool) (n : ℕ) 
       let value : IsValueSound setup Any u txn ballot commits = fine.kept.sound.records k (value_accepted txn ballot commits) h in
       subst (λ (m : ℕ). Has u m (value_accepted txn ballot commits)) own value.own
 
-  pub asking-alone : (u : World) → Fine u → (entry : Entry) → Works setup fit.least n txn ballot u entry → entry.phase ≡ asking → (k : ℕ) (commits : Bool)
+  pub asking-alone : (u : World) → Fine u → (entry : Entry) → Works setup fit.least members n included txn ballot u entry → entry.phase ≡ asking → (k : ℕ) (commits : Bool)
       → Has u k (value_accepted txn ballot commits) → ⊥
   asking-alone u fine entry is phase k commits h = entry-asking u fine entry is phase commits (own-accepted u fine k commits h)
 

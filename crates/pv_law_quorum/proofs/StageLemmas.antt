@@ -43,8 +43,12 @@ module _ (u : World) (k : ℕ) (answer : Answer) where
   pub line-new : (line : Line) → Contains answer.lines line → Contains After.lines line
   line-new line h = Contains-append_right u.lines answer.lines line h
 
-abbrev pub Failed : World → Type 0
-Failed u = (k : ℕ) × ((long : ℕ) × Contains u.lines (full k long))
+-- The log of one of these deciders is full.
+abbrev pub Failed : (ℕ → Bool) → World → Type 0
+Failed members u = (k : ℕ) × ((members k ≡ true) × ((long : ℕ) × Contains u.lines (full k long)))
+
+pub failed-stays : (members : ℕ → Bool) (u : World) (k : ℕ) (answer : Answer) → Failed members u → Failed members (After u k answer)
+failed-stays members u k answer h = (h.0, (h.1.0, (h.1.1.0, line-stays u k answer (full h.0 h.1.1.0) h.1.1.1)))
 
 -- What becomes of an entry in a turn: it counts no fewer deciders in its phase, or goes to the next.
 pub data Carries (entry after : Entry) : Type 0 where
@@ -54,7 +58,7 @@ pub data Carries (entry after : Entry) : Type 0 where
 pub carries-same : (entry : Entry) → Carries entry entry
 carries-same entry = stays_in refl (λ k among. among)
 
-module _ (setup : Setup) (least : 3 ≤ setup.deciders) (n : ℕ) (txn : TxnId) (ballot : Ballot) where
+module _ (setup : Setup) (least : 3 ≤ setup.deciders) (members : ℕ → Bool) (n : ℕ) (included : members n ≡ true) (txn : TxnId) (ballot : Ballot) where
   abbrev pub Done : World → Type 0
   Done u = (commits : Bool) × Contains u.lines (decided n txn commits)
 
@@ -74,7 +78,7 @@ module _ (setup : Setup) (least : 3 ≤ setup.deciders) (n : ℕ) (txn : TxnId) 
 
   -- A log is full, a value is decided, or the proposer works with an entry of which this holds.
   pub data Stage (Q : Entry → Type 0) (u : World) : Type 0 where
-    failed : Failed u → Stage Q u
+    failed : Failed members u → Stage Q u
     done : Done u → Stage Q u
     works : (entry : Entry) → Works u entry → Q entry → Stage Q u
 
@@ -113,7 +117,7 @@ module _ (setup : Setup) (least : 3 ≤ setup.deciders) (n : ℕ) (txn : TxnId) 
 
     -- What becomes of the entry in the world after.
     pub data Turned (v : World) : Type 0 where
-      now_fails : Failed v → Turned v
+      now_fails : Failed members v → Turned v
       now_decides : Done v → Turned v
       now_works : (after : Entry) → Works v after → Carries entry after → Hears from message entry after → Turned v
 
@@ -142,7 +146,7 @@ module _ (setup : Setup) (least : 3 ≤ setup.deciders) (n : ℕ) (txn : TxnId) 
         (subst (λ (b : Ballot). Contains answer.sends (record { to = k; message = accept after.txn b after.commits })) taken (sends k inside apart))))
 
     turned-by : (answer : Answer) → TurnHere answer → Turned (After u n answer)
-    turned-by answer (fails k long h) = now_fails (k, (long, line-new u n answer (full k long) h))
+    turned-by answer (fails long h) = now_fails (n, (included, (long, line-new u n answer (full n long) h)))
     turned-by answer (decides h) =
         now_decides (entry.commits, line-new u n answer (decided n txn entry.commits) (subst (λ (t : TxnId). Contains answer.lines (decided n t entry.commits)) is.of h))
     turned-by answer (goes_on after on) =
@@ -167,7 +171,7 @@ module _ (setup : Setup) (least : 3 ≤ setup.deciders) (n : ℕ) (txn : TxnId) 
     own-stage : (from : ℕ) (message : Message) (memory : List Entry) → (decider_at u n).memory ≡ Some memory → Stage Q u
         → Stage Q (given setup u n (receive from message) whole (Some memory))
     own-stage from message memory up (failed h) =
-        failed (h.0, (h.1.0, line-stays u n (step setup (record { me = n; records = records_at u n; entries = memory }) (receive from message)) (full h.0 h.1.0) h.1.1))
+        failed (failed-stays members u n (step setup (record { me = n; records = records_at u n; entries = memory }) (receive from message)) h)
     own-stage from message memory up (done h) =
         done (h.0, line-stays u n (step setup (record { me = n; records = records_at u n; entries = memory }) (receive from message)) (decided n txn h.0) h.1)
     own-stage from message memory up (works entry is q) = by (turned u memory up entry is free from message) where
@@ -178,7 +182,7 @@ module _ (setup : Setup) (least : 3 ≤ setup.deciders) (n : ℕ) (txn : TxnId) 
       by (now_works after on carries heard) = works after on (keeps entry after carries q)
 
     other-stage : (k : ℕ) → (n ≡ k → ⊥) → (answer : Answer) → Stage Q u → Stage Q (After u k answer)
-    other-stage k apart answer (failed h) = failed (h.0, (h.1.0, line-stays u k answer (full h.0 h.1.0) h.1.1))
+    other-stage k apart answer (failed h) = failed (failed-stays members u k answer h)
     other-stage k apart answer (done h) = done (h.0, line-stays u k answer (decided n txn h.0) h.1)
     other-stage k apart answer (works entry is q) =
         works entry (record {
@@ -217,7 +221,7 @@ module _ (setup : Setup) (least : 3 ≤ setup.deciders) (n : ℕ) (txn : TxnId) 
     heard-by None down (works entry is q) =
         absurd (none-some (subst (λ (m : Option (List Entry)). entry_of txn (entries_in m) ≡ Some entry) down is.found))
     heard-by (Some memory) up (failed h) =
-        failed (h.0, (h.1.0, line-stays u n (step setup (record { me = n; records = records_at u n; entries = memory }) (receive from message)) (full h.0 h.1.0) h.1.1))
+        failed (failed-stays members u n (step setup (record { me = n; records = records_at u n; entries = memory }) (receive from message)) h)
     heard-by (Some memory) up (done h) =
         done (h.0, line-stays u n (step setup (record { me = n; records = records_at u n; entries = memory }) (receive from message)) (decided n txn h.0) h.1)
     heard-by (Some memory) up (works entry is q) = by (turned u memory up entry is free from message) where

@@ -140,7 +140,7 @@ module _ (setup : Setup) (least : 3 ≤ setup.deciders) (n : ℕ) (records : Lis
     pub heard : Heard input after
 
   pub data Turn (input : Input) (answer : Answer) : Type 0 where
-    fails : (k long : ℕ) → Contains answer.lines (full k long) → Turn input answer
+    fails : (long : ℕ) → Contains answer.lines (full n long) → Turn input answer
     decides : Contains answer.lines (decided n entry.txn entry.commits) → Turn input answer
     goes_on : (after : Entry) → GoesOn input answer after → Turn input answer
 
@@ -159,7 +159,7 @@ module _ (setup : Setup) (least : 3 ≤ setup.deciders) (n : ℕ) (records : Lis
   turn-limit input answer (Some kept) turn =
       let long = setup.length (records ++ kept ∷ []) in
       if-either (Turn input) (nat_lt setup.limit long) (record { entries = memory; appended = None; sends = []; lines = full n long ∷ [] }) answer
-      (fails n long (Contains-first (full n long) [])) turn
+      (fails long (Contains-first (full n long) [])) turn
 
   turn-prepare : (from : ℕ) (txn : TxnId) (ballot : Ballot) → Turn (receive from (prepare txn ballot)) (on_prepare here from txn ballot)
   turn-prepare from txn ballot =

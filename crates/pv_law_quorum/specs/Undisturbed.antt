@@ -46,8 +46,8 @@ pub record IsUndisturbed (setup : Setup) (members : ℕ → Bool) (n : ℕ) (txn
   pub delivered : (envelope : Envelope) → Contains (after_all setup world numbers).sent envelope → IsOf txn ballot envelope.message
       → IsDelivered setup envelope world numbers
 
--- What is reported of a proposal in the end: a value is decided, a log is full, or no ballot number is left.
-pub data IsSettled (world : World) (n : ℕ) (txn : TxnId) : Type 0 where
-  by_decision : (commits : Bool) → Contains world.lines (decided n txn commits) → IsSettled world n txn
-  by_full_log : (k length : ℕ) → Contains world.lines (full k length) → IsSettled world n txn
-  by_last_number : Contains world.lines (spent n) → IsSettled world n txn
+-- What is reported of a proposal in the end: a value is decided, the log of one of these deciders is full, or no ballot number is left.
+pub data IsSettled (members : ℕ → Bool) (world : World) (n : ℕ) (txn : TxnId) : Type 0 where
+  by_decision : (commits : Bool) → Contains world.lines (decided n txn commits) → IsSettled members world n txn
+  by_full_log : (k length : ℕ) → members k ≡ true → Contains world.lines (full k length) → IsSettled members world n txn
+  by_last_number : Contains world.lines (spent n) → IsSettled members world n txn

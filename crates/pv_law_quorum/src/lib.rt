@@ -27,13 +27,13 @@ pub fn what_is_chosen_was_proposed()
 
 /// A proposal that nothing disturbs comes to its end. After any events of a run a decider proposes a value, and then messages are
 /// delivered in any order, also again, each of the proposal's at least once; the proposer and a majority are up, and no decider
-/// promises a higher ballot of the transaction. Then the proposer reports that a value is decided, unless a log is full or no ballot
-/// number is left. Lines of the events before don't count: they make no difference, and stand before those that come since.
+/// promises a higher ballot of the transaction. Then the proposer reports that a value is decided, unless a log of that majority is full
+/// or no ballot number is left. Lines of the events before don't count: they make no difference, and stand before those that come since.
 pub fn an_undisturbed_proposal_is_settled()
     ensures settled { (setup : Setup) → IsFit setup → (events : List Event) (n : ℕ) (txn : TxnId) (v : Bool) (members : ℕ → Bool) (numbers : List ℕ) →
         let before = unreported (after setup (opening setup) events) in
         let begun = after_event setup before (proposal n txn v whole) in
-        IsUndisturbed setup members n txn (next_ballot before n txn) begun numbers → IsSettled (after_all setup begun numbers) n txn }
+        IsUndisturbed setup members n txn (next_ballot before n txn) begun numbers → IsSettled members (after_all setup begun numbers) n txn }
     ensures since { (setup : Setup) (world : World) (events : List Event) → let since = after setup (unreported world) events in
         after setup world events ≡ record since { lines = world.lines ++ since.lines } }
 {}
