@@ -291,7 +291,7 @@ module _ (setup : Setup) (fit : IsFit setup) (members : ℕ → Bool) (n : ℕ) 
         → MayHaveSaid k (after_event setup u (delivery number whole))
     accept-makes commits is = given-by (MayHaveSaid k) (accept txn ballot commits) (λ memory up. agreed u fine k member memory up commits) is
 
-  -- The proposer's entry, while it asks, and no value of its ballot is accepted; and when it doesn't any more.
+  -- While the proposer's entry asks, no value of its ballot is accepted.
 
   entry-asking : (u : World) → Fine u → (entry : Entry) → Works setup fit.least members n included txn ballot u entry → entry.phase ≡ asking → (commits : Bool)
       → Has u n (value_accepted txn ballot commits) → ⊥
