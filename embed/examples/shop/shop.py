@@ -4,7 +4,7 @@
     shop.py serve FOLDER             the shop, on a folder with `peers`, `shop.polydb` and `data`, as `start` makes it
     shop.py FOLDER order NUMBER PIECES
     shop.py FOLDER status NUMBER
-    shop.py FOLDER stock
+    shop.py FOLDER cash
 
 What the shop keeps is in the database alone, so it may be killed at any time. A customer who has heard nothing asks again with the same number, and nothing is done twice.
 """
@@ -18,6 +18,7 @@ from pathlib import Path
 sys.path.insert(0, str(Path(__file__).resolve().parent.parent.parent))
 
 ORDERS = range(1, 33)
+WAREHOUSES = ("north", "south")
 PRICE = 30
 TRIES = 20  # requests for one order, until the customer is told to come again
 PAUSE = 0.1  # seconds between two of them, and between two looks at what is to be paid
@@ -26,11 +27,11 @@ PAUSE = 0.1  # seconds between two of them, and between two looks at what is to 
 # ---- the shop ----
 
 
-def program(number, pieces):
-    """One order: once for its number, from the north if that has enough, and else from the south if that has."""
+def program(number, pieces, warehouse):
+    """One order: once for its number, from a warehouse that has enough. It names that one alone, so the other may be away."""
     return (
         f"require order_{number} = 0 ; "
-        f"if north >= {pieces} {{ north := north - {pieces} }} else {{ require south >= {pieces} ; south := south - {pieces} }} ; "
+        f"require {warehouse} >= {pieces} ; {warehouse} := {warehouse} - {pieces} ; "
         f"order_{number} := {pieces} ; cash := cash + {pieces * PRICE}"
     )
 
@@ -60,14 +61,20 @@ class Shop:
     async def order(self, number, pieces):
         """Sells, if that hasn't been done: whatever was asked before, and whether the answer to it was lost."""
         for _ in range(TRIES):
+            without = 0  # warehouses that have too little
+            for warehouse in WAREHOUSES:
+                said = await self.status(number)
+                if said != "not sold":
+                    return said
+                answer = await self.node.submit(program(number, pieces, warehouse))
+                if answer and answer.is_certain and answer.reply == "declined-require":
+                    without += 1  # else it is sold, which the order's item says, or refused for now: somebody else had an item, or the warehouse didn't answer in time
             said = await self.status(number)
             if said != "not sold":
                 return said
-            answer = await self.node.submit(program(number, pieces))
-            if not answer:  # refused for now: somebody else had an item, or a warehouse didn't answer in time
-                await asyncio.sleep(PAUSE)
-            elif answer.is_certain and answer.reply == "declined-require" and await self.status(number) == "not sold":
+            if without == len(WAREHOUSES):
                 return "sold out"
+            await asyncio.sleep(PAUSE)
         return "not sold yet, ask again"
 
     async def status(self, number):
