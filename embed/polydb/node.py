@@ -305,6 +305,7 @@ class Node:
                 await asyncio.shield(settling)
             except asyncio.CancelledError:
                 await asyncio.wait([settling])
+                settling.exception()  # a write that failed as well was told to nobody, and is made again when the node is opened
                 raise
             except (OSError, PolydbError) as error:
                 self._say_failing(error)
