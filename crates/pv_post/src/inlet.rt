@@ -19,14 +19,17 @@ pub struct In<M: Drop> {
 
 impl<M: Drop> In<M> {
     ghost use Rattle.std.specs.Prelude.{◌≡◌, ◌+◌, ◌<◌, ◌≤◌, [], ◌∷◌, ◌++◌, length, IfSome, IfNone, IsSome};
+    ghost use mathlib.Core.List.{IsPrefix};
     ghost use Rattle.pv_post.specs.Ends.{IsCount, IsPair, SameIn, SameOut, offered, posted, free, taken, known};
     ghost use Rattle.pv_post.specs.declared.ring.TheConstants.{PLACES};
 
     /// The next message, and how often it counts, or `None` where the ring held none at this call. A message that is known to be there
-    /// is taken.
+    /// is taken, and those behind it stay known. Contracts don't tell of the look at the ring itself, which the test shows: a message that was posted is taken without
+    /// any other call.
     pub fn take(&mut self) -> Option<(M, u8)>
         ensures ring { SameIn self.old self.new }
-        ensures some { IfSome result (λ next. (taken self.new ≡ taken self.old ++ next ∷ []) × IsCount next.1) }
+        ensures some { IfSome result (λ next. (taken self.new ≡ taken self.old ++ next ∷ []) × IsCount next.1
+            × IsPrefix (known self.old) (next ∷ known self.new)) }
         ensures none { IfNone result ((taken self.new ≡ taken self.old) × (known self.new ≡ [])) }
         ensures there { 0 < length (known self.old) → IsSome result }
     {

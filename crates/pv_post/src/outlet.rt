@@ -28,7 +28,7 @@ pub struct Out<M: Drop> {
 }
 
 impl<M: Drop> Out<M> {
-    ghost use Rattle.std.specs.Prelude.{◌≡◌, ◌<◌, [], ◌∷◌, ◌++◌};
+    ghost use Rattle.std.specs.Prelude.{◌≡◌, ◌+◌, ◌<◌, ◌≤◌, [], ◌∷◌, ◌++◌};
     ghost use Rattle.rtrb.specs.Ring.{producer_capacity};
     ghost use Rattle.pv_post.specs.declared.ring.TheConstants.{PLACES};
     ghost use Rattle.pv_post.specs.Ends.{offered, free, SameOut};
@@ -48,12 +48,13 @@ impl<M: Drop> Out<M> {
     }
 
     /// Posts a message: it is lost where the plan says so, and else put into the ring, unless the ring has no free place. A place that is
-    /// known to be free is free.
+    /// known to be free is free, and the others stay known.
     pub fn post(&mut self, message: M) -> Posted<M>
         ensures ring { SameOut self.old self.new }
         ensures offered { offered self.new ≡ offered self.old ++ message ∷ [] }
         ensures posted { IsPosted self.old self.new message result }
         ensures free { 0 < free self.old → IsFull result → ⊥ }
+        ensures kept { free self.old ≤ free self.new + 1 }
     {
         self.offered = self.offered.and(&message);
         self.since_drop = count_on(self.plan.drop_each, self.since_drop);
