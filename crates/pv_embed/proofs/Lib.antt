@@ -1,4 +1,4 @@
-mod HostedLemmas
+pub mod HostedLemmas
 mod KeptLemmas
 mod LetOutLemmas
 mod MadeLemmas

@@ -1,0 +1,173 @@
+-- Whatever happens in a deployment, the run that mirrors it goes on, and mirrors it then.
+use Rattle.std.proofs.Common.{◌≡◌, ⊎_elim, ℕ, ◌<◌, Option, Some, None, List, [], ◌∷◌, ◌++◌, map, take, append-nil, refl, sym, ap, ◌∙◌, subst}
+use Rattle.std.specs.Prelude.{option_to_list}
+use Rattle.std.specs.Option.{option_map}
+use Rattle.std.proofs.lemmas.List.Elements.{All-nil}
+use Rattle.pv_disk_model.specs.Disk.{overlaid}
+use Rattle.pv_disk_model.specs.Size.{Contents, size_of}
+use Rattle.pv_format.specs.Contents.{SpellRecords}
+use Rattle.pv_format.specs.Journal.{IsJournal}
+use Rattle.pv_format.specs.Record.{Record}
+use Rattle.pv_format.specs.RecordSpelling.{SpellsRecord}
+use Rattle.pv_model.specs.Events.{Event, Schedule}
+use Rattle.pv_model.specs.Schedule.{IsSchedule}
+use Rattle.pv_protocol.specs.Records.{journal_bytes}
+use Rattle.pv_protocol.specs.State as model
+use Rattle.pv_protocol.specs.State.{Setup, Running}
+use Rattle.pv_site.specs.SiteState.{setup_of}
+use Rattle.pv_host.specs.HostFile.{IsFile, IsStored, MayLeave}
+use Rattle.pv_host.specs.HostLog.{HostState, HostWrite, next_write}
+use Rattle.pv_embed.specs.Held.{Held, Out}
+use Rattle.pv_embed.specs.Hosted.{HasStepped, HostedState, Stays, TakesNext, Writes, stored_length}
+use Rattle.pv_embed.specs.Opening.{Configures, HasOpenedOn}
+use Rattle.pv_embed.specs.Outputs.{TakesFrom, out_of}
+use Rattle.pv_embed.specs.declared.made.Output.{Output}
+use Rattle.pv_law_hosted.proofs.CaseLemmas.{becomes-some, becomes-still, follows-still}
+use Rattle.pv_law_hosted.proofs.GivesLemmas.{becomes-given}
+use Rattle.pv_law_hosted.proofs.GoesLemmas.{goes-up}
+use Rattle.pv_law_hosted.proofs.MirroredLemmas.{Becomes, becomes-mirrored}
+use Rattle.pv_law_hosted.proofs.OpensLemmas.{becomes-opened}
+use Rattle.pv_law_hosted.proofs.StoreLemmas.{idle-stored, write-stores}
+use Rattle.pv_law_hosted.proofs.TakesLemmas.{becomes-written, cut-one}
+use Rattle.pv_law_hosted.specs.Deployment.{Deployment, Station, station_at, with_station}
+use Rattle.pv_law_hosted.specs.DeploymentEvents.{Happens, HappensAt, HappensTo, Stands, takes, stays, is_writing, writes, idles, lets_out, goes}
+use Rattle.pv_law_hosted.specs.Given.{Content, MayBeGiven}
+use Rattle.pv_law_hosted.specs.Mirrored.{FollowsHosted, FollowsProcess, IsMirrored}
+
+-- What the laws below say that this rests on.
+pub record Laws : Type 0 where
+  pub tells : (records : List Record) (contents : Contents) → SpellRecords records contents → size_of contents ≡ journal_bytes records
+  pub one_record : (entry other : Record) (bytes : List ℕ) → SpellsRecord entry bytes → SpellsRecord other bytes → entry ≡ other
+  pub one_journal : (bytes : List ℕ) (contents others : Contents) → IsJournal contents bytes → IsJournal others bytes → contents ≡ others
+  pub one_schedule : (text : List ℕ) (schedule other : Schedule) → IsSchedule text schedule → IsSchedule text other → schedule ≡ other
+  pub journals : (log : HostState) (file : List ℕ) → IsFile log file → IsStored log file
+  pub opened : (config file : List ℕ) (me : ℕ) (hosted : HostedState) → HasOpenedOn config me file hosted → IsFile hosted.site.log file
+  pub stepped : (old new : HostedState) (input : model.Input) (file : List ℕ) → HasStepped old new input → IsFile old.site.log file → IsFile new.site.log file
+  pub stayed : (old new : HostedState) (file : List ℕ) → Stays old new → IsFile old.site.log file → IsFile new.site.log file
+  pub written : (old new : HostedState) (write : HostWrite) (file : List ℕ) → Writes old new → next_write old.site.log ≡ Some write → IsFile old.site.log file
+      → IsFile new.site.log (overlaid file write.place write.bytes)
+  pub idle : (old new : HostedState) (file : List ℕ) → Writes old new → next_write old.site.log ≡ None → IsFile old.site.log file → IsFile new.site.log file
+  pub taken : (old new : HostedState) (result : Option Output) (file : List ℕ) → TakesNext old new result → IsFile old.site.log file → IsFile new.site.log file
+  pub crashed : (hosted : HostedState) (file left : List ℕ) → IsFile hosted.site.log file → MayLeave hosted.site.log file left → IsFile hosted.site.log left
+
+module _ (laws : Laws) (config : List ℕ) (schedule : Schedule) (configures : Configures config schedule) (d : Deployment) (events : List Event)
+    (m : IsMirrored (setup_of schedule.catalog) d events) (n : ℕ) (known : n < schedule.catalog.sites) where
+  abbrev setup : Setup
+  setup = setup_of schedule.catalog
+
+  abbrev old : Station
+  old = station_at d n
+
+  abbrev content : Content
+  content = (m.each n known).content
+
+  abbrev rest : List Out
+  rest = (m.each n known).rest
+
+  -- The run goes on, and mirrors the deployment with this station.
+  abbrev pub GoesOn : Station → Type 0
+  GoesOn new = (more : List Event) × IsMirrored setup (with_station d n new) (events ++ more)
+
+  by : (new : Station) → Becomes setup d n content rest new → GoesOn new
+  by new becomes = becomes-mirrored setup d events m n known new becomes
+
+  module _ (site : HostedState) (f : FollowsHosted setup d n old.file site content rest) where
+    -- ## The process goes
+    gone-stored : (left : List ℕ) (running : Option Running) → content.running ≡ running → IsJournal site.site.log.stored left
+        → GoesOn (record old { file = left; hosted = None })
+    gone-stored left None down journal =
+        by (record old { file = left; hosted = None })
+        (becomes-still setup d n content rest (record old { file = left; hosted = None }) refl
+        record {
+          contents = site.site.log.stored;
+          journal = journal;
+          spelled = f.stored;
+          down = down;
+          silent = f.rest_is ∙ ap (map (λ (one : Held). one.out)) (f.unopened down);
+        })
+    gone-stored left (Some running) up journal =
+        goes-up setup n d events m known left [] (All-nil (MayBeGiven setup.catalog d n)) running up site.site.log.stored journal f.stored
+
+    gone-more : (left : List ℕ) (pending : Contents) → site.site.log.pending ≡ pending → IsJournal (site.site.log.stored ++ take 1 pending) left
+        → GoesOn (record old { file = left; hosted = None })
+    gone-more left [] none journal =
+        gone-stored left content.running refl (subst (λ (l : Contents). IsJournal l left) (append-nil site.site.log.stored) journal)
+    gone-more left (one ∷ later) some journal =
+        let cut = cut-one setup d n laws.tells old.file site content rest f one later some in
+        goes-up setup n d events m known left cut.done cut.may cut.up.0 cut.up.1 (site.site.log.stored ++ one ∷ []) journal cut.spelled
+
+    -- ## Something is let out, or nothing is
+    still-there : (next : HostedState) → next ≡ record site { held = next.held } → next.held ≡ site.held → next ≡ site
+    still-there next is held = is ∙ ap (λ (l : List Held). record site { held = l }) held
+
+    nothing-out : (next : HostedState) → next ≡ site → GoesOn (record old { hosted = Some next; let_out = old.let_out ++ [] })
+    nothing-out next is =
+        by (record old { hosted = Some next; let_out = old.let_out ++ [] })
+        (becomes-still setup d n content rest (record old { hosted = Some next; let_out = old.let_out ++ [] }) (append-nil old.let_out)
+        (subst (λ (s : HostedState). FollowsHosted setup d n old.file s content rest) (sym is) f))
+
+    next-out : (next : HostedState) (result : Option Output) (held : List Held) → site.held ≡ held → TakesFrom (stored_length site) held next.held result
+        → next ≡ record site { held = next.held } → IsFile next.site.log old.file → Stands next
+        → GoesOn (record old { hosted = Some next; let_out = old.let_out ++ option_to_list (option_map out_of result) })
+    next-out next None [] held t is is_file stands = nothing-out next (still-there next is (t.1 ∙ sym held))
+    next-out next None (first ∷ later) held t is is_file stands = nothing-out next (still-there next is (t.1 ∙ sym held))
+    next-out next (Some output) [] held t is is_file stands = let wrong = t.0 in absurd cc
+    next-out next (Some output) (first ∷ later) held t is is_file stands =
+        by (record old { hosted = Some next; let_out = old.let_out ++ out_of output ∷ [] })
+        (becomes-some setup d n laws.tells old site next content rest f output first later refl held t.0 t.1 is t.2 is_file stands)
+
+    -- ## Each thing that may happen
+    happens : (new : Station) → old.hosted ≡ Some site → HappensTo schedule.catalog d n site old new → ((s : HostedState) → new.hosted ≡ Some s → Stands s) → GoesOn new
+    happens new here (takes next input may stepped) stands =
+        by (record old { hosted = Some next })
+        (becomes-given setup d n laws.tells old.file site next content rest f (laws.stepped site next input old.file stepped f.is_file) (stands next refl) input may stepped
+        (record old { hosted = Some next }) refl)
+    happens new here (stays next same) stands =
+        by (record old { hosted = Some next })
+        (becomes-still setup d n content rest (record old { hosted = Some next }) refl
+        (follows-still setup d n old.file old.file site next content rest f (laws.stayed site next old.file same f.is_file) (stands next refl)
+        (ap (λ (log : HostState). log.stored) same.0) same.1))
+    happens new here (is_writing left may) stands =
+        by (record old { file = left })
+        (becomes-still setup d n content rest (record old { file = left }) refl
+        (subst (λ (h : Option HostedState). FollowsProcess setup d n left h content rest) (sym here)
+        (follows-still setup d n old.file left site site content rest f (laws.crashed site old.file left f.is_file may) f.stands refl refl)))
+    happens new here (writes next write is wrote) stands =
+        let file = overlaid old.file write.place write.bytes in
+        let is_file = laws.written site next write old.file wrote is f.is_file in
+        by (record old { file = file; hosted = Some next })
+        (⊎_elim
+        (λ still.
+        becomes-still setup d n content rest (record old { file = file; hosted = Some next }) refl
+        (follows-still setup d n old.file file site next content rest f is_file (stands next refl) still wrote.same))
+        (λ one.
+        becomes-written setup d n laws.tells old.file file site next content rest f is_file (stands next refl) one wrote.same (record old { file = file; hosted = Some next }) refl)
+        (write-stores site.site.log next.site.log write is wrote.log))
+    happens new here (idles next none wrote) stands =
+        by (record old { hosted = Some next })
+        (becomes-still setup d n content rest (record old { hosted = Some next }) refl
+        (follows-still setup d n old.file old.file site next content rest f (laws.idle site next old.file wrote none f.is_file) (stands next refl)
+        (idle-stored site.site.log next.site.log none wrote.log) wrote.same))
+    happens new here (lets_out next result t) stands =
+        next-out next result site.held refl t.0 t.1 (laws.taken site next result old.file t f.is_file) (stands next refl)
+    happens new here (goes left may) stands =
+        ⊎_elim (λ journal. gone-stored left content.running refl journal) (λ journal. gone-more left site.site.log.pending refl journal)
+        (laws.journals site.site.log left (laws.crashed site old.file left f.is_file may))
+
+  -- ## With a process or without
+  pub happens-at : (new : Station) (hosted : Option HostedState) → old.hosted ≡ hosted → HappensAt config schedule.catalog d n old hosted new
+      → FollowsProcess setup d n old.file hosted content rest → ((s : HostedState) → new.hosted ≡ Some s → Stands s) → GoesOn new
+  happens-at new (Some site) here at f stands = happens site f new here at stands
+  happens-at new None here (site, o, is) gone stands =
+      subst GoesOn (sym is)
+      (by (record old { hosted = Some site })
+      (becomes-opened laws.one_record laws.one_journal config schedule d n old site content rest gone o
+      (laws.one_schedule config o.schedule schedule o.configured.0 configures.0)
+      (laws.opened config old.file n site o) (stands site (ap (λ (s : Station). s.hosted) is)) refl))
+
+pub goes-on : (laws : Laws) (config : List ℕ) (schedule : Schedule) (d later : Deployment) (events : List Event) → Configures config schedule
+    → IsMirrored (setup_of schedule.catalog) d events → Happens config schedule.catalog d later
+    → (more : List Event) × IsMirrored (setup_of schedule.catalog) later (events ++ more)
+goes-on laws config schedule d later events configures m h =
+    subst (λ (after : Deployment). (more : List Event) × IsMirrored (setup_of schedule.catalog) after (events ++ more)) (sym h.after)
+    (happens-at laws config schedule configures d events m h.n h.known h.new (station_at d h.n).hosted refl h.at (m.each h.n h.known).process h.stands)

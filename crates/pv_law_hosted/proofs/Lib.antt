@@ -1,0 +1,16 @@
+mod AgreeLemmas
+mod CaseLemmas
+mod ClaimLemmas
+mod GivenLemmas
+mod GivesLemmas
+mod GoesLemmas
+mod HappensLemmas
+mod MirroredLemmas
+mod OneByOneLemmas
+mod OpensLemmas
+mod RunLemmas
+mod SettleLemmas
+mod SplitLemmas
+mod StoreLemmas
+mod TakesLemmas
+mod WithinLemmas

@@ -1,0 +1,96 @@
+-- A station gets a process: its site is opened on the file, and its epoch waits for its record.
+use Rattle.std.proofs.Common.{◌≡◌, ℕ, ◌≤◌, true, Some, List, [], ◌∷◌, ◌++◌, length, append-nil, refl, sym, ap, ap₂, ◌∙◌, subst}
+use Rattle.std.proofs.lemmas.List.Elements.{All-nil, All-cons}
+use Rattle.pv_disk_model.specs.Calls.{read_all, reserve, append}
+use Rattle.pv_disk_model.specs.Size.{Contents}
+use Rattle.pv_format.specs.Contents.{SpellRecords}
+use Rattle.pv_format.specs.Journal.{IsJournal}
+use Rattle.pv_format.specs.Record.{Record, epoch_begun}
+use Rattle.pv_format.specs.RecordSpelling.{SpellsRecord}
+use Rattle.pv_model.specs.Events.{Schedule}
+use Rattle.pv_protocol.specs.Start.{starts, site_start}
+use Rattle.pv_protocol.specs.State.{Setup}
+use Rattle.pv_site.specs.SiteState.{SiteState, setup_of}
+use Rattle.pv_host.specs.HostFile.{IsFile}
+use Rattle.pv_host.specs.HostLog.{HostState, contents_of}
+use Rattle.pv_embed.specs.Held.{Held, Out}
+use Rattle.pv_embed.specs.Hosted.{HostedState}
+use Rattle.pv_embed.specs.Opening.{HasOpenedOn}
+use Rattle.pv_law_hosted.proofs.CaseLemmas.{becomes-still}
+use Rattle.pv_law_hosted.proofs.MirroredLemmas.{Becomes}
+use Rattle.pv_embed.proofs.HostedLemmas.{stored_after}
+use Rattle.pv_law_hosted.specs.Deployment.{Deployment, Station, station_at}
+use Rattle.pv_law_hosted.specs.DeploymentEvents.{Stands}
+use Rattle.pv_law_hosted.specs.Given as process
+use Rattle.pv_law_hosted.specs.Given.{Content, Given, MayBeGiven, opened_with, started_with, with_given}
+use Rattle.pv_law_hosted.specs.Mirrored.{FollowsGone, FollowsHosted}
+
+module _ (one_record : (entry other : Record) (bytes : List ℕ) → SpellsRecord entry bytes → SpellsRecord other bytes → entry ≡ other) where
+  one-records : (records others : List Record) (contents : Contents) → SpellRecords records contents → SpellRecords others contents → records ≡ others
+  one-records [] [] [] a b = refl
+  one-records [] (other ∷ others) [] a b = absurd b
+  one-records (entry ∷ records) others [] a b = absurd a
+  one-records [] others (content ∷ contents) a b = absurd a
+  one-records (entry ∷ records) [] (content ∷ contents) a b = absurd b
+  one-records (entry ∷ records) (other ∷ others) (content ∷ contents) a b =
+      ap₂ (λ (x : Record) (l : List Record). x ∷ l) (one_record entry other content a.0 b.0) (one-records records others contents a.1 b.1)
+
+  module _ (one_journal : (bytes : List ℕ) (contents others : Contents) → IsJournal contents bytes → IsJournal others bytes → contents ≡ others)
+      (config : List ℕ) (schedule : Schedule) (d : Deployment) (n : ℕ) (old : Station) (site : HostedState) (content : Content) (rest : List Out)
+      (gone : FollowsGone old.file content rest) (o : HasOpenedOn config n old.file site) (one_schedule : o.schedule ≡ schedule)
+      (is_file : IsFile site.site.log old.file) (stands : Stands site) where
+    abbrev setup : Setup
+    setup = setup_of schedule.catalog
+
+    log-stored : o.log.stored ≡ gone.contents
+    log-stored = one_journal old.file o.log.stored gone.contents o.opened_on.journal gone.journal
+
+    log-all : contents_of o.log ≡ gone.contents
+    log-all = ap (λ (l : Contents). o.log.stored ++ l) o.opened_on.pending ∙ append-nil o.log.stored ∙ log-stored
+
+    were-read : o.opened.contents ≡ gone.contents
+    were-read = o.opened.read (contents_of o.log) refl ∙ log-all
+
+    same-records : o.opened.records ≡ content.records
+    same-records =
+        one-records o.opened.records content.records gone.contents (subst (SpellRecords o.opened.records) were-read o.opened.spelled) gone.spelled
+
+    starts-so : site_start setup content.records ≡ starts o.opened.running (epoch_begun o.opened.epoch)
+    starts-so =
+        ap₂ (λ (s : Schedule) (records : List Record). site_start (setup_of s.catalog) records) (sym one_schedule) (sym same-records) ∙ o.opened.starts
+
+    given-so : with_given setup n content process.opened ≡ record { records = content.records ++ epoch_begun o.opened.epoch ∷ []; running = Some o.opened.running }
+    given-so =
+        ap (opened_with setup n content) gone.down ∙ ap (started_with content) starts-so
+
+    now-so : record { records = site.site.records; running = site.site.running } ≡ with_given setup n content process.opened
+    now-so =
+        ap (λ (s : SiteState HostState). record { records = s.records; running = s.running }) o.opened.site
+        ∙ ap (λ (l : List Record). record { records = l ++ epoch_begun o.opened.epoch ∷ []; running = Some o.opened.running }) same-records ∙ sym given-so
+
+    still-stored : site.site.log.stored ≡ gone.contents
+    still-stored =
+        stored_after (read_all ∷ reserve (length o.opened.content) ∷ append o.opened.content ∷ []) o.log site.site.log true o.opened.calls ∙ log-stored
+
+    opened-follows : FollowsHosted setup d n old.file site content []
+    opened-follows = record {
+      is_file = is_file;
+      stands = stands;
+      me = ap (λ (s : SiteState HostState). s.me) o.opened.site;
+      catalog = ap (λ (s : SiteState HostState). setup_of s.catalog) o.opened.site ∙ ap (λ (s : Schedule). setup_of s.catalog) one_schedule;
+      stored = subst (SpellRecords content.records) (sym still-stored) gone.spelled;
+      waiting = process.opened ∷ [];
+      allowed = All-cons (MayBeGiven schedule.catalog d n) process.opened [] tt (All-nil (MayBeGiven schedule.catalog d n));
+      first = (epoch_begun o.opened.epoch, ap (λ (c : Content). c.records) given-so);
+      come = sym now-so;
+      ready = [];
+      held = o.held;
+      in_file = All-nil (λ (one : Held). one.length ≤ _);
+      rest_is = refl;
+      unopened = λ down. refl;
+    }
+
+    pub becomes-opened : old ≡ station_at d n → Becomes setup d n content rest (record old { hosted = Some site })
+    becomes-opened here =
+        subst (λ (l : List Out). Becomes setup d n content l (record old { hosted = Some site })) (sym gone.silent)
+        (becomes-still setup d n content [] (record old { hosted = Some site }) (ap (λ (s : Station). s.let_out) here) opened-follows)

@@ -1,0 +1,199 @@
+-- A site takes something, or its host has written a record: what is done by then is settled, and the rest waits.
+use Rattle.std.proofs.Common.{◌≡◌, ⊎_elim, ℕ, ◌+◌, ◌≤◌, Some, None, List, [], ◌∷◌, ◌++◌, length, length-append, map, All, append_assoc, append-nil, refl, sym, ap, ap₂, ◌∙◌, subst, arith}
+use Rattle.std.proofs.lemmas.List.{map-append}
+use Rattle.std.proofs.lemmas.List.Elements.{All-nil, All-cons, All-head, All-tail, All-append, All-weaker}
+use Rattle.std.proofs.lemmas.List.Sums.{sum_by-append}
+use Rattle.pv_disk_model.specs.Size.{Contents, size_of}
+use Rattle.pv_format.specs.Contents.{SpellRecords}
+use Rattle.pv_format.specs.Record.{Record}
+use Rattle.pv_protocol.specs.Records.{journal_bytes}
+use Rattle.pv_protocol.specs.State.{Setup}
+use Rattle.pv_site.specs.SiteState.{setup_of}
+use Rattle.pv_site.specs.Steps.{HoldsWhatRuns}
+use Rattle.pv_host.specs.HostFile.{IsFile}
+use Rattle.pv_host.specs.HostLaws.{host_model}
+use Rattle.pv_host.specs.HostLog.{contents_of}
+use Rattle.pv_embed.specs.Held.{Held, Out}
+use Rattle.pv_embed.specs.Hosted.{HostedState, stored_length}
+use Rattle.pv_law_hosted.proofs.GivenLemmas.{all-grows, held_for-append, with_all-append}
+use Rattle.pv_law_hosted.proofs.MirroredLemmas.{Becomes}
+use Rattle.pv_law_hosted.proofs.SplitLemmas.{IsUp, all-up, given-either, held-within, outs-held, parted, spelled-front, spelled-length}
+use Rattle.pv_law_hosted.proofs.StoreLemmas.{StoresOne}
+use Rattle.pv_law_hosted.specs.Deployment.{Deployment, Station, station_at}
+use Rattle.pv_law_hosted.specs.DeploymentEvents.{Stands}
+use Rattle.pv_law_hosted.specs.Given.{Content, Given, MayBeGiven, WaitsForRecord, held_for, outs_of_all, with_all, with_given}
+use Rattle.pv_law_hosted.specs.Mirrored.{FollowsHosted}
+
+pub all-parts : {X : Type 0} (P : X → Type 0) (xs ys : List X) → All P (xs ++ ys) → All P xs × All P ys
+all-parts P [] ys all = (All-nil P, all)
+all-parts P (x ∷ xs) ys all =
+    let rest = all-parts P xs ys (All-tail P x (xs ++ ys) all) in (All-cons P x xs (All-head P x (xs ++ ys) all) rest.0, rest.1)
+
+size-more : (contents : Contents) (content : List ℕ) → size_of contents ≤ size_of (contents ++ content ∷ [])
+size-more contents content = omega (arith, sum_by-append (λ (c : List ℕ). 5 + length c) contents (content ∷ []))
+
+module _ (setup : Setup) (d : Deployment) (n : ℕ)
+    (tells : (records : List Record) (contents : Contents) → SpellRecords records contents → size_of contents ≡ journal_bytes records) where
+  -- what is there now
+  abbrev pub now : HostedState → Content
+  now hosted = record { records = hosted.site.records; running = hosted.site.running }
+
+  -- Of what was given some is done, and the rest waits.
+  pub record HasDone (file : List ℕ) (next : HostedState) (content : Content) (before : List Held) (done left : List Given) : Type 0 where
+    pub is_file : IsFile next.site.log file
+    pub stands : Stands next
+    pub me : next.site.me ≡ n
+    pub catalog : setup_of next.site.catalog ≡ setup
+    pub stored : SpellRecords (with_all setup n content done).records next.site.log.stored
+    pub allowed : All (MayBeGiven setup.catalog d n) left
+    pub first : WaitsForRecord setup n (with_all setup n content done) left
+    pub come : with_all setup n content (done ++ left) ≡ now next
+    pub held : next.held ≡ before ++ held_for setup n content (done ++ left)
+    pub in_file : All (λ (one : Held). one.length ≤ stored_length next) before
+    pub unopened : (with_all setup n content done).running ≡ None → before ++ held_for setup n content done ≡ []
+
+  pub done-follows : (file : List ℕ) (next : HostedState) (content : Content) (before : List Held) (done left : List Given) → HasDone file next content before done left
+      → FollowsHosted setup d n file next (with_all setup n content done) (map (λ (one : Held). one.out) (before ++ held_for setup n content done))
+  done-follows file next content before done left has =
+      let settled = with_all setup n content done in
+      let long : stored_length next ≡ journal_bytes settled.records = tells settled.records next.site.log.stored has.stored in
+      record {
+        is_file = has.is_file;
+        stands = has.stands;
+        me = has.me;
+        catalog = has.catalog;
+        stored = has.stored;
+        waiting = left;
+        allowed = has.allowed;
+        first = has.first;
+        come = sym (with_all-append setup n content done left) ∙ has.come;
+        ready = before ++ held_for setup n content done;
+        held = has.held ∙ ap (λ (l : List Held). before ++ l) (held_for-append setup n content done left)
+            ∙ sym (append_assoc before (held_for setup n content done) (held_for setup n settled left));
+        in_file = All-append (λ (one : Held). one.length ≤ stored_length next) before (held_for setup n content done) has.in_file
+            (subst (λ most. All (λ (one : Held). one.length ≤ most) (held_for setup n content done)) (sym long) (held-within setup n content done));
+        rest_is = refl;
+        unopened = has.unopened;
+      }
+
+  pub done-becomes : (file : List ℕ) (next : HostedState) (content : Content) (rest : List Out) (before : List Held) (done left : List Given) (new : Station)
+      → All (MayBeGiven setup.catalog d n) done → HasDone file next content before done left → rest ≡ map (λ (one : Held). one.out) before
+      → new ≡ record { file = file; hosted = Some next; let_out = (station_at d n).let_out } → Becomes setup d n content rest new
+  done-becomes file next content rest before done left new may has is here =
+      let out = (station_at d n).let_out in
+      let ready = map (λ (one : Held). one.out) (before ++ held_for setup n content done) in
+      subst (Becomes setup d n content rest) (sym here)
+      record {
+        done = done;
+        may = may;
+        ready = ready;
+        grows = ([], sym (append-nil out));
+        out = ap (λ (l : List Out). out ++ l)
+            (map-append (λ (one : Held). one.out) before (held_for setup n content done)
+            ∙ ap₂ (λ (a b : List Out). a ++ b) (sym is) (outs-held setup n content done))
+            ∙ sym (append_assoc out rest (outs_of_all setup n content done));
+        process = done-follows file next content before done left has;
+      }
+
+  -- ## A record is written
+  -- The first of the things that wait adds a record.
+  first-more : (content : Content) (given : Given) (later : List Given) → WaitsForRecord setup n content (given ∷ later) → IsUp (with_given setup n content given)
+  first-more content given later waits =
+      ⊎_elim
+      (λ same. let wrong : content.records ≡ content.records ++ waits.0 ∷ [] = sym same ∙ waits.1 in
+      let long = ap (λ (l : List Record). length l) wrong in absurd (omega (arith, long, length-append content.records (waits.0 ∷ []))))
+      (λ grows. grows.2) (given-either setup n content given)
+
+  -- What waits is cut behind the record that one more content spells, and behind all that appends nothing after it.
+  pub record Cut (content : Content) (waiting : List Given) (stored : Contents) (one : List ℕ) : Type 0 where
+    pub done : List Given
+    pub left : List Given
+    pub split : waiting ≡ done ++ left
+    pub may : All (MayBeGiven setup.catalog d n) done
+    pub allowed : All (MayBeGiven setup.catalog d n) left
+    pub spelled : SpellRecords (with_all setup n content done).records (stored ++ one ∷ [])
+    pub up : IsUp (with_all setup n content done)
+    pub first : WaitsForRecord setup n (with_all setup n content done) left
+
+  module _ (file : List ℕ) (site : HostedState) (content : Content) (rest : List Out) (f : FollowsHosted setup d n file site content rest)
+      (one : List ℕ) (later_ones : Contents) (pending : site.site.log.pending ≡ one ∷ later_ones) where
+    all-spelled : SpellRecords site.site.records (contents_of site.site.log)
+    all-spelled =
+        (subst (λ r. HoldsWhatRuns host_model site.site.log site.site.records r) f.stands.up f.stands.ready.holds).held (contents_of site.site.log) refl
+
+    -- Something waits.
+    some-waits : (waiting : List Given) → f.waiting ≡ waiting → (given : Given) × ((later : List Given) × (waiting ≡ given ∷ later))
+    some-waits [] none =
+        let same : content ≡ now site = sym (ap (with_all setup n content) none) ∙ f.come in
+        let long = spelled-length content.records site.site.log.stored f.stored in
+        let all = spelled-length site.site.records (contents_of site.site.log) all-spelled in
+        let records = ap (λ (c : Content). length c.records) same in
+        let more = length-append site.site.log.stored site.site.log.pending in
+        let some = ap (λ (l : Contents). length l) pending in
+        absurd (omega (arith, long, all, records, more, some))
+    some-waits (given ∷ later) some = (given, (later, refl))
+
+    -- It is done, with all that appends nothing after it.
+    cut-first : (given : Given) (later : List Given) → f.waiting ≡ given ∷ later → Cut content f.waiting site.site.log.stored one
+    cut-first given later is_waiting =
+        let first : WaitsForRecord setup n content (given ∷ later) = subst (WaitsForRecord setup n content) is_waiting f.first in
+        let mid = with_given setup n content given in
+        let parts = parted setup n mid later in
+        let done = given ∷ parts.quiet in
+        let all : f.waiting ≡ done ++ parts.left = is_waiting ∙ ap (λ (l : List Given). given ∷ l) parts.split in
+        let may = all-parts (MayBeGiven setup.catalog d n) done parts.left (subst (All (MayBeGiven setup.catalog d n)) all f.allowed) in
+        let settled = with_all setup n content done in
+        let records : settled.records ≡ content.records ++ first.0 ∷ [] = parts.still ∙ first.1 in
+        let come : with_all setup n content (done ++ parts.left) ≡ now site = sym (ap (with_all setup n content) all) ∙ f.come in
+        let grown = all-grows setup n settled parts.left in
+        let rest_is : site.site.records ≡ settled.records ++ grown.0 =
+        sym (ap (λ (c : Content). c.records) (sym (with_all-append setup n content done parts.left) ∙ come)) ∙ grown.1 in
+        let contents : contents_of site.site.log ≡ (site.site.log.stored ++ one ∷ []) ++ later_ones =
+        ap (λ (l : Contents). site.site.log.stored ++ l) pending ∙ sym (append_assoc site.site.log.stored (one ∷ []) later_ones) in
+        let long : length settled.records ≡ length (site.site.log.stored ++ one ∷ []) =
+        let a = ap (λ (l : List Record). length l) records in
+        let b = length-append content.records (first.0 ∷ []) in
+        let c = length-append site.site.log.stored (one ∷ []) in
+        let e = spelled-length content.records site.site.log.stored f.stored in
+        omega (arith, a, b, c, e) in
+        record {
+          done = done;
+          left = parts.left;
+          split = all;
+          may = may.0;
+          allowed = may.1;
+          spelled = spelled-front settled.records grown.0 (site.site.log.stored ++ one ∷ []) later_ones long
+              (subst (SpellRecords (settled.records ++ grown.0)) contents (subst (λ (l : List Record). SpellRecords l (contents_of site.site.log)) rest_is all-spelled));
+          up = all-up setup n mid parts.quiet (first-more content given later first);
+          first = parts.waits;
+        }
+
+    pub cut-one : Cut content f.waiting site.site.log.stored one
+    cut-one = let some = some-waits f.waiting refl in cut-first some.0 some.1.0 some.1.1
+
+  module _ (file left : List ℕ) (site next : HostedState) (content : Content) (rest : List Out) (f : FollowsHosted setup d n file site content rest)
+      (is_file : IsFile next.site.log left) (stands : Stands next) (one : StoresOne site.site.log next.site.log)
+      (is : next ≡ record site { site = record site.site { log = next.site.log } }) where
+    cut : Cut content f.waiting site.site.log.stored one.0
+    cut = cut-one file site content rest f one.0 one.1.0 one.1.1
+
+    one-done : HasDone left next content f.ready cut.done cut.left
+    one-done = record {
+      is_file = is_file;
+      stands = stands;
+      me = ap (λ (h : HostedState). h.site.me) is ∙ f.me;
+      catalog = ap (λ (h : HostedState). setup_of h.site.catalog) is ∙ f.catalog;
+      stored = subst (SpellRecords (with_all setup n content cut.done).records) (sym one.1.2) cut.spelled;
+      allowed = cut.allowed;
+      first = cut.first;
+      come = sym (ap (with_all setup n content) cut.split) ∙ f.come ∙ sym (ap now is);
+      held = ap (λ (h : HostedState). h.held) is ∙ f.held ∙ ap (λ (l : List Given). f.ready ++ held_for setup n content l) cut.split;
+      in_file = All-weaker (λ (it : Held). it.length ≤ stored_length site) (λ (it : Held). it.length ≤ stored_length next)
+          (λ it le.
+          let more : stored_length next ≡ size_of (site.site.log.stored ++ one.0 ∷ []) = ap size_of one.1.2 in
+          omega (arith, le, more, size-more site.site.log.stored one.0)) f.ready f.in_file;
+      unopened = λ down. let wrong : Some cut.up.0 ≡ None = sym cut.up.1 ∙ down in cc;
+    }
+
+    pub becomes-written : (new : Station) → new ≡ record { file = left; hosted = Some next; let_out = (station_at d n).let_out } → Becomes setup d n content rest new
+    becomes-written new here = done-becomes left next content rest f.ready cut.done cut.left new cut.may one-done f.rest_is here

@@ -1,0 +1,67 @@
+-- What may happen in a deployment.
+use Rattle.std.specs.Prelude.{◌≡◌, ℕ, ◌<◌, Option, Some, None, List, ◌++◌, option_to_list}
+use Rattle.std.specs.Option.{option_map}
+use Rattle.pv_base.specs.Catalog.{Declared}
+use Rattle.pv_disk_model.specs.Disk.{overlaid}
+use Rattle.pv_format.specs.Message.{Envelope}
+use Rattle.pv_model.specs.Syntax.{Program}
+use Rattle.pv_protocol.specs.State as model
+use Rattle.pv_protocol.specs.State.{submit, receive, tick}
+use Rattle.pv_protocol.specs.WellFormed.{CanRun}
+use Rattle.pv_site.specs.Steps.{IsReady}
+use Rattle.pv_host.specs.HostFile.{MayLeave}
+use Rattle.pv_host.specs.HostLaws.{host_model}
+use Rattle.pv_host.specs.HostLog.{HostWrite, next_write}
+use Rattle.pv_embed.specs.Hosted.{HostedState, HasStepped, Stays, TakesNext, Writes}
+use Rattle.pv_embed.specs.Opening.{HasOpenedOn}
+use Rattle.pv_embed.specs.Outputs.{out_of}
+use Rattle.pv_embed.specs.declared.made.Output.{Output}
+use Rattle.pv_law_hosted.specs.Deployment.{Deployment, Station, IsCarried, station_at, with_station}
+
+-- What the site of this number may be given: a request for a program that can run, a message that was let out and goes to it, and time.
+pub data MayTake (catalog : Declared) (d : Deployment) (n : ℕ) : model.Input → Type 0 where
+  request : (program : Program) → CanRun catalog program → MayTake catalog d n (submit program)
+  carried : (envelope : Envelope) → IsCarried d envelope → envelope.to ≡ n → envelope.from < catalog.sites
+      → MayTake catalog d n (receive envelope.from envelope.message)
+  time : MayTake catalog d n tick
+
+-- The site is up, and its log holds its records.
+pub record Stands (hosted : HostedState) : Type 0 where
+  pub ready : IsReady host_model hosted.site
+  pub running : model.Running
+  pub up : hosted.site.running ≡ Some running
+
+-- What may happen to a station whose process is there, with its site so.
+pub data HappensTo (catalog : Declared) (d : Deployment) (n : ℕ) (site : HostedState) (old : Station) : Station → Type 0 where
+  -- it takes something
+  takes : (next : HostedState) (input : model.Input) → MayTake catalog d n input → HasStepped site next input
+      → HappensTo catalog d n site old (record old { hosted = Some next })
+  -- a call is refused, or changes nothing
+  stays : (next : HostedState) → Stays site next → HappensTo catalog d n site old (record old { hosted = Some next })
+  -- some of what the host writes has come into the file, and more is to come or the write has failed
+  is_writing : (left : List ℕ) → MayLeave site.site.log old.file left → HappensTo catalog d n site old (record old { file = left })
+  -- the write is in the file, and the host says so; or it says so where there is nothing to write
+  writes : (next : HostedState) (write : HostWrite) → next_write site.site.log ≡ Some write → Writes site next
+      → HappensTo catalog d n site old (record old { file = overlaid old.file write.place write.bytes; hosted = Some next })
+  idles : (next : HostedState) → next_write site.site.log ≡ None → Writes site next
+      → HappensTo catalog d n site old (record old { hosted = Some next })
+  -- the next thing is let out, or nothing is
+  lets_out : (next : HostedState) (result : Option Output) → TakesNext site next result
+      → HappensTo catalog d n site old (record old { hosted = Some next; let_out = old.let_out ++ option_to_list (option_map out_of result) })
+  -- the process goes: by a crash, by a kill, or closed; and the file is one that this may leave
+  goes : (left : List ℕ) → MayLeave site.site.log old.file left → HappensTo catalog d n site old (record old { file = left; hosted = None })
+
+-- What may happen to a station. One without a process gets one: the site is opened on the file that the last one left.
+abbrev pub HappensAt : List ℕ → Declared → Deployment → ℕ → Station → Option HostedState → Station → Type 0
+HappensAt config catalog d n old (Some site) new = HappensTo catalog d n site old new
+HappensAt config catalog d n old None new =
+    (site : HostedState) × HasOpenedOn config n old.file site × (new ≡ record old { hosted = Some site })
+
+-- One thing happens, at one station. The site that its process has then stands ready, as it does between any two calls.
+pub record Happens (config : List ℕ) (catalog : Declared) (d later : Deployment) : Type 0 where
+  pub n : ℕ
+  pub known : n < catalog.sites
+  pub new : Station
+  pub at : HappensAt config catalog d n (station_at d n) (station_at d n).hosted new
+  pub stands : (site : HostedState) → new.hosted ≡ Some site → Stands site
+  pub after : later ≡ with_station d n new

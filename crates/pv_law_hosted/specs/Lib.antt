@@ -1,0 +1,6 @@
+pub mod Claims
+pub mod Deployment
+pub mod DeploymentEvents
+pub mod Given
+pub mod Made
+pub mod Mirrored

@@ -1,0 +1,79 @@
+-- When the run of some events mirrors a deployment.
+use Rattle.std.specs.Prelude.{◌≡◌, ℕ, ◌<◌, ◌≤◌, Option, Some, None, List, [], ◌++◌, length, map, All}
+use Rattle.pv_disk_model.specs.Size.{Contents}
+use Rattle.pv_format.specs.Checkpoint.{first_standing}
+use Rattle.pv_format.specs.Contents.{SpellRecords}
+use Rattle.pv_format.specs.Journal.{IsJournal}
+use Rattle.pv_format.specs.Record.{Record}
+use Rattle.pv_model.specs.Events.{Event}
+use Rattle.pv_protocol.specs.Run.{run, world_after}
+use Rattle.pv_protocol.specs.State.{Setup, Running, Site}
+use Rattle.pv_protocol.specs.WellFormed.{IsWellFormed}
+use Rattle.pv_protocol.specs.World.{World, first_site, opening, site_at}
+use Rattle.pv_site.specs.SiteState.{setup_of}
+use Rattle.pv_host.specs.HostFile.{IsFile}
+use Rattle.pv_embed.specs.Held.{Held, Out}
+use Rattle.pv_embed.specs.Hosted.{HostedState, stored_length}
+use Rattle.pv_law_hosted.specs.Deployment.{Deployment, station_at}
+use Rattle.pv_law_hosted.specs.DeploymentEvents.{Stands}
+use Rattle.pv_law_hosted.specs.Given.{Content, Given, MayBeGiven, WaitsForRecord, held_for, with_all}
+use Rattle.pv_law_hosted.specs.Made.{Made, IsWithin, made_as, made_by}
+
+-- the world after the run of these events
+abbrev pub world_of : Setup → List Event → World
+world_of setup events = world_after (opening setup) (run setup (opening setup) events)
+
+-- the world's site with these records and this memory: no fault is armed, and its log was never written anew
+abbrev pub plain_site : List Record → Option Running → Site
+plain_site records running = record { records = records; standing = first_standing; arm = None; running = running }
+
+-- How the world's site stands for what is in a station's file. Before the first opening is written it is a site that was started once, since the world begins so,
+-- and nothing has happened in it.
+pub data IsSeenAs : Content → Site → Type 0 where
+  same : (records : List Record) (running : Option Running) → IsSeenAs (record { records = records; running = running }) (plain_site records running)
+  unborn : IsSeenAs (record { records = []; running = None }) first_site
+
+-- The world's site has made all that the host has told to be in the file, and what comes after it waits: for a record that isn't said to be there. What was made and
+-- not let out is of those steps that are in the file, and then of those that wait; and of none that are in the file, where the process's own opening waits.
+pub record FollowsHosted (setup : Setup) (d : Deployment) (n : ℕ) (file : List ℕ) (hosted : HostedState) (content : Content) (rest : List Out) : Type 0 where
+  pub is_file : IsFile hosted.site.log file
+  pub stands : Stands hosted
+  pub me : hosted.site.me ≡ n
+  pub catalog : setup_of hosted.site.catalog ≡ setup
+  pub stored : SpellRecords content.records hosted.site.log.stored
+  pub waiting : List Given
+  pub allowed : All (MayBeGiven setup.catalog d n) waiting
+  pub first : WaitsForRecord setup n content waiting
+  pub come : with_all setup n content waiting ≡ record { records = hosted.site.records; running = hosted.site.running }
+  pub ready : List Held
+  pub held : hosted.held ≡ ready ++ held_for setup n content waiting
+  pub in_file : All (λ (one : Held). one.length ≤ stored_length hosted) ready
+  pub rest_is : rest ≡ map (λ (one : Held). one.out) ready
+  pub unopened : content.running ≡ None → ready ≡ []
+
+-- The process is gone. The file has the records, the site is down, and nothing more is let out.
+pub record FollowsGone (file : List ℕ) (content : Content) (rest : List Out) : Type 0 where
+  pub contents : Contents
+  pub journal : IsJournal contents file
+  pub spelled : SpellRecords content.records contents
+  pub down : content.running ≡ None
+  pub silent : rest ≡ []
+
+abbrev pub FollowsProcess : Setup → Deployment → ℕ → List ℕ → Option HostedState → Content → List Out → Type 0
+FollowsProcess setup d n file None content rest = FollowsGone file content rest
+FollowsProcess setup d n file (Some hosted) content rest = FollowsHosted setup d n file hosted content rest
+
+-- The world's site stands for the station of this number. What the station has let out, and what it is ready to let out, is within what the site made in the run.
+pub record Follows (setup : Setup) (d : Deployment) (n : ℕ) (site : Site) (made : List Made) : Type 0 where
+  pub content : Content
+  pub seen : IsSeenAs content site
+  pub rest : List Out
+  pub within : IsWithin n (map (made_as n) ((station_at d n).let_out ++ rest)) made
+  pub process : FollowsProcess setup d n (station_at d n).file (station_at d n).hosted content rest
+
+-- The run of these events mirrors the deployment.
+pub record IsMirrored (setup : Setup) (d : Deployment) (events : List Event) : Type 0 where
+  pub well : All (IsWellFormed setup.catalog) events
+  pub stations : length d ≡ setup.catalog.sites
+  pub sites : length (world_of setup events).sites ≡ setup.catalog.sites
+  pub each : (n : ℕ) → n < setup.catalog.sites → Follows setup d n (site_at (world_of setup events) n) (made_by setup n events)

@@ -1,0 +1,89 @@
+//! The law of hosted sites: sites in processes of their own, each with a host and a file, agree as the sites of a world do, since for whatever
+//! happens to them there is a schedule whose run mirrors it. The functions do nothing: each states a law.
+#![tactic(auto)]
+
+ghost use Rattle.std.specs.Prelude.{◌≡◌, ℕ, ◌<◌, ◌≤◌, Some, None, List, [], ◌++◌, map, slice_get, All, IsTrue};
+ghost use Rattle.std.specs.List.{Contains};
+ghost use Rattle.pv_base.specs.Catalog.{Declared, Item};
+ghost use Rattle.pv_base.specs.declared.txn.TxnId.{TxnId};
+ghost use Rattle.pv_embed.specs.Held.{message, note};
+ghost use Rattle.pv_embed.specs.Hosted.{HostedState, log_length, stored_length};
+ghost use Rattle.pv_embed.specs.Opening.{Configures};
+ghost use Rattle.pv_format.specs.Message.{Envelope};
+ghost use Rattle.pv_law_hosted.specs.Claims.{HoldsSite};
+ghost use Rattle.pv_law_hosted.specs.Deployment.{Deployment, IsNew, station_at};
+ghost use Rattle.pv_law_hosted.specs.DeploymentEvents.{Happens};
+ghost use Rattle.pv_law_hosted.specs.Made.{IsLetOutOf, made_as, made_by};
+ghost use Rattle.pv_law_hosted.specs.Mirrored.{IsMirrored, plain_site, world_of};
+ghost use Rattle.pv_model.specs.Events.{Event, Schedule};
+ghost use Rattle.pv_model.specs.Meaning.{value_in};
+ghost use Rattle.pv_protocol.specs.Committed.{Fits, is_readable, serial_rows};
+ghost use Rattle.pv_protocol.specs.Lines.{line_of};
+ghost use Rattle.pv_protocol.specs.Run.{printed};
+ghost use Rattle.pv_protocol.specs.Shown.{item_value};
+ghost use Rattle.pv_protocol.specs.State.{Note, Setup};
+ghost use Rattle.pv_protocol.specs.WellFormed.{IsWellFormed};
+ghost use Rattle.pv_protocol.specs.World.{site_at};
+ghost use Rattle.pv_site.specs.SiteState.{setup_of};
+
+use pv_embed::files_hold_what_was_let_out;
+use pv_host::files_are_journals;
+use pv_law_answers::worlds_agree;
+use pv_law_format::one_record;
+use pv_law_journal::one_journal;
+use pv_law_schedules::one_schedule;
+use pv_site::logs_tell_of_records;
+
+/// A deployment is mirrored by the run of a schedule, from its beginning on, whatever happens in it; and the run only goes on.
+pub fn deployments_are_runs()
+    ensures new { (catalog : Declared) (d : Deployment) → IsNew catalog d → IsMirrored (setup_of catalog) d [] }
+    ensures event { (config : List ℕ) (schedule : Schedule) (d later : Deployment) (events : List Event) → Configures config schedule →
+        IsMirrored (setup_of schedule.catalog) d events → Happens config schedule.catalog d later →
+        (more : List Event) × IsMirrored (setup_of schedule.catalog) later (events ++ more) }
+{
+    files_are_journals();
+    files_hold_what_was_let_out();
+    logs_tell_of_records();
+    one_journal();
+    one_record();
+    one_schedule();
+}
+
+/// What holds of a deployment that a run mirrors:
+///
+/// - The run's events are well formed, so all that is promised of runs is promised of it.
+/// - What each station has let out, in its order, its site sends and prints in the run, in its order: of what each process's steps made it is a beginning.
+/// - Where all of its log is said to be in the file, a site shows what the world's site shows: it has the same records and the same memory.
+/// - The file of a station whose process is gone is a journal of exactly the records of the world's site.
+pub fn mirrored_deployments_agree()
+    ensures well { (setup : Setup) (d : Deployment) (events : List Event) → IsMirrored setup d events → All (IsWellFormed setup.catalog) events }
+    ensures let_out { (setup : Setup) (d : Deployment) (events : List Event) (n : ℕ) → IsMirrored setup d events → n < setup.catalog.sites →
+        IsLetOutOf n (map (made_as n) (station_at d n).let_out) (made_by setup n events) }
+    ensures shown { (setup : Setup) (d : Deployment) (events : List Event) (n : ℕ) (hosted : HostedState) → IsMirrored setup d events → n < setup.catalog.sites →
+        (station_at d n).hosted ≡ Some hosted → log_length hosted ≤ stored_length hosted →
+        site_at (world_of setup events) n ≡ plain_site hosted.site.records hosted.site.running }
+    ensures file { (setup : Setup) (d : Deployment) (events : List Event) (n : ℕ) → IsMirrored setup d events → n < setup.catalog.sites →
+        (station_at d n).hosted ≡ None → HoldsSite (station_at d n).file (site_at (world_of setup events) n) }
+{
+    logs_tell_of_records();
+}
+
+/// So what users of a deployment see agrees with the serial run, as all that is promised of runs:
+///
+/// - Each message that was let out was sent in the run, and each report is a line of it. So one outcome of a transaction, the answers of a commit, and that a
+///   refusal holds for ever, are promised of what was let out.
+/// - Where all of its log is said to be in the file, a site shows of each item that no transaction holds, at each assignment that fits, the value that the
+///   serial run of the order leaves it.
+pub fn hosted_sites_agree()
+    ensures sent { (setup : Setup) (d : Deployment) (events : List Event) (n : ℕ) (envelope : Envelope) → IsMirrored setup d events → n < setup.catalog.sites →
+        Contains (station_at d n).let_out (message envelope) → Contains (world_of setup events).sent envelope }
+    ensures printed { (setup : Setup) (d : Deployment) (events : List Event) (n : ℕ) (reported : Note) → IsMirrored setup d events → n < setup.catalog.sites →
+        Contains (station_at d n).let_out (note reported) → Contains (printed setup events) (line_of n reported) }
+    ensures shown { (setup : Setup) (d : Deployment) (events : List Event) (hosted : HostedState) (assignment : List TxnId) (i : ℕ) (item : Item) →
+        IsMirrored setup d events → slice_get setup.catalog.items i ≡ Some item → (station_at d item.site).hosted ≡ Some hosted →
+        log_length hosted ≤ stored_length hosted → IsTrue (is_readable hosted.site.running i) → Fits (world_of setup events) assignment →
+        item_value setup.catalog hosted.site.records i assignment ≡ value_in (serial_rows setup (world_of setup events) assignment) i }
+{
+    mirrored_deployments_agree();
+    worlds_agree();
+}
