@@ -187,9 +187,9 @@ void polydb_world_close(polydb_world *world);
  *             send the message to the site that it goes to; show the report
  *         give the site what came: a request, a message, a tick
  *
- * A message may be lost, may come late and may come twice: the protocol is made for that. (That sites of several hosts agree is not proved yet: the laws on
- * agreement are of a world.) Time is the host's: a site that waits for an answer gives up at its third tick, lets go of its locks at their third, and then
- * asks again at each tick; and never without one.
+ * A message may be lost, may come late and may come twice: the protocol is made for that. (That sites of several hosts agree is not proved of these
+ * calls yet: a law says it of what they are defined to do.) Time is the host's: a site that waits for an answer gives up at its third tick, lets go of
+ * its locks at their third, and then asks again at each tick; and never without one.
  *
  * What the host owes besides (`host/polydb_host.h` does what is on files of it, for a site on a folder, and `node/polydb_node.h` carries messages and ticks too):
  *   - the file, and for a new one its entry in the folder, is synced before its bytes are read for polydb_site_open: the site counts as written all that it
