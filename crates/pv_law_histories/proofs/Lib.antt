@@ -1,7 +1,8 @@
 mod CourseLemmas
 mod EventLemmas
+pub mod MergeStepLemmas
 mod MergeLemmas
-mod MergingLemmas
-mod MomentLemmas
+pub mod MergingLemmas
+pub mod MomentLemmas
 mod PostingLemmas
 mod WellFormedLemmas

@@ -17,11 +17,11 @@ and-both : (a b : Bool) → (a && b) ≡ true → (a ≡ true) × (b ≡ true)
 and-both true b is = (refl, is)
 and-both false b is = absurd cc
 
-never-both : (test : Bool) → test ≡ false → test ≡ true → ⊥
+pub never-both : (test : Bool) → test ≡ false → test ≡ true → ⊥
 never-both true is other = absurd cc
 never-both false is other = absurd cc
 
-before-test : (first later : Moment) → IsBefore first later → is_before first later ≡ true
+pub before-test : (first later : Moment) → IsBefore first later → is_before first later ≡ true
 before-test first later before =
     let stamp = first.entry.stamp in
     let stamp' = later.entry.stamp in
@@ -30,7 +30,7 @@ before-test first later before =
     (ap (λ (test : Bool). test && nat_lt first.site later.site) (eq-eqb stamp stamp' same.0) ∙ lt-ltb first.site later.site same.1))
     before
 
-test-before : (first later : Moment) → is_before first later ≡ true → IsBefore first later
+pub test-before : (first later : Moment) → is_before first later ≡ true → IsBefore first later
 test-before first later is =
     let stamp = first.entry.stamp in
     let stamp' = later.entry.stamp in
@@ -39,7 +39,7 @@ test-before first later is =
     inr (eqb-true stamp stamp' both.0, ltb-true first.site later.site both.1))
     (or-either (nat_lt stamp stamp') (stamp == stamp' && nat_lt first.site later.site) is)
 
-before-trans : (a b c : Moment) → IsBefore a b → IsBefore b c → IsBefore a c
+pub before-trans : (a b c : Moment) → IsBefore a b → IsBefore b c → IsBefore a c
 before-trans a b c first then_on =
     ⊎_elim (λ less. ⊎_elim (λ less'. inl (omega arith)) (λ same'. let stamps = same'.0 in inl (omega arith)) then_on)
     (λ same. let stamps = same.0 in let sites = same.1 in
@@ -47,7 +47,7 @@ before-trans a b c first then_on =
     first
 
 -- Of two moments of different sites one is before the other.
-one-before : (a b : Moment) → b.site ≢ a.site → IsBefore a b ⊎ IsBefore b a
+pub one-before : (a b : Moment) → b.site ≢ a.site → IsBefore a b ⊎ IsBefore b a
 one-before a b apart =
     dite (ℕ_discrete a.entry.stamp b.entry.stamp)
     (λ same. dite (dec_le a.site b.site) (λ le. inl (inr (same, omega arith))) (λ gt. inr (inr (sym same, omega arith))))
@@ -119,7 +119,7 @@ module _ (n : ℕ) (moments : List Moment) (apart : All (λ moment. moment.site 
   abbrev at : Stamped → Moment
   at entry = record { site = n; entry = entry }
 
-  all-history : (P : Moment → Type 0) (entries : List Stamped) → All (λ entry. P (at entry)) entries → All P moments → All P (with_history n entries moments)
+  pub all-history : (P : Moment → Type 0) (entries : List Stamped) → All (λ entry. P (at entry)) entries → All P moments → All P (with_history n entries moments)
   all-history P [] own others = others
   all-history P (entry ∷ entries) own others =
       let Q = λ (e : Stamped). P (at e) in
@@ -178,16 +178,16 @@ sites-from n (history ∷ histories) =
     (All-weaker (IsWithin (n + 1) (n + 1 + length histories)) P (λ moment within. let low = within.0 in let high = within.1 in (omega arith, omega arith))
     (merge_from (n + 1) histories) rest)
 
-apart-from : (n : ℕ) (histories : List (List Stamped)) → All (λ moment. moment.site ≢ n) (merge_from (n + 1) histories)
+pub apart-from : (n : ℕ) (histories : List (List Stamped)) → All (λ moment. moment.site ≢ n) (merge_from (n + 1) histories)
 apart-from n histories = apart-within n (n + 1 + length histories) (merge_from (n + 1) histories) (sites-from (n + 1) histories)
 
-abbrev AllRise : List (List Stamped) → Type 0
+abbrev pub AllRise : List (List Stamped) → Type 0
 AllRise histories = (k : ℕ) → k < length histories → HasRisingStamps (history_of histories k)
 
-rest-rise : (history : List Stamped) (histories : List (List Stamped)) → AllRise (history ∷ histories) → AllRise histories
+pub rest-rise : (history : List Stamped) (histories : List (List Stamped)) → AllRise (history ∷ histories) → AllRise histories
 rest-rise history histories rise k within = rise (suc k) (omega arith)
 
-order-from : (n : ℕ) (histories : List (List Stamped)) → AllRise histories → AreInOrder (merge_from n histories)
+pub order-from : (n : ℕ) (histories : List (List Stamped)) → AllRise histories → AreInOrder (merge_from n histories)
 order-from n [] rise = tt
 order-from n (history ∷ histories) rise =
     order-history n (merge_from (n + 1) histories) (apart-from n histories) history (rise 0 (omega arith))
@@ -216,7 +216,7 @@ merge-is histories rise = record {
 }
 
 -- ## There is no other
-antisymmetric : (a b : Moment) → IsBefore a b → IsBefore b a → ⊥
+pub antisymmetric : (a b : Moment) → IsBefore a b → IsBefore b a → ⊥
 antisymmetric a b first then_on =
     ⊎_elim (λ less. ⊎_elim (λ less'. absurd (omega arith)) (λ same'. let stamps = same'.0 in absurd (omega arith)) then_on)
     (λ same. let stamps = same.0 in let sites = same.1 in ⊎_elim (λ less'. absurd (omega arith)) (λ same'. let sites' = same'.1 in absurd (omega arith)) then_on)
