@@ -5,4 +5,4 @@ mod MergeLemmas
 pub mod MergingLemmas
 pub mod MomentLemmas
 mod PostingLemmas
-mod WellFormedLemmas
+pub mod WellFormedLemmas

@@ -138,7 +138,7 @@ pub number-here : (site stamp place : ℕ) (moment : Moment) (more : List Moment
 number-here site stamp place moment more is = if-true (is_of site stamp moment) place (moment.entry.sends + number_of more site stamp place) is
 
 -- No moment before another one is of its site and has its stamp.
-before-other : (first moment : Moment) → IsBefore first moment → is_of moment.site moment.entry.stamp first ≡ false
+pub before-other : (first moment : Moment) → IsBefore first moment → is_of moment.site moment.entry.stamp first ≡ false
 before-other first moment before =
     ⊎_elim (λ less. and-false (first.site == moment.site) (first.entry.stamp == moment.entry.stamp) (ne_eqb first.entry.stamp moment.entry.stamp (λ same. absurd (omega arith))))
     (λ same. ap (λ (test : Bool). test && (first.entry.stamp == moment.entry.stamp))

@@ -18,7 +18,7 @@ if-rest : (P : Stamped → Type 0) (test : Bool) (entry : Stamped) (entries : Li
 if-rest P true entry entries all = All-tail P entry entries all
 if-rest P false entry entries all = all
 
-of-entries : (P : ℕ → Stamped → Type 0) (count : ℕ) (moments : List Moment) → All (λ moment. moment.site < count) moments
+pub of-entries : (P : ℕ → Stamped → Type 0) (count : ℕ) (moments : List Moment) → All (λ moment. moment.site < count) moments
     → ((n : ℕ) → n < count → All (P n) (entries_of n moments)) → All (λ moment. P moment.site moment.entry) moments
 of-entries P count [] sites every = All-nil (λ (moment : Moment). P moment.site moment.entry)
 of-entries P count (moment ∷ moments) sites every =
