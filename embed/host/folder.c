@@ -269,7 +269,7 @@ static polydb_host_cause without_records(journal_content *content, polydb_host_e
     return POLYDB_HOST_DONE;
 }
 
-polydb_host_cause folder_read(site_folder *files, bool adopts, journal_content *content, polydb_host_error *error) {
+polydb_host_cause folder_read(site_folder *files, bool is_there, bool adopts, journal_content *content, polydb_host_error *error) {
     *content = (journal_content){.bytes = NULL};
     struct stat about = {.st_size = 0};
     files->journal = openat(files->folder, files->journal_name, O_RDWR | O_CLOEXEC);
@@ -280,8 +280,14 @@ polydb_host_cause folder_read(site_folder *files, bool adopts, journal_content *
         return refuse_system(error, "stat", files->journal_name);
     }
     files->has_journal = files->journal >= 0 && about.st_size > 0;
+    if (!files->has_journal && files->is_named) {
+        return refuse(error, POLYDB_HOST_LOST, "open", files->journal_name);
+    }
+    if (!files->has_journal && is_there) {
+        return refuse(error, POLYDB_HOST_NOT_THERE, "open", files->journal_name);
+    }
     if (!files->has_journal) {
-        return files->is_named ? refuse(error, POLYDB_HOST_LOST, "open", files->journal_name) : without_records(content, error);
+        return without_records(content, error);
     }
     polydb_host_cause cause = POLYDB_HOST_DONE;
     if (!sync_data(files->journal) || !sync_folder(files->folder)) {
@@ -294,6 +300,9 @@ polydb_host_cause folder_read(site_folder *files, bool adopts, journal_content *
     cause = read_content(files, (uint64_t)about.st_size, content, error);
     if (cause == POLYDB_HOST_DONE && !files->is_named && content->records > 0 && !adopts) {
         cause = refuse(error, POLYDB_HOST_UNNAMED, "open", files->journal_name);
+    }
+    if (cause == POLYDB_HOST_DONE && !files->is_named && content->records == 0 && is_there) {
+        cause = refuse(error, POLYDB_HOST_NOT_THERE, "open", files->journal_name);
     }
     return cause;
 }

@@ -31,8 +31,8 @@ polydb_host_cause folder_open(site_folder *files, const char *path, uint8_t site
 /* Looks whether the folder is this site's with this configuration, if it says so at all. */
 polydb_host_cause folder_compare(site_folder *files, const uint8_t *config, size_t length, polydb_host_error *error);
 
-/* Syncs the journal and reads it: of a new site, the journal without records. */
-polydb_host_cause folder_read(site_folder *files, bool adopts, journal_content *content, polydb_host_error *error);
+/* Syncs the journal and reads it: of a new site, which is refused where the site was said to be there, the journal without records. */
+polydb_host_cause folder_read(site_folder *files, bool is_there, bool adopts, journal_content *content, polydb_host_error *error);
 
 /*
  * Makes that what was read is in the journal's file and on the disk, by a file of its own where there is none or the one that is there is in doubt; that the

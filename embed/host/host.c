@@ -25,7 +25,7 @@ struct polydb_host {
     void (*report)(void *context, const char *line, size_t length);
 };
 
-enum { FIRST_ROOM = 4096 };
+enum { FIRST_ROOM = 1 << 16 }; /* bytes; of the records that wait, what fits is one write */
 
 /* A child of a fork has the descriptors, and so the lock: it is told apart by its number alone. */
 static bool is_owner(const polydb_host *host) { return host->process == getpid(); }
@@ -54,7 +54,7 @@ static polydb_host_cause open_site(polydb_host *host, const polydb_host_setup *s
     polydb_host_cause cause = folder_compare(&host->files, setup->config, setup->config_length, error);
     bool was_named = host->files.is_named;
     if (cause == POLYDB_HOST_DONE) {
-        cause = folder_read(&host->files, setup->adopts, &content, error);
+        cause = folder_read(&host->files, setup->is_there, setup->adopts, &content, error);
     }
     bool was_there = host->files.has_journal, is_in_doubt = was_there && !host->files.ended_well;
     if (cause == POLYDB_HOST_DONE) {
@@ -127,8 +127,8 @@ polydb_host_cause polydb_host_tick(polydb_host *host, polydb_host_error *error) 
 
 /* ---- what the site wants written, and what it lets out ---- */
 
-/* One write, and its sync. The site hears of it last, and of nothing that has failed: the same bytes come again then. Where the library gives the records that wait
- * as one write, this is one write for all of them, with a sync. */
+/* One write, and its sync: of all records that wait, and then of the gate before them. The site hears of it last, and of nothing that has failed: the same bytes come
+ * again then. */
 static polydb_host_cause write_next(polydb_host *host, bool *wrote, polydb_host_error *error) {
     size_t length;
     uint64_t place;
@@ -290,6 +290,7 @@ const char *polydb_host_describe(const polydb_host_error *error, char *out, size
         [POLYDB_HOST_DAMAGED] = "the file that says which site it is can't be read",
         [POLYDB_HOST_NO_MEMORY] = "no memory",
         [POLYDB_HOST_FORKED] = "the parent of this process has the site",
+        [POLYDB_HOST_NOT_THERE] = "nothing of the site is in the folder",
     };
     switch (error->cause) {
     case POLYDB_HOST_SYSTEM:

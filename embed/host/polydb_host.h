@@ -65,7 +65,9 @@ typedef enum {
     /* There was no memory. */
     POLYDB_HOST_NO_MEMORY = 9,
     /* This process is a child of the one that opened the site. */
-    POLYDB_HOST_FORKED = 10
+    POLYDB_HOST_FORKED = 10,
+    /* Nothing of the site is in the folder, and it was said to be there. */
+    POLYDB_HOST_NOT_THERE = 11
 } polydb_host_cause;
 
 /* A refusal with its circumstances. */
@@ -82,7 +84,8 @@ typedef struct {
     const uint8_t *config;
     size_t config_length;
     uint8_t site;
-    bool adopts; /* takes a journal with records beside which nothing says whose it is */
+    bool is_there; /* the site was opened here before: a folder without it is refused, and not taken for a new site's. A site whose files were lost isn't to begin anew */
+    bool adopts;   /* takes a journal with records beside which nothing says whose it is */
 
     /* Called within polydb_host_settle alone. Of this host's functions they may call polydb_host_submit, polydb_host_receive and polydb_host_tick. Neither pointer may be null. */
     void *context;

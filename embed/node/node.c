@@ -421,6 +421,7 @@ static polydb_host_cause open_host(polydb_node *node, const polydb_node_setup *s
                                  .config = setup->config,
                                  .config_length = setup->config_length,
                                  .site = setup->site,
+                                 .is_there = setup->is_there,
                                  .adopts = setup->adopts,
                                  .context = node,
                                  .message = on_message,

@@ -8,6 +8,7 @@
 #include <stdarg.h>
 #include <stdio.h>
 #include <string.h>
+#include <sys/stat.h>
 #include <unistd.h>
 #include <zmq.h>
 
@@ -82,6 +83,16 @@ polydb_host_cause read_key(const char *path, key_pair *keys, polydb_host_error *
     if (file == NULL) {
         return node_refuse(error, POLYDB_HOST_SYSTEM, errno, "open the file of the key");
     }
+    struct stat about;
+    if (fstat(fileno(file), &about) != 0) {
+        polydb_host_cause cause = node_refuse(error, POLYDB_HOST_SYSTEM, errno, "stat the file of the key");
+        fclose(file);
+        return cause;
+    }
+    if ((about.st_mode & (S_IRWXG | S_IRWXO)) != 0) { /* whoever has it, is this site */
+        fclose(file);
+        return node_refuse(error, POLYDB_NODE_BAD_FILE, 0, "the file of the key, open to others (mode %03o)", (unsigned)(about.st_mode & 0777));
+    }
     char line[sizeof SECRET + POLYDB_NODE_KEY_ROOM];
     bool is_key = fgets(line, sizeof line, file) != NULL && strncmp(line, SECRET, sizeof SECRET - 1) == 0;
     fclose(file);
@@ -94,6 +105,15 @@ polydb_host_cause read_key(const char *path, key_pair *keys, polydb_host_error *
         is_key = zmq_curve_public(keys->public, keys->secret) == 0;
     }
     return is_key ? POLYDB_HOST_DONE : node_refuse(error, POLYDB_NODE_BAD_FILE, 0, "the file of the key");
+}
+
+polydb_host_cause polydb_node_public_key(const char *path, char public_key[POLYDB_NODE_KEY_ROOM], polydb_host_error *error) {
+    key_pair keys;
+    polydb_host_cause cause = read_key(path, &keys, error);
+    if (cause == POLYDB_HOST_DONE) {
+        strcpy(public_key, keys.public);
+    }
+    return cause;
 }
 
 /* Writes all of a text, syncs it and closes the file. */

@@ -34,7 +34,7 @@ extern "C" {
 
 /* More causes than a host has. */
 
-/* The file of peers, or of a key, isn't as it should be; `what` says which line. */
+/* The file of peers, or of a key, isn't as it should be; `what` says which line, or what is wrong. */
 #define POLYDB_NODE_BAD_FILE ((polydb_host_cause)32)
 /* libzmq refused something: `number` is its errno. */
 #define POLYDB_NODE_NET ((polydb_host_cause)33)
@@ -49,7 +49,7 @@ typedef struct {
     const uint8_t *config;
     size_t config_length;
     uint8_t site;
-    bool adopts; /* as a host has it */
+    bool is_there, adopts; /* as a host has them */
 
     const char *peers;  /* the file of addresses and public keys */
     const char *key;    /* the file of the secret key */
@@ -100,6 +100,9 @@ polydb_node_counts polydb_node_count(const polydb_node *node);
 
 /* Stops. What was under way goes on when the node is opened again. Null is fine. */
 void polydb_node_close(polydb_node *node);
+
+/* The public key of the secret one in a file. One that others than its owner may read or write is refused, here and at an opening. */
+polydb_host_cause polydb_node_public_key(const char *path, char public_key[POLYDB_NODE_KEY_ROOM], polydb_host_error *error);
 
 /* Makes a new pair of keys, and a file of the secret one, which isn't there yet and which only its owner can read. */
 polydb_host_cause polydb_node_new_key(const char *path, char public_key[POLYDB_NODE_KEY_ROOM], polydb_host_error *error);

@@ -353,7 +353,7 @@ static bool read_file(const char *path, text *out) {
 }
 
 static void say_what_was_found(const server *all, const polydb_host_found *found, const char *folder) {
-    if (found->is_new) {
+    if (found->records == 0) {
         say(all->site, "new, on %s", folder);
     } else {
         say(all->site, "on %s, whose journal has %" PRIu64 " records, %" PRIu64 " bytes", folder, found->records, found->length);
@@ -363,10 +363,11 @@ static void say_what_was_found(const server *all, const polydb_host_found *found
 
 typedef struct {
     const char *site, *config, *peers, *key, *data, *socket, *listen, *tick, *new_key;
-    bool adopts;
+    bool adopts, is_new;
 } options;
 
-static const char USAGE[] = "usage: polydbd --site NUMBER --config FILE --peers FILE --data FOLDER\n"
+static const char USAGE[] = "usage: polydbd --new --site NUMBER --config FILE --data FOLDER [--key FILE]\n"
+                            "       polydbd --site NUMBER --config FILE --peers FILE --data FOLDER\n"
                             "               [--key FILE] [--socket PATH] [--listen ADDRESS] [--tick MILLISECONDS] [--adopt]\n"
                             "       polydbd --new-key FILE\n"
                             "       polydbd --version\n";
@@ -376,6 +377,44 @@ static int make_key(const char *path) {
     polydb_host_error error;
     if (polydb_node_new_key(path, key, &error) != POLYDB_HOST_DONE) {
         fprintf(stderr, "polydbd: %s\n", polydb_node_describe(&error, words, sizeof words));
+        return NOT_OPENED;
+    }
+    puts(key);
+    return fflush(stdout) == 0 ? ENDED : NOT_OPENED;
+}
+
+/* Nothing is let out while a site is made. */
+static void no_message(void *context, uint8_t to, const uint8_t *bytes, size_t length) { (void)context, (void)to, (void)bytes, (void)length; }
+static void no_report(void *context, const char *line, size_t length) { (void)context, (void)line, (void)length; }
+
+/* Makes the files of a site that isn't there yet, and prints its public key: of a new pair, where it has no key yet. */
+static int make_site(unsigned site, const options *with, const text *config, const char *key_path) {
+    char words[200], key[POLYDB_NODE_KEY_ROOM];
+    polydb_host *host;
+    polydb_host_found found;
+    polydb_host_error error;
+    if (mkdir(with->data, 0700) != 0 && errno != EEXIST) {
+        say(site, "%s: %s", with->data, strerror(errno));
+        return NOT_OPENED;
+    }
+    polydb_host_setup setup = {.folder = with->data,
+                               .config = (const uint8_t *)(config->bytes == NULL ? "" : config->bytes),
+                               .config_length = config->length,
+                               .site = (uint8_t)site,
+                               .message = no_message,
+                               .report = no_report};
+    polydb_host_cause cause = polydb_host_open(&host, &setup, &found, &error);
+    if (cause == POLYDB_HOST_DONE && found.records > 0) {
+        say(site, "it is on %s already, whose journal has %" PRIu64 " records", with->data, found.records);
+        polydb_host_close(host);
+        return NOT_OPENED;
+    }
+    if (cause == POLYDB_HOST_DONE) {
+        polydb_host_close(host);
+        cause = access(key_path, F_OK) == 0 ? polydb_node_public_key(key_path, key, &error) : polydb_node_new_key(key_path, key, &error);
+    }
+    if (cause != POLYDB_HOST_DONE) {
+        say(site, "%s", polydb_node_describe(&error, words, sizeof words));
         return NOT_OPENED;
     }
     puts(key);
@@ -410,11 +449,17 @@ static int run(const options *with) {
         say(site, "%s: %s", with->config, strerror(errno));
         return NOT_OPENED;
     }
+    if (with->is_new) {
+        int made = make_site(site, with, &config, with->key == NULL ? key_path : with->key);
+        text_free(&config);
+        return made;
+    }
     all.signals = catch_signals();
     polydb_node_setup setup = {.folder = with->data,
                                .config = (const uint8_t *)(config.bytes == NULL ? "" : config.bytes),
                                .config_length = config.length,
                                .site = (uint8_t)site,
+                               .is_there = true,
                                .adopts = with->adopts,
                                .peers = with->peers,
                                .key = with->key == NULL ? key_path : with->key,
@@ -428,7 +473,7 @@ static int run(const options *with) {
     polydb_host_cause cause = polydb_node_open(&all.node, &setup, &found, &error);
     text_free(&config);
     if (cause != POLYDB_HOST_DONE) {
-        say(site, "%s", polydb_node_describe(&error, words, sizeof words));
+        say(site, "%s%s", polydb_node_describe(&error, words, sizeof words), cause == POLYDB_HOST_NOT_THERE ? "; --new makes a new one" : "");
         return NOT_OPENED;
     }
     say_what_was_found(&all, &found, with->data);
@@ -453,7 +498,8 @@ int main(int count, char **words) {
     static const struct option NAMES[] = {{"site", required_argument, NULL, 's'},   {"config", required_argument, NULL, 'c'}, {"peers", required_argument, NULL, 'p'},
                                           {"key", required_argument, NULL, 'k'},    {"data", required_argument, NULL, 'd'},   {"socket", required_argument, NULL, 'o'},
                                           {"listen", required_argument, NULL, 'l'}, {"tick", required_argument, NULL, 't'},   {"new-key", required_argument, NULL, 'n'},
-                                          {"adopt", no_argument, NULL, 'a'},        {"version", no_argument, NULL, 'v'},      {NULL, 0, NULL, 0}};
+                                          {"adopt", no_argument, NULL, 'a'},        {"new", no_argument, NULL, 'w'},          {"version", no_argument, NULL, 'v'},
+                                          {NULL, 0, NULL, 0}};
     options with = {.site = NULL};
     for (int name; (name = getopt_long(count, words, "", NAMES, NULL)) != -1;) {
         switch (name) {
@@ -467,6 +513,7 @@ int main(int count, char **words) {
         case 't': with.tick = optarg; break;
         case 'n': with.new_key = optarg; break;
         case 'a': with.adopts = true; break;
+        case 'w': with.is_new = true; break;
         case 'v': puts("polydbd " POLYDB_VERSION); return ENDED;
         default: fputs(USAGE, stderr); return WRONG_USE;
         }
@@ -475,7 +522,7 @@ int main(int count, char **words) {
     if (with.new_key != NULL && optind == count) {
         return make_key(with.new_key);
     }
-    if (with.site == NULL || with.config == NULL || with.peers == NULL || with.data == NULL || optind != count) {
+    if (with.site == NULL || with.config == NULL || (with.peers == NULL && !with.is_new) || with.data == NULL || optind != count) {
         fputs(USAGE, stderr);
         return WRONG_USE;
     }

@@ -65,6 +65,7 @@ _REPORT = 255
 EMPTY_JOURNAL = b"PVJRNL01\0"
 
 _FIRST_ROOM = 4096
+_WRITE_ROOM = 1 << 16  # of the records that wait, what fits is one write
 
 
 class PolydbError(Exception):
@@ -264,9 +265,8 @@ def _bytes(text: Text) -> bytes:
     return text.encode() if isinstance(text, str) else _raw(text)
 
 
-def _fill(call: Callable[[Any, int, Any], Any]) -> Tuple[int, bytes]:
+def _fill(call: Callable[[Any, int, Any], Any], room: int = _FIRST_ROOM) -> Tuple[int, bytes]:
     """What a call writes: it is called with a buffer and its room, and once more with a larger one where it is too small."""
-    room = _FIRST_ROOM
     while True:
         out = (c_uint8 * room)()
         written = c_size_t(0)
@@ -409,7 +409,7 @@ class Site(_Open):
     def next_write(self) -> Optional[JournalWrite]:
         """What is to be written next into the journal, or None. The same comes until `written`."""
         place = c_uint64(0)
-        status, data = _fill(lambda out, room, written: self._call(_site_take_journal, out, room, written, byref(place)))
+        status, data = _fill(lambda out, room, written: self._call(_site_take_journal, out, room, written, byref(place)), _WRITE_ROOM)
         if status == _NOTHING:
             return None
         _check(status, "next_write")

@@ -24,7 +24,7 @@ from typing import Callable, NamedTuple, Optional, Union
 
 from .engine import EMPTY_JOURNAL, Bytes, Message, Output, PolydbError, Site, Text, _bytes
 
-__all__ = ["FileHost", "SiteFolder", "Found", "Busy", "OtherSite", "OtherConfig", "Unnamed", "Lost", "Damaged", "Forked"]
+__all__ = ["FileHost", "SiteFolder", "Found", "Busy", "OtherSite", "OtherConfig", "Unnamed", "Lost", "NotThere", "Damaged", "Forked"]
 
 _HEADER = EMPTY_JOURNAL[:8]
 _HEAD = 5  # a gate, and the length of its record
@@ -50,6 +50,10 @@ class Unnamed(PolydbError):
 
 class Lost(PolydbError):
     """The site was opened before, and its journal is gone or empty."""
+
+
+class NotThere(PolydbError):
+    """Nothing of the site is in the folder, and it was said to be there."""
 
 
 class Damaged(PolydbError):
@@ -96,7 +100,7 @@ class SiteFolder:
     """A site's files in its folder. The lock comes first, as all else is looked at and changed under it. What is changed comes last (`settle`),
     when all has been read and the library has taken it: so a refused opening leaves the files as they were."""
 
-    def __init__(self, folder: Union[str, Path], config: Text, me: int, adopts: bool = False) -> None:
+    def __init__(self, folder: Union[str, Path], config: Text, me: int, adopts: bool = False, is_there: bool = False) -> None:
         """Takes the lock, compares site and configuration, and reads the journal into `held`. Nothing is changed yet."""
         self.me = me
         self.config = _bytes(config)
@@ -110,6 +114,8 @@ class SiteFolder:
             self._take_lock()
             self._compare()
             self._read(adopts)
+            if is_there and not self._is_named and self.records == 0:
+                raise NotThere(f"{self.name('pv')}: {NotThere.__doc__}")
         except BaseException:
             self.close()
             raise
@@ -291,13 +297,14 @@ class SiteFolder:
 class FileHost:
     """A site that is open on its folder. It is used by one thread at a time."""
 
-    def __init__(self, folder: Union[str, Path], config: Text, me: int, hand_over: Callable[[Output], object], adopts: bool = False) -> None:
+    def __init__(self, folder: Union[str, Path], config: Text, me: int, hand_over: Callable[[Output], object], adopts: bool = False, is_there: bool = False) -> None:
         """Opens site `me` on its folder. `hand_over` is called within `settle`, with each Message for another site and each Report. With
-        `adopts`, a journal with records is taken beside which nothing says whose it is."""
+        `adopts`, a journal with records is taken beside which nothing says whose it is. With `is_there`, the site was opened here before: a folder without it is
+        refused, and not taken for a new site's. A site whose files were lost isn't to begin anew."""
         self.me = me
         self._hand_over = hand_over
         self.site: Optional[Site] = None
-        self.files = SiteFolder(folder, config, me, adopts)
+        self.files = SiteFolder(folder, config, me, adopts, is_there)
         try:
             self.site = Site(config, me, self.files.held)
             self.files.settle()
@@ -344,7 +351,7 @@ class FileHost:
                 return
 
     def _write_all(self, site: Site) -> None:
-        """Where the library gives the records that wait as one write, this is one write for all of them, with a sync."""
+        """One write and its sync for all records that wait, and then for the gate before them."""
         while (write := site.next_write()) is not None:
             self.files.write(write.place, write.bytes)
             site.written(write)

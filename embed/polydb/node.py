@@ -30,7 +30,7 @@ from .answers import Answer, Item, answer_of, item_of
 from .engine import Message, NoMemory, Output, PolydbError, Report, Text, Unwritten, _bytes
 from .files import FileHost, Found
 
-__all__ = ["Node", "Peer", "BadFile", "Unknown", "read_peers", "read_key", "new_key"]
+__all__ = ["Node", "Peer", "BadFile", "Unknown", "read_peers", "read_key", "public_key", "new_key"]
 
 _VERSION = 1
 _HELLO, _WELCOME, _NO, _MESSAGE = b"hwnm"
@@ -75,11 +75,20 @@ def read_peers(path: Union[str, Path]) -> Dict[int, Peer]:
 
 
 def read_key(path: Union[str, Path]) -> bytes:
-    """The secret key of a file, as polydbd --new-key makes one."""
+    """The secret key of a file, as polydbd --new-key makes one. One that others than its owner may read or write is refused: whoever has it, is this site."""
+    mode = os.stat(path).st_mode & 0o777
+    if mode & 0o077:
+        raise BadFile(f"the file of the key, open to others (mode {mode:03o}): {BadFile.__doc__}")
     found = re.fullmatch(rb"secret (\S{40})\r?\n?", Path(path).read_bytes())
     if found is None:
         raise BadFile(f"the file of the key: {BadFile.__doc__}")
     return found[1]
+
+
+def public_key(path: Union[str, Path]) -> str:
+    """The public key of the secret one in a file."""
+    public: bytes = zmq.curve_public(read_key(path))
+    return public.decode()
 
 
 def new_key(path: Union[str, Path]) -> str:
@@ -158,10 +167,11 @@ class Node:
         listen: Optional[str] = None,
         tick: float = 0.1,
         adopts: bool = False,
+        is_there: bool = False,
         notice: Callable[[str], object] = _LOGGER.warning,
     ) -> "Node":
-        """Opens site `me` on its folder, and listens. `key` is the file of the secret key, `site-ME.key` in the folder if it isn't said. `notice` is
-        told in words what who looks after the node should know: a peer that has come, or that is refused; a write that has failed."""
+        """Opens site `me` on its folder, and listens. `adopts` and `is_there` are a FileHost's. `key` is the file of the secret key, `site-ME.key` in the folder if it isn't said.
+        `notice` is told in words what who looks after the node should know: a peer that has come, or that is refused; a write that has failed."""
         node = cls()
         node.me = me
         node._notice = notice
@@ -172,7 +182,7 @@ class Node:
         node._public = zmq.curve_public(node._secret)
         if me not in node._peers or node._peers[me].key != node._public:
             raise BadFile(f"the file of peers has no site {me}, or another key of it")
-        node.host = FileHost(folder, config, me, node._outputs.append, adopts)
+        node.host = FileHost(folder, config, me, node._outputs.append, adopts, is_there)
         node.found = node.host.found
         node._disk = ThreadPoolExecutor(1, "polydb-disk")
         try:

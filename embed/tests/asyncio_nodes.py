@@ -61,7 +61,7 @@ async def talk(sites):
     for site in (1, 2):
         await notices[0].has(f"site {site} is here")
     sites.wait_for_log(2, "site 0 is here")
-    assert first.found.is_new and first.hears(2)
+    assert first.found.records == 0 and first.hears(2)
 
     numbers = []
     assert (await first.submit("a := a + 0", numbers.append)).transaction in numbers

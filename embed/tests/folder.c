@@ -115,11 +115,14 @@ static void drop_folder(void) {
 static polydb_host_found found;
 static polydb_host_error error;
 
+static bool is_there; /* whether the site is said to be there */
+
 static polydb_host_cause open_as(polydb_host **host, uint8_t site, const char *config, bool adopts) {
     polydb_host_setup setup = {.folder = folder,
                                .config = (const uint8_t *)config,
                                .config_length = strlen(config),
                                .site = site,
+                               .is_there = is_there,
                                .adopts = adopts,
                                .message = on_message,
                                .report = on_report};
@@ -332,6 +335,28 @@ static void empty_files_are_new(void) {
     drop_folder();
 }
 
+/* A site that was there before, and whose files are gone, isn't taken for a new one. */
+static void lost_sites_are_refused(void) {
+    new_folder();
+    is_there = true;
+    is_refused(POLYDB_HOST_NOT_THERE, 0, CONFIG);
+    put("site-0.pv", "", 0);
+    is_refused(POLYDB_HOST_NOT_THERE, 0, CONFIG);
+    put("site-0.pv", POLYDB_EMPTY_JOURNAL, sizeof POLYDB_EMPTY_JOURNAL);
+    is_refused(POLYDB_HOST_NOT_THERE, 0, CONFIG);
+    is_there = false;
+    polydb_host_close(opened());
+    is_there = true;
+    polydb_host *host = opened();
+    transfer(host);
+    polydb_host_close(host);
+    polydb_host_close(opened());
+    assert(unlink(path_of("site-0.id")) == 0);
+    is_refused(POLYDB_HOST_UNNAMED, 0, CONFIG);
+    is_there = false;
+    drop_folder();
+}
+
 static void no_journals_are_refused(void) {
     static const struct {
         const char *bytes;
@@ -503,6 +528,7 @@ int main(void) {
     names_are_compared();
     sites_are_compared();
     empty_files_are_new();
+    lost_sites_are_refused();
     no_journals_are_refused();
     long_files_take_no_memory();
     full_journals_stay();

@@ -1,10 +1,11 @@
 """A site on a folder in Python: it and the hosts in C and Rust exclude one another, use the same files, and refuse the same things.
 
-    folder.py [PROGRAM]          with PROGRAM, the example `process` in Rust, only that the two exclude one another and take over from one another
+    folder.py [PROGRAM]          with PROGRAM, the example `process` in Rust, only that the two exclude one another and take over from one another, and what it does where its disk fails
 """
 
 import errno
 import os
+import select
 import shutil
 import signal
 import socket
@@ -32,8 +33,8 @@ class Folder:
     def __exit__(self, *_):
         shutil.rmtree(self.path)
 
-    def open(self, config=CONFIG, me=0, adopts=False):
-        return polydb.FileHost(self.path, config, me, self.hear, adopts)
+    def open(self, config=CONFIG, me=0, adopts=False, is_there=False):
+        return polydb.FileHost(self.path, config, me, self.hear, adopts, is_there)
 
     def hear(self, output):
         assert isinstance(output, polydb.Report), output
@@ -137,6 +138,23 @@ def journals():
         assert sorted(path.suffix for path in folder.path.iterdir()) == [".lock", ".lock"]
 
 
+def lost():
+    """A site that was there before, and whose files are gone, isn't taken for a new one."""
+    with Folder() as folder:
+        for left in (None, b"", polydb.EMPTY_JOURNAL):
+            if left is not None:
+                folder.journal().write_bytes(left)
+            refused(polydb.NotThere, folder.open, is_there=True)
+            assert not (folder.path / "site-0.id").exists()
+        folder.open().close()
+        with folder.open(is_there=True) as host:
+            folder.transfer(host)
+        folder.open(is_there=True).close()
+        (folder.path / "site-0.id").unlink()
+        refused(polydb.Unnamed, folder.open, is_there=True)
+        folder.open(adopts=True, is_there=True).close()
+
+
 def doubt():
     with Folder() as folder:
         with folder.open() as host:
@@ -176,50 +194,91 @@ def failing_once(number):
     return sync
 
 
+class Other:
+    """A process in another language with a site, by lines."""
+
+    def __init__(self, words, **environment):
+        self.process = subprocess.Popen(words, stdin=subprocess.PIPE, stdout=subprocess.PIPE, stderr=subprocess.DEVNULL, text=True, env={**os.environ, **environment})
+        self.says("ready")
+
+    def says(self, *lines):
+        for wanted in lines:
+            assert (found := self.process.stdout.readline().strip()) == wanted, (found, wanted)
+
+    def ask(self, line, *wanted):
+        self.process.stdin.write(line + "\n")
+        self.process.stdin.flush()
+        self.says(*wanted)
+
+    def is_silent(self, seconds):
+        return not select.select([self.process.stdout], [], [], seconds)[0]
+
+    def kill(self):
+        self.process.kill()
+        self.process.wait()
+
+
+def words_of(program, folder):
+    (folder.path / "config").write_text(CONFIG)
+    with socket.socket(socket.AF_INET, socket.SOCK_DGRAM) as one:
+        one.bind(("127.0.0.1", 0))
+        return [program, "0", folder.path, str(one.getsockname()[1])]
+
+
 def with_another(program):
     """A site goes from a process in another language to this one and back; while one has it, the other is refused."""
     with Folder() as folder:
-        (folder.path / "config").write_text(CONFIG)
-        with socket.socket(socket.AF_INET, socket.SOCK_DGRAM) as one:
-            one.bind(("127.0.0.1", 0))
-            port = one.getsockname()[1]
-        words = [program, "0", folder.path, str(port)]
-
-        def start():
-            process = subprocess.Popen(words, stdin=subprocess.PIPE, stdout=subprocess.PIPE, text=True)
-            assert process.stdout.readline() == "ready\n"
-            return process
-
-        def ask(process, line, wanted):
-            process.stdin.write(line + "\n")
-            process.stdin.flush()
-            assert (found := process.stdout.readline().strip()) == wanted, (found, wanted)
-
-        process = start()
+        words = words_of(program, folder)
+        other = Other(words)
         refused(polydb.Busy, folder.open)
-        ask(process, "submit " + TRANSFER, "report txn 0.1.0")
-        assert process.stdout.readline() == "report commit 0.1.0 certain nothing\n"
-        process.communicate()
+        other.ask("submit " + TRANSFER, "report txn 0.1.0", "report commit 0.1.0 certain nothing")
+        other.process.communicate()
         with folder.open() as host:
             assert not host.found.is_new and not host.found.is_copied
             folder.transfer(host)
             refused_process = subprocess.run(words, stdin=subprocess.DEVNULL, capture_output=True, text=True)
             assert refused_process.returncode != 0 and "Busy" in refused_process.stderr, refused_process
-        process = start()
-        ask(process, "read a", "value 80")
-        process.kill()
-        process.wait()
+        other = Other(words)
+        other.ask("read a", "value 80")
+        other.kill()
         with folder.open() as host:
             assert host.found.is_copied
+
+
+def another_whose_disk_fails(program):
+    """A full disk and a sync that fails, by a library that is loaded before: nothing is reported that isn't in the file, what was asked for goes on afterwards, and so does
+    a site that is killed meanwhile."""
+    library = Path(__file__).resolve().parent.parent / "out" / "libfailing.so"
+    for call, number in (("pwrite", errno.ENOSPC), ("fdatasync", errno.EIO)):
+        with Folder() as folder:
+            words, switch = words_of(program, folder), folder.path / "switch"
+            other = Other(words, LD_PRELOAD=str(library), FAILING_SWITCH=str(switch), FAILING_CALL=call, FAILING_NUMBER=str(number))
+            other.ask("submit " + TRANSFER, "report txn 0.1.0", "report commit 0.1.0 certain nothing")
+            switch.write_text("")
+            other.ask("submit " + TRANSFER)
+            assert other.is_silent(0.2)
+            switch.unlink()
+            other.ask("tick", "report txn 0.1.1", "report commit 0.1.1 certain nothing")
+            switch.write_text("")
+            other.ask("submit " + TRANSFER)
+            assert other.is_silent(0.2)
+            other.kill()
+            with folder.open() as host:
+                assert host.found.is_copied
+                host.settle()
+                assert host.read("a") == "80"
+                folder.transfer(host)
 
 
 def main():
     if len(sys.argv) > 1:
         with_another(sys.argv[1])
+        another_whose_disk_fails(sys.argv[1])
         return
     one_at_a_time()
     names_are_compared()
     journals()
+    lost()
     doubt()
 
 

@@ -84,10 +84,15 @@ class Sites:
         self.logs = [self.folder / f"log-{me}" for me in range(count)]
         lines = []
         for me in range(count):
-            self.data(me).mkdir(exist_ok=True)
-            key = subprocess.run([PROGRAMS / "polydbd", "--new-key", self.data(me) / f"site-{me}.key"], check=True, capture_output=True, text=True).stdout
+            key = self.new_site(me).stdout
             lines.append(f"{me} tcp://127.0.0.1:{self.ports[me]} {key}")
         self.peers.write_text("# site, address, public key\n" + "".join(lines))
+
+    def new_site(self, me, status=0):
+        """Makes the files of a site that isn't there yet; prints its public key."""
+        made = subprocess.run([PROGRAMS / "polydbd", "--new", "--site", str(me), "--config", self.config, "--data", self.data(me)], capture_output=True, text=True)
+        assert made.returncode == status, made
+        return made
 
     def __enter__(self):
         return self
@@ -216,6 +221,7 @@ def a_transfer_and_a_kill():
         print(f"doubt: {doubted}; then {values}")
         for me in range(3):
             sites.stop(me)
+        assert "already, whose journal has" in sites.new_site(0, status=3).stderr
         assert "the process before ended well" in sites.start(1)
 
 
@@ -230,6 +236,17 @@ def who_may_not():
         other.write_text(CONFIG + "item d 0 5\n")
         refused = subprocess.run(sites.words(2, config=sites.folder / "nowhere"), capture_output=True, text=True)
         assert refused.returncode == 3 and "No such file" in refused.stderr, refused
+        assert "has the site open" in sites.new_site(0, status=3).stderr
+        # A site whose files are lost isn't taken for a new one, nor one that was made with another configuration for this one.
+        assert sites.new_site(2).stdout == sites.new_site(2).stdout
+        refused = subprocess.run(sites.words(2, config=other), capture_output=True, text=True)
+        assert refused.returncode == 3 and "another configuration" in refused.stderr, refused
+        for path in sites.data(2).iterdir():
+            if path.suffix != ".key":
+                path.unlink()
+        refused = subprocess.run(sites.words(2), capture_output=True, text=True)
+        assert refused.returncode == 3 and "--new makes a new one" in refused.stderr, refused
+        subprocess.run([PROGRAMS / "polydbd", "--new", "--site", "2", "--config", other, "--data", sites.data(2)], check=True, capture_output=True)
         sites.start(2, config=other)
         sites.wait_for_log(0, "site 2 is refused: it has another configuration")
         sites.wait_for_log(2, "site 0 is refused: it has another configuration")
@@ -240,8 +257,7 @@ def who_may_not():
         assert refused.returncode == 3 and "another configuration" in refused.stderr, refused
         # Site 2 begins anew with a key that nobody knows.
         shutil.rmtree(sites.data(2))
-        sites.data(2).mkdir()
-        subprocess.run([PROGRAMS / "polydbd", "--new-key", sites.data(2) / "site-2.key"], check=True, capture_output=True)
+        sites.new_site(2)
         refused = subprocess.run(sites.words(2), capture_output=True, text=True)
         assert refused.returncode == 3 and "has another key of site 2" in refused.stderr, refused
         peers = sites.folder / "false-peers"
@@ -288,7 +304,13 @@ def peers_that_are_wrong():
             refused = subprocess.run(sites.words(0), capture_output=True, text=True)
             assert refused.returncode == 3 and words in refused.stderr, (text, refused)
         sites.peers.write_text(good)
-        (sites.data(0) / "site-0.key").write_text("secret no\n")
+        key = sites.data(0) / "site-0.key"
+        for mode in (0o644, 0o620, 0o604):
+            key.chmod(mode)
+            refused = subprocess.run(sites.words(0), capture_output=True, text=True)
+            assert refused.returncode == 3 and f"open to others (mode {mode:03o})" in refused.stderr, refused
+        key.chmod(0o600)
+        key.write_text("secret no\n")
         refused = subprocess.run(sites.words(0), capture_output=True, text=True)
         assert refused.returncode == 3 and "the file of the key" in refused.stderr, refused
         for words in ([], ["--site", "1"], ["--site", "16", "--config", "x", "--peers", "x", "--data", "x"], ["--nonsense"]):

@@ -126,8 +126,8 @@ async def serve(folder):
     from polydb.node import Node
 
     config = (folder / "shop.polydb").read_bytes()
-    async with await Node.open(folder / "data", config, 0, folder / "peers", notice=lambda words: print(f"shop: {words}", flush=True)) as node:
-        print(f"shop: {'new' if node.found.is_new else f'{node.found.records} records'}", flush=True)
+    async with await Node.open(folder / "data", config, 0, folder / "peers", is_there=True, notice=lambda words: print(f"shop: {words}", flush=True)) as node:
+        print(f"shop: {'new' if node.found.records == 0 else f'{node.found.records} records'}", flush=True)
         shop = Shop(node, Bank(folder / "payments"))
         path = folder / "shop.sock"
         path.unlink(missing_ok=True)

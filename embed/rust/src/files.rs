@@ -190,8 +190,8 @@ impl SiteFolder {
         Ok(())
     }
 
-    /// Syncs the journal and reads it: of a new site, the journal without records.
-    pub(crate) fn read(&mut self, adopts: bool) -> Result<Content, HostError> {
+    /// Syncs the journal and reads it: of a new site, which is refused where the site was said to be there, the journal without records.
+    pub(crate) fn read(&mut self, adopts: bool, is_there: bool) -> Result<Content, HostError> {
         let path = self.name("pv");
         match OpenOptions::new().read(true).write(true).open(&path) {
             Ok(file) => self.journal = Some(file),
@@ -205,9 +205,10 @@ impl SiteFolder {
         };
         self.has_journal = size > 0;
         let Some(file) = self.journal.as_ref().filter(|_| size > 0) else {
-            return match self.is_named {
-                true => Err(HostError::Lost),
-                false => Ok(Content {
+            return match (self.is_named, is_there) {
+                (true, _) => Err(HostError::Lost),
+                (false, true) => Err(HostError::NotThere),
+                (false, false) => Ok(Content {
                     bytes: EMPTY_JOURNAL.to_vec(),
                     records: 0,
                 }),
@@ -225,6 +226,9 @@ impl SiteFolder {
         }
         if !self.is_named && records > 0 && !adopts {
             return Err(HostError::Unnamed);
+        }
+        if !self.is_named && records == 0 && is_there {
+            return Err(HostError::NotThere);
         }
         Ok(Content { bytes, records })
     }

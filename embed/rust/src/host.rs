@@ -42,6 +42,8 @@ pub enum HostError {
     Unnamed,
     /// The site was opened before, and its journal is gone or empty.
     Lost,
+    /// Nothing of the site is in the folder, and it was said to be there.
+    NotThere,
     /// The file that says which site it is can't be read.
     Damaged,
     /// This process is a child of the one that opened the site.
@@ -80,6 +82,7 @@ impl fmt::Display for HostError {
             HostError::Lost => {
                 f.write_str("the site was opened before, and its journal is gone or empty")
             }
+            HostError::NotThere => f.write_str("nothing of the site is in the folder"),
             HostError::Damaged => f.write_str("the file that says which site it is can't be read"),
             HostError::Forked => f.write_str("the parent of this process has the site"),
             HostError::Engine(error) => error.fmt(f),
@@ -128,9 +131,25 @@ pub struct FileHost {
 impl FileHost {
     /// Opens site `me` on its folder. With `adopts`, a journal with records is taken beside which nothing says whose it is.
     pub fn open(folder: &Path, config: &[u8], me: u8, adopts: bool) -> Result<FileHost, HostError> {
+        FileHost::opened(folder, config, me, adopts, false)
+    }
+
+    /// Opens site `me`, which was opened on its folder before: a folder without it is refused, and not taken for a new site's. A site whose files were lost isn't to
+    /// begin anew.
+    pub fn reopen(folder: &Path, config: &[u8], me: u8) -> Result<FileHost, HostError> {
+        FileHost::opened(folder, config, me, false, true)
+    }
+
+    fn opened(
+        folder: &Path,
+        config: &[u8],
+        me: u8,
+        adopts: bool,
+        is_there: bool,
+    ) -> Result<FileHost, HostError> {
         let mut files = SiteFolder::open(folder, me)?;
         files.compare(config)?;
-        let content = files.read(adopts)?;
+        let content = files.read(adopts, is_there)?;
         let site = Site::open(config, me, &content.bytes)?;
         let found = files.settle(&content, config)?;
         Ok(FileHost {
@@ -187,7 +206,7 @@ impl FileHost {
         }
     }
 
-    /// Where the library gives the records that wait as one write, this is one write for all of them, with a sync.
+    /// One write and its sync for all records that wait, and then for the gate before them.
     fn write_all(&mut self) -> Result<(), HostError> {
         while let Some(write) = self.site.next_write()? {
             self.files.write(write.place, &write.bytes)?;

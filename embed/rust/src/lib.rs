@@ -182,6 +182,7 @@ const TOO_SMALL: u32 = 18;
 const NOTHING: u32 = 19;
 const REPORT: u64 = 255;
 const FIRST_ROOM: usize = 4096;
+const WRITE_ROOM: usize = 1 << 16; // of the records that wait, what fits is one write
 
 fn answer(status: u32) -> Result<(), Error> {
     Err(match status {
@@ -311,8 +312,12 @@ pub fn run(schedule: &[u8]) -> (u32, Vec<u8>) {
 }
 
 // What a call writes: it is called with a buffer, and again with a larger one where that is too small.
-fn fill(mut call: impl FnMut(&mut [u8], &mut usize) -> u32) -> (u32, Vec<u8>) {
-    let mut out = vec![0; FIRST_ROOM];
+fn fill(call: impl FnMut(&mut [u8], &mut usize) -> u32) -> (u32, Vec<u8>) {
+    fill_from(FIRST_ROOM, call)
+}
+
+fn fill_from(room: usize, mut call: impl FnMut(&mut [u8], &mut usize) -> u32) -> (u32, Vec<u8>) {
+    let mut out = vec![0; room];
     loop {
         let mut written = 0;
         let status = call(&mut out, &mut written);
@@ -399,7 +404,7 @@ impl Site {
     /// What is to be written next into the journal. The same comes until [`Site::written`].
     pub fn next_write(&mut self) -> Result<Option<JournalWrite>, Error> {
         let mut place = 0;
-        let (status, bytes) = fill(|out, written| unsafe {
+        let (status, bytes) = fill_from(WRITE_ROOM, |out, written| unsafe {
             calls::polydb_site_take_journal(
                 &mut self.handle,
                 out.as_mut_ptr(),

@@ -86,6 +86,19 @@ fn a_transfer_is_there_after_a_restart() {
 }
 
 #[test]
+fn a_lost_site_is_no_new_one() {
+    let folder = Folder::new("lost");
+    let lost = || FileHost::reopen(&folder.0, CONFIG, 0).unwrap_err();
+    assert!(matches!(lost(), HostError::NotThere));
+    fs::write(folder.0.join("site-0.pv"), "").unwrap();
+    assert!(matches!(lost(), HostError::NotThere));
+    fs::write(folder.0.join("site-0.pv"), "PVJRNL01\0").unwrap();
+    assert!(matches!(lost(), HostError::NotThere));
+    drop(open(&folder.0, 0));
+    assert!(FileHost::reopen(&folder.0, CONFIG, 0).is_ok());
+}
+
+#[test]
 fn a_folder_is_one_sites() {
     let folder = Folder::new("refusals");
     let mut host = open(&folder.0, 0);

@@ -10,7 +10,7 @@ from pathlib import Path
 sys.path.insert(0, str(Path(__file__).resolve().parent.parent.parent))
 
 import polydb  # noqa: E402
-from polydb.node import Node, new_key  # noqa: E402
+from polydb.node import Node, new_key, public_key  # noqa: E402
 
 
 def words_of(answer):
@@ -68,6 +68,27 @@ async def hear(node, reader, writer):
     writer.close()
 
 
+def make_site(words):
+    """Makes the files of a site that isn't there yet, and prints its public key."""
+    folder = Path(words.data)
+    folder.mkdir(0o700, exist_ok=True)
+    try:
+        with polydb.FileHost(folder, Path(words.config).read_bytes(), words.site, print) as host:
+            if host.found.records > 0:
+                print(f"polydbd: site {words.site}: it is on {folder} already, whose journal has {host.found.records} records", file=sys.stderr)
+                return 3
+        key = Path(words.key or folder / f"site-{words.site}.key")
+        print(public_key(key) if key.exists() else new_key(key))
+        return 0
+    except (OSError, polydb.PolydbError) as error:
+        print(f"polydbd: site {words.site}: {said(error)}", file=sys.stderr)
+        return 3
+
+
+def said(error):
+    return str(error).replace("Another process, or another part of this one, has", "another process has")
+
+
 async def run(words):
     me, folder = words.site, Path(words.data)
 
@@ -75,11 +96,14 @@ async def run(words):
         print(f"polydbd: site {me}: {line}", file=sys.stderr, flush=True)
 
     try:
-        node = await Node.open(folder, Path(words.config).read_bytes(), me, words.peers, words.key, words.listen, words.tick / 1000, notice=say)
-    except (OSError, polydb.PolydbError) as error:
-        say(str(error).replace("Another process, or another part of this one, has", "another process has"))
+        node = await Node.open(folder, Path(words.config).read_bytes(), me, words.peers, words.key, words.listen, words.tick / 1000, is_there=True, notice=say)
+    except polydb.NotThere as error:
+        say(f"{error}; --new makes a new one")
         return 3
-    if node.found.is_new:
+    except (OSError, polydb.PolydbError) as error:
+        say(said(error))
+        return 3
+    if node.found.records == 0:
         say(f"new, on {folder}")
     else:
         say(f"on {folder}, whose journal has {node.found.records} records, {node.found.length} bytes")
@@ -101,6 +125,7 @@ async def run(words):
 def main():
     parser = argparse.ArgumentParser()
     parser.add_argument("--new-key")
+    parser.add_argument("--new", action="store_true")
     parser.add_argument("--site", type=int)
     parser.add_argument("--tick", type=int, default=100)
     for name in ("config", "peers", "data", "key", "listen"):
@@ -109,6 +134,8 @@ def main():
     if words.new_key:
         print(new_key(words.new_key))
         return
+    if words.new:
+        raise SystemExit(make_site(words))
     status = asyncio.run(run(words))
     sys.stderr.flush()
     os._exit(status)

@@ -1,4 +1,5 @@
-/* Loaded before the C library: while the file that FAILING_SWITCH names is there, the call that FAILING_CALL names (pwrite or fdatasync) fails with the number FAILING_NUMBER. */
+/* Loaded before the C library: while the file that FAILING_SWITCH names is there, the call that FAILING_CALL names (pwrite, which is pwrite64 too, or fdatasync) fails with the number
+ * FAILING_NUMBER. */
 #define _GNU_SOURCE
 
 #include <dlfcn.h>
@@ -27,6 +28,9 @@ ssize_t pwrite(int file, const void *bytes, size_t length, off_t place) {
     }
     return real(file, bytes, length, place);
 }
+
+/* What Rust calls. */
+ssize_t pwrite64(int file, const void *bytes, size_t length, off_t place) { return pwrite(file, bytes, length, place); }
 
 int fdatasync(int file) {
     int (*real)(int) = (int (*)(int))dlsym(RTLD_NEXT, "fdatasync");
