@@ -94,7 +94,7 @@ class Deployment:
             process.submit(*self.draw_program())
         elif what < self.ticking + self.asking + self.reading:
             self.read()
-        elif chance.random() < 0.6:
+        elif chance.random() < 0.8:
             self.deliver(me)
         if self.processes[me] is process:
             self.settle(process, chance.random() < self.promptness)

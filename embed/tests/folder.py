@@ -246,8 +246,8 @@ def with_another(program):
 
 
 def another_whose_disk_fails(program):
-    """A full disk and a sync that fails, by a library that is loaded before: nothing is reported that isn't in the file, what was asked for goes on afterwards, and so does
-    a site that is killed meanwhile."""
+    """A full disk and a sync that fails, by a library that is loaded before: nothing is reported that rests on what isn't in the file, what was asked for goes on afterwards,
+    and so does a site that is killed meanwhile."""
     library = Path(__file__).resolve().parent.parent / "out" / "libfailing.so"
     for call, number in (("pwrite", errno.ENOSPC), ("fdatasync", errno.EIO)):
         with Folder() as folder:
@@ -255,12 +255,12 @@ def another_whose_disk_fails(program):
             other = Other(words, LD_PRELOAD=str(library), FAILING_SWITCH=str(switch), FAILING_CALL=call, FAILING_NUMBER=str(number))
             other.ask("submit " + TRANSFER, "report txn 0.1.0", "report commit 0.1.0 certain nothing")
             switch.write_text("")
-            other.ask("submit " + TRANSFER)
+            other.ask("submit " + TRANSFER, "report txn 0.1.1")  # which rests on no record
             assert other.is_silent(0.2)
             switch.unlink()
-            other.ask("tick", "report txn 0.1.1", "report commit 0.1.1 certain nothing")
+            other.ask("tick", "report commit 0.1.1 certain nothing")
             switch.write_text("")
-            other.ask("submit " + TRANSFER)
+            other.ask("submit " + TRANSFER, "report txn 0.1.2")
             assert other.is_silent(0.2)
             other.kill()
             with folder.open() as host:
