@@ -473,7 +473,7 @@ static int run(const options *with) {
     polydb_host_cause cause = polydb_node_open(&all.node, &setup, &found, &error);
     text_free(&config);
     if (cause != POLYDB_HOST_DONE) {
-        say(site, "%s%s", polydb_node_describe(&error, words, sizeof words), cause == POLYDB_HOST_NOT_THERE ? "; --new makes a new one" : "");
+        say(site, "%s%s", polydb_node_describe(&error, words, sizeof words), cause == POLYDB_HOST_NOT_THERE ? "; a site that never was is made by --new" : "");
         return NOT_OPENED;
     }
     say_what_was_found(&all, &found, with->data);

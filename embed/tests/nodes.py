@@ -245,7 +245,7 @@ def who_may_not():
             if path.suffix != ".key":
                 path.unlink()
         refused = subprocess.run(sites.words(2), capture_output=True, text=True)
-        assert refused.returncode == 3 and "--new makes a new one" in refused.stderr, refused
+        assert refused.returncode == 3 and "is made by --new" in refused.stderr, refused
         subprocess.run([PROGRAMS / "polydbd", "--new", "--site", "2", "--config", other, "--data", sites.data(2)], check=True, capture_output=True)
         sites.start(2, config=other)
         sites.wait_for_log(0, "site 2 is refused: it has another configuration")

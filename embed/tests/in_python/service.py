@@ -98,7 +98,7 @@ async def run(words):
     try:
         node = await Node.open(folder, Path(words.config).read_bytes(), me, words.peers, words.key, words.listen, words.tick / 1000, is_there=True, notice=say)
     except polydb.NotThere as error:
-        say(f"{error}; --new makes a new one")
+        say(f"{error}; a site that never was is made by --new")
         return 3
     except (OSError, polydb.PolydbError) as error:
         say(said(error))
