@@ -49,6 +49,26 @@
 extern "C" {
 #endif
 
+/* ---- limits ---- */
+
+/* How much there may be. None of it can be set, but the limit of journals by the configuration's line `journal`. */
+
+/* Sites, and items of a configuration. */
+#define POLYDB_MAX_SITES 16u
+#define POLYDB_MAX_ITEMS 1024u
+/* Bytes of an item's name. */
+#define POLYDB_MAX_NAME 16u
+/* Bytes of a program's text, and items that it names. */
+#define POLYDB_MAX_PROGRAM 1000u
+#define POLYDB_MAX_PROGRAM_ITEMS 16u
+/* Bytes of a configuration, of a schedule, and of a catalog and a line together. */
+#define POLYDB_MAX_INPUT 16777216u
+/* Bytes of a message: 16 values of 256 cases each. */
+#define POLYDB_MAX_MESSAGE 364661u
+/* Bytes of the limit of journals: the least that may be declared, and the greatest, which is the limit where none is. */
+#define POLYDB_MIN_JOURNAL 32u
+#define POLYDB_MAX_JOURNAL 4294967296u
+
 /* ---- statuses ---- */
 
 /* Those below 16 are the exit statuses of the program `polydb`, with its causes. */
@@ -89,7 +109,7 @@ extern "C" {
 #define POLYDB_TOO_MANY_OUTCOMES 24u
 /* No epoch is left: the site was opened 4,294,967,294 times. */
 #define POLYDB_EPOCHS_SPENT 25u
-/* The journal has no room for the record of the new epoch: its limit is the one of the configuration's line `journal`. */
+/* The journal has no room for the record of the new epoch: its limit is the one of the configuration's line `journal`. A higher one opens it (polydb_site_open). */
 #define POLYDB_FULL 26u
 
 /* Of sites. */
@@ -201,8 +221,8 @@ void polydb_world_close(polydb_world *world);
  *     after a restart, too: a host that can't rule it out opens the site on a copy, all of which it has written and synced, with its entry in the folder;
  *   - one open site at a time has the file;
  *   - bytes that polydb_site_receive is given may be any bytes; but where they spell a message, a site of the same configuration let it out;
- *   - all sites are opened with the same configuration, always, and each number is one site's. The file holds neither the configuration nor `me`: that
- *     it is opened as another site, or under another configuration, isn't noticed.
+ *   - all sites are opened with the same configuration, always, but that all of them together may get a higher limit of journals (polydb_site_open); and each
+ *     number is one site's. The file holds neither the configuration nor `me`: that it is opened as another site, or under another configuration, isn't noticed.
  *
  * What is proved of it: each call makes of the site what the program's site makes of the same input; nothing is let out before all records are in the file
  * that the site had when it made it, and nothing is shown while one isn't; and at each moment, and whatever a crash in a write leaves, the file is a journal
@@ -241,6 +261,9 @@ typedef struct {
  *   POLYDB_EPOCHS_SPENT       no epoch is left
  *   POLYDB_FULL               there is no room for the epoch's record
  *   POLYDB_NO_MEMORY          there was no memory
+ *
+ * Each opening adds a record of 10 bytes, so a journal at its limit can't be opened, nor be read. It isn't lost: a configuration with a higher limit in its line
+ * `journal` opens the same bytes. All sites are stopped then, and opened with that configuration.
  */
 uint32_t polydb_site_open(polydb_site *site, const uint8_t *config, size_t config_length, uint8_t me, const uint8_t *journal,
                           size_t journal_length);

@@ -22,6 +22,15 @@ from typing import Any, Callable, List, NamedTuple, Optional, Tuple, Union
 
 __all__ = [
     "EMPTY_JOURNAL",
+    "MAX_INPUT",
+    "MAX_ITEMS",
+    "MAX_JOURNAL",
+    "MAX_MESSAGE",
+    "MAX_NAME",
+    "MAX_PROGRAM",
+    "MAX_PROGRAM_ITEMS",
+    "MAX_SITES",
+    "MIN_JOURNAL",
     "Output",
     "World",
     "Site",
@@ -63,6 +72,21 @@ _REPORT = 255
 
 #: The file of a new site: a journal without records.
 EMPTY_JOURNAL = b"PVJRNL01\0"
+
+#: How much there may be: sites, and items of a configuration.
+MAX_SITES = 16
+MAX_ITEMS = 1024
+#: Bytes of an item's name; bytes of a program's text, and items that it names.
+MAX_NAME = 16
+MAX_PROGRAM = 1000
+MAX_PROGRAM_ITEMS = 16
+#: Bytes of a configuration, of a schedule, and of a catalog and a line together.
+MAX_INPUT = 16_777_216
+#: Bytes of a message.
+MAX_MESSAGE = 364_661
+#: Bytes of the limit of journals: the least that may be declared, and the greatest, which is the limit where none is.
+MIN_JOURNAL = 32
+MAX_JOURNAL = 4_294_967_296
 
 _FIRST_ROOM = 4096
 _WRITE_ROOM = 1 << 16  # of the records that wait, what fits is one write

@@ -149,6 +149,40 @@ def journal_of(epochs):
     return file
 
 
+def limits():
+    """What is at a limit is taken, and what is above it isn't. A journal at its limit opens under a higher one."""
+    for sites, refusal in [(polydb.MAX_SITES, None), (polydb.MAX_SITES + 1, polydb.Malformed)]:
+        opened(f"sites {sites}\nitem a 0 1\n", refusal)
+    for items, refusal in [(polydb.MAX_ITEMS, None), (polydb.MAX_ITEMS + 1, polydb.Malformed)]:
+        opened("sites 1\n" + "".join(f"item a{n} 0 1\n" for n in range(items)), refusal)
+    for length, refusal in [(polydb.MAX_NAME, None), (polydb.MAX_NAME + 1, polydb.Malformed)]:
+        opened(f"sites 1\nitem {'a' * length} 0 1\n", refusal)
+    for limit, refusal in [(polydb.MIN_JOURNAL, None), (polydb.MIN_JOURNAL - 1, polydb.Malformed), (polydb.MAX_JOURNAL, None), (polydb.MAX_JOURNAL + 1, polydb.Malformed)]:
+        opened(f"sites 1\njournal {limit}\nitem a 0 1\n", refusal)
+    for length, refusal in [(polydb.MAX_INPUT, None), (polydb.MAX_INPUT + 1, polydb.TooLong)]:
+        opened("sites 1\nitem a 0 1".ljust(length, "\n"), refusal)
+    site = new_site(0)
+    site.submit("a :=" + "1".rjust(polydb.MAX_PROGRAM - 4))
+    refused(polydb.BadText, site.submit, "a :=" + "1".rjust(polydb.MAX_PROGRAM - 3))
+    names = [f"a{n}" for n in range(polydb.MAX_PROGRAM_ITEMS + 1)]
+    many = Site("sites 1\n" + "".join(f"item {name} 0 1\n" for name in names), 0, polydb.EMPTY_JOURNAL)
+    many.submit(" ; ".join(f"{name} := 1" for name in names[1:]))
+    refused(polydb.BadProgram, many.submit, " ; ".join(f"{name} := 1" for name in names))
+
+    full = journal_of(2)
+    assert len(full) == 29
+    opened("sites 1\njournal 38\nitem a 0 1\n", polydb.Full, full)
+    opened("sites 1\njournal 39\nitem a 0 1\n", None, full)
+
+
+def opened(config, refusal, journal=polydb.EMPTY_JOURNAL):
+    """That a site is opened, or is refused so."""
+    if refusal is None:
+        Site(config, 0, journal).close()
+    else:
+        refused(refusal, Site, config, 0, journal)
+
+
 def no_messages():
     hosts = [Hosted(0), Hosted(1)]
     reports, messages = commit(hosts)
@@ -250,6 +284,7 @@ def main():
     lengths_of_zero()
     what_is_refused()
     what_is_no_bytes()
+    limits()
     no_messages()
     cut_journals()
     writes_never_asked_for()

@@ -298,6 +298,25 @@ impl fmt::Debug for World {
     }
 }
 
+/// The greatest count of sites.
+pub const MAX_SITES: usize = 16;
+/// The greatest count of items of a configuration.
+pub const MAX_ITEMS: usize = 1024;
+/// The greatest length of an item's name, in bytes.
+pub const MAX_NAME: usize = 16;
+/// The greatest length of a program's text, in bytes.
+pub const MAX_PROGRAM: usize = 1000;
+/// The greatest count of items that a program may name.
+pub const MAX_PROGRAM_ITEMS: usize = 16;
+/// The greatest length of a configuration, of a schedule, and of a catalog and a line together, in bytes.
+pub const MAX_INPUT: usize = 16_777_216;
+/// The greatest length of a message, in bytes.
+pub const MAX_MESSAGE: usize = 364_661;
+/// The least limit of journals that may be declared, in bytes.
+pub const MIN_JOURNAL: u64 = 32;
+/// The greatest limit of journals, in bytes, and the limit where none is declared.
+pub const MAX_JOURNAL: u64 = 4_294_967_296;
+
 /// The status and the text that `polydb run` gives for a schedule. At status 0 all of it was run.
 pub fn run(schedule: &[u8]) -> (u32, Vec<u8>) {
     fill(|out, written| unsafe {
