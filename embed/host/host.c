@@ -25,7 +25,7 @@ struct polydb_host {
     void (*report)(void *context, const char *line, size_t length);
 };
 
-enum { FIRST_ROOM = 1 << 16 }; /* bytes; of the records that wait, what fits is one write */
+enum { FIRST_ROOM = 1 << 16 }; /* bytes; more is taken where one doesn't fit */
 
 /* A child of a fork has the descriptors, and so the lock: it is told apart by its number alone. */
 static bool is_owner(const polydb_host *host) { return host->process == getpid(); }
@@ -127,8 +127,8 @@ polydb_host_cause polydb_host_tick(polydb_host *host, polydb_host_error *error) 
 
 /* ---- what the site wants written, and what it lets out ---- */
 
-/* One write, and its sync: of all records that wait, and then of the gate before them. The site hears of it last, and of nothing that has failed: the same bytes come
- * again then. */
+/* One write, and its sync: of a record, and then of the gate before it. The site hears of it last, and of nothing that has failed: the same bytes come again then. Where
+ * the library gives the records that wait as one write, this is one write for all of them. */
 static polydb_host_cause write_next(polydb_host *host, bool *wrote, polydb_host_error *error) {
     size_t length;
     uint64_t place;

@@ -89,7 +89,7 @@ MIN_JOURNAL = 32
 MAX_JOURNAL = 4_294_967_296
 
 _FIRST_ROOM = 4096
-_WRITE_ROOM = 1 << 16  # of the records that wait, what fits is one write
+_WRITE_ROOM = 1 << 16  # bytes of a write; more is taken where one doesn't fit
 
 
 class PolydbError(Exception):

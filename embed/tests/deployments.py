@@ -56,7 +56,7 @@ class Deployment:
         self.ticking = chance.choice((0.005, 0.02, 0.1))
         self.asking = chance.choice((0.02, 0.06, 0.15))
         self.reading = 0.02
-        engine._WRITE_ROOM = chance.choice((1, 60, 200, 1 << 16, 1 << 16))  # for a write: of the records that wait, what fits
+        engine._WRITE_ROOM = chance.choice((1, 60, 200, 1 << 16, 1 << 16))  # bytes of a write; more is taken where one doesn't fit
 
     def count(self, what, how_many=1):
         self.counts[what] += how_many

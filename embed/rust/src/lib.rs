@@ -182,7 +182,7 @@ const TOO_SMALL: u32 = 18;
 const NOTHING: u32 = 19;
 const REPORT: u64 = 255;
 const FIRST_ROOM: usize = 4096;
-const WRITE_ROOM: usize = 1 << 16; // of the records that wait, what fits is one write
+const WRITE_ROOM: usize = 1 << 16; // bytes of a write; more is taken where one doesn't fit
 
 fn answer(status: u32) -> Result<(), Error> {
     Err(match status {
