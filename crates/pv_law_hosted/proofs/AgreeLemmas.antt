@@ -80,7 +80,7 @@ out-printed setup d events n reported mirrored below there =
     (from-printed n (opening setup) (run setup (opening setup) events)) made
 
 -- ## Readings
-last-world : (P : World → Type 0) (world : World) (transitions : List Transition) → All P (worlds_of world transitions) → P (world_after world transitions)
+pub last-world : (P : World → Type 0) (world : World) (transitions : List Transition) → All P (worlds_of world transitions) → P (world_after world transitions)
 last-world P world [] all = All-head P world [] all
 last-world P world (transition ∷ transitions) all =
     last-world P transition.world transitions (All-tail P world (worlds_of transition.world transitions) all)

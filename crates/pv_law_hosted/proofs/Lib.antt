@@ -8,6 +8,7 @@ mod HappensLemmas
 mod MirroredLemmas
 mod OneByOneLemmas
 mod OpensLemmas
+mod ReportLemmas
 mod RunLemmas
 mod SettleLemmas
 mod SplitLemmas

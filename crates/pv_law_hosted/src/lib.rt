@@ -5,12 +5,13 @@
 ghost use Rattle.std.specs.Prelude.{◌≡◌, ℕ, ◌<◌, ◌≤◌, Some, None, List, [], ◌++◌, map, slice_get, All, IsTrue};
 ghost use Rattle.std.specs.List.{Contains};
 ghost use Rattle.pv_base.specs.Catalog.{Declared, Item};
+ghost use Rattle.pv_base.specs.declared.reply.Reply.{Reply};
 ghost use Rattle.pv_base.specs.declared.txn.TxnId.{TxnId};
 ghost use Rattle.pv_embed.specs.Held.{message, note};
 ghost use Rattle.pv_embed.specs.Hosted.{HostedState, log_length, stored_length};
 ghost use Rattle.pv_embed.specs.Opening.{Configures};
 ghost use Rattle.pv_format.specs.Message.{Envelope};
-ghost use Rattle.pv_law_hosted.specs.Claims.{HoldsSite};
+ghost use Rattle.pv_law_hosted.specs.Claims.{HoldsSite, IsAnswered, IsRefused};
 ghost use Rattle.pv_law_hosted.specs.Deployment.{Deployment, IsNew, station_at};
 ghost use Rattle.pv_law_hosted.specs.DeploymentEvents.{Happens};
 ghost use Rattle.pv_law_hosted.specs.Made.{IsLetOutOf, made_as, made_by};
@@ -21,16 +22,17 @@ ghost use Rattle.pv_protocol.specs.Committed.{Fits, is_readable, serial_rows};
 ghost use Rattle.pv_protocol.specs.Lines.{line_of};
 ghost use Rattle.pv_protocol.specs.Run.{printed};
 ghost use Rattle.pv_protocol.specs.Shown.{item_value};
-ghost use Rattle.pv_protocol.specs.State.{Note, Setup};
+ghost use Rattle.pv_protocol.specs.State.{Cause, Note, Setup, committed, refused};
 ghost use Rattle.pv_protocol.specs.WellFormed.{IsWellFormed};
 ghost use Rattle.pv_protocol.specs.World.{site_at};
 ghost use Rattle.pv_site.specs.SiteState.{setup_of};
 
 use pv_embed::files_hold_what_was_let_out;
 use pv_host::files_are_journals;
-use pv_law_answers::worlds_agree;
+use pv_law_answers::{commits_answer, worlds_agree};
 use pv_law_format::one_record;
 use pv_law_journal::one_journal;
+use pv_law_refusals::refusals_hold;
 use pv_law_schedules::one_schedule;
 use pv_site::logs_tell_of_records;
 
@@ -86,4 +88,20 @@ pub fn hosted_sites_agree()
 {
     mirrored_deployments_agree();
     worlds_agree();
+}
+
+/// Whatever happens in a deployment, a report that was let out holds:
+///
+/// - A commit that a site reports is one of the run, with the replies that it answers there: the possible ones, and those of each serial run that fits are among them.
+/// - A refusal that a site reports is one of the run, with its cause there; and its transaction is neither committed nor open, now and whatever happens later, since
+///   what was let out stays so and the run goes on.
+pub fn hosted_reports_hold()
+    ensures commits { (setup : Setup) (d : Deployment) (events : List Event) (n : ℕ) (txn : TxnId) (replies : List Reply) → IsMirrored setup d events →
+        n < setup.catalog.sites → Contains (station_at d n).let_out (note (committed txn replies)) → IsAnswered setup events txn replies }
+    ensures refusals { (setup : Setup) (d : Deployment) (events : List Event) (n : ℕ) (txn : TxnId) (cause : Cause) → IsMirrored setup d events →
+        n < setup.catalog.sites → Contains (station_at d n).let_out (note (refused txn cause)) → IsRefused setup events txn cause }
+{
+    hosted_sites_agree();
+    commits_answer();
+    refusals_hold();
 }
