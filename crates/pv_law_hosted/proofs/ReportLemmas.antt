@@ -1,5 +1,5 @@
 -- Reports that were let out are lines of transitions of the run, of which the laws of runs hold.
-use Rattle.std.proofs.Common.{◌≡◌, ◌⊎◌, inl, inr, List, [], ◌∷◌, ◌++◌, All, sym, ap, ◌∙◌, subst, refl}
+use Rattle.std.proofs.Common.{inl, inr, List, [], ◌∷◌, sym, ap, ◌∙◌, subst, refl}
 use Rattle.std.specs.List.{Contains}
 use Rattle.std.proofs.lemmas.List.Elements.{Contains-append_cases}
 use Rattle.pv_base.proofs.ContainsLemmas.{Contains-nil}
@@ -18,7 +18,6 @@ use Rattle.pv_protocol.specs.World.{World, opening}
 use Rattle.pv_protocol.specs.WorldStep.{Transition}
 use Rattle.pv_law_hosted.proofs.AgreeLemmas.{last-world}
 use Rattle.pv_law_hosted.specs.Claims.{IsAnswered, IsRefused}
-use Rattle.pv_law_hosted.specs.Mirrored.{world_of}
 
 -- A transition among these prints the line.
 record PrintedAt (transitions : List Transition) (line : Line) : Type 0 where
