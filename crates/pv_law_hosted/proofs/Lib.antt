@@ -1,4 +1,5 @@
 mod AgreeLemmas
+mod CallLemmas
 mod CaseLemmas
 mod ClaimLemmas
 mod GivenLemmas

@@ -2,18 +2,29 @@
 //! happens to them there is a schedule whose run mirrors it. The functions do nothing: each states a law.
 #![tactic(auto)]
 
-ghost use Rattle.std.specs.Prelude.{◌≡◌, ℕ, ◌<◌, ◌≤◌, Some, None, List, [], ◌++◌, map, slice_get, All, IsTrue};
+ghost use Rattle.std.specs.Prelude.{◌≡◌, ℕ, ◌<◌, ◌≤◌, Bool, Option, Some, None, Result, List, [], ◌++◌, map, option_to_list, slice_get, All, IsTrue, ⊤};
+ghost use Rattle.std.specs.Option.{option_map};
 ghost use Rattle.std.specs.List.{Contains};
 ghost use Rattle.pv_base.specs.Catalog.{Declared, Item};
+ghost use Rattle.pv_base.specs.declared.failure.NoMemory.{NoMemory};
 ghost use Rattle.pv_base.specs.declared.reply.Reply.{Reply};
 ghost use Rattle.pv_base.specs.declared.txn.TxnId.{TxnId};
 ghost use Rattle.pv_embed.specs.Held.{message, note};
-ghost use Rattle.pv_embed.specs.Hosted.{HostedState, log_length, stored_length};
-ghost use Rattle.pv_embed.specs.Opening.{Configures};
+ghost use Rattle.pv_disk_model.specs.Disk.{overlaid};
+ghost use Rattle.pv_embed.specs.Hosted.{Gives, HostedState, TakesNext, Writes, log_length, stored_length};
+ghost use Rattle.pv_embed.specs.Opening.{Configures, HasOpenedOn};
+ghost use Rattle.pv_embed.specs.Outputs.{out_of};
+ghost use Rattle.pv_embed.specs.Requests.{ReceivesBy, SubmitsBy};
+ghost use Rattle.pv_embed.specs.declared.fault.ReceiveFault.{ReceiveFault};
+ghost use Rattle.pv_embed.specs.declared.fault.SubmitFault.{SubmitFault};
+ghost use Rattle.pv_embed.specs.declared.made.Output.{Output};
 ghost use Rattle.pv_format.specs.Message.{Envelope};
+ghost use Rattle.pv_host.specs.HostFile.{MayLeave};
+ghost use Rattle.pv_host.specs.HostLog.{HostWrite, next_write};
+ghost use Rattle.pv_law_hosted.specs.Calls.{HasSite, IsFromASite};
 ghost use Rattle.pv_law_hosted.specs.Claims.{HoldsSite, IsAnswered, IsRefused};
-ghost use Rattle.pv_law_hosted.specs.Deployment.{Deployment, IsNew, station_at};
-ghost use Rattle.pv_law_hosted.specs.DeploymentEvents.{Happens};
+ghost use Rattle.pv_law_hosted.specs.Deployment.{Deployment, IsNew, station_at, with_station};
+ghost use Rattle.pv_law_hosted.specs.DeploymentEvents.{Happens, Stands};
 ghost use Rattle.pv_law_hosted.specs.Made.{IsLetOutOf, made_as, made_by};
 ghost use Rattle.pv_law_hosted.specs.Mirrored.{IsMirrored, plain_site, world_of};
 ghost use Rattle.pv_model.specs.Events.{Event, Schedule};
@@ -22,7 +33,7 @@ ghost use Rattle.pv_protocol.specs.Committed.{Fits, is_readable, serial_rows};
 ghost use Rattle.pv_protocol.specs.Lines.{line_of};
 ghost use Rattle.pv_protocol.specs.Run.{printed};
 ghost use Rattle.pv_protocol.specs.Shown.{item_value};
-ghost use Rattle.pv_protocol.specs.State.{Cause, Note, Setup, committed, refused};
+ghost use Rattle.pv_protocol.specs.State.{Cause, Note, Setup, committed, refused, tick};
 ghost use Rattle.pv_protocol.specs.WellFormed.{IsWellFormed};
 ghost use Rattle.pv_protocol.specs.World.{site_at};
 ghost use Rattle.pv_site.specs.SiteState.{setup_of};
@@ -32,6 +43,7 @@ use pv_host::files_are_journals;
 use pv_law_answers::{commits_answer, worlds_agree};
 use pv_law_format::one_record;
 use pv_law_journal::one_journal;
+use pv_law_programs::some_items;
 use pv_law_refusals::refusals_hold;
 use pv_law_schedules::one_schedule;
 use pv_site::logs_tell_of_records;
@@ -49,6 +61,44 @@ pub fn deployments_are_runs()
     one_journal();
     one_record();
     one_schedule();
+}
+
+/// What the calls of [`HostedSite`](pv_embed::HostedSite) promise is something that may happen in a deployment. So a program's calls, each by the clause of its contract, make a
+/// deployment that a run mirrors. What the host owes stands before the arrows, and is all that it owes:
+///
+/// - Bytes that it hands on and that spell a message, one of the sites has let out (`received`).
+/// - It says that a write is in the file only where it is (`wrote`).
+/// - What its process leaves of the file is the file, or the file with any bytes in the range of the write under way (`gone`).
+/// - It opens a site on the file that the last process of that number has left (`opened`).
+///
+/// [`HostedSite::stands_ready`](pv_embed::HostedSite::stands_ready) shows that the site stands.
+pub fn calls_happen()
+    ensures submitted { (config : List ℕ) (catalog : Declared) (d : Deployment) (n : ℕ) (site next : HostedState) (text : List ℕ) (query : Bool) (result : Result ⊤ SubmitFault) →
+        HasSite catalog d n site → Stands next → SubmitsBy site next text query result →
+        Happens config catalog d (with_station d n (record (station_at d n) { hosted = Some next })) }
+    ensures received { (config : List ℕ) (catalog : Declared) (d : Deployment) (n : ℕ) (site next : HostedState) (bytes : List ℕ) (result : Result ⊤ ReceiveFault) →
+        HasSite catalog d n site → Stands next → IsFromASite d bytes → ReceivesBy site next bytes result →
+        Happens config catalog d (with_station d n (record (station_at d n) { hosted = Some next })) }
+    ensures ticked { (config : List ℕ) (catalog : Declared) (d : Deployment) (n : ℕ) (site next : HostedState) (result : Result ⊤ NoMemory) →
+        HasSite catalog d n site → Stands next → Gives site next tick result →
+        Happens config catalog d (with_station d n (record (station_at d n) { hosted = Some next })) }
+    ensures wrote { (config : List ℕ) (catalog : Declared) (d : Deployment) (n : ℕ) (site next : HostedState) (write : HostWrite) →
+        HasSite catalog d n site → Stands next → next_write site.site.log ≡ Some write → Writes site next →
+        Happens config catalog d (with_station d n (record (station_at d n) { file = overlaid (station_at d n).file write.place write.bytes; hosted = Some next })) }
+    ensures idled { (config : List ℕ) (catalog : Declared) (d : Deployment) (n : ℕ) (site next : HostedState) →
+        HasSite catalog d n site → Stands next → next_write site.site.log ≡ None → Writes site next →
+        Happens config catalog d (with_station d n (record (station_at d n) { hosted = Some next })) }
+    ensures took { (config : List ℕ) (catalog : Declared) (d : Deployment) (n : ℕ) (site next : HostedState) (result : Option Output) →
+        HasSite catalog d n site → Stands next → TakesNext site next result →
+        Happens config catalog d (with_station d n (record (station_at d n) { hosted = Some next; let_out = (station_at d n).let_out ++ option_to_list (option_map out_of result) })) }
+    ensures gone { (config : List ℕ) (catalog : Declared) (d : Deployment) (n : ℕ) (site : HostedState) (left : List ℕ) →
+        HasSite catalog d n site → MayLeave site.site.log (station_at d n).file left →
+        Happens config catalog d (with_station d n (record (station_at d n) { file = left; hosted = None })) }
+    ensures opened { (config : List ℕ) (catalog : Declared) (d : Deployment) (n : ℕ) (site : HostedState) →
+        n < catalog.sites → (station_at d n).hosted ≡ None → HasOpenedOn config n (station_at d n).file site → Stands site →
+        Happens config catalog d (with_station d n (record (station_at d n) { hosted = Some site })) }
+{
+    some_items();
 }
 
 /// What holds of a deployment that a run mirrors:

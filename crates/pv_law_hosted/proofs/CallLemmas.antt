@@ -1,0 +1,125 @@
+-- What the calls of a site make of it is something that may happen in the deployment.
+use Rattle.std.proofs.Common.{◌≡◌, ℕ, ◌<◌, Bool, Option, Some, None, Result, Ok, Err, List, ◌++◌, length, refl, sym, ap, ◌∙◌, subst}
+use Rattle.std.specs.Prelude.{option_to_list, ⊤}
+use Rattle.std.specs.Option.{option_map}
+use Rattle.pv_base.specs.Catalog.{Declared}
+use Rattle.pv_disk_model.specs.Disk.{overlaid}
+use Rattle.pv_embed.proofs.RequestLemmas.{can_run}
+use Rattle.pv_embed.specs.Hosted.{Gives, HostedState, Stays, TakesNext, Writes}
+use Rattle.pv_embed.specs.Opening.{HasOpenedOn}
+use Rattle.pv_embed.specs.Outputs.{out_of}
+use Rattle.pv_embed.specs.Requests.{ReceivesBy, SubmitsBy}
+use Rattle.pv_embed.specs.declared.fault.ReceiveFault.{ReceiveFault}
+use Rattle.pv_embed.specs.declared.fault.ReceiveFault.TheVariants as receiving
+use Rattle.pv_embed.specs.declared.fault.SubmitFault.{SubmitFault}
+use Rattle.pv_embed.specs.declared.fault.SubmitFault.TheVariants as submitting
+use Rattle.pv_embed.specs.declared.made.Output.{Output}
+use Rattle.pv_host.specs.HostFile.{MayLeave}
+use Rattle.pv_host.specs.HostLog.{HostWrite, next_write}
+use Rattle.pv_law_hosted.specs.Calls.{HasSite, IsFromASite}
+use Rattle.pv_law_hosted.specs.Deployment.{Deployment, Station, station_at, with_station}
+use Rattle.pv_law_hosted.specs.DeploymentEvents.{Happens, HappensAt, HappensTo, MayTake, Stands, carried, goes, idles, lets_out, request, stays, takes, time, writes}
+use Rattle.pv_model.specs.Check.{AreItems}
+use Rattle.pv_model.specs.Syntax.{Program}
+use Rattle.pv_protocol.specs.State as model
+use Rattle.pv_protocol.specs.State.{receive, submit, tick}
+use Rattle.pv_protocol.specs.WellFormed.{CanRun}
+
+-- A site that is as it was stays.
+as-it-was : (site next : HostedState) → next ≡ site → Stays site next
+as-it-was site next same = subst (Stays site) (sym same) (refl, refl)
+
+module _ (config : List ℕ) (catalog : Declared) (d : Deployment) (n : ℕ) (site : HostedState) (has : HasSite catalog d n site) where
+  abbrev old : Station
+  old = station_at d n
+
+  -- What happens to the station happens in the deployment.
+  here-happens : (new : Station) → HappensTo catalog d n site old new → ((s : HostedState) → new.hosted ≡ Some s → Stands s)
+      → Happens config catalog d (with_station d n new)
+  here-happens new happens stands = record {
+    n = n;
+    known = has.known;
+    new = new;
+    at = subst (λ (hosted : Option HostedState). HappensAt config catalog d n old hosted new) (sym has.here) happens;
+    stands = stands;
+    after = refl;
+  }
+
+  -- The same, where the station has this site then.
+  site-happens : (next : HostedState) (file : List ℕ) → Stands next → HappensTo catalog d n site old (record old { file = file; hosted = Some next })
+      → Happens config catalog d (with_station d n (record old { file = file; hosted = Some next }))
+  site-happens next file stands happens =
+      here-happens (record old { file = file; hosted = Some next }) happens (λ s is. let same : next ≡ s = cc in subst Stands same stands)
+
+  next-happens : (next : HostedState) → Stands next → HappensTo catalog d n site old (record old { hosted = Some next })
+      → Happens config catalog d (with_station d n (record old { hosted = Some next }))
+  next-happens next stands happens =
+      here-happens (record old { hosted = Some next }) happens (λ s is. let same : next ≡ s = cc in subst Stands same stands)
+
+  submits-to : (items_of : (program : Program) → (items : List ℕ) × AreItems program items) (next : HostedState) (text : List ℕ) (query : Bool) (result : Result ⊤ SubmitFault)
+      → SubmitsBy site next text query result → HappensTo catalog d n site old (record old { hosted = Some next })
+  submits-to items_of next text query (Ok done) by =
+      let items = items_of by.0 in
+      let may : CanRun catalog by.0 =
+      subst (λ (c : Declared). CanRun c by.0) has.declared (can_run site.site.catalog text by.0 query items.0 by.1 items.1 (by.2 items.0 items.1)) in
+      takes next (submit by.0) (request by.0 may) by.3
+  submits-to items_of next text query (Err (submitting.Text error)) by = stays next (as-it-was site next by.0)
+  submits-to items_of next text query (Err (submitting.Program error)) by = stays next (as-it-was site next by.0)
+  submits-to items_of next text query (Err submitting.NoMemory) by = stays next by
+
+  pub submit-happens : (items_of : (program : Program) → (items : List ℕ) × AreItems program items) (next : HostedState) (text : List ℕ) (query : Bool) (result : Result ⊤ SubmitFault)
+      → Stands next → SubmitsBy site next text query result → Happens config catalog d (with_station d n (record old { hosted = Some next }))
+  submit-happens items_of next text query result stands by = next-happens next stands (submits-to items_of next text query result by)
+
+  receives-to : (next : HostedState) (bytes : List ℕ) (result : Result ⊤ ReceiveFault) → IsFromASite d bytes
+      → ReceivesBy site next bytes result → HappensTo catalog d n site old (record old { hosted = Some next })
+  receives-to next bytes (Ok done) from by =
+      takes next (receive by.0.from by.0.message)
+      (carried by.0 (from by.0 by.1) (by.2 ∙ has.me) (subst (λ (c : Declared). by.0.from < c.sites) has.declared by.3)) by.4
+  receives-to next bytes (Err (receiving.Malformed error)) from by = stays next (as-it-was site next by.0)
+  receives-to next bytes (Err receiving.NotForHere) from by = stays next (as-it-was site next by.0)
+  receives-to next bytes (Err receiving.NoSender) from by = stays next (as-it-was site next by.0)
+  receives-to next bytes (Err receiving.NoMemory) from by = stays next by
+
+  pub receive-happens : (next : HostedState) (bytes : List ℕ) (result : Result ⊤ ReceiveFault) → Stands next → IsFromASite d bytes → ReceivesBy site next bytes result
+      → Happens config catalog d (with_station d n (record old { hosted = Some next }))
+  receive-happens next bytes result stands from by = next-happens next stands (receives-to next bytes result from by)
+
+  ticks-to : {E : Type 0} (next : HostedState) (result : Result ⊤ E) → Gives site next tick result → HappensTo catalog d n site old (record old { hosted = Some next })
+  ticks-to next (Ok done) by = takes next tick time by
+  ticks-to next (Err error) by = stays next by
+
+  pub tick-happens : {E : Type 0} (next : HostedState) (result : Result ⊤ E) → Stands next → Gives site next tick result
+      → Happens config catalog d (with_station d n (record old { hosted = Some next }))
+  tick-happens next result stands by = next-happens next stands (ticks-to next result by)
+
+  pub write-happens : (next : HostedState) (write : HostWrite) → Stands next → next_write site.site.log ≡ Some write → Writes site next
+      → Happens config catalog d (with_station d n (record old { file = overlaid old.file write.place write.bytes; hosted = Some next }))
+  write-happens next write stands is by = site-happens next (overlaid old.file write.place write.bytes) stands (writes next write is by)
+
+  pub idle-happens : (next : HostedState) → Stands next → next_write site.site.log ≡ None → Writes site next
+      → Happens config catalog d (with_station d n (record old { hosted = Some next }))
+  idle-happens next stands is by = next-happens next stands (idles next is by)
+
+  pub take-happens : (next : HostedState) (result : Option Output) → Stands next → TakesNext site next result
+      → Happens config catalog d (with_station d n (record old { hosted = Some next; let_out = old.let_out ++ option_to_list (option_map out_of result) }))
+  take-happens next result stands by =
+      here-happens (record old { hosted = Some next; let_out = old.let_out ++ option_to_list (option_map out_of result) }) (lets_out next result by)
+      (λ s is. let same : next ≡ s = cc in subst Stands same stands)
+
+  pub going-happens : (left : List ℕ) → MayLeave site.site.log old.file left → Happens config catalog d (with_station d n (record old { file = left; hosted = None }))
+  going-happens left may = here-happens (record old { file = left; hosted = None }) (goes left may) (λ s is. absurd cc)
+
+-- A site is opened on the file that the last process has left.
+pub opening-happens : (config : List ℕ) (catalog : Declared) (d : Deployment) (n : ℕ) (site : HostedState) → n < catalog.sites → (station_at d n).hosted ≡ None
+    → HasOpenedOn config n (station_at d n).file site → Stands site → Happens config catalog d (with_station d n (record (station_at d n) { hosted = Some site }))
+opening-happens config catalog d n site known gone opened stands = record {
+  n = n;
+  known = known;
+  new = record (station_at d n) { hosted = Some site };
+  at =
+      subst (λ (hosted : Option HostedState). HappensAt config catalog d n (station_at d n) hosted (record (station_at d n) { hosted = Some site })) (sym gone)
+      (site, opened, refl);
+  stands = λ s is. let same : site ≡ s = cc in subst Stands same stands;
+  after = refl;
+}

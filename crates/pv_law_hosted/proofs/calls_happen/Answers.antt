@@ -1,0 +1,27 @@
+use Rattle.pv_law_hosted.proofs.CallLemmas.{going-happens, idle-happens, opening-happens, receive-happens, submit-happens, take-happens, tick-happens, write-happens}
+use Rattle.pv_law_hosted.proofs.calls_happen.Goals as goal
+
+pub returns-clause-submitted : goal.returns-clause-submitted
+returns-clause-submitted c config catalog d n site next text query result has stands by =
+    submit-happens config catalog d n site has c.some_items.ensures next text query result stands by
+
+pub returns-clause-received : goal.returns-clause-received
+returns-clause-received c config catalog d n site next bytes result has stands from by = receive-happens config catalog d n site has next bytes result stands from by
+
+pub returns-clause-ticked : goal.returns-clause-ticked
+returns-clause-ticked c config catalog d n site next result has stands by = tick-happens config catalog d n site has next result stands by
+
+pub returns-clause-wrote : goal.returns-clause-wrote
+returns-clause-wrote c config catalog d n site next write has stands is by = write-happens config catalog d n site has next write stands is by
+
+pub returns-clause-idled : goal.returns-clause-idled
+returns-clause-idled c config catalog d n site next has stands is by = idle-happens config catalog d n site has next stands is by
+
+pub returns-clause-took : goal.returns-clause-took
+returns-clause-took c config catalog d n site next result has stands by = take-happens config catalog d n site has next result stands by
+
+pub returns-clause-gone : goal.returns-clause-gone
+returns-clause-gone c config catalog d n site left has may = going-happens config catalog d n site has left may
+
+pub returns-clause-opened : goal.returns-clause-opened
+returns-clause-opened c config catalog d n site known gone opened stands = opening-happens config catalog d n site known gone opened stands
