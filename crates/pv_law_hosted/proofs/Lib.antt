@@ -16,3 +16,4 @@ mod SplitLemmas
 mod StoreLemmas
 mod TakesLemmas
 mod WithinLemmas
+mod WorkedLemmas

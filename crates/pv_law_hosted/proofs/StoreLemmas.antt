@@ -1,5 +1,5 @@
 -- What a write of the host stores.
-use Rattle.std.proofs.Common.{◌≡◌, ◌⊎◌, inl, inr, ℕ, Bool, true, false, List, [], ◌∷◌, ◌++◌, Option, Some, None, refl, ap, ◌∙◌}
+use Rattle.std.proofs.Common.{◌≡◌, ◌⊎◌, inl, inr, ℕ, Bool, true, false, List, [], ◌∷◌, ◌++◌, Some, None, refl, ap, ◌∙◌}
 use Rattle.pv_disk_model.specs.Size.{Contents}
 use Rattle.pv_host.specs.HostLog.{HostState, HostWrite, IsSameBesideRoom, next_write, with_written, write_after, written_to}
 

@@ -5,3 +5,4 @@ pub mod DeploymentEvents
 pub mod Given
 pub mod Made
 pub mod Mirrored
+pub mod Worked

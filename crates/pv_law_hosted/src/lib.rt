@@ -27,6 +27,7 @@ ghost use Rattle.pv_law_hosted.specs.Deployment.{Deployment, IsNew, station_at, 
 ghost use Rattle.pv_law_hosted.specs.DeploymentEvents.{Happens, Stands};
 ghost use Rattle.pv_law_hosted.specs.Made.{IsLetOutOf, made_as, made_by};
 ghost use Rattle.pv_law_hosted.specs.Mirrored.{IsMirrored, plain_site, world_of};
+ghost use Rattle.pv_law_hosted.specs.Worked as worked;
 ghost use Rattle.pv_model.specs.Events.{Event, Schedule};
 ghost use Rattle.pv_model.specs.Meaning.{value_in};
 ghost use Rattle.pv_protocol.specs.Committed.{Fits, is_readable, serial_rows};
@@ -154,4 +155,26 @@ pub fn hosted_reports_hold()
     hosted_sites_agree();
     commits_answer();
     refusals_hold();
+}
+
+/// A deployment of one site, computed, so that the laws above don't speak of nothing. The site is opened on a new file, and its process goes before anything is written
+/// (`opened`, `died`): that leaves the deployment as it was, in which no process was yet. The site is opened anew, in the same epoch; its host writes the epoch's record
+/// behind the gate and says so (`wrote`). Then the gate is opened in the file, and the process goes before its host has said so (`found`).
+///
+/// A run mirrors it, and the site of that run has the record that was found and never said to be written, and is down (`mirrored`).
+pub fn a_record_is_found()
+    ensures configured { Configures worked.config worked.schedule }
+    ensures new { IsNew worked.catalog worked.fresh }
+    ensures opened { Happens worked.config worked.catalog worked.fresh worked.up }
+    ensures died { Happens worked.config worked.catalog worked.up worked.fresh }
+    ensures wrote { Happens worked.config worked.catalog worked.up worked.writing }
+    ensures found { Happens worked.config worked.catalog worked.writing worked.found }
+    ensures mirrored { (events : List Event) × IsMirrored (setup_of worked.catalog) worked.found events ×
+        ((site_at (world_of (setup_of worked.catalog) events) 0).records ≡ worked.begun_records) ×
+        ((site_at (world_of (setup_of worked.catalog) events) 0).running ≡ None) }
+{
+    deployments_are_runs();
+    mirrored_deployments_agree();
+    one_journal();
+    one_record();
 }

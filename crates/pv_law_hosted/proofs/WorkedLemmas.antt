@@ -1,0 +1,228 @@
+-- The worked deployment, event by event.
+use Rattle.std.proofs.Common.{◌≡◌, ◌⊎◌, inl, inr, ⊎_elim, ℕ, zero, suc, ◌+◌, ◌^◌, ◌<◌, Bool, true, false, Option, Some, None, List, [], ◌∷◌, ◌++◌, length, arith, refl, ap, ◌∙◌, subst}
+use Rattle.std.proofs.lemmas.List.Elements.{All-nil, All-cons}
+use Rattle.pv_base.specs.BigEndian.{big_endian}
+use Rattle.pv_disk_model.specs.Disk.{Torn}
+use Rattle.pv_disk_model.specs.Log.{Adds, IsBeforeOrAfter, LeavesOnly}
+use Rattle.pv_disk_model.specs.Size.{Contents}
+use Rattle.pv_embed.specs.Opening.{Configures, HasOpenedOn}
+use Rattle.pv_format.specs.Contents.{SpellRecords}
+use Rattle.pv_format.specs.Journal.{IsJournal, end_of, framed}
+use Rattle.pv_format.specs.Record.{Record, epoch_begun}
+use Rattle.pv_format.specs.RecordSpelling.{SpellsRecord}
+use Rattle.pv_host.specs.HostLaws.{host_model}
+use Rattle.pv_host.specs.HostLog.{WasHeld}
+use Rattle.pv_law_hosted.proofs.CallLemmas.{going-happens, opening-happens, write-happens}
+use Rattle.pv_law_hosted.specs.Calls.{HasSite}
+use Rattle.pv_law_hosted.specs.Claims.{HoldsSite}
+use Rattle.pv_law_hosted.specs.Deployment.{Deployment, IsNew, IsNewStation}
+use Rattle.pv_law_hosted.specs.DeploymentEvents.{Happens, Stands}
+use Rattle.pv_law_hosted.specs.Worked.{config, catalog, schedule, first_epoch, new_file, written_file, found_file, opened_log, begun_log, begun_records, begun, fresh, up, writing, found}
+use Rattle.pv_law_hosted.specs.Mirrored.{IsMirrored, world_of}
+use Rattle.pv_model.specs.Events.{Event}
+use Rattle.pv_model.specs.LineCauses.{Before, at_first}
+use Rattle.pv_model.specs.LineForms.{scheduled}
+use Rattle.pv_model.specs.Schedule.{AreLines, IsSchedule, declaration, none, significant}
+use Rattle.pv_model.specs.Text.{is_significant, lines, numbered, words}
+use Rattle.pv_protocol.specs.Records.{journal_bytes}
+use Rattle.pv_protocol.specs.Start.{just_started, site_start, starts}
+use Rattle.pv_protocol.specs.State.{Site}
+use Rattle.pv_protocol.specs.World.{site_at}
+use Rattle.pv_site.specs.Opens.{HasOpened}
+use Rattle.pv_site.specs.SiteState.{setup_of}
+use Rattle.pv_store.specs.Refusals.{too_many_in}
+
+same-value : {A : Type 0} {x y : A} → Some x ≡ Some y → x ≡ y
+same-value is = cc
+
+-- ## What is declared
+abbrev said : Before
+said = record (at_first scheduled) { sites = Some 1 }
+
+are-lines : AreLines (at_first scheduled) (significant config) [] said
+unfolding is_significant lines numbered words
+are-lines = declaration (at_first scheduled) said said config [] [] (inl (record {
+  text = record { short = omega arith; bytes = refl };
+  first = refl;
+  count = 1;
+  is = (49 ∷ [], refl, (record { some = omega arith; digits = refl; value = refl }, omega arith, omega arith));
+  same = refl;
+})) (none said)
+
+is-schedule : IsSchedule config schedule
+is-schedule = record { last = said; are = are-lines; sites = 1; said = refl; catalog = refl }
+
+pub configures : Configures config schedule
+configures = (is-schedule, refl, omega arith)
+
+-- ## The first opening
+spelled-epoch : SpellsRecord (epoch_begun 1) first_epoch
+unfolding big_endian
+spelled-epoch = record {
+  front = 1 ∷ [];
+  back = 0 ∷ 0 ∷ 0 ∷ 1 ∷ [];
+  whole = refl;
+  first = record { fits = omega arith; spelled = refl };
+  second = record { spelled = record { fits = omega arith; spelled = refl }; allowed = refl };
+}
+
+new-journal : IsJournal [] new_file
+new-journal = record { short = All-nil (λ (c : List ℕ). length c < 2 ^ 32); gate = 0; rest = []; closed = λ is. absurd (omega (arith, is)); is = refl }
+
+-- What a crash might have left since, of a log with the first content or with none.
+of-new : (t : ℕ) (left : Option Contents) → WasHeld (begun_log false) t left → (WasHeld opened_log t left) ⊎ (left ≡ Some (first_epoch ∷ []))
+of-new t left (zero, since, within, is) = inl (0, since, omega arith, is)
+of-new t left (suc zero, since, within, is) = inr is
+of-new t left (suc (suc k), since, within, is) = absurd (omega (arith, within))
+
+of-none : (t : ℕ) (left : Option Contents) → WasHeld opened_log t left → WasHeld (begun_log false) t left × (left ≡ Some [])
+of-none t left (zero, since, within, is) = ((0, since, omega arith, is), is)
+of-none t left (suc k, since, within, is) = absurd (omega (arith, within))
+
+left-only : LeavesOnly host_model opened_log (begun_log false) (IsBeforeOrAfter [] first_epoch)
+left-only = record {
+  later = omega arith;
+  each = λ left held. ⊎_elim (λ early. inl (of-none 0 left early).1) (λ late. inr late) (of-new 0 left held);
+  before = λ t left le held. ⊎_elim (λ early. inl early) (λ late. inr (inr late)) (of-new t left held);
+  keeps = λ t left le held. (of-none t left held).0;
+}
+
+adds-epoch : Adds host_model opened_log (begun_log false) first_epoch
+adds-epoch = record {
+  contents = λ was is. subst (λ (l : Contents). Some (first_epoch ∷ []) ≡ Some (l ++ first_epoch ∷ [])) (same-value is) refl;
+  known = refl;
+  size = refl;
+  limit = refl;
+  any_moment = λ was is. subst (λ (l : Contents). LeavesOnly host_model opened_log (begun_log false) (IsBeforeOrAfter l first_epoch)) (same-value is) left-only;
+  durable = λ was is left may. may ∙ subst (λ (l : Contents). Some (first_epoch ∷ []) ≡ Some (l ++ first_epoch ∷ [])) (same-value is) refl;
+}
+
+starts-first : site_start (setup_of catalog) [] ≡ starts (just_started 1) (epoch_begun 1)
+unfolding site_start journal_bytes
+starts-first = refl
+
+none-too-many : too_many_in catalog 0 [] ≡ None
+unfolding too_many_in
+none-too-many = refl
+
+opened-site : HasOpened host_model opened_log 0 catalog (begun false).site
+opened-site = record {
+  contents = [];
+  records = [];
+  running = just_started 1;
+  epoch = 1;
+  content = first_epoch;
+  read = λ held is. same-value is;
+  size = refl;
+  spelled = tt;
+  narrow = none-too-many;
+  starts = starts-first;
+  site = refl;
+  content_is = spelled-epoch;
+  up = record { was_up = refl; is_up = refl; faults = refl };
+  log = adds-epoch;
+  calls = inr (
+    record opened_log { is_read = true },
+    (refl, refl),
+    inr (record opened_log { is_read = true }, refl, inr (begun_log false, (omega arith, refl, refl), (refl, refl))),
+  );
+}
+
+opened-on : HasOpenedOn config 0 new_file (begun false)
+opened-on = record {
+  schedule = schedule;
+  configured = configures;
+  known = omega arith;
+  log = opened_log;
+  opened_on = record { journal = new-journal; pending = refl; behind_gate = refl; limit_is = refl; up = refl; unread = refl };
+  opened = opened-site;
+  held = refl;
+}
+
+-- The site stands, whether its record is behind the gate or not.
+stands : (behind_gate : Bool) → Stands (begun behind_gate)
+unfolding journal_bytes
+stands behind_gate = record {
+  ready = record {
+    intact = omega arith;
+    limit = refl;
+    holds = record {
+      up = refl;
+      size = refl;
+      held = λ contents is. subst (SpellRecords begun_records) (same-value is) (spelled-epoch, tt);
+    };
+  };
+  running = just_started 1;
+  up = refl;
+}
+
+-- ## What happens
+pub is-new : IsNew catalog fresh
+is-new = record {
+  count = refl;
+  each = All-cons IsNewStation (record { file = new_file; hosted = None; let_out = [] }) [] (record { file = new-journal; gone = refl; silent = refl }) (All-nil IsNewStation);
+}
+
+pub opens : Happens config catalog fresh up
+opens = opening-happens config catalog fresh 0 (begun false) (omega arith) refl opened-on (stands false)
+
+has-site : HasSite catalog up 0 (begun false)
+has-site = record { known = omega arith; here = refl; me = refl; declared = refl }
+
+pub dies : Happens config catalog up fresh
+dies = going-happens config catalog up 0 (begun false) has-site new_file (inl refl)
+
+pub writes-record : Happens config catalog up writing
+unfolding big_endian
+writes-record =
+    write-happens config catalog up 0 (begun false) has-site (begun true) (record { place = end_of [] + 1; bytes = framed first_epoch ++ 0 ∷ [] }) (stands true) refl
+    (record { log = refl; same = refl })
+
+torn-gate : Torn 8 1 written_file found_file
+unfolding big_endian
+torn-gate = record { before = refl; after = refl; no_shorter = omega arith; no_longer = omega arith }
+
+pub dies-writing : Happens config catalog writing found
+dies-writing =
+    going-happens config catalog writing 0 (begun true) (record { known = omega arith; here = refl; me = refl; declared = refl }) found_file
+    (inr (record { place = 8; bytes = 1 ∷ [] }, refl, torn-gate))
+
+found-journal : IsJournal (first_epoch ∷ []) found_file
+unfolding big_endian
+found-journal = record {
+  short = All-cons (λ (c : List ℕ). length c < 2 ^ 32) first_epoch [] (omega arith) (All-nil (λ (c : List ℕ). length c < 2 ^ 32));
+  gate = 0;
+  rest = [];
+  closed = λ is. absurd (omega (arith, is));
+  is = refl;
+}
+
+-- ## What the law says of it
+module _ (one_record : (entry other : Record) (bytes : List ℕ) → SpellsRecord entry bytes → SpellsRecord other bytes → entry ≡ other)
+    (one_journal : (bytes : List ℕ) (contents others : Contents) → IsJournal contents bytes → IsJournal others bytes → contents ≡ others) where
+  one-epoch : (records : List Record) → SpellRecords records (first_epoch ∷ []) → records ≡ begun_records
+  one-epoch [] spelled = absurd spelled
+  one-epoch (entry ∷ []) spelled = ap (λ (r : Record). r ∷ []) (one_record entry (epoch_begun 1) first_epoch spelled.0 spelled-epoch)
+  one-epoch (entry ∷ other ∷ records) spelled = absurd spelled.1
+
+  -- The world's site has the record that is found, and is down.
+  holds-epoch : (site : Site) → HoldsSite found_file site → (site.records ≡ begun_records) × (site.running ≡ None)
+  holds-epoch site (inl (contents, journal, spelled, down)) =
+      (one-epoch site.records (subst (SpellRecords site.records) (one_journal found_file contents (first_epoch ∷ []) journal found-journal) spelled), down)
+  holds-epoch site (inr (journal, first)) = let wrong : [] ≡ first_epoch ∷ [] = one_journal found_file [] (first_epoch ∷ []) journal found-journal in absurd cc
+
+  module _ (new : IsMirrored (setup_of catalog) fresh [])
+      (goes_on : (d later : Deployment) (events : List Event) → IsMirrored (setup_of catalog) d events → Happens config catalog d later
+      → (more : List Event) × IsMirrored (setup_of catalog) later (events ++ more))
+      (holds : (events : List Event) → IsMirrored (setup_of catalog) found events → HoldsSite found_file (site_at (world_of (setup_of catalog) events) 0)) where
+    pub mirrored-found : (events : List Event) × IsMirrored (setup_of catalog) found events
+        × ((site_at (world_of (setup_of catalog) events) 0).records ≡ begun_records) × ((site_at (world_of (setup_of catalog) events) 0).running ≡ None)
+    mirrored-found =
+        let first = goes_on fresh up [] new opens in
+        let second = goes_on up fresh ([] ++ first.0) first.1 dies in
+        let third = goes_on fresh up (([] ++ first.0) ++ second.0) second.1 opens in
+        let fourth = goes_on up writing ((([] ++ first.0) ++ second.0) ++ third.0) third.1 writes-record in
+        let fifth = goes_on writing found (((([] ++ first.0) ++ second.0) ++ third.0) ++ fourth.0) fourth.1 dies-writing in
+        let events = ((((([] ++ first.0) ++ second.0) ++ third.0) ++ fourth.0) ++ fifth.0) in
+        let held = holds-epoch (site_at (world_of (setup_of catalog) events) 0) (holds events fifth.1) in
+        (events, fifth.1, held.0, held.1)

@@ -1,0 +1,90 @@
+-- A deployment of one site, computed. It is opened for the first time, and its process goes before anything is written; it is opened anew, and its process goes once the
+-- record of its epoch is in the file, but before its host has told so.
+use Rattle.std.specs.Prelude.{Bool, true, false, List, ℕ, Some, None, [], ◌∷◌, ◌++◌, codes}
+use Rattle.pv_base.specs.Catalog.{Declared}
+use Rattle.pv_base.specs.declared.limits.TheConstants.{MAX_JOURNAL}
+use Rattle.pv_embed.specs.Hosted.{HostedState}
+use Rattle.pv_format.specs.Journal.{header, framed}
+use Rattle.pv_format.specs.Record.{Record, epoch_begun}
+use Rattle.pv_host.specs.HostLog.{HostState}
+use Rattle.pv_law_hosted.specs.Deployment.{Deployment}
+use Rattle.pv_model.specs.Events.{Schedule}
+use Rattle.pv_protocol.specs.Start.{just_started}
+
+-- ## What is declared
+abbrev pub config : List ℕ
+config = codes "sites 1"
+
+abbrev pub catalog : Declared
+catalog = record { sites = 1; journal = MAX_JOURNAL; items = [] }
+
+abbrev pub schedule : Schedule
+schedule = record { catalog = catalog; events = [] }
+
+-- ## The file
+-- the content of the record of the first epoch
+abbrev pub first_epoch : List ℕ
+first_epoch = 1 ∷ 0 ∷ 0 ∷ 0 ∷ 1 ∷ []
+
+-- a new file
+abbrev pub new_file : List ℕ
+new_file = header ++ 0 ∷ []
+
+-- the file once the record is written behind the closed gate, and once this is open
+abbrev pub written_file : List ℕ
+written_file = header ++ 0 ∷ (framed first_epoch ++ 0 ∷ [])
+
+abbrev pub found_file : List ℕ
+found_file = header ++ 1 ∷ (framed first_epoch ++ 0 ∷ [])
+
+-- ## The site
+-- the log as it is opened on the new file, and once the epoch was begun
+abbrev pub opened_log : HostState
+opened_log = record { stored = []; pending = []; behind_gate = false; limit = MAX_JOURNAL; is_down = false; is_read = false; places = 0; bytes = 0 }
+
+abbrev pub begun_log : Bool → HostState
+begun_log behind_gate = record {
+  stored = [];
+  pending = first_epoch ∷ [];
+  behind_gate = behind_gate;
+  limit = MAX_JOURNAL;
+  is_down = false;
+  is_read = true;
+  places = 0;
+  bytes = 0;
+}
+
+abbrev pub begun_records : List Record
+begun_records = epoch_begun 1 ∷ []
+
+-- the site in its first epoch, where its record stands behind the gate or doesn't
+abbrev pub begun : Bool → HostedState
+begun behind_gate = record {
+  site = record {
+    me = 0;
+    catalog = catalog;
+    records = begun_records;
+    running = Some (just_started 1);
+    epoch = 1;
+    first = true;
+    log = begun_log behind_gate;
+  };
+  held = [];
+}
+
+-- ## The deployment
+-- no process, and a new file: at first, and once the first process is gone
+abbrev pub fresh : Deployment
+fresh = record { file = new_file; hosted = None; let_out = [] } ∷ []
+
+-- a process on a new file
+abbrev pub up : Deployment
+up = record { file = new_file; hosted = Some (begun false); let_out = [] } ∷ []
+
+-- the record is in the file, and the gate is to be opened
+abbrev pub writing : Deployment
+writing = record { file = written_file; hosted = Some (begun true); let_out = [] } ∷ []
+
+-- the process is gone, and left the gate open
+abbrev pub found : Deployment
+found = record { file = found_file; hosted = None; let_out = [] } ∷ []
