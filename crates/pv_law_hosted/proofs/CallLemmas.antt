@@ -24,6 +24,38 @@ use Rattle.pv_model.specs.Syntax.{Program}
 use Rattle.pv_protocol.specs.State as model
 use Rattle.pv_protocol.specs.State.{receive, submit, tick}
 use Rattle.pv_protocol.specs.WellFormed.{CanRun}
+use Rattle.pv_site.specs.SiteState.{setup_of}
+
+-- A program that isn't refused names some items, and not too many.
+counted : (above : Bool) (n : ℕ) (program : Program) (query : Bool) → nat_lt MAX_PROGRAM_ITEMS (suc n) ≡ above
+    → check_refusal MAX_PROGRAM_ITEMS (suc n) program query ≡ None → suc n ≤ MAX_PROGRAM_ITEMS
+counted true n program query is accepted = cc
+counted false n program query is accepted = ltb-false MAX_PROGRAM_ITEMS (suc n) is
+
+some-named : (count : ℕ) (program : Program) (query : Bool) → check_refusal MAX_PROGRAM_ITEMS count program query ≡ None → 0 < count
+some-named zero program query accepted = cc
+some-named (suc n) program query accepted = omega arith
+
+few-named : (count : ℕ) (program : Program) (query : Bool) → check_refusal MAX_PROGRAM_ITEMS count program query ≡ None → count ≤ MAX_PROGRAM_ITEMS
+few-named zero program query accepted = cc
+few-named (suc n) program query accepted = counted (nat_lt MAX_PROGRAM_ITEMS (suc n)) n program query refl accepted
+
+-- A program of a text that isn't refused can run.
+accepted-runs : (catalog : Declared) (text : List ℕ) (program : Program) (query : Bool) (items : List ℕ) → IsProgramText catalog text program → AreItems program items
+    → check_refusal MAX_PROGRAM_ITEMS (length items) program query ≡ None → CanRun catalog program
+accepted-runs catalog text program query items is are accepted = record {
+  runnable = record {
+    items = items;
+    are = are;
+    some = some-named (length items) program query accepted;
+    few = few-named (length items) program query accepted;
+    known = λ k d below. declared-items catalog text program is (get_or items k d) (All-get_or (λ m. IsTrue (names_item program m)) items k d below are.each);
+  };
+  numbers = small-numbers catalog text program is;
+}
+
+pub some-same : {A : Type 0} {x y : A} → Some x ≡ Some y → x ≡ y
+some-same is = cc
 
 -- A site that is as it was stays.
 as-it-was : (site next : HostedState) → next ≡ site → Stays site next

@@ -12,7 +12,7 @@ use Rattle.pv_format.specs.Record.{Record, epoch_begun}
 use Rattle.pv_format.specs.RecordSpelling.{SpellsRecord}
 use Rattle.pv_host.specs.HostLaws.{host_model}
 use Rattle.pv_host.specs.HostLog.{WasHeld}
-use Rattle.pv_law_hosted.proofs.CallLemmas.{going-happens, opening-happens, write-happens}
+use Rattle.pv_law_hosted.proofs.CallLemmas.{going-happens, opening-happens, some-same, write-happens}
 use Rattle.pv_law_hosted.specs.Calls.{HasSite}
 use Rattle.pv_law_hosted.specs.Claims.{HoldsSite}
 use Rattle.pv_law_hosted.specs.Deployment.{Deployment, IsNew, IsNewStation}
@@ -31,9 +31,6 @@ use Rattle.pv_protocol.specs.World.{site_at}
 use Rattle.pv_site.specs.Opens.{HasOpened}
 use Rattle.pv_site.specs.SiteState.{setup_of}
 use Rattle.pv_store.specs.Refusals.{too_many_in}
-
-same-value : {A : Type 0} {x y : A} → Some x ≡ Some y → x ≡ y
-same-value is = cc
 
 -- ## What is declared
 abbrev said : Before
@@ -89,12 +86,12 @@ left-only = record {
 
 adds-epoch : Adds host_model opened_log (begun_log false) first_epoch
 adds-epoch = record {
-  contents = λ was is. subst (λ (l : Contents). Some (first_epoch ∷ []) ≡ Some (l ++ first_epoch ∷ [])) (same-value is) refl;
+  contents = λ was is. subst (λ (l : Contents). Some (first_epoch ∷ []) ≡ Some (l ++ first_epoch ∷ [])) (some-same is) refl;
   known = refl;
   size = refl;
   limit = refl;
-  any_moment = λ was is. subst (λ (l : Contents). LeavesOnly host_model opened_log (begun_log false) (IsBeforeOrAfter l first_epoch)) (same-value is) left-only;
-  durable = λ was is left may. may ∙ subst (λ (l : Contents). Some (first_epoch ∷ []) ≡ Some (l ++ first_epoch ∷ [])) (same-value is) refl;
+  any_moment = λ was is. subst (λ (l : Contents). LeavesOnly host_model opened_log (begun_log false) (IsBeforeOrAfter l first_epoch)) (some-same is) left-only;
+  durable = λ was is left may. may ∙ subst (λ (l : Contents). Some (first_epoch ∷ []) ≡ Some (l ++ first_epoch ∷ [])) (some-same is) refl;
 }
 
 starts-first : site_start (setup_of catalog) [] ≡ starts (just_started 1) (epoch_begun 1)
@@ -112,7 +109,7 @@ opened-site = record {
   running = just_started 1;
   epoch = 1;
   content = first_epoch;
-  read = λ held is. same-value is;
+  read = λ held is. some-same is;
   size = refl;
   spelled = tt;
   narrow = none-too-many;
@@ -149,7 +146,7 @@ stands behind_gate = record {
     holds = record {
       up = refl;
       size = refl;
-      held = λ contents is. subst (SpellRecords begun_records) (same-value is) (spelled-epoch, tt);
+      held = λ contents is. subst (SpellRecords begun_records) (some-same is) (spelled-epoch, tt);
     };
   };
   running = just_started 1;
