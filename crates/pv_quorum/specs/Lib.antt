@@ -1,0 +1,10 @@
+pub mod DeciderState
+pub mod Knows
+pub mod Makes
+pub mod MemoryView
+pub mod Opens
+pub mod Parts
+pub mod Spelling
+pub mod Steps
+pub mod Values
+pub mod Writing
