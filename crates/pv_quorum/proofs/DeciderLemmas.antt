@@ -66,7 +66,7 @@ module _ {W : Type 0} (M : LogModel W) (me count : ℕ) (down : Bool) (log : W) 
   abbrev pub Makes : Here → Type 0
   Makes here = IsMade me (txn_of input) made (answer_to setup here (input_of input))
 
-  -- what is made known where nothing is sent twice: the pairs, but for the input's transaction
+  -- This is known of the input's transaction, and of the others what was.
   abbrev pub Updates : List (TxnId × Known) → Known → Type 0
   Updates new known = (other : TxnId) → known_at new other ≡ (if is_same_txn other (txn_of input) then known else known_at pairs other)
 

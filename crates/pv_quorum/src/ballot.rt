@@ -6,7 +6,7 @@ ghost use Rattle.pv_quorum.specs.Values.{ballot_of};
 /// A ballot: a number, and the decider that made it. Ballots are ordered by these two.
 #[derive(Clone, Copy, Debug, PartialEq, Eq)]
 pub struct Ballot {
-    /// The number, from 1 on.
+    /// The number: those that deciders make are from 1 to 4,294,967,294.
     pub number: u32,
     /// The decider, numbered from 0.
     pub decider: u8,
@@ -27,7 +27,7 @@ impl Ballot {
         self.number == other.number && self.decider == other.decider
     }
 
-    // Its place in the order of ballots.
+    // Its place in the order of ballots: a decider is a byte, so 256 times the number leaves room for it.
     fn rank(self) -> u64
         ensures { result ≡ law.rank (ballot_of self) }
     {

@@ -30,11 +30,17 @@ use std::marker::Model;
 /// is down, and is to be opened again on its log.
 #[derive(Drop)]
 pub struct Decider<L: Log> {
+    /// Where its memory comes from.
     alloc: Global,
+    /// Where its records are.
     log: L,
+    /// Its number, from 0.
     me: u8,
+    /// How many deciders there are.
     count: u8,
+    /// What its records say, and what it proposes.
     memory: Memory,
+    /// Whether the log failed since the opening.
     down: bool,
 }
 
@@ -50,10 +56,15 @@ impl<L: Log> Model for Decider<L> {
 }
 
 impl<L: Log> Decider<L> {
-    /// Opens the decider on its log: it reads its records, and has nothing in memory. There are `count` deciders, three to five, and this one has the number
+    /// Opens the decider on its log: it reads its records, and proposes nothing. There are `count` deciders, three to five, and this one has the number
     /// `me`, from 0. Takes time in proportion to the log.
     ///
-    /// The log isn't down. It comes back in each refusal; see [`OpenDecider`].
+    /// The log isn't down. It comes back in each refusal, of which the first one is answered that there is:
+    ///
+    /// 1. [`OpenDecider::Failed`], [`OpenDecider::NotOurs`]: the log couldn't be read.
+    /// 2. [`OpenDecider::BadRecord`]: a content is no record's.
+    ///
+    /// [`OpenDecider::NoMemory`] may come at any place.
     pub fn open(alloc: Global, log: L, me: u8, count: u8) -> Result<Decider<L>, OpenDecider<L>>
         requires intact { L.model.is_intact log }
         requires up { L.model.is_down log ≡ false }
@@ -78,10 +89,10 @@ impl<L: Log> Decider<L> {
         }
     }
 
-    /// The decider makes a step of the input: it appends the step's record, if there is one, and only then sends and reports. Takes constant time beside
-    /// the append.
+    /// The decider makes a step of the input: it appends the step's record, if there is one, and only then sends and reports. Takes constant time
+    /// beside the append, amortized over the transactions that it comes to know.
     ///
-    /// The transaction's site is below 16, and a message comes from another decider.
+    /// The transaction's site is below 16, and a message comes from another decider, with a number below the count.
     ///
     /// - [`QuorumError::Fault`]: the log failed at the record, which it holds or doesn't. Nothing is sent. The decider is down.
     /// - [`QuorumError::Down`]: the decider is down, and nothing changes.
@@ -144,7 +155,8 @@ impl<L: Log> Decider<L> {
         }
     }
 
-    /// The log.
+    /// The log, also of a decider that is down; to be opened again, it mustn't be down itself. What the decider proposes is forgotten. Takes
+    /// constant time and no memory.
     pub fn close(self) -> L
         ensures { result ≡ self.log }
     {

@@ -46,7 +46,7 @@ pub(crate) struct Known {
     pub(crate) promised: Option<Ballot>,
     /// The greatest ballot in which a value is recorded as accepted, and the value that was recorded first.
     pub(crate) last: Option<(Ballot, bool)>,
-    /// Whether the other value is recorded in that ballot too.
+    /// Whether the other value is recorded in that ballot too. No decider asks for both; a message that was made otherwise may.
     pub(crate) both: bool,
     /// What it proposes, if it does.
     pub(crate) proposal: Option<Proposal>,

@@ -13,15 +13,20 @@ use std::alloc::Global;
 /// sends and reports after that.
 #[derive(Debug, Drop)]
 pub(crate) struct Made {
+    /// What it proposes then for the transaction.
     pub(crate) proposal: Option<Proposal>,
+    /// The record that it appends, if it appends one.
     pub(crate) appended: Option<Record>,
+    /// What it sends after that.
     pub(crate) sends: Vec<QuorumSend>,
+    /// The outcome that is decided.
     pub(crate) decided: Option<(TxnId, bool)>,
+    /// Whether no number is left for a ballot.
     pub(crate) spent: bool,
 }
 
 impl Made {
-    // This is proposed then, and nothing else happens.
+    // Nothing is recorded, sent or reported, and this is what is proposed then.
     pub(crate) fn holding(alloc: Global, proposal: Option<Proposal>) -> Made
         ensures made { result ≡ record { proposal = proposal; appended = None; sends = result.sends; decided = None; spent = false } }
         ensures sends { result.sends.items ≡ [] }

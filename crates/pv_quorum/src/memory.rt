@@ -13,6 +13,7 @@ use std::marker::Model;
 /// What a decider knows of each transaction.
 #[derive(Drop)]
 pub(crate) struct Memory {
+    /// By transaction. Of those that have no entry nothing is known.
     txns: IndexMap<TxnId, Known>,
 }
 

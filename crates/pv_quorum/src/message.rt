@@ -15,7 +15,7 @@ pub enum QuorumMessage {
         /// The ballot.
         ballot: Ballot,
     },
-    /// Promises that.
+    /// Promises to take no part in a lower ballot, and tells the last vote.
     Promise {
         /// The transaction.
         txn: TxnId,
@@ -54,7 +54,7 @@ pub enum QuorumInput {
     },
     /// To take a message.
     Take {
-        /// The decider that it comes from.
+        /// The decider that it comes from: its number, below the count of deciders.
         from: u8,
         /// The message.
         message: QuorumMessage,

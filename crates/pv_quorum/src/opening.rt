@@ -63,6 +63,7 @@ pub(crate) fn load<L: Log>(log: &mut L, alloc: Global) -> Result<Memory, Refusal
         Err(LogError::Failed) => return Err(Refusal::Failed),
         Err(LogError::NotOurs(place)) => return Err(Refusal::NotOurs(place)),
         Err(LogError::NoMemory) => return Err(Refusal::NoMemory),
+        // The log isn't down, and a reading adds nothing.
         Err(LogError::Down) | Err(LogError::Full(_)) => unreachable!(),
     };
     let length = length_of(&contents);

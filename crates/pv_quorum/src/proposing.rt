@@ -17,10 +17,12 @@ use crate::{Ballot, QuorumMessage};
 use pv_base::{NEVER_GIVEN, NoMemory, TxnId};
 use std::alloc::Global;
 
-/// The decider that proposes, of so many.
+/// A decider as one that proposes.
 #[derive(Clone, Copy, Debug)]
 pub(crate) struct Proposer {
+    /// Its number.
     pub(crate) me: u8,
+    /// How many deciders there are.
     pub(crate) count: u8,
 }
 
@@ -38,6 +40,7 @@ impl Proposer {
             → IfOk result (λ made. IsMade self.me txn made (rules.on_propose setup here txn commits)) }
     {
         let number = known.promised.map_or(0, |ballot| ballot.number);
+        // The number after it would be the one that is never given.
         if number >= NEVER_GIVEN - 1 {
             return Ok(Made {
                 spent: true,

@@ -14,9 +14,10 @@ use std::alloc::Global;
 /// How many bytes a record has at most.
 const MOST: usize = 16;
 
-/// The kind of a record of a promise, and that of an accepted value.
+/// The kind of a record of a promise.
 const PROMISED: u8 = 33;
 
+/// The kind of a record of an accepted value.
 const ACCEPTED: u8 = 34;
 
 /// What a decider keeps for good.

@@ -1,4 +1,4 @@
-// How a record gets into a decider's log. Nothing is sent or reported until the append has succeeded.
+// How a record gets into a decider's log. Its memory is taken before the log is called, and nothing is sent or reported until the append has succeeded.
 ghost use Rattle.std.specs.Prelude.{◌≡◌, false, length};
 ghost use Rattle.pv_quorum.specs.Values.{record_of};
 ghost use Rattle.pv_quorum.specs.Writing.{AppendsBytes, Writes};
@@ -34,6 +34,7 @@ pub(crate) fn write<L: Log>(
         Err(LogError::Full(length)) => Ok(Written::Full(length)),
         Err(LogError::Failed) => Err(QuorumError::Fault),
         Err(LogError::NoMemory) => Err(QuorumError::NoMemory),
+        // The log isn't down, and reads nothing.
         Err(LogError::Down) | Err(LogError::NotOurs(_)) => unreachable!(),
     }
 }
@@ -48,6 +49,7 @@ fn append<L: Log>(log: &mut L, bytes: &[u8]) -> Result<Written, QuorumError>
 {
     match log.append(bytes) {
         Ok(()) => Ok(Written::Done),
+        // Room was made, and the log isn't down.
         Err(_) => Err(QuorumError::Fault),
     }
 }
