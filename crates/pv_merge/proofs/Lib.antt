@@ -1,0 +1,3 @@
+pub mod FittingLemmas
+pub mod HistoryLemmas
+pub mod NumberLemmas
