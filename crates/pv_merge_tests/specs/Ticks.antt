@@ -1,5 +1,5 @@
 -- Histories of sites to which nothing comes but time.
-use Rattle.std.specs.Prelude.{ℕ, List, [], ◌∷◌}
+use Rattle.std.specs.Prelude.{ℕ, []}
 use Rattle.pv_base.specs.Catalog.{Declared}
 use Rattle.pv_base.specs.declared.limits.TheConstants.{MAX_JOURNAL}
 use Rattle.pv_law_histories.specs.History.{Stamped, tick, done}
