@@ -1,10 +1,13 @@
 -- What the calls of a site make of it is something that may happen in the deployment.
-use Rattle.std.proofs.Common.{◌≡◌, ℕ, ◌<◌, Bool, Option, Some, None, Result, Ok, Err, List, ◌++◌, length, refl, sym, ap, ◌∙◌, subst}
-use Rattle.std.specs.Prelude.{option_to_list, ⊤}
+use Rattle.std.proofs.Common.{arith, ◌≡◌, ℕ, zero, suc, ◌<◌, ◌≤◌, Bool, true, false, Option, Some, None, Result, Ok, Err, List, ◌++◌, length, refl, sym, ap, ◌∙◌, subst}
+use Rattle.std.specs.Prelude.{get_or, IsTrue, nat_lt, option_to_list, ⊤}
 use Rattle.std.specs.Option.{option_map}
+use Rattle.std.proofs.lemmas.Bool.{ltb-false}
+use Rattle.std.proofs.lemmas.List.Elements.{All-get_or}
 use Rattle.pv_base.specs.Catalog.{Declared}
+use Rattle.pv_base.specs.declared.limits.TheConstants.{MAX_PROGRAM_ITEMS}
+use Rattle.pv_check.specs.CheckRefusal.{check_refusal}
 use Rattle.pv_disk_model.specs.Disk.{overlaid}
-use Rattle.pv_embed.proofs.RequestLemmas.{can_run}
 use Rattle.pv_embed.specs.Hosted.{Gives, HostedState, Stays, TakesNext, Writes}
 use Rattle.pv_embed.specs.Opening.{HasOpenedOn}
 use Rattle.pv_embed.specs.Outputs.{out_of}
@@ -18,11 +21,15 @@ use Rattle.pv_host.specs.HostFile.{MayLeave}
 use Rattle.pv_host.specs.HostLog.{HostWrite, next_write}
 use Rattle.pv_law_hosted.specs.Calls.{HasSite, IsFromASite}
 use Rattle.pv_law_hosted.specs.Deployment.{Deployment, Station, station_at, with_station}
-use Rattle.pv_law_hosted.specs.DeploymentEvents.{Happens, HappensAt, HappensTo, MayTake, Stands, carried, goes, idles, lets_out, request, stays, takes, time, writes}
-use Rattle.pv_model.specs.Check.{AreItems}
+use Rattle.pv_law_hosted.specs.DeploymentEvents.{Happens, HappensAt, HappensTo, Stands, carried, goes, idles, is_writing, lets_out, request, stays, takes, time, writes}
+use Rattle.pv_law_programs.proofs.DeclaredItems.{declared-items}
+use Rattle.pv_law_world.proofs.NumeralLemmas.{small-numbers}
+use Rattle.pv_law_hosted.specs.Mirrored.{FollowsHosted, FollowsProcess, IsMirrored}
+use Rattle.pv_model.specs.Check.{AreItems, names_item}
+use Rattle.pv_model.specs.Events.{Event}
+use Rattle.pv_model.specs.ProgramText.{IsProgramText}
 use Rattle.pv_model.specs.Syntax.{Program}
-use Rattle.pv_protocol.specs.State as model
-use Rattle.pv_protocol.specs.State.{receive, submit, tick}
+use Rattle.pv_protocol.specs.State.{Setup, receive, submit, tick}
 use Rattle.pv_protocol.specs.WellFormed.{CanRun}
 use Rattle.pv_site.specs.SiteState.{setup_of}
 
@@ -81,19 +88,19 @@ module _ (config : List ℕ) (catalog : Declared) (d : Deployment) (n : ℕ) (si
   site-happens : (next : HostedState) (file : List ℕ) → Stands next → HappensTo catalog d n site old (record old { file = file; hosted = Some next })
       → Happens config catalog d (with_station d n (record old { file = file; hosted = Some next }))
   site-happens next file stands happens =
-      here-happens (record old { file = file; hosted = Some next }) happens (λ s is. let same : next ≡ s = cc in subst Stands same stands)
+      here-happens (record old { file = file; hosted = Some next }) happens (λ s is. subst Stands (some-same is) stands)
 
   next-happens : (next : HostedState) → Stands next → HappensTo catalog d n site old (record old { hosted = Some next })
       → Happens config catalog d (with_station d n (record old { hosted = Some next }))
   next-happens next stands happens =
-      here-happens (record old { hosted = Some next }) happens (λ s is. let same : next ≡ s = cc in subst Stands same stands)
+      here-happens (record old { hosted = Some next }) happens (λ s is. subst Stands (some-same is) stands)
 
   submits-to : (items_of : (program : Program) → (items : List ℕ) × AreItems program items) (next : HostedState) (text : List ℕ) (query : Bool) (result : Result ⊤ SubmitFault)
       → SubmitsBy site next text query result → HappensTo catalog d n site old (record old { hosted = Some next })
   submits-to items_of next text query (Ok done) by =
       let items = items_of by.0 in
       let may : CanRun catalog by.0 =
-      subst (λ (c : Declared). CanRun c by.0) has.declared (can_run site.site.catalog text by.0 query items.0 by.1 items.1 (by.2 items.0 items.1)) in
+      subst (λ (c : Declared). CanRun c by.0) has.declared (accepted-runs site.site.catalog text by.0 query items.0 by.1 items.1 (by.2 items.0 items.1)) in
       takes next (submit by.0) (request by.0 may) by.3
   submits-to items_of next text query (Err (submitting.Text error)) by = stays next (as-it-was site next by.0)
   submits-to items_of next text query (Err (submitting.Program error)) by = stays next (as-it-was site next by.0)
@@ -137,7 +144,11 @@ module _ (config : List ℕ) (catalog : Declared) (d : Deployment) (n : ℕ) (si
       → Happens config catalog d (with_station d n (record old { hosted = Some next; let_out = old.let_out ++ option_to_list (option_map out_of result) }))
   take-happens next result stands by =
       here-happens (record old { hosted = Some next; let_out = old.let_out ++ option_to_list (option_map out_of result) }) (lets_out next result by)
-      (λ s is. let same : next ≡ s = cc in subst Stands same stands)
+      (λ s is. subst Stands (some-same is) stands)
+
+  pub writing-happens : (left : List ℕ) → Stands site → MayLeave site.site.log old.file left → Happens config catalog d (with_station d n (record old { file = left }))
+  writing-happens left stands may =
+      here-happens (record old { file = left }) (is_writing left may) (λ s is. subst Stands (some-same (sym has.here ∙ is)) stands)
 
   pub going-happens : (left : List ℕ) → MayLeave site.site.log old.file left → Happens config catalog d (with_station d n (record old { file = left; hosted = None }))
   going-happens left may = here-happens (record old { file = left; hosted = None }) (goes left may) (λ s is. absurd cc)
@@ -152,6 +163,15 @@ opening-happens config catalog d n site known gone opened stands = record {
   at =
       subst (λ (hosted : Option HostedState). HappensAt config catalog d n (station_at d n) hosted (record (station_at d n) { hosted = Some site })) (sym gone)
       (site, opened, refl);
-  stands = λ s is. let same : site ≡ s = cc in subst Stands same stands;
+  stands = λ s is. subst Stands (some-same is) stands;
   after = refl;
 }
+
+-- The site of a mirrored deployment has its number and its catalog, and stands ready.
+pub mirrored-has : (catalog : Declared) (d : Deployment) (events : List Event) (n : ℕ) (site : HostedState) → IsMirrored (setup_of catalog) d events → n < catalog.sites
+    → (station_at d n).hosted ≡ Some site → HasSite catalog d n site × Stands site
+mirrored-has catalog d events n site mirrored known is =
+    let follows = mirrored.each n known in
+    let process : FollowsHosted (setup_of catalog) d n (station_at d n).file site follows.content follows.rest =
+    subst (λ (h : Option HostedState). FollowsProcess (setup_of catalog) d n (station_at d n).file h follows.content follows.rest) is follows.process in
+    (record { known = known; here = is; me = process.me; declared = ap (λ (setup : Setup). setup.catalog) process.catalog }, process.stands)

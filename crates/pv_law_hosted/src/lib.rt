@@ -64,21 +64,24 @@ pub fn deployments_are_runs()
     one_schedule();
 }
 
-/// What the calls of [`HostedSite`](pv_embed::HostedSite) promise is something that may happen in a deployment. So a program's calls, each by the clause of its contract, make a
-/// deployment that a run mirrors. What the host owes stands before the arrows, and is all that it owes:
+/// What the calls of [`HostedSite`](pv_embed::HostedSite) promise is something that may happen in a deployment. So the calls of programs, each by the clause of its
+/// contract, make a deployment that a run mirrors. What their hosts owe stands before the arrows, and is all that they owe:
 ///
-/// - Bytes that it hands on and that spell a message, one of the sites has let out (`received`).
+/// - Where bytes that it hands on spell a message, one of the sites has let it out (`received`).
 /// - It says that a write is in the file only where it is (`wrote`).
-/// - What its process leaves of the file is the file, or the file with any bytes in the range of the write under way (`gone`).
+/// - A write that hasn't ended, or has failed, leaves the file with any bytes in its range, and so does the end of a process (`is_writing`, `gone`).
 /// - It opens a site on the file that the last process of that number has left (`opened`).
 ///
-/// [`HostedSite::stands_ready`](pv_embed::HostedSite::stands_ready) shows that the site stands.
+/// [`HostedSite::stands_ready`](pv_embed::HostedSite::stands_ready) shows that the site stands after a call. Before it, it has its number, its catalog and what
+/// stands ready, since the deployment is mirrored (`has`). A reading, and a question what to write, change nothing.
 pub fn calls_happen()
-    ensures submitted { (config : List ℕ) (catalog : Declared) (d : Deployment) (n : ℕ) (site next : HostedState) (text : List ℕ) (query : Bool) (result : Result ⊤ SubmitFault) →
-        HasSite catalog d n site → Stands next → SubmitsBy site next text query result →
+    ensures has { (catalog : Declared) (d : Deployment) (events : List Event) (n : ℕ) (site : HostedState) → IsMirrored (setup_of catalog) d events → n < catalog.sites →
+        (station_at d n).hosted ≡ Some site → HasSite catalog d n site × Stands site }
+    ensures submitted { (config : List ℕ) (catalog : Declared) (d : Deployment) (n : ℕ) (site next : HostedState)
+        (text : List ℕ) (query : Bool) (result : Result ⊤ SubmitFault) → HasSite catalog d n site → Stands next → SubmitsBy site next text query result →
         Happens config catalog d (with_station d n (record (station_at d n) { hosted = Some next })) }
-    ensures received { (config : List ℕ) (catalog : Declared) (d : Deployment) (n : ℕ) (site next : HostedState) (bytes : List ℕ) (result : Result ⊤ ReceiveFault) →
-        HasSite catalog d n site → Stands next → IsFromASite d bytes → ReceivesBy site next bytes result →
+    ensures received { (config : List ℕ) (catalog : Declared) (d : Deployment) (n : ℕ) (site next : HostedState)
+        (bytes : List ℕ) (result : Result ⊤ ReceiveFault) → HasSite catalog d n site → Stands next → IsFromASite d bytes → ReceivesBy site next bytes result →
         Happens config catalog d (with_station d n (record (station_at d n) { hosted = Some next })) }
     ensures ticked { (config : List ℕ) (catalog : Declared) (d : Deployment) (n : ℕ) (site next : HostedState) (result : Result ⊤ NoMemory) →
         HasSite catalog d n site → Stands next → Gives site next tick result →
@@ -91,7 +94,11 @@ pub fn calls_happen()
         Happens config catalog d (with_station d n (record (station_at d n) { hosted = Some next })) }
     ensures took { (config : List ℕ) (catalog : Declared) (d : Deployment) (n : ℕ) (site next : HostedState) (result : Option Output) →
         HasSite catalog d n site → Stands next → TakesNext site next result →
-        Happens config catalog d (with_station d n (record (station_at d n) { hosted = Some next; let_out = (station_at d n).let_out ++ option_to_list (option_map out_of result) })) }
+        Happens config catalog d
+        (with_station d n (record (station_at d n) { hosted = Some next; let_out = (station_at d n).let_out ++ option_to_list (option_map out_of result) })) }
+    ensures is_writing { (config : List ℕ) (catalog : Declared) (d : Deployment) (n : ℕ) (site : HostedState) (left : List ℕ) →
+        HasSite catalog d n site → Stands site → MayLeave site.site.log (station_at d n).file left →
+        Happens config catalog d (with_station d n (record (station_at d n) { file = left })) }
     ensures gone { (config : List ℕ) (catalog : Declared) (d : Deployment) (n : ℕ) (site : HostedState) (left : List ℕ) →
         HasSite catalog d n site → MayLeave site.site.log (station_at d n).file left →
         Happens config catalog d (with_station d n (record (station_at d n) { file = left; hosted = None })) }

@@ -1,5 +1,8 @@
-use Rattle.pv_law_hosted.proofs.CallLemmas.{going-happens, idle-happens, opening-happens, receive-happens, submit-happens, take-happens, tick-happens, write-happens}
+use Rattle.pv_law_hosted.proofs.CallLemmas.{going-happens, idle-happens, mirrored-has, opening-happens, receive-happens, submit-happens, take-happens, tick-happens, write-happens, writing-happens}
 use Rattle.pv_law_hosted.proofs.calls_happen.Goals as goal
+
+pub returns-clause-has : goal.returns-clause-has
+returns-clause-has c = mirrored-has
 
 pub returns-clause-submitted : goal.returns-clause-submitted
 returns-clause-submitted c config catalog d n site next text query result has stands by =
@@ -19,6 +22,9 @@ returns-clause-idled c config catalog d n site next has stands is by = idle-happ
 
 pub returns-clause-took : goal.returns-clause-took
 returns-clause-took c config catalog d n site next result has stands by = take-happens config catalog d n site has next result stands by
+
+pub returns-clause-is_writing : goal.returns-clause-is_writing
+returns-clause-is_writing c config catalog d n site left has stands may = writing-happens config catalog d n site has left stands may
 
 pub returns-clause-gone : goal.returns-clause-gone
 returns-clause-gone c config catalog d n site left has may = going-happens config catalog d n site has left may
