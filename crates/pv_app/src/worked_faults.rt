@@ -133,7 +133,7 @@ pub(crate) const PROMISE_FAULTS: &[(&str, &str)] = &[
     ("fail 1 3 lost\n", NOT_PROMISED),
 ];
 
-/// A site that is down stops again in one of the five calls of its start, and is started once more: the sync before its journal is
+/// A site that is down stops again in one of the five calls of its start, and is started once more: the sync before its log is
 /// read, and the four that record its epoch.
 pub(crate) const START: Group = Group {
     before: "\
@@ -218,7 +218,7 @@ pub(crate) const START_STOPS: &[(&str, &str)] = &[
     ("cut 0 6 kept\n", NOT_STOPPED),
 ];
 
-/// A site that is down is started twice, and has no room for a third epoch: each start makes one call, the sync before its journal is read.
+/// A site that is down is started twice, and has no room for a third epoch: each start makes one call, the sync before its log is read.
 pub(crate) const REFUSED_START: Group = Group {
     before: "\
 sites 1

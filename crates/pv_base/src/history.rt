@@ -32,4 +32,18 @@ impl<T> History<T> {
     {
         History { of: PhantomData }
     }
+
+    /// Adds these, in order.
+    pub fn extend(&mut self, items: &[T])
+        ensures { self.new.items ≡ self.old.items ++ items.now }
+    {
+        *self = self.and_all(items);
+    }
+
+    // The same and these, in order.
+    fn and_all(&self, items: &[T]) -> History<T>
+        ensures { result.items ≡ self.now.items ++ items.now }
+    {
+        History { of: PhantomData }
+    }
 }

@@ -1,7 +1,10 @@
 pub mod CaseSplits
+pub mod CasesAt
+pub mod From
 pub mod JoinedCases
 pub mod Joining
 pub mod Meetings
 pub mod NameLimits
 pub mod Names
+pub mod Sides
 pub mod Sure

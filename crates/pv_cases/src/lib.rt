@@ -1,4 +1,4 @@
-//! Lists of cases, however a polyvalue is held: what they name, and their table of values or the first thing that is wrong with them.
+//! Lists of cases, however a polyvalue is held: what they name, their table of values or the first thing that is wrong with them, and choices between two values.
 #![tactic(auto)]
 
 mod copy;
@@ -8,6 +8,7 @@ mod meetings;
 mod names;
 mod sure;
 mod table;
+mod two;
 
 pub use copy::copy_cases;
 pub use difference::first_difference;
@@ -18,3 +19,4 @@ pub use laws::{
 pub use names::{names_of, ordered, push_names};
 pub use sure::is_sure;
 pub use table::{Table, table_of};
+pub use two::{case_under, settled_value, sure_value, two_values};

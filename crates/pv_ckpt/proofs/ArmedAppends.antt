@@ -13,7 +13,7 @@ use Rattle.pv_disk_model.specs.Size.{Contents}
 use Rattle.pv_format.specs.Checkpoint.{Standing}
 use Rattle.pv_journal.specs.Armed.{contents_left, opened_in}
 use Rattle.pv_journal.specs.Journal.{append_calls}
-use Rattle.pv_journal.proofs.ArmedLemmas.{IsAt}
+use Rattle.pv_law_calls.proofs.ArmedLemmas.{IsAt}
 use Rattle.pv_law_checkpoints.specs.Appending.{AreSameRoots, IsStaged, frame_of}
 use Rattle.pv_law_checkpoints.specs.Stages.{Stands, standing_at}
 use Rattle.pv_law_checkpoints.specs.TwoAreas.{IsLog, end_at}

@@ -11,13 +11,13 @@ use Rattle.pv_disk_model.specs.Calls.{Makes, append, make_room, read_all, reserv
 use Rattle.pv_disk_model.specs.Disk.{overlaid}
 use Rattle.pv_disk_model.specs.Size.{Contents}
 use Rattle.pv_format.specs.Checkpoint.{Standing, calls_of, done, first_standing, left_by as left_in, part_of, storing}
-use Rattle.pv_journal.specs.Armed.{nearer}
+use Rattle.pv_law_calls.specs.Armed.{nearer}
 use Rattle.pv_journal.specs.Journal.{append_calls}
 use Rattle.pv_journal.specs.Opening.{SyncsAndReads}
-use Rattle.pv_journal.proofs.ArmedLemmas.{IsAt, Settles, either-way, reads-same, settles}
+use Rattle.pv_law_calls.proofs.ArmedLemmas.{IsAt, Settles, either-way, reads-same, settles}
 use Rattle.pv_law_checkpoints.specs.Roots.{number_at}
 use Rattle.pv_law_checkpoints.specs.Stages.{IsNext, Stands, free_place, standing_at}
-use Rattle.pv_law_checkpoints.specs.TwoAreas.{IsCheckpointed, block_of, formatted}
+use Rattle.pv_law_checkpoints.specs.TwoAreas.{IsTwoAreas, block_of, formatted}
 use Rattle.pv_law_checkpoints.proofs.OneAnswer.{one_log, same_log}
 use Rattle.pv_law_checkpoints.proofs.WorkedLemmas.{formatted_is}
 use Rattle.pv_ckpt.specs.Armed.{AppendsArmed, ComesTo, Holds, HoldsUp, PacksArmed, SyncsArmed}
@@ -235,7 +235,7 @@ module _ (contents : Contents) (standing : Standing) (armed : Option Arm) where
   pub opens-a-log : (old : MemState) (limit : ℕ) (disk : MemState) (place : ℕ) → Holds contents standing armed None old → Opens mem_model old limit (Err (NotOurs disk place)) → ⊥
   opens-a-log old limit disk place holds refused =
       let stands = holds.stands in
-      let there : IsCheckpointed contents old.image.content =
+      let there : IsTwoAreas contents old.image.content =
       record { at = stands.at; packed = stands.packed; later = stands.later; log = stands.log; is = stands.contents_are } in
       (one_log old.image.content).not_both contents place there (refused.3 old.image.content refl)
 

@@ -14,8 +14,8 @@ use Rattle.pv_disk_model.specs.Disk.{Torn, overlaid}
 use Rattle.pv_disk_model.specs.Size.{Contents}
 use Rattle.pv_disk_model.proofs.OverlayLemmas.{Torn-overlaid, Torn-refl, Torn-trans, get_or-overlaid_in}
 use Rattle.pv_format.specs.Checkpoint.{Standing}
-use Rattle.pv_journal.specs.Armed.{nearer}
-use Rattle.pv_journal.proofs.ArmedLemmas.{Fell, IsAt, synced, then-arm, then-none, wrote}
+use Rattle.pv_law_calls.specs.Armed.{nearer}
+use Rattle.pv_law_calls.proofs.ArmedLemmas.{Fell, IsAt, synced, then-arm, then-none, wrote}
 use Rattle.pv_law_checkpoints.specs.Stages.{Stands}
 use Rattle.pv_ckpt.specs.Armed.{ComesTo, Holds}
 

@@ -11,13 +11,13 @@ use Rattle.pv_disk_model.specs.Calls.{DiskCall, Makes}
 use Rattle.pv_disk_model.specs.Disk.{Torn}
 use Rattle.pv_disk_model.specs.Size.{Contents}
 use Rattle.pv_format.specs.Checkpoint.{Part, Standing, calls_of, closing, done, left_by, naming, opening, part_of, shut, storing}
-use Rattle.pv_journal.proofs.ArmedLemmas.{IsAt}
+use Rattle.pv_law_calls.proofs.ArmedLemmas.{IsAt}
 use Rattle.pv_law_checkpoints.specs.Roots.{fields_of, gate_at, number_at, other_root}
 use Rattle.pv_law_checkpoints.specs.Stages.{IsLeft, IsNext, IsPacked, LeadsOn, Stands, made_by, standing_at, writes, writes_at}
 use Rattle.pv_law_checkpoints.specs.TwoAreas.{IsLog, block_of}
 use Rattle.pv_law_checkpoints.proofs.CheckpointLemmas.{closing_keeps, crash_in, leads_on, lies_apart, not_switched}
 use Rattle.pv_ckpt.specs.Armed.{ComesTo}
-use Rattle.pv_ckpt.specs.Checkpointing.{naming_calls, storing_calls}
+use Rattle.pv_ckpt.specs.Checkpointing.{name_and_open_calls, store_and_close_calls}
 use Rattle.pv_ckpt.specs.Writing.{synced_write}
 use Rattle.pv_ckpt.proofs.ArmedPairs.{Waits, after_calls, comes-broken, comes-whole, from-none, left-torn, pair, torn-gate, waits-first}
 use Rattle.pv_ckpt.proofs.PartLemmas.{gate_denies, gate_isnt, gate_tells, standing_is}
@@ -98,7 +98,7 @@ module _ (at place : ℕ) (packed later : Contents) where
         (some : 0 < count) where
       named-on : (bytes : List ℕ) → IsNext naming at place packed later bytes → standing_at bytes at ≡ shut was → Waits count armed
           → (old : MemState) → IsAt bytes (settled_at bytes) (after_calls count armed) None old
-          → Makes MemGoes old (naming_calls (other_root at) (writes naming (number_at bytes at) place contents)) ok new → ComesTo calls armed (contents, done was) LeftOf ok new
+          → Makes MemGoes old (name_and_open_calls (other_root at) (writes naming (number_at bytes at) place contents)) ok new → ComesTo calls armed (contents, done was) LeftOf ok new
       named-on bytes next stands waits old is makes =
           let o = other_root at in
           let fields = writes naming (number_at bytes at) place contents in
@@ -143,20 +143,20 @@ module _ (at place : ℕ) (packed later : Contents) where
     lead = leads_on storing at place packed later bytes next
 
     abbrev Calls : Bool → List DiskCall
-    Calls other_open = storing_calls (other_root at) other_open place block ++ naming_calls (other_root at) (fields_of (number_at bytes at + 1) place (length (block_of contents)))
+    Calls other_open = store_and_close_calls (other_root at) other_open place block ++ name_and_open_calls (other_root at) (fields_of (number_at bytes at + 1) place (length (block_of contents)))
 
     abbrev Comes : Bool → Type 0
     Comes other_open = ComesTo (calls_of other_open) armed (contents, done was) (LeftOf armed other_open was ok new) ok new
 
     -- The fields are those that the bytes before them ask for.
     fields-for : (now : List ℕ) → number_at now at ≡ number_at bytes at → (mid : MemState)
-        → Makes MemGoes mid (naming_calls (other_root at) (fields_of (number_at bytes at + 1) place (length (block_of contents)))) ok new
-        → Makes MemGoes mid (naming_calls (other_root at) (writes naming (number_at now at) place contents)) ok new
-    fields-for now same mid makes = subst (λ n. Makes MemGoes mid (naming_calls (other_root at) (writes naming n place contents)) ok new) (sym same) makes
+        → Makes MemGoes mid (name_and_open_calls (other_root at) (fields_of (number_at bytes at + 1) place (length (block_of contents)))) ok new
+        → Makes MemGoes mid (name_and_open_calls (other_root at) (writes naming (number_at now at) place contents)) ok new
+    fields-for now same mid makes = subst (λ n. Makes MemGoes mid (name_and_open_calls (other_root at) (writes naming n place contents)) ok new) (sym same) makes
 
     stored-closed : gate_at bytes (other_root at) ≢ 1 → Makes MemGoes old (Calls false) ok new → Comes false
     stored-closed closed makes =
-        elim (pair place block bytes (naming_calls (other_root at) (fields_of (number_at bytes at + 1) place (length (block_of contents)))) old new ok 0 armed (from-none bytes (settled_at bytes) old armed is) makes) [
+        elim (pair place block bytes (name_and_open_calls (other_root at) (fields_of (number_at bytes at + 1) place (length (block_of contents)))) old new ok 0 armed (from-none bytes (settled_at bytes) old armed is) makes) [
           | inl fires ↦
               comes-broken 6 (contents, done was) (LeftOf armed false was ok new) ok new 0 armed (written_at (settled_at bytes) place (length block)) stored (omega arith) (waits-first armed) fires
               (λ arm late soon. left-of armed false was ok new storing bytes next (λ mode. refl) arm (grind (arith, nat_tests, soon)))
@@ -169,7 +169,7 @@ module _ (at place : ℕ) (packed later : Contents) where
     stored-opened : gate_at bytes (other_root at) ≡ 1 → Makes MemGoes old (Calls true) ok new → Comes true
     stored-opened opened makes =
         let o = other_root at in
-        let naming_after = naming_calls o (fields_of (number_at bytes at + 1) place (length (block_of contents))) in
+        let naming_after = name_and_open_calls o (fields_of (number_at bytes at + 1) place (length (block_of contents))) in
         let closed = made_by closing at place contents stored in
         elim (pair place block bytes (synced_write o (0 ∷ []) ++ naming_after) old new ok 0 armed (from-none bytes (settled_at bytes) old armed is) makes) [
           | inl fires ↦

@@ -1,20 +1,18 @@
 -- A checkpoint: a reading, and a switch to the block that was read.
-use Rattle.std.proofs.Common.{◌≡◌, ◌⊎◌, inl, inr, ℕ, ◌-◌, ◌^◌, ◌<◌, ◌+◌, ◌++◌, Bool, true, false, List, Some, Result, Ok, Err, length, arith, refl, sym, ◌∙◌, ap, subst}
-use Rattle.std.specs.Prelude.{is_some}
+use Rattle.std.proofs.Common.{◌≡◌, inl, inr, ℕ, ◌-◌, ◌^◌, ◌<◌, ◌+◌, ◌++◌, Bool, true, false, List, Some, Result, Ok, Err, length, arith, refl, sym, ◌∙◌, ap, subst}
 use Rattle.std.proofs.lemmas.Bool.{true≢false}
 use Rattle.pv_base.specs.Fault.{Rose}
 use Rattle.pv_disk_model.specs.Calls.{Makes}
 use Rattle.pv_disk_model.specs.DiskModel.{DiskModel}
-use Rattle.pv_disk_model.specs.Disk.{LeavesOnly, Only}
 use Rattle.pv_disk_model.specs.Size.{Contents}
 use Rattle.pv_disk_model.proofs.DiskLemmas.{LeavesOnly-trans}
-use Rattle.pv_journal.specs.Reading.{Looks, LooksOn}
-use Rattle.pv_journal.proofs.LookLemmas.{still_left}
+use Rattle.pv_law_calls.specs.Reading.{Looks, LooksOn}
+use Rattle.pv_law_calls.proofs.LookLemmas.{still_left}
 use Rattle.pv_format.specs.Checkpoint.{Standing}
 use Rattle.pv_law_checkpoints.specs.Roots.{other_root}
 use Rattle.pv_law_checkpoints.specs.Stages.{free_place, IsPacked, Stands}
 use Rattle.pv_law_checkpoints.specs.TwoAreas.{block_of}
-use Rattle.pv_ckpt.specs.Checkpointing.{CheckpointMakes, Checkpoints, HasFailed, IsDone, IsLeftInAll, IsUnchanged, KeepsContents, SwitchMakes, SwitchesTo, switch_calls}
+use Rattle.pv_ckpt.specs.Checkpointing.{CheckpointMakes, Checkpoints, IsLeftInAll, KeepsContents, SwitchMakes, SwitchesTo, switch_calls}
 use Rattle.pv_ckpt.specs.CkptLog.{IsIntact}
 use Rattle.pv_ckpt.specs.Roots.{IsHeld}
 use Rattle.pv_ckpt.specs.declared.ckpt_error.CkptError.{CkptError}

@@ -1,5 +1,5 @@
 -- What a crash leaves of each call that makes an empty log.
-use Rattle.std.proofs.Common.{◌≡◌, inl, inr, ℕ, false, List, [], ◌∷◌, Result, Err, length, refl, sym, subst}
+use Rattle.std.proofs.Common.{◌≡◌, inl, ℕ, false, List, [], ◌∷◌, Result, Err, length, refl, sym, subst}
 use Rattle.pv_base.specs.BigEndian.{big_endian}
 use Rattle.pv_base.specs.Fault.{Rose}
 use Rattle.pv_base.specs.declared.failure.Failed.{Failed as Fault}
@@ -11,7 +11,7 @@ use Rattle.pv_disk_model.proofs.OverlayLemmas.{Torn-refl}
 use Rattle.pv_disk.specs.DiskAnswers.{ReservesOnDisk}
 use Rattle.pv_disk.specs.declared.disk_error.DiskError.{DiskError}
 use Rattle.pv_disk.specs.declared.disk_error.DiskError.TheVariants.{Failed, NoMemory}
-use Rattle.pv_journal.proofs.LookLemmas.{still_left}
+use Rattle.pv_law_calls.proofs.LookLemmas.{still_left}
 use Rattle.pv_law_checkpoints.specs.TwoAreas.{formatted}
 use Rattle.pv_ckpt.specs.Opening.{Formatted, Formats}
 use Rattle.pv_ckpt.specs.Writing.{WritesSynced}

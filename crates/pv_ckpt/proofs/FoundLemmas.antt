@@ -1,20 +1,25 @@
 -- The log that was found: of the disk's bytes where they are known, and of bytes of which all was read that was given.
-use Rattle.std.proofs.Common.{◌≡◌, ◌≢◌, inl, inr, ℕ, ◌+◌, ◌<◌, ◌≤◌, min, List, [], ◌∷◌, ◌++◌, Some, length, take, drop, refl, sym, ◌∙◌, ap, arith, subst, length-append, length-take}
+use Rattle.std.proofs.Common.{◌≡◌, ◌≢◌, inl, inr, ℕ, ◌+◌, ◌<◌, ◌≤◌, min, List, [], ◌∷◌, ◌++◌, length, take, drop, refl, sym, ◌∙◌, ap, arith, subst, length-append, length-take}
 use Rattle.pv_disk_model.specs.DiskModel.{DiskModel}
 use Rattle.pv_disk_model.specs.Disk.{Gives}
 use Rattle.pv_disk_model.specs.Size.{Contents}
 use Rattle.pv_format.specs.Journal.{records_of, AreShort, IsCut}
-use Rattle.pv_journal.proofs.GivenLemmas.{gives_more}
+use Rattle.pv_law_calls.proofs.GivenLemmas.{gives_more}
 use Rattle.pv_law_journal.proofs.Bodies.{frame_length}
 use Rattle.pv_law_checkpoints.specs.TwoAreas.{block_of, IsNotOurs}
-use Rattle.pv_ckpt.specs.Reading.{BeginsAt, GaveNone, IsInRange, IsReadOf, IsReadShort, LacksBlock}
+use Rattle.pv_ckpt.specs.Reading.{BeginsAt, IsInRange, IsReadOf, IsReadShort, LacksBlock}
 use Rattle.pv_ckpt.specs.Roots.{IsHeld, IsRootOf}
 use Rattle.pv_ckpt.specs.declared.roots.Root.{Root}
 use Rattle.pv_ckpt.proofs.FrontLemmas.{front_same}
 use Rattle.pv_ckpt.proofs.ReadLemmas.{behind_front, cut_is, held_is, laid, laid_area, laid_front, laid_read, laid_size, none_here, none_read}
 
-module _ {D : Type 0} (M : DiskModel D) (d0 d1 d2 d3 : D) (front : List ℕ) (root : Root) (root_is : IsRootOf front root) (few : length front ≤ 59) (gave : Gives M d0 d1 front) where
-  whole : length front ≡ 59
+-- Three reads, one after another.
+pub gives_three : {D : Type 0} (M : DiskModel D) (first second third last : D) (a b c : List ℕ) → Gives M first second a → Gives M second third b → Gives M third last c
+    → Gives M first last (a ++ (b ++ c))
+gives_three M first second third last a b c gave_a gave_b gave_c = gives_more M first second last a (b ++ c) gave_a (gives_more M second third last b c gave_b gave_c)
+
+module _ (front : List ℕ) (root : Root) (root_is : IsRootOf front root) (few : length front ≤ 59) where
+  pub whole : length front ≡ 59
   whole = omega (arith, root_is.starts.long, few)
 
   -- The block and the records, as they stand in some bytes.
@@ -48,15 +53,10 @@ module _ {D : Type 0} (M : DiskModel D) (d0 d1 d2 d3 : D) (front : List ℕ) (ro
           place rest refl cut short place_is
           ))))
 
-    -- What the reads gave.
-    module _ (block_gave : Gives M d1 d2 (block_of packed)) (tail : List ℕ) (some : 0 < length tail) (tail_gave : Gives M d2 d3 (records_of later ++ tail)) where
+    -- What was read, whatever it was read of.
+    module _ (tail : List ℕ) (some : 0 < length tail) where
       walked : List ℕ
       walked = block_of packed ++ (records_of later ++ tail)
-
-      all_gave : Gives M d0 d3 (front ++ walked)
-      unfolding walked
-      all_gave =
-          gives_more M d0 d1 d3 front (block_of packed ++ (records_of later ++ tail)) gave (gives_more M d1 d2 d3 (block_of packed) (records_of later ++ tail) block_gave tail_gave)
 
       bytes_are : List ℕ
       bytes_are = laid front walked root root_is whole in_range.behind_roots
@@ -85,31 +85,26 @@ module _ {D : Type 0} (M : DiskModel D) (d0 d1 d2 d3 : D) (front : List ℕ) (ro
       unfolding bytes_are
       read_of = laid_read front walked root root_is whole in_range.behind_roots long_enough
 
-      pub found_given : (end gate : ℕ) → tail ≡ gate ∷ [] → AreShort later → gate ≢ 1 → end ≡ root.place + root.size + length (records_of later)
-          → (read : List ℕ) × Gives M d0 d3 read × ((bytes : List ℕ) × IsReadOf bytes read × IsHeld bytes root end packed later)
-      found_given end gate tail_is short closed end_is = (
-        front ++ walked,
-        all_gave,
-        (
-          bytes_are,
-          read_of,
-          held_is front bytes_are root root_is front_alike long_enough packed later in_range.behind_roots in_range.in_range fits size_is tail area some
-              end gate [] tail_is closed short end_is,
-        ),
+      pub found_read : (end gate : ℕ) → tail ≡ gate ∷ [] → AreShort later → gate ≢ 1 → end ≡ root.place + root.size + length (records_of later)
+          → (bytes : List ℕ) × IsReadOf bytes (front ++ (block_of packed ++ (records_of later ++ tail))) × IsHeld bytes root end packed later
+      unfolding walked
+      found_read end gate tail_is short closed end_is = (
+        bytes_are,
+        read_of,
+        held_is front bytes_are root root_is front_alike long_enough packed later in_range.behind_roots in_range.in_range fits size_is tail area some
+            end gate [] tail_is closed short end_is,
       )
 
-      pub cut_given : (place : ℕ) (rest : List ℕ) → tail ≡ 1 ∷ rest → length rest ≤ 4 → AreShort later → place ≡ root.place + root.size + length (records_of later) → GaveNone M d0 d3 place
-      cut_given place rest tail_is short_rest short place_is = (
-        front ++ walked,
-        all_gave,
-        (
-          bytes_are,
-          read_of,
-          inr (inr (inr (inr (
-              cut_is front bytes_are root root_is front_alike long_enough packed later in_range.behind_roots in_range.in_range fits size_is tail area some
-              place rest tail_is (λ content more gate fits_too frame. absurd (omega (arith, short_rest, (frame_length rest content more gate fits_too frame).2))) short place_is
-              )))),
-        ),
+      pub cut_read : (place : ℕ) (rest : List ℕ) → tail ≡ 1 ∷ rest → length rest ≤ 4 → AreShort later → place ≡ root.place + root.size + length (records_of later)
+          → (bytes : List ℕ) × IsReadOf bytes (front ++ (block_of packed ++ (records_of later ++ tail))) × IsNotOurs bytes place
+      unfolding walked
+      cut_read place rest tail_is short_rest short place_is = (
+        bytes_are,
+        read_of,
+        inr (inr (inr (inr (
+            cut_is front bytes_are root root_is front_alike long_enough packed later in_range.behind_roots in_range.in_range fits size_is tail area some
+            place rest tail_is (λ content more gate fits_too frame. absurd (omega (arith, short_rest, (frame_length rest content more gate fits_too frame).2))) short place_is
+            )))),
       )
 
   -- There is no block.
@@ -121,7 +116,7 @@ module _ {D : Type 0} (M : DiskModel D) (d0 d1 d2 d3 : D) (front : List ℕ) (ro
       none_here front bytes root root_is (front_same front bytes size size_told front_is 58 (omega (arith, whole))) (omega (arith, whole, front_count, size_told)) lacks
       )))))
 
-  pub lacks_given : (place : ℕ) (read : List ℕ) → place ≡ root.at → Gives M d1 d2 read → IsReadShort read root → GaveNone M d0 d2 place
-  lacks_given place read place_is gives short =
+  pub lacks_read : (place : ℕ) (read : List ℕ) → place ≡ root.at → IsReadShort read root → (bytes : List ℕ) × IsReadOf bytes (front ++ read) × IsNotOurs bytes place
+  lacks_read place read place_is short =
       let none = none_read front read root root_is whole short in
-      (front ++ read, gives_more M d0 d1 d2 front read gave gives, (none.0, none.1, subst (IsNotOurs none.0) (sym place_is) (inr (inr (inr (inl none.2))))))
+      (none.0, none.1, subst (IsNotOurs none.0) (sym place_is) (inr (inr (inr (inl none.2)))))

@@ -1,10 +1,10 @@
 -- What the bytes that a log begins with say of the whole of it.
-use Rattle.std.proofs.Common.{◌≡◌, ◌≢◌, inl, inr, ℕ, ◌+◌, ◌<◌, ◌≤◌, ◌==◌, min, List, ◌++◌, length, take, drop, slice_index, get_or, arith, refl, sym, ◌∙◌, ap, subst, length-take, get_or-take}
+use Rattle.std.proofs.Common.{◌≡◌, inl, inr, ℕ, ◌+◌, ◌<◌, ◌≤◌, ◌==◌, min, List, length, take, drop, slice_index, arith, sym, ◌∙◌, ap, length-take, get_or-take}
 use Rattle.std.proofs.lemmas.Bool.{cases_lt}
 use Rattle.std.proofs.lemmas.List.{take-take}
 use Rattle.pv_base.specs.BigEndian.{number_of}
-use Rattle.pv_law_checkpoints.specs.Roots.{start, gate_at, number_at, place_at, size_at, other_root, IsInForce, IsRoot, IsSameRoot}
-use Rattle.pv_law_checkpoints.specs.TwoAreas.{Starts, HasOtherStart, HasNoRoots, HasNoOpenRoot, IsNotOurs}
+use Rattle.pv_law_checkpoints.specs.Roots.{gate_at, other_root, IsRoot, IsSameRoot}
+use Rattle.pv_law_checkpoints.specs.TwoAreas.{Starts, HasOtherStart, HasNoOpenRoot, IsNotOurs}
 use Rattle.pv_law_checkpoints.proofs.RootLemmas.{in_force_kept, other_is_root, IsRoot-le}
 use Rattle.pv_law_checkpoints.proofs.Slices.{fronts_agree, slices_agree, places_agree}
 use Rattle.pv_ckpt.specs.Roots.{IsRootOf, IsRootless, begins_otherwise, ends_early, none_open}

@@ -1,10 +1,10 @@
 -- What calls that write nothing leave of a log in two areas.
-use Rattle.std.proofs.Common.{◌≡◌, ⊎_elim, ℕ, ◌+◌, ◌≤◌, Bool, true, false, List, Option, Some, None, arith, refl, sym, ◌∙◌, ap}
+use Rattle.std.proofs.Common.{◌≡◌, ⊎_elim, ℕ, ◌≤◌, true, false, List, Option, Some, None, arith, refl, ap}
 use Rattle.std.specs.Prelude.{is_some, option_and_then, vec_capacity}
 use Rattle.pv_disk_model.specs.DiskModel.{DiskModel}
 use Rattle.pv_disk_model.specs.Disk.{LeavesOnly}
 use Rattle.pv_disk_model.specs.Log.{Keeps}
-use Rattle.pv_journal.proofs.LookLemmas.{still_left}
+use Rattle.pv_law_calls.proofs.LookLemmas.{still_left}
 use Rattle.pv_law_checkpoints.specs.LogContents.{log_contents_of}
 use Rattle.pv_ckpt.specs.CkptLog.{HasRoom, IsIntact}
 use Rattle.pv_ckpt.specs.CkptModel.{ckpt_model}

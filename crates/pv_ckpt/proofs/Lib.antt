@@ -10,6 +10,7 @@ mod FramedLemmas
 mod FrontLemmas
 mod KeepLemmas
 mod LogLemmas
+mod MeasureLemmas
 mod OpenLemmas
 mod PackLemmas
 mod PartLemmas

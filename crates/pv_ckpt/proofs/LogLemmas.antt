@@ -1,5 +1,5 @@
 -- What an append does to a log in two areas as a log.
-use Rattle.std.proofs.Common.{◌≡◌, inl, inr, ⊎_elim, ℕ, ◌+◌, ◌==◌, Bool, true, false, List, [], ◌∷◌, ◌++◌, Option, Some, None, Result, Ok, length, arith, refl, sym, ◌∙◌, ap, subst, append_assoc, length-append}
+use Rattle.std.proofs.Common.{◌≡◌, inl, inr, ⊎_elim, ℕ, ◌+◌, ◌==◌, false, List, [], ◌∷◌, ◌++◌, Option, Some, None, Result, Ok, length, arith, refl, sym, ◌∙◌, ap, subst, append_assoc, length-append}
 use Rattle.std.specs.Prelude.{is_some, option_and_then}
 use Rattle.std.proofs.lemmas.List.Sums.{sum_by-append, sum_by-cons}
 use Rattle.pv_base.specs.declared.failure.Failed.{Failed as Fault}
@@ -8,13 +8,12 @@ use Rattle.pv_disk_model.specs.Disk as disk
 use Rattle.pv_disk_model.specs.Size.{Contents, size_of}
 use Rattle.pv_disk_model.specs.Log.{IsBeforeOrAfter, LeavesOnly, Adds, MayAdd}
 use Rattle.pv_format.specs.Journal.{framed, record_of, records_of}
-use Rattle.pv_journal.proofs.LookLemmas.{still_left, known_before}
-use Rattle.pv_journal.proofs.LogLemmas.{not_down}
-use Rattle.pv_journal.proofs.ReadLemmas.{records_of-push, length-record_of}
+use Rattle.pv_law_calls.proofs.LookLemmas.{known_before, still_left}
+use Rattle.pv_law_calls.proofs.RecordLemmas.{length-record_of, records_of-push}
 use Rattle.pv_law_checkpoints.specs.Appending.{AreSameRoots, IsWithOrWithout}
 use Rattle.pv_law_checkpoints.specs.LogContents.{log_contents_of}
-use Rattle.pv_law_checkpoints.specs.Roots.{other_root, IsRoot}
-use Rattle.pv_law_checkpoints.specs.TwoAreas.{end_at, IsCheckpointed, IsLog, IsNotOurs}
+use Rattle.pv_law_checkpoints.specs.Roots.{IsRoot}
+use Rattle.pv_law_checkpoints.specs.TwoAreas.{IsTwoAreas, IsLog, IsNotOurs}
 use Rattle.pv_law_checkpoints.proofs.ContentsLemmas.{log_contents_of-is, log_contents_of-log}
 use Rattle.pv_law_checkpoints.proofs.OneAnswer.{one_contents, one_log}
 use Rattle.pv_ckpt.specs.Appending.{StandsFor, IsReady, WritesRecord}
@@ -25,14 +24,14 @@ use Rattle.pv_ckpt.specs.declared.ckpt_log.CkptLog.{CkptLog}
 use Rattle.pv_ckpt.specs.declared.roots.Root.{Root}
 
 -- A log has contents.
-pub checkpointed : (at : ℕ) (packed later : Contents) (bytes : List ℕ) → IsLog at packed later bytes → IsCheckpointed (packed ++ later) bytes
+pub checkpointed : (at : ℕ) (packed later : Contents) (bytes : List ℕ) → IsLog at packed later bytes → IsTwoAreas (packed ++ later) bytes
 checkpointed at packed later bytes log = record { at = at; packed = packed; later = later; log = log; is = refl }
 
 pub contents_are : (at : ℕ) (packed later : Contents) (bytes : List ℕ) → IsLog at packed later bytes → log_contents_of bytes ≡ Some (packed ++ later)
 contents_are at packed later bytes log = log_contents_of-is (packed ++ later) bytes (checkpointed at packed later bytes log)
 
 -- A disk that reads as no log where it has to be one tells nothing.
-pub silent : (content : Option (List ℕ)) (place : ℕ) → ((bytes : List ℕ) → content ≡ Some bytes → (contents : Contents) × IsCheckpointed contents bytes)
+pub silent : (content : Option (List ℕ)) (place : ℕ) → ((bytes : List ℕ) → content ≡ Some bytes → (contents : Contents) × IsTwoAreas contents bytes)
     → ((bytes : List ℕ) → content ≡ Some bytes → IsNotOurs bytes place) → is_some (option_and_then log_contents_of content) ≡ false
 silent None place log none = refl
 silent (Some bytes) place log none = let is = log bytes refl in absurd ((one_log bytes).not_both is.0 place is.1 (none bytes refl))

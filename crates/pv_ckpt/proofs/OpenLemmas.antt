@@ -1,7 +1,6 @@
 -- The log that was opened, and what a reading answers.
-use Rattle.std.proofs.Common.{◌≡◌, ℕ, ◌+◌, ◌<◌, ◌≤◌, true, false, List, [], ◌∷◌, ◌++◌, Some, Result, Ok, Err, Vec, Global, length, map, take, get_or, arith, refl, sym, ◌∙◌, ap, subst}
+use Rattle.std.proofs.Common.{◌≡◌, ℕ, ◌≤◌, true, false, List, Some, Result, Ok, Err, length, arith, refl, sym, ◌∙◌, subst}
 use Rattle.std.specs.Prelude.{IsErrOf, is_err, is_ok}
-use Rattle.std.proofs.lemmas.List.{map_push, take_more}
 use Rattle.pv_base.specs.declared.failure.Failed.{Failed as Fault}
 use Rattle.pv_disk_model.specs.Calls.{sync}
 use Rattle.pv_disk_model.proofs.DiskLemmas.{LeavesOnly-trans}
@@ -9,36 +8,35 @@ use Rattle.pv_base.specs.declared.limits.TheConstants.{MAX_JOURNAL, MAX_LENGTH}
 use Rattle.pv_base.proofs.AnswerLemmas.{answered}
 use Rattle.pv_disk_model.specs.DiskModel.{DiskModel}
 use Rattle.pv_disk_model.specs.Disk.{Only, Syncs}
-use Rattle.pv_disk_model.specs.Size.{Contents, size_of}
+use Rattle.pv_disk_model.specs.Size.{Contents}
 use Rattle.pv_disk.specs.declared.disk_error.LookError.{LookError}
 use Rattle.pv_disk.specs.declared.disk_error.LookError.TheVariants.{Failed, NotOurs, NoMemory}
 use Rattle.pv_journal.specs.Opening.{Opened, contents_in, place_in}
-use Rattle.pv_journal.specs.Reading.{LooksBy, LooksOn}
-use Rattle.pv_journal.proofs.LookLemmas.{still_left}
-use Rattle.pv_law_checkpoints.specs.TwoAreas.{IsCheckpointed, IsNotOurs}
+use Rattle.pv_law_calls.specs.Reading.{LooksBy, LooksOn}
+use Rattle.pv_law_calls.proofs.LookLemmas.{still_left}
+use Rattle.pv_law_checkpoints.specs.TwoAreas.{IsTwoAreas, IsNotOurs}
 use Rattle.pv_law_checkpoints.proofs.Blocks.{block_size, records_size}
 use Rattle.pv_law_checkpoints.proofs.CheckpointLemmas.{block_length}
 use Rattle.pv_law_checkpoints.proofs.OneAnswer.{one_log}
 use Rattle.pv_ckpt.specs.CkptLog.{IsIntact, IsLogOf}
 use Rattle.pv_ckpt.specs.Opening.{AnswersOf, AnswersOfReads}
-use Rattle.pv_ckpt.specs.Reading.{GaveFound, GaveNone, IsFound, IsReadOf}
-use Rattle.pv_ckpt.specs.Roots.{IsHeld}
+use Rattle.pv_ckpt.specs.Outline.{GaveOutline}
+use Rattle.pv_ckpt.specs.Reading.{GaveFound, GaveNone, IsFound}
 use Rattle.pv_ckpt.specs.declared.ckpt_log.CkptLog.{CkptLog}
 use Rattle.pv_ckpt.specs.declared.reading.Found.{Found}
-use Rattle.pv_ckpt.specs.declared.roots.Root.{Root}
-use Rattle.pv_ckpt.proofs.LogLemmas.{checkpointed, size_of-push}
+use Rattle.pv_ckpt.proofs.LogLemmas.{checkpointed}
 
 -- The contents of a log that was found are those of the bytes.
 pub found_answer : (bytes : List ℕ) (found : Found) → IsFound bytes found → AnswersOf bytes (Ok found.contents)
 found_answer bytes found (packed, later, held, is) =
-    let there : IsCheckpointed (contents_in found.contents) bytes = subst (λ (c : Contents). IsCheckpointed c bytes) (sym is) (checkpointed found.root.at packed later bytes held.log) in
-    answered (λ contents. IsCheckpointed contents bytes) (IsNotOurs bytes) (one_log bytes) contents_in place_in (Ok found.contents) there tt
+    let there : IsTwoAreas (contents_in found.contents) bytes = subst (λ (c : Contents). IsTwoAreas c bytes) (sym is) (checkpointed found.root.at packed later bytes held.log) in
+    answered (λ contents. IsTwoAreas contents bytes) (IsNotOurs bytes) (one_log bytes) contents_in place_in (Ok found.contents) there tt
 
 pub refused_answer : (bytes : List ℕ) (e : LookError) → ((place : ℕ) → IsErrOf {T = Found} (Err e) (NotOurs place) → IsNotOurs bytes place) → AnswersOf bytes (Err e)
-refused_answer bytes Failed none = answered (λ contents. IsCheckpointed contents bytes) (IsNotOurs bytes) (one_log bytes) contents_in place_in (Err Failed) tt tt
+refused_answer bytes Failed none = answered (λ contents. IsTwoAreas contents bytes) (IsNotOurs bytes) (one_log bytes) contents_in place_in (Err Failed) tt tt
 refused_answer bytes (NotOurs place) none =
-    answered (λ contents. IsCheckpointed contents bytes) (IsNotOurs bytes) (one_log bytes) contents_in place_in (Err (NotOurs place)) tt (none place refl)
-refused_answer bytes NoMemory none = answered (λ contents. IsCheckpointed contents bytes) (IsNotOurs bytes) (one_log bytes) contents_in place_in (Err NoMemory) tt tt
+    answered (λ contents. IsTwoAreas contents bytes) (IsNotOurs bytes) (one_log bytes) contents_in place_in (Err (NotOurs place)) tt (none place refl)
+refused_answer bytes NoMemory none = answered (λ contents. IsTwoAreas contents bytes) (IsNotOurs bytes) (one_log bytes) contents_in place_in (Err NoMemory) tt tt
 
 module _ {D : Type 0} (M : DiskModel D) (old new : D) where
   pub found_of_reads : (found : Found) → GaveFound M old new found → AnswersOfReads M old new (Ok found.contents)
@@ -54,7 +52,7 @@ module _ {D : Type 0} (M : DiskModel D) (old new : D) where
         (
           bytes,
           gave.2.1,
-          answered (λ contents. IsCheckpointed contents bytes) (IsNotOurs bytes) (one_log bytes) contents_in place_in (Err (NotOurs place)) tt gave.2.2,
+          answered (λ contents. IsTwoAreas contents bytes) (IsNotOurs bytes) (one_log bytes) contents_in place_in (Err (NotOurs place)) tt gave.2.2,
         ),
       )
   refused_of_reads NoMemory none = tt
@@ -65,36 +63,25 @@ module _ {D : Type 0} (M : DiskModel D) (old new : D) where
   passed_on X Y (NotOurs place) looks = looks
   passed_on X Y NoMemory looks = looks
 
-module _ {D : Type 0} (M : DiskModel D) (log : CkptLog D) (found : Found) (root : log.root ≡ found.root) (end : log.end ≡ found.end) (long : log.length ≡ size_of (contents_in found.contents)) where
-  -- The bytes of the log that was found are those of the log that was opened.
-  pub opened_is : (bytes : List ℕ) → IsFound bytes found → IsLogOf bytes log
-  opened_is bytes (packed, later, held, is) =
-      let here : IsHeld bytes log.root log.end packed later = subst (λ (r : Root). IsHeld bytes r log.end packed later) (sym root) (subst (λ n. IsHeld bytes found.root n packed later) (sym end) held) in
-      (packed, later, here, long ∙ ap size_of is)
-
-  -- And it is intact.
-  pub opened_intact : (old : D) → log.length ≤ MAX_LENGTH → log.limit ≤ MAX_JOURNAL → GaveFound M old log.disk found
-      → ((bytes : List ℕ) → M.content log.disk ≡ Some bytes → IsFound bytes found) → ((bytes : List ℕ) → M.content log.disk ≡ Some bytes → Only bytes (M.may_leave log.disk)) → IsIntact M log
-  opened_intact old bounded limited (read, gives, (bytes, read_of, found_is)) known durable =
-      let is = opened_is bytes found_is in
-      let packed = is.0 in
-      let later = is.1 in
-      let held = is.2 in
-      let place = held.root_is.place in
-      let size = held.root_is.size in
-      let block = block_length bytes log.root.at packed held.log.block in
-      record {
-        starts = omega (arith, is.3, records_size packed later);
-        bounded = bounded;
-        limited = limited;
-        root = held.log.in_force.root;
-        behind_roots = omega (arith, place, held.log.block.behind_roots);
-        in_range = omega (arith, place, held.log.block.in_range);
-        packed = omega (arith, place, size, held.end_is);
-        short = omega (arith, place, size, held.end_is, is.3, block, block_size packed, records_size packed later);
-        at_rest = λ is_up now at_now. opened_is now (known now at_now);
-        durable = λ is_up now at_now. durable now at_now;
-      }
+-- The log that was opened is intact.
+pub opened_intact : {D : Type 0} (M : DiskModel D) (log : CkptLog D) (old : D) → log.length ≤ MAX_LENGTH → log.limit ≤ MAX_JOURNAL → GaveOutline M old log.disk log.root log.end log.length
+    → ((bytes : List ℕ) → M.content log.disk ≡ Some bytes → IsLogOf bytes log) → ((bytes : List ℕ) → M.content log.disk ≡ Some bytes → Only bytes (M.may_leave log.disk)) → IsIntact M log
+opened_intact M log old bounded limited (read, gives, (bytes, packed, later, outlined, held, size_is)) known durable =
+    let place = held.root_is.place in
+    let size = held.root_is.size in
+    let block = block_length bytes log.root.at packed held.log.block in
+    record {
+      starts = omega (arith, size_is, records_size packed later);
+      bounded = bounded;
+      limited = limited;
+      root = held.log.in_force.root;
+      behind_roots = omega (arith, place, held.log.block.behind_roots);
+      in_range = omega (arith, place, held.log.block.in_range);
+      packed = omega (arith, place, size, held.end_is);
+      short = omega (arith, place, size, held.end_is, size_is, block, block_size packed, records_size packed later);
+      at_rest = λ is_up now at_now. known now at_now;
+      durable = λ is_up now at_now. durable now at_now;
+    }
 
 -- A sync that succeeded, and calls that only read after it.
 module _ {D : Type 0} (M : DiskModel D) (old mid : D) where
@@ -115,12 +102,3 @@ module _ {D : Type 0} (M : DiskModel D) (old mid : D) where
   pub durable_after : (new : D) → Syncs M {X = Unit {0}} old mid (Ok tt) → LooksOn M mid new → (bytes : List ℕ) → M.content new ≡ Some bytes → Only bytes (M.may_leave new)
   durable_after new syncs looks bytes now left may =
       syncs.durable bytes (sym (looks.1 ∙ syncs.observes.content) ∙ now) left (still_left M mid new (M.may_leave mid) looks.0.any_moment left may)
-
--- One more content was counted.
-pub sized_more : (contents : List (Vec ℕ Global)) (index : ℕ) (content : Vec ℕ Global) → index < length contents → content ≡ get_or contents index content
-    → size_of (map (λ (it : Vec ℕ Global). it.items) (take (index + 1) contents)) ≡ size_of (map (λ (it : Vec ℕ Global). it.items) (take index contents)) + (5 + length content.items)
-sized_more contents index content inside is =
-    let f = λ (it : Vec ℕ Global). it.items in
-    let grown : map f (take (index + 1) contents) ≡ map f (take index contents) ++ content.items ∷ [] =
-    ap (map f) (take_more contents index content inside ∙ ap (λ it. take index contents ++ it ∷ []) (sym is)) ∙ map_push f (take index contents) content in
-    ap size_of grown ∙ size_of-push (map f (take index contents)) content.items

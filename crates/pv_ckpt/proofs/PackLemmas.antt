@@ -1,5 +1,5 @@
 -- How the block of all contents grows while an area is read.
-use Rattle.std.proofs.Common.{◌≡◌, inl, inr, ℕ, ◌+◌, ◌^◌, ◌<◌, ◌≤◌, List, [], ◌∷◌, ◌++◌, length, take, drop, arith, refl, sym, ◌∙◌, ap, append_assoc, length-append, length-take, length-drop}
+use Rattle.std.proofs.Common.{◌≡◌, ℕ, ◌+◌, ◌^◌, ◌<◌, ◌≤◌, List, [], ◌∷◌, ◌++◌, length, take, drop, arith, refl, sym, ◌∙◌, ap, append_assoc, length-append}
 use Rattle.std.proofs.lemmas.List.{append-nil, take_at}
 use Rattle.std.proofs.lemmas.List.Concat.{flat_map-append}
 use Rattle.std.proofs.lemmas.List.Elements.{All-head, All-tail}
@@ -7,10 +7,8 @@ use Rattle.pv_base.specs.BigEndian.{big_endian, number_of}
 use Rattle.pv_base.proofs.BigEndianLemmas.{length-big_endian, number_of-big_endian}
 use Rattle.pv_disk_model.specs.Size.{Contents}
 use Rattle.pv_format.specs.Journal.{framed, record_of, records_of, AreShort}
-use Rattle.pv_journal.proofs.ReadLemmas.{after_gate, length-record_of, records_of-push}
+use Rattle.pv_law_calls.proofs.RecordLemmas.{after_gate, length-record_of, records_of-push}
 use Rattle.pv_law_checkpoints.specs.TwoAreas.{block_of}
-use Rattle.pv_law_checkpoints.proofs.CheckpointLemmas.{block_length}
-use Rattle.pv_law_journal.proofs.SizeLemmas.{length-framed}
 use Rattle.pv_ckpt.specs.Roots.{IsHeld}
 use Rattle.pv_ckpt.specs.declared.roots.Root.{Root}
 use Rattle.pv_ckpt.proofs.ReadLemmas.{behind_front, block_of-push}

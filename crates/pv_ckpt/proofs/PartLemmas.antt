@@ -1,5 +1,5 @@
 -- The parts of a checkpoint, one after another: what a crash at each moment leaves, and what they make.
-use Rattle.std.proofs.Common.{◌≡◌, ◌≢◌, inl, inr, ℕ, ◌+◌, ◌==◌, Bool, true, false, List, [], ◌∷◌, ◌++◌, Some, Result, Ok, Err, OnOk, length, arith, refl, sym, ◌∙◌, ap, subst}
+use Rattle.std.proofs.Common.{◌≡◌, ◌≢◌, inl, inr, ℕ, ◌+◌, ◌==◌, true, false, List, [], ◌∷◌, ◌++◌, Some, Result, Ok, Err, OnOk, length, arith, refl, sym, ◌∙◌, ap, subst}
 use Rattle.std.proofs.lemmas.Bool.Decides.{eqb_tells}
 use Rattle.pv_base.specs.declared.failure.Failed.{Failed as Fault}
 use Rattle.pv_disk_model.specs.DiskModel.{DiskModel}
@@ -8,12 +8,12 @@ use Rattle.pv_disk_model.specs.Size.{Contents}
 use Rattle.pv_disk_model.proofs.DiskLemmas.{LeavesOnly-trans, LeavesOnly-weaken}
 use Rattle.pv_disk_model.proofs.OverlayLemmas.{Torn-overlaid}
 use Rattle.pv_law_checkpoints.specs.Roots.{gate_at, number_at, other_root}
-use Rattle.pv_format.specs.Checkpoint.{closing, done, naming, opening, storing, shut, MayLeaveInAll, Part, Standing}
-use Rattle.pv_law_checkpoints.specs.Stages.{standing_at, writes, writes_at, IsLeft, IsNamed, IsNext, IsPacked, IsUnderWay, LeadsOn, Stands, made_by}
+use Rattle.pv_format.specs.Checkpoint.{closing, done, naming, opening, storing, shut, Part, Standing}
+use Rattle.pv_law_checkpoints.specs.Stages.{standing_at, writes, writes_at, IsLeft, IsNamed, IsNext, IsPacked, IsUnderWay, LeadsOn, made_by}
 use Rattle.pv_law_checkpoints.specs.TwoAreas.{block_of}
 use Rattle.pv_law_checkpoints.proofs.CheckpointLemmas.{crash_in, leads_on, part_of_all}
 use Rattle.pv_law_checkpoints.proofs.RootLemmas.{number_behind_gate, place_behind_gate, size_behind_gate}
-use Rattle.pv_ckpt.specs.Checkpointing.{IsLeftInAll, IsReadyFor, StoresBlock, Switches}
+use Rattle.pv_ckpt.specs.Checkpointing.{IsLeftInAll, IsReadyFor, StoresAndCloses, Switches}
 use Rattle.pv_ckpt.specs.Writing.{WritesSynced}
 
 gate_is : (gate : ℕ) → gate ≡ 1 → (gate == 1) ≡ true
@@ -99,7 +99,7 @@ module _ {D : Type 0} (M : DiskModel D) (at place : ℕ) (packed later : Content
   after_block d1 result wrote = part_leaves M storing at place packed later bytes d0 ready place block refl block_is was (inl refl) d1 wrote.any_moment
 
   pub stores_not : {X Y E : Type 0} (d1 : D) (result : Result X Fault) (other : Result Y E) (e : E) → other ≡ Err e → WritesSynced M d0 d1 place block result
-      → StoresBlock M {X = Y} {E = E} d0 d1 at place packed later bytes other
+      → StoresAndCloses M {X = Y} {E = E} d0 d1 at place packed later bytes other
   stores_not d1 result other e is wrote = record {
     any_moment = after_block d1 result wrote;
     done = subst (λ r. OnOk r ((made : List ℕ) × IsReadyFor M naming d1 at place packed later made × (number_at made at ≡ number_at bytes at))) (sym is) tt;
@@ -107,7 +107,7 @@ module _ {D : Type 0} (M : DiskModel D) (at place : ℕ) (packed later : Content
 
   module _ {X : Type 0} (d1 : D) (x : X) (wrote : WritesSynced M {X = X} d0 d1 place block (Ok x)) where
     -- The other gate isn't 1.
-    pub stores_closed : {Y E : Type 0} (y : Y) → gate_at bytes (other_root at) ≢ 1 → StoresBlock M {X = Y} {E = E} d0 d1 at place packed later bytes (Ok y)
+    pub stores_closed : {Y E : Type 0} (y : Y) → gate_at bytes (other_root at) ≢ 1 → StoresAndCloses M {X = Y} {E = E} d0 d1 at place packed later bytes (Ok y)
     stores_closed y closed = record {
       any_moment = after_block d1 (Ok x) wrote;
       done = (
@@ -127,7 +127,7 @@ module _ {D : Type 0} (M : DiskModel D) (at place : ℕ) (packed later : Content
       still = standing_is stored at was leads.0.number (gate_is (gate_at stored (other_root at)) ready_closing.next.made.1 ∙ sym (gate_is (gate_at bytes (other_root at)) opened))
 
       pub stores_open : {Y : Type 0} (d2 : D) (other : ℕ) (result : Result Y Fault) → other ≡ other_root at → WritesSynced M d1 d2 other (0 ∷ []) result
-          → StoresBlock M {X = Y} {E = Fault} d0 d2 at place packed later bytes result
+          → StoresAndCloses M {X = Y} {E = Fault} d0 d2 at place packed later bytes result
       stores_open d2 other (Ok y) other_is closed =
           let lead = leads_on closing at place packed later stored ready_closing.next in
           record {
@@ -223,15 +223,15 @@ module _ {D : Type 0} (M : DiskModel D) (at place : ℕ) (packed later : Content
 
 -- Both, one after the other.
 module _ {D : Type 0} (M : DiskModel D) (at place : ℕ) (packed later : Contents) (bytes : List ℕ) (d0 d1 : D) where
-  pub stopped_storing : {X Y E F : Type 0} (result : Result X E) (answer : Result Y F) (f : F) → answer ≡ Err f → StoresBlock M d0 d1 at place packed later bytes result
+  pub stopped_before_naming : {X Y E F : Type 0} (result : Result X E) (answer : Result Y F) (f : F) → answer ≡ Err f → StoresAndCloses M d0 d1 at place packed later bytes result
       → Switches M {X = Y} {E = F} d0 d1 at place packed later bytes answer
-  stopped_storing result answer f is stores = record {
+  stopped_before_naming result answer f is stores = record {
     any_moment = stores.any_moment;
     done = subst (λ r. OnOk r ((made : List ℕ) × (M.content d1 ≡ Some made) × IsPacked at (packed ++ later) (standing_at bytes at) made
         × IsNamed made (other_root at) (number_at bytes at + 1) place (length (block_of (packed ++ later))) × Only made (M.may_leave d1))) (sym is) tt;
   }
 
-  module _ {X E : Type 0} (x : X) (stores : StoresBlock M {X = X} {E = E} d0 d1 at place packed later bytes (Ok x)) where
+  module _ {X E : Type 0} (x : X) (stores : StoresAndCloses M {X = X} {E = E} d0 d1 at place packed later bytes (Ok x)) where
     abbrev pub closed_now : List ℕ
     closed_now = stores.done.0
 

@@ -1,8 +1,8 @@
 -- What was read of a log in two areas, and the log that it is.
-use Rattle.std.proofs.Common.{◌≡◌, ◌≢◌, ◌⊎◌, inl, inr, ℕ, suc, ◌+◌, ◌-◌, ◌^◌, ◌<◌, ◌≤◌, List, [], ◌∷◌, ◌++◌, length, take, drop, arith, refl, sym, ◌∙◌, ap, subst, append_assoc, length-append, length-take, length-drop}
+use Rattle.std.proofs.Common.{◌≡◌, ◌≢◌, inl, inr, ℕ, suc, ◌+◌, ◌-◌, ◌^◌, ◌<◌, ◌≤◌, List, [], ◌∷◌, ◌++◌, length, take, drop, arith, refl, sym, ◌∙◌, ap, append_assoc, length-append, length-take, length-drop}
 use Rattle.std.specs.Prelude.{replicate}
 use Rattle.std.proofs.lemmas.Bool.{cases_lt}
-use Rattle.std.proofs.lemmas.List.{append-nil, drop-drop, drop_at, length-replicate, take-append-drop, take-append-le, take-take, take_at, nil_from_length}
+use Rattle.std.proofs.lemmas.List.{append-nil, drop-drop, drop_at, length-replicate, take-append-le, take-take, take_at, nil_from_length}
 use Rattle.std.proofs.lemmas.List.Concat.{flat_map-append}
 use Rattle.std.proofs.lemmas.List.Elements.{All-head, All-tail}
 use Rattle.pv_disk_model.specs.Size.{Contents}
@@ -10,7 +10,7 @@ use Rattle.pv_format.specs.Journal.{framed, records_of, AreShort, IsCut}
 use Rattle.pv_law_checkpoints.specs.Roots.{place_at, size_at}
 use Rattle.pv_law_checkpoints.specs.TwoAreas.{behind_block, block_of, end_at, greatest_place, EndsCut, HasBlock, HasNoBlock}
 use Rattle.pv_law_checkpoints.proofs.Blocks.{framed_begins, framed_some}
-use Rattle.pv_ckpt.specs.Reading.{BeginsAt, IsCutBefore, IsInRange, IsReadOf, IsReadShort, LacksBlock}
+use Rattle.pv_ckpt.specs.Reading.{BeginsAt, IsCutBefore, IsReadOf, IsReadShort, LacksBlock}
 use Rattle.pv_ckpt.specs.Roots.{IsHeld, IsRootOf}
 use Rattle.pv_ckpt.specs.declared.roots.Root.{Root}
 use Rattle.pv_ckpt.proofs.FrontLemmas.{root_moved}

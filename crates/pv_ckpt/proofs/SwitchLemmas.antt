@@ -1,23 +1,22 @@
 -- A switch to a block of all contents, as a whole: what it leaves at each moment, and the log that it makes.
-use Rattle.std.proofs.Common.{◌≡◌, ◌⊎◌, inl, inr, ℕ, ◌+◌, ◌-◌, ◌^◌, ◌<◌, ◌≤◌, ◌==◌, Bool, true, false, List, [], ◌∷◌, ◌++◌, Some, Result, Ok, Err, length, arith, refl, sym, ◌∙◌, ap, subst}
-use Rattle.std.specs.Prelude.{is_some, is_ok}
+use Rattle.std.proofs.Common.{◌≡◌, ◌⊎◌, inl, inr, ℕ, ◌+◌, ◌-◌, ◌^◌, ◌<◌, ◌≤◌, ◌==◌, Bool, true, false, List, [], ◌∷◌, ◌++◌, Some, Result, Ok, length, arith, refl, sym, ◌∙◌, ap, subst}
+use Rattle.std.specs.Prelude.{is_some}
 use Rattle.std.proofs.lemmas.List.{append-nil}
-use Rattle.pv_base.specs.Fault.{FaultCounted, Rose}
 use Rattle.pv_base.specs.declared.failure.Failed.{Failed as Fault}
 use Rattle.pv_disk_model.specs.Calls.{Makes, make_room}
 use Rattle.pv_disk_model.specs.DiskModel.{DiskModel}
 use Rattle.pv_disk_model.specs.Disk.{LeavesOnly, MakesRoom, Only}
 use Rattle.pv_disk_model.specs.Size.{Contents, size_of}
 use Rattle.pv_disk_model.proofs.DiskLemmas.{LeavesOnly-trans, LeavesOnly-weaken}
-use Rattle.pv_journal.proofs.LookLemmas.{known_before, still_left}
+use Rattle.pv_law_calls.proofs.LookLemmas.{known_before, still_left}
 use Rattle.pv_law_checkpoints.specs.Roots.{fields_of, gate_at, number_at, other_root, place_at, size_at, IsRoot}
 use Rattle.pv_format.specs.Checkpoint.{storing, Standing}
 use Rattle.pv_law_checkpoints.specs.Stages.{free_place, standing_at, IsNext, IsPacked, Stands}
-use Rattle.pv_law_checkpoints.specs.TwoAreas.{block_of, end_at, greatest_place, IsLog}
+use Rattle.pv_law_checkpoints.specs.TwoAreas.{block_of, greatest_place}
 use Rattle.pv_law_checkpoints.proofs.CheckpointLemmas.{free_place_is, lies_apart}
 use Rattle.pv_law_checkpoints.proofs.OneAnswer.{same_log}
 use Rattle.pv_law_checkpoints.proofs.RootLemmas.{other_is_root}
-use Rattle.pv_ckpt.specs.Checkpointing.{IsLeftInAll, IsReadyFor, KeepsContents, naming_calls, storing_calls, SwitchMakes, Switches, switch_calls}
+use Rattle.pv_ckpt.specs.Checkpointing.{IsLeftInAll, IsReadyFor, KeepsContents, name_and_open_calls, store_and_close_calls, Switches, switch_calls}
 use Rattle.pv_ckpt.specs.CkptLog.{IsIntact, IsLogOf}
 use Rattle.pv_ckpt.specs.Packing.{IsMadeFor, IsPackedFrom}
 use Rattle.pv_ckpt.specs.Roots.{IsHeld, IsRootOf}
@@ -163,16 +162,16 @@ module _ {D : Type 0} (M : DiskModel D) (old : CkptLog D) (intact : IsIntact M o
         }
 
         pub makes_all : (ok : Bool) → M.goes old.disk (make_room (length block + 27) 4) true d1
-            → Makes M.goes d1 (storing_calls packed.root.at old.root.other_open packed.root.place packed.block.items ++ naming_calls packed.root.at packed.fields.items) ok d2
+            → Makes M.goes d1 (store_and_close_calls packed.root.at old.root.other_open packed.root.place packed.block.items ++ name_and_open_calls packed.root.at packed.fields.items) ok d2
             → Makes M.goes old.disk (switch_calls old.root old.end block) ok d2
         makes_all ok room calls =
             let other = other_root old.root.at in
             let fields : packed.fields.items ≡ fields_of (old.root.number + 1) place (length block) =
             packed_is.fields_are ∙ ap (λ n. fields_of (old.root.number + 1) n (length block)) packed_is.place in
-            let first = subst (λ n. Makes M.goes d1 (storing_calls n old.root.other_open packed.root.place packed.block.items ++ naming_calls n packed.fields.items) ok d2) packed_is.at calls in
-            let second = subst (λ n. Makes M.goes d1 (storing_calls other old.root.other_open n packed.block.items ++ naming_calls other packed.fields.items) ok d2) packed_is.place first in
-            let third = subst (λ (l : List ℕ). Makes M.goes d1 (storing_calls other old.root.other_open place l ++ naming_calls other packed.fields.items) ok d2) packed_is.block_is second in
-            inr (d1, room, subst (λ (l : List ℕ). Makes M.goes d1 (storing_calls other old.root.other_open place (block ++ 0 ∷ []) ++ naming_calls other l) ok d2) fields third)
+            let first = subst (λ n. Makes M.goes d1 (store_and_close_calls n old.root.other_open packed.root.place packed.block.items ++ name_and_open_calls n packed.fields.items) ok d2) packed_is.at calls in
+            let second = subst (λ n. Makes M.goes d1 (store_and_close_calls other old.root.other_open n packed.block.items ++ name_and_open_calls other packed.fields.items) ok d2) packed_is.place first in
+            let third = subst (λ (l : List ℕ). Makes M.goes d1 (store_and_close_calls other old.root.other_open place l ++ name_and_open_calls other packed.fields.items) ok d2) packed_is.block_is second in
+            inr (d1, room, subst (λ (l : List ℕ). Makes M.goes d1 (store_and_close_calls other old.root.other_open place (block ++ 0 ∷ []) ++ name_and_open_calls other l) ok d2) fields third)
 
       -- All is written.
       module _ {X : Type 0} (d2 : D) (x : X) (written : Written X d2 (Ok x)) (alike : is_some (M.content d2) ≡ is_some (M.content d1)) (size : length block + 9 ≤ old.length) where

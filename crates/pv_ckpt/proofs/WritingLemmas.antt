@@ -1,11 +1,11 @@
 -- How synced writes follow each other.
-use Rattle.std.proofs.Common.{◌≡◌, inl, inr, ℕ, ◌≤◌, Bool, true, false, List, [], ◌∷◌, ◌++◌, Some, Result, Ok, Err, OnOk, length, arith, refl, ap, subst}
+use Rattle.std.proofs.Common.{◌≡◌, inl, inr, ℕ, ◌≤◌, Bool, true, false, List, [], ◌∷◌, ◌++◌, Some, Result, Ok, Err, OnOk, length, arith, ap, subst}
 use Rattle.pv_base.specs.declared.failure.Failed.{Failed as Fault}
 use Rattle.pv_disk_model.specs.Calls.{Makes}
 use Rattle.pv_disk_model.specs.DiskModel.{DiskModel}
 use Rattle.pv_disk_model.specs.Disk.{overlaid}
 use Rattle.pv_disk_model.proofs.OverlayLemmas.{length-overlaid}
-use Rattle.pv_journal.proofs.LookLemmas.{known_before}
+use Rattle.pv_law_calls.proofs.LookLemmas.{known_before}
 use Rattle.pv_ckpt.specs.Writing.{WritesSynced}
 
 -- Some calls, and then others.

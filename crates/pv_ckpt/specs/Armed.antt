@@ -5,7 +5,8 @@ use Rattle.pv_disk.specs.MemImage.{settled_at}
 use Rattle.pv_disk.specs.declared.arms.Arm.{Arm}
 use Rattle.pv_disk_model.specs.Size.{Contents}
 use Rattle.pv_format.specs.Checkpoint.{Standing, done, calls_of, part_of, left_by}
-use Rattle.pv_journal.specs.Armed.{contents_left, nearer}
+use Rattle.pv_journal.specs.Armed.{contents_left}
+use Rattle.pv_law_calls.specs.Armed.{nearer}
 use Rattle.pv_law_checkpoints.specs.Stages.{Stands}
 use Rattle.pv_ckpt.specs.CkptLog.{IsLogOf}
 use Rattle.pv_ckpt.specs.declared.ckpt_log.CkptLog.{CkptLog}

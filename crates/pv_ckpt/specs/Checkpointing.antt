@@ -1,5 +1,5 @@
 -- What a checkpoint does to the disk, at each moment and by its answer.
-use Rattle.std.specs.Prelude.{◌≡◌, ◌⊎◌, ℕ, ◌+◌, ◌-◌, ◌^◌, ◌<◌, ◌≤◌, Bool, true, false, if◌then◌else◌, List, [], ◌∷◌, ◌++◌, Some, is_some, is_ok, length, Result, Ok, Err, OnOk}
+use Rattle.std.specs.Prelude.{◌≡◌, ◌⊎◌, ℕ, ◌+◌, ◌-◌, ◌^◌, ◌<◌, ◌≤◌, Bool, true, false, if◌then◌else◌, List, [], ◌∷◌, ◌++◌, Some, is_some, length, Result, Ok, Err, OnOk}
 use Rattle.pv_base.specs.Fault.{Rose}
 use Rattle.pv_disk_model.specs.Calls.{DiskCall, OnlyReads, Makes, make_room}
 use Rattle.pv_disk_model.specs.DiskModel.{DiskModel}
@@ -21,17 +21,17 @@ abbrev pub IsLeftInAll : Standing → Contents → List ℕ → Type 0
 IsLeftInAll was contents left = (now : Standing) × Stands contents now left × MayLeaveInAll was now
 
 -- What a checkpoint asks of the disk up to the closing of the other root's gate: the block with a closed gate behind it, and a 0 in that gate where it is 1, each with a sync.
-abbrev pub storing_calls : (other : ℕ) → (other_open : Bool) → (place : ℕ) → List ℕ → List DiskCall
-storing_calls other other_open place block = synced_write place block ++ (if other_open then synced_write other (0 ∷ []) else [])
+abbrev pub store_and_close_calls : (other : ℕ) → (other_open : Bool) → (place : ℕ) → List ℕ → List DiskCall
+store_and_close_calls other other_open place block = synced_write place block ++ (if other_open then synced_write other (0 ∷ []) else [])
 
 -- And then: the other root's number, place and size, and a 1 in its gate, each with a sync.
-abbrev pub naming_calls : ℕ → List ℕ → List DiskCall
-naming_calls other fields = synced_write (other + 1) fields ++ synced_write other (1 ∷ [])
+abbrev pub name_and_open_calls : ℕ → List ℕ → List DiskCall
+name_and_open_calls other fields = synced_write (other + 1) fields ++ synced_write other (1 ∷ [])
 
 -- All of them. The block has a closed gate behind it.
 abbrev pub checkpoint_calls : Root → ℕ → List ℕ → List DiskCall
 checkpoint_calls root place block =
-    storing_calls (other_root root.at) root.other_open place (block ++ 0 ∷ []) ++ naming_calls (other_root root.at) (fields_of (root.number + 1) place (length block))
+    store_and_close_calls (other_root root.at) root.other_open place (block ++ 0 ∷ []) ++ name_and_open_calls (other_root root.at) (fields_of (root.number + 1) place (length block))
 
 -- Room for this block is made, and then come all of them.
 abbrev pub switch_calls : Root → (end : ℕ) → List ℕ → List DiskCall
@@ -45,7 +45,7 @@ module _ {D : Type 0} (M : DiskModel D) where
     pub next : IsNext part at place packed later bytes
 
   -- At each moment of the first parts of a checkpoint a crash leaves the contents. Where they are done, the other root is closed and is to be named next.
-  pub record StoresBlock {X E : Type 0} (old new : D) (at place : ℕ) (packed later : Contents) (bytes : List ℕ) (result : Result X E) : Type 0 where
+  pub record StoresAndCloses {X E : Type 0} (old new : D) (at place : ℕ) (packed later : Contents) (bytes : List ℕ) (result : Result X E) : Type 0 where
     pub any_moment : LeavesOnly M old new (IsLeftInAll (standing_at bytes at) (packed ++ later))
     pub done : OnOk result ((made : List ℕ) × IsReadyFor naming new at place packed later made × (number_at made at ≡ number_at bytes at))
 

@@ -1,20 +1,20 @@
 -- A log in two areas on a disk, as a log.
-use Rattle.std.specs.Prelude.{◌≡◌, ◌⊎◌, ℕ, ◌+◌, ◌≤◌, ◌<◌, ◌^◌, Bool, true, false, MatchBool, List, [], ◌∷◌, ◌++◌, Option, Some, length, option_and_then, vec_capacity}
+use Rattle.std.specs.Prelude.{◌≡◌, ◌⊎◌, ℕ, ◌+◌, ◌≤◌, ◌<◌, ◌^◌, Bool, true, false, MatchBool, List, [], ◌∷◌, Option, Some, length, option_and_then, vec_capacity}
 use Rattle.pv_base.specs.declared.limits.TheConstants.{MAX_JOURNAL, MAX_LENGTH}
-use Rattle.pv_disk_model.specs.Calls.{DiskCall, LogCall, Makes, OnlyReads, read_all, reserve, append, make_room}
+use Rattle.pv_disk_model.specs.Calls.{LogCall, Makes, OnlyReads, read_all, reserve, append, make_room}
 use Rattle.pv_disk_model.specs.DiskModel.{DiskModel}
 use Rattle.pv_disk_model.specs.Disk.{Only}
-use Rattle.pv_disk_model.specs.Size.{Contents, size_of}
+use Rattle.pv_disk_model.specs.Size.{Contents}
 use Rattle.pv_journal.specs.Journal.{append_calls}
 use Rattle.pv_law_checkpoints.specs.LogContents.{log_contents_of}
 use Rattle.pv_law_checkpoints.specs.Roots.{IsRoot}
 use Rattle.pv_law_checkpoints.specs.TwoAreas.{greatest_place}
-use Rattle.pv_ckpt.specs.Roots.{IsHeld}
+use Rattle.pv_ckpt.specs.Roots.{IsLogBy}
 use Rattle.pv_ckpt.specs.declared.ckpt_log.CkptLog.{CkptLog}
 
 -- The bytes are this log, by its root, its end and its length.
 abbrev pub IsLogOf : {D : Type 0} → List ℕ → CkptLog D → Type 0
-IsLogOf bytes log = (packed : Contents) × (later : Contents) × IsHeld bytes log.root log.end packed later × (log.length ≡ size_of (packed ++ later))
+IsLogOf bytes log = IsLogBy bytes log.root log.end log.length
 
 module _ {D : Type 0} (M : DiskModel D) where
   -- While the log isn't down, its disk is that log, all of it synced. Its area is as long as the log, or less.

@@ -5,7 +5,7 @@ use Rattle.pv_disk_model.specs.DiskModel.{DiskModel}
 use Rattle.pv_disk_model.specs.LogModel.{LogModel}
 use Rattle.pv_disk_model.specs.Size.{Contents, size_of}
 use Rattle.pv_law_checkpoints.specs.LogContents.{log_contents_of}
-use Rattle.pv_law_checkpoints.specs.TwoAreas.{IsCheckpointed}
+use Rattle.pv_law_checkpoints.specs.TwoAreas.{IsTwoAreas}
 use Rattle.pv_law_checkpoints.proofs.ContentsLemmas.{log_contents_of-log}
 use Rattle.pv_law_checkpoints.proofs.OneAnswer.{one_contents}
 use Rattle.pv_ckpt.specs.CkptLog.{IsIntact, contents_now, LeavesNow, LeavesSince, HasRoom, LogGoes}
@@ -28,7 +28,7 @@ module _ {D : Type 0} (M : DiskModel D) where
   size_of_log log held intact up is =
       let known = log_bytes (M.content log.disk) held is in
       let rest = intact.at_rest up known.0 known.1 in
-      let there : IsCheckpointed (rest.0 ++ rest.1) known.0 = record { at = log.root.at; packed = rest.0; later = rest.1; log = rest.2.log; is = refl } in
+      let there : IsTwoAreas (rest.0 ++ rest.1) known.0 = record { at = log.root.at; packed = rest.0; later = rest.1; log = rest.2.log; is = refl } in
       rest.3 ∙ ap size_of (one_contents (rest.0 ++ rest.1) held known.0 there (log_contents_of-log held known.0 known.2))
 
   pub held_is_left : (log : CkptLog D) (held : Contents) → contents_now M log ≡ Some held → LeavesNow M log (Some held)

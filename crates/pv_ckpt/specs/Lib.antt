@@ -5,6 +5,7 @@ pub mod CkptLog
 pub mod CkptModel
 pub mod Lending
 pub mod Opening
+pub mod Outline
 pub mod Packing
 pub mod Reading
 pub mod Roots

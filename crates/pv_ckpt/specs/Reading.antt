@@ -1,16 +1,17 @@
 -- How a log in two areas is read from a disk: what it begins with, and then what stands from the place of the root in force on.
-use Rattle.std.specs.Prelude.{◌≡◌, ◌≢◌, ◌⊎◌, ℕ, ◌+◌, ◌^◌, ◌<◌, ◌≤◌, List, [], ◌∷◌, ◌++◌, Some, length, take, drop, Vec}
-use Rattle.std.specs.declared.alloc.Global.{Global}
+use Rattle.std.specs.Prelude.{◌≡◌, ◌≢◌, ◌⊎◌, ℕ, ◌+◌, ◌^◌, ◌<◌, ◌≤◌, min, List, [], ◌∷◌, ◌++◌, Some, length, take, drop}
+use Rattle.std.specs.List.{flat_map}
 use Rattle.pv_disk_model.specs.Size.{Contents}
 use Rattle.pv_disk_model.specs.DiskModel.{DiskModel}
 use Rattle.pv_disk_model.specs.Disk.{Gives}
 use Rattle.pv_format.specs.Journal.{framed, records_of, AreShort, IsCut}
 use Rattle.pv_journal.specs.Opening.{contents_in}
-use Rattle.pv_journal.specs.Reading.{Gave}
+use Rattle.pv_law_calls.specs.Reading.{Gave}
 use Rattle.pv_law_checkpoints.specs.Roots.{place_at, IsInForce}
 use Rattle.pv_law_checkpoints.specs.TwoAreas.{block_of, greatest_place, IsNotOurs}
-use Rattle.pv_ckpt.specs.Roots.{IsHeld}
+use Rattle.pv_ckpt.specs.Roots.{IsHeld, IsRootOf}
 use Rattle.pv_ckpt.specs.declared.reading.Found.{Found}
+use Rattle.pv_ckpt.specs.declared.reading.Front.{Front}
 use Rattle.pv_ckpt.specs.declared.roots.Root.{Root}
 
 -- The reads gave what the bytes begin with, up to both roots and one byte more, and then all that stands from the place of the root in force on.
@@ -54,22 +55,30 @@ IsReadShort read root =
     ((read ≡ []) × ((root.place < 58) ⊎ (greatest_place < root.place))) ⊎ ((58 ≤ root.place) × (59 ≤ root.place + root.size) × (length read ≤ root.size))
 
 module _ {D : Type 0} (M : DiskModel D) where
-  -- These records and a closed gate stand at this place, as the reads gave them. The gate is the one at the end.
-  pub record ReadsRecords (old new : D) (place end : ℕ) (later : Contents) : Type 0 where
+  -- This was read of what the disk begins with: up to both roots and one byte more, or all where there is less. This root is in force in it.
+  pub record ReadsFront (old new : D) (front : Front) : Type 0 where
+    pub read : List ℕ
+    pub few : length read ≤ 59
+    pub root_is : IsRootOf read front.root
+    pub gave : Gives M old new read
+    pub is : (bytes : List ℕ) → M.content old ≡ Some bytes → (front.size ≡ length bytes) × (read ≡ take (min front.size 59) bytes)
+
+  -- These records and a closed gate stand at this place, of each of which the reads gave so much. The gate is the one at the end.
+  pub record ReadsRecords (of_record : List ℕ → List ℕ) (old new : D) (place end : ℕ) (later : Contents) : Type 0 where
     pub short : AreShort later
     pub end_is : end ≡ place + length (records_of later)
     pub gate : ℕ
     pub closed : gate ≢ 1
-    pub gave : Gives M old new (records_of later ++ gate ∷ [])
+    pub gave : Gives M old new (flat_map of_record later ++ gate ∷ [])
     pub stands : (bytes : List ℕ) → M.content old ≡ Some bytes → (shut : ℕ) × (rest : List ℕ) × (shut ≢ 1) × (drop place bytes ≡ records_of later ++ shut ∷ rest)
 
-  -- These records and an open gate stand at this place, as the reads gave them, and what follows is cut. The gate is the one at the end.
-  pub record ReadsCut (old new : D) (place end : ℕ) (later : Contents) : Type 0 where
+  -- These records and an open gate stand at this place, of each of which the reads gave so much, and what follows is cut. The gate is the one at the end.
+  pub record ReadsCut (of_record : List ℕ → List ℕ) (old new : D) (place end : ℕ) (later : Contents) : Type 0 where
     pub short : AreShort later
     pub end_is : end ≡ place + length (records_of later)
     pub read : List ℕ
     pub few : length read ≤ 4
-    pub gave : Gives M old new (records_of later ++ 1 ∷ read)
+    pub gave : Gives M old new (flat_map of_record later ++ 1 ∷ read)
     pub stands : (bytes : List ℕ) → M.content old ≡ Some bytes → (rest : List ℕ) × (drop place bytes ≡ records_of later ++ 1 ∷ rest) × IsCut rest
 
   -- What the reads gave is what they give of some bytes that are the log that was found.

@@ -1,6 +1,6 @@
 -- What the code knows of the root in force.
-use Rattle.std.specs.Prelude.{◌≡◌, ◌≢◌, ℕ, ◌==◌, List}
-use Rattle.pv_disk_model.specs.Size.{Contents}
+use Rattle.std.specs.Prelude.{◌≡◌, ℕ, ◌==◌, List, ◌++◌}
+use Rattle.pv_disk_model.specs.Size.{Contents, size_of}
 use Rattle.pv_law_checkpoints.specs.Roots.{gate_at, number_at, other_root, place_at, size_at, IsInForce}
 use Rattle.pv_law_checkpoints.specs.TwoAreas.{Starts, end_at, IsLog, HasOtherStart, HasNoRoots, HasNoOpenRoot}
 use Rattle.pv_ckpt.specs.declared.roots.Root.{Root}
@@ -19,6 +19,10 @@ pub record IsHeld (bytes : List ℕ) (root : Root) (end : ℕ) (packed later : C
   pub root_is : IsRootOf bytes root
   pub log : IsLog root.at packed later bytes
   pub end_is : end ≡ end_at bytes root.at later
+
+-- The bytes are a log with this root in force, this end and this length.
+abbrev pub IsLogBy : List ℕ → Root → (end size : ℕ) → Type 0
+IsLogBy bytes root end size = (packed : Contents) × (later : Contents) × IsHeld bytes root end packed later × (size ≡ size_of (packed ++ later))
 
 -- Where bytes with no root in force show that, by what they begin with.
 pub data IsRootless (bytes : List ℕ) (place : ℕ) : Type 0 where

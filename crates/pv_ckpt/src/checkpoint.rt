@@ -6,17 +6,17 @@ ghost use Rattle.pv_disk_model.specs.Calls.{make_room, Makes};
 ghost use Rattle.pv_disk_model.specs.Size.{Contents};
 ghost use Rattle.pv_disk.specs.DiskAnswers.{ReservesOnDisk};
 ghost use Rattle.pv_format.specs.Journal.{framed, record_of};
-ghost use Rattle.pv_journal.specs.Reading.{LooksBy};
+ghost use Rattle.pv_law_calls.specs.Reading.{LooksBy};
 ghost use Rattle.pv_law_checkpoints.specs.Roots.{gate_at, number_at, other_root, IsRoot};
 ghost use Rattle.pv_format.specs.Checkpoint.{naming, storing};
 ghost use Rattle.pv_law_checkpoints.specs.Stages.{free_place, writes};
 ghost use Rattle.pv_law_checkpoints.specs.TwoAreas.{block_of};
 ghost use Rattle.pv_ckpt.specs.Roots.{IsHeld};
-ghost use Rattle.pv_ckpt.specs.Checkpointing.{Checkpoints, IsReadyFor, naming_calls, storing_calls, StoresBlock, Switches, SwitchesTo};
+ghost use Rattle.pv_ckpt.specs.Checkpointing.{Checkpoints, IsReadyFor, name_and_open_calls, store_and_close_calls, StoresAndCloses, Switches, SwitchesTo};
 ghost use Rattle.pv_ckpt.specs.Packing.{IsMadeFor, IsPackedFrom};
 ghost use Rattle.pv_ckpt.specs.CkptLog.{IsIntact};
 
-use crate::roots::Root;
+use crate::roots::{BEHIND_ROOTS, BOTH, LEAST, Root};
 use crate::writing::{root_fields, write_synced};
 use crate::{CkptError, CkptLog};
 use pv_base::{Failed, NoMemory};
@@ -112,7 +112,7 @@ struct Packed {
 /// piece of memory that a checkpoint takes for contents, and is read into directly.
 ///
 /// - [`LookError::NotOurs`]: a record goes past the end, which no disk shows that gives what it gave when the log was opened.
-#[tactic(auto, using(pv_journal::proofs::LookLemmas::looking))]
+#[tactic(auto, using(pv_law_calls::proofs::LookLemmas::looking))]
 fn read_packed<D: Disk>(
     alloc: Global,
     disk: &mut D,
@@ -141,7 +141,7 @@ fn read_packed<D: Disk>(
 /// How many bytes stand behind the gate of the record at this place, in an area that ends there.
 ///
 /// - [`LookError::NotOurs`]: they go past the end.
-#[tactic(auto, using(pv_journal::proofs::LookLemmas::looking))]
+#[tactic(auto, using(pv_law_calls::proofs::LookLemmas::looking))]
 fn framed_at<D: Disk>(disk: &mut D, place: u64, end: u64) -> Result<u64, LookError>
     requires within { (bytes : List ℕ) → D.model.content disk.old ≡ Some bytes → end < length bytes }
     requires before { place < end }
@@ -164,7 +164,7 @@ fn framed_at<D: Disk>(disk: &mut D, place: u64, end: u64) -> Result<u64, LookErr
 }
 
 /// Reads so many bytes from this place on behind those that the block holds.
-#[tactic(auto, using(pv_journal::proofs::LookLemmas::looking))]
+#[tactic(auto, using(pv_law_calls::proofs::LookLemmas::looking))]
 fn read_onto<D: Disk>(
     disk: &mut D,
     place: u64,
@@ -189,7 +189,11 @@ fn place_for(size: u64, in_force: u64, end: u64) -> u64
     requires bounded { end < 2 ^ 62 }
     ensures { result ≡ free_place size in_force end }
 {
-    if in_force < 59 + size { end + 1 } else { 58 }
+    if in_force < LEAST + size {
+        end + 1
+    } else {
+        BEHIND_ROOTS
+    }
 }
 
 /// Makes what a checkpoint writes of this block, and room for it on the disk.
@@ -226,7 +230,7 @@ fn pack(alloc: Global, root: Root, end: u64, block: Vec<u8>) -> Result<Packed, N
 {
     let size = block.len() as u64;
     let next = Root {
-        at: 41 - root.at,
+        at: BOTH - root.at,
         number: root.number + 1,
         place: place_for(size, root.place, end),
         size,
@@ -253,25 +257,25 @@ fn write_parts<D: Disk>(disk: &mut D, other_open: bool, packed: &Packed) -> Resu
     ensures crash { (at : ℕ) (held later : Contents) (bytes : List ℕ) → IsReadyFor D.model storing disk.old at packed.now.root.place held later bytes
         → IsMadeFor packed.now at held later bytes → other_open ≡ (gate_at bytes (other_root at) == 1)
         → Switches D.model disk.old disk.new at packed.now.root.place held later bytes result }
-    ensures calls { Makes D.model.goes disk.old (storing_calls packed.now.root.at other_open packed.now.root.place packed.now.block.items
-        ++ naming_calls packed.now.root.at packed.now.fields.items) (is_ok result) disk.new }
+    ensures calls { Makes D.model.goes disk.old (store_and_close_calls packed.now.root.at other_open packed.now.root.place packed.now.block.items
+        ++ name_and_open_calls packed.now.root.at packed.now.fields.items) (is_ok result) disk.new }
     ensures known { is_some (D.model.content disk.new) ≡ is_some (D.model.content disk.old) }
     ensures fault { FaultCounted (D.model.faults disk.old) (D.model.faults disk.new) result }
     ensures uncounted { OnOk result (D.model.faults disk.new ≡ D.model.faults disk.old) }
 {
-    store_block(
+    store_and_close(
         disk,
         packed.root.at,
         other_open,
         packed.root.place,
         &packed.block,
     )?;
-    name_root(disk, packed.root.at, &packed.fields)
+    name_and_open(disk, packed.root.at, &packed.fields)
 }
 
 // Writes the block with its closed gate, and closes the gate of the root that stands there where it is 1. A gate that is closed isn't written here: a crash in that write could
 // open a root that an earlier checkpoint, which stopped, left with a greater number.
-fn store_block<D: Disk>(
+fn store_and_close<D: Disk>(
     disk: &mut D,
     other: u64,
     other_open: bool,
@@ -285,8 +289,8 @@ fn store_block<D: Disk>(
     requires writes { 2 ≤ D.model.writes disk.old }
     ensures crash { (at : ℕ) (held later : Contents) (bytes : List ℕ) → IsReadyFor D.model storing disk.old at place held later bytes → other ≡ other_root at
         → block.now ≡ writes storing (number_at bytes at) place (held ++ later) → other_open ≡ (gate_at bytes other == 1)
-        → StoresBlock D.model disk.old disk.new at place held later bytes result }
-    ensures calls { Makes D.model.goes disk.old (storing_calls other other_open place block.now) (is_ok result) disk.new }
+        → StoresAndCloses D.model disk.old disk.new at place held later bytes result }
+    ensures calls { Makes D.model.goes disk.old (store_and_close_calls other other_open place block.now) (is_ok result) disk.new }
     ensures long { OnOk result ((bytes : List ℕ) → D.model.content disk.new ≡ Some bytes → 59 ≤ length bytes) }
     ensures room { D.model.room disk.old ≤ D.model.room disk.new + (length block.now + 1) }
     ensures writes { D.model.writes disk.old ≤ D.model.writes disk.new + 2 }
@@ -302,7 +306,7 @@ fn store_block<D: Disk>(
 }
 
 // Gives the root that stands there, which is closed, what follows its gate, and opens it. What it names is on the disk before it is opened.
-fn name_root<D: Disk>(disk: &mut D, other: u64, fields: &[u8]) -> Result<(), Failed>
+fn name_and_open<D: Disk>(disk: &mut D, other: u64, fields: &[u8]) -> Result<(), Failed>
     requires root { IsRoot other }
     requires within { (bytes : List ℕ) → D.model.content disk.old ≡ Some bytes → 59 ≤ length bytes }
     requires fields { length fields.now ≡ 24 }
@@ -311,7 +315,7 @@ fn name_root<D: Disk>(disk: &mut D, other: u64, fields: &[u8]) -> Result<(), Fai
     ensures crash { (at place : ℕ) (held later : Contents) (bytes : List ℕ) → IsReadyFor D.model naming disk.old at place held later bytes → other ≡ other_root at
         → fields.now ≡ writes naming (number_at bytes at) place (held ++ later)
         → Switches D.model disk.old disk.new at place held later bytes result }
-    ensures calls { Makes D.model.goes disk.old (naming_calls other fields.now) (is_ok result) disk.new }
+    ensures calls { Makes D.model.goes disk.old (name_and_open_calls other fields.now) (is_ok result) disk.new }
     ensures known { is_some (D.model.content disk.new) ≡ is_some (D.model.content disk.old) }
     ensures fault { FaultCounted (D.model.faults disk.old) (D.model.faults disk.new) result }
     ensures uncounted { OnOk result (D.model.faults disk.new ≡ D.model.faults disk.old) }

@@ -2,12 +2,12 @@
 ghost use Rattle.std.specs.Prelude.{◌≡◌, ℕ, ◌≤◌, [], List, Some, map, IfSome};
 ghost use Rattle.pv_base.specs.declared.limits.TheConstants.{MAX_LENGTH};
 ghost use Rattle.pv_disk_model.specs.Size.{size_of};
-ghost use Rattle.pv_journal.specs.Reading.{LooksBy};
+ghost use Rattle.pv_law_calls.specs.Reading.{LooksBy};
 ghost use Rattle.pv_ckpt.specs.Opening.{AnswersOf, AnswersOfReads, Formats, Opens};
 
 use crate::OpenCkpt;
-use crate::reading::read_log;
-use crate::roots::Root;
+use crate::reading::{measure_log, read_log};
+use crate::roots::{LEAST, Root};
 use crate::writing::write_synced;
 use pv_base::{MAX_JOURNAL, MAX_LENGTH, MIN_JOURNAL};
 use pv_disk::{Disk, DiskError, LookError};
@@ -29,9 +29,9 @@ pub struct CkptLog<D: Disk> {
     pub(crate) end: u64,
     /// The memory of the next record, from its length to the closed gate after it.
     pub(crate) frame: Vec<u8>,
-    /// Its length in bytes as a log: 9, and for each record 5 and its content.
+    /// Its length: what a journal with its contents would have, in bytes, 9 and for each content 5 and its own.
     pub(crate) length: u64,
-    /// How long the log may become, in bytes.
+    /// The greatest such length that it may come to.
     pub(crate) limit: u64,
     /// Whether a call failed since it was opened.
     pub(crate) down: bool,
@@ -43,7 +43,8 @@ impl<D: Disk> CkptLog<D> {
     ghost use Rattle.pv_ckpt.specs.Lending.{with_disk};
 
     /// Opens the log on a disk. It may become `limit` bytes long, from 32 to 4,294,967,296; one that is longer already is opened too, and takes no more records. The call
-    /// begins with a sync and then reads the log once. It answers of what its own reads gave: a log, or where it shows that it is none.
+    /// begins with a sync and then only reads: what a log begins with, and then a read or two for each content, whatever its length, and no memory for them. It answers of what
+    /// its own reads gave: a log but for the bytes of the contents, or where it shows that it is none.
     ///
     /// See [`OpenCkpt`] for the refusals, which hand the disk back. A log that would be longer than [`MAX_LENGTH`] is answered with [`OpenCkpt::NoMemory`].
     pub fn open(alloc: Global, disk: D, limit: u64) -> Result<CkptLog<D>, OpenCkpt<D>>
@@ -55,27 +56,29 @@ impl<D: Disk> CkptLog<D> {
         if disk.sync().is_err() {
             return Err(OpenCkpt::Failed(disk));
         }
-        match read_log(alloc, &mut disk) {
-            Ok(found) => match size_of_log(&found.contents) {
-                Some(length) => Ok(CkptLog {
+        match measure_log(alloc, &mut disk) {
+            Ok(log) => {
+                if log.length > MAX_LENGTH {
+                    return Err(OpenCkpt::NoMemory(disk));
+                }
+                Ok(CkptLog {
                     disk,
-                    root: found.root,
-                    end: found.end,
+                    root: log.root,
+                    end: log.end,
                     frame: Vec::new(alloc),
-                    length,
+                    length: log.length,
                     limit,
                     down: false,
-                }),
-                None => Err(OpenCkpt::NoMemory(disk)),
-            },
+                })
+            }
             Err(LookError::Failed) => Err(OpenCkpt::Failed(disk)),
             Err(LookError::NotOurs(place)) => Err(OpenCkpt::NotOurs(disk, place)),
             Err(LookError::NoMemory) => Err(OpenCkpt::NoMemory(disk)),
         }
     }
 
-    /// The disk that the log lies on, lent, so that a test can arm it or count its calls. Whoever writes to it breaks the log: the calls of `Log` and a checkpoint that come
-    /// after need its content as it was.
+    /// The disk that the log lies on, lent, so that a world can arm it and mend it, and a test count its calls. Whoever writes to it breaks the log: the calls of `Log` and a
+    /// checkpoint that come after need its content as it was.
     pub fn disk(&mut self) -> &mut D
         ensures* lends { sem 𝓛 (Lends (the_row D.row) D.row self.entry result (with_disk self.old)) }
         ensures value { result.now ≡ self.old.disk }
@@ -101,7 +104,7 @@ pub fn format<D: Disk>(disk: &mut D) -> Result<(), DiskError>
     requires { (held : List ℕ) → D.model.content disk.old ≡ Some held → held ≡ [] }
     ensures { Formats D.model disk.old disk.new result }
 {
-    disk.reserve(59, 1)?;
+    disk.reserve(LEAST, 1)?;
     write_synced(disk, 0, &EMPTY_LOG)?;
     Ok(())
 }
@@ -123,19 +126,4 @@ pub fn look<D: Disk>(alloc: Global, disk: &mut D) -> Result<Vec<Vec<u8>>, LookEr
         Ok(found) => Ok(found.contents),
         Err(e) => Err(e),
     }
-}
-
-/// The length of a log with these contents; none where it would be above the greatest.
-fn size_of_log(contents: &[Vec<u8>]) -> Option<u64>
-    ensures size { IfSome result (λ size. size ≡ size_of (map (λ it. it.items) contents.now)) }
-    ensures bounded { IfSome result (λ size. size ≤ MAX_LENGTH) }
-{
-    let mut size = 9;
-    for content in contents {
-        size += 5 + content.len() as u64;
-        if size > MAX_LENGTH {
-            return None;
-        }
-    }
-    Some(size)
 }

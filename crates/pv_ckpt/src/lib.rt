@@ -1,4 +1,5 @@
-//! A log on a disk in two areas: records that a crash at any moment leaves whole, or as they were before, and checkpoints that write all of them anew.
+//! A log on a disk in two areas. A crash at any moment of an append leaves the contents with the new one or without it, and at any moment of a checkpoint, which writes all
+//! of them anew, it leaves them all.
 #![tactic(auto)]
 
 mod checkpoint;
@@ -15,3 +16,4 @@ pub use ckpt_error::CkptError;
 pub use ckpt_log::{CkptLog, format, look};
 pub use memory::{armed_logs, formatted_logs};
 pub use open_ckpt::OpenCkpt;
+pub use roots::START;

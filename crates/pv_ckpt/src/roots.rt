@@ -9,7 +9,19 @@ use pv_bytes::Take;
 use pv_journal::agreement;
 
 /// What a log in two areas begins with.
-const START: [u8; 8] = *b"PVCKPT01";
+pub const START: [u8; 8] = *b"PVCKPT01";
+
+/// Where the first root stands.
+const FIRST: usize = 8;
+
+/// Where the second root stands.
+const SECOND: usize = 33;
+
+/// What the places of both roots add up to: beside the root at one place the other stands at `BOTH` less that place.
+pub(crate) const BOTH: u64 = 41;
+
+/// Where the bytes of both roots end.
+pub(crate) const BEHIND_ROOTS: u64 = 58;
 
 /// How many bytes a log has at least: those that it begins with, both roots, and a gate.
 pub(crate) const LEAST: u64 = 59;
@@ -39,13 +51,13 @@ pub(crate) fn root_in(front: &[u8]) -> Result<Root, u64>
     if place < 8 {
         return Err(place as u64);
     }
-    let size = front.len();
-    if size < 59 {
-        return Err(size as u64);
+    let size = front.len() as u64;
+    if size < LEAST {
+        return Err(size);
     }
     match root_in_force(front) {
         Some(at) => Ok(root_at(front, at)),
-        None => Err(8),
+        None => Err(FIRST as u64),
     }
 }
 
@@ -58,16 +70,20 @@ fn root_in_force(front: &[u8]) -> Option<usize>
     ensures first_shut { result ≡ None → gate_at front.now 8 ≢ 1 }
     ensures second_shut { result ≡ None → gate_at front.now 33 ≢ 1 }
 {
-    if front[8] != 1 {
-        return if front[33] == 1 { Some(33) } else { None };
+    if front[FIRST] != 1 {
+        return if front[SECOND] == 1 {
+            Some(SECOND)
+        } else {
+            None
+        };
     }
-    if front[33] != 1 {
-        return Some(8);
+    if front[SECOND] != 1 {
+        return Some(FIRST);
     }
-    if number_at(front, 9) < number_at(front, 34) {
-        Some(33)
+    if number_at(front, FIRST + 1) < number_at(front, SECOND + 1) {
+        Some(SECOND)
     } else {
-        Some(8)
+        Some(FIRST)
     }
 }
 
@@ -79,7 +95,7 @@ fn root_at(front: &[u8], at: usize) -> Root
     ensures place { result.at ≡ at }
     ensures root { IsRootOf front.now result }
 {
-    let other = 41 - at;
+    let other = BOTH as usize - at;
     Root {
         at: at as u64,
         number: number_at(front, at + 1),

@@ -1,6 +1,7 @@
 // What checkpoints make of the bytes, and what a crash in each call of one leaves.
 ghost use Rattle.std.specs.Prelude.{◌≡◌, ◌<◌, ◌≤◌, ◌^◌, length, IfOk};
 
+use crate::tests::PACKED_ONCE;
 use pv_base::{Mode, buffer};
 use pv_ckpt::*;
 use pv_disk::{Disk, Log, LogError, LookError, MemDisk};
@@ -98,20 +99,7 @@ const APPENDED: [u8; 116] = *b"PVCKPT01\
     \x01\0\0\0\x0b\x03\0\0\0\0\x01\0\0\0\0\x01\
     \0";
 
-// After a checkpoint: root 1 has the number 2 and a block of 54 bytes at 116.
-const PACKED_ONCE: [u8; 171] = *b"PVCKPT01\
-    \x01\0\0\0\0\0\0\0\x01\0\0\0\0\0\0\0\x3a\0\0\0\0\0\0\0\0\
-    \x01\0\0\0\0\0\0\0\x02\0\0\0\0\0\0\0\x74\0\0\0\0\0\0\0\x36\
-    \x01\0\0\0\x05\x01\0\0\0\x01\
-    \x01\0\0\0\x1a\x02\0\0\0\0\x01\0\0\0\0\x01\0\0\0\0\0\x01\0\0\0\0\0\0\0\0\x65\
-    \x01\0\0\0\x0b\x03\0\0\0\0\x01\0\0\0\0\x01\
-    \0\
-    \0\0\0\x05\x01\0\0\0\x01\
-    \0\0\0\x1a\x02\0\0\0\0\x01\0\0\0\0\x01\0\0\0\0\0\x01\0\0\0\0\0\0\0\0\x65\
-    \0\0\0\x0b\x03\0\0\0\0\x01\0\0\0\0\x01\
-    \0";
-
-// After one more: root 0 has the number 3 and its block at 58, which leaves the last three bytes of the first area.
+// After a second checkpoint: root 0 has the number 3 and its block at 58, which leaves the last three bytes of the first area.
 const PACKED_TWICE: [u8; 171] = *b"PVCKPT01\
     \x01\0\0\0\0\0\0\0\x03\0\0\0\0\0\0\0\x3a\0\0\0\0\0\0\0\x36\
     \x01\0\0\0\0\0\0\0\x02\0\0\0\0\0\0\0\x74\0\0\0\0\0\0\0\x36\
@@ -278,17 +266,20 @@ fn the_greatest_number_is_not_passed(rt: HostRuntime) -> Result<(), Fail> {
     Ok(())
 }
 
-// The length of a log after so many appends of 20 bytes, to be timed beside a journal's.
-fn length_after(alloc: Global, appends: u32) -> Result<u64, Fail> {
+// The length of a log after so many appends of 20 bytes and so many checkpoints, to be timed.
+fn length_after(alloc: Global, appends: u32, checkpoints: u32) -> Result<u64, Fail> {
     let mut disk = MemDisk::new(alloc);
     format(&mut disk)?;
     let mut log = opened(alloc, disk)?;
     add_all(&mut log, appends)?;
+    pack_all(&mut log, checkpoints)?;
     Ok(log.length())
 }
 
 fn add_all<L: Log>(log: &mut L, appends: u32) -> Result<(), LogError>
     requires { L.model.is_intact log.old }
+    ensures intact { L.model.is_intact log.new }
+    ensures limit { L.model.limit log.new ≡ L.model.limit log.old }
 {
     for _ in 0..appends {
         add(log, &[7; 20])?;
@@ -298,12 +289,24 @@ fn add_all<L: Log>(log: &mut L, appends: u32) -> Result<(), LogError>
 
 #[test]
 fn appends_10_000(rt: HostRuntime) -> Result<(), Fail> {
-    assert_eq!(rt; length_after(rt.alloc(), 10_000)?, 250_009);
+    assert_eq!(rt; length_after(rt.alloc(), 10_000, 0)?, 250_009);
+    Ok(())
+}
+
+#[test]
+fn checkpoints_of_10_000(rt: HostRuntime) -> Result<(), Fail> {
+    assert_eq!(rt; length_after(rt.alloc(), 10_000, 10)?, 250_009);
     Ok(())
 }
 
 #[test]
 fn appends_100_000(rt: HostRuntime) -> Result<(), Fail> {
-    assert_eq!(rt; length_after(rt.alloc(), 100_000)?, 2_500_009);
+    assert_eq!(rt; length_after(rt.alloc(), 100_000, 0)?, 2_500_009);
+    Ok(())
+}
+
+#[test]
+fn checkpoints_of_100_000(rt: HostRuntime) -> Result<(), Fail> {
+    assert_eq!(rt; length_after(rt.alloc(), 100_000, 10)?, 2_500_009);
     Ok(())
 }

@@ -8,8 +8,9 @@ use pv_disk::{Disk, Log, LogError, LookError, MemDisk};
 use std::alloc::Global;
 use std::test::Fail;
 
-// Three records after a first checkpoint: both roots are open, the records stand at 58 and the block of all contents at 116, with its gate at 170.
-const PACKED: [u8; 171] = *b"PVCKPT01\
+// Three records after a first checkpoint: root 1 has the number 2 and a block of 54 bytes at 116. Both roots are open, the records stand at 58, and the gate behind the block
+// at 170.
+pub(crate) const PACKED_ONCE: [u8; 171] = *b"PVCKPT01\
     \x01\0\0\0\0\0\0\0\x01\0\0\0\0\0\0\0\x3a\0\0\0\0\0\0\0\0\
     \x01\0\0\0\0\0\0\0\x02\0\0\0\0\0\0\0\x74\0\0\0\0\0\0\0\x36\
     \x01\0\0\0\x05\x01\0\0\0\x01\
@@ -68,7 +69,7 @@ const PREFIXES: [Row; 2] = [(59, 171, NotOurs(33)), (171, 172, Holds(3))];
 fn each_prefix_is_answered(rt: HostRuntime) -> Result<(), Fail> {
     let alloc = rt.alloc();
     for count in 0..=171usize {
-        let (front, _) = PACKED.split_at(count);
+        let (front, _) = PACKED_ONCE.split_at(count);
         let wanted = if count < 59 {
             Some(NotOurs(count as u64))
         } else {
@@ -79,8 +80,8 @@ fn each_prefix_is_answered(rt: HostRuntime) -> Result<(), Fail> {
     Ok(())
 }
 
-// By the place of a changed byte after the first eight. Where root 1 is closed by the change, or its number made less, root 0 is in force with the same contents behind
-// its empty block; a block of size 0 has none.
+// By the place of a changed byte after the first eight. Where root 1 is closed by the change, or its number made less, or that of root 0 greater, root 0 is in force with
+// the same contents behind its empty block; a block of size 0 has none.
 const ZEROED: [Row; 11] = [
     (8, 49, Holds(3)),
     (49, 50, NotOurs(33)),
@@ -131,7 +132,7 @@ fn wanted_at(rows: &[Row], place: usize) -> Option<Answer> {
 fn changed(alloc: Global, place: usize, byte: u8) -> Result<Option<Answer>, Fail>
     requires { place < 171 }
 {
-    let mut bytes = PACKED.to_vec(alloc)?;
+    let mut bytes = PACKED_ONCE.to_vec(alloc)?;
     bytes[place] = byte;
     answer_of(alloc, bytes)
 }
@@ -151,7 +152,7 @@ fn each_changed_byte_is_answered(rt: HostRuntime) -> Result<(), Fail> {
 #[test]
 fn closed_roots_show_at_the_first(rt: HostRuntime) -> Result<(), Fail> {
     let alloc = rt.alloc();
-    let mut bytes = PACKED.to_vec(alloc)?;
+    let mut bytes = PACKED_ONCE.to_vec(alloc)?;
     bytes[8] = 0;
     bytes[33] = 0;
     assert_eq!(rt; answer_of(alloc, bytes)?, Some(NotOurs(8)));

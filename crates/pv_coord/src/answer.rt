@@ -3,7 +3,7 @@ use crate::entry::Entry;
 use crate::taken::Taken;
 use pv_ast::Program;
 use pv_base::{SiteId, TxnId};
-use pv_poly::Read;
+use pv_tree::Read;
 use std::marker::Model;
 
 /// A transaction that is about to begin. It is to be applied, or to be dropped, before anything else changes.

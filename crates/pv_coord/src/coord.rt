@@ -16,7 +16,7 @@ use crate::{BeginChange, CoordError, Expiry, GrantChange, GrantTaken, Vote};
 use pv_ast::Program;
 use pv_base::{GrantId, ItemId, NEVER_GIVEN, NoMemory, Reply, SiteId, TICKS, TxnId};
 use pv_check::Plan;
-use pv_poly::{Poly, Read};
+use pv_tree::{Poly, Read};
 use std::alloc::Global;
 use std::marker::Model;
 

@@ -22,7 +22,7 @@ use crate::{Expiry, GrantChange, GrantTaken, Vote};
 use pv_ast::Program;
 use pv_base::{GrantId, ItemId, NoMemory, Reply, SiteId, TICKS, TxnId, Want};
 use pv_check::{Part, Plan};
-use pv_poly::{Poly, Read};
+use pv_tree::{Poly, Read};
 use std::alloc::Global;
 use std::marker::Model;
 

@@ -14,4 +14,4 @@ pub use answer::{BeginChange, Expiry, GrantChange, GrantTaken, Vote};
 pub use coord::Coord;
 pub use error::CoordError;
 pub use laws::a_planned_entry_is_the_protocols;
-pub use pv_poly::Read;
+pub use pv_tree::Read;

@@ -2,7 +2,7 @@
 ghost use Rattle.std.specs.Prelude.{◌≡◌, ◌++◌, OnOk, IfOk};
 
 use pv_base::NoMemory;
-use pv_poly::Read;
+use pv_tree::Read;
 use std::alloc::Global;
 
 /// Appends a copy of each of these to the list. After an error nothing is promised of what the list holds.

@@ -1,6 +1,6 @@
 // What a coordinator waits for.
 use pv_base::Reply;
-use pv_poly::Poly;
+use pv_tree::Poly;
 
 /// What a coordinator waits for.
 #[derive(Debug, Drop)]

@@ -1,6 +1,6 @@
 // What a participant granted.
 use pv_base::{GrantId, SiteId};
-use pv_poly::Read;
+use pv_tree::Read;
 use std::marker::Model;
 
 /// What a participant granted to a transaction.

@@ -4,7 +4,7 @@ use pv_ast::{Expr, Program, Stmt};
 use pv_base::{GrantId, ItemId, NEVER_GIVEN, NoMemory, Reply, SiteId, TxnId, Want};
 use pv_check::{Part, Plan};
 use pv_coord::*;
-use pv_poly::Poly;
+use pv_tree::Poly;
 use std::alloc::Global;
 use std::test::Fail;
 

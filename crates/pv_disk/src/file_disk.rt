@@ -1,5 +1,5 @@
 // A disk on a file.
-ghost use Rattle.std.specs.Prelude.{◌≡◌, ◌≤◌, ◌++◌, []};
+ghost use Rattle.std.specs.Prelude.{◌≡◌, ◌≤◌, []};
 ghost use Rattle.pv_base.specs.Fault.{risen};
 ghost use Rattle.pv_disk.specs.Folder.{FileState, file_disk};
 
@@ -72,7 +72,7 @@ impl Disk for FileDisk {
     fn read_at(&mut self, place: u64, into: &mut [u8]) -> Result<(), Failed> {
         match self.file.read_exact_at(into, place) {
             Ok(()) => {
-                note_bytes(&mut self.given, into);
+                self.given.extend(into);
                 Ok(())
             }
             Err(_) => Err(self.fault()),
@@ -95,14 +95,5 @@ impl Disk for FileDisk {
             Ok(()) => Ok(()),
             Err(_) => Err(self.fault()),
         }
-    }
-}
-
-// Adds bytes to what the reads have given, for the proof.
-fn note_bytes(given: &mut History<u8>, bytes: &[u8])
-    ensures { given.new.items ≡ given.old.items ++ bytes.now }
-{
-    for byte in bytes {
-        *given = given.and(byte);
     }
 }

@@ -3,7 +3,7 @@ use Rattle.std.proofs.Common.{◌≡◌, inl, inr, ⊎_elim, ℕ, ◌+◌, lengt
 use Rattle.std.specs.Prelude.{is_some}
 use Rattle.pv_disk_model.specs.Size.{Contents}
 use Rattle.pv_disk_model.specs.LogModel.{LogModel}
-use Rattle.pv_disk_model.specs.Log.{IsBeforeOrAfter, LeavesOnly, Keeps, Adds, MayAdd}
+use Rattle.pv_disk_model.specs.Log.{IsBeforeOrAfter, LeavesOnly, Keeps, Adds, MayAdd, StaysUp, GoesDown}
 
 module _ {W : Type 0} (M : LogModel W) where
   pub Keeps-refl : (log : W) → Keeps M log log
@@ -65,6 +65,34 @@ module _ {W : Type 0} (M : LogModel W) where
       limit = adds.limit ∙ keeps.limit;
       any_moment = any_moment_after adds.any_moment;
     }
+
+module _ {W : Type 0} (M : LogModel W) where
+  -- A reservation that fails: nothing is added.
+  pub keeping_may_add : (old new : W) (content : List ℕ) → M.is_intact old → M.is_down old ≡ false → Keeps M old new → MayAdd M old new content
+  keeping_may_add old new content intact up kept = record {
+    contents = λ was is. inl (kept.contents ∙ is);
+    known = ap is_some kept.contents;
+    size = inl kept.size;
+    limit = kept.limit;
+    any_moment = λ was is. record {
+      later = kept.later;
+      each = λ left since. inl (settled_since M old was left intact is (kept.crash (M.moment old) left (omega arith) since) up);
+      before = λ t left le since. inl (kept.crash t left le since);
+      keeps = λ t left le since. kept.keeps t left le since;
+    };
+  }
+
+  -- A log that stays up, and then stays up or goes down.
+  pub StaysUp-trans : (old mid new : W) → StaysUp M old mid → StaysUp M mid new → StaysUp M old new
+  StaysUp-trans old mid new first second = record { was_up = first.was_up; is_up = second.is_up; faults = omega (arith, first.faults, second.faults) }
+
+  pub StaysUp-GoesDown : (old mid new : W) → StaysUp M old mid → GoesDown M mid new → GoesDown M old new
+  StaysUp-GoesDown old mid new first second = record {
+    was_up = first.was_up;
+    is_down = second.is_down;
+    faults = omega (arith, first.faults, second.faults);
+    fault = omega (arith, first.faults, second.fault);
+  }
 
 -- The effect of calls that keep a log, and then of one more.
 pub ruleset log_joins = (Keeps-trans, Keeps-Adds, Keeps-MayAdd)

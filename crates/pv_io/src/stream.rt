@@ -1,5 +1,5 @@
 // A source over a reader of std, and a sink over a writer of std.
-ghost use Rattle.std.specs.Prelude.{◌≡◌, ◌<◌, ◌≤◌, ◌++◌, [], Some, true, false, is_some, length, IsSome, IfSome, IfOk, OnOk};
+ghost use Rattle.std.specs.Prelude.{◌≡◌, ◌<◌, ◌≤◌, [], Some, true, false, is_some, length, IsSome, IfSome, IfOk, OnOk};
 ghost use Rattle.std.specs.Option.{ForSome};
 ghost use Rattle.std.specs.Io.KnownBytes.{ReadConsumes, WriteAppends};
 ghost use Rattle.pv_base.specs.Fault.{FaultCounted};
@@ -77,7 +77,7 @@ impl<R: Read> Source for StdSource<R> {
         match self.inner.read(into) {
             Ok(count) => {
                 let (front, _) = into.split_at(count);
-                note_bytes(&mut self.given, front);
+                self.given.extend(front);
                 Ok(count)
             }
             Err(_) => {
@@ -85,15 +85,6 @@ impl<R: Read> Source for StdSource<R> {
                 Err(Failed)
             }
         }
-    }
-}
-
-// Adds bytes to what the reads have given, for the proof.
-fn note_bytes(given: &mut History<u8>, bytes: &[u8])
-    ensures { given.new.items ≡ given.old.items ++ bytes.now }
-{
-    for byte in bytes {
-        *given = given.and(byte);
     }
 }
 

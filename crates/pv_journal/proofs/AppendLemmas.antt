@@ -8,10 +8,10 @@ use Rattle.pv_disk_model.specs.DiskModel.{DiskModel}
 use Rattle.pv_disk_model.specs.Disk.{overlaid, Torn, Only, LeavesOnly, LeftTorn, Syncs}
 use Rattle.pv_disk_model.specs.Size.{Contents}
 use Rattle.pv_disk_model.proofs.DiskLemmas.{LeavesOnly-trans, LeavesOnly-weaken}
-use Rattle.pv_journal.proofs.LookLemmas.{still_left}
+use Rattle.pv_law_calls.proofs.LookLemmas.{still_left}
 use Rattle.pv_format.specs.Journal.{header, framed, record_of, records_of, IsJournal, end_of}
 use Rattle.pv_journal.specs.Appending.{StandsFor, IsReady, WritesRecord}
-use Rattle.pv_journal.proofs.ReadLemmas.{records_of-push}
+use Rattle.pv_law_calls.proofs.RecordLemmas.{records_of-push}
 
 -- A journal, before its closed gate and from it on.
 module _ (contents : Contents) (content bytes : List ℕ) (journal : IsJournal contents bytes) (short : length content < 2 ^ 32) where

@@ -9,7 +9,7 @@ use Rattle.pv_disk.specs.DiskAnswers.{ReservesOnDisk}
 use Rattle.pv_disk.specs.declared.disk_error.DiskError.{DiskError}
 use Rattle.pv_disk.specs.declared.disk_error.DiskError.TheVariants.{Failed, NoMemory}
 use Rattle.pv_journal.specs.Opening.{Formatted, Formats}
-use Rattle.pv_journal.proofs.LookLemmas.{still_left}
+use Rattle.pv_law_calls.proofs.LookLemmas.{still_left}
 
 torn_same : (place count : ℕ) (bytes : List ℕ) → Torn place count bytes bytes
 torn_same place count bytes = record { before = refl; after = refl; no_shorter = omega arith; no_longer = omega arith }

@@ -1,8 +1,6 @@
 -- What the reads of a journal give, one after another.
-use Rattle.std.proofs.Common.{◌≡◌, ◌≢◌, ℕ, ◌+◌, ◌^◌, ◌<◌, ◌≤◌, List, [], ◌∷◌, ◌++◌, Option, Some, None, Result, Ok, Err, Vec, Global, length, min, take, slice_index, refl, sym, ◌∙◌, ap, arith, append_assoc, length-append}
+use Rattle.std.proofs.Common.{◌≡◌, ◌≢◌, ℕ, ◌+◌, ◌^◌, ◌<◌, ◌≤◌, List, [], ◌∷◌, ◌++◌, Result, Ok, Err, Vec, Global, length, min, take, slice_index, refl, sym, ◌∙◌, ap, arith, append_assoc, length-append}
 use Rattle.std.specs.Prelude.{IfOk, IsErrOf}
-use Rattle.std.specs.Io.KnownBytes.{Appends, Keeps}
-use Rattle.std.proofs.KnownBytes.{Appends-trans}
 use Rattle.std.proofs.lemmas.List.{take_all, append-nil}
 use Rattle.std.proofs.lemmas.List.Concat.{flat_map-append}
 use Rattle.std.proofs.lemmas.List.Elements.{All-nil, All-cons, All-append}
@@ -10,7 +8,6 @@ use Rattle.std.proofs.lemmas.List.Sums.{sum_by-append, sum_by-cons}
 use Rattle.pv_base.specs.BigEndian.{big_endian}
 use Rattle.pv_base.proofs.AnswerLemmas.{answered}
 use Rattle.pv_disk_model.specs.DiskModel.{DiskModel}
-use Rattle.pv_disk_model.specs.Disk.{Gives, GivesNothing}
 use Rattle.pv_disk_model.specs.Size.{Contents}
 use Rattle.pv_format.specs.Journal.{header, record_of, records_of, IsJournal, IsNotOurs, EndsShort}
 use Rattle.pv_law_journal.proofs.Bodies.{frame_length}
@@ -19,26 +16,12 @@ use Rattle.pv_disk.specs.declared.disk_error.LookError.{LookError}
 use Rattle.pv_disk.specs.declared.disk_error.LookError.TheVariants.{Failed, NotOurs, NoMemory}
 use Rattle.pv_journal.specs.Opening.{contents_in, place_in, AnswersOfReads}
 use Rattle.pv_journal.specs.Outline.{outline_of, OutlinesTo}
-use Rattle.pv_journal.specs.Reading.{Gave, HasRead, IsGate, IsOpenEnd}
+use Rattle.pv_journal.specs.Reading.{HasRead, IsGate, IsOpenEnd}
+use Rattle.pv_law_calls.specs.Reading.{Gave}
 use Rattle.pv_journal.specs.declared.reading.Gate.TheVariants.{Closed}
-use Rattle.pv_journal.proofs.ReadLemmas.{records_of-push, length-record_of}
-
-Keeps-Appends : (a b : Option (List ℕ)) → Keeps a b → Appends a b []
-Keeps-Appends None b kept = tt
-Keeps-Appends (Some xs) None kept = absurd kept
-Keeps-Appends (Some xs) (Some ys) kept = kept ∙ sym (append-nil xs)
+use Rattle.pv_law_calls.proofs.RecordLemmas.{length-record_of, records_of-push}
 
 module _ {D : Type 0} (M : DiskModel D) where
-  pub gives_none : (old new : D) → GivesNothing M old new → Gives M old new []
-  gives_none old new kept = Keeps-Appends (M.given old) (M.given new) kept
-
-  pub gives_more : (old mid new : D) (first second : List ℕ) → Gives M old mid first → Gives M mid new second → Gives M old new (first ++ second)
-  gives_more old mid new first second before now = Appends-trans (M.given old) (M.given mid) (M.given new) first second before now
-
-  -- A call that reads nothing comes before.
-  pub gave_later : (old mid new : D) (P : List ℕ → Type 0) → GivesNothing M old mid → Gave M mid new P → Gave M old new P
-  gave_later old mid new P none gave = (gave.0, gives_more old mid new [] gave.0 (gives_none old mid none) gave.1, gave.2)
-
   -- What is given is told exactly.
   pub answers_of_reads : (old new : D) (result : Result (Vec (Vec ℕ Global) Global) LookError) → IfOk result (λ all. Gave M old new (IsJournal (contents_in all)))
       → ((place : ℕ) → IsErrOf result (NotOurs place) → Gave M old new (λ read. IsNotOurs read place)) → AnswersOfReads M old new result

@@ -1,7 +1,7 @@
 mod AppendLemmas
-pub mod ArmedLemmas
+mod ArmedLemmas
 mod FormatLemmas
-pub mod GivenLemmas
-pub mod LogLemmas
-pub mod LookLemmas
-pub mod ReadLemmas
+mod GivenLemmas
+mod LogLemmas
+mod LookLemmas
+mod ReadLemmas

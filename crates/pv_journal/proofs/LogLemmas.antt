@@ -1,6 +1,6 @@
 -- What an append does to the journal as a log.
-use Rattle.std.proofs.Common.{◌≡◌, inl, inr, ⊎_elim, ℕ, ◌+◌, ◌-◌, Bool, true, false, List, [], ◌∷◌, ◌++◌, Option, Some, None, Result, Ok, length, arith, refl, sym, ◌∙◌, ap, subst, length-append}
-use Rattle.std.specs.Prelude.{is_some, option_and_then, MatchBool}
+use Rattle.std.proofs.Common.{◌≡◌, inl, inr, ⊎_elim, ℕ, ◌+◌, ◌-◌, false, List, [], ◌∷◌, ◌++◌, Option, Some, None, Result, Ok, length, arith, refl, sym, ◌∙◌, ap, subst, length-append}
+use Rattle.std.specs.Prelude.{is_some, option_and_then}
 use Rattle.byteorder.specs.Endian.{big_bytes}
 use Rattle.pv_base.specs.BigEndian.{big_endian}
 use Rattle.pv_base.proofs.BigEndianLemmas.{bytes_high_first-big_endian}
@@ -14,15 +14,12 @@ use Rattle.pv_format.specs.JournalContents.{contents_of}
 use Rattle.pv_law_journal.proofs.ContentsLemmas.{contents_of-is, contents_of-journal}
 use Rattle.pv_law_journal.proofs.OneAnswer.{same_contents, not_both}
 use Rattle.pv_journal.specs.Journal.{IsIntact, contents_now, HasRoom}
-use Rattle.pv_law_journal.proofs.SizeLemmas.{known_bytes, length-framed}
+use Rattle.pv_law_journal.proofs.SizeLemmas.{known_bytes}
 use Rattle.pv_journal.specs.JournalModel.{journal_model}
 use Rattle.pv_journal.specs.Appending.{StandsFor, IsReady, WritesRecord}
 use Rattle.pv_journal.specs.declared.journal.Journal.{Journal}
-use Rattle.pv_journal.proofs.LookLemmas.{still_left, known_before}
-use Rattle.pv_journal.proofs.ReadLemmas.{records_of-push, length-record_of}
-
-pub length-frame : (frame content : List ℕ) → frame ≡ framed content ++ 0 ∷ [] → length frame ≡ 5 + length content
-length-frame frame content is = omega (arith, ap length is, length-append (framed content) (0 ∷ []), length-framed content)
+use Rattle.pv_law_calls.proofs.LookLemmas.{known_before, still_left}
+use Rattle.pv_law_calls.proofs.RecordLemmas.{length-record_of, records_of-push}
 
 end_of-push : (contents : Contents) (content : List ℕ) → end_of (contents ++ content ∷ []) ≡ end_of contents + (5 + length content)
 end_of-push contents content = omega (arith, ap length (records_of-push contents content), length-append (records_of contents) (record_of content), length-record_of content)
@@ -157,10 +154,6 @@ module _ {D : Type 0} (M : DiskModel D) (old new : Journal D) (content frame : L
     at_rest = λ is_up bytes now. let all = now_at_rest x written longer bytes now in (all.0, all.1, all.2);
     durable = λ is_up bytes now. (now_at_rest x written longer bytes now).3;
   }
-
-pub not_down : (b : Bool) (A B : Type 0) → b ≡ false → B → MatchBool b A B
-not_down true A B is has = cc
-not_down false A B is has = has
 
 -- What the kit writes of a number.
 pub written_four : (number : ℕ) → big_bytes 4 number ≡ big_endian 4 number

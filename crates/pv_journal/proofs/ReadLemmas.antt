@@ -1,14 +1,14 @@
 -- What stands at a place of a journal.
 use Rattle.std.proofs.Common.{◌≡◌, ◌≢◌, inl, inr, ℕ, ◌+◌, ◌^◌, ◌<◌, ◌≤◌, List, [], ◌∷◌, ◌++◌, length, min, take, drop, slice_index, refl, sym, ◌∙◌, ap, arith, append_assoc, length-append, length-take, length-drop}
-use Rattle.std.proofs.lemmas.List.{take-append-drop, take_at, drop_at, drop-drop, append-nil, take-take, nil_from_length, get_or-take}
+use Rattle.std.proofs.lemmas.List.{take-append-drop, take_at, drop_at, append-nil, take-take, nil_from_length, get_or-take}
 use Rattle.std.proofs.lemmas.Bool.{cases_lt}
-use Rattle.std.proofs.lemmas.List.Concat.{flat_map-append}
 use Rattle.std.proofs.lemmas.List.Elements.{All-nil, All-cons, All-append}
 use Rattle.pv_base.specs.BigEndian.{big_endian, number_of}
 use Rattle.pv_base.proofs.BigEndianLemmas.{number_of-big_endian, length-big_endian}
 use Rattle.pv_disk_model.specs.Size.{Contents}
 use Rattle.pv_format.specs.Journal.{header, framed, record_of, records_of, IsJournal, end_of, EndsShort, HasNoHeader}
 use Rattle.pv_law_journal.proofs.Bodies.{frame_length, first_and_rest}
+use Rattle.pv_law_calls.proofs.RecordLemmas.{length-record_of, records_of-push}
 use Rattle.pv_journal.specs.Reading.{ReadsTo, StandsAt, StandsCut}
 use Rattle.pv_journal.specs.declared.reading.Gate.TheVariants.{Closed, Open}
 
@@ -22,10 +22,6 @@ stands_closed rest read is one closed = let found = first_byte rest read is one 
 
 pub opened : (rest read : List ℕ) → read ≡ take 1 rest → length read ≡ 1 → slice_index read 0 ≡ 1 → (more : List ℕ) × (rest ≡ 1 ∷ more)
 opened rest read is one open_gate = let found = first_byte rest read is one in (found.0, found.1 ∙ ap (λ g. g ∷ found.0) open_gate)
-
--- What follows the gate, as a drop of the bytes.
-pub after_gate : (bytes more : List ℕ) (place gate : ℕ) → drop place bytes ≡ gate ∷ more → drop (place + 1) bytes ≡ more
-after_gate bytes more place gate is = sym (drop-drop 1 place bytes) ∙ ap (λ (l : List ℕ). drop 1 l) is
 
 pub cut_early : (rest more : List ℕ) → rest ≡ 1 ∷ more → length rest < 5 → StandsCut rest
 cut_early rest more is early =
@@ -129,12 +125,6 @@ pub read_cut : (contents : Contents) (bytes : List ℕ) (place : ℕ) → ReadsT
 read_cut contents bytes place to (rest, stands, cut) =
     let body : to.body ≡ 1 ∷ rest = sym (at_place contents bytes place to) ∙ stands in
     record { short = to.short; rest = rest; is = to.is ∙ ap (λ (l : List ℕ). header ++ (records_of contents ++ l)) body; cut = cut; place_is = to.place_is }
-
-pub records_of-push : (contents : Contents) (content : List ℕ) → records_of (contents ++ content ∷ []) ≡ records_of contents ++ record_of content
-records_of-push contents content = flat_map-append record_of contents (content ∷ []) ∙ ap (λ (l : List ℕ). records_of contents ++ l) (append-nil (record_of content))
-
-pub length-record_of : (content : List ℕ) → length (record_of content) ≡ 5 + length content
-length-record_of content = omega (arith, length-append (big_endian 4 (length content)) content, length-big_endian 4 (length content))
 
 -- One more record was read.
 pub read_open : (contents : Contents) (bytes content more : List ℕ) (place count gate : ℕ) → ReadsTo contents bytes place → length content ≡ count → count < 2 ^ 32

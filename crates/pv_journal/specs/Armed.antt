@@ -7,6 +7,7 @@ use Rattle.pv_format.specs.Journal.{IsJournal, end_of}
 use Rattle.pv_disk.specs.MemDisk.{MemState}
 use Rattle.pv_disk.specs.MemImage.{settled_at}
 use Rattle.pv_disk.specs.declared.arms.Arm.{Arm}
+use Rattle.pv_law_calls.specs.Armed.{nearer}
 use Rattle.pv_journal.specs.declared.journal.Journal.{Journal}
 
 -- The disk holds a journal with these contents, all of it synced. This is armed, this has fired, and no read is to fail.
@@ -22,10 +23,6 @@ pub record HoldsUp (contents : Contents) (armed : Option Arm) (journal : Journal
   pub up : journal.down ≡ false
   pub length : journal.length ≡ end_of contents + 1
   pub disk : Holds contents armed None journal.disk
-
--- What is armed is so many writes and syncs nearer.
-abbrev pub nearer : ℕ → Arm → Arm
-nearer calls arm = record arm { left = arm.left - calls }
 
 -- What so many writes and syncs come to, and whether they succeed: the disk holds the contents that they make, and what was armed is nearer; or
 -- it fires in one of them, is armed no more, and the disk holds what that leaves.

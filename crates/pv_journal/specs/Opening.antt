@@ -15,7 +15,7 @@ use Rattle.pv_disk.specs.declared.disk_error.DiskError.TheVariants.{Failed as Di
 use Rattle.pv_base.specs.Answer.{Answers}
 use Rattle.pv_format.specs.Journal.{header, IsJournal, IsNotOurs}
 use Rattle.pv_journal.specs.Outline.{OutlinesJournal, OutlinesNone}
-use Rattle.pv_journal.specs.Reading.{Gave}
+use Rattle.pv_law_calls.specs.Reading.{Gave}
 use Rattle.pv_journal.specs.Journal.{IsIntact}
 use Rattle.pv_journal.specs.declared.journal.Journal.{Journal}
 use Rattle.pv_journal.specs.declared.open_log.OpenLog.{OpenLog}

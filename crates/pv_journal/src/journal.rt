@@ -3,7 +3,7 @@ ghost use Rattle.std.specs.Prelude.{◌≡◌, ◌⊎◌, ℕ, ◌+◌, ◌<◌,
 ghost use Rattle.pv_base.specs.Answer.{Answers};
 ghost use Rattle.pv_disk_model.specs.Size.{Contents};
 ghost use Rattle.pv_format.specs.Journal.{IsJournal, IsNotOurs};
-ghost use Rattle.pv_journal.specs.Reading.{LooksBy};
+ghost use Rattle.pv_law_calls.specs.Reading.{LooksBy};
 ghost use Rattle.pv_journal.specs.Opening.{contents_in, place_in, AnswersOfReads, Opens, Formats};
 
 use crate::OpenLog;

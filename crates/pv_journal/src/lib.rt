@@ -11,4 +11,6 @@ pub use journal::{Journal, format, look};
 pub use log::make_frame;
 pub use memory::{armed_journals, formatted_journals};
 pub use open_log::OpenLog;
-pub use reading::{agreement, number_in, read_content, read_from, read_record, size_of_disk};
+pub use reading::{
+    Gate, agreement, gate_at, number_in, read_content, read_from, read_record, size_of_disk,
+};

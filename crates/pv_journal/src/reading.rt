@@ -6,7 +6,8 @@ ghost use Rattle.pv_disk_model.specs.Size.{Contents};
 ghost use Rattle.pv_format.specs.Journal.{header, IsJournal, IsNotOurs, HasNoHeader, end_of};
 ghost use Rattle.pv_disk_model.specs.Disk.{Gives};
 ghost use Rattle.pv_journal.specs.Outline.{OutlinesJournal, OutlinesNone};
-ghost use Rattle.pv_journal.specs.Reading.{Gave, IsGate, IsOpenEnd, IsRecord, LooksBy, ReadsTo, StandsAt, StandsCut, EndsBefore, HoldsRecord};
+ghost use Rattle.pv_journal.specs.Reading.{IsGate, IsOpenEnd, IsRecord, ReadsTo, StandsAt, StandsCut, EndsBefore, HoldsRecord};
+ghost use Rattle.pv_law_calls.specs.Reading.{Gave, LooksBy};
 
 use pv_base::buffer;
 use pv_bytes::Take;
@@ -18,7 +19,7 @@ pub(crate) const EMPTY_JOURNAL: [u8; 9] = *b"PVJRNL01\0";
 
 /// What stands at a gate.
 #[derive(Clone, Copy)]
-pub(crate) enum Gate {
+pub enum Gate {
     /// It is closed.
     Closed,
     /// It is open, and a content of so many bytes follows, with the next gate.
@@ -26,7 +27,7 @@ pub(crate) enum Gate {
 }
 
 /// How long the disk is.
-#[tactic(auto, using(crate::proofs::LookLemmas::looking))]
+#[tactic(auto, using(pv_law_calls::proofs::LookLemmas::looking))]
 pub fn size_of_disk<D: Disk>(disk: &mut D) -> Result<u64, LookError>
     ensures effect { LooksBy D.model disk.old disk.new result }
     ensures size { IfOk result (λ size. (bytes : List ℕ) → D.model.content disk.old ≡ Some bytes → size ≡ length bytes) }
@@ -41,7 +42,7 @@ pub fn size_of_disk<D: Disk>(disk: &mut D) -> Result<u64, LookError>
 }
 
 /// Fills `into` from this place on.
-#[tactic(auto, using(crate::proofs::LookLemmas::looking))]
+#[tactic(auto, using(pv_law_calls::proofs::LookLemmas::looking))]
 pub fn read_from<D: Disk>(disk: &mut D, place: u64, into: &mut [u8]) -> Result<(), LookError>
     requires { (bytes : List ℕ) → D.model.content disk.old ≡ Some bytes → place + length into.old ≤ length bytes }
     ensures effect { LooksBy D.model disk.old disk.new result }
@@ -60,7 +61,7 @@ pub fn read_from<D: Disk>(disk: &mut D, place: u64, into: &mut [u8]) -> Result<(
 /// - [`LookError::Failed`]: the disk failed.
 /// - [`LookError::NotOurs`]: the disk holds no journal, which shows at that place.
 /// - [`LookError::NoMemory`]: there was no memory for eight bytes.
-#[tactic(auto, using(crate::proofs::LookLemmas::looking))]
+#[tactic(auto, using(pv_law_calls::proofs::LookLemmas::looking))]
 pub(crate) fn find_end<D: Disk>(alloc: Global, disk: &mut D) -> Result<u64, LookError>
     ensures effect { LooksBy D.model disk.old disk.new result }
     ensures found { IfOk result (λ end. (bytes : List ℕ) → D.model.content disk.old ≡ Some bytes
@@ -88,7 +89,7 @@ pub(crate) fn find_end<D: Disk>(alloc: Global, disk: &mut D) -> Result<u64, Look
 /// - [`LookError::Failed`]: the disk failed.
 /// - [`LookError::NotOurs`]: the disk holds no journal, which shows at that place.
 /// - [`LookError::NoMemory`]: there was no memory.
-#[tactic(auto, using(crate::proofs::LookLemmas::looking))]
+#[tactic(auto, using(pv_law_calls::proofs::LookLemmas::looking))]
 pub(crate) fn read_contents<D: Disk>(alloc: Global, disk: &mut D) -> Result<Vec<Vec<u8>>, LookError>
     ensures effect { LooksBy D.model disk.old disk.new result }
     ensures found { IfOk result (λ all. (bytes : List ℕ) → D.model.content disk.old ≡ Some bytes
@@ -114,7 +115,7 @@ pub(crate) fn read_contents<D: Disk>(alloc: Global, disk: &mut D) -> Result<Vec<
 /// The content of the record at a gate, on a disk of this size; none where the gate is closed.
 ///
 /// - [`LookError::NotOurs`]: as in [`gate_at`].
-#[tactic(auto, using(crate::proofs::LookLemmas::looking))]
+#[tactic(auto, using(pv_law_calls::proofs::LookLemmas::looking))]
 pub fn read_record<D: Disk>(
     alloc: Global,
     disk: &mut D,
@@ -139,7 +140,7 @@ pub fn read_record<D: Disk>(
 }
 
 // Tests what a journal begins with, up to the first gate, on a disk of this size.
-#[tactic(auto, using(crate::proofs::LookLemmas::looking))]
+#[tactic(auto, using(pv_law_calls::proofs::LookLemmas::looking))]
 fn read_header<D: Disk>(alloc: Global, disk: &mut D, size: u64) -> Result<(), LookError>
     requires { (bytes : List ℕ) → D.model.content disk.old ≡ Some bytes → size ≡ length bytes }
     ensures effect { LooksBy D.model disk.old disk.new result }
@@ -161,11 +162,11 @@ fn read_header<D: Disk>(alloc: Global, disk: &mut D, size: u64) -> Result<(), Lo
     Ok(())
 }
 
-// What stands at a gate, on a disk of this size.
-//
-// - [`LookError::NotOurs`]: it is open, and its length, its content or the next gate is past the end. The place is its own.
-#[tactic(auto, using(crate::proofs::LookLemmas::looking))]
-fn gate_at<D: Disk>(disk: &mut D, size: u64, place: u64) -> Result<Gate, LookError>
+/// What stands at a gate, on a disk of this size.
+///
+/// - [`LookError::NotOurs`]: it is open, and its length, its content or the next gate is past the end. The place is its own.
+#[tactic(auto, using(pv_law_calls::proofs::LookLemmas::looking))]
+pub fn gate_at<D: Disk>(disk: &mut D, size: u64, place: u64) -> Result<Gate, LookError>
     requires known { (bytes : List ℕ) → D.model.content disk.old ≡ Some bytes → size ≡ length bytes }
     requires within { place < size }
     requires bounded { size ≤ MAX_LENGTH }
@@ -196,7 +197,7 @@ fn gate_at<D: Disk>(disk: &mut D, size: u64, place: u64) -> Result<Gate, LookErr
 }
 
 /// So many bytes from this place on.
-#[tactic(auto, using(crate::proofs::LookLemmas::looking))]
+#[tactic(auto, using(pv_law_calls::proofs::LookLemmas::looking))]
 pub fn read_content<D: Disk>(
     alloc: Global,
     disk: &mut D,

@@ -12,7 +12,7 @@ use Rattle.pv_format.specs.JournalContents.{contents_from, contents_of}
 use Rattle.pv_law_journal.proofs.ContentsLemmas.{contents_of-is, contents_of-journal}
 use Rattle.pv_law_checkpoints.specs.LogContents.{block_contents, greater_root, root_in_force, joined, contents_at, log_contents_of}
 use Rattle.pv_law_checkpoints.specs.Roots.{start, gate_at, number_at, place_at, size_at, IsInForce}
-use Rattle.pv_law_checkpoints.specs.TwoAreas.{greatest_place, Starts, behind_block, IsLog, IsCheckpointed}
+use Rattle.pv_law_checkpoints.specs.TwoAreas.{greatest_place, Starts, behind_block, IsLog, IsTwoAreas}
 use Rattle.pv_law_checkpoints.proofs.BlockContents.{block_contents-block, are_block}
 use Rattle.pv_law_checkpoints.proofs.OneAnswer.{journal_in}
 use Rattle.pv_law_checkpoints.proofs.RootLemmas.{in_force_or_none}
@@ -78,7 +78,7 @@ contents_at-log at packed later bytes log =
     λ i. if behind i then None else if in_range i then None else if ends i then joined (block i) (records i) else None
 
 -- The contents of a log in two areas are its own.
-pub log_contents_of-is : (contents : Contents) (bytes : List ℕ) → IsCheckpointed contents bytes → log_contents_of bytes ≡ Some contents
+pub log_contents_of-is : (contents : Contents) (bytes : List ℕ) → IsTwoAreas contents bytes → log_contents_of bytes ≡ Some contents
 unfolding log_contents_of
 log_contents_of-is contents bytes is =
     let begins : bytes_eq (take 8 bytes) start ≡ true = (bytes_eq-Decides (take 8 bytes) start).1 is.log.starts.begins in
@@ -110,7 +110,7 @@ some_same : (at other : ℕ) → Some at ≡ Some other → at ≡ other
 some_same at other is = cc
 
 -- Bytes with contents at the root in force are a log.
-log_at : (bytes : List ℕ) (at : ℕ) (contents : Contents) → Starts bytes → IsInForce bytes at → contents_at bytes at ≡ Some contents → IsCheckpointed contents bytes
+log_at : (bytes : List ℕ) (at : ℕ) (contents : Contents) → Starts bytes → IsInForce bytes at → contents_at bytes at ≡ Some contents → IsTwoAreas contents bytes
 log_at bytes at contents starts in_force is =
     let place = place_at bytes at in
     let size = size_at bytes at in
@@ -148,7 +148,7 @@ log_at bytes at contents starts in_force is =
     }
 
 -- Bytes with contents are a log in two areas with them.
-pub log_contents_of-log : (contents : Contents) (bytes : List ℕ) → log_contents_of bytes ≡ Some contents → IsCheckpointed contents bytes
+pub log_contents_of-log : (contents : Contents) (bytes : List ℕ) → log_contents_of bytes ≡ Some contents → IsTwoAreas contents bytes
 unfolding log_contents_of
 log_contents_of-log contents bytes is =
     let rest = option_and_then (contents_at bytes) (root_in_force bytes) in

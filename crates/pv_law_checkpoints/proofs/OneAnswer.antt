@@ -8,7 +8,7 @@ use Rattle.pv_format.specs.Journal.{header, records_of, AreShort, IsCut, IsJourn
 use Rattle.pv_law_journal.proofs.Bodies.{body_of}
 use Rattle.pv_law_journal.proofs.OneAnswer.{same_contents, not_both, one_answer}
 use Rattle.pv_law_checkpoints.specs.Roots.{start, gate_at, place_at, size_at, IsInForce}
-use Rattle.pv_law_checkpoints.specs.TwoAreas.{greatest_place, Starts, HasBlock, behind_block, IsLog, end_at, IsCheckpointed, HasOtherStart, HasNoRoots, HasNoOpenRoot, HasNoBlock, EndsCut, IsNotOurs}
+use Rattle.pv_law_checkpoints.specs.TwoAreas.{greatest_place, Starts, HasBlock, behind_block, IsLog, end_at, IsTwoAreas, HasOtherStart, HasNoRoots, HasNoOpenRoot, HasNoBlock, EndsCut, IsNotOurs}
 use Rattle.pv_law_checkpoints.proofs.Blocks.{block_or_none, same_block}
 use Rattle.pv_law_checkpoints.proofs.RootLemmas.{one_in_force, in_force_or_none}
 
@@ -42,7 +42,7 @@ same_log at other packed later packed_too later_too bytes one two =
       same_contents later later_too (header ++ behind_block bytes at) (journal_in at packed later bytes one) (journal_in at packed_too later_too bytes moved),
     )
 
-pub one_contents : (a b : Contents) (bytes : List ℕ) → IsCheckpointed a bytes → IsCheckpointed b bytes → a ≡ b
+pub one_contents : (a b : Contents) (bytes : List ℕ) → IsTwoAreas a bytes → IsTwoAreas b bytes → a ≡ b
 one_contents a b bytes one two =
     let same = same_log one.at two.at one.packed one.later two.packed two.later bytes one.log two.log in
     one.is ∙ (λ i. same.1 i ++ same.2 i) ∙ sym two.is
@@ -104,7 +104,7 @@ block_or_not bytes at = elim (cases_lt (place_at bytes at) 58) [
 ]
 
 abbrev LogOrNot : List ℕ → Type 0
-LogOrNot bytes = ((contents : Contents) × IsCheckpointed contents bytes) ⊎ ((place : ℕ) × IsNotOurs bytes place)
+LogOrNot bytes = ((contents : Contents) × IsTwoAreas contents bytes) ⊎ ((place : ℕ) × IsNotOurs bytes place)
 
 -- Behind the block of the root in force.
 behind_or_not : (bytes : List ℕ) (at : ℕ) (packed : Contents) → Starts bytes → IsInForce bytes at → HasBlock bytes at packed → LogOrNot bytes
@@ -242,7 +242,7 @@ log_not_none at packed later bytes place log (inr (inr (inr (inl none)))) = no_b
 log_not_none at packed later bytes place log (inr (inr (inr (inr cut)))) = log_not_cut at packed later bytes place log cut
 
 -- Bytes have contents as a log in two areas, or one place where it shows that they are none.
-pub one_log : (bytes : List ℕ) → HasOneAnswer (λ contents. IsCheckpointed contents bytes) (IsNotOurs bytes)
+pub one_log : (bytes : List ℕ) → HasOneAnswer (λ contents. IsTwoAreas contents bytes) (IsNotOurs bytes)
 one_log bytes = record {
   some = log_or_not bytes;
   one_value = λ a b one two. one_contents a b bytes one two;

@@ -46,7 +46,7 @@ abbrev pub end_at : List ℕ → ℕ → Contents → ℕ
 end_at bytes at later = place_at bytes at + size_at bytes at + length (records_of later)
 
 -- The bytes are a log in two areas with these contents.
-pub record IsCheckpointed (contents : Contents) (bytes : List ℕ) : Type 0 where
+pub record IsTwoAreas (contents : Contents) (bytes : List ℕ) : Type 0 where
   pub at : ℕ
   pub packed : Contents
   pub later : Contents

@@ -6,17 +6,17 @@ ghost use Rattle.pv_law_checkpoints.specs.LogContents.{log_contents_of};
 ghost use Rattle.pv_law_checkpoints.specs.Roots.{place_at};
 ghost use Rattle.pv_format.specs.Checkpoint.{Standing, parts_of};
 ghost use Rattle.pv_law_checkpoints.specs.Stages.{free_place, made_by_all, standing_at};
-ghost use Rattle.pv_law_checkpoints.specs.TwoAreas.{IsCheckpointed, IsLog, IsNotOurs, block_of, end_at, formatted};
+ghost use Rattle.pv_law_checkpoints.specs.TwoAreas.{IsTwoAreas, IsLog, IsNotOurs, block_of, end_at, formatted};
 ghost use Rattle.pv_law_checkpoints.specs.Worked.{appended, packed_once, packed_twice, three};
 
 /// Bytes are a log in two areas with exactly one list of contents, or show at exactly one place that they are none, and never both.
 pub fn one_log()
-    ensures { (bytes : List ℕ) → HasOneAnswer (λ contents. IsCheckpointed contents bytes) (IsNotOurs bytes) }
+    ensures { (bytes : List ℕ) → HasOneAnswer (λ contents. IsTwoAreas contents bytes) (IsNotOurs bytes) }
 {}
 
 /// Bytes read as these contents exactly where they are a log in two areas with them.
 pub fn contents_are_those_of_the_log()
-    ensures { (contents : Contents) (bytes : List ℕ) → (log_contents_of bytes ≡ Some contents) ↔ IsCheckpointed contents bytes }
+    ensures { (contents : Contents) (bytes : List ℕ) → (log_contents_of bytes ≡ Some contents) ↔ IsTwoAreas contents bytes }
 {}
 
 /// What formatting makes are 59 bytes of a log without contents. The number in force is 1, and the gate of the other root isn't 1.

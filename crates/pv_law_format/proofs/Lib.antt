@@ -13,3 +13,4 @@ pub mod PolyvalueDecided
 pub mod RangeLemmas
 pub mod RecordCode
 pub mod ReplayLemmas
+pub mod SpelledBytes

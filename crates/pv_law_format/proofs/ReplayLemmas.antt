@@ -1,7 +1,5 @@
 -- Contents spell one list of records, or one of them is the first that spells none.
-use Rattle.std.proofs.Common.{◌≡◌, ◌⊎◌, ⊎_elim, ℕ, zero, suc, List, [], ◌∷◌, take, inl, inr, refl, sym, ap, ap₂, subst}
-use Rattle.std.specs.Prelude.{All}
-use Rattle.std.proofs.lemmas.List.Elements.{All-head, All-tail}
+use Rattle.std.proofs.Common.{◌≡◌, ◌⊎◌, ⊎_elim, ℕ, zero, suc, List, [], ◌∷◌, ◌++◌, take, inl, inr, refl, sym, ap, ap₂, subst}
 use Rattle.std.proofs.lemmas.Option.{none-some}
 use Rattle.pv_base.specs.Answer.{HasOneAnswer}
 use Rattle.pv_base.specs.BigEndian.{AreBytes}
@@ -10,11 +8,18 @@ use Rattle.pv_format.specs.Contents.{IsNoRecord, SpellRecords, IsFirstBadContent
 use Rattle.pv_format.specs.Record.{Record}
 use Rattle.pv_format.specs.RecordSpelling.{SpellsRecord}
 use Rattle.pv_law_format.proofs.AnswerLemmas.{one-record-answer, one-record, record-not-both}
+use Rattle.pv_law_format.proofs.SpelledBytes.{record-bytes, bytes-or-not}
 
-some-replay : (contents : List (List ℕ)) → All AreBytes contents
-    → ((records : List Record) × SpellRecords records contents) ⊎ ((place : ℕ) × IsFirstBadContent contents place)
-some-replay [] all = inl ([], tt)
-some-replay (content ∷ contents) all =
+record-or-none : (content : List ℕ) → ((entry : Record) × SpellsRecord entry content) ⊎ IsNoRecord content
+record-or-none content =
+    ⊎_elim
+    (λ (all : AreBytes content). ⊎_elim (λ found. inl found) (λ wrong. inr (λ other t. record-not-both content other wrong.0 t wrong.1)) (one-record-answer content all).some)
+    (λ (not_bytes : AreBytes content → ⊥). inr (λ other t. not_bytes (record-bytes other content t)))
+    (bytes-or-not content)
+
+some-replay : (contents : List (List ℕ)) → ((records : List Record) × SpellRecords records contents) ⊎ ((place : ℕ) × IsFirstBadContent contents place)
+some-replay [] = inl ([], tt)
+some-replay (content ∷ contents) =
     ⊎_elim
     (λ found. ⊎_elim
     (λ rest. inl (found.0 ∷ rest.0, (found.1, rest.1)))
@@ -28,11 +33,25 @@ some-replay (content ∷ contents) all =
         before = (found.1, bad.1.before);
       },
     ))
-    (some-replay contents (All-tail AreBytes content contents all)))
-    (λ none. inr (zero, record { content = content; there = refl; none = λ other t. record-not-both content other none.0 t none.1; records = []; before = tt }))
-    (one-record-answer content (All-head AreBytes content contents all)).some
+    (some-replay contents))
+    (λ none. inr (zero, record { content = content; there = refl; none = none; records = []; before = tt }))
+    (record-or-none content)
 
-one-replay : (contents : List (List ℕ)) (records others : List Record) → SpellRecords records contents → SpellRecords others contents → records ≡ others
+-- Contents that come one behind the other spell their records one behind the other.
+pub spelled-both : (records : List Record) (contents : List (List ℕ)) (more : List Record) (others : List (List ℕ)) → SpellRecords records contents → SpellRecords more others
+    → SpellRecords (records ++ more) (contents ++ others)
+spelled-both [] [] more others spelled behind = behind
+spelled-both [] (content ∷ contents) more others spelled behind = absurd spelled
+spelled-both (first ∷ records) [] more others spelled behind = absurd spelled
+spelled-both (first ∷ records) (content ∷ contents) more others spelled behind = (spelled.0, spelled-both records contents more others spelled.1 behind)
+
+-- One content more spells one record more.
+pub spelled-more : (records : List Record) (contents : List (List ℕ)) (more : Record) (content : List ℕ) → SpellRecords records contents → SpellsRecord more content
+    → SpellRecords (records ++ more ∷ []) (contents ++ content ∷ [])
+spelled-more records contents more content spelled one = spelled-both records contents (more ∷ []) (content ∷ []) spelled (one, tt)
+
+-- Contents spell one list of records.
+pub one-replay : (contents : List (List ℕ)) (records others : List Record) → SpellRecords records contents → SpellRecords others contents → records ≡ others
 one-replay [] [] [] s t = refl
 one-replay [] [] (other ∷ others) s t = absurd t
 one-replay [] (entry ∷ entries) others s t = absurd s
@@ -60,7 +79,8 @@ later-bad content contents place bad =
 first-bad : (content : List ℕ) (contents : List (List ℕ)) → IsFirstBadContent (content ∷ contents) zero → IsNoRecord content
 first-bad content contents bad = subst IsNoRecord (sym (Some_inj bad.there)) bad.none
 
-no-bad : (contents : List (List ℕ)) (records : List Record) (place : ℕ) → SpellRecords records contents → IsFirstBadContent contents place → ⊥
+-- Contents that spell records have none that spells none.
+pub no-bad : (contents : List (List ℕ)) (records : List Record) (place : ℕ) → SpellRecords records contents → IsFirstBadContent contents place → ⊥
 no-bad [] records place s bad = none-some _ bad.there
 no-bad (content ∷ contents) records zero s bad =
     let first = first-spelled content contents records s in first-bad content contents bad first.0 first.1
@@ -77,9 +97,9 @@ one-bad (content ∷ contents) (suc place) zero bad bad_too =
 one-bad (content ∷ contents) (suc place) (suc other) bad bad_too =
     ap (λ (n : ℕ). suc n) (one-bad contents place other (later-bad content contents place bad) (later-bad content contents other bad_too))
 
-pub one-replay-answer : (contents : List (List ℕ)) → All AreBytes contents → HasOneAnswer (λ records. SpellRecords records contents) (IsFirstBadContent contents)
-one-replay-answer contents all = record {
-  some = some-replay contents all;
+pub one-replay-answer : (contents : List (List ℕ)) → HasOneAnswer (λ records. SpellRecords records contents) (IsFirstBadContent contents)
+one-replay-answer contents = record {
+  some = some-replay contents;
   one_value = one-replay contents;
   one_fault = one-bad contents;
   not_both = no-bad contents;

@@ -1,5 +1,5 @@
 // Laws on the spellings of records.
-ghost use Rattle.std.specs.Prelude.{◌≡◌, ◌↔◌, ℕ, List, [], ◌++◌, length, All};
+ghost use Rattle.std.specs.Prelude.{◌≡◌, ◌↔◌, ℕ, List, [], ◌++◌, length};
 ghost use Rattle.pv_base.specs.Answer.{HasOneAnswer};
 ghost use Rattle.pv_base.specs.BigEndian.{AreBytes};
 ghost use Rattle.pv_format.specs.Contents.{SpellRecords, IsFirstBadContent};
@@ -41,6 +41,6 @@ pub fn one_record_answer()
 
 /// Contents spell exactly one list of records, or there is exactly one first content that spells none.
 pub fn one_replay_answer()
-    ensures { (contents : List (List ℕ)) → All AreBytes contents →
+    ensures { (contents : List (List ℕ)) →
         HasOneAnswer (λ records. SpellRecords records contents) (IsFirstBadContent contents) }
 {}

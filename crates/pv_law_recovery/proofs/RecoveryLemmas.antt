@@ -1,9 +1,7 @@
 -- From what a crash leaves to what a site goes on from.
-use Rattle.std.specs.Prelude.{◌≡◌, ◌⊎◌, ◌↔◌, ℕ, zero, suc, List, [], ◌∷◌, ◌++◌, Option, Some, None, Result, Ok, Err, is_some, false, option_and_then, slice_get}
+use Rattle.std.specs.Prelude.{◌≡◌, ◌⊎◌, ◌↔◌, ℕ, List, [], ◌∷◌, ◌++◌, Option, Some, None, Result, Ok, Err, is_some, false, option_and_then}
 use Rattle.std.proofs.Common.{refl, sym, subst, ap, ◌∙◌, inl, inr, arith}
 use Rattle.std.proofs.lemmas.Bool.{false≢true}
-use Rattle.std.proofs.lemmas.Option.{none-some}
-use Rattle.pv_base.proofs.Basics.{Some_inj}
 use Rattle.pv_base.specs.Answer.{HasOneAnswer}
 use Rattle.pv_base.specs.Catalog.{Declared}
 use Rattle.pv_format.specs.Contents.{IsFirstBadContent, SpellRecords}
@@ -20,6 +18,7 @@ use Rattle.pv_disk_model.specs.LogModel.{LogModel}
 use Rattle.pv_disk_model.specs.Size.{Contents}
 use Rattle.pv_format.specs.JournalContents.{contents_of}
 use Rattle.pv_format.specs.Journal.{IsJournal, IsNotOurs}
+use Rattle.pv_law_format.proofs.ReplayLemmas.{no-bad, spelled-more}
 use Rattle.pv_law_recovery.specs.Recovery.{IsBegunOrNot, Recovers, log_of}
 use Rattle.pv_protocol.specs.State.{Running}
 use Rattle.pv_site.specs.Crashes.{AreContentsOf, IsUp}
@@ -33,24 +32,6 @@ use Rattle.pv_site.specs.declared.error.OpenError.TheVariants.{Failed, Full, Epo
 pub spelled-contents : (records : List Record) (left : Option Contents) → AreContentsOf records left → (contents : Contents) × (left ≡ Some contents) × SpellRecords records contents
 spelled-contents records None are = absurd are
 spelled-contents records (Some contents) spelled = (contents, refl, spelled)
-
--- Each of them spells a record, so none is the first that spells none.
-spelled-at : (records : List Record) (contents : Contents) (place : ℕ) (content : List ℕ) → SpellRecords records contents → slice_get contents place ≡ Some content
-    → (one : Record) × SpellsRecord one content
-spelled-at records [] place content spelled there = absurd (none-some _ there)
-spelled-at [] (first ∷ contents) place content spelled there = absurd spelled
-spelled-at (one ∷ records) (first ∷ contents) zero content spelled there = (one, subst (SpellsRecord one) (Some_inj there) spelled.0)
-spelled-at (one ∷ records) (first ∷ contents) (suc place) content spelled there = spelled-at records contents place content spelled.1 there
-
-none-is-bad : (records : List Record) (contents : Contents) (place : ℕ) → SpellRecords records contents → IsFirstBadContent contents place → ⊥
-none-is-bad records contents place spelled bad = let found = spelled-at records contents place bad.content spelled bad.there in bad.none found.0 found.1
-
-spelled-more : (records : List Record) (contents : Contents) (more : Record) (content : List ℕ) → SpellRecords records contents → SpellsRecord more content
-    → SpellRecords (records ++ more ∷ []) (contents ++ content ∷ [])
-spelled-more [] [] more content spelled one = (one, tt)
-spelled-more [] (first ∷ contents) more content spelled one = absurd spelled
-spelled-more (first ∷ records) [] more content spelled one = absurd spelled
-spelled-more (first ∷ records) (front ∷ contents) more content spelled one = (spelled.0, spelled-more records contents more content spelled.1 one)
 
 -- The log of a site that is up holds its records.
 pub up-holds : {W : Type 0} (M : LogModel W) (site : SiteState W) (running : Running) (up : IsUp M site running) → SpellRecords site.records up.contents
@@ -118,7 +99,7 @@ module _ {D : Type 0} (M : DiskModel D)
             openings log me catalog records opened
             (subst (AreContentsOf records) (sym (ap (option_and_then contents_of) (opens.2 ∙ holds))) are) site_opens;
         is_readable = λ disk limit log after me index catalog holds opens site_opens.
-            none-is-bad records found.0 index found.2
+            no-bad found.0 records index found.2
             (subst (λ (contents : Contents). IsFirstBadContent contents index) (site_opens.2.1 found.0 (opened-contents disk limit log left found.0 holds found.1 opens)) site_opens.2.2);
         is_ours = λ disk limit log after me place catalog holds opens site_opens.
             false≢true (sym site_opens.2 ∙ ap is_some (opened-contents disk limit log left found.0 holds found.1 opens));

@@ -5,8 +5,8 @@ use Rattle.std.proofs.lemmas.List.Elements.{Contains-append_left, Contains-push,
 use Rattle.pv_base.specs.declared.txn.TxnId.{TxnId}
 use Rattle.pv_base.specs.Polyvalue.{Case, names}
 use Rattle.pv_cases.specs.Names.{Adds}
-use Rattle.pv_poly.proofs.TopOfTree.{IsTested}
-use Rattle.pv_poly.proofs.TestLemmas.{test-named, test-names, test-aborted, test-committed}
+use Rattle.pv_cases.proofs.TestedCases.{IsTested}
+use Rattle.pv_cases.proofs.TestLemmas.{test-named, test-names, test-aborted, test-committed}
 
 module _ {V : Type 0} where
   -- A test adds its transaction, and what its sides add.

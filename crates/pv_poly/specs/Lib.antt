@@ -1,5 +1,3 @@
-pub mod CasesAt
-pub mod From
 pub mod HeldCases
 pub mod TreeFalls
 pub mod TreeView

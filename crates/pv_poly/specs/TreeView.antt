@@ -1,17 +1,9 @@
 -- The cases that a decision tree stands for.
-use Rattle.std.specs.Prelude.{◌≡◌, false, true, List, [], ◌∷◌, ◌++◌}
-use Rattle.pv_base.specs.declared.txn.TxnId.{TxnId}
-use Rattle.pv_base.specs.Polyvalue.{Case, under, IsCanonical, NamesOnlyAfter}
+use Rattle.std.specs.Prelude.{false, true, List, [], ◌∷◌, ◌++◌}
+use Rattle.pv_base.specs.Polyvalue.{Case, under}
+use Rattle.pv_cases.specs.Sides.{AreSides}
 use Rattle.pv_poly.specs.declared.tree.Node.{Node}
 use Rattle.pv_poly.specs.declared.tree.Node.TheVariants.{Sure, Test}
-
--- Both sides of a test on the transaction are canonical, name only later transactions, and differ.
-pub record AreSides {V : Type 0} (txn : TxnId) (aborted committed : List (Case V)) : Type 0 where
-  pub aborted_canonical : IsCanonical aborted
-  pub committed_canonical : IsCanonical committed
-  pub aborted_after : NamesOnlyAfter txn aborted
-  pub committed_after : NamesOnlyAfter txn committed
-  pub differ : aborted ≡ committed → ⊥
 
 -- the leaves from left to right, each under the literals on the way to it
 abbrev pub cases_of : {V : Type 0} → Node V → List (Case V)

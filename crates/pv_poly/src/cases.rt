@@ -2,7 +2,7 @@
 ghost use Rattle.std.specs.Prelude.{◌≡◌, ◌++◌, drop, IfOk, OnOk};
 ghost use Rattle.std.specs.List.{position_or_len};
 ghost use Rattle.pv_base.specs.Polyvalue.{IsCanonical};
-ghost use Rattle.pv_poly.specs.CasesAt.{asks_commit, beyond, under_all};
+ghost use Rattle.pv_cases.specs.CasesAt.{asks_commit, beyond, under_all};
 
 use crate::tree::{Node, Tree};
 use pv_base::{Case, Exact, Literal, NoMemory};

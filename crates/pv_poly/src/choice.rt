@@ -1,7 +1,7 @@
 // Trees after an outcome is known, and trees that choose by an outcome.
 ghost use Rattle.std.specs.Prelude.{◌≡◌, ◌⊎◌, false, true, IsTrue, IfOk};
 ghost use Rattle.pv_base.specs.Polyvalue.{names, AreOutcomes, IsCanonical, IsChoice, IsSettled};
-ghost use Rattle.pv_poly.specs.From.{NamesFrom, IsFirst, IsSide, before, earlier, first_before};
+ghost use Rattle.pv_cases.specs.From.{NamesFrom, IsFirst, IsSide, before, earlier, first_before};
 ghost use Rattle.pv_base.specs.declared.txn.TxnId.{TxnId};
 
 use crate::tree::{Node, Tree};

@@ -15,7 +15,10 @@ ghost use Rattle.pv_poly.specs.HeldCases.{held_cases};
 use crate::held::Cases;
 use crate::tree::Tree;
 use pv_base::{Case, CaseError, Exact, HELD_NAMES, Literal, NameError, NoMemory, TxnId};
-use pv_cases::{first_difference, names_of, ordered, table_of};
+use pv_cases::{
+    case_under, first_difference, names_of, ordered, settled_value, sure_value, table_of,
+    two_values,
+};
 use std::alloc::Global;
 use std::marker::Model;
 
@@ -276,71 +279,6 @@ impl<V: Exact> Poly<V> {
     }
 }
 
-// The value of cases that are only one, which is always met.
-fn sure_value<V: Copy>(cases: &[Case<V>]) -> Option<V>
-    ensures { IfSome result (λ value. cases.now ≡ record { when = []; value = value } ∷ []) }
-{
-    match cases {
-        [case] if case.when.is_empty() => Some(case.value),
-        _ => None,
-    }
-}
-
-// The two values, where both are always met and they differ.
-fn two_values<V: Exact>(old: &[Case<V>], new: &[Case<V>]) -> Option<(V, V)>
-    ensures { IfSome result (λ both. (old.now ≡ record { when = []; value = both.0 } ∷ []) ×
-        ((new.now ≡ record { when = []; value = both.1 } ∷ []) × (both.0 ≢ both.1))) }
-{
-    let before = sure_value(old)?;
-    let after = sure_value(new)?;
-    if before == after {
-        return None;
-    }
-    Some((before, after))
-}
-
-// The value of cases that are a choice between two by one transaction, once its outcome alone is known.
-fn settled_value<V: Copy>(cases: &[Case<V>], literals: &[Literal]) -> Option<V>
-    ensures { IfSome result (λ value. IsSettled literals.now cases.now (record { when = []; value = value } ∷ [])) }
-{
-    let literal = only_literal(literals)?;
-    let values = values_by(cases, literal.txn)?;
-    Some(if literal.commits { values.1 } else { values.0 })
-}
-
-// The literal, if it is the only one.
-fn only_literal(literals: &[Literal]) -> Option<Literal>
-    ensures { IfSome result (λ literal. literals.now ≡ literal ∷ []) }
-{
-    match literals {
-        [literal] => Some(*literal),
-        _ => None,
-    }
-}
-
-// The two values of cases that are a choice between them by this transaction.
-fn values_by<V: Copy>(cases: &[Case<V>], txn: TxnId) -> Option<(V, V)>
-    ensures { IfSome result (λ both. cases.now ≡ record { when = record { txn = txn; commits = false } ∷ []; value = both.0 }
-        ∷ record { when = record { txn = txn; commits = true } ∷ []; value = both.1 } ∷ []) }
-{
-    match cases {
-        [before, after] if is_only(&before.when, txn, false) && is_only(&after.when, txn, true) => {
-            Some((before.value, after.value))
-        }
-        _ => None,
-    }
-}
-
-// Whether the condition asks for this outcome of the transaction, and for no other.
-fn is_only(when: &[Literal], txn: TxnId, commits: bool) -> bool
-    ensures { result ≡ true → when.now ≡ record { txn = txn; commits = commits } ∷ [] }
-{
-    match when {
-        [literal] => literal.txn == txn && literal.commits == commits,
-        _ => false,
-    }
-}
-
 // The cases of a choice between two values.
 fn cases_of_choice<V: Copy>(
     alloc: Global,
@@ -355,19 +293,6 @@ fn cases_of_choice<V: Copy>(
     cases.push_reserved(case_under(alloc, txn, false, before)?);
     cases.push_reserved(case_under(alloc, txn, true, after)?);
     Ok(cases)
-}
-
-// The value under this outcome of the transaction.
-fn case_under<V: Copy>(
-    alloc: Global,
-    txn: TxnId,
-    commits: bool,
-    value: V,
-) -> Result<Case<V>, NoMemory>
-    ensures { IfOk result (λ case. case ≡ record { when = record { txn = txn; commits = commits } ∷ []; value = value }) }
-{
-    let when = Vec::from_slice(alloc, &[Literal { txn, commits }])?;
-    Ok(Case { when, value })
 }
 
 // How many transactions both trees name together.

@@ -16,7 +16,7 @@ ghost use Rattle.pv_query.specs.Sums.{added, totals, IsWithin, AreWithin};
 use crate::repeats::Distinct;
 use pv_base::{HELD_NAMES, MAX_ITEMS, NoMemory, TxnId};
 use pv_cases::{ordered, push_names};
-use pv_poly::Poly;
+use pv_tree::Poly;
 use std::alloc::Global;
 use thiserror::Error;
 

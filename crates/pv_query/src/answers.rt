@@ -9,7 +9,7 @@ ghost use Rattle.pv_model.specs.PossibleAnswers.{possible, certain};
 use crate::repeats::Distinct;
 use pv_ast::Reply;
 use pv_base::NoMemory;
-use pv_poly::Poly;
+use pv_tree::Poly;
 use std::alloc::Global;
 
 /// Every reply that some outcomes give, each once, in the order of the cases. Takes time in proportion to the cases.

@@ -4,8 +4,8 @@ ghost use Rattle.pv_base.specs.declared.limits.TheConstants.{MAX_ITEMS};
 
 use pv_ast::Reply;
 use pv_base::{Exact, NoMemory, SiteId, TxnId};
-use pv_poly::Poly;
 use pv_query::*;
+use pv_tree::Poly;
 use std::alloc::Global;
 use std::process::Abort;
 use std::test::Fail;

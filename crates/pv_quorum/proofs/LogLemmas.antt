@@ -1,9 +1,9 @@
 -- Room in the log, and then the append.
-use Rattle.std.proofs.Common.{◌≡◌, inl, inr, ℕ, ◌+◌, ◌-◌, ◌^◌, ◌≤◌, true, false, List, Option, Some, None, Result, Ok, Err, length, min, refl, sym, subst, ap, ◌∙◌, arith}
+use Rattle.std.proofs.Common.{◌≡◌, ℕ, ◌-◌, ◌^◌, false, List, Option, Some, None, Result, Ok, Err, length, min, refl, subst, ap, arith}
 use Rattle.std.specs.Option.{is_some}
-use Rattle.pv_disk_model.specs.Log.{Keeps, Adds, MayAdd, StaysUp, GoesDown, IsWithin}
+use Rattle.pv_disk_model.specs.Log.{Keeps, StaysUp, IsWithin}
 use Rattle.pv_disk_model.specs.LogModel.{LogModel}
-use Rattle.pv_disk_model.proofs.LogLemmas.{Keeps-Adds, Keeps-MayAdd, settled_since}
+use Rattle.pv_disk_model.proofs.LogLemmas.{Keeps-Adds, Keeps-MayAdd, StaysUp-GoesDown, StaysUp-trans}
 use Rattle.pv_disk_model.specs.Size.{Contents, size_of}
 use Rattle.pv_law_quorum.specs.Record.{Record}
 use Rattle.pv_quorum.specs.Spelling.{record_bytes}
@@ -14,38 +14,11 @@ use Rattle.pv_quorum.specs.declared.writing.Written.{Written}
 use Rattle.pv_quorum.specs.declared.writing.Written.TheVariants as written
 
 module _ {W : Type 0} (M : LogModel W) where
-  -- A reservation that fails: nothing is added.
-  pub keeping_may_add : (old new : W) (content : List ℕ) → M.is_intact old → M.is_down old ≡ false → Keeps M old new → MayAdd M old new content
-  keeping_may_add old new content intact up kept = record {
-    contents = λ was is. inl (kept.contents ∙ is);
-    known = ap is_some kept.contents;
-    size = inl kept.size;
-    limit = kept.limit;
-    any_moment = λ was is. record {
-      later = kept.later;
-      each = λ left since. inl (settled_since M old was left intact is (kept.crash (M.moment old) left (omega arith) since) up);
-      before = λ t left le since. inl (kept.crash t left le since);
-      keeps = λ t left le since. kept.keeps t left le since;
-    };
-  }
-
-  -- A log that stays up, and then stays up or goes down.
-  pub StaysUp-trans : (old mid new : W) → StaysUp M old mid → StaysUp M mid new → StaysUp M old new
-  StaysUp-trans old mid new first second = record { was_up = first.was_up; is_up = second.is_up; faults = omega (arith, first.faults, second.faults) }
-
-  pub StaysUp-GoesDown : (old mid new : W) → StaysUp M old mid → GoesDown M mid new → GoesDown M old new
-  StaysUp-GoesDown old mid new first second = record {
-    was_up = first.was_up;
-    is_down = second.is_down;
-    faults = omega (arith, first.faults, second.faults);
-    fault = omega (arith, first.faults, second.fault);
-  }
-
   module _ (old mid new : W) (entry : Record) (intact : M.is_intact old) (stays : StaysUp M old mid) (kept : Keeps M old mid) where
     by : IsWithin M old (length (record_bytes entry)) → (result : Result Written QuorumError) → AppendsBytes M mid new (record_bytes entry) result → Writes M old new entry result
-    by within (Ok written.Done) appended = (within, StaysUp-trans old mid new stays appended.0, Keeps-Adds M old mid new intact stays.was_up kept (record_bytes entry) appended.1)
+    by within (Ok written.Done) appended = (within, StaysUp-trans M old mid new stays appended.0, Keeps-Adds M old mid new intact stays.was_up kept (record_bytes entry) appended.1)
     by within (Ok (written.Full with_it)) appended = absurd appended
-    by within (Err Fault) appended = (within, StaysUp-GoesDown old mid new stays appended.0, Keeps-MayAdd M old mid new intact stays.was_up kept (record_bytes entry) appended.1)
+    by within (Err Fault) appended = (within, StaysUp-GoesDown M old mid new stays appended.0, Keeps-MayAdd M old mid new intact stays.was_up kept (record_bytes entry) appended.1)
     by within (Err Down) appended = absurd appended
     by within (Err NoMemory) appended = absurd appended
 

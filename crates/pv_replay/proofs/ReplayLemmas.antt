@@ -12,6 +12,7 @@ use Rattle.pv_format.specs.Record.{epoch_begun, prepared, outcome_known}
 use Rattle.pv_format.specs.RecordSpelling.{SpellsRecord}
 use Rattle.pv_fields.specs.Decoding.{Passes, Stops}
 use Rattle.pv_law_format.proofs.AnswerLemmas.{record-not-both}
+use Rattle.pv_law_format.proofs.ReplayLemmas.{spelled-more}
 use Rattle.pv_replay.specs.Faults.{fault_of}
 use Rattle.pv_replay.specs.Values.{contents_of, record_of, records_of}
 use Rattle.pv_replay.specs.declared.error.PolyError.{PolyError}
@@ -46,14 +47,6 @@ module _ (content : List ℕ) (start : Rest) (begins : start ≡ record { place 
       no_record content (extra new.place)
       (subst (λ (rest : Rest). HasFault (record_layout polyvalue_then nothing_more) rest.place rest.left (extra new.place)) begins
       (passes.later nothing_more (extra new.place) (is_extra (subst (λ rest. rest ≢ []) is found))))
-
--- One more content, and its record.
-pub spell_more : (records : List model.Record) (contents : List (List ℕ)) (value : model.Record) (content : List ℕ) → SpellRecords records contents → SpellsRecord value content
-    → SpellRecords (records ++ value ∷ []) (contents ++ content ∷ [])
-spell_more [] [] value content spelled one = (one, tt)
-spell_more [] (other ∷ contents) value content spelled one = absurd spelled
-spell_more (first ∷ records) [] value content spelled one = absurd spelled
-spell_more (first ∷ records) (other ∷ contents) value content spelled one = (spelled.0, spell_more records contents value content spelled.1 one)
 
 max_assoc : (a b c : ℕ) → max a (max b c) ≡ max (max a b) c
 max_assoc a b c = omega arith
@@ -95,4 +88,4 @@ module _ (contents : List (Vec ℕ)) (i : ℕ) (content : Vec ℕ) (inside : i <
   records_more records read before one =
       subst (λ rs. SpellRecords rs (take (i + 1) (contents_of contents))) (sym (map-append record_of records (read ∷ [])))
       (subst (SpellRecords (records_of records ++ record_of read ∷ [])) (sym contents_more)
-      (spell_more (records_of records) (take i (contents_of contents)) (record_of read) content.items before one))
+      (spelled-more (records_of records) (take i (contents_of contents)) (record_of read) content.items before one))

@@ -4,7 +4,7 @@ ghost use Rattle.pv_base.specs.declared.limits.TheConstants.{HELD_NAMES};
 ghost use Rattle.pv_cases.specs.JoinedCases.{IsKept};
 
 use pv_base::{Case, Literal, NameError, NoMemory, TxnId};
-use pv_poly::Poly;
+use pv_tree::Poly;
 use std::alloc::Global;
 
 /// A choice between two values.

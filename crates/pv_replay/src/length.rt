@@ -4,7 +4,7 @@ ghost use Rattle.pv_format.specs.Length.{polyvalue_length, reads_length, record_
 ghost use Rattle.pv_replay.specs.Values.{record_of};
 
 use crate::Record;
-use pv_poly::{Poly, Read};
+use pv_tree::{Poly, Read};
 
 // How many bytes a polyvalue takes.
 fn poly_length(value: &Poly<i64>) -> usize

@@ -17,6 +17,6 @@ pub use fields::{put_truth, put_txn, take_count, take_item, take_site, take_trut
 pub use length::reads_length;
 pub use past::{Past, replay};
 pub use poly::{put_poly, take_poly};
-pub use pv_poly::Read;
+pub use pv_tree::Read;
 pub use reads::{put_reads, take_reads};
 pub use record::{Record, encode_record};

@@ -1,7 +1,6 @@
 // The records that the contents of a journal are.
-ghost use Rattle.std.specs.Prelude.{◌≡◌, ◌≢◌, [], ◌∷◌, ℕ, List, max, All, MatchOption, IsSome, IfOk};
+ghost use Rattle.std.specs.Prelude.{◌≡◌, ◌≢◌, [], ◌∷◌, ℕ, List, max, MatchOption, IsSome, IfOk};
 ghost use Rattle.pv_base.specs.Answer.{Answers};
-ghost use Rattle.pv_base.specs.BigEndian.{AreBytes};
 ghost use Rattle.pv_format.specs.Contents.{IsFirstBadContent, IsNoRecord, SpellRecords, greatest_epoch};
 ghost use Rattle.pv_format.specs.RecordSpelling.{SpellsRecord};
 ghost use Rattle.pv_replay.specs.Faults.{fault_of};
@@ -30,7 +29,6 @@ pub fn replay(alloc: Global, contents: &[Vec<u8>]) -> Result<Past, ReplayError>
         (λ past. records_of past.records.items) index_of result }
     ensures epoch { IfOk result (λ past. past.epoch ≡ greatest_epoch (records_of past.records.items)) }
 {
-    contents_are_bytes(contents);
     let mut epoch = 0;
     let mut records = with_room(alloc, contents.len())?;
     for content in contents {
@@ -44,23 +42,6 @@ pub fn replay(alloc: Global, contents: &[Vec<u8>]) -> Result<Past, ReplayError>
     }
     Ok(Past { epoch, records })
 }
-
-// Shows that each item of each content is below 256, without which a content may have neither a record nor a fault. It computes nothing. The
-// loop can't be spared: the toolchain knows the items of a slice to be in range, but of those of a `Vec` in a slice it knows nothing until
-// they are seen as a slice too. That has to be known of all contents before the first is read, since the contract says that they have
-// exactly one answer also where the call ends early, for want of memory or at a content that is no record.
-fn contents_are_bytes(contents: &[Vec<u8>])
-    ensures { All AreBytes (contents_of contents.now) }
-{
-    for content in contents {
-        content_is_bytes(content);
-    }
-}
-
-// Shows that each item of a content is below 256. It computes nothing.
-fn content_is_bytes(content: &[u8])
-    ensures { AreBytes content.now }
-{}
 
 // The greater of this epoch and the record's, if it has one.
 fn later_epoch(epoch: u32, value: &Record) -> u32

@@ -23,7 +23,7 @@ use crate::room::{with_room, with_room_for_few};
 use pv_base::{Case, CaseError, Literal, NoMemory};
 use pv_bytes::{Put, Take};
 use pv_cases::no_canonical_fault;
-use pv_poly::Poly;
+use pv_tree::Poly;
 use std::alloc::Global;
 
 /// Writes a polyvalue that some bytes spell. Takes time in proportion to these bytes. After a refusal the `Put` holds a part of them, and is to

@@ -15,7 +15,7 @@ use crate::poly::{put_poly, take_poly};
 use crate::room::with_room_for_few;
 use pv_base::NoMemory;
 use pv_bytes::{Put, Take};
-use pv_poly::Read;
+use pv_tree::Read;
 use std::alloc::Global;
 
 /// Writes items with their polyvalues, which some bytes spell. Takes time in proportion to these bytes. After a refusal the `Put` holds a

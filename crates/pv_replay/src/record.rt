@@ -13,7 +13,7 @@ use crate::length::record_length;
 use crate::reads::{put_reads, take_reads};
 use pv_base::{NoMemory, TxnId};
 use pv_bytes::{Put, Take};
-use pv_poly::Read;
+use pv_tree::Read;
 use std::alloc::Global;
 
 /// What a site keeps for good.

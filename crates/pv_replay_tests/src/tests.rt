@@ -5,8 +5,8 @@ ghost use Rattle.pv_replay.specs.Values.{record_of};
 
 use pv_base::{NoMemory, TxnId};
 use pv_bytes::{Put, Take};
-use pv_poly::Poly;
 use pv_replay::*;
+use pv_tree::Poly;
 use std::alloc::{AllocFailed, Global};
 use std::test::Fail;
 

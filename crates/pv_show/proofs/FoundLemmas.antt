@@ -1,6 +1,6 @@
 -- What bytes are, by what they begin with: a log in two areas, a journal, or none of the form.
 use Rattle.std.proofs.Common.{◌≡◌, ◌<◌, ℕ, Bool, true, false, List, length, Result, Err, refl, sym, ap, subst, ◌∙◌, arith}
-use Rattle.std.specs.Prelude.{Vec, IfErr, IfOk, IfSome, MatchBool, IsErrOf, take}
+use Rattle.std.specs.Prelude.{Vec, IfSome, MatchBool, take}
 use Rattle.std.specs.Str.{bytes_eq}
 use Rattle.std.specs.declared.alloc.Global.{Global}
 use Rattle.std.proofs.lemmas.List.{take_all}
@@ -16,7 +16,7 @@ use Rattle.pv_journal.specs.Opening.{contents_in, place_in}
 use Rattle.pv_law_checkpoints.proofs.OneAnswer.{one_log}
 use Rattle.pv_law_checkpoints.specs.Roots.{start}
 use Rattle.pv_law_checkpoints.specs.TwoAreas as two_areas
-use Rattle.pv_law_checkpoints.specs.TwoAreas.{IsCheckpointed}
+use Rattle.pv_law_checkpoints.specs.TwoAreas.{IsTwoAreas}
 use Rattle.pv_law_journal.proofs.OneAnswer.{one_answer}
 use Rattle.pv_show.specs.SiteText.{IsFoundIn, log, no_log}
 
@@ -34,7 +34,7 @@ begins-not bytes few = by (bytes_eq (take 8 bytes) start) refl
 
 module _ (bytes : List ℕ) where
   abbrev IsOf : Bool → Contents → Type 0
-  IsOf test contents = MatchBool test (IsCheckpointed contents bytes) (IsJournal contents bytes)
+  IsOf test contents = MatchBool test (IsTwoAreas contents bytes) (IsJournal contents bytes)
 
   abbrev IsNoneOf : Bool → ℕ → Type 0
   IsNoneOf test place = MatchBool test (two_areas.IsNotOurs bytes place) (journals.IsNotOurs bytes place)

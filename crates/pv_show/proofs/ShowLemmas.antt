@@ -9,7 +9,7 @@ use Rattle.pv_disk.specs.BayModel.{BayModel}
 use Rattle.pv_disk.specs.declared.disk_error.LookError.{LookError}
 use Rattle.pv_disk.specs.declared.disk_error.LookError.TheVariants.{Failed, NotOurs, NoMemory}
 use Rattle.pv_journal.specs.Opening.{contents_in, place_in}
-use Rattle.pv_journal.specs.Reading.{LooksBy}
+use Rattle.pv_law_calls.specs.Reading.{LooksBy}
 use Rattle.pv_disk_model.specs.Calls.{OnlyReads}
 use Rattle.pv_disk_model.specs.DiskModel.{DiskModel}
 use Rattle.pv_show.specs.Bays.{ReadsDisk}

@@ -8,7 +8,7 @@ use Rattle.pv_disk_model.specs.Size.{Contents}
 use Rattle.pv_format.specs.Journal.{IsJournal, IsNotOurs}
 use Rattle.pv_law_checkpoints.specs.Roots.{start}
 use Rattle.pv_law_checkpoints.specs.TwoAreas as two_areas
-use Rattle.pv_law_checkpoints.specs.TwoAreas.{IsCheckpointed}
+use Rattle.pv_law_checkpoints.specs.TwoAreas.{IsTwoAreas}
 use Rattle.pv_model.specs.ReplyText.{line_feed}
 use Rattle.pv_protocol.specs.LineText.{line_text}
 use Rattle.pv_protocol.specs.Lines.{Line}
@@ -22,7 +22,7 @@ pub data Found : Type 0 where
 
 -- The bytes of the disk are that: of a log in two areas where they begin as such a log does, and else of a journal.
 abbrev pub IsFoundIn : List ℕ → Found → Type 0
-IsFoundIn bytes (log contents) = MatchBool (bytes_eq (take 8 bytes) start) (IsCheckpointed contents bytes) (IsJournal contents bytes)
+IsFoundIn bytes (log contents) = MatchBool (bytes_eq (take 8 bytes) start) (IsTwoAreas contents bytes) (IsJournal contents bytes)
 IsFoundIn bytes (no_log place) = MatchBool (bytes_eq (take 8 bytes) start) (two_areas.IsNotOurs bytes place) (IsNotOurs bytes place)
 
 -- a line about a site, which ends so

@@ -10,7 +10,7 @@ use Rattle.pv_disk_model.proofs.LogLemmas.{settled_since}
 use Rattle.pv_disk_model.specs.Log.{IsBeforeOrAfter}
 use Rattle.pv_disk_model.specs.LogModel.{LogModel}
 use Rattle.pv_disk_model.specs.Size.{Contents}
-use Rattle.pv_law_format.proofs.AnswerLemmas.{one-record}
+use Rattle.pv_law_format.proofs.ReplayLemmas.{one-replay, spelled-more}
 use Rattle.pv_protocol.specs.State as model
 use Rattle.pv_protocol.specs.State.{Running, Input}
 use Rattle.pv_protocol.specs.Step.{step_on, records_after}
@@ -23,25 +23,6 @@ use Rattle.pv_site.specs.declared.error.StepError.{StepError}
 use Rattle.pv_site.specs.declared.error.StepError.TheVariants.{Fault, Down, NoMemory}
 use Rattle.pv_site.specs.declared.input.Step.{Step}
 
--- The same contents spell the same records.
-records-same : (contents : Contents) (records others : List Record) → SpellRecords records contents → SpellRecords others contents → records ≡ others
-records-same [] [] [] spelled other_spelled = refl
-records-same [] [] (other ∷ others) spelled other_spelled = absurd other_spelled
-records-same [] (first ∷ records) others spelled other_spelled = absurd spelled
-records-same (content ∷ contents) [] others spelled other_spelled = absurd spelled
-records-same (content ∷ contents) (first ∷ records) [] spelled other_spelled = absurd other_spelled
-records-same (content ∷ contents) (first ∷ records) (other ∷ others) spelled other_spelled =
-    ap₂ (λ (one : Record) (more : List Record). one ∷ more) (one-record content first other spelled.0 other_spelled.0)
-    (records-same contents records others spelled.1 other_spelled.1)
-
--- Contents that come one behind the other spell their records one behind the other.
-spelled-both : (records : List Record) (contents : Contents) (more : List Record) (others : Contents) → SpellRecords records contents → SpellRecords more others
-    → SpellRecords (records ++ more) (contents ++ others)
-spelled-both [] [] more others spelled behind = behind
-spelled-both [] (content ∷ contents) more others spelled behind = absurd spelled
-spelled-both (first ∷ records) [] more others spelled behind = absurd spelled
-spelled-both (first ∷ records) (content ∷ contents) more others spelled behind = (spelled.0, spelled-both records contents more others spelled.1 behind)
-
 -- Contents that are left spell what they spell.
 left-spelled : (records : List Record) (contents : Contents) (left : Option Contents) → SpellRecords records contents → left ≡ Some contents → AreContentsOf records left
 left-spelled records contents left spelled is = subst (AreContentsOf records) (sym is) spelled
@@ -50,7 +31,7 @@ left-spelled records contents left spelled is = subst (AreContentsOf records) (s
 left-more : (records : List Record) (contents : Contents) (more : Record) (content : List ℕ) (left : Option Contents) → SpellRecords records contents
     → SpellsRecord more content → left ≡ Some (contents ++ content ∷ []) → AreContentsOf (records ++ more ∷ []) left
 left-more records contents more content left spelled one is =
-    left-spelled (records ++ more ∷ []) (contents ++ content ∷ []) left (spelled-both records contents (more ∷ []) (content ∷ []) spelled (one, tt)) is
+    left-spelled (records ++ more ∷ []) (contents ++ content ∷ []) left (spelled-more records contents more content spelled one) is
 
 -- Before an append or after it.
 either-spelled : (records : List Record) (contents : Contents) (more : Record) (content : List ℕ) (left : Option Contents) → SpellRecords records contents
@@ -117,7 +98,7 @@ module _ {W : Type 0} (M : LogModel W) where
   known-records log me catalog records site None is none opened = absurd none
   known-records log me catalog records site (Some contents) is spelled opened =
       let same : opened.records ≡ records =
-      records-same contents opened.records records (subst (SpellRecords opened.records) (opened.read contents is) opened.spelled) spelled in
+      one-replay contents opened.records records (subst (SpellRecords opened.records) (opened.read contents is) opened.spelled) spelled in
       let epoch : site.epoch ≡ opened.epoch = ap (λ (one : SiteState W). one.epoch) opened.site in
       ap (λ (one : SiteState W). one.records) opened.site
       ∙ ap₂ (λ (before : List Record) (n : ℕ). before ++ epoch_begun n ∷ []) same (sym epoch)

@@ -10,8 +10,9 @@ use Rattle.pv_disk_model.specs.Calls.{Makes, reserve, append}
 use Rattle.pv_disk_model.specs.Log.{Keeps, Adds, MayAdd, StaysUp, GoesDown}
 use Rattle.pv_disk_model.specs.LogModel.{LogModel}
 use Rattle.pv_disk_model.specs.Size.{Contents}
-use Rattle.pv_disk_model.proofs.LogLemmas.{settled_since, Keeps-refl}
+use Rattle.pv_disk_model.proofs.LogLemmas.{Keeps-refl, StaysUp-trans, StaysUp-GoesDown, keeping_may_add}
 use Rattle.pv_law_format.proofs.LengthLemmas.{record-length}
+use Rattle.pv_law_format.proofs.ReplayLemmas.{spelled-more}
 use Rattle.pv_law_step.proofs.JournalLemmas.{journal-more}
 use Rattle.pv_site.specs.Calls.{append_calls, FailsToAppend, MayReserve}
 use Rattle.pv_site.specs.OnLog.{HoldsRecords, Logs}
@@ -20,33 +21,6 @@ use Rattle.pv_site.specs.declared.error.StepError.{StepError}
 use Rattle.pv_site.specs.declared.error.StepError.TheVariants.{Fault, Down, NoMemory}
 
 module _ {W : Type 0} (M : LogModel W) where
-  -- A reservation that fails: nothing is added.
-  pub keeping_may_add : (old new : W) (content : List ℕ) → M.is_intact old → M.is_down old ≡ false → Keeps M old new → MayAdd M old new content
-  keeping_may_add old new content intact up kept = record {
-    contents = λ was is. inl (kept.contents ∙ is);
-    known = ap is_some kept.contents;
-    size = inl kept.size;
-    limit = kept.limit;
-    any_moment = λ was is. record {
-      later = kept.later;
-      each = λ left since. inl (settled_since M old was left intact is (kept.crash (M.moment old) left (omega arith) since) up);
-      before = λ t left le since. inl (kept.crash t left le since);
-      keeps = λ t left le since. kept.keeps t left le since;
-    };
-  }
-
-  -- A log that stays up, and then stays up or goes down.
-  pub StaysUp-trans : (old mid new : W) → StaysUp M old mid → StaysUp M mid new → StaysUp M old new
-  StaysUp-trans old mid new first second = record { was_up = first.was_up; is_up = second.is_up; faults = omega (arith, first.faults, second.faults) }
-
-  pub StaysUp-GoesDown : (old mid new : W) → StaysUp M old mid → GoesDown M mid new → GoesDown M old new
-  StaysUp-GoesDown old mid new first second = record {
-    was_up = first.was_up;
-    is_down = second.is_down;
-    faults = omega (arith, first.faults, second.faults);
-    fault = omega (arith, first.faults, second.fault);
-  }
-
   -- Room was made, and then the content appended, or not.
   pub appended-calls : (old mid new : W) (content : List ℕ) → M.goes old (reserve (length content)) true mid → M.goes mid (append content) true new
       → Makes M.goes old (append_calls content) true new
@@ -81,13 +55,6 @@ module _ {W : Type 0} (M : LogModel W) (old new : W) where
     size = kept.size ∙ holds.size;
     held = λ contents is. holds.held contents (sym kept.contents ∙ is);
   }
-
-  spelled-more : (records : List Record) (contents : Contents) (more : Record) (content : List ℕ) → SpellRecords records contents → SpellsRecord more content
-      → SpellRecords (records ++ more ∷ []) (contents ++ content ∷ [])
-  spelled-more [] [] more content spelled one = (one, tt)
-  spelled-more [] (first ∷ contents) more content spelled one = absurd spelled
-  spelled-more (first ∷ records) [] more content spelled one = absurd spelled
-  spelled-more (first ∷ records) (other ∷ contents) more content spelled one = (spelled.0, spelled-more records contents more content spelled.1 one)
 
   held-more : (was : Option Contents) → M.contents old ≡ was → (records : List Record) (more : Record) (content : List ℕ) → Adds M old new content
       → HoldsRecords M old records → SpellsRecord more content

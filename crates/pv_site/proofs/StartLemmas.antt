@@ -7,11 +7,10 @@ use Rattle.pv_base.specs.declared.limits.TheConstants.{NEVER_GIVEN}
 use Rattle.pv_format.specs.Contents.{SpellRecords, greatest_epoch}
 use Rattle.pv_format.specs.Record.{Record, epoch_begun}
 use Rattle.pv_disk_model.specs.LogModel.{LogModel}
-use Rattle.pv_disk_model.proofs.LogLemmas.{Keeps-Adds, Keeps-MayAdd, Keeps-trans}
+use Rattle.pv_disk_model.proofs.LogLemmas.{Keeps-Adds, Keeps-MayAdd, Keeps-trans, StaysUp-GoesDown, StaysUp-trans}
 use Rattle.pv_protocol.specs.Records.{journal_bytes, record_bytes}
 use Rattle.pv_protocol.specs.Start.{just_started, site_start, starting, starts, too_long, no_epoch}
 use Rattle.pv_protocol.specs.State.{Setup}
-use Rattle.pv_site.proofs.LogLemmas.{StaysUp-trans, StaysUp-GoesDown}
 use Rattle.pv_site.proofs.OpenLemmas.{size-journal}
 use Rattle.pv_site.specs.OnLog.{HoldsRecords}
 use Rattle.pv_site.specs.Opens.{HasOpened, Opens, ReadsPast, ReadsRecords, refused_with, unopened}

@@ -24,9 +24,9 @@ use pv_base::{NoMemory, Reply, SiteId, TxnId};
 use pv_check::Part;
 use pv_coord::Vote;
 use pv_disk::Log;
-use pv_poly::Poly;
 use pv_query::possible;
 use pv_store::Store;
+use pv_tree::Poly;
 use pv_wire::Message;
 use std::alloc::Global;
 

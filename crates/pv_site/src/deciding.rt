@@ -17,8 +17,8 @@ use pv_base::{GrantId, NoMemory, SiteId, TxnId, Want};
 use pv_disk::Log;
 use pv_locks::Locks;
 use pv_part::{PrepareCase, on_prepare};
-use pv_poly::Read;
 use pv_store::StoreError;
+use pv_tree::Read;
 use pv_wire::{Message, NoCause};
 use std::alloc::Global;
 

@@ -25,9 +25,9 @@ use pv_ast::Program;
 use pv_base::{GrantId, ItemId, NoMemory, SiteId, TxnId, Want};
 use pv_check::Part;
 use pv_coord::{Coord, GrantChange, GrantTaken};
-use pv_poly::Read;
 use pv_split::{Joined, SplitError, split};
 use pv_store::Store;
+use pv_tree::Read;
 use pv_wire::Message;
 use std::alloc::Global;
 

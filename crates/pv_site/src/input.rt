@@ -2,7 +2,7 @@
 use pv_ast::{Program, Reply};
 use pv_base::{ItemId, SiteId, TxnId};
 use pv_check::Plan;
-use pv_poly::Poly;
+use pv_tree::Poly;
 use pv_wire::Message;
 
 /// What a site is given to do.

@@ -29,7 +29,7 @@ pub use error::{OpenError, ResumeError, StepError};
 pub use input::{Cause, Input, Note, Outgoing, Shown, Step};
 pub use lists::lists_fail_as_planned;
 pub use opening::{logs_tell_of_records, setup_is_in_range};
-pub use pv_poly::Read;
+pub use pv_tree::Read;
 pub use pv_wire::{Message, NoCause};
 pub use recovered::Recovered;
 pub use site::Site;

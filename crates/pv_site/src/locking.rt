@@ -18,8 +18,8 @@ use pv_check::{Part, Plan};
 use pv_coord::CoordError;
 use pv_locks::{GrantPlan, LockError};
 use pv_part::on_lock;
-use pv_poly::Read;
 use pv_store::Store;
+use pv_tree::Read;
 use pv_wire::Message;
 use std::alloc::Global;
 

@@ -5,8 +5,8 @@ ghost use Rattle.pv_model.specs.Alternatives as model;
 ghost use Rattle.pv_cases.specs.Sure.{is_one_case};
 
 use pv_base::Exact;
-use pv_poly::{Poly, Read};
 use pv_split::Joined;
+use pv_tree::{Poly, Read};
 
 /// Whether neither what is written nor the reply names an outcome.
 pub(crate) fn is_sure_throughout(joined: &Joined) -> bool

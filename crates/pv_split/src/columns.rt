@@ -6,11 +6,11 @@ ghost use Rattle.pv_split.specs.Columns.{columns_of, row_at};
 
 use pv_ast::Row;
 use pv_base::{ItemId, NoMemory, TxnId};
-use pv_poly::Read;
+use pv_tree::Read;
 use std::alloc::Global;
 use std::marker::Model;
 
-/// An item and its value at each assignment of some transactions, in the order of [`Poly::table`](pv_poly::Poly::table).
+/// An item and its value at each assignment of some transactions, in the order of [`Poly::table`](pv_tree::Poly::table).
 #[derive(Drop)]
 pub(crate) struct Column {
     item: ItemId,

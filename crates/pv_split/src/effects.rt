@@ -8,7 +8,7 @@ ghost use Rattle.pv_split.specs.Columns.{effects_at};
 use crate::columns::{columns_of, rows_in};
 use pv_ast::{Effect, Program, exec};
 use pv_base::{NoMemory, READ_NAMES, TxnId};
-use pv_poly::Read;
+use pv_tree::Read;
 use std::alloc::Global;
 
 /// What the program does at each assignment of the transactions, each computed once.

@@ -14,7 +14,7 @@ use crate::sure::{are_sure, split_sure};
 use crate::writes::{reply_over, writes_of};
 use pv_ast::{Program, Reply};
 use pv_base::{NoMemory, READ_NAMES};
-use pv_poly::{Poly, Read};
+use pv_tree::{Poly, Read};
 use std::alloc::Global;
 use thiserror::Error;
 

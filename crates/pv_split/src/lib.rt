@@ -11,4 +11,4 @@ mod writes;
 
 pub use joining::{Joined, SplitError, split};
 pub use laws::{leaves_what_is_not_written, writes_what_is_left};
-pub use pv_poly::Read;
+pub use pv_tree::Read;

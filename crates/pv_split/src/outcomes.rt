@@ -9,7 +9,7 @@ ghost use Rattle.pv_split.specs.Splitting.{count_of};
 use crate::SplitError;
 use pv_base::{NoMemory, READ_NAMES, TxnId};
 use pv_cases::{ordered, push_names};
-use pv_poly::Read;
+use pv_tree::Read;
 use std::alloc::Global;
 
 /// The outcomes that the reads name together, ascending. Takes time in proportion to the literals of the reads, and to the tests of their

@@ -12,7 +12,7 @@ use crate::Joined;
 use pv_ast::{Program, Row, exec};
 use pv_base::NoMemory;
 use pv_cases::is_sure;
-use pv_poly::{Poly, Read};
+use pv_tree::{Poly, Read};
 use std::alloc::Global;
 
 /// Whether no read names an outcome.

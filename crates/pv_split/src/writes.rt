@@ -11,7 +11,7 @@ ghost use Rattle.pv_split.specs.Columns.{effects_at, values_in_row};
 
 use pv_ast::{Effect, Program, Reply};
 use pv_base::{ItemId, NoMemory, READ_NAMES, TxnId};
-use pv_poly::{Poly, Read};
+use pv_tree::{Poly, Read};
 use std::alloc::Global;
 
 /// The new values of the items that some assignment of the program names, in the order of the reads, from what the program does at

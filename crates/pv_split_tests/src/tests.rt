@@ -3,8 +3,8 @@
 use pv_ast::{Decline, Program, Reply, Row, exec};
 use pv_base::{Case, Catalog, ItemId, Literal, MIN_JOURNAL, NameError, SiteId, TxnId};
 use pv_parse::parse;
-use pv_poly::Poly;
 use pv_split::*;
+use pv_tree::Poly;
 use std::alloc::{AllocError, Global};
 use std::process::Abort;
 use std::test::Fail;

@@ -3,7 +3,7 @@ ghost use Rattle.std.specs.Prelude.{◌≡◌, ◌<◌, [], length, IfOk};
 ghost use Rattle.pv_store.specs.Held.{AreShown, value_here};
 
 use pv_base::{Catalog, ItemId, NoMemory, SiteId};
-use pv_poly::Poly;
+use pv_tree::Poly;
 use std::alloc::Global;
 
 /// By item, the declared value of each item of the site.

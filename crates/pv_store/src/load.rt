@@ -17,8 +17,8 @@ use crate::promises::Promises;
 use crate::values::put_values;
 use crate::writes::values_after;
 use pv_base::{History, NoMemory, TxnId};
-use pv_poly::{Poly, Read};
 use pv_replay::Record;
+use pv_tree::{Poly, Read};
 use std::alloc::Global;
 
 /// What records say of their own transactions.

@@ -7,7 +7,7 @@ ghost use Rattle.pv_store.specs.Kept.{has_place};
 use crate::dependents::Dependents;
 use pv_base::{ItemId, NoMemory, TxnId};
 use pv_cases::is_sure;
-use pv_poly::Read;
+use pv_tree::Read;
 use std::alloc::Global;
 
 /// Puts the item of each value there, at each transaction that the value names.

@@ -15,7 +15,7 @@ use crate::StoreError;
 use crate::outcomes::Outcomes;
 use pv_base::{Exact, Literal, NameError, NoMemory, TxnId};
 use pv_cases::{is_sure, names_of};
-use pv_poly::Poly;
+use pv_tree::Poly;
 use std::alloc::Global;
 
 /// What the item's value is with this promise: the new one where the transaction commits, and else the old one, as far as the outcomes aren't

@@ -8,7 +8,7 @@ ghost use Rattle.pv_store.specs.Settling.{settled_at};
 
 use crate::values::held;
 use pv_base::{ItemId, NoMemory, TxnId};
-use pv_poly::{Poly, Read};
+use pv_tree::{Poly, Read};
 use std::alloc::Global;
 
 /// The values of these items once the transaction's outcome is known. Takes time in proportion to their cases, times the names.

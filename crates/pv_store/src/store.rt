@@ -27,8 +27,8 @@ use crate::writes::{copy_reads, values_after};
 use crate::{StoreChange, StoreError};
 use pv_base::{Catalog, Exact, History, ItemId, NoMemory, Remembered, SiteId, TxnId};
 use pv_cases::ordered;
-use pv_poly::{Poly, Read};
 use pv_replay::{Past, Record};
+use pv_tree::{Poly, Read};
 use std::alloc::Global;
 use std::marker::Model;
 

@@ -9,7 +9,7 @@ ghost use Rattle.pv_store.specs.Held.{does_name, replaced_at};
 ghost use Rattle.pv_store.specs.Writes.{is_held};
 
 use pv_base::{Case, ItemId, Literal, TxnId};
-use pv_poly::{Poly, Read};
+use pv_tree::{Poly, Read};
 
 /// The value of an item that has one.
 pub(crate) fn value_of(values: &[Option<Poly<i64>>], item: ItemId) -> &Poly<i64>

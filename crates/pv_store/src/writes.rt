@@ -12,7 +12,7 @@ use crate::outcomes::Outcomes;
 use crate::promise::promised;
 use crate::values::value_of;
 use pv_base::{ItemId, NoMemory, TxnId};
-use pv_poly::{Poly, Read};
+use pv_tree::{Poly, Read};
 use std::alloc::Global;
 
 /// The new values of the site's items that the transaction's record of these writes changes. Takes time in proportion to the cases of the

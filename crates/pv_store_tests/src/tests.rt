@@ -6,9 +6,9 @@ ghost use Rattle.pv_protocol.specs.Lock.{is_home};
 use pv_base::{
     Case, Catalog, CatalogError, ItemId, Literal, MAX_JOURNAL, NameError, NoMemory, SiteId, TxnId,
 };
-use pv_poly::{Poly, Read};
 use pv_replay::{Past, Record};
 use pv_store::*;
+use pv_tree::{Poly, Read};
 use std::alloc::Global;
 use std::process::Abort;
 use std::test::Fail;

@@ -1,5 +1,5 @@
 -- What is in a list once the transactions of nodes are appended, and what of nodes that were seen.
-use Rattle.std.proofs.Common.{◌≡◌, ◌⊎◌, ⊎_elim, ℕ, Bool, true, false, List, get_or, replicate, inl, inr, IsTrue, refl, sym, ap, subst, ◌∙◌}
+use Rattle.std.proofs.Common.{◌≡◌, ◌⊎◌, ⊎_elim, ℕ, Bool, true, false, List, get_or, replicate, inl, inr, IsTrue, sym, ap, subst, ◌∙◌}
 use Rattle.std.specs.List.{Contains}
 use Rattle.std.proofs.lemmas.Bool.{false≢true}
 use Rattle.pv_base.specs.declared.txn.TxnId.{TxnId}
@@ -7,8 +7,8 @@ use Rattle.pv_base.specs.Assignment.{is_same_txn}
 use Rattle.pv_base.specs.Polyvalue.{Case, names}
 use Rattle.pv_base.proofs.AssignmentLemmas.{same-eq, same-from-eq}
 use Rattle.pv_cases.specs.Names.{Adds}
-use Rattle.pv_poly.proofs.TopOfTree.{IsTested}
-use Rattle.pv_poly.proofs.TestLemmas.{test-named, test-names, test-aborted, test-committed}
+use Rattle.pv_cases.proofs.TestedCases.{IsTested}
+use Rattle.pv_cases.proofs.TestLemmas.{test-named, test-names, test-aborted, test-committed}
 use Rattle.pv_tree.specs.Meanings.{cases_at}
 use Rattle.pv_tree.specs.Settling.{AreSeen}
 use Rattle.pv_tree.proofs.NotedLemmas.{all-replicate}

@@ -1,17 +1,16 @@
 -- Nodes that choose: below an earlier test, and over tables.
-use Rattle.std.proofs.Common.{◌≡◌, ◌⊎◌, ⊎_elim, ℕ, get_or, ◌^◌, ◌+◌, ◌<◌, ◌≤◌, Bool, true, false, List, [], ◌∷◌, ◌++◌, inl, inr, if◌then◌else◌, IsTrue, length, refl, sym, ap, ap₂, subst, ◌∙◌, arith}
+use Rattle.std.proofs.Common.{◌≡◌, ◌⊎◌, ℕ, get_or, ◌^◌, ◌<◌, Bool, true, false, List, [], ◌∷◌, ◌++◌, inl, inr, if◌then◌else◌, IsTrue, length, refl, sym, ap, subst, ◌∙◌, arith}
 use Rattle.std.specs.List.{Contains}
 use Rattle.pv_base.specs.declared.txn.TxnId.{TxnId}
 use Rattle.pv_base.specs.Assignment.{precedes, commits}
 use Rattle.pv_base.specs.Polyvalue.{Case, value_at, names, under, IsChoice, IsCanonical, NamesOnlyAfter, AreValues, sure}
-use Rattle.pv_base.proofs.ContainsLemmas.{Contains-nil}
 use Rattle.pv_law_polyvalues.proofs.AscendingLemmas.{Ascending}
 use Rattle.pv_law_polyvalues.proofs.PolyvalueLemmas.{value_at-tested, names-tested}
 use Rattle.pv_cases.proofs.CountLemmas.{same-choice}
-use Rattle.pv_poly.specs.From.{IsSide}
-use Rattle.pv_poly.specs.TreeView.{AreSides}
-use Rattle.pv_poly.proofs.ChoiceLemmas.{AreChosen, new-canonical, chosen-behind, both-chosen-names, sides-smaller}
-use Rattle.pv_poly.proofs.TableSteps.{values-choice, rest-behind, table-names}
+use Rattle.pv_cases.specs.From.{IsSide}
+use Rattle.pv_cases.specs.Sides.{AreSides}
+use Rattle.pv_cases.proofs.ChoiceLemmas.{new-canonical, chosen-behind, both-chosen-names}
+use Rattle.pv_cases.proofs.TableSteps.{values-choice, rest-behind, table-names}
 use Rattle.pv_tree.specs.Meanings.{cases_at, IsAt, Keeps, Chooses, Tabulates}
 
 module _ {V : Type 0} where

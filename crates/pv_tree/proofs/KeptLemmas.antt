@@ -1,9 +1,9 @@
 -- What is known of nodes is known once there are more.
-use Rattle.std.proofs.Common.{◌≡◌, ℕ, ◌<◌, ◌≤◌, List, IsTrue, Option, Some, None, get_or, length, refl, sym, ap, subst, ◌∙◌, arith}
+use Rattle.std.proofs.Common.{ℕ, List, IsTrue, Option, refl, sym, subst, ◌∙◌, arith}
 use Rattle.pv_base.specs.declared.literal.Literal.{Literal}
 use Rattle.pv_base.specs.declared.txn.TxnId.{TxnId}
 use Rattle.pv_base.specs.Polyvalue.{Case, names, IsCanonical, IsSettled}
-use Rattle.pv_tree.specs.Meanings.{cases_at, IsAt, Keeps, Chooses, Tabulates}
+use Rattle.pv_tree.specs.Meanings.{cases_at, Keeps}
 use Rattle.pv_tree.specs.Settling.{Settles, AreNoted}
 
 module _ {V : Type 0} where

@@ -8,3 +8,4 @@ pub mod RootLemmas
 pub mod SameLemmas
 pub mod SettleLemmas
 pub mod SettlesLemmas
+pub mod TwoLemmas

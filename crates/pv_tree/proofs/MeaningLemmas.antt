@@ -1,15 +1,14 @@
 -- What a list of nodes stands for, as it grows and where it is cut.
-use Rattle.std.proofs.Common.{◌≡◌, ℕ, zero, suc, ◌+◌, ◌-◌, ◌^◌, ◌<◌, ◌≤◌, true, false, List, [], ◌∷◌, ◌++◌, length, take, get_or, refl, sym, ap, ap₂, subst, ◌∙◌, arith, length-append}
+use Rattle.std.proofs.Common.{◌≡◌, ℕ, zero, suc, ◌+◌, ◌^◌, ◌<◌, true, false, List, [], ◌∷◌, ◌++◌, length, take, get_or, refl, sym, ap, ap₂, subst, ◌∙◌, arith, length-append}
 use Rattle.std.proofs.lemmas.List.{length-take, get_or_default}
 use Rattle.std.proofs.Math.ListN.{get_or-append}
 use Rattle.std.proofs.Math.Seq.{get_or-append_seam}
-use Rattle.pv_base.specs.declared.txn.TxnId.{TxnId}
 use Rattle.pv_base.specs.Polyvalue.{Case, under, IsCanonical, sure, tested}
-use Rattle.pv_poly.specs.TreeView.{AreSides}
+use Rattle.pv_cases.specs.Sides.{AreSides}
 use Rattle.pv_tree.specs.declared.nodes.Node.{Node}
 use Rattle.pv_tree.specs.declared.nodes.Node.TheVariants.{Leaf, Test}
 use Rattle.pv_tree.specs.Meanings.{cases_at, IsAt, Keeps}
-use Rattle.pv_tree.specs.Nodes.{meaning_of, AreBelow, IsNext, meanings_after, AreNext, AreNodes, IsTestAt, IsNodeAt}
+use Rattle.pv_tree.specs.Nodes.{meaning_of, IsNext, meanings_after, AreNext, AreNodes, IsNodeAt}
 
 module _ {V : Type 0} where
   -- the cases of the nodes before, and of this one

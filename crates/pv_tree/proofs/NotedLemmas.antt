@@ -1,5 +1,5 @@
 -- Lists of one thing.
-use Rattle.std.proofs.Common.{◌≡◌, ⊎_elim, ℕ, zero, suc, List, [], ◌∷◌, ◌++◌, get_or, replicate, refl, ap, ◌∙◌, arith}
+use Rattle.std.proofs.Common.{◌≡◌, ⊎_elim, ℕ, get_or, replicate, arith}
 use Rattle.std.proofs.lemmas.Bool.{cases_lt}
 use Rattle.std.proofs.lemmas.List.{get_or-replicate, get_or_past, length-replicate}
 
@@ -11,13 +11,3 @@ module _ {X : Type 0} where
       (λ within. get_or-replicate count number x x within)
       (λ past. get_or_past (replicate count x) number x (omega (arith, past, length-replicate count x)))
       (cases_lt number count)
-
-  one-more : (xs : List X) (x : X) (number : ℕ) → ((n : ℕ) → get_or xs n x ≡ x) → get_or (xs ++ x ∷ []) number x ≡ x
-  one-more [] x zero all = refl
-  one-more [] x (suc number) all = refl
-  one-more (y ∷ xs) x zero all = all zero
-  one-more (y ∷ xs) x (suc number) all = one-more xs x number (λ n. all (suc n))
-
-  -- One more of the same thing is appended.
-  pub all-push : (xs new : List X) (x : X) → new ≡ xs ++ x ∷ [] → ((number : ℕ) → get_or xs number x ≡ x) → (number : ℕ) → get_or new number x ≡ x
-  all-push xs new x pushed all number = ap (λ list. get_or list number x) pushed ∙ one-more xs x number all

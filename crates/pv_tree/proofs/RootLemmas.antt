@@ -1,13 +1,8 @@
 -- The cases that a polyvalue holds: one alone, or those of its root.
-use Rattle.std.proofs.Common.{◌≡◌, ℕ, ◌+◌, ◌-◌, ◌<◌, ◌≤◌, IsTrue, List, [], ◌∷◌, length, get_or, refl, sym, ap, subst, ◌∙◌, arith}
-use Rattle.std.proofs.lemmas.Bool.{false≢true}
-use Rattle.std.proofs.lemmas.List.Elements.{All-nil}
-use Rattle.pv_base.specs.declared.txn.TxnId.{TxnId}
-use Rattle.pv_base.specs.Polyvalue.{Case, names, AreNames, IsCanonical, sure, tested}
-use Rattle.pv_base.specs.Assignment.{precedes}
+use Rattle.std.proofs.Common.{◌≡◌, ℕ, ◌+◌, ◌-◌, ◌<◌, List, [], ◌∷◌, length, get_or, refl, sym, ap, ◌∙◌, arith}
+use Rattle.pv_base.specs.Polyvalue.{Case, IsCanonical, sure, tested}
 use Rattle.pv_base.proofs.Basics.{heads}
-use Rattle.pv_base.proofs.OrderLemmas.{pairs-nil}
-use Rattle.pv_poly.specs.TreeFalls.{length-tested, some_case}
+use Rattle.pv_cases.proofs.CaseCounts.{length-tested, some_case}
 use Rattle.pv_tree.specs.HeldCases.{IsLast}
 use Rattle.pv_tree.specs.Meanings.{cases_at}
 
@@ -31,18 +26,10 @@ module _ {V : Type 0} where
       one-sure case canonical ∙ ap (λ (v : V). record { when = []; value = v } ∷ []) (ap (λ (c : Case V). c.value) (sym is) ∙ sym has)
   only-value (case ∷ next ∷ more) x value one is has canonical = absurd (omega (arith, one))
 
-  pub only-names : (cases held : List (Case V)) (txns : List TxnId) → held ≡ cases → length held ≡ 1 → IsCanonical cases → txns ≡ [] → AreNames cases txns
-  only-names cases [] txns is one canonical none = absurd (omega (arith, one))
-  only-names cases (case ∷ []) txns is one canonical none =
-      let only = sym is ∙ only-value (case ∷ []) case case.value one refl refl (subst IsCanonical (sym is) canonical) in
-      subst (λ (c : List (Case V)). AreNames c txns) (sym only)
-      (subst (λ (ts : List TxnId). AreNames (record { when = []; value = case.value } ∷ []) ts) (sym none)
-      (record {
-        ascending = pairs-nil (λ (t u : TxnId). IsTrue (precedes t u));
-        each = All-nil (λ (t : TxnId). IsTrue (names (record { when = []; value = case.value } ∷ []) t));
-        whole = λ t named. absurd (false≢true named);
-      }))
-  only-names cases (case ∷ next ∷ more) txns is one canonical none = absurd (omega (arith, one))
+  pub one-alone : (cases : List (Case V)) → length cases ≡ 1 → IsCanonical cases → (value : V) × (cases ≡ record { when = []; value = value } ∷ [])
+  one-alone [] one canonical = absurd (omega (arith, one))
+  one-alone (case ∷ []) one canonical = (case.value, one-sure case canonical)
+  one-alone (case ∷ next ∷ more) one canonical = absurd (omega (arith, one))
 
   -- The number of the last node.
   pub last-there : (meanings : List (List (Case V))) (cases : List (Case V)) (root : ℕ) → IsLast meanings cases → root ≡ length meanings - 1 → root < length meanings

@@ -2,8 +2,8 @@
 use Rattle.std.proofs.Common.{◌≡◌, ℕ, List, [], ◌∷◌, length, sym, ap, ◌∙◌, arith}
 use Rattle.pv_base.specs.declared.txn.TxnId.{TxnId}
 use Rattle.pv_base.specs.Polyvalue.{Case}
-use Rattle.pv_poly.specs.TreeFalls.{length-tested, some_case}
-use Rattle.pv_poly.proofs.TestLemmas.{one-test}
+use Rattle.pv_cases.proofs.CaseCounts.{length-tested, some_case}
+use Rattle.pv_cases.proofs.TestLemmas.{one-test}
 use Rattle.pv_tree.specs.Meanings.{cases_at}
 use Rattle.pv_tree.specs.Nodes.{IsTestAt}
 use Rattle.pv_tree.proofs.SettleLemmas.{tested-at}

@@ -1,22 +1,23 @@
 -- Nodes once outcomes are known: leaves, tests whose outcome is known, and other tests.
-use Rattle.std.proofs.Common.{◌≡◌, ◌⊎◌, ⊎_elim, ℕ, ◌<◌, Bool, true, false, List, [], ◌∷◌, ◌++◌, Option, Some, None, cond, if◌then◌else◌, IsTrue, length, get_or, refl, sym, ap, subst, ◌∙◌, arith}
-use Rattle.std.specs.List.{All, Contains, find}
+use Rattle.std.proofs.Common.{◌≡◌, ◌⊎◌, ⊎_elim, ℕ, Bool, true, false, List, [], ◌∷◌, Option, Some, None, cond, if◌then◌else◌, IsTrue, get_or, refl, sym, ap, subst, ◌∙◌}
+use Rattle.std.specs.List.{Contains, find}
 use Rattle.std.specs.Option.{option_map}
-use Rattle.std.proofs.lemmas.Bool.{false≢true, true≢false, false_from_ne_true}
+use Rattle.std.proofs.lemmas.Bool.{false≢true, false_from_ne_true}
 use Rattle.std.proofs.lemmas.Option.{none-some}
 use Rattle.std.proofs.lemmas.List.Elements.{All-contains}
 use Rattle.pv_base.specs.declared.literal.Literal.{Literal}
 use Rattle.pv_base.specs.declared.txn.TxnId.{TxnId}
-use Rattle.pv_base.specs.Assignment.{is_same_txn, precedes, commits, with_outcome}
-use Rattle.pv_base.specs.Polyvalue.{Case, value_at, names, with_outcomes, IsSettled, IsCanonical, sure, NamesOnlyAfter}
+use Rattle.pv_base.specs.Assignment.{is_same_txn, assignments, commits, with_outcome}
+use Rattle.pv_base.specs.Polyvalue.{Case, value_at, names, with_outcomes, AreValues, IsSettled, IsCanonical, sure, NamesOnlyAfter}
 use Rattle.pv_base.proofs.AssignmentLemmas.{same-eq, same-refl, commits-with-other, commits-with-same}
 use Rattle.pv_base.proofs.Basics.{Some_inj}
 use Rattle.pv_base.proofs.ContainsLemmas.{Contains-nil, Contains-cases}
+use Rattle.pv_base.proofs.MapLemmas.{map-same}
 use Rattle.pv_law_polyvalues.proofs.AscendingLemmas.{All-from_members}
 use Rattle.pv_cases.proofs.SettledLemmas.{nothing-settled}
-use Rattle.pv_poly.proofs.TopOfTree.{IsTested}
-use Rattle.pv_poly.proofs.TestLemmas.{test-named, test-aborted, test-committed, test-value}
-use Rattle.pv_tree.specs.Meanings.{cases_at, IsAt, Keeps, Chooses}
+use Rattle.pv_cases.proofs.TestedCases.{IsTested}
+use Rattle.pv_cases.proofs.TestLemmas.{test-named, test-aborted, test-committed, test-value}
+use Rattle.pv_tree.specs.Meanings.{cases_at, IsAt, Chooses}
 use Rattle.pv_tree.specs.Nodes.{IsTestAt}
 use Rattle.pv_tree.specs.Outcomes.{outcome_of}
 use Rattle.pv_tree.specs.Settling.{Settles, AreNoted}
@@ -109,6 +110,12 @@ module _ {V : Type 0} where
     named = λ u named. test-aborted at u (is.named u named);
     canonical = is.canonical;
   }
+
+  -- Where no outcome is put in, the values are those of the cases.
+  pub unsettled-values : (cases : List (Case V)) (meanings : List (List (Case V))) (number : ℕ) (txns : List TxnId) (values : List V) → Settles [] cases meanings number
+      → AreValues (cases_at meanings number) txns values → AreValues cases txns values
+  unsettled-values cases meanings number txns values is are =
+      are ∙ map-same (value_at (cases_at meanings number)) (value_at cases) (assignments txns) (λ a here. is.settled.same a)
 
   -- Another test is a choice between its sides.
 

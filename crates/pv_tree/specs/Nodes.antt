@@ -2,7 +2,7 @@
 use Rattle.std.specs.Prelude.{◌≡◌, ◌<◌, ◌^◌, ℕ, false, true, List, [], ◌∷◌, ◌++◌, length}
 use Rattle.pv_base.specs.declared.txn.TxnId.{TxnId}
 use Rattle.pv_base.specs.Polyvalue.{Case, under}
-use Rattle.pv_poly.specs.TreeView.{AreSides}
+use Rattle.pv_cases.specs.Sides.{AreSides}
 use Rattle.pv_tree.specs.declared.nodes.Node.{Node}
 use Rattle.pv_tree.specs.declared.nodes.Node.TheVariants.{Leaf, Test}
 use Rattle.pv_tree.specs.Meanings.{cases_at}

@@ -1,7 +1,7 @@
 // Nodes that choose by an outcome.
 ghost use Rattle.std.specs.Prelude.{◌≡◌, ◌<◌, ◌≤◌, false, length, IfOk, OnOk};
 ghost use Rattle.pv_base.specs.Polyvalue.{names};
-ghost use Rattle.pv_poly.specs.From.{NamesFrom, IsFirst, IsSide, before, earlier, first_before};
+ghost use Rattle.pv_cases.specs.From.{NamesFrom, IsFirst, IsSide, before, earlier, first_before};
 ghost use Rattle.pv_tree.specs.Meanings.{cases_at, Keeps, Chooses};
 
 use crate::nodes::{Node, Nodes};
@@ -9,7 +9,7 @@ use pv_base::{Exact, NoMemory, TxnId};
 
 impl<V: Exact> Nodes<V> {
     /// The number of the node that is the second one where the transaction commits, and else the first. The nodes that this wants are made. Takes
-    /// time in proportion to the tests of earlier transactions.
+    /// time in proportion to the tests of earlier transactions, times at most the nodes that are made.
     pub fn choose(&mut self, txn: TxnId, aborted: u32, committed: u32) -> Result<u32, NoMemory>
         requires aborted_there { aborted < length self.old }
         requires committed_there { committed < length self.old }
@@ -21,12 +21,13 @@ impl<V: Exact> Nodes<V> {
         match first_before(txn, self.top(aborted), self.top(committed)) {
             None => self.test(txn, aborted, committed),
             Some(first) => {
-                let front = self.side(aborted, first, false);
-                let back = self.side(committed, first, false);
-                let aborted_back = self.side(aborted, first, true);
-                let committed_back = self.side(committed, first, true);
-                let front = self.choose(txn, front, back)?;
-                let back = self.choose(txn, aborted_back, committed_back)?;
+                // Both, where the first one doesn't commit and where it does.
+                let aborted_if_not = self.side(aborted, first, false);
+                let committed_if_not = self.side(committed, first, false);
+                let aborted_if = self.side(aborted, first, true);
+                let committed_if = self.side(committed, first, true);
+                let front = self.choose(txn, aborted_if_not, committed_if_not)?;
+                let back = self.choose(txn, aborted_if, committed_if)?;
                 self.test(first, front, back)
             }
         }

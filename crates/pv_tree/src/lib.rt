@@ -10,6 +10,7 @@ mod read;
 mod settling;
 mod table;
 mod tree;
+mod two;
 
 pub use laws::equal_polyvalues_are_one;
 pub use poly::Poly;

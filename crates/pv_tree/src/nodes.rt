@@ -136,7 +136,7 @@ impl<V: Exact> Nodes<V> {
     }
 
     /// The number of the node that tests this transaction first, which is made if there is none, unless both sides are equal: then it is that of
-    /// a side.
+    /// a side. Takes time in proportion to the nodes behind both sides.
     pub fn test(&mut self, txn: TxnId, aborted: u32, committed: u32) -> Result<u32, NoMemory>
         requires aborted_there { aborted < length self.old }
         requires committed_there { committed < length self.old }

@@ -15,7 +15,7 @@ ghost use Rattle.pv_tree.specs.Meanings.{cases_at};
 use crate::nodes::Nodes;
 use crate::tree::Tree;
 use pv_base::{Case, CaseError, Exact, HELD_NAMES, Literal, NameError, NoMemory, TxnId};
-use pv_cases::{first_difference, ordered, table_of};
+use pv_cases::{first_difference, ordered, settled_value, sure_value, table_of, two_values};
 use std::alloc::Global;
 use std::marker::Model;
 
@@ -72,8 +72,8 @@ impl<V: Exact> Poly<V> {
     /// The polyvalue that has the new value where the transaction commits, and else the old one.
     ///
     /// `TooManyOutcomes` has the number of outcomes that it would name, where these are more than [`HELD_NAMES`]. Takes time in proportion to
-    /// the nodes of both, to the tests that are made, and to the literals of the cases. Where it is refused, the nodes of the choice haven't been
-    /// made.
+    /// the nodes of both and those that are made, times at most the nodes that are made, and to the literals of the cases. Where it is refused, the
+    /// nodes of the choice haven't been made. Between two different values that are sure no node is made.
     pub fn choose(
         alloc: Global,
         txn: TxnId,
@@ -85,6 +85,11 @@ impl<V: Exact> Poly<V> {
         // Reading the trees shows the proof that both are canonical.
         let _ = &new.tree;
         let _ = &old.tree;
+        if let Some(values) = two_values(old.tree.cases(), new.tree.cases()) {
+            return Ok(Poly {
+                tree: Tree::choice(alloc, txn, values.0, values.1)?,
+            });
+        }
         let mut nodes = Nodes::new(alloc);
         let root = Poly::chosen(alloc, txn, new, old, &mut nodes)?;
         Ok(Poly {
@@ -133,7 +138,8 @@ impl<V: Exact> Poly<V> {
     }
 
     /// What the polyvalue is once the outcome of the transaction is known: at every assignment its value is that of this one with the outcome
-    /// put in, and it doesn't name the transaction. Takes time in proportion to the nodes, and to the literals of the cases.
+    /// put in, and it doesn't name the transaction. Takes time in proportion to the nodes, times at most the nodes that are made, and to the
+    /// literals of the cases. A value that is sure has none, nor has a choice between two such by this transaction alone.
     pub fn settle(&self, alloc: Global, txn: TxnId, commits: bool) -> Result<Poly<V>, NoMemory>
         ensures settled { IfOk result (IsSettled (record { txn = txn; commits = commits } ∷ []) self.now) }
         ensures polyvalue { IfOk result (IsPolyvalue HELD_NAMES) }
@@ -142,13 +148,18 @@ impl<V: Exact> Poly<V> {
     }
 
     /// What the polyvalue is once all of these outcomes are known, which ascend by transaction, each transaction once: at every assignment its
-    /// value is that of this one with the outcomes put in, and it names none of them. Takes time in proportion to the nodes, times the outcomes,
-    /// and to the literals of the cases.
+    /// value is that of this one with the outcomes put in, and it names none of them. Takes time in proportion to the nodes, times the outcomes
+    /// and at most the nodes that are made, and to the literals of the cases.
     pub fn settle_all(&self, alloc: Global, literals: &[Literal]) -> Result<Poly<V>, NoMemory>
         requires outcomes { AreOutcomes literals.now }
         ensures settled { IfOk result (IsSettled literals.now self.now) }
         ensures polyvalue { IfOk result (IsPolyvalue HELD_NAMES) }
     {
+        if let Some(value) = settled_value(self.tree.cases(), literals) {
+            return Ok(Poly {
+                tree: Tree::sure(alloc, value),
+            });
+        }
         let mut nodes = Nodes::new(alloc);
         let root = self.tree.settle(alloc, literals, &mut nodes)?;
         Ok(Poly {
@@ -172,7 +183,7 @@ impl<V: Exact> Poly<V> {
         self.tree.cases()
     }
 
-    /// An equal polyvalue, which shares nothing with this one. Takes time in proportion to the literals.
+    /// An equal polyvalue, in memory of its own. Takes time in proportion to the literals.
     pub fn copy(&self, alloc: Global) -> Result<Poly<V>, NoMemory>
         ensures equal { IfOk result (λ copy. copy ≡ self.now) }
     {
@@ -238,7 +249,7 @@ impl<V: Exact> Poly<V> {
     }
 
     /// The polyvalue that has these values at the assignments of these transactions, in the order of [`table`](Poly::table). Takes time in
-    /// proportion to the values, times the transactions.
+    /// proportion to the values, times at most the nodes that are made, and to the literals of the cases.
     pub fn from_table(alloc: Global, txns: &[TxnId], values: &[V]) -> Result<Poly<V>, NoMemory>
         requires ascending { AreAscending txns.now }
         requires few { length txns.now ≤ HELD_NAMES }
@@ -252,16 +263,6 @@ impl<V: Exact> Poly<V> {
         Ok(Poly {
             tree: Tree::of_nodes(alloc, nodes, root)?,
         })
-    }
-}
-
-// The value of cases that are only one, which is always met.
-fn sure_value<V: Copy>(cases: &[Case<V>]) -> Option<V>
-    ensures { IfSome result (λ value. cases.now ≡ record { when = []; value = value } ∷ []) }
-{
-    match cases {
-        [case] if case.when.is_empty() => Some(case.value),
-        _ => None,
     }
 }
 

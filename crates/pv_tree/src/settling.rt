@@ -9,7 +9,8 @@ use std::alloc::Global;
 
 impl<V: Exact> Nodes<V> {
     /// Puts the node, once the outcomes of these transactions are known, among the target nodes, and tells its number there. A node that is noted
-    /// isn't gone through again. Takes time in proportion to the nodes that aren't, times the literals, and to the nodes that are made.
+    /// isn't gone through again. Takes time in proportion to the nodes that aren't, times the literals and at most the nodes that
+    /// are made.
     pub fn settle(
         &self,
         number: u32,
@@ -53,8 +54,8 @@ impl<V: Exact> Nodes<V> {
     }
 }
 
-// The outcome of the transaction, if one of the literals is on it.
-fn outcome_of(literals: &[Literal], txn: TxnId) -> Option<bool>
+/// The outcome of the transaction, if one of the literals is on it.
+pub fn outcome_of(literals: &[Literal], txn: TxnId) -> Option<bool>
     ensures { result ≡ outcome_of literals.now txn }
 {
     literals

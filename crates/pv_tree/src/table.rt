@@ -72,8 +72,8 @@ impl<V: Exact> Nodes<V> {
     }
 }
 
-// Whether the transaction commits.
-fn commits(yes: &[TxnId], txn: TxnId) -> bool
+/// Whether the transaction commits.
+pub fn commits(yes: &[TxnId], txn: TxnId) -> bool
     ensures { result ≡ commits yes.now txn }
 {
     yes.contains(&txn)

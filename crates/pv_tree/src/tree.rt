@@ -1,16 +1,17 @@
 // The canonical cases of a polyvalue, and a decision tree of them.
-ghost use Rattle.std.specs.Prelude.{◌≡◌, ◌<◌, ◌≤◌, ◌^◌, [], ◌∷◌, ◌++◌, length, Some, IfOk, OnOk};
+ghost use Rattle.std.specs.Prelude.{◌≡◌, ◌<◌, ◌≤◌, ◌^◌, false, true, [], ◌∷◌, ◌++◌, length, Some, IfOk, IfSome, OnOk};
 ghost use Rattle.pv_base.specs.Assignment.{AreAscending};
 ghost use Rattle.pv_base.specs.Polyvalue.{value_at, names, AreNames, AreValues, IsCanonical};
 ghost use Rattle.pv_base.specs.declared.limits.TheConstants.{HELD_NAMES};
-ghost use Rattle.pv_poly.specs.CasesAt.{under_all};
+ghost use Rattle.pv_cases.specs.CasesAt.{under_all};
 ghost use Rattle.pv_tree.specs.Meanings.{cases_at, Keeps};
 ghost use Rattle.pv_tree.specs.Settling.{Settles};
 
 use crate::nodes::{Node, Nodes};
 use crate::settling::nothing_noted;
+use crate::two::{settle_two, value_of_two};
 use pv_base::{Case, Exact, HELD_NAMES, Literal, NoMemory, TxnId};
-use pv_cases::{copy_cases, ordered};
+use pv_cases::{case_under, copy_cases, names_of, ordered};
 use std::alloc::Global;
 use std::marker::Model;
 
@@ -19,12 +20,14 @@ use std::marker::Model;
 pub enum Held<V> {
     /// One case, as an array, which is lent as a slice. It wants no tree.
     One([Case<V>; 1]),
+    /// The two cases of a choice between two values by one transaction. They want no tree either.
+    Two([Case<V>; 2]),
     /// The nodes of the tree, of which the last is the root, and its cases, from left to right.
     Many(Nodes<V>, Vec<Case<V>>),
 }
 
-/// The canonical cases of a polyvalue, beside a decision tree of them, on which it is worked. Most values depend on no outcome and have one case:
-/// it stands within the polyvalue, so that such a value takes no memory.
+/// The canonical cases of a polyvalue, beside a decision tree of them, on which it is worked. Most values depend on no outcome and have one case,
+/// and most others on one, and have two: these stand within the polyvalue, so that one case takes no memory, and two take that of their conditions.
 #[derive(Debug, Drop)]
 pub struct Tree<V> {
     held: Held<V>,
@@ -50,6 +53,7 @@ impl<V> Tree<V> {
     {
         match &self.held {
             Held::One(case) => case,
+            Held::Two(cases) => cases,
             Held::Many(_, cases) => cases,
         }
     }
@@ -68,6 +72,19 @@ impl<V: Exact> Tree<V> {
         }
     }
 
+    /// The second value where the transaction commits, and else the first.
+    pub fn choice(alloc: Global, txn: TxnId, before: V, after: V) -> Result<Tree<V>, NoMemory>
+        ensures { IfOk result (λ tree. tree ≡ record { when = record { txn = txn; commits = false } ∷ []; value = before }
+            ∷ record { when = record { txn = txn; commits = true } ∷ []; value = after } ∷ []) }
+    {
+        Ok(Tree {
+            held: Held::Two([
+                case_under(alloc, txn, false, before)?,
+                case_under(alloc, txn, true, after)?,
+            ]),
+        })
+    }
+
     /// The cases of the node, which are made here.
     pub fn of_nodes(alloc: Global, nodes: Nodes<V>, root: u32) -> Result<Tree<V>, NoMemory>
         requires { root < length nodes }
@@ -75,7 +92,10 @@ impl<V: Exact> Tree<V> {
     {
         match nodes.node(root) {
             Node::Leaf(value) => Ok(Tree::sure(alloc, value)),
-            Node::Test(..) => {
+            Node::Test(txn, aborted, committed) => {
+                if let Some((before, after)) = nodes.leaves(aborted, committed) {
+                    return Tree::choice(alloc, txn, before, after);
+                }
                 let nodes = nodes.up_to(root);
                 let mut cases = Vec::with_capacity(alloc, nodes.len() as usize)?;
                 nodes.push_cases(root, &mut Vec::new(alloc), &mut cases)?;
@@ -86,12 +106,13 @@ impl<V: Exact> Tree<V> {
         }
     }
 
-    /// Equal cases and an equal tree, which share nothing with these.
+    /// Equal cases and an equal tree, in memory of their own.
     pub fn copy(&self, alloc: Global) -> Result<Tree<V>, NoMemory>
         ensures { IfOk result (λ copy. copy ≡ self.now) }
     {
         let held = match &self.held {
             Held::One([case]) => Held::One([case.copy(alloc)?]),
+            Held::Two([before, after]) => Held::Two([before.copy(alloc)?, after.copy(alloc)?]),
             Held::Many(nodes, cases) => Held::Many(nodes.copy(alloc)?, copy_cases(alloc, cases)?),
         };
         Ok(Tree { held })
@@ -104,6 +125,7 @@ impl<V: Exact> Tree<V> {
     {
         match &self.held {
             Held::One(case) => only_value(case),
+            Held::Two(cases) => value_of_two(cases, yes),
             Held::Many(nodes, _) => nodes.value_at(nodes.len() - 1, yes),
         }
     }
@@ -121,6 +143,7 @@ impl<V: Exact> Tree<V> {
     {
         match &self.held {
             Held::One(case) => target.leaf(only_value(case)),
+            Held::Two(cases) => settle_two(cases, literals, target),
             Held::Many(nodes, _) => {
                 let mut noted = nothing_noted(alloc, nodes.len())?;
                 nodes.settle(nodes.len() - 1, literals, target, &mut noted)
@@ -134,7 +157,7 @@ impl<V: Exact> Tree<V> {
         ensures { IfOk result (λ txns. AreNames self.now txns.items) }
     {
         match &self.held {
-            Held::One(_) => Ok(Vec::new(alloc)),
+            Held::One(_) | Held::Two(_) => names_of(alloc, self.cases()),
             Held::Many(nodes, _) => {
                 let mut txns = Vec::new(alloc);
                 let mut seen = vec![in alloc; false; nodes.len() as usize]?;
@@ -152,11 +175,11 @@ impl<V: Exact> Tree<V> {
         ensures { IfOk result (λ values. AreValues self.now txns.now values.items) }
     {
         match &self.held {
-            Held::One(case) => {
+            Held::One(_) | Held::Two(_) => {
                 let mut nodes = Nodes::new(alloc);
-                let leaf = nodes.leaf(only_value(case))?;
+                let root = self.settle(alloc, &[], &mut nodes)?;
                 let mut values = Vec::with_capacity(alloc, 1 << txns.len())?;
-                nodes.push_table(leaf, txns, &mut values)?;
+                nodes.push_table(root, txns, &mut values)?;
                 Ok(values)
             }
             Held::Many(nodes, _) => {
@@ -169,6 +192,22 @@ impl<V: Exact> Tree<V> {
 }
 
 impl<V: Exact> Nodes<V> {
+    // The values of two nodes, where both are leaves.
+    fn leaves(&self, number: u32, other: u32) -> Option<(V, V)>
+        requires there { number < length self.now }
+        requires other_there { other < length self.now }
+        ensures { IfSome result (λ both. (cases_at self.now number ≡ record { when = []; value = both.0 } ∷ []) ×
+            (cases_at self.now other ≡ record { when = []; value = both.1 } ∷ [])) }
+    {
+        let Node::Leaf(value) = self.node(number) else {
+            return None;
+        };
+        let Node::Leaf(second) = self.node(other) else {
+            return None;
+        };
+        Some((value, second))
+    }
+
     // Appends the node's cases, each under the literals of the way down to here.
     fn push_cases(
         &self,

@@ -1,5 +1,6 @@
 // Both forms of polyvalues, worked on side by side with drawn values: they have the same cases.
 use pv_base::{SiteId, TxnId};
+use pv_cases::ordered;
 use std::process::Abort;
 
 // The first transaction of a site.
@@ -31,6 +32,24 @@ fn sure(rt: &(impl Abort + AllocGlobal), value: i64) -> Both {
         pv_tree::Poly::sure(rt.alloc(), value),
     ) {
         (Ok(plain), Ok(tree)) => Both { plain, tree },
+        _ => rt.abort(),
+    }
+}
+
+// The polyvalue of this table over the first transactions of six sites.
+fn tabled(rt: &(impl Abort + AllocGlobal), values: &[i64]) -> Both {
+    let mut txns = Vec::new(rt.alloc());
+    for site in 0..6 {
+        if txns.push(txn(site)).is_err() {
+            rt.abort();
+        }
+    }
+    let txns = ordered(txns);
+    assert!(rt; txns.len() == 6 && values.len() == 64);
+    let plain = pv_poly::Poly::from_table(rt.alloc(), &txns, values);
+    let tree = pv_tree::Poly::from_table(rt.alloc(), &txns, values);
+    match (plain, tree) {
+        (Ok(plain), Ok(tree)) => checked(rt, Both { plain, tree }),
         _ => rt.abort(),
     }
 }
@@ -79,5 +98,20 @@ fn both_forms_have_the_same_cases(rt: HostRuntime) {
             _ => sure(&rt, ((seed >> 40) % 3) as i64),
         };
         value = chosen(&rt, ((seed >> 36) % 6) as u8, &new, &value);
+    }
+}
+
+#[test]
+fn both_forms_have_the_same_cases_of_many_values(rt: HostRuntime) {
+    // Half of the values are 0, and no two of the others are equal: more leaves than are looked through for an equal one.
+    let mut values = [0; 64];
+    for place in 0..32 {
+        values[2 * place] = place as i64 + 1;
+    }
+    let mut value = tabled(&rt, &values);
+    for site in 0..6 {
+        let new = settled(&rt, site, true, &value);
+        chosen(&rt, 6, &new, &value);
+        value = settled(&rt, site, false, &value);
     }
 }

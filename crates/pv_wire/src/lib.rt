@@ -14,4 +14,4 @@ pub use decoding::decode;
 pub use encoding::encode;
 pub use error::WireError;
 pub use message::{Envelope, Message, NoCause};
-pub use pv_poly::Read;
+pub use pv_tree::Read;

@@ -5,7 +5,7 @@ ghost use Rattle.pv_format.specs.MessageSpelling.{kind_number};
 ghost use Rattle.pv_wire.specs.Values.{message_of};
 
 use pv_base::{GrantId, ItemId, SiteId, TxnId, Want};
-use pv_poly::Read;
+use pv_tree::Read;
 
 /// A message on its way.
 #[derive(Debug, Drop)]

@@ -27,8 +27,8 @@ use Rattle.pv_world.specs.Cells.{CanPack, CanStart, HasBegun, HasEnded, HasPacke
 use Rattle.pv_world.specs.Stands.{Stands, StandsForSite}
 use Rattle.pv_world.specs.Steps.{CanGive, Comes, IsSameBeside, lines_of}
 use Rattle.pv_world.specs.declared.cell.Cell.{Cell}
-use Rattle.pv_world.specs.declared.cell.Packed.{Packed}
-use Rattle.pv_world.specs.declared.cell.Packed.TheVariants as packed_as
+use Rattle.pv_world.specs.declared.cell.Checkpointed.{Checkpointed}
+use Rattle.pv_world.specs.declared.cell.Checkpointed.TheVariants as packed_as
 use Rattle.pv_world.specs.declared.cell.Start.{Start}
 use Rattle.pv_world.specs.declared.cell.Start.TheVariants.{Up, Started, Full, Spent, Broke}
 use Rattle.pv_world.specs.declared.world.World.{World}
@@ -182,7 +182,7 @@ module _ (old : World) (is : model.World) (stands : Stands old is) (n : ℕ) (wi
         ap (λ (m : Option Running). ended (packed is n m)) memory
         ∙ ap (λ (b : Bool). ended (if b then attempts is n OwnCheckpoint else at_once (protocol.Line.spent n ∷ []) is)) test
 
-    up-packed-ends : (answer : Packed) → HasPacked old.catalog n cell new (site_at is n) (Some running) answer
+    up-packed-ends : (answer : Checkpointed) → HasPacked old.catalog n cell new (site_at is n) (Some running) answer
         → EndsIn (with_cell old n new) (packed is n (site_at is n).running) (packed_lines n answer)
     up-packed-ends packed_as.Down has = absurd has
     up-packed-ends packed_as.Done (some, made) = record {
@@ -198,7 +198,7 @@ module _ (old : World) (is : model.World) (stands : Stands old is) (n : ℕ) (wi
       stands = put-stands new (broken_site (site_at is n) OwnCheckpoint broken.arm) broken.stands;
     }
 
-  pub packed-ends : (new : Cell) (answer : Packed) → HasPacked old.catalog n cell new (site_at is n) (site_at is n).running answer
+  pub packed-ends : (new : Cell) (answer : Checkpointed) → HasPacked old.catalog n cell new (site_at is n) (site_at is n).running answer
       → EndsIn (with_cell old n new) (packed is n (site_at is n).running) (packed_lines n answer)
   packed-ends new answer has = by (site_at is n).running refl has
     where
@@ -206,7 +206,7 @@ module _ (old : World) (is : model.World) (stands : Stands old is) (n : ℕ) (wi
           → EndsIn (with_cell old n new) (packed is n (site_at is n).running) (packed_lines n answer)
       by None memory (down, same) = record {
         next = is;
-        ends = ap (λ (m : Option Running). ended (packed is n m)) memory ∙ ap (λ (a : Packed). (packed_lines n a, is)) (sym down);
+        ends = ap (λ (m : Option Running). ended (packed is n m)) memory ∙ ap (λ (a : Checkpointed). (packed_lines n a, is)) (sym down);
         stands = kept-stands new same;
       }
       by (Some running) memory some = up-packed-ends new running memory answer some

@@ -40,7 +40,7 @@ use Rattle.pv_world.specs.Disks.{Spells, armed_as}
 use Rattle.pv_world.specs.Stands.{IsUp, StandsForSite}
 use Rattle.pv_world.specs.declared.cell.Cell.TheVariants.{Up}
 use Rattle.pv_world.specs.declared.cell.Cell.{Cell}
-use Rattle.pv_world.specs.declared.cell.Packed.TheVariants as packed
+use Rattle.pv_world.specs.declared.cell.Checkpointed.TheVariants as packed
 
 -- The laws of checkpoints on disks in memory.
 

@@ -17,16 +17,17 @@ use Rattle.pv_journal.specs.Armed.{contents_left, opened_in}
 use Rattle.pv_ckpt.specs.CkptLog.{contents_now}
 use Rattle.pv_ckpt.specs.declared.ckpt_log.CkptLog.{CkptLog}
 use Rattle.pv_disk_model.specs.Size.{Contents}
+use Rattle.pv_law_format.proofs.ReplayLemmas.{spelled-more}
 use Rattle.pv_law_checkpoints.proofs.ContentsLemmas.{log_contents_of-is}
 use Rattle.pv_law_checkpoints.specs.Stages.{Stands}
-use Rattle.pv_law_checkpoints.specs.TwoAreas.{IsCheckpointed}
+use Rattle.pv_law_checkpoints.specs.TwoAreas.{IsTwoAreas}
 use Rattle.pv_protocol.specs.Arms.{is_kept, record_left}
 use Rattle.pv_protocol.specs.State.{Arm}
 use Rattle.pv_world.proofs.RestartArms.{later_by}
 use Rattle.pv_world.specs.Disks.{Spells, armed_as}
 
 -- A log that stands so is one with these contents.
-pub checkpointed : (contents : Contents) (standing : Standing) (bytes : List ℕ) → Stands contents standing bytes → IsCheckpointed contents bytes
+pub checkpointed : (contents : Contents) (standing : Standing) (bytes : List ℕ) → Stands contents standing bytes → IsTwoAreas contents bytes
 checkpointed contents standing bytes stands = record { at = stands.at; packed = stands.packed; later = stands.later; log = stands.log; is = stands.contents_are }
 
 -- The contents of a log are those that its disk holds.
@@ -37,7 +38,7 @@ holds-contents contents standing armed fired journal holds =
 
 -- Contents that are read of the disk spell the records.
 pub look-spells : (records : List Record) (standing : Standing) (armed : Option Arm) (fired : Option Bool) (on : MemState) (read : Contents) → Spells records standing armed fired on
-    → ((contents : Contents) → IsCheckpointed contents on.image.content → read ≡ contents) → SpellRecords records read
+    → ((contents : Contents) → IsTwoAreas contents on.image.content → read ≡ contents) → SpellRecords records read
 look-spells records standing armed fired on read spells is =
     subst (SpellRecords records) (sym (is spells.contents (checkpointed spells.contents standing on.image.content spells.holds.stands))) spells.spelled
 
@@ -50,18 +51,10 @@ spells-mended records standing armed fired on spells = record {
   holds = record { stands = spells.holds.stands; settled = spells.holds.settled; armed = refl; fired = refl; reads = spells.holds.reads };
 }
 
--- One content more spells one record more.
-pub spell-append : (records : List Record) (contents : Contents) (more : Record) (content : List ℕ) → SpellRecords records contents → SpellsRecord more content
-    → SpellRecords (records ++ more ∷ []) (contents ++ content ∷ [])
-spell-append [] [] more content spelled one = (one, tt)
-spell-append [] (first ∷ contents) more content spelled one = absurd spelled
-spell-append (first ∷ records) [] more content spelled one = absurd spelled
-spell-append (first ∷ records) (content_first ∷ contents) more content spelled one = (spelled.0, spell-append records contents more content spelled.1 one)
-
 -- What an append leaves that fires spells the record more exactly where the definitions say so.
 module _ (records : List Record) (contents : Contents) (more : Record) (content : List ℕ) (spelled : SpellRecords records contents) (one : SpellsRecord more content) where
   spell-kept : (mode : Mode) → SpellRecords (records ++ option_to_list (if is_kept mode then Some more else None)) (opened_in mode contents content)
-  spell-kept Kept = spell-append records contents more content spelled one
+  spell-kept Kept = spelled-more records contents more content spelled one
   spell-kept Lost = subst (λ (all : List Record). SpellRecords all contents) (sym (append-nil records)) spelled
   spell-kept Torn = subst (λ (all : List Record). SpellRecords all contents) (sym (append-nil records)) spelled
 

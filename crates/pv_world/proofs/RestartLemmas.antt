@@ -41,7 +41,8 @@ use Rattle.pv_site.specs.SiteState.{SiteState, setup_of}
 use Rattle.pv_site.specs.Steps.{IsReady}
 use Rattle.pv_site.specs.declared.error.ResumeError.TheVariants as refused
 use Rattle.pv_world.proofs.RestartArms.{FiresLate, comes-fired, comes-through, fires-early, fires-late, fires-within, later_by, waits-both}
-use Rattle.pv_world.proofs.RestartDisks.{holds-contents, spell-append, spell-left}
+use Rattle.pv_law_format.proofs.ReplayLemmas.{spelled-more}
+use Rattle.pv_world.proofs.RestartDisks.{holds-contents, spell-left}
 use Rattle.pv_world.specs.Cells.{CanBeRead, CanStart, HasBegun, HasStarted, IsDone, KeepsRecords, broken_site, site_after, site_after_start, start_attempt}
 use Rattle.pv_world.specs.Disks.{Spells, armed_as}
 use Rattle.pv_world.specs.Restarts.{IsSynced}
@@ -344,7 +345,7 @@ module _ (laws : Laws) (catalog : Declared) (n : ℕ) (journal : CkptLog MemStat
                 ready = ready;
                 disk = record {
                   contents = held ++ resumed.content ∷ [];
-                  spelled = spell-append is.records held (epoch_begun resumed.epoch) resumed.content synced.disk.spelled resumed.content_is;
+                  spelled = spelled-more is.records held (epoch_begun resumed.epoch) resumed.content synced.disk.spelled resumed.content_is;
                   holds = holds;
                 };
               };

@@ -22,7 +22,8 @@ use Rattle.pv_protocol.specs.Arms.{calls_of_append, fires, reached, record_left,
 use Rattle.pv_protocol.specs.State.{Arm, Step}
 use Rattle.pv_site.specs.OnLog.{Fails, Logs}
 use Rattle.pv_world.proofs.RestartArms.{comes-fired, comes-through, fires-within}
-use Rattle.pv_world.proofs.RestartDisks.{spell-append, spell-opened}
+use Rattle.pv_law_format.proofs.ReplayLemmas.{spelled-more}
+use Rattle.pv_world.proofs.RestartDisks.{spell-opened}
 use Rattle.pv_world.specs.Disks.{Spells, armed_as}
 
 -- An append to a journal that holds these records.
@@ -33,7 +34,7 @@ module _ (records : List Record) (contents : Contents) (appended : Record) (cont
       → (armed : Option Arm) × (reached 4 arm ≡ waits armed) × Spells (records ++ appended ∷ []) standing armed None on
   append-made arm comes =
       let (armed, waiting, holds) = comes-through 3 (contents ++ content ∷ [], standing) (λ fired. (contents_left contents content fired, standing)) on arm comes in
-      (armed, waiting, record { contents = contents ++ content ∷ []; spelled = spell-append records contents appended content spelled one; holds = holds })
+      (armed, waiting, record { contents = contents ++ content ∷ []; spelled = spelled-more records contents appended content spelled one; holds = holds })
 
   -- It fails, by a fault that fires.
   append-broken : (arm : Option Arm) → AppendsArmed contents standing content (option_map armed_as arm) false on

@@ -24,8 +24,8 @@ use Rattle.pv_world.specs.Disks.{Spells}
 use Rattle.pv_world.specs.Stands.{StandsForSite}
 use Rattle.pv_world.specs.declared.cell.Cell.{Cell}
 use Rattle.pv_world.specs.declared.cell.Cell.TheVariants.{Up}
-use Rattle.pv_world.specs.declared.cell.Packed.{Packed}
-use Rattle.pv_world.specs.declared.cell.Packed.TheVariants as packed
+use Rattle.pv_world.specs.declared.cell.Checkpointed.{Checkpointed}
+use Rattle.pv_world.specs.declared.cell.Checkpointed.TheVariants as packed
 use Rattle.pv_world.specs.declared.cell.Start.{Start}
 use Rattle.pv_world.specs.declared.cell.Start.TheVariants as start
 use Rattle.pv_world.specs.declared.cell.Stepped.{Stepped}
@@ -141,7 +141,7 @@ start_line n start.Spent = protocol.Line.spent n
 start_line n (start.Broke stops) = broken_line n stops
 
 -- what a checkpoint prints
-abbrev pub packed_lines : ℕ → Packed → List protocol.Line
+abbrev pub packed_lines : ℕ → Checkpointed → List protocol.Line
 packed_lines n packed.Down = protocol.Line.down n ∷ []
 packed_lines n packed.Done = []
 packed_lines n packed.Spent = protocol.Line.spent n ∷ []
@@ -191,7 +191,7 @@ module _ (catalog : Declared) (n : ℕ) (old new : Cell) (is : model.Site) where
   HasStepped (Some running) input (Broke stops) = IsBroken catalog n new is (step_attempt catalog n is running input) stops
 
   -- What comes of a checkpoint where the site has this in memory: the log is packed, or that is broken off, or the number in force is the greatest. One that is down stays as it is.
-  abbrev pub HasPacked : Option Running → Packed → Type 0
+  abbrev pub HasPacked : Option Running → Checkpointed → Type 0
   HasPacked None answer = (answer ≡ packed.Down) × (new ≡ old)
   HasPacked (Some running) packed.Down = ⊥
   HasPacked (Some running) packed.Done = (is.standing.number < greatest_number) × IsDone catalog n new is (of_checkpoint is.standing running)

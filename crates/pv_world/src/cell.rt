@@ -1,5 +1,5 @@
 // A site of the world, up or down, and what a step, a stop, a start and an armed fault make of it. Only this module and the one on restarts
-// know what the sites stand on.
+// know what the logs are that sites stand on; `room.rt` and `world.rt` beside them name the disks, which a run leaves.
 ghost use Rattle.std.specs.Prelude.{◌≡◌, ◌<◌, ◌≤◌, ℕ, Bool, List, Option, IfOk, None, Some, is_some};
 ghost use Rattle.pv_base.specs.Catalog.{Declared};
 ghost use Rattle.pv_format.specs.Checkpoint.{Standing};
@@ -53,7 +53,7 @@ pub(crate) enum Stepped {
 
 /// What came of a checkpoint.
 #[derive(Clone, Copy, Debug, PartialEq, Eq)]
-pub(crate) enum Packed {
+pub(crate) enum Checkpointed {
     /// The site was down.
     Down,
     /// Its log is packed.
@@ -124,20 +124,20 @@ impl Cell {
 
     /// The site, if it is up, writes its log anew, packed. Where a write or a sync of its disk fires it is down, with the records that it had. Takes time in
     /// proportion to the log.
-    pub(crate) fn checkpoint(&mut self, alloc: Global) -> Result<Packed, NoMemory>
+    pub(crate) fn checkpoint(&mut self, alloc: Global) -> Result<Checkpointed, NoMemory>
         requires { CanPack self.old }
         ensures { (catalog : Declared) (n : ℕ) (is : model.Site) → StandsForSite catalog n self.old is →
             IfOk result (HasPacked catalog n self.old self.new is is.running) }
     {
         armed_logs();
         let Cell::Up(up) = self else {
-            return Ok(Packed::Down);
+            return Ok(Checkpointed::Down);
         };
         let length = up.length();
         match up.log().checkpoint() {
-            Ok(()) => Ok(Packed::Done),
-            Err(CkptError::Spent) => Ok(Packed::Spent),
-            Err(CkptError::Failed) => Ok(Packed::Broke {
+            Ok(()) => Ok(Checkpointed::Done),
+            Err(CkptError::Spent) => Ok(Checkpointed::Spent),
+            Err(CkptError::Failed) => Ok(Checkpointed::Broke {
                 stops: self.fall(length, alloc)?,
             }),
             Err(CkptError::NoMemory) => Err(NoMemory),

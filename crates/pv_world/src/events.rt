@@ -15,7 +15,7 @@ ghost use Rattle.pv_world.specs.Stands.{StandsFor, StandsForSome};
 ghost use Rattle.pv_world.specs.Stands as world;
 ghost use Rattle.pv_world.specs.Steps.{Comes, MakesTransitions};
 
-use crate::cell::{Packed, Start};
+use crate::cell::{Checkpointed, Start};
 use crate::laws::reached_worlds_are_lawful;
 use crate::lines::broken_line;
 use crate::spelled::envelope;
@@ -185,10 +185,10 @@ impl World {
     {
         reached_worlds_are_lawful();
         let line = match self.cells[site.0 as usize].checkpoint(self.alloc)? {
-            Packed::Done => return Ok(()),
-            Packed::Down => Line::Down(site),
-            Packed::Spent => Line::Spent(site),
-            Packed::Broke { stops } => broken_line(site, stops),
+            Checkpointed::Done => return Ok(()),
+            Checkpointed::Down => Line::Down(site),
+            Checkpointed::Spent => Line::Spent(site),
+            Checkpointed::Broke { stops } => broken_line(site, stops),
         };
         Ok(lines.push(line)?)
     }

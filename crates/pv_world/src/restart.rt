@@ -32,7 +32,7 @@ pub(crate) fn first_started(
 {
     no_records_are_narrow();
     starts_keep_width();
-    // The least limit has room for the record of the first epoch.
+    // Called for its contract alone: the limit has room for the record of the first epoch.
     let _limit = catalog.journal();
     let disk = formatted(alloc)?;
     let left = Recovered::new(alloc, site, catalog)?;
@@ -49,7 +49,7 @@ fn formatted(alloc: Global) -> Result<MemDisk, NoMemory>
     match format(&mut disk) {
         Ok(()) => Ok(disk),
         Err(DiskError::NoMemory) => Err(NoMemory),
-        // Nothing is armed.
+        // Nothing is armed, so this doesn't come; no contract of a disk says so.
         Err(DiskError::Failed) => Err(NoMemory),
     }
 }
@@ -168,7 +168,7 @@ fn down(disk: MemDisk, length: u64, left: Recovered, alloc: Global) -> Result<Ce
             let left = read_again(&mut disk, left, alloc)?;
             Ok(Cell::Down(disk, left))
         }
-        // Nothing is armed.
+        // Nothing is armed, so that the disk fails doesn't come; no contract of an opening says so.
         Err(OpenCkpt::Failed(_)) | Err(OpenCkpt::NoMemory(_)) => Err(NoMemory),
         // The disk holds a log.
         Err(OpenCkpt::NotOurs(..)) => unreachable!(),

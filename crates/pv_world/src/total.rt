@@ -12,10 +12,10 @@ ghost use Rattle.pv_world.specs.Steps.{lines_of};
 
 use crate::World;
 use pv_base::{ItemId, NoMemory};
-use pv_poly::Poly;
 use pv_query::{SumError, sums};
 use pv_script::Line;
 use pv_site::Shown;
+use pv_tree::Poly;
 use std::alloc::Global;
 
 impl World {

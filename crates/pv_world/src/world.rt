@@ -64,7 +64,7 @@ impl World {
 
     /// What the event prints; the world is then the one after it. The event's sites are the catalog's, a write or sync that it arms is counted
     /// from 1, and a request has the plan that `check` answers for its program. Takes time in proportion to what the event prints, sends and
-    /// touches; where a site starts, or its disk fails, besides in proportion to its log and the items, and a tick to what stands at the site.
+    /// touches; where a site starts, makes a checkpoint, or its disk fails, besides in proportion to its log and the items, and a tick to what stands at the site.
     ///
     /// - [`WorldError::SentLimit`]: the encoded bytes of all messages, with those of the first one that passes the limit, are so many. The world
     ///   is then to be dropped.

@@ -1,7 +1,7 @@
 use Rattle.std.proofs.Common.{arith, ◌+◌, ◌++◌, ◌∙◌, ap, take, List, ℕ}
 use Rattle.pv_format.specs.Journal.{framed}
-use Rattle.pv_journal.proofs.LookLemmas.{looks_none}
-use Rattle.pv_journal.proofs.ReadLemmas.{after_gate}
+use Rattle.pv_law_calls.proofs.LookLemmas.{looks_none}
+use Rattle.pv_law_calls.proofs.RecordLemmas.{after_gate}
 use Rattle.pv_law_journal.proofs.SizeLemmas.{length-framed}
 use Rattle.pv_ckpt.proofs.PackLemmas.{count_told}
 use Rattle.pv_ckpt.proofs.checkpoint.framed_at.Goals as goal

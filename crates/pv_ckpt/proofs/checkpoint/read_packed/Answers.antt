@@ -1,5 +1,5 @@
 use Rattle.std.proofs.Common.{rules, arith, ◌++◌, ◌∙◌, ap, take, drop, List, ℕ}
-use Rattle.pv_journal.proofs.LookLemmas.{looked_err, looked_ok}
+use Rattle.pv_law_calls.proofs.LookLemmas.{looked_err, looked_ok}
 use Rattle.pv_ckpt.proofs.PackLemmas.{packed_all, packed_first, packed_more}
 use Rattle.pv_ckpt.proofs.checkpoint.read_packed.Goals as goal
 

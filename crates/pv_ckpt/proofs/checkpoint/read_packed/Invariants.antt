@@ -1,6 +1,6 @@
 use Rattle.std.proofs.Common.{◌≡◌, ℕ, ◌+◌, ◌-◌, ◌≤◌, List, Some, vec_len}
 use Rattle.pv_disk_model.specs.Size.{Contents}
-use Rattle.pv_journal.specs.Reading.{LooksOn}
+use Rattle.pv_law_calls.specs.Reading.{LooksOn}
 use Rattle.pv_ckpt.specs.Roots.{IsHeld}
 use Rattle.pv_ckpt.proofs.PackLemmas.{PackedTo}
 use Rattle.pv_ckpt.proofs.checkpoint.read_packed.Given as goal

@@ -1,8 +1,7 @@
 -- Room, the write and its sync, and what a crash in each leaves.
-use Rattle.std.proofs.Common.{arith, ◌≡◌, List, ℕ, true, false, inr, refl, ◌∙◌, ap, subst, Some, Err, drop, ◌++◌}
+use Rattle.std.proofs.Common.{arith, List, ℕ, true, false, inr, refl, ◌∙◌, ap, subst, Some, Err, drop, ◌++◌}
 use Rattle.std.proofs.lemmas.Result.{err_from_is_err_and}
 use Rattle.pv_disk_model.specs.Calls.{Makes}
-use Rattle.pv_law_checkpoints.specs.TwoAreas.{formatted}
 use Rattle.pv_ckpt.specs.Writing.{synced_write}
 use Rattle.pv_ckpt.proofs.FormatLemmas.{after_write, disk_failed, empty, empty-formatted, no_room}
 use Rattle.pv_ckpt.proofs.ckpt_log.format.Goals as goal

@@ -1,7 +1,7 @@
-use Rattle.std.proofs.Common.{rules, arith, ◌≡◌, ◌+◌, [], ◌∷◌, Some, ◌∙◌, ap, length}
+use Rattle.std.proofs.Common.{rules, arith, ◌≡◌, ◌+◌, Some, ap, length}
 use Rattle.pv_disk_model.specs.Disk.{overlaid}
 use Rattle.pv_disk_model.proofs.OverlayLemmas.{length-overlaid}
-use Rattle.pv_journal.proofs.LookLemmas.{known_before}
+use Rattle.pv_law_calls.proofs.LookLemmas.{known_before}
 use Rattle.pv_ckpt.proofs.AppendLemmas.{broken_off, finished}
 use Rattle.pv_ckpt.proofs.log.write_record.Goals as goal
 

@@ -1,5 +1,5 @@
 -- The lemmas, as the law of an empty function.
-use Rattle.pv_journal.proofs.ArmedLemmas.{reads-same}
+use Rattle.pv_law_calls.proofs.ArmedLemmas.{reads-same}
 use Rattle.pv_ckpt.proofs.ArmedLemmas.{appends-armed, intact-holds, number-held, opening-fails, opens-a-log, opens-armed, packs-armed, reads-held}
 use Rattle.pv_ckpt.proofs.memory.armed_logs.Goals as goal
 

@@ -5,8 +5,8 @@ use Rattle.pv_disk_model.specs.Disk.{Gives}
 use Rattle.pv_disk_model.specs.Size.{Contents}
 use Rattle.pv_format.specs.Journal.{framed, AreShort}
 use Rattle.pv_journal.specs.Opening.{contents_in}
-use Rattle.pv_journal.proofs.GivenLemmas.{gives_more}
-use Rattle.pv_journal.proofs.LookLemmas.{looked_ok, looks_none}
+use Rattle.pv_law_calls.proofs.GivenLemmas.{gives_more}
+use Rattle.pv_law_calls.proofs.LookLemmas.{looked_ok, looks_none}
 use Rattle.pv_law_checkpoints.specs.TwoAreas.{block_of}
 use Rattle.pv_law_journal.proofs.SizeLemmas.{length-framed}
 use Rattle.pv_ckpt.specs.Reading.{BeginsAt, IsInRange}

@@ -2,7 +2,7 @@ use Rattle.std.proofs.Common.{◌≡◌, ℕ, ◌+◌, ◌-◌, ◌≤◌, List,
 use Rattle.pv_disk_model.specs.Disk.{Gives}
 use Rattle.pv_format.specs.Journal.{AreShort}
 use Rattle.pv_journal.specs.Opening.{contents_in}
-use Rattle.pv_journal.specs.Reading.{LooksOn}
+use Rattle.pv_law_calls.specs.Reading.{LooksOn}
 use Rattle.pv_law_checkpoints.specs.TwoAreas.{block_of}
 use Rattle.pv_ckpt.specs.Reading.{BeginsAt}
 use Rattle.pv_ckpt.proofs.reading.read_block.Given as goal

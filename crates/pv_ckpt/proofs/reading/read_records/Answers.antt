@@ -1,19 +1,19 @@
-use Rattle.std.proofs.Common.{rules, arith, ◌≡◌, ℕ, sym, ◌∙◌, subst, ap, map, drop, length, ◌+◌, ◌-◌, ◌++◌, ◌∷◌, [], vec_len, Vec, Global, Option, Some, List, ◌<◌, ◌^◌}
+use Rattle.std.proofs.Common.{rules, arith, ◌≡◌, ℕ, sym, ◌∙◌, subst, ap, append_assoc, map, drop, length, ◌+◌, ◌-◌, ◌++◌, ◌∷◌, [], vec_len, Vec, Global, Option, Some, List, ◌<◌, ◌^◌}
 use Rattle.std.specs.Prelude.{IfSome}
-use Rattle.std.proofs.lemmas.List.{map_push}
+use Rattle.std.proofs.lemmas.List.{append-nil, map_push}
 use Rattle.pv_disk_model.specs.Size.{Contents}
-use Rattle.pv_format.specs.Journal.{framed, record_of}
+use Rattle.pv_format.specs.Journal.{record_of}
 use Rattle.pv_journal.specs.Opening.{contents_in}
 use Rattle.pv_journal.specs.Reading.{HoldsRecord, IsRecord}
-use Rattle.pv_journal.proofs.LookLemmas.{looked_in_vain, looked_ok, looks_none}
+use Rattle.pv_law_calls.proofs.LookLemmas.{looked_in_vain, looked_ok, looks_none}
 use Rattle.pv_ckpt.specs.Reading.{BeginsAt, ReadsCut}
-use Rattle.pv_ckpt.proofs.RecordLemmas.{HasRead, ends, is_cut, none_read, one_more, record_there}
+use Rattle.pv_ckpt.proofs.RecordLemmas.{ends, is_cut, none_read, one_more, record_there}
 use Rattle.pv_ckpt.proofs.reading.read_records.Goals as goal
 
 pub loop-content-init : goal.loop-content-init
 loop-content-init g c =
     let M = g.D.Disk.model in
-    (looks_none M c.args.disk.now, c.requires.within, ([], none_read M c.args.disk.now c.args.start (contents_in c.args.all.now)))
+    (looks_none M c.args.disk.now, c.requires.within, ([], none_read M record_of c.args.disk.now c.args.start, sym (append-nil (contents_in c.args.all.now))))
 
 pub returns-in_err-content-clause-not_ours : goal.returns-in_err-content-clause-not_ours
 returns-in_err-content-clause-not_ours g c place known =
@@ -24,8 +24,8 @@ returns-in_err-content-clause-not_ours g c place known =
     let told = c.read_record.ensures.gave_none place (search rules) in
     let gave = told.1 in (
       later,
-      subst (λ n. ReadsCut M c.args.disk.now c.read_record.new.disk c.args.start n later) (sym told.0)
-          (is_cut M c.args.disk.now c.args.start (contents_in c.args.all.now) c.loop-content.disk c.loop-content.place (contents_in c.loop-content.all) later has c.read_record.new.disk gave.0 gave.1 gave.2
+      subst (λ n. ReadsCut M record_of c.args.disk.now c.read_record.new.disk c.args.start n later) (sym told.0)
+          (is_cut M record_of c.args.disk.now c.args.start c.loop-content.disk c.loop-content.place later has c.read_record.new.disk gave.0 gave.1 gave.2
           (λ bytes is. (c.read_record.ensures.not_ours place (search rules) bytes (inv.0.1 ∙ is)).1)),
     )
 
@@ -41,10 +41,10 @@ returns-in_default-clause-records g c =
     let later = inv.2.0 in
     let gave = c.in_ok-content.ensures.gave in (
       later,
-      ends M c.args.disk.now c.args.start (contents_in c.args.all.now) c.loop-content.disk c.loop-content.place (contents_in c.loop-content.all) later has c.read_record.new.disk gave.0 gave.1
+      ends M record_of c.args.disk.now c.args.start c.loop-content.disk c.loop-content.place later has c.read_record.new.disk gave.0 gave.1
           (subst (IsRecord gave.0) c.in_default.is gave.2)
           (λ bytes is. subst (HoldsRecord (drop c.loop-content.place bytes)) c.in_default.is (c.in_ok-content.ensures.stands bytes (inv.0.1 ∙ is))),
-      has.grown,
+      inv.2.2,
     )
 
 pub loop-content-preserved : goal.loop-content-preserved
@@ -69,8 +69,9 @@ loop-content-preserved g c =
       omega (arith, ends_there.0, length_is),
       (
         later ++ content.items ∷ [],
-        one_more M c.args.disk.now c.args.start (contents_in c.args.all.now) c.loop-content.disk c.loop-content.place (contents_in c.loop-content.all) later has c.read_record.new.disk c.len.result
-            content.items gave.0 (contents_in c.push.new.self) (size ∙ sym length_is) (omega (arith, ends_there.1, length_is)) gave.1 record_is there grown,
+        one_more M record_of c.args.disk.now c.args.start c.loop-content.disk c.loop-content.place later has c.read_record.new.disk c.len.result content.items gave.0
+            (size ∙ sym length_is) (omega (arith, ends_there.1, length_is)) gave.1 record_is there,
+        grown ∙ ap (λ (all : Contents). all ++ content.items ∷ []) inv.2.2 ∙ append_assoc (contents_in c.args.all.now) later (content.items ∷ []),
       ),
     )
 

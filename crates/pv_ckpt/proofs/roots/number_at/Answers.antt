@@ -1,4 +1,4 @@
-use Rattle.std.proofs.Common.{arith, ◌≡◌, ◌+◌, ◌-◌, ◌++◌, ℕ, List, sym, ap, ◌∙◌, take, drop, length, length-take, length-drop}
+use Rattle.std.proofs.Common.{arith, ◌≡◌, ◌+◌, ◌-◌, ◌++◌, sym, ap, ◌∙◌, take, drop, length-take, length-drop}
 use Rattle.pv_base.specs.BigEndian.{big_endian}
 use Rattle.pv_bytes.specs.Reading.{Rest}
 use Rattle.pv_ckpt.proofs.RootLemmas.{whole_eight}

@@ -3,7 +3,7 @@ use Rattle.pv_disk_model.specs.Calls.{sync}
 use Rattle.pv_disk_model.specs.Disk.{overlaid}
 use Rattle.pv_disk_model.proofs.DiskLemmas.{Makes-one}
 use Rattle.pv_disk_model.proofs.OverlayLemmas.{length-overlaid}
-use Rattle.pv_journal.proofs.LookLemmas.{known_before}
+use Rattle.pv_law_calls.proofs.LookLemmas.{known_before}
 use Rattle.pv_journal.proofs.AppendLemmas.{after_write, after_quiet, after_gate_write, now_longer, broken_off, finished}
 use Rattle.pv_journal.proofs.log.write_record.Goals as goal
 

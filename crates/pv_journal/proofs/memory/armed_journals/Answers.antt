@@ -1,5 +1,6 @@
 -- The lemmas, as the law of an empty function.
-use Rattle.pv_journal.proofs.ArmedLemmas.{appends-armed, intact-holds, opening-fails, opens-a-journal, opens-armed, reads-held, reads-same}
+use Rattle.pv_journal.proofs.ArmedLemmas.{appends-armed, intact-holds, opening-fails, opens-a-journal, opens-armed, reads-held}
+use Rattle.pv_law_calls.proofs.ArmedLemmas.{reads-same}
 use Rattle.pv_journal.proofs.memory.armed_journals.Goals as goal
 
 pub returns-clause-looks : goal.returns-clause-looks

@@ -2,11 +2,13 @@ use Rattle.std.proofs.Common.{rules, arith, ◌≡◌, ℕ, List, inl, inr, sym,
 use Rattle.pv_format.specs.Journal.{header, EndsShort}
 use Rattle.pv_base.specs.BigEndian.{big_endian}
 use Rattle.pv_journal.specs.Outline.{OutlinesTo}
-use Rattle.pv_journal.specs.Reading.{Gave, IsGate, IsOpenEnd, ReadsTo, StandsAt, EndsBefore}
+use Rattle.pv_journal.specs.Reading.{IsGate, IsOpenEnd, ReadsTo, StandsAt, EndsBefore}
+use Rattle.pv_law_calls.specs.Reading.{Gave}
 use Rattle.pv_journal.specs.declared.reading.Gate.{Gate}
 use Rattle.pv_journal.specs.declared.reading.Gate.TheVariants.{Open}
-use Rattle.pv_journal.proofs.GivenLemmas.{gives_more, none_outlined, one_more_outlined}
-use Rattle.pv_journal.proofs.LookLemmas.{looked_ok}
+use Rattle.pv_law_calls.proofs.GivenLemmas.{gives_more}
+use Rattle.pv_journal.proofs.GivenLemmas.{none_outlined, one_more_outlined}
+use Rattle.pv_law_calls.proofs.LookLemmas.{looked_ok}
 use Rattle.pv_journal.proofs.ReadLemmas.{read_closed, read_cut, read_open}
 use Rattle.pv_journal.proofs.reading.find_end.Goals as goal
 

@@ -1,7 +1,8 @@
 use Rattle.std.proofs.Common.{◌≡◌, ℕ, ◌-◌, ◌<◌, ◌≤◌, List, Some}
 use Rattle.pv_disk_model.specs.Size.{Contents}
 use Rattle.pv_journal.specs.Outline.{OutlinesTo}
-use Rattle.pv_journal.specs.Reading.{Gave, Looks, ReadsTo}
+use Rattle.pv_journal.specs.Reading.{ReadsTo}
+use Rattle.pv_law_calls.specs.Reading.{Gave, Looks}
 use Rattle.pv_journal.proofs.reading.find_end.Given as goal
 
 abbrev pub invariant-loop-count : goal.invariant-loop-count

@@ -1,6 +1,8 @@
 use Rattle.std.proofs.Common.{rules, arith, ◌≡◌, ℕ, ◌-◌, List, [], ◌∷◌, ◌++◌, length, take, drop, sym, ◌∙◌, ap, length-take, length-drop}
-use Rattle.pv_journal.proofs.GivenLemmas.{gate_closed, gate_open, gives_more}
-use Rattle.pv_journal.proofs.ReadLemmas.{stands_closed, opened, after_gate, cut_early, cut_late, stands_open}
+use Rattle.pv_law_calls.proofs.GivenLemmas.{gives_more}
+use Rattle.pv_journal.proofs.GivenLemmas.{gate_closed, gate_open}
+use Rattle.pv_law_calls.proofs.RecordLemmas.{after_gate}
+use Rattle.pv_journal.proofs.ReadLemmas.{stands_closed, opened, cut_early, cut_late, stands_open}
 use Rattle.pv_journal.proofs.reading.gate_at.Goals as goal
 
 pub returns-then-gate-ne1-clause-stands : goal.returns-then-gate-ne1-clause-stands

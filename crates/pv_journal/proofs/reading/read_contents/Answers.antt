@@ -2,9 +2,11 @@ use Rattle.std.proofs.Common.{rules, arith, ◌≡◌, ℕ, inl, inr, sym, ◌�
 use Rattle.std.specs.Prelude.{IfSome}
 use Rattle.std.proofs.lemmas.List.{map_push}
 use Rattle.pv_format.specs.Journal.{header, EndsShort}
-use Rattle.pv_journal.specs.Reading.{Gave, HoldsRecord, IsOpenEnd, IsRecord}
-use Rattle.pv_journal.proofs.GivenLemmas.{all_read, cut_read, gives_more, none_read, one_more_read}
-use Rattle.pv_journal.proofs.LookLemmas.{looked_ok, looked_in_vain}
+use Rattle.pv_journal.specs.Reading.{HoldsRecord, IsOpenEnd, IsRecord}
+use Rattle.pv_law_calls.specs.Reading.{Gave}
+use Rattle.pv_law_calls.proofs.GivenLemmas.{gives_more}
+use Rattle.pv_journal.proofs.GivenLemmas.{all_read, cut_read, none_read, one_more_read}
+use Rattle.pv_law_calls.proofs.LookLemmas.{looked_in_vain, looked_ok}
 use Rattle.pv_journal.proofs.ReadLemmas.{read_closed, read_cut, read_open}
 use Rattle.pv_journal.proofs.reading.read_contents.Goals as goal
 

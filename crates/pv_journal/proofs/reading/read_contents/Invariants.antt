@@ -1,5 +1,6 @@
 use Rattle.std.proofs.Common.{◌≡◌, ℕ, ◌-◌, ◌<◌, List, Some, map}
-use Rattle.pv_journal.specs.Reading.{Gave, HasRead, Looks, ReadsTo}
+use Rattle.pv_journal.specs.Reading.{HasRead, ReadsTo}
+use Rattle.pv_law_calls.specs.Reading.{Gave, Looks}
 use Rattle.pv_journal.proofs.reading.read_contents.Given as goal
 
 abbrev pub invariant-loop-all : goal.invariant-loop-all

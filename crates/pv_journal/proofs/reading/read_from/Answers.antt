@@ -1,6 +1,6 @@
 use Rattle.std.proofs.Common.{length}
 use Rattle.pv_disk_model.specs.Calls.{read}
-use Rattle.pv_journal.proofs.LookLemmas.{looks_ok, looks_failed}
+use Rattle.pv_law_calls.proofs.LookLemmas.{looks_failed, looks_ok}
 use Rattle.pv_journal.proofs.reading.read_from.Goals as goal
 
 pub returns-in-Ok-clause-effect : goal.returns-in-Ok-clause-effect

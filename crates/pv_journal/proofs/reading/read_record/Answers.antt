@@ -5,7 +5,7 @@ use Rattle.pv_base.specs.BigEndian.{big_endian}
 use Rattle.pv_journal.specs.Reading.{StandsAt, EndsBefore, IsGate}
 use Rattle.pv_journal.specs.declared.reading.Gate.{Gate}
 use Rattle.pv_journal.specs.declared.reading.Gate.TheVariants.{Open}
-use Rattle.pv_journal.proofs.GivenLemmas.{gives_more}
+use Rattle.pv_law_calls.proofs.GivenLemmas.{gives_more}
 use Rattle.pv_journal.proofs.ReadLemmas.{content_behind}
 use Rattle.pv_journal.proofs.reading.read_record.Goals as goal
 

@@ -5,7 +5,7 @@ use Rattle.std.proofs.lemmas.Iterator.Search.{position_from_yields_List}
 use Rattle.std.proofs.lemmas.Bool.Decides.{nat_tests}
 use Rattle.std.proofs.lemmas.List.Sums.{prefix_len-le-length}
 use Rattle.pv_base.specs.Polyvalue.{Case}
-use Rattle.pv_poly.specs.CasesAt.{asks_commit}
+use Rattle.pv_cases.specs.CasesAt.{asks_commit}
 use Rattle.pv_poly.proofs.cases.aborted_len.Goals as goal
 
 place-or-length : (place count : ℕ) → place ≤ count → unwrap_or (cond (ltb place count) (Some place) None) count ≡ place

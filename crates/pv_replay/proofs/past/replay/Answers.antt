@@ -26,27 +26,27 @@ returns-in_err-records-clause-answer c =
     let p = err_from_is_err_and c.from_residual.result c.from_residual.ensures.1 in
     rw (p.1, p.2)
     (answered (λ records. SpellRecords records (contents_of c.args.contents.now)) (IsFirstBadContent (contents_of c.args.contents.now))
-    (one-replay-answer (contents_of c.args.contents.now) c.contents_are_bytes.ensures) (λ (past : Past). records_of past.records.items) index_of (Err NoMemory) tt tt)
+    (one-replay-answer (contents_of c.args.contents.now)) (λ (past : Past). records_of past.records.items) index_of (Err NoMemory) tt tt)
 
 pub returns-in_err-record-clause-answer : goal.returns-in_err-record-clause-answer
 returns-in_err-record-clause-answer c =
     let p = err_from_is_err_and c.from_residual-in_err-record.result c.from_residual-in_err-record.ensures.1 in
     rw (p.1, p.2)
     (answered (λ records. SpellRecords records (contents_of c.args.contents.now)) (IsFirstBadContent (contents_of c.args.contents.now))
-    (one-replay-answer (contents_of c.args.contents.now) c.contents_are_bytes.ensures) (λ (past : Past). records_of past.records.items) index_of (Err NoMemory) tt tt)
+    (one-replay-answer (contents_of c.args.contents.now)) (λ (past : Past). records_of past.records.items) index_of (Err NoMemory) tt tt)
 
 pub returns-in_err-push-in-Some-clause-answer : goal.returns-in_err-push-in-Some-clause-answer
 returns-in_err-push-in-Some-clause-answer c =
     let p = err_from_is_err_and c.from_residual-in_err-push-in-Some.result c.from_residual-in_err-push-in-Some.ensures.1 in
     rw (p.1, p.2)
     (answered (λ records. SpellRecords records (contents_of c.args.contents.now)) (IsFirstBadContent (contents_of c.args.contents.now))
-    (one-replay-answer (contents_of c.args.contents.now) c.contents_are_bytes.ensures) (λ (past : Past). records_of past.records.items) index_of (Err NoMemory) tt tt)
+    (one-replay-answer (contents_of c.args.contents.now)) (λ (past : Past). records_of past.records.items) index_of (Err NoMemory) tt tt)
 
 pub returns-in-None-clause-answer : goal.returns-in-None-clause-answer
 returns-in-None-clause-answer c =
     let index : c.len.result ≡ c.loop-content.content-index = omega arith in
     answered (λ records. SpellRecords records (contents_of c.args.contents.now)) (IsFirstBadContent (contents_of c.args.contents.now))
-    (one-replay-answer (contents_of c.args.contents.now) c.contents_are_bytes.ensures) (λ (past : Past). records_of past.records.items) index_of (Err (BadRecord c.len.result)) tt
+    (one-replay-answer (contents_of c.args.contents.now)) (λ (past : Past). records_of past.records.items) index_of (Err (BadRecord c.len.result)) tt
     (subst (IsFirstBadContent (contents_of c.args.contents.now)) (sym index)
     (first_bad c.args.contents.now c.loop-content.content-index c.content-item.result c.loop-content-test.true c.content-item.is c.loop-content.records.items
     c.loop-content.invariant.spelled
@@ -71,6 +71,6 @@ returns-clause-answer c =
     let all : length (contents_of contents) ≤ c.loop-content.content-index
     = subst (λ n. n ≤ c.loop-content.content-index) (sym (length-map contents (λ (v : Vec ℕ). v.items))) c.loop-content-test.false in
     answered (λ records. SpellRecords records (contents_of contents)) (IsFirstBadContent (contents_of contents))
-    (one-replay-answer (contents_of contents) c.contents_are_bytes.ensures) (λ (past : Past). records_of past.records.items) index_of
+    (one-replay-answer (contents_of contents)) (λ (past : Past). records_of past.records.items) index_of
     (Ok (record { epoch = c.loop-content.epoch; records = c.loop-content.records }))
     (subst (SpellRecords (records_of c.loop-content.records.items)) (take_all c.loop-content.content-index (contents_of contents) all) c.loop-content.invariant.spelled) tt

@@ -10,7 +10,7 @@ use Rattle.pv_format.specs.Layout.{anything, polyvalue_then}
 use Rattle.pv_format.specs.PolyvalueSpelling.{BeginsWith, SpellsPolyvalue}
 use Rattle.pv_fields.specs.Decoding.{Passes, Stops}
 use Rattle.pv_law_format.proofs.AnswerLemmas.{one-polyvalue-answer}
-use Rattle.pv_poly.specs.declared.poly.Poly.{Poly}
+use Rattle.pv_tree.specs.declared.poly.Poly.{Poly}
 use Rattle.pv_replay.specs.Faults.{fault_of}
 use Rattle.pv_replay.specs.declared.error.PolyError.{PolyError}
 use Rattle.pv_replay.proofs.poly.take_poly.Goals as goal

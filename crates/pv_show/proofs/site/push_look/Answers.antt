@@ -1,4 +1,4 @@
--- The contents of a journal are told.
+-- The contents of a log are told.
 use Rattle.std.proofs.Common.{◌≡◌, ◌++◌, ℕ, List, Result, Ok, Err, sym, subst}
 use Rattle.std.specs.Prelude.{Vec, OnOk}
 use Rattle.std.specs.declared.alloc.Global.{Global}

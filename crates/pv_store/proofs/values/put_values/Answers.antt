@@ -31,6 +31,11 @@ loop-read-preserved-in-Some-2 c =
     puts-step c.args.new.items c.args.values.now c.loop-read.read-iterator.rest.items c.next.new.self.rest.items c.loop-read.values
     c.in-Some.read _ c.in-Some.ensures.steps.0 c.read.view_is c.loop-read.invariant
 
+pub loop-read-preserved-in-Some-3 : goal.loop-read-preserved-in-Some-3
+loop-read-preserved-in-Some-3 c =
+    puts-step c.args.new.items c.args.values.now c.loop-read.read-iterator.rest.items c.next.new.self.rest.items c.loop-read.values
+    c.in-Some.read _ c.in-Some.ensures.steps.0 c.read.view_is c.loop-read.invariant
+
 no-more : {X : Type 0} (xs : List X) → length xs ≡ 0 → xs ≡ []
 no-more [] none = refl
 no-more (x ∷ xs) none = absurd (omega (arith, none))

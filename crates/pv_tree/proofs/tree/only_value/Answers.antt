@@ -1,5 +1,5 @@
 -- A canonical case alone has no literals.
-use Rattle.std.proofs.Common.{List, sym, ap}
+use Rattle.std.proofs.Common.{ap}
 use Rattle.pv_base.specs.Polyvalue.{Case}
 use Rattle.pv_tree.proofs.RootLemmas.{only-value}
 use Rattle.pv_tree.proofs.tree.only_value.Goals as goal

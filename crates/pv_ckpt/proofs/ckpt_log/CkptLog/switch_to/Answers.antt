@@ -1,4 +1,4 @@
-use Rattle.std.proofs.Common.{rules, arith, ◌≡◌, ◌+◌, inr, ◌∙◌, ap, refl, sym, subst, true, false, length, vec_len, Ok, Err}
+use Rattle.std.proofs.Common.{rules, arith, ◌≡◌, ◌+◌, inr, ◌∙◌, ap, refl, sym, subst, true, false, length, vec_len, Err}
 use Rattle.pv_disk.specs.DiskAnswers.{ReservesOnDisk}
 use Rattle.pv_law_checkpoints.specs.Stages.{free_place}
 use Rattle.pv_law_checkpoints.proofs.CheckpointLemmas.{length-fields}

@@ -2,7 +2,7 @@ use Rattle.std.proofs.Common.{arith, ◌+◌, length, true, false, ◌∙◌, sy
 use Rattle.std.proofs.lemmas.Bool.{true≢false}
 use Rattle.pv_disk_model.specs.Calls.{Makes}
 use Rattle.pv_journal.specs.Journal.{frame_calls}
-use Rattle.pv_journal.proofs.LogLemmas.{length-frame, not_down}
+use Rattle.pv_law_calls.proofs.RecordLemmas.{length-frame, not_down}
 use Rattle.pv_law_checkpoints.proofs.LogLemmas.{end_within}
 use Rattle.pv_ckpt.specs.declared.ckpt_log.CkptLog.{CkptLog}
 use Rattle.pv_ckpt.proofs.LogLemmas.{fails_to_add, adds, still_intact}

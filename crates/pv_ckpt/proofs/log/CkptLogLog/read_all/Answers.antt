@@ -1,7 +1,7 @@
-use Rattle.std.proofs.Common.{rules, ◌≡◌, ℕ, ◌++◌, refl, sym, ◌∙◌, subst, true, false, Err}
+use Rattle.std.proofs.Common.{rules, ◌≡◌, ℕ, ◌++◌, refl, ◌∙◌, subst, true, false, Err}
 use Rattle.pv_disk_model.specs.Calls.{none}
 use Rattle.pv_disk.specs.declared.disk_error.LookError.TheVariants.{NotOurs}
-use Rattle.pv_journal.specs.Reading.{LooksBy, LooksOn}
+use Rattle.pv_law_calls.specs.Reading.{LooksBy, LooksOn}
 use Rattle.pv_law_checkpoints.proofs.ContentsLemmas.{log_contents_of-log}
 use Rattle.pv_law_checkpoints.proofs.OneAnswer.{one_contents}
 use Rattle.pv_ckpt.specs.CkptModel.{log_bytes}

@@ -1,4 +1,4 @@
-use Rattle.std.proofs.Common.{rules, ◌≡◌, ◌+◌, ◌≤◌, refl, subst, true, Err}
+use Rattle.std.proofs.Common.{rules, ◌+◌, ◌≤◌, refl, subst, true, Err}
 use Rattle.pv_disk.specs.DiskAnswers.{ReservesOnDisk}
 use Rattle.pv_ckpt.specs.declared.ckpt_log.CkptLog.{CkptLog}
 use Rattle.pv_ckpt.proofs.KeepLemmas.{keeps_log}

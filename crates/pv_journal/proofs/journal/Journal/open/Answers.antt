@@ -1,8 +1,8 @@
 -- The sync gives nothing, and the reads after it what shows that there is no journal.
 use Rattle.std.proofs.Common.{rules, sym, subst}
 use Rattle.pv_journal.specs.Outline.{OutlinesNone}
-use Rattle.pv_journal.specs.Reading.{Gave}
-use Rattle.pv_journal.proofs.GivenLemmas.{gave_later}
+use Rattle.pv_law_calls.specs.Reading.{Gave}
+use Rattle.pv_law_calls.proofs.GivenLemmas.{gave_later}
 use Rattle.pv_journal.proofs.journal.Journal.open.Goals as goal
 
 pub returns-in-Err-NotOurs : goal.returns-in-Err-NotOurs

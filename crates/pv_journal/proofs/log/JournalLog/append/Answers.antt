@@ -2,7 +2,8 @@ use Rattle.std.proofs.Common.{arith, ◌+◌, ◌-◌, length, true, false, ◌�
 use Rattle.pv_disk_model.specs.Calls.{Makes}
 use Rattle.pv_journal.specs.Journal.{frame_calls}
 use Rattle.pv_journal.specs.declared.journal.Journal.{Journal}
-use Rattle.pv_journal.proofs.LogLemmas.{length-frame, fails_to_add, adds, still_intact, not_down}
+use Rattle.pv_law_calls.proofs.RecordLemmas.{length-frame, not_down}
+use Rattle.pv_journal.proofs.LogLemmas.{fails_to_add, adds, still_intact}
 use Rattle.pv_journal.proofs.log.JournalLog.append.Goals as goal
 
 pub write_record-requires-clause-short : goal.write_record-requires-clause-short

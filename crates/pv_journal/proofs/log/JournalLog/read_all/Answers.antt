@@ -5,7 +5,7 @@ use Rattle.pv_law_journal.proofs.ContentsLemmas.{contents_of-is}
 use Rattle.pv_law_journal.proofs.SizeLemmas.{known_bytes}
 use Rattle.pv_disk.specs.declared.disk_error.LookError.TheVariants.{NotOurs}
 use Rattle.pv_format.specs.Journal.{IsNotOurs}
-use Rattle.pv_journal.specs.Reading.{Gave}
+use Rattle.pv_law_calls.specs.Reading.{Gave}
 use Rattle.pv_journal.proofs.GivenLemmas.{answers_of_reads}
 use Rattle.pv_journal.proofs.LogLemmas.{silent}
 use Rattle.pv_journal.proofs.log.JournalLog.read_all.Goals as goal

@@ -1,33 +1,15 @@
 -- What is given is the choice, and what is reported is its count.
-use Rattle.std.proofs.Common.{◌≡◌, ◌∙◌, arith, Bool, List, Result, Ok, Err, IfSome, sym, subst, rules}
+use Rattle.std.proofs.Common.{◌∙◌, arith, Result, Err, sym, subst, rules}
 use Rattle.std.proofs.lemmas.Result.{err_from_is_err_and}
-use Rattle.pv_base.specs.Answer.{Answers}
 use Rattle.pv_base.specs.Canonical.{IsExact}
 use Rattle.pv_base.specs.Polyvalue.{Case, IsCanonical}
-use Rattle.pv_base.specs.declared.faults.NameError.{NameError}
 use Rattle.pv_base.specs.declared.faults.NameError.TheVariants.{NoMemory}
 use Rattle.pv_base.specs.declared.limits.TheConstants.{HELD_NAMES}
-use Rattle.pv_base.specs.declared.txn.TxnId.{TxnId}
-use Rattle.pv_base.proofs.AnswerLemmas.{answered}
-use Rattle.pv_cases.specs.NameLimits.{count_of, IsChosen, ChoiceNamesTooMany}
-use Rattle.pv_cases.proofs.NameLimitLemmas.{one-chosen}
-use Rattle.pv_cases.proofs.RefusedLemmas.{refused-so}
 use Rattle.pv_poly.specs.HeldCases.{held_cases}
 use Rattle.pv_cases.proofs.SureChoice.{sure-chosen}
+use Rattle.pv_cases.specs.NameLimits.{IsChosen}
+use Rattle.pv_cases.proofs.CaseAnswers.{refused-choice, given-choice}
 use Rattle.pv_poly.proofs.poly.Poly.choose.Goals as goal
-
-module _ {V : Type 0} {same : V → V → Bool} (laws : IsExact same) (txn : TxnId) (aborted committed : List (Case V)) (first : IsCanonical aborted) (second : IsCanonical committed) where
-  refused-choice : (result : Result (List (Case V)) NameError) (error : NameError) → result ≡ Err error → IfSome (count_of error) (ChoiceNamesTooMany HELD_NAMES txn aborted committed)
-      → Answers (IsChosen HELD_NAMES txn aborted committed) (ChoiceNamesTooMany HELD_NAMES txn aborted committed) (λ poly. poly) count_of result
-  refused-choice =
-      refused-so (IsChosen HELD_NAMES txn aborted committed) (ChoiceNamesTooMany HELD_NAMES txn aborted committed)
-      (one-chosen HELD_NAMES laws txn aborted committed first second) (λ poly. poly) count_of
-
-  given-choice : (poly : List (Case V)) → IsChosen HELD_NAMES txn aborted committed poly
-      → Answers (IsChosen HELD_NAMES txn aborted committed) (ChoiceNamesTooMany HELD_NAMES txn aborted committed) (λ poly. poly) count_of (Ok poly)
-  given-choice poly is =
-      answered (IsChosen HELD_NAMES txn aborted committed) (ChoiceNamesTooMany HELD_NAMES txn aborted committed)
-      (one-chosen HELD_NAMES laws txn aborted committed first second) (λ poly. poly) count_of (Ok poly) is tt
 
 pub returns-in_err-cases_of_choice : goal.returns-in_err-cases_of_choice
 returns-in_err-cases_of_choice g c =

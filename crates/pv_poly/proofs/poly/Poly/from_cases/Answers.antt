@@ -1,28 +1,14 @@
 -- Cases that have to be canonical are kept, or have a first fault.
-use Rattle.std.proofs.Common.{◌≡◌, ◌∙◌, Bool, List, Result, Ok, Err, IfSome, refl, sym, subst, rules}
+use Rattle.std.proofs.Common.{◌≡◌, ◌∙◌, List, Result, IfSome, refl, sym, subst, rules}
 use Rattle.std.proofs.lemmas.Result.{err_from_is_err_and}
-use Rattle.pv_base.specs.Answer.{Answers}
 use Rattle.pv_base.specs.Canonical.{IsExact}
-use Rattle.pv_base.specs.CaseFaults.{fault_of, IsJoinFault, IsCanonicalFault}
+use Rattle.pv_base.specs.CaseFaults.{fault_of, IsJoinFault}
 use Rattle.pv_base.specs.Polyvalue.{Case}
-use Rattle.pv_base.specs.declared.faults.CaseError.{CaseError}
 use Rattle.pv_base.specs.declared.limits.TheConstants.{HELD_NAMES}
-use Rattle.pv_base.proofs.AnswerLemmas.{answered}
-use Rattle.pv_cases.specs.JoinedCases.{IsKept}
 use Rattle.pv_cases.proofs.CanonicalFaultLemmas.{refused-too, unreduced-fault}
 use Rattle.pv_cases.proofs.CountLemmas.{sure-polyvalue}
-use Rattle.pv_cases.proofs.OneAnswerLemmas.{one-kept}
-use Rattle.pv_cases.proofs.RefusedLemmas.{refused-so}
+use Rattle.pv_cases.proofs.CaseAnswers.{refused-kept, given-kept}
 use Rattle.pv_poly.proofs.poly.Poly.from_cases.Goals as goal
-
-module _ {V : Type 0} {same : V → V → Bool} (laws : IsExact same) (cases : List (Case V)) where
-  refused-kept : (result : Result (List (Case V)) CaseError) (error : CaseError) → result ≡ Err error → IfSome (fault_of error) (IsCanonicalFault HELD_NAMES cases)
-      → Answers (IsKept HELD_NAMES cases) (IsCanonicalFault HELD_NAMES cases) (λ poly. poly) fault_of result
-  refused-kept = refused-so (IsKept HELD_NAMES cases) (IsCanonicalFault HELD_NAMES cases) (one-kept HELD_NAMES cases laws) (λ poly. poly) fault_of
-
-  given-kept : (poly : List (Case V)) → IsKept HELD_NAMES cases poly
-      → Answers (IsKept HELD_NAMES cases) (IsCanonicalFault HELD_NAMES cases) (λ poly. poly) fault_of (Ok poly)
-  given-kept poly is = answered (IsKept HELD_NAMES cases) (IsCanonicalFault HELD_NAMES cases) (one-kept HELD_NAMES cases laws) (λ poly. poly) fault_of (Ok poly) is tt
 
 pub invariant_of-result : goal.invariant_of-result
 invariant_of-result g c = sure-polyvalue HELD_NAMES c.in-Some.value c.sure.ensures

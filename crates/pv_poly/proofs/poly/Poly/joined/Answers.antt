@@ -1,31 +1,15 @@
 -- The polyvalue of the table has the values of the cases.
-use Rattle.std.proofs.Common.{◌≡◌, ◌≤◌, ◌^◌, Bool, List, Result, Ok, Err, IfSome, length, sym, ap, subst, ◌∙◌, rules}
+use Rattle.std.proofs.Common.{◌≡◌, ◌≤◌, ◌^◌, List, Result, Err, length, sym, ap, subst, ◌∙◌, rules}
 use Rattle.std.proofs.lemmas.Result.{err_from_is_err_and}
-use Rattle.pv_base.specs.Answer.{Answers}
 use Rattle.pv_base.specs.Canonical.{IsExact}
 use Rattle.pv_base.specs.Assignment.{AreAscending}
-use Rattle.pv_base.specs.CaseFaults.{fault_of, IsJoinFault}
-use Rattle.pv_base.specs.Polyvalue.{Case}
-use Rattle.pv_base.specs.declared.faults.CaseError.{CaseError}
 use Rattle.pv_base.specs.declared.faults.CaseError.TheVariants.{NoMemory}
 use Rattle.pv_base.specs.declared.limits.TheConstants.{HELD_NAMES}
 use Rattle.pv_base.specs.declared.txn.TxnId.{TxnId}
-use Rattle.pv_base.proofs.AnswerLemmas.{answered}
-use Rattle.pv_cases.specs.JoinedCases.{IsJoined}
 use Rattle.pv_law_polyvalues.proofs.TableLemmas.{length-values}
 use Rattle.pv_cases.proofs.JoinedLemmas.{joined-read}
-use Rattle.pv_cases.proofs.OneAnswerLemmas.{one-joined}
-use Rattle.pv_cases.proofs.RefusedLemmas.{refused-so}
+use Rattle.pv_cases.proofs.CaseAnswers.{refused-joined, given-joined}
 use Rattle.pv_poly.proofs.poly.Poly.joined.Goals as goal
-
-module _ {V : Type 0} {same : V → V → Bool} (laws : IsExact same) (cases : List (Case V)) where
-  refused-joined : (result : Result (List (Case V)) CaseError) (error : CaseError) → result ≡ Err error → IfSome (fault_of error) (IsJoinFault HELD_NAMES cases)
-      → Answers (IsJoined HELD_NAMES cases) (IsJoinFault HELD_NAMES cases) (λ poly. poly) fault_of result
-  refused-joined = refused-so (IsJoined HELD_NAMES cases) (IsJoinFault HELD_NAMES cases) (one-joined HELD_NAMES cases laws) (λ poly. poly) fault_of
-
-  given-joined : (poly : List (Case V)) → IsJoined HELD_NAMES cases poly
-      → Answers (IsJoined HELD_NAMES cases) (IsJoinFault HELD_NAMES cases) (λ poly. poly) fault_of (Ok poly)
-  given-joined poly is = answered (IsJoined HELD_NAMES cases) (IsJoinFault HELD_NAMES cases) (one-joined HELD_NAMES cases laws) (λ poly. poly) fault_of (Ok poly) is tt
 
 -- The polyvalue fits in memory, as a value of its type does wherever it is; and what the table's names and values are is what is asked of them.
 pub from_table-requires : goal.from_table-requires

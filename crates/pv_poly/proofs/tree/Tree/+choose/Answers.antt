@@ -1,6 +1,6 @@
 use Rattle.std.proofs.Common.{arith, true, false, ◌+◌, ◌<◌, length}
 use Rattle.pv_base.proofs.ResultLemmas.{both-ok}
-use Rattle.pv_poly.proofs.ChoiceLemmas.{AreChosen, NamesOfBoth, at-first, side-unnamed, sides-smaller, copy-behind, chosen-behind, both-chosen-names}
+use Rattle.pv_cases.proofs.ChoiceLemmas.{AreChosen, NamesOfBoth, at-first, side-unnamed, sides-smaller, copy-behind, chosen-behind, both-chosen-names}
 use Rattle.pv_poly.proofs.tree.Tree.+choose.Goals as goal
 
 pub test-requires-clause-aborted_after : goal.test-requires-clause-aborted_after

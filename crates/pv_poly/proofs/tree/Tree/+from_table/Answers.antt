@@ -5,7 +5,7 @@ use Rattle.std.proofs.lemmas.Result.{IfOk-weaker}
 use Rattle.pv_base.specs.declared.txn.TxnId.{TxnId}
 use Rattle.pv_base.specs.Polyvalue.{names, IsCanonical, sure, IsChoice, AreValues}
 use Rattle.pv_cases.proofs.CaseSplitLemmas.{ascending-rest}
-use Rattle.pv_poly.proofs.TableSteps.{values-choice, rest-behind, table-names, half}
+use Rattle.pv_cases.proofs.TableSteps.{values-choice, rest-behind, table-names, half}
 use Rattle.pv_poly.proofs.tree.Tree.+from_table.Goals as goal
 
 pub returns-in_default-clause-canonical : goal.returns-in_default-clause-canonical

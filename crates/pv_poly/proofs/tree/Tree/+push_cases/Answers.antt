@@ -1,7 +1,7 @@
 use Rattle.std.proofs.Common.{true, false, List, [], ◌∷◌, ◌++◌, ap, ◌∙◌}
 use Rattle.std.specs.List.{each_same}
 use Rattle.pv_base.specs.declared.literal.Literal.{Literal}
-use Rattle.pv_poly.proofs.PushedCases.{pushed-sure, pushed-test, popped-way}
+use Rattle.pv_cases.proofs.PushedCases.{pushed-sure, pushed-test, popped-way}
 use Rattle.pv_poly.proofs.TopOfTree.{at_Test, at_Sure}
 use Rattle.pv_poly.proofs.tree.Tree.+push_cases.Goals as goal
 

@@ -3,8 +3,7 @@ use Rattle.std.proofs.Common.{refl}
 use Rattle.pv_base.specs.Polyvalue.{names}
 use Rattle.pv_cases.proofs.AddedNames.{adds-nothing}
 use Rattle.pv_poly.proofs.PushedNames.{adds-test}
-use Rattle.pv_poly.proofs.TestLemmas.{at-sure}
-use Rattle.pv_poly.proofs.TopOfTree.{at_Test}
+use Rattle.pv_poly.proofs.TopOfTree.{at-sure, at_Test}
 use Rattle.pv_poly.proofs.tree.Tree.+push_names.Goals as goal
 
 pub returns-in-Sure : goal.returns-in-Sure

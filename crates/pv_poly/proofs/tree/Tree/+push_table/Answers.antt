@@ -1,10 +1,11 @@
 use Rattle.std.proofs.Common.{◌≡◌, List, ◌∷◌, length, false, ap, sym, subst, arith}
 use Rattle.std.proofs.lemmas.Result.{IfOk-weaker}
 use Rattle.pv_base.specs.Polyvalue.{Case, names}
-use Rattle.pv_poly.proofs.TopOfTree.{at_Test, at_Sure, aborted-shorter, committed-shorter}
+use Rattle.pv_poly.proofs.TopOfTree.{at_Test, at_Sure}
+use Rattle.pv_cases.proofs.TestedCases.{aborted-shorter, committed-shorter}
 use Rattle.pv_cases.proofs.TxnTests.{less-precedes, greater-precedes, equal-same}
 use Rattle.pv_cases.proofs.CaseSplitLemmas.{ascending-rest}
-use Rattle.pv_poly.proofs.TableSteps.{AreAdded, added-tested, added-skip, added-before, later-unnamed}
+use Rattle.pv_cases.proofs.TableSteps.{AreAdded, added-tested, added-skip, added-before, later-unnamed}
 use Rattle.pv_poly.proofs.tree.Tree.+push_table.Goals as goal
 use Rattle.pv_poly.proofs.tree.Tree.+push_table.Goals.{in-Test+in-Greater, in_default-node}
 

@@ -1,5 +1,5 @@
 use Rattle.std.proofs.Common.{ℕ, arith, ◌∙◌}
-use Rattle.pv_poly.proofs.CasesAtLemmas.{IsCut, cut-from, sure-from, cut-aborted, cut-committed, cut-read}
+use Rattle.pv_cases.proofs.CasesAtLemmas.{IsCut, cut-from, sure-from, cut-aborted, cut-committed, cut-read}
 use Rattle.pv_poly.proofs.tree.Tree.+read_at.Given
 use Rattle.pv_poly.proofs.tree.Tree.+read_at.Goals as goal
 use Rattle.pv_poly.proofs.tree.Tree.+read_at.Goals.{After-aborted_len}

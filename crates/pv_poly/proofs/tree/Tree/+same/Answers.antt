@@ -1,7 +1,7 @@
 use Rattle.std.proofs.Common.{rules}
 use Rattle.pv_cases.proofs.TxnTests.{unequal-txns}
 use Rattle.pv_poly.proofs.TopOfTree.{at_Test}
-use Rattle.pv_poly.proofs.TestLemmas.{one-test}
+use Rattle.pv_cases.proofs.TestLemmas.{one-test}
 use Rattle.pv_poly.proofs.tree.Tree.+same.Goals as goal
 use Rattle.pv_poly.proofs.tree.Tree.+same.Goals.{then-eq, else-eq}
 

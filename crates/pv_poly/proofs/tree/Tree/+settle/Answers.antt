@@ -7,9 +7,10 @@ use Rattle.pv_base.specs.declared.literal.Literal.{Literal}
 use Rattle.pv_base.specs.Polyvalue.{Case, AreOutcomes, IsCanonical, IsChoice, IsSettled}
 use Rattle.pv_cases.proofs.SettledLemmas.{NamesKept, before-outcomes, outcomes-rest}
 use Rattle.pv_cases.proofs.TxnTests.{less-precedes, greater-precedes, equal-same}
-use Rattle.pv_poly.proofs.ChoiceLemmas.{NamesOfBoth, earlier-settled, aborted-settled, committed-settled, later-settled, test-settled-names}
-use Rattle.pv_poly.proofs.TestLemmas.{reduced-canonical, test-aborted, test-committed}
-use Rattle.pv_poly.proofs.TopOfTree.{at_Test, aborted-shorter, committed-shorter}
+use Rattle.pv_cases.proofs.ChoiceLemmas.{NamesOfBoth, earlier-settled, aborted-settled, committed-settled, later-settled, test-settled-names}
+use Rattle.pv_poly.proofs.TopOfTree.{reduced-canonical, at_Test}
+use Rattle.pv_cases.proofs.TestLemmas.{test-aborted, test-committed}
+use Rattle.pv_cases.proofs.TestedCases.{aborted-shorter, committed-shorter}
 use Rattle.pv_poly.proofs.tree.Tree.+settle.Goals as goal
 
 pub returns-in_default-clause-canonical : goal.returns-in_default-clause-canonical

@@ -1,6 +1,7 @@
 use Rattle.std.proofs.Common.{List, [], ap, sym, ◌∙◌}
 use Rattle.pv_base.specs.Polyvalue.{Case, value_at}
-use Rattle.pv_poly.proofs.TopOfTree.{at_Test, none-tested}
+use Rattle.pv_poly.proofs.TopOfTree.{at_Test}
+use Rattle.pv_cases.proofs.TestedCases.{none-tested}
 use Rattle.pv_poly.proofs.tree.Tree.+value_of_none.Goals as goal
 
 pub returns-in-Test : goal.returns-in-Test

@@ -1,8 +1,8 @@
 use Rattle.std.proofs.Common.{List, ◌++◌, ap₂, ◌∙◌}
 use Rattle.pv_base.specs.declared.literal.Literal.{Literal}
 use Rattle.pv_base.specs.Polyvalue.{Case}
-use Rattle.pv_poly.specs.CasesAt.{under_all}
-use Rattle.pv_poly.proofs.CasesAtLemmas.{behind-none}
+use Rattle.pv_cases.specs.CasesAt.{under_all}
+use Rattle.pv_cases.proofs.CasesAtLemmas.{behind-none}
 use Rattle.pv_poly.proofs.tree.Tree.cases.Goals as goal
 
 pub returns : goal.returns

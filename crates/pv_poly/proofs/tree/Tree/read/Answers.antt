@@ -1,6 +1,6 @@
 use Rattle.std.proofs.Common.{◌≡◌, List, IfOk, subst}
 use Rattle.pv_base.specs.Polyvalue.{Case}
-use Rattle.pv_poly.proofs.CasesAtLemmas.{beyond-none}
+use Rattle.pv_cases.proofs.CasesAtLemmas.{beyond-none}
 use Rattle.pv_poly.proofs.tree.Tree.read.Goals as goal
 
 pub returns : goal.returns

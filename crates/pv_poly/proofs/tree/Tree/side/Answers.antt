@@ -1,8 +1,8 @@
 use Rattle.std.proofs.Common.{sym, ◌∙◌}
 use Rattle.std.proofs.lemmas.Bool.{false≢true}
 use Rattle.pv_cases.proofs.TxnTests.{equal-txns, unequal-txns}
-use Rattle.pv_poly.proofs.TopOfTree.{at_Test}
-use Rattle.pv_poly.proofs.TestLemmas.{at-sure, reduced-canonical, aborted-side, committed-side, whole-side, behind-other, side-is}
+use Rattle.pv_poly.proofs.TopOfTree.{at_Test, at-sure, reduced-canonical}
+use Rattle.pv_cases.proofs.TestLemmas.{aborted-side, committed-side, whole-side, behind-other, side-is}
 use Rattle.pv_poly.proofs.tree.Tree.side.Goals as goal
 
 pub returns-then-commits : goal.returns-then-commits

@@ -1,7 +1,7 @@
 use Rattle.std.proofs.Common.{sym, ◌∙◌}
 use Rattle.std.proofs.lemmas.Bool.{false≢true}
-use Rattle.pv_poly.proofs.TestLemmas.{reduced-canonical}
-use Rattle.pv_poly.proofs.ChoiceLemmas.{new-sides, new-choice, new-names, new-canonical}
+use Rattle.pv_poly.proofs.TopOfTree.{reduced-canonical}
+use Rattle.pv_cases.proofs.ChoiceLemmas.{new-sides, new-choice, new-names, new-canonical}
 use Rattle.pv_poly.proofs.tree.Tree.test.Goals as goal
 
 pub returns-then-same-clause-canonical : goal.returns-then-same-clause-canonical

@@ -1,5 +1,5 @@
 use Rattle.pv_poly.proofs.TopOfTree.{at_Test}
-use Rattle.pv_poly.proofs.TestLemmas.{test-named, test-from}
+use Rattle.pv_cases.proofs.TestLemmas.{test-named, test-from}
 use Rattle.pv_poly.proofs.tree.Tree.top.Goals as goal
 
 pub returns-in-Test : goal.returns-in-Test

@@ -1,9 +1,9 @@
 -- One value is a leaf, and the halves of more are the sides of a test.
-use Rattle.std.proofs.Common.{◌≡◌, ◌^◌, suc, length, ap, sym, arith}
+use Rattle.std.proofs.Common.{◌≡◌, ◌^◌, suc, length, ap, arith}
 use Rattle.std.proofs.Math.Nat.{pow-suc}
 use Rattle.std.proofs.lemmas.Result.{IfOk-weaker}
 use Rattle.pv_cases.proofs.CaseSplitLemmas.{ascending-rest}
-use Rattle.pv_poly.proofs.TableSteps.{half}
+use Rattle.pv_cases.proofs.TableSteps.{half}
 use Rattle.pv_tree.specs.Meanings.{Tabulates}
 use Rattle.pv_tree.proofs.ChosenLemmas.{leaf-table, tabulates-kept, tabulates-behind, test-tabulates}
 use Rattle.pv_tree.proofs.nodes.Nodes.+from_table.Goals as goal

@@ -2,7 +2,7 @@
 use Rattle.std.proofs.Common.{refl, true, false, List, [], ◌∷◌, ◌++◌, ap, ◌∙◌}
 use Rattle.std.specs.List.{each_same}
 use Rattle.pv_base.specs.declared.literal.Literal.{Literal}
-use Rattle.pv_poly.proofs.PushedCases.{pushed-sure, pushed-test, popped-way}
+use Rattle.pv_cases.proofs.PushedCases.{pushed-sure, pushed-test, popped-way}
 use Rattle.pv_tree.specs.Meanings.{cases_at}
 use Rattle.pv_tree.proofs.SettleLemmas.{tested-at}
 use Rattle.pv_tree.proofs.nodes.Nodes.+push_cases.Goals as goal

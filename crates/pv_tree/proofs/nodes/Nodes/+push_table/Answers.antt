@@ -1,10 +1,10 @@
 -- The values of a test are those of its sides, and those of a transaction that isn't named come twice.
-use Rattle.std.proofs.Common.{◌≡◌, List, length, false, ap, arith}
+use Rattle.std.proofs.Common.{◌≡◌, List, false, ap, arith}
 use Rattle.std.proofs.lemmas.Result.{IfOk-weaker}
 use Rattle.pv_base.specs.Polyvalue.{Case, names}
 use Rattle.pv_cases.proofs.TxnTests.{less-precedes, greater-precedes, equal-same}
 use Rattle.pv_cases.proofs.CaseSplitLemmas.{ascending-rest}
-use Rattle.pv_poly.proofs.TableSteps.{AreAdded, added-tested, added-skip, added-before, later-unnamed}
+use Rattle.pv_cases.proofs.TableSteps.{AreAdded, added-tested, added-skip, added-before, later-unnamed}
 use Rattle.pv_tree.specs.Meanings.{cases_at}
 use Rattle.pv_tree.proofs.SettleLemmas.{tested-at, first-same}
 use Rattle.pv_tree.proofs.nodes.Nodes.+push_table.Goals as goal

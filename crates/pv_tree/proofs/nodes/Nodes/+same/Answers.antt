@@ -1,5 +1,5 @@
 -- Equal cases are those of leaves of one value, or of tests of one transaction whose sides have equal cases.
-use Rattle.std.proofs.Common.{sym, rules}
+use Rattle.std.proofs.Common.{sym}
 use Rattle.pv_cases.proofs.TxnTests.{unequal-txns}
 use Rattle.pv_tree.proofs.SameLemmas.{one-sides, leaf-no-test}
 use Rattle.pv_tree.proofs.nodes.Nodes.+same.Goals as goal

@@ -1,7 +1,7 @@
 -- Each way puts the node among the others, and notes it.
 use Rattle.std.proofs.Common.{◌≡◌, true, false, Some, None, sym, ap, ◌∙◌}
 use Rattle.pv_tree.specs.Outcomes.{outcome_of}
-use Rattle.pv_tree.proofs.SettlesLemmas.{AreInto, found-into, leaf-into, committed-into, aborted-into, test-into}
+use Rattle.pv_tree.proofs.SettlesLemmas.{found-into, leaf-into, committed-into, aborted-into, test-into}
 use Rattle.pv_tree.proofs.nodes.Nodes.+settle.Goals as goal
 
 pub returns-in-Some : goal.returns-in-Some

@@ -1,5 +1,5 @@
 -- As many as there are in the list, which numbers go round.
-use Rattle.std.proofs.Common.{◌∙◌, sym, arith}
+use Rattle.std.proofs.Common.{arith}
 use Rattle.pv_tree.proofs.MeaningLemmas.{length-view}
 use Rattle.pv_tree.proofs.nodes.Nodes.len.Goals as goal
 

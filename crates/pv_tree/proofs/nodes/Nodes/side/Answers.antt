@@ -1,9 +1,7 @@
 -- A test of the transaction has its sides, and a node that tests a later one is its own side.
-use Rattle.std.proofs.Common.{sym, refl, ◌∙◌, ap, List}
-use Rattle.std.proofs.lemmas.Bool.{false≢true}
-use Rattle.pv_base.specs.Polyvalue.{Case, names}
+use Rattle.std.proofs.Common.{refl}
 use Rattle.pv_cases.proofs.TxnTests.{equal-txns, unequal-txns}
-use Rattle.pv_poly.proofs.TestLemmas.{aborted-side, committed-side, whole-side, behind-other, side-is}
+use Rattle.pv_cases.proofs.TestLemmas.{aborted-side, committed-side, whole-side, behind-other, side-is}
 use Rattle.pv_tree.proofs.SettleLemmas.{tested-at}
 use Rattle.pv_tree.proofs.nodes.Nodes.side.Goals as goal
 

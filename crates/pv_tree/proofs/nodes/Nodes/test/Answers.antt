@@ -1,8 +1,8 @@
 -- Equal sides are their choice, and different ones are tested.
-use Rattle.std.proofs.Common.{sym, ◌∙◌, IfOk}
+use Rattle.std.proofs.Common.{sym, ◌∙◌}
 use Rattle.std.proofs.lemmas.Bool.{false≢true}
 use Rattle.std.proofs.lemmas.Result.{IfOk-weaker}
-use Rattle.pv_tree.specs.Meanings.{cases_at, IsAt, Chooses}
+use Rattle.pv_tree.specs.Meanings.{cases_at, Chooses}
 use Rattle.pv_tree.proofs.ChosenLemmas.{same-chooses, test-chooses}
 use Rattle.pv_tree.proofs.MeaningLemmas.{canonical-in}
 use Rattle.pv_tree.proofs.nodes.Nodes.test.Goals as goal

@@ -1,5 +1,5 @@
 -- A test names its transaction, and nothing before it.
-use Rattle.pv_poly.proofs.TestLemmas.{test-named, test-from}
+use Rattle.pv_cases.proofs.TestLemmas.{test-named, test-from}
 use Rattle.pv_tree.proofs.SettleLemmas.{tested-at}
 use Rattle.pv_tree.proofs.nodes.Nodes.top.Goals as goal
 

@@ -1,12 +1,10 @@
 -- The choice is that between both values once the outcome is known, whose names are counted.
-use Rattle.std.proofs.Common.{◌≡◌, ◌≤◌, ◌+◌, true, false, List, [], ◌∷◌, refl, sym, ◌∙◌, subst, arith}
+use Rattle.std.proofs.Common.{◌≤◌, ◌+◌, true, false, List, refl, sym, ◌∙◌, subst, arith}
 use Rattle.std.proofs.lemmas.Bool.{false≢true}
-use Rattle.std.proofs.lemmas.Result.{IfOk-weaker}
 use Rattle.pv_base.specs.Canonical.{IsExact}
 use Rattle.pv_base.specs.Polyvalue.{Case, ChoiceNames, IsCanonical, NamesAtMost}
 use Rattle.pv_base.specs.declared.limits.TheConstants.{HELD_NAMES}
 use Rattle.pv_law_polyvalues.proofs.ExistenceLemmas.{some-choice-names}
-use Rattle.pv_cases.specs.NameLimits.{IsChosen}
 use Rattle.pv_cases.proofs.CountLemmas.{known, choice-unsettled, chosen-polyvalue, refused-count, same-choice, settled-unnamed}
 use Rattle.pv_tree.specs.Meanings.{cases_at}
 use Rattle.pv_tree.specs.Settling.{Settles}

@@ -1,21 +1,16 @@
--- One case alone names nothing, and what the last node adds to an empty list, in order, are the names.
-use Rattle.std.proofs.Common.{◌≡◌, ◌-◌, List, sym, ap, subst, ◌∙◌}
-use Rattle.pv_base.specs.Polyvalue.{Case, names, AreNames}
+-- What the last node adds to an empty list, in order, are the names.
+use Rattle.std.proofs.Common.{◌-◌, List, sym, ap, subst, ◌∙◌}
+use Rattle.pv_base.specs.Polyvalue.{Case, AreNames}
 use Rattle.pv_cases.proofs.AddedNames.{AreNames-added}
 use Rattle.pv_tree.specs.HeldCases.{held_cases, HasTree}
 use Rattle.pv_tree.specs.Meanings.{cases_at}
 use Rattle.pv_tree.proofs.AddedNames.{none-seen}
-use Rattle.pv_tree.proofs.RootLemmas.{only-names, last-is}
+use Rattle.pv_tree.proofs.RootLemmas.{last-is}
 use Rattle.pv_tree.proofs.tree.Tree.names.Goals as goal
 
 pub push_names-requires-clause-seen : goal.push_names-requires-clause-seen
 push_names-requires-clause-seen g c =
     none-seen c.in-Many.nodes _ c.deref_mut.result.now c.new-txns.result.items (c.deref_mut.ensures.value ∙ c.in_ok-seen-in-Many.ensures.items_if_clones_equal (λ y same. same))
-
-pub returns-in-One : goal.returns-in-One
-returns-in-One g c =
-    only-names c.args.self.now c.in-One.field-0 c.new.result.items (sym (ap held_cases c.in-One.is) ∙ c.self.view_is) (subst HasTree c.in-One.is c.self.invariant) c.requires
-    c.new.ensures.items
 
 pub returns-in_ok-push_names-in-Many : goal.returns-in_ok-push_names-in-Many
 returns-in_ok-push_names-in-Many g c =

@@ -2,8 +2,8 @@
 use Rattle.std.proofs.Common.{◌≡◌, List, ◌++◌, sym, ap₂, ◌∙◌}
 use Rattle.pv_base.specs.declared.literal.Literal.{Literal}
 use Rattle.pv_base.specs.Polyvalue.{Case}
-use Rattle.pv_poly.specs.CasesAt.{under_all}
-use Rattle.pv_poly.proofs.CasesAtLemmas.{behind-none}
+use Rattle.pv_cases.specs.CasesAt.{under_all}
+use Rattle.pv_cases.proofs.CasesAtLemmas.{behind-none}
 use Rattle.pv_tree.specs.Meanings.{cases_at}
 use Rattle.pv_tree.proofs.RootLemmas.{last-from}
 use Rattle.pv_tree.proofs.tree.Tree.of_nodes.Goals as goal

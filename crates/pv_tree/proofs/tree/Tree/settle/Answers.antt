@@ -1,5 +1,5 @@
 -- One case alone is settled as it is.
-use Rattle.std.proofs.Common.{◌≡◌, ℕ, List, Option, None, get_or, sym, ap, ◌∙◌}
+use Rattle.std.proofs.Common.{ℕ, List, Option, None, get_or, sym, ap, ◌∙◌}
 use Rattle.std.proofs.lemmas.Result.{IfOk-weaker}
 use Rattle.pv_tree.specs.HeldCases.{held_cases}
 use Rattle.pv_tree.specs.Settling.{Settles}

@@ -14,7 +14,7 @@ use Rattle.pv_world.specs.Cells.{HasPacked}
 use Rattle.pv_world.specs.Stands.{StandsForSite}
 use Rattle.pv_world.specs.declared.cell.Cell.{Cell}
 use Rattle.pv_world.specs.declared.cell.Cell.TheVariants.{Up}
-use Rattle.pv_world.specs.declared.cell.Packed.TheVariants as packed
+use Rattle.pv_world.specs.declared.cell.Checkpointed.TheVariants as packed
 
 pub fall-requires : goal.fall-requires
 fall-requires c =

@@ -1,0 +1,4 @@
+pub mod ArmedLemmas
+pub mod GivenLemmas
+pub mod LookLemmas
+pub mod RecordLemmas
