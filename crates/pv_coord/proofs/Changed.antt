@@ -2,7 +2,7 @@
 use Rattle.std.proofs.Common.{◌≡◌, ℕ, ◌<◌, Bool, true, false, ◌&&◌, ◌||◌, Some, None, Option, List, get_or, set, IsTrue, refl, sym, ap, subst, ◌∙◌, arith}
 use Rattle.std.specs.Prelude.{not, if◌then◌else◌}
 use Rattle.std.specs.List.{find}
-use Rattle.std.proofs.lemmas.Bool.{false≢true, true≢false}
+use Rattle.std.proofs.lemmas.Bool.{false≢true, true≢false, not-true}
 use Rattle.std.proofs.lemmas.List.{set-get_or}
 use Rattle.pv_base.specs.Assignment.{is_same_txn}
 use Rattle.pv_base.specs.Polyvalue.{Case}
@@ -62,14 +62,6 @@ fits-by false work taken is = absurd (false≢true is)
 neither-left : (a b : Bool) → (a || b) ≡ false → a ≡ false
 neither-left true b is = absurd (true≢false is)
 neither-left false b is = refl
-
-pub not-true : (b : Bool) → not b ≡ true → b ≡ false
-not-true true is = absurd (false≢true is)
-not-true false is = refl
-
-pub not-false : (b : Bool) → not b ≡ false → b ≡ true
-not-false true is = refl
-not-false false is = absurd (true≢false is)
 
 module _ (works : List Work) (up : AreInOrder txn_of works) (txn : TxnId) (place : ℕ) (at : IsPlace works txn place) (work : Work) (is : work ≡ get_or works place work) where
   found : of_txn txn_of txn works ≡ Some work

@@ -1,6 +1,7 @@
 -- Each act is a step.
 use Rattle.std.proofs.Common.{◌≡◌, ⊎_elim, ℕ, ◌+◌, ◌<◌, ◌≤◌, true, Some, None, Option, List, [], ◌∷◌, ◌++◌, inl, inr, refl, sym, ap, subst, ◌∙◌, arith}
 use Rattle.std.specs.List.{Contains}
+use Rattle.std.proofs.lemmas.Option.{none-some}
 use Rattle.pv_base.proofs.AssignmentLemmas.{same-from-eq}
 use Rattle.pv_base.proofs.ContainsLemmas.{Contains-nil}
 use Rattle.pv_base.proofs.MapLemmas.{Contains-unmap}
@@ -11,7 +12,7 @@ use Rattle.pv_base.specs.declared.txn.TxnId.{TxnId}
 use Rattle.pv_format.specs.Contents.{greatest_epoch}
 use Rattle.pv_format.specs.Message.{Envelope}
 use Rattle.pv_format.specs.Record.{Record, epoch_begun, prepared, outcome_known}
-use Rattle.pv_law_acts.proofs.ListLemmas.{none-some, none-found}
+use Rattle.pv_law_acts.proofs.ListLemmas.{none-found}
 use Rattle.pv_law_acts.proofs.MemoryLemmas.{entry-txn, put-work, put-work-found, left-work, left-none, put-holding}
 use Rattle.pv_law_acts.proofs.NumberLemmas.{passed-stays, next-unpassed, given-passed}
 use Rattle.pv_law_acts.proofs.SiteLemmas.{up-within, changed-site, site-step}
@@ -236,7 +237,7 @@ module _ (setup : Setup) (w : World) (n : ℕ) where
       let rises : greatest_epoch (records_at w n) < greatest_epoch records =
       let last : greatest_epoch records ≡ epoch = epoch-rises (records_at w n) epoch (omega arith) in omega (arith, last) in
       site-step setup w n records (Some (just_started epoch)) w.order (record {
-        entries = λ txn found is. absurd (none-some is);
+        entries = λ txn found is. absurd (none-some _ is);
         grants = λ grant h. absurd (Contains-nil grant h);
         more = one_more (epoch_begun epoch) refl refl;
         places = as_was refl;
@@ -248,7 +249,7 @@ module _ (setup : Setup) (w : World) (n : ℕ) where
 
   down-step : IsStep setup w (with_content w n (records_at w n) None)
   down-step = site-step setup w n (records_at w n) None w.order (record {
-    entries = λ txn found is. absurd (none-some is);
+    entries = λ txn found is. absurd (none-some _ is);
     grants = λ grant h. absurd (Contains-nil grant h);
     more = as_was refl;
     places = as_was refl;

@@ -4,6 +4,7 @@ use Rattle.std.specs.Prelude.{◌==◌, get_or, set, not, if◌then◌else◌}
 use Rattle.std.specs.List.{Contains, find, list_all, list_any}
 use Rattle.std.proofs.lemmas.Bool.{and_parts, and_from, eqb-true, eq-eqb, or_cases, or_left, or_right, false≢true}
 use Rattle.std.proofs.lemmas.List.Elements.{Contains-append_cases, Contains-append_left, Contains-append_right}
+use Rattle.std.proofs.lemmas.Option.{none-some}
 use Rattle.pv_base.proofs.Basics.{Some_inj}
 use Rattle.pv_base.proofs.ContainsLemmas.{Contains-first, Contains-behind, Contains-nil, Contains-cases}
 use Rattle.pv_base.specs.Assignment.{is_same_txn, precedes}
@@ -13,9 +14,6 @@ use Rattle.pv_protocol.specs.Here.{is_among}
 use Rattle.pv_protocol.specs.Keyed.{with_one, without}
 use Rattle.pv_protocol.specs.State.{Site}
 use Rattle.pv_protocol.specs.World.{no_site}
-
-pub none-some : {A : Type 0} {x : A} → None ≡ Some x → ⊥
-none-some is = cc
 
 -- A list with one more at its end.
 
@@ -78,7 +76,7 @@ found-by false y x ys rest later is = Contains-behind y ys x (later is)
 
 -- What is found is there.
 pub found-listed : {X : Type 0} (p : X → Bool) (xs : List X) (x : X) → find p xs ≡ Some x → Contains xs x
-found-listed p [] x is = absurd (none-some is)
+found-listed p [] x is = absurd (none-some _ is)
 found-listed p (y ∷ ys) x is = found-by (p y) y x ys (find p ys) (found-listed p ys x) is
 
 -- Tests of all members, and of some.

@@ -2,12 +2,13 @@
 use Rattle.std.proofs.Common.{◌≡◌, ◌⊎◌, ⊎_elim, Bool, true, false, Some, None, inl, inr, refl, sym, ap, subst, ◌∙◌}
 use Rattle.std.specs.Prelude.{if◌then◌else◌}
 use Rattle.std.specs.List.{Contains}
+use Rattle.std.proofs.lemmas.Option.{none-some}
 use Rattle.pv_base.proofs.AssignmentLemmas.{same-eq, same-refl}
 use Rattle.pv_base.proofs.Basics.{Some_inj}
 use Rattle.pv_base.proofs.MapLemmas.{Contains-map, Contains-unmap}
 use Rattle.pv_base.specs.Assignment.{is_same_txn}
 use Rattle.pv_base.specs.declared.txn.TxnId.{TxnId}
-use Rattle.pv_law_acts.proofs.ListLemmas.{none-some, put-listed, taken-out-listed}
+use Rattle.pv_law_acts.proofs.ListLemmas.{put-listed, taken-out-listed}
 use Rattle.pv_law_acts.specs.Seen.{holdings_in, ageless_grant, ageless_entry, work_in}
 use Rattle.pv_law_step.proofs.Appended.{found-passes}
 use Rattle.pv_law_step.proofs.KeyedLemmas.{of-with, of-without}
@@ -42,7 +43,7 @@ pub left-work : (running : Running) (txn other : TxnId) (found : Entry) → work
 left-work running txn other found is =
     by (is_same_txn other txn) (sym (ap ageless_entry (of-without (λ (e : Entry). e.txn) other txn running.entries)) ∙ is) where
       by : (b : Bool) → ageless_entry (if b then None else of_txn (λ (e : Entry). e.txn) other running.entries) ≡ Some found → work_in (Some running) other ≡ Some found
-      by true is = absurd (none-some is)
+      by true is = absurd (none-some _ is)
       by false is = is
 
 pub left-none : (running : Running) (txn : TxnId) → work_in (Some (without_entry running txn)) txn ≡ None

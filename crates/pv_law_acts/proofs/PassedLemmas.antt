@@ -2,13 +2,14 @@
 use Rattle.std.proofs.Common.{◌≡◌, ◌⊎◌, ⊎_elim, ℕ, zero, suc, Bool, true, false, Some, Option, List, [], ◌∷◌, replicate, inl, inr, refl, sym, subst}
 use Rattle.std.specs.Prelude.{nat_lt, ◌==◌, get_or, if◌then◌else◌}
 use Rattle.std.specs.List.{Contains}
+use Rattle.std.proofs.lemmas.Option.{none-some}
 use Rattle.pv_base.proofs.ContainsLemmas.{Contains-first, Contains-behind, Contains-nil, Contains-cases}
 use Rattle.pv_base.proofs.MapLemmas.{Contains-unmap}
 use Rattle.pv_base.specs.declared.grant.GrantId.{GrantId}
 use Rattle.pv_base.specs.declared.txn.TxnId.{TxnId}
 use Rattle.pv_format.specs.Message.{Message, lock, granted, denied, prepare, vote_yes, vote_no, outcome_reported, ask}
 use Rattle.pv_format.specs.Record.{Record, epoch_begun, prepared, outcome_known}
-use Rattle.pv_law_acts.proofs.ListLemmas.{none-some, found-listed}
+use Rattle.pv_law_acts.proofs.ListLemmas.{found-listed}
 use Rattle.pv_law_acts.proofs.NumberLemmas.{next-unpassed, given-passed}
 use Rattle.pv_law_acts.proofs.RecordLemmas.{prepared-listed, yes-listed}
 use Rattle.pv_law_acts.proofs.SiteLemmas.{up-within, changed-site}
@@ -146,7 +147,7 @@ module _ (setup : Setup) where
   opening-each P first other n = opened-each P first other setup.catalog.sites n
 
   pub no-work-yet : (n : ℕ) (txn : TxnId) (entry : Entry) → WorksAgeless (opening setup) n txn entry → ⊥
-  no-work-yet n txn entry = opening-each (λ (s : Site). work_in s.running txn ≡ Some entry → ⊥) none-some none-some n
+  no-work-yet n txn entry = opening-each (λ (s : Site). work_in s.running txn ≡ Some entry → ⊥) (none-some entry) (none-some entry) n
 
   pub no-grant-yet : (n : ℕ) (grant : Grant) → HoldsAgeless (opening setup) n grant → ⊥
   no-grant-yet n grant = opening-each (λ (s : Site). Contains (holdings_in s.running) grant → ⊥) (Contains-nil grant) (Contains-nil grant) n

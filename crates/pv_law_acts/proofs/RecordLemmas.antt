@@ -3,13 +3,14 @@ use Rattle.std.proofs.Common.{◌≡◌, ◌⊎◌, ⊎_elim, Bool, true, false,
 use Rattle.std.specs.Prelude.{if◌then◌else◌}
 use Rattle.std.specs.List.{Contains, list_any}
 use Rattle.std.proofs.lemmas.Bool.{or_cases, or_left, or_right, false≢true}
+use Rattle.std.proofs.lemmas.Option.{none-some}
 use Rattle.pv_base.proofs.AssignmentLemmas.{same-eq, same-refl}
 use Rattle.pv_base.proofs.Basics.{Some_inj}
 use Rattle.pv_base.proofs.ContainsLemmas.{Contains-first, Contains-behind, Contains-nil, Contains-cases}
 use Rattle.pv_base.specs.Assignment.{is_same_txn}
 use Rattle.pv_base.specs.declared.txn.TxnId.{TxnId}
 use Rattle.pv_format.specs.Record.{Record, epoch_begun, prepared, outcome_known}
-use Rattle.pv_law_acts.proofs.ListLemmas.{none-some, listed-before, listed-either}
+use Rattle.pv_law_acts.proofs.ListLemmas.{listed-before, listed-either}
 use Rattle.pv_model.specs.Alternatives.{Read}
 use Rattle.pv_protocol.specs.Committed.{says_yes}
 use Rattle.pv_protocol.specs.Records.{known, is_prepared}
@@ -100,7 +101,7 @@ known-by false txn decided commits outcome records apart later is =
     Contains-behind (outcome_known decided commits) records (outcome_known txn outcome) (later is)
 
 pub known-listed : (records : List Record) (txn : TxnId) (outcome : Bool) → known records txn ≡ Some outcome → Contains records (outcome_known txn outcome)
-known-listed [] txn outcome is = absurd (none-some is)
+known-listed [] txn outcome is = absurd (none-some _ is)
 known-listed (outcome_known decided commits ∷ records) txn outcome is =
     known-by (is_same_txn txn decided) txn decided commits outcome records refl (known-listed records txn outcome) is
 known-listed (epoch_begun epoch ∷ records) txn outcome is = Contains-behind (epoch_begun epoch) records (outcome_known txn outcome) (known-listed records txn outcome is)

@@ -3,9 +3,10 @@ use Rattle.std.proofs.Common.{◌≡◌, ◌⊎◌, ℕ, zero, suc, ◌<◌, Som
 use Rattle.std.specs.Prelude.{get_or}
 use Rattle.std.specs.List.{Contains}
 use Rattle.std.proofs.lemmas.List.{get_or-set_same}
+use Rattle.std.proofs.lemmas.Option.{none-some}
 use Rattle.pv_base.specs.declared.txn.TxnId.{TxnId}
 use Rattle.pv_format.specs.Record.{Record}
-use Rattle.pv_law_acts.proofs.ListLemmas.{none-some, put-each}
+use Rattle.pv_law_acts.proofs.ListLemmas.{put-each}
 use Rattle.pv_law_acts.specs.Acts.{with_content}
 use Rattle.pv_law_acts.specs.Seen.{records_at, memory_at, HoldsAgeless, holdings_in, work_in, WorksAgeless, IsNumberPassed, next_txn_in, next_grant_in}
 use Rattle.pv_law_acts.specs.Steps.{NewEntry, NewGrant, NewRecord, NewPlace, MayGrow, as_was, IsStep}
@@ -14,7 +15,7 @@ use Rattle.pv_protocol.specs.World.{World, site_at, no_site}
 
 -- A site that is up is one of the world's.
 up-listed : (sites : List Site) (n : ℕ) (running : Running) → (get_or sites n no_site).running ≡ Some running → n < length sites
-up-listed [] n running is = absurd (none-some is)
+up-listed [] n running is = absurd (none-some _ is)
 up-listed (first ∷ sites) zero running is = omega arith
 up-listed (first ∷ sites) (suc n) running is = let rest : n < length sites = up-listed sites n running is in omega (arith, rest)
 

@@ -4,13 +4,13 @@ use Rattle.std.specs.Prelude.{◌==◌, ◌&&◌, nat_lt, if◌then◌else◌, m
 use Rattle.std.specs.List.{Contains, list_any, find, filter_map}
 use Rattle.std.specs.Bool.{beq}
 use Rattle.std.proofs.lemmas.Bool.{false≢true}
+use Rattle.std.proofs.lemmas.Option.{none-some}
 use Rattle.pv_base.proofs.Basics.{Some_inj}
 use Rattle.pv_base.proofs.ContainsLemmas.{Contains-nil, Contains-cases, Contains-first, Contains-behind}
 use Rattle.pv_base.specs.Assignment.{is_same_txn}
 use Rattle.pv_base.specs.Catalog.{Item}
 use Rattle.pv_base.specs.Want.{Want}
 use Rattle.pv_base.specs.declared.txn.TxnId.{TxnId}
-use Rattle.pv_law_acts.proofs.ListLemmas.{none-some}
 use Rattle.pv_protocol.specs.Coordinate.{with_taken, exclusive_items}
 use Rattle.pv_protocol.specs.Keyed.{of_txn}
 use Rattle.pv_protocol.specs.Lock.{is_of_site, are_same_wants}
@@ -23,7 +23,7 @@ one-is x y h = ⊎_elim (λ same. same) (λ behind. absurd (Contains-nil y behin
 -- What belongs to a transaction is found with a further test that it passes.
 pub found-so : {X : Type 0} (key : X → TxnId) (q : X → Bool) (txn : TxnId) (xs : List X) (x : X) → of_txn key txn xs ≡ Some x → q x ≡ true
     → find (λ y. is_same_txn txn (key y) && q y) xs ≡ Some x
-found-so key q txn [] x is holds = absurd (none-some is)
+found-so key q txn [] x is holds = absurd (none-some _ is)
 found-so {X = X} key q txn (y ∷ ys) x is holds = by (is_same_txn txn (key y)) is (λ later. found-so key q txn ys x later holds) where
   by : (b : Bool) → (if b then Some y else of_txn key txn ys) ≡ Some x → (of_txn key txn ys ≡ Some x → find (λ y. is_same_txn txn (key y) && q y) ys ≡ Some x)
       → (if b && q y then Some y else find (λ y. is_same_txn txn (key y) && q y) ys) ≡ Some x
@@ -45,7 +45,7 @@ filter-map-listed {Y = Y} f (first ∷ rest) x y h is =
       by : (o : Option Y) → f first ≡ o → (f first ≡ Some y) ⊎ Contains (filter_map f rest) y → Contains (filter_map f (first ∷ rest)) y
       by None none which =
           let back : filter_map f rest ≡ filter_map f (first ∷ rest) = cc in
-          subst (λ ys. Contains ys y) back (⊎_elim (λ same. absurd (none-some (sym none ∙ same))) (λ later. later) which)
+          subst (λ ys. Contains ys y) back (⊎_elim (λ same. absurd (none-some _ (sym none ∙ same))) (λ later. later) which)
       by (Some z) some which =
           let back : z ∷ filter_map f rest ≡ filter_map f (first ∷ rest) = cc in
           subst (λ ys. Contains ys y) back
@@ -67,8 +67,8 @@ taken-more taken (first ∷ rest) n = by (nat_lt taken.site first.site) (taken-m
   by false later = ap (λ (b : Bool). (first.site == n) || b) later ∙ or-swap (first.site == n) (taken.site == n) (list_any (λ (t : Taken). t.site == n) rest)
 
 pub home-at : (items : List Item) (k n : ℕ) → slice_get (map (λ (d : Item). d.site) items) k ≡ Some n → is_of_site n (slice_get items k) ≡ true
-home-at [] zero n is = absurd (none-some is)
-home-at [] (suc k) n is = absurd (none-some is)
+home-at [] zero n is = absurd (none-some _ is)
+home-at [] (suc k) n is = absurd (none-some _ is)
 home-at (d ∷ ds) zero n is = eq-eqb d.site n (Some_inj is)
 home-at (d ∷ ds) (suc k) n is = home-at ds k n is
 

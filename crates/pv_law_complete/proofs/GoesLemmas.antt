@@ -2,12 +2,12 @@
 use Rattle.std.proofs.Common.{◌≡◌, ◌≢◌, ℕ, zero, suc, ◌<◌, Some, None, Option, List, [], ◌∷◌, ◌++◌, length, refl, sym, ap, subst, ◌∙◌}
 use Rattle.std.specs.Prelude.{slice_get, option_to_list, get_or, set, nat_lt}
 use Rattle.std.proofs.lemmas.List.{append-nil, get_or-set_same, get_or-set_other}
+use Rattle.std.proofs.lemmas.Option.{none-some}
 use Rattle.pv_format.specs.Checkpoint.{Standing, done, greatest_number}
 use Rattle.pv_format.specs.Message.{Envelope}
 use Rattle.pv_law_acts.proofs.SiteLemmas.{up-within}
 use Rattle.pv_law_acts.specs.Seen.{records_at, memory_at}
 use Rattle.pv_law_refusals.proofs.MoveLemmas.{asked-comes}
-use Rattle.pv_law_acts.proofs.ListLemmas.{none-some}
 use Rattle.pv_law_refusals.proofs.Moves.{Comes}
 use Rattle.pv_law_step.proofs.StepCases.{if_case}
 use Rattle.pv_law_world.proofs.DisarmLemmas.{site-disarmed}
@@ -147,7 +147,7 @@ module _ (setup : Setup) (w : World) where
   packing-goes event n was running up lines left (anywhere.without stops some standing may) =
       let site : Site = record { records = records_at w n ++ []; standing = standing; arm = None; running = None } in
       halts n (others w refl n site left refl) (ap (λ (s : Site). s.running) (own-site w refl n running up site)) refl
-  packing-goes event n was running up lines left (anywhere.with_record stops appended is standing may) = absurd (none-some is)
+  packing-goes event n was running up lines left (anywhere.with_record stops appended is standing may) = absurd (none-some _ is)
 
   packed-goes : (event : Event) (n : ℕ) (running : Option Running) → memory_at w n ≡ running → (lines : List Line) (left : World) → MayCome (packed w n running) lines left → Goes setup w event left
   packed-goes event n None up lines left come = once-goes event _ w lines left come (stays (same-sites w refl) refl)

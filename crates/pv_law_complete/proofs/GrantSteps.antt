@@ -7,12 +7,13 @@ use Rattle.std.proofs.lemmas.Bool.{false≢true}
 use Rattle.std.proofs.lemmas.Bool.Decides.{Decides-eqb}
 use Rattle.std.proofs.lemmas.List.{append-nil}
 use Rattle.std.proofs.lemmas.List.Elements.{All-contains}
+use Rattle.std.proofs.lemmas.Option.{none-some}
 use Rattle.pv_base.proofs.AssignmentLemmas.{same-from-eq}
 use Rattle.pv_base.proofs.ContainsLemmas.{Contains-nil}
 use Rattle.pv_base.specs.declared.grant.GrantId.{GrantId}
 use Rattle.pv_base.specs.declared.txn.TxnId.{TxnId}
 use Rattle.pv_format.specs.Message.{Message, lock, granted, denied, prepare}
-use Rattle.pv_law_acts.proofs.ListLemmas.{none-some, among-listed, listed-among, all-listed}
+use Rattle.pv_law_acts.proofs.ListLemmas.{among-listed, listed-among, all-listed}
 use Rattle.pv_law_acts.proofs.MemoryLemmas.{entry-txn}
 use Rattle.pv_law_acts.specs.Acts.{voting_of}
 use Rattle.pv_law_acts.specs.Seen.{records_at, memory_at, Sent, WorksAgeless}
@@ -211,7 +212,7 @@ module _ (setup : Setup) (txn : TxnId) (program : Program) (w : World) (is_known
       (
         idle setup txn program w is_known entry going n running up,
         λ part. ⊎_elim
-            (λ asks. absurd (none-some (sym none ∙ found-so (λ (e : Entry). e.txn) (λ (e : Entry). is_locking e.stage) txn running.entries entry
+            (λ asks. absurd (none-some _ (sym none ∙ found-so (λ (e : Entry). e.txn) (λ (e : Entry). is_locking e.stage) txn running.entries entry
             (here-entry setup txn program w entry going n running up at_home) (ap is_locking asks))))
             (λ votes. inl votes)
             (stage-either entry.stage),

@@ -5,6 +5,7 @@ use Rattle.std.specs.List.{Contains, list_all}
 use Rattle.std.proofs.lemmas.Bool.{false≢true}
 use Rattle.std.proofs.lemmas.List.{append-nil}
 use Rattle.std.proofs.lemmas.List.Elements.{All-contains}
+use Rattle.std.proofs.lemmas.Option.{none-some}
 use Rattle.pv_base.proofs.AssignmentLemmas.{same-refl}
 use Rattle.pv_base.proofs.Basics.{Some_inj}
 use Rattle.pv_base.proofs.ContainsLemmas.{Contains-nil, Contains-first}
@@ -15,7 +16,7 @@ use Rattle.pv_base.specs.declared.grant.GrantId.{GrantId}
 use Rattle.pv_base.specs.declared.txn.TxnId.{TxnId}
 use Rattle.pv_format.specs.Message.{Message, lock, granted}
 use Rattle.pv_format.specs.Record.{prepared}
-use Rattle.pv_law_acts.proofs.ListLemmas.{none-some, found-listed, listed-all}
+use Rattle.pv_law_acts.proofs.ListLemmas.{found-listed, listed-all}
 use Rattle.pv_law_acts.proofs.RecordLemmas.{prepared-listed}
 use Rattle.pv_law_acts.specs.Guards.{HasOutcome}
 use Rattle.pv_law_acts.specs.Seen.{records_at, memory_at, Sent, WorksAgeless, HoldsAgeless, ageless_entry, ageless_grant, holdings_in}
@@ -68,7 +69,7 @@ module _ (setup : Setup) (txn : TxnId) (program : Program) (w : World) (known : 
 
   pub no-outcome : (outcome : Bool) → HasOutcome w txn outcome → ⊥
   no-outcome true is = false≢true (sym uncommitted ∙ is)
-  no-outcome false dead = none-some (sym dead.idle ∙ working)
+  no-outcome false dead = none-some _ (sym dead.idle ∙ working)
 
   pub unknown : (m : ℕ) → is_undecided (records_at w m) txn ≡ true
   unknown m = by (known_there m) refl where
@@ -157,7 +158,7 @@ module _ (setup : Setup) (txn : TxnId) (program : Program) (w : World) (known : 
         known.settled.sound.right.same_wants (home_of txn) n txn wants grant.wants (subst (λ m. Sent w m n (lock txn wants)) lock_right.home sent)
         (subst (λ t. Sent w (home_of t) n (lock t grant.wants)) (sym own) asked) in
         absurd (false≢true (sym apart ∙ subst (λ all. Rattle.pv_protocol.specs.Lock.are_same_wants wants all ≡ true) same (same-wants-self wants)))
-    lock-leaves step (of_locks.denies clash h none found) = absurd (none-some (sym (free none).0 ∙ found))
+    lock-leaves step (of_locks.denies clash h none found) = absurd (none-some _ (sym (free none).0 ∙ found))
     lock-leaves step (of_locks.no_grant_left h spent) = absurd (false≢true (sym (free h.none).1 ∙ spent))
     lock-leaves step (of_locks.grants h some) =
         let grant : Grant = next_grant Now txn wants in
@@ -174,7 +175,7 @@ module _ (setup : Setup) (txn : TxnId) (program : Program) (w : World) (known : 
             keeps = λ part id stood.
                 ⊎_elim
                 (λ was. inl (ap (λ rs. is_prepared rs txn) (append-nil (records_at w n)) ∙ was))
-                (λ held. absurd (none-some (sym h.none ∙ held.1.0)))
+                (λ held. absurd (none-some _ (sym h.none ∙ held.1.0)))
                 stood;
             asked = λ votes. inl votes;
           },

@@ -3,14 +3,14 @@ use Rattle.std.proofs.Common.{◌≡◌, ◌⊎◌, ⊎_elim, inl, inr, ℕ, zer
 use Rattle.std.specs.Prelude.{◌==◌, not, ◌&&◌, nat_le, IsSome, is_some, is_none, map, slice_get}
 use Rattle.std.specs.List.{Contains, list_all}
 use Rattle.std.proofs.lemmas.Bool.{false≢true, and_parts}
-use Rattle.std.proofs.lemmas.Option.{slice_get_within, slice_get_past}
+use Rattle.std.proofs.lemmas.Option.{none-some, slice_get_within, slice_get_past}
 use Rattle.pv_base.proofs.Basics.{Some_inj}
 use Rattle.pv_base.proofs.ContainsLemmas.{Contains-first, Contains-behind, Contains-cases}
 use Rattle.pv_base.specs.declared.limits.TheConstants.{NEVER_GIVEN}
 use Rattle.pv_base.specs.declared.txn.TxnId.{TxnId}
 use Rattle.pv_format.specs.Message.{Envelope, Message, lock, granted, denied, prepare, vote_yes, vote_no, outcome_reported, ask}
 use Rattle.pv_format.specs.Record.{prepared, outcome_known}
-use Rattle.pv_law_acts.proofs.ListLemmas.{all-listed, none-some}
+use Rattle.pv_law_acts.proofs.ListLemmas.{all-listed}
 use Rattle.pv_law_acts.specs.Seen.{records_at, memory_at}
 use Rattle.pv_law_complete.proofs.FoundLists.{one-is}
 use Rattle.pv_law_complete.proofs.GoesLemmas.{Goes, stays, halts, opens, steps, follow-goes}
@@ -153,7 +153,7 @@ or-either true b is = inl refl
 or-either false b is = inr is
 
 left-there : {X : Type 0} (xs ys : List X) (n : ℕ) (x : X) → slice_get xs n ≡ Some x → slice_get (xs ++ ys) n ≡ Some x
-left-there [] ys n x is = absurd (none-some (sym (slice_get_past [] n (omega arith)) ∙ is))
+left-there [] ys n x is = absurd (none-some _ (sym (slice_get_past [] n (omega arith)) ∙ is))
 left-there (y ∷ xs) ys zero x is = is
 left-there (y ∷ xs) ys (suc n) x is = left-there xs ys n x is
 

@@ -7,6 +7,7 @@ use Rattle.std.proofs.lemmas.Bool.{false≢true}
 use Rattle.std.proofs.lemmas.Bool.Decides.{Decides-eqb}
 use Rattle.std.proofs.lemmas.List.{append-nil}
 use Rattle.std.proofs.lemmas.List.Elements.{Contains-append_left}
+use Rattle.std.proofs.lemmas.Option.{none-some}
 use Rattle.pv_base.proofs.AssignmentLemmas.{same-from-eq}
 use Rattle.pv_base.proofs.Basics.{Some_inj}
 use Rattle.pv_base.proofs.ContainsLemmas.{Contains-nil, Contains-first}
@@ -16,7 +17,7 @@ use Rattle.pv_base.specs.declared.grant.GrantId.{GrantId}
 use Rattle.pv_base.specs.declared.txn.TxnId.{TxnId}
 use Rattle.pv_format.specs.Message.{NoCause, granted, prepare, vote_yes, vote_no, outcome_reported}
 use Rattle.pv_format.specs.Record.{prepared, outcome_known}
-use Rattle.pv_law_acts.proofs.ListLemmas.{none-some, any-listed, among-listed, listed-among, listed-last}
+use Rattle.pv_law_acts.proofs.ListLemmas.{any-listed, among-listed, listed-among, listed-last}
 use Rattle.pv_law_acts.proofs.MemoryLemmas.{entry-txn}
 use Rattle.pv_law_acts.proofs.RecordLemmas.{listed-yes, listed-prepared}
 use Rattle.pv_law_acts.specs.Seen.{records_at, memory_at, Sent, WorksAgeless, HoldsAgeless, place_in_order, ageless_grant}
@@ -178,7 +179,7 @@ module _ (setup : Setup) (room : setup.read_names < setup.held_names) (txn : Txn
           (λ part id' values h. let wrong = ap (λ (o : Outgoing). o.message) (one-is _ _ h) in absurd (let no : ⊥ = cc in no)),
       Contains-first _ [],
     )
-    vote-leaves step (of_votes.none_stands is none) = absurd (none-some (sym none ∙ (stands-now is.unprepared).1.0))
+    vote-leaves step (of_votes.none_stands is none) = absurd (none-some _ (sym none ∙ (stands-now is.unprepared).1.0))
     vote-leaves step (of_votes.other_stands standing is found apart) =
         let held = stands-now is.unprepared in
         let same : held.0 ≡ standing = Some_inj (sym held.1.0 ∙ found) in
@@ -250,7 +251,7 @@ module _ (setup : Setup) (room : setup.read_names < setup.held_names) (txn : Txn
       entry,
       (
         idle setup txn program w is_known entry going n running up,
-        λ same part. absurd (none-some (sym none ∙ found-so (λ (e : Entry). e.txn) (λ (e : Entry). not (is_locking e.stage)) txn running.entries entry
+        λ same part. absurd (none-some _ (sym none ∙ found-so (λ (e : Entry). e.txn) (λ (e : Entry). not (is_locking e.stage)) txn running.entries entry
             (here-entry setup txn program w entry going n running up same) (ap (λ stage. not (is_locking stage)) is-voting))),
       ),
     )

@@ -3,14 +3,14 @@ use Rattle.std.proofs.Common.{◌≡◌, ℕ, ◌+◌, ◌<◌, Bool, true, fals
 use Rattle.std.specs.Prelude.{◌&&◌, nat_lt, slice_get, option_to_list, if◌then◌else◌, ⊤}
 use Rattle.std.specs.List.{Contains}
 use Rattle.std.proofs.lemmas.List.{append-nil, append_assoc, length-set, length-map, length-replicate}
-use Rattle.std.proofs.lemmas.Option.{slice_get_within, get_or_from_slice_get}
+use Rattle.std.proofs.lemmas.Option.{none-some, slice_get_within, get_or_from_slice_get}
 use Rattle.pv_base.proofs.ContainsLemmas.{Contains-first, Contains-behind, Contains-nil}
 use Rattle.pv_base.proofs.MapLemmas.{Contains-unmap}
 use Rattle.pv_format.specs.Checkpoint.{Standing, greatest_number}
 use Rattle.pv_format.specs.Contents.{greatest_epoch}
 use Rattle.pv_format.specs.Message.{Message, lock, granted, denied, prepare, vote_yes, vote_no, outcome_reported, ask, Envelope}
 use Rattle.pv_format.specs.Record.{Record, epoch_begun}
-use Rattle.pv_law_acts.proofs.ListLemmas.{none-some, listed-before}
+use Rattle.pv_law_acts.proofs.ListLemmas.{listed-before}
 use Rattle.pv_law_acts.specs.Acts as acts
 use Rattle.pv_law_acts.specs.Acts.{with_content, recorded, HasNoMore, HasNothingNew, Act, Acts, no_act, one_more}
 use Rattle.pv_law_acts.specs.Guards.{MaySend}
@@ -159,7 +159,7 @@ module _ (setup : Setup) where
       whole = λ arm. complete-acts (of_checkpoint standing running) (records_at w n) w.order arm
           (subst (λ memory. Acts setup w (At w n (records_at w n) memory w.order)) up (subst (Acts setup w) (sym (own-site w n)) (no_act w)))
           (sym (append-nil (records_at w n))) (sym (append-nil w.order)) (λ sent h. absurd (Contains-nil sent h));
-      with_record = λ appended is. absurd (none-some is);
+      with_record = λ appended is. absurd (none-some _ is);
     }
 
     -- A start.
@@ -173,7 +173,7 @@ module _ (setup : Setup) where
       refused-acts : (line : Line) → IsAttemptActs w n (refused_start line)
       refused-acts line = record {
         whole = λ arm. complete-acts (refused_start line) (records_at w n) w.order arm still (sym (append-nil (records_at w n))) (sym (append-nil w.order)) (no-messages (At w n (records_at w n) None w.order));
-        with_record = λ appended is. absurd (none-some is);
+        with_record = λ appended is. absurd (none-some _ is);
       }
 
       pub start-acts : (started : Started) → StartCase setup (records_at w n) started → IsAttemptActs w n (of_start n started)

@@ -3,6 +3,7 @@ use Rattle.std.proofs.Common.{◌≡◌, ⊎_elim, Bool, true, false, Some, None
 use Rattle.std.specs.Prelude.{not, ◌&&◌, ◌+◌, nat_lt, if◌then◌else◌}
 use Rattle.std.specs.List.{Contains, filter, find}
 use Rattle.std.proofs.lemmas.Bool.{and_parts, false≢true, true≢false}
+use Rattle.std.proofs.lemmas.Option.{none-some}
 use Rattle.pv_base.proofs.AssignmentLemmas.{same-eq, same-refl, precedes-other'}
 use Rattle.pv_base.proofs.Basics.{Some_inj}
 use Rattle.pv_base.proofs.ContainsLemmas.{Contains-nil, Contains-cases}
@@ -10,7 +11,7 @@ use Rattle.pv_base.proofs.MapLemmas.{Contains-map, Contains-unmap}
 use Rattle.pv_base.specs.Assignment.{is_same_txn}
 use Rattle.pv_base.specs.declared.limits.TheConstants.{TICKS}
 use Rattle.pv_base.specs.declared.txn.TxnId.{TxnId}
-use Rattle.pv_law_acts.proofs.ListLemmas.{none-some, found-listed}
+use Rattle.pv_law_acts.proofs.ListLemmas.{found-listed}
 use Rattle.pv_law_acts.proofs.MemoryLemmas.{left-work, left-holding, put-holding}
 use Rattle.pv_law_acts.specs.Acts.{HasNoMore}
 use Rattle.pv_law_acts.specs.Seen.{ageless_grant, ageless_entry, holdings_in, work_in}
@@ -90,7 +91,7 @@ module _ (running : Running) (order : IsInOrder running) where
 
   older-work : (txn : TxnId) (found : Option Entry) (entry : Entry) → of_txn (λ (e : Entry). e.txn) txn (lasting_entries (older_entries running.entries)) ≡ found
       → ageless_entry found ≡ Some entry → work_in (Some running) txn ≡ Some entry
-  older-work txn None entry found is = absurd (none-some is)
+  older-work txn None entry found is = absurd (none-some _ is)
   older-work txn (Some late) entry found is =
       let same : txn ≡ late.txn = same-eq {t = txn} {u = late.txn} (found-passes (λ (e : Entry). is_same_txn txn e.txn) (lasting_entries (older_entries running.entries)) late found) in
       let was = older-listed txn late (kept-listed (λ (e : Entry). nat_lt e.age TICKS) (older_entries running.entries) late

@@ -13,7 +13,7 @@ use Rattle.pv_base.specs.Want.{Want}
 use Rattle.pv_base.specs.declared.grant.GrantId.{GrantId}
 use Rattle.pv_base.specs.declared.txn.TxnId.{TxnId}
 use Rattle.pv_format.specs.Message.{lock, granted, denied}
-use Rattle.pv_law_acts.proofs.ListLemmas.{none-some, none-found, found-listed, listed-among}
+use Rattle.pv_law_acts.proofs.ListLemmas.{none-found, found-listed, listed-among}
 use Rattle.pv_law_acts.proofs.MemoryLemmas.{entry-txn, put-work-found}
 use Rattle.pv_law_acts.specs.Acts as acts
 use Rattle.pv_law_acts.specs.Acts.{with_content, remembered, with_begun, first_entry, voting_of, HasNoMore, Act, Acts, one_more}
@@ -28,6 +28,7 @@ use Rattle.pv_law_step.proofs.Kept.{filter-map-all}
 use Rattle.pv_law_step.proofs.KeyedLemmas.{of-with}
 use Rattle.pv_law_step.proofs.Lists.{OfSome}
 use Rattle.std.proofs.lemmas.List.Elements.{All-contains}
+use Rattle.std.proofs.lemmas.Option.{none-some}
 use Rattle.pv_law_step.proofs.StepCases.{submit-case, lock-case, granted-case, denied-case}
 use Rattle.pv_law_step.specs.GrantCases as of_grants
 use Rattle.pv_law_step.specs.GrantCases.{GrantedCase, DeniedCase, IsTaken, IsLastGrant}
@@ -104,7 +105,7 @@ same-writes records entry items = λ i. map (λ (item : ℕ). record { item = it
 -- A conflict is over what a grant holds.
 conflict-holder : (grants : List Grant) (wants : List Want) (over : Conflict) → first_conflict grants wants ≡ Some over
     → (grant : Grant) × (Contains grants grant × (grant.txn ≡ over.holder))
-conflict-holder grants [] over is = absurd (none-some is)
+conflict-holder grants [] over is = absurd (none-some _ is)
 conflict-holder grants (want ∷ wants) over is = by (find (is_in_the_way want) grants) refl (conflict-holder grants wants over) is where
   by : (found : Option Grant) → find (is_in_the_way want) grants ≡ found
       → (first_conflict grants wants ≡ Some over → (grant : Grant) × (Contains grants grant × (grant.txn ≡ over.holder)))
@@ -141,7 +142,7 @@ module _ (setup : Setup) (w : World) (n : ℕ) (running : Running) (ready : IsRe
               participant = listed-among (participants_of program setup.catalog.items) site.0 site.1.0;
               wanted = refl;
             }));
-        stops = λ more is. absurd (none-some is);
+        stops = λ more is. absurd (none-some _ is);
       }
 
   submit-acts : (program : Program) → CanRun setup.catalog program → (step : Step) → SubmitCase (here_at setup w n running) program step → IsActs setup w n step
@@ -207,7 +208,7 @@ module _ (setup : Setup) (w : World) (n : ℕ) (running : Running) (ready : IsRe
               shown_now = ap (λ records. map (λ (want : Want). record { item = want.item; cases = shown setup.catalog records want.item }) wants)
                   (sym (at-records w n there (records_at w n) (Some after) w.order));
             });
-        stops = λ more is. absurd (none-some is);
+        stops = λ more is. absurd (none-some _ is);
       }
 
   lock-acts : (from : ℕ) (txn : TxnId) (wants : List Want) → Sent w from n (lock txn wants) → (step : Step) → LockCase (here_at setup w n running) from txn wants step
@@ -273,7 +274,7 @@ module _ (setup : Setup) (w : World) (n : ℕ) (running : Running) (ready : IsRe
       places = sym (append-nil w.order);
       acts = one-act setup w n (remembered w n (with_entry running with_grant_of)) take-act;
       sends = nothing-sent setup w n (remembered w n (with_entry running with_grant_of));
-      stops = λ more is. absurd (none-some is);
+      stops = λ more is. absurd (none-some _ is);
     }
 
     own : txn ≡ entry.txn
@@ -341,7 +342,7 @@ module _ (setup : Setup) (w : World) (n : ℕ) (running : Running) (ready : IsRe
             (filter-map-all (λ (sent : Outgoing). MaySend setup (At w n (records_at w n) (Some After) (w.order ++ place_in_order with_grant_of ∷ [])) n sent.to sent.message)
             (λ site. prepare_under (here_at setup w n running) with_grant_of (taken_from with_grant_of site)) (participants_of entry.program setup.catalog.items)
             (λ site listed. asked-vote site listed (taken_from with_grant_of site) refl)) h;
-        stops = λ more is. absurd (none-some is);
+        stops = λ more is. absurd (none-some _ is);
       }
 
   granted-acts : (from : ℕ) (txn : TxnId) (grant : GrantId) (values : List Read) → Sent w from n (granted txn grant values) → (step : Step)

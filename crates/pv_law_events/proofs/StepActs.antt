@@ -3,13 +3,13 @@ use Rattle.std.proofs.Common.{◌≡◌, ⊎_elim, ℕ, ◌<◌, false, Some, No
 use Rattle.std.specs.Prelude.{option_to_list}
 use Rattle.std.specs.List.{Contains, list_any}
 use Rattle.std.proofs.lemmas.List.{append-nil}
+use Rattle.std.proofs.lemmas.Option.{none-some}
 use Rattle.pv_base.proofs.ContainsLemmas.{Contains-nil, Contains-cases}
 use Rattle.pv_base.proofs.MapLemmas.{Contains-unmap}
 use Rattle.pv_base.specs.declared.txn.TxnId.{TxnId}
 use Rattle.pv_format.specs.Contents.{greatest_epoch}
 use Rattle.pv_format.specs.Message.{Message, outcome_reported}
 use Rattle.pv_format.specs.Record.{Record}
-use Rattle.pv_law_acts.proofs.ListLemmas.{none-some}
 use Rattle.pv_law_acts.proofs.MemoryLemmas.{entry-txn, left-none}
 use Rattle.pv_law_acts.proofs.PassedLemmas.{passed-later}
 use Rattle.pv_law_acts.proofs.SiteLemmas.{up-within}
@@ -106,7 +106,7 @@ module _ (setup : Setup) (w : World) (n : ℕ) where
       places = sym (append-nil w.order);
       acts = then-forget within (records_at w n) (Some running) w.order (Some after) unmoved no_more;
       sends = may;
-      stops = λ more is. absurd (none-some is);
+      stops = λ more is. absurd (none-some _ is);
     }
 
     pub idle-acts : (notes : List Note) → IsActs (record { running = running; appended = None; sends = []; notes = notes; placed = None })

@@ -4,13 +4,14 @@ use Rattle.std.specs.Prelude.{not, ◌==◌, if◌then◌else◌}
 use Rattle.std.specs.List.{Contains, list_any}
 use Rattle.std.proofs.lemmas.Bool.{eqb-true}
 use Rattle.std.proofs.lemmas.List.{append-nil}
+use Rattle.std.proofs.lemmas.Option.{none-some}
 use Rattle.pv_base.proofs.MapLemmas.{Contains-map, Contains-unmap}
 use Rattle.pv_base.specs.Assignment.{is_same_txn}
 use Rattle.pv_base.specs.declared.grant.GrantId.{GrantId}
 use Rattle.pv_base.specs.declared.txn.TxnId.{TxnId}
 use Rattle.pv_format.specs.Message.{NoCause, prepare, vote_yes, vote_no, outcome_reported}
 use Rattle.pv_format.specs.Record.{Record, prepared, outcome_known}
-use Rattle.pv_law_acts.proofs.ListLemmas.{none-some, found-listed, listed-last}
+use Rattle.pv_law_acts.proofs.ListLemmas.{found-listed, listed-last}
 use Rattle.pv_law_acts.proofs.MemoryLemmas.{entry-txn, left-holding}
 use Rattle.pv_law_acts.proofs.RecordLemmas.{listed-prepared, listed-yes}
 use Rattle.pv_law_acts.specs.Acts as acts
@@ -158,7 +159,7 @@ module _ (setup : Setup) (w : World) (n : ℕ) (running : Running) (ready : IsRe
       places = sym (append-nil w.order);
       acts = one-act setup w n (remembered w n Between) count-act;
       sends = nothing-sent setup w n (remembered w n Between);
-      stops = λ more is. absurd (none-some is);
+      stops = λ more is. absurd (none-some _ is);
     }
 
     module _ (whole : has_all_votes (here_at setup w n running) (voted entry from) ≡ true) where

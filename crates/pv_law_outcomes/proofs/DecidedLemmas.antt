@@ -2,11 +2,12 @@
 use Rattle.std.proofs.Common.{◌≡◌, ◌⊎◌, ⊎_elim, ℕ, Bool, true, false, Some, None, Option, inl, inr, refl, sym, subst, ◌∙◌}
 use Rattle.std.specs.List.{Contains}
 use Rattle.std.proofs.lemmas.Bool.{false≢true, false_from_ne_true}
+use Rattle.std.proofs.lemmas.Option.{none-some}
 use Rattle.pv_base.proofs.ContainsLemmas.{Contains-nil}
 use Rattle.pv_base.specs.declared.txn.TxnId.{TxnId}
 use Rattle.pv_format.specs.Message.{outcome_reported}
 use Rattle.pv_format.specs.Record.{Record, epoch_begun, outcome_known}
-use Rattle.pv_law_acts.proofs.ListLemmas.{none-some, all-listed, among-listed}
+use Rattle.pv_law_acts.proofs.ListLemmas.{all-listed, among-listed}
 use Rattle.pv_law_acts.proofs.PassedLemmas.{numbers-passed, no-work-yet, only-epochs-yet}
 use Rattle.pv_law_acts.proofs.RecordLemmas.{yes-listed, listed-yes}
 use Rattle.pv_law_acts.proofs.StepLemmas.{acts-hold, sent-either, record-either, place-stays, promise-stays, commit-stays}
@@ -53,10 +54,10 @@ module _ (setup : Setup) (w v : World) (step : IsStep setup w v) (sound : IsSoun
   stays-dead txn dead = record {
     passed = step.txns txn dead.passed;
     idle = no-entry (work_in (memory_at v (home_of txn)) txn)
-        (λ entry works. none-some (sym dead.idle ∙ (worked-before (home_of txn) txn entry dead.passed works).1));
+        (λ entry works. none-some _ (sym dead.idle ∙ (worked-before (home_of txn) txn entry dead.passed works).1));
     uncommitted = false_from_ne_true (is_committed v txn) (λ is. ⊎_elim
         (λ old. false≢true (sym dead.uncommitted ∙ old))
-        (λ (commit : NewCommit setup w v (home_of txn) txn true). none-some (sym dead.idle ∙ commit.works))
+        (λ (commit : NewCommit setup w v (home_of txn) txn true). none-some _ (sym dead.idle ∙ commit.works))
         (commit-either txn is));
   }
 
@@ -71,7 +72,7 @@ module _ (setup : Setup) (w v : World) (step : IsStep setup w v) (sound : IsSoun
   working-uncommitted n txn entry works = false_from_ne_true (is_committed v txn) (λ is. ⊎_elim
       (λ old. let was = worked-before n txn entry (commit-passed txn old) works in false≢true (sym (decided.working n txn was.0 was.1) ∙ old))
       (λ (commit : NewCommit setup w v (home_of txn) txn true).
-      none-some (sym commit.over ∙ subst (λ m. WorksAgeless v m txn entry) (sym ((numbers-passed setup w v step sound.passed).entries n txn entry works).home) works))
+      none-some _ (sym commit.over ∙ subst (λ m. WorksAgeless v m txn entry) (sym ((numbers-passed setup w v step sound.passed).entries n txn entry works).home) works))
       (commit-either txn is))
 
   -- A coordinator that may commit has the transaction prepared everywhere.

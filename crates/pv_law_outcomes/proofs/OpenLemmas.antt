@@ -3,12 +3,13 @@ use Rattle.std.proofs.Common.{◌≡◌, ⊎_elim, Bool, true, false, Some, None
 use Rattle.std.specs.Prelude.{not, ◌&&◌, ◌==◌, is_some}
 use Rattle.std.specs.List.{Contains, list_any, list_all}
 use Rattle.std.proofs.lemmas.Bool.{and_parts, and_from, eqb-true, eq-eqb, or_cases, or_left, or_right, false≢true}
+use Rattle.std.proofs.lemmas.Option.{none-some}
 use Rattle.pv_base.proofs.AssignmentLemmas.{same-eq, same-from-eq}
 use Rattle.pv_base.proofs.MapLemmas.{Contains-map, Contains-unmap}
 use Rattle.pv_base.specs.Assignment.{is_same_txn}
 use Rattle.pv_base.specs.declared.grant.GrantId.{GrantId}
 use Rattle.pv_base.specs.declared.txn.TxnId.{TxnId}
-use Rattle.pv_law_acts.proofs.ListLemmas.{none-some, any-listed, listed-any, all-listed, listed-all}
+use Rattle.pv_law_acts.proofs.ListLemmas.{any-listed, listed-any, all-listed, listed-all}
 use Rattle.pv_law_acts.specs.Seen.{records_at, memory_at, ageless_grant, ageless_entry, WorksAgeless, HoldsAgeless}
 use Rattle.pv_law_outcomes.specs.Decided.{IsBoundBy, is_promised, is_held, MayCommitYet, is_placed}
 use Rattle.pv_protocol.specs.Committed.{home_of, is_committed, grants_of, entry_of, is_grant, is_bound, is_open, IsOpen}
@@ -33,7 +34,7 @@ some-entry None is = absurd (false≢true is)
 some-entry (Some entry) is = (record entry { age = 0 }, refl)
 
 entry-some : (found : Option Entry) (entry : Entry) → ageless_entry found ≡ Some entry → is_some found ≡ true
-entry-some None entry is = absurd (none-some is)
+entry-some None entry is = absurd (none-some _ is)
 entry-some (Some found) entry is = refl
 
 -- Grants.

@@ -3,9 +3,9 @@ use Rattle.std.proofs.Common.{◌≡◌, ◌⊎◌, ⊎_elim, ℕ, Bool, true, f
 use Rattle.std.specs.Prelude.{IsTrue}
 use Rattle.std.specs.List.{Contains}
 use Rattle.std.proofs.lemmas.Bool.{and_parts, and_from, false≢true, false_from_ne_true}
+use Rattle.std.proofs.lemmas.Option.{none-some}
 use Rattle.pv_base.specs.Assignment.{commits}
 use Rattle.pv_base.specs.declared.txn.TxnId.{TxnId}
-use Rattle.pv_law_acts.proofs.ListLemmas.{none-some}
 use Rattle.pv_law_acts.proofs.RecordLemmas.{known-listed}
 use Rattle.pv_law_acts.proofs.StepLemmas.{commit-stays, place-stays}
 use Rattle.pv_law_acts.proofs.ActSteps.{act-step}
@@ -44,7 +44,7 @@ module _ (setup : Setup) (world : World) (settled : IsSettled setup world) where
   pub dead-out : (txn : TxnId) → IsDead world txn → IsOut txn world
   dead-out txn dead = record {
     uncommitted = dead.uncommitted;
-    closed = λ is. let open_ : MayCommitYet world txn = open-from world txn is in none-some (sym dead.idle ∙ open_.works);
+    closed = λ is. let open_ : MayCommitYet world txn = open-from world txn is in none-some _ (sym dead.idle ∙ open_.works);
   }
 
   -- An assignment that fits has every outcome that a site knows.

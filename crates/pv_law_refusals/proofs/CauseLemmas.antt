@@ -3,7 +3,7 @@ use Rattle.std.proofs.Common.{◌≡◌, ⊎_elim, ℕ, ◌+◌, ◌<◌, ◌≤
 use Rattle.std.specs.Prelude.{◌==◌, nat_lt, slice_get, find, if◌then◌else◌}
 use Rattle.std.specs.List.{Contains}
 use Rattle.std.specs.Option.{unwrap_or}
-use Rattle.std.proofs.lemmas.Bool.{eqb-true, eq-eqb, ltb-true, ltb-false, false≢true, false_from_ne_true}
+use Rattle.std.proofs.lemmas.Bool.{eqb-true, eq-eqb, ltb-true, ltb-false, false≢true, false_from_ne_true, not_from_false}
 use Rattle.std.proofs.lemmas.Option.{slice_get_within, get_or_from_slice_get}
 use Rattle.std.proofs.lemmas.List.Elements.{All-contains, filter_passes}
 use Rattle.pv_base.proofs.ContainsLemmas.{Contains-nil, Contains-cases, Contains-first, Contains-behind}
@@ -136,9 +136,8 @@ first-of-some p (first ∷ rest) n h passes =
     let found = first-by p first rest (p first) refl (λ m behind too. first-of-some p rest m behind too) n h passes in
     record { one = found.0; is = found.1; listed = found.2; passes = found.3 }
 
-not-false : (b : Bool) → (b ≡ true → ⊥) → not b ≡ true
-not-false true h = absurd (h refl)
-not-false false h = refl
+not-from_ne_true : (b : Bool) → (b ≡ true → ⊥) → not b ≡ true
+not-from_ne_true b h = not_from_false b (false_from_ne_true b h)
 
 false-not : (b : Bool) → not b ≡ true → b ≡ true → ⊥
 false-not true is too = false≢true is
@@ -153,7 +152,7 @@ awaits-least setup here is late entry program stage alike silent participant una
     let waits : ℕ → Bool = λ n. not (has_answered late.stage late n) in
     let same_sites : sites ≡ participants_of entry.program setup.catalog.items = λ i. participants_of (program i) (is i).catalog.items in
     let there : Contains sites silent = subst (λ xs. Contains xs silent) (sym same_sites) (participant-listed setup.catalog entry.program silent participant) in
-    let quiet : waits silent ≡ true = not-false (has_answered late.stage late silent) (λ answered. unanswered (answered-by entry.stage entry silent (sym (alike silent) ∙ answered))) in
+    let quiet : waits silent ≡ true = not-from_ne_true (has_answered late.stage late silent) (λ answered. unanswered (answered-by entry.stage entry silent (sym (alike silent) ∙ answered))) in
     let first = first-of-some waits sites silent there quiet in
     let one : awaited here late ≡ first.one = ap (λ o. unwrap_or o 0) first.is in
     subst (IsAwaited setup.catalog entry) (sym one) (record {
@@ -161,7 +160,7 @@ awaits-least setup here is late entry program stage alike silent participant una
       silent = λ answered. false-not (has_answered late.stage late first.one) first.passes (alike first.one ∙ by-answered entry.stage entry first.one answered);
       least = λ other takes_part unheard. found-least waits sites first.one other (sites-ascend late.program 0 here.setup.catalog.items) first.is
           (subst (λ xs. Contains xs other) (sym same_sites) (participant-listed setup.catalog entry.program other takes_part))
-          (not-false (has_answered late.stage late other) (λ answered. unheard (answered-by entry.stage entry other (sym (alike other) ∙ answered))));
+          (not-from_ne_true (has_answered late.stage late other) (λ answered. unheard (answered-by entry.stage entry other (sym (alike other) ∙ answered))));
     })
 
 -- Who has answered doesn't depend on the age.

@@ -4,6 +4,7 @@ use Rattle.std.specs.Prelude.{◌==◌, ◌&&◌, nat_lt, All, IsTrue, ⊤, if�
 use Rattle.std.specs.List.{Contains, list_all}
 use Rattle.std.proofs.lemmas.Bool.{eq-eqb, ltb-true, false≢true}
 use Rattle.std.proofs.lemmas.List.Elements.{All-contains}
+use Rattle.std.proofs.lemmas.Option.{none-some}
 use Rattle.pv_base.proofs.AssignmentLemmas.{same-eq}
 use Rattle.pv_base.proofs.Basics.{Some_inj}
 use Rattle.pv_base.proofs.ContainsLemmas.{Contains-first, Contains-behind, Contains-nil}
@@ -15,7 +16,7 @@ use Rattle.pv_base.specs.declared.grant.GrantId.{GrantId}
 use Rattle.pv_base.specs.declared.limits.TheConstants.{TICKS}
 use Rattle.pv_base.specs.declared.txn.TxnId.{TxnId}
 use Rattle.pv_format.specs.Message.{Message, lock, granted, denied, prepare, vote_yes, vote_no, outcome_reported, ask, NoCause}
-use Rattle.pv_law_acts.proofs.ListLemmas.{none-some, listed-any, listed-among, found-listed}
+use Rattle.pv_law_acts.proofs.ListLemmas.{listed-any, listed-among, found-listed}
 use Rattle.pv_law_acts.proofs.MemoryLemmas.{entry-txn}
 use Rattle.pv_law_acts.proofs.NumberLemmas.{next-unpassed}
 use Rattle.pv_law_acts.proofs.RecordLemmas.{prepared-listed}
@@ -127,7 +128,7 @@ left-found : (entries : List Entry) (other txn : TxnId) (after : Entry) → of_t
     → of_txn (λ (e : Entry). e.txn) txn entries ≡ Some after
 left-found entries other txn after is = by (is_same_txn txn other) (sym (of-without (λ (e : Entry). e.txn) txn other entries) ∙ is) where
   by : (b : Bool) → (if b then None else of_txn (λ (e : Entry). e.txn) txn entries) ≡ Some after → of_txn (λ (e : Entry). e.txn) txn entries ≡ Some after
-  by true is = absurd (none-some is)
+  by true is = absurd (none-some _ is)
   by false is = is
 
 module _ (setup : Setup) (w : World) (n : ℕ) (running : Running) (ready : IsReady setup w n running) (txn : TxnId) (after : Entry) where

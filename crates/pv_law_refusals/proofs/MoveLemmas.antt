@@ -5,13 +5,13 @@ use Rattle.std.specs.List.{Contains}
 use Rattle.std.proofs.lemmas.Bool.{eqb-true, eq-eqb, false≢true}
 use Rattle.std.proofs.lemmas.List.{append-nil, get_or-set_other}
 use Rattle.std.proofs.lemmas.List.Elements.{Contains-append_cases}
+use Rattle.std.proofs.lemmas.Option.{none-some}
 use Rattle.pv_base.proofs.MapLemmas.{Contains-unmap}
 use Rattle.pv_base.specs.declared.txn.TxnId.{TxnId}
 use Rattle.pv_format.specs.Checkpoint.{Standing, greatest_number}
 use Rattle.pv_format.specs.Contents.{greatest_epoch}
 use Rattle.pv_format.specs.Message.{Envelope}
 use Rattle.pv_format.specs.Record.{Record}
-use Rattle.pv_law_acts.proofs.ListLemmas.{none-some}
 use Rattle.pv_law_acts.specs.Seen.{records_at, memory_at}
 use Rattle.pv_law_refusals.proofs.Moves.{Comes, TakesInput, IsSentNow, SiteAfter, is_as_it_was, has_no_entry, has_stepped, IsMove}
 use Rattle.pv_law_step.proofs.StartLemmas.{start-case}
@@ -37,10 +37,10 @@ use Rattle.pv_protocol.specs.WorldStep.{Transition, ended, transition_of}
 
 -- a memory without entries
 no-memory : (txn : TxnId) (entry : Entry) → entry_in None txn ≡ Some entry → ⊥
-no-memory txn entry is = none-some is
+no-memory txn entry is = none-some _ is
 
 no-entries : (epoch : ℕ) (txn : TxnId) (entry : Entry) → entry_in (Some (just_started epoch)) txn ≡ Some entry → ⊥
-no-entries epoch txn entry is = none-some is
+no-entries epoch txn entry is = none-some _ is
 
 -- One of two numbers is the other, or isn't.
 same-or-not : (n m : ℕ) → (n ≡ m) ⊎ (n ≢ m)

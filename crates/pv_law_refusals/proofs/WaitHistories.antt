@@ -5,9 +5,9 @@ use Rattle.std.proofs.lemmas.Bool.{eq-eqb}
 use Rattle.std.proofs.lemmas.List.{map-append}
 use Rattle.std.proofs.lemmas.List.Elements.{All-append, All-cons, All-nil}
 use Rattle.std.proofs.lemmas.List.Sums.{sum_by-append}
+use Rattle.std.proofs.lemmas.Option.{none-some}
 use Rattle.pv_base.specs.declared.limits.TheConstants.{TICKS}
 use Rattle.pv_base.specs.declared.txn.TxnId.{TxnId}
-use Rattle.pv_law_acts.proofs.ListLemmas.{none-some}
 use Rattle.pv_law_acts.proofs.PassedLemmas.{opening-each}
 use Rattle.pv_law_refusals.proofs.Chains.{IsLink, AreLinks, each-front, whole-run}
 use Rattle.pv_law_refusals.proofs.EntrySteps.{ticks_in, EntryStep, goes_on, begins_stage, Needs, step-entry}
@@ -132,7 +132,7 @@ module _ (setup : Setup) (first : World) (earlier : List Transition) (transition
 module _ (setup : Setup) where
   ages-first : EntriesHaveAge setup (opening setup) []
   ages-first txn entry found =
-      absurd (opening-each setup (λ (s : Site). entry_in s.running txn ≡ Some entry → ⊥) none-some none-some (home_of txn) found)
+      absurd (opening-each setup (λ (s : Site). entry_in s.running txn ≡ Some entry → ⊥) (none-some entry) (none-some entry) (home_of txn) found)
 
   -- Before each transition of a run each entry is as old as its stage.
   pub ages-before : (transitions : List Transition) → AreLinks setup (opening setup) transitions → (place : Place transitions) → EntriesHaveAge setup (opening setup) place.earlier

@@ -1,6 +1,7 @@
 -- Each step is one of its cases.
 use Rattle.std.proofs.Common.{◌≡◌, ℕ, Bool, true, false, Some, None, Option, List, refl, sym, ◌∙◌}
 use Rattle.std.specs.Prelude.{◌≢◌, ◌||◌, ◌==◌, not, if◌then◌else◌}
+use Rattle.std.proofs.lemmas.Option.{none-some}
 use Rattle.pv_base.specs.declared.grant.GrantId.{GrantId}
 use Rattle.pv_base.specs.declared.limits.TheConstants.{NEVER_GIVEN}
 use Rattle.pv_base.specs.declared.txn.TxnId.{TxnId}
@@ -135,9 +136,6 @@ module _ (here : Here) (from : ℕ) (txn : TxnId) where
 some-false : Some false ≢ Some true
 some-false same = cc
 
-none-some : {A : Type 0} {x : A} → None ≢ Some x
-none-some same = cc
-
 module _ (here : Here) (from : ℕ) (txn : TxnId) (commits : Bool) where
   needless-case : of_outcomes.IsNews here from txn → is_needed here txn ≡ false
       → (reported : Bool) → commits ≡ reported → OutcomeCase here from txn commits (if reported then nothing here else remembering (without_grant here.running txn))
@@ -175,7 +173,7 @@ module _ (here : Here) (from : ℕ) (txn : TxnId) where
       let other : known here.records txn ≢ Some true = λ same. some-false (sym is ∙ same) in
       if_case (AskCase here from txn) _ (of_outcomes.still_works issued other) (of_outcomes.will_not_commit issued other)
   known-case issued None is =
-      let other : known here.records txn ≢ Some true = λ same. none-some (sym is ∙ same) in
+      let other : known here.records txn ≢ Some true = λ same. none-some _ (sym is ∙ same) in
       if_case (AskCase here from txn) _ (of_outcomes.still_works issued other) (of_outcomes.will_not_commit issued other)
 
   pub ask-case : AskCase here from txn (on_ask here from txn)

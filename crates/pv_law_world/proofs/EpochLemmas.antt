@@ -2,6 +2,7 @@
 use Rattle.std.proofs.Common.{arith, ◌≡◌, ℕ, ◌+◌, Some, None, Option, List, ◌++◌, refl, sym, ap, ◌∙◌, subst}
 use Rattle.std.specs.Prelude.{option_to_list}
 use Rattle.std.proofs.lemmas.List.{append-nil}
+use Rattle.std.proofs.lemmas.Option.{none-some}
 use Rattle.pv_base.proofs.Basics.{Some_inj}
 use Rattle.pv_format.specs.Contents.{greatest_epoch}
 use Rattle.pv_format.specs.Record.{Record, prepared, outcome_known}
@@ -19,9 +20,6 @@ use Rattle.pv_protocol.specs.Sound.{IsInOrder}
 use Rattle.pv_protocol.specs.Start.{Started, just_started, site_start}
 use Rattle.pv_protocol.specs.State.{Setup, Running}
 
-none-some : {A : Type 0} {x : A} → None ≡ Some x → ⊥
-none-some is = cc
-
 -- What a step appends begins no epoch.
 appended-epoch : (here : Here) (more : Option Record) → Appends here more → greatest_epoch (here.records ++ option_to_list more) ≡ greatest_epoch here.records
 appended-epoch here more nothing_at_all = ap greatest_epoch (append-nil here.records)
@@ -34,14 +32,14 @@ IsRecorded n records running = running.epoch ≡ greatest_epoch records
 
 started-recorded : (n : ℕ) (setup : Setup) (records : List Record) (started : Started) → StartCase setup records started
     → WhereUp IsRecorded n (records ++ option_to_list (of_start n started).appended) (of_start n started).running
-started-recorded n setup records started (no_epoch_left h) up is = absurd (none-some is)
-started-recorded n setup records started (no_room h i) up is = absurd (none-some is)
+started-recorded n setup records started (no_epoch_left h) up is = absurd (none-some _ is)
+started-recorded n setup records started (no_room h i) up is = absurd (none-some _ is)
 started-recorded n setup records started (begins h i) up is =
     ap (λ (running : Running). running.epoch) (sym (Some_inj is)) ∙ sym (epoch-rises records (greatest_epoch records + 1) (omega arith))
 
 pub epochs-kept : (setup : Setup) → IsKept setup (WhereUp IsRecorded)
 epochs-kept setup = record {
-  stops = λ n records running is up none. absurd (none-some none);
+  stops = λ n records running is up none. absurd (none-some _ none);
   steps = λ n records running input is up now.
       let here : Here = record { me = n; setup = setup; records = records; running = running } in
       ap (λ (after : Running). after.epoch) (sym (Some_inj now)) ∙ ((steady here input).rises.epoch ∙ (is running refl ∙ sym (appended-epoch here _ (steady here input).appends)));
@@ -58,13 +56,13 @@ fresh-ordered epoch = record { grants = none-ascend; entries = none-ascend }
 
 started-ordered : (n : ℕ) (records : List Record) (setup : Setup) (started : Started) → StartCase setup records started
     → WhereUp IsOrdered n (records ++ option_to_list (of_start n started).appended) (of_start n started).running
-started-ordered n records setup started (no_epoch_left h) up is = absurd (none-some is)
-started-ordered n records setup started (no_room h i) up is = absurd (none-some is)
+started-ordered n records setup started (no_epoch_left h) up is = absurd (none-some _ is)
+started-ordered n records setup started (no_room h i) up is = absurd (none-some _ is)
 started-ordered n records setup started (begins h i) up is = subst IsInOrder (Some_inj is) (fresh-ordered (greatest_epoch records + 1))
 
 pub order-kept : (setup : Setup) → IsKept setup (WhereUp IsOrdered)
 order-kept setup = record {
-  stops = λ n records running is up none. absurd (none-some none);
+  stops = λ n records running is up none. absurd (none-some _ none);
   steps = λ n records running input is up now.
       subst IsInOrder (Some_inj now)
       (stays-in-order (record { me = n; setup = setup; records = records; running = running }) (is running refl) input);

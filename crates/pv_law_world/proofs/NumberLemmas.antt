@@ -1,6 +1,7 @@
 -- The numbers that a site gives only rise, and a start begins a new epoch.
 use Rattle.std.proofs.Common.{arith, ◌≡◌, ℕ, zero, suc, ◌+◌, Some, None, Option, List, [], ◌∷◌, refl, sym, ap, ◌∙◌, subst}
 use Rattle.std.specs.Prelude.{get_or, set, slice_get, nat_lt, nat_le}
+use Rattle.std.proofs.lemmas.Option.{none-some}
 use Rattle.pv_base.proofs.Basics.{Some_inj}
 use Rattle.pv_base.specs.declared.limits.TheConstants.{NEVER_GIVEN}
 use Rattle.pv_format.specs.Checkpoint.{greatest_number}
@@ -28,9 +29,6 @@ pub record IsLater (old : Site) (running : Option Running) : Type 0 where
   pub up : (before after : Running) → old.running ≡ Some before → running ≡ Some after → Rises before after
   pub start : (after : Running) → old.running ≡ None → running ≡ Some after → after.epoch ≡ greatest_epoch old.records + 1
 
-none-some : {A : Type 0} {o : Option A} {x : A} → o ≡ None → o ≡ Some x → ⊥
-none-some absent is = cc
-
 no-some : {A : Type 0} {x : A} → None ≡ Some x → ⊥
 no-some is = cc
 
@@ -40,7 +38,7 @@ steady-rises running = record { epoch = refl; txns = omega arith; grants = omega
 same-later : (site : Site) → IsLater site site.running
 same-later site = record {
   up = λ before after was is. subst (Rises before) (Some_inj (sym was ∙ is)) (steady-rises before);
-  start = λ after was is. absurd (none-some was is);
+  start = λ after was is. absurd (none-some _ (sym was ∙ is));
 }
 
 down-later : (site : Site) → IsLater site None
@@ -70,7 +68,7 @@ module _ (setup : Setup) (world : World) where
     up = λ before after was now.
         subst (λ (r : Running). Rises r after) (Some_inj (sym is ∙ was))
         (subst (Rises running) (Some_inj now) (steady (record { me = n; setup = setup; records = records; running = running }) input).rises);
-    start = λ after was now. absurd (none-some was is);
+    start = λ after was now. absurd (none-some _ (sym was ∙ is));
   }
 
   given-rising : (before : World) → before.sites ≡ world.sites → (n : ℕ) (input : Input) (running : Option Running) → (site_at world n).running ≡ running
@@ -100,7 +98,7 @@ module _ (setup : Setup) (world : World) where
       (nat_lt setup.catalog.journal (journal_bytes (site_at world n).records + record_bytes (epoch_begun (greatest_epoch (site_at world n).records + 1))))
       (λ full. down-later (site_at world n))
       (λ room. record {
-        up = λ before after was now. absurd (none-some is was);
+        up = λ before after was now. absurd (none-some _ (sym is ∙ was));
         start = λ after was now. ap (λ (r : Running). r.epoch) (sym (Some_inj now));
       }))
 

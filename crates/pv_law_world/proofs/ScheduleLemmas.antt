@@ -1,8 +1,9 @@
 -- The events of a schedule's text are well formed.
-use Rattle.std.proofs.Common.{arith, ◌≡◌, inl, inr, ℕ, ◌<◌, ◌≤◌, true, false, Option, Some, None, List, [], ◌∷◌, length, length-append, le_trans, lt_of_lt_of_le, sym, subst}
+use Rattle.std.proofs.Common.{arith, ◌≡◌, inl, inr, ℕ, ◌<◌, ◌≤◌, true, false, Option, Some, None, List, [], ◌∷◌, length, length-append, le_trans, lt_of_lt_of_le, sym, subst, ◌∙◌}
 use Rattle.std.specs.Prelude.{get_or, All, IsTrue}
 use Rattle.pv_base.specs.Catalog.{Declared}
 use Rattle.std.proofs.lemmas.List.Elements.{All-nil, All-cons, All-get_or}
+use Rattle.std.proofs.lemmas.Option.{none-some}
 use Rattle.pv_law_programs.proofs.DeclaredItems.{declared-items}
 use Rattle.pv_law_world.proofs.NumeralLemmas.{small-numbers}
 use Rattle.pv_model.specs.LineCauses.{Before, or_default, declared_by, at_first}
@@ -18,13 +19,10 @@ record Lasts (before after : Before) : Type 0 where
   sites : (count : ℕ) → before.sites ≡ Some count → after.sites ≡ Some count
   items : length before.items ≤ length after.items
 
-none-some : {A : Type 0} {said : Option A} {x : A} → said ≡ None → said ≡ Some x → ⊥
-none-some unsaid said = cc
-
 declared-lasts : (before after : Before) (line : TextLine) → Declares before line after → Lasts before after
 declared-lasts before after line (inl declares) =
     subst (Lasts before) (sym declares.same)
-    (record { sites = λ count said. absurd (none-some declares.first said); items = omega arith })
+    (record { sites = λ count said. absurd (none-some _ (sym declares.first ∙ said)); items = omega arith })
 declared-lasts before after line (inr (inl declares)) = subst (Lasts before) (sym declares.same) (record { sites = λ count said. said; items = omega arith })
 declared-lasts before after line (inr (inr (inl declares))) =
     subst (Lasts before) (sym declares.same)

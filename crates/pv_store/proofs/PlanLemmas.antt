@@ -8,6 +8,7 @@ use Rattle.std.specs.Result.{IsErrAnd}
 use Rattle.std.proofs.lemmas.Result.{err_from_is_err_and}
 use Rattle.std.proofs.lemmas.List.Elements.{All-cons, All-head, All-tail, All-weaker, All-contains}
 use Rattle.std.proofs.lemmas.List.Kept.{AllPairs-cons}
+use Rattle.std.proofs.lemmas.Option.{none-some}
 use Rattle.pv_base.proofs.ContainsLemmas.{Contains-first, Contains-behind, Contains-nil, Contains-cases}
 use Rattle.pv_base.specs.Catalog.{Item, Declared}
 use Rattle.pv_base.specs.declared.limits.TheConstants.{HELD_NAMES}
@@ -40,9 +41,6 @@ use Rattle.pv_store.proofs.MentionLemmas.{any-has, home-listed-in}
 use Rattle.pv_store.proofs.SettlingLemmas.{has_item, held-home, replaced-each}
 use Rattle.pv_store.proofs.WriteLemmas.{held-is}
 use Rattle.pv_store.specs.Writes.{AreAfter, AreFirst, IsPromising, after_write, held_writes, is_held, items_of, with_held, with_write}
-
-none-some : {X : Type 0} (x : X) → None ≡ Some x → ⊥
-none-some x e = cc
 
 some-is : {X : Type 0} (x y : X) → Some x ≡ Some y → x ≡ y
 some-is x y e = cc

@@ -5,7 +5,7 @@ use Rattle.std.specs.List.{flat_map, list_any}
 use Rattle.std.proofs.lemmas.Bool.{false≢true, or_cases, or_left, or_right, eqb-true, eq-eqb}
 use Rattle.std.proofs.lemmas.List.{append-nil}
 use Rattle.std.proofs.lemmas.List.Elements.{All-cons, All-head, All-tail, All-weaker}
-use Rattle.std.proofs.lemmas.Option.{slice_get_within}
+use Rattle.std.proofs.lemmas.Option.{none-some, slice_get_within}
 use Rattle.pv_base.specs.Catalog.{Item, Declared}
 use Rattle.pv_base.specs.declared.limits.TheConstants.{HELD_NAMES}
 use Rattle.pv_base.specs.declared.txn.TxnId.{TxnId}
@@ -29,9 +29,6 @@ use Rattle.pv_store.specs.Writes.{is_held}
 use Rattle.pv_store.proofs.HeldLemmas.{shown-at}
 
 -- What has a value is the site's.
-
-none-some : (cases : List (Case ℤ)) → None ≡ Some cases → ⊥
-none-some cases e = cc
 
 here-by : (test : Bool) (cases old : List (Case ℤ)) → (if test then Some old else None) ≡ Some cases → (test ≡ true) × (cases ≡ old)
 here-by true cases old e = (refl, (let same : Some old ≡ Some cases = e in cc))

@@ -5,6 +5,7 @@ use Rattle.std.specs.List.{Contains, list_any}
 use Rattle.std.specs.Option.{option_or}
 use Rattle.std.proofs.lemmas.Bool.{le-ltb}
 use Rattle.std.proofs.lemmas.List.Elements.{All-head, All-tail}
+use Rattle.std.proofs.lemmas.Option.{none-some}
 use Rattle.pv_base.proofs.ContainsLemmas.{Contains-behind, Contains-first}
 use Rattle.pv_base.specs.Catalog.{Declared}
 use Rattle.pv_base.specs.declared.limits.TheConstants.{HELD_NAMES}
@@ -23,9 +24,6 @@ use Rattle.pv_store.specs.Kept.{IsStoreOf, Kept}
 use Rattle.pv_store.specs.Refusals.{AnswersFor, ReportsWide, count_of, first_too_many, if_too_many, site_items, too_many_with, width}
 use Rattle.pv_store.proofs.MentionLemmas.{has-any, home-listed-in}
 use Rattle.pv_store.proofs.PlanLemmas.{item-of, none-of-count, written-item}
-
-none-some : {X : Type 0} (x : X) → None ≡ Some x → ⊥
-none-some x e = cc
 
 -- The count is that of one of the items.
 count-found : (catalog : Declared) (records front : List Record) (items : List ℕ) (count : ℕ) → first_too_many catalog records front items ≡ Some count

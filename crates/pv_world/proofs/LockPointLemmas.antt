@@ -1,6 +1,7 @@
 -- Which step brings a transaction to its lock point, and what its site tells of it then.
 use Rattle.std.proofs.Common.{arith, ◌≡◌, ℕ, Bool, true, false, ◌&&◌, ◌||◌, Option, Some, None, List, [], ◌∷◌, refl, sym, ap, subst, ◌∙◌}
 use Rattle.std.specs.Prelude.{not, find, if◌then◌else◌}
+use Rattle.std.proofs.lemmas.Option.{none-some}
 use Rattle.pv_base.proofs.AssignmentLemmas.{same-refl}
 use Rattle.pv_base.proofs.Basics.{Some_inj}
 use Rattle.pv_base.specs.Assignment.{is_same_txn}
@@ -46,16 +47,13 @@ record IsAtPoint (here : Here) (step : Step) (placed : Placed) : Type 0 where
   grants : placed.grants ≡ grants_taken (taking entry from grant values)
   running : step.running ≡ with_entry here.running (record (taking entry from grant values) { stage = voting; age = 0 })
 
-none-some : {X : Type 0} {x : X} → None ≡ Some x → ⊥
-none-some is = cc
-
 module _ (here : Here) where
   -- What is said of a transaction that the step brings to its lock point.
   abbrev Points : Step → Type 0
   Points step = (placed : Placed) → step.placed ≡ Some placed → IsAtPoint here step placed
 
   nobody : (step : Step) → step.placed ≡ None → Points step
-  nobody step none placed is = absurd (none-some (sym none ∙ is))
+  nobody step none placed is = absurd (none-some _ (sym none ∙ is))
 
   submit-points : (program : Program) (step : Step) → of_locks.SubmitCase here program step → Points step
   submit-points program step (of_locks.no_number_left h) = nobody step refl
@@ -152,7 +150,7 @@ found-by p q ys x y passes behind false found = behind found
 
 -- What is found by one test, and passes another, is found by both.
 found-both : {X : Type 0} (p q : X → Bool) (xs : List X) (x : X) → find p xs ≡ Some x → q x ≡ true → find (λ y. p y && q y) xs ≡ Some x
-found-both p q [] x is passes = absurd (none-some is)
+found-both p q [] x is passes = absurd (none-some _ is)
 found-both p q (y ∷ ys) x is passes = found-by p q ys x y passes (λ found. found-both p q ys x found passes) (p y) is
 
 found-put : (running : Running) (entry : Entry) → not (is_locking entry.stage) ≡ true → voting_entry (with_entry running entry) entry.txn ≡ Some entry

@@ -4,6 +4,7 @@ use Rattle.std.specs.Prelude.{Result, Ok, Err, IsErrAnd, ◌==◌, ◌||◌, if�
 use Rattle.std.specs.List.{position}
 use Rattle.std.proofs.lemmas.Bool.Decides.{nat_tests}
 use Rattle.std.proofs.lemmas.List.{append-nil, length-map}
+use Rattle.std.proofs.lemmas.Option.{none-some}
 use Rattle.pv_format.specs.Message.{Envelope, Message, lock, granted, denied, prepare, vote_yes, vote_no, outcome_reported, ask}
 use Rattle.pv_format.specs.MessageSpelling.{SpellsEnvelope, kind_number}
 use Rattle.pv_base.specs.BigEndian.{IsNumber, big_endian}
@@ -87,9 +88,6 @@ none-pumped entry before most is stands = record {
   whole = refl;
 }
 
-none-some : {X : Type 0} {x : X} → None ≡ Some x → ⊥
-none-some is = cc
-
 lines-append : (front back : List Transition) → lines_of_transitions (front ++ back) ≡ lines_of_transitions front ++ lines_of_transitions back
 lines-append [] back = refl
 lines-append (transition ∷ front) back =
@@ -103,7 +101,7 @@ module _ (setup : Setup) (few : HasFewSites setup.catalog) (is : model.World) (m
 
   some-left : (fuel : ℕ) → enough is ≤ fuel → (count : ℕ) → fuel ≡ count → count ≡ 0 → ⊥
   some-left fuel most count same zero_is =
-      none-some (sym (none-left setup few 0 is marked (omega (arith, most, same, zero_is))) ∙ next)
+      none-some _ (sym (none-left setup few 0 is marked (omega (arith, most, same, zero_is))) ∙ next)
 
   one-more : (fuel : ℕ) → deliveries (suc fuel) setup is ≡ Next ∷ deliveries fuel setup Next.world
   one-more fuel =

@@ -1,5 +1,6 @@
 -- Each case of these steps says so.
 use Rattle.std.proofs.Common.{◌≡◌, ℕ, Bool, Some, None, List, refl, sym, ap}
+use Rattle.std.proofs.lemmas.Option.{none-some}
 use Rattle.pv_base.proofs.Basics.{Some_inj}
 use Rattle.pv_base.specs.declared.grant.GrantId.{GrantId}
 use Rattle.pv_base.specs.declared.txn.TxnId.{TxnId}
@@ -18,9 +19,6 @@ use Rattle.pv_protocol.specs.Here.{Here}
 use Rattle.pv_protocol.specs.State.{Entry, Placed, Step}
 use Rattle.pv_protocol.specs.Tick.{on_tick}
 
-none-some : {A : Type 0} {x : A} → None ≡ Some x → ⊥
-none-some is = cc
-
 module _ (here : Here) where
   submit-none : (program : Program) (step : Step) → of_locks.SubmitCase here program step → step.placed ≡ None
   submit-none program step (of_locks.no_number_left h) = refl
@@ -37,10 +35,10 @@ module _ (here : Here) where
   granted-last : (from : ℕ) (txn : TxnId) (grant : GrantId) (values : List Read) (step : Step) → of_grants.GrantedCase here from txn grant values step
       → (placed : Placed) → step.placed ≡ Some placed
       → (entry : Entry) × of_grants.IsLastGrant here from txn grant values entry × (placed.grants ≡ grants_taken (taking entry from grant values))
-  granted-last from txn grant values step (of_grants.no_entry h) placed is = absurd (none-some is)
-  granted-last from txn grant values step (of_grants.ignored entry h i) placed is = absurd (none-some is)
-  granted-last from txn grant values step (of_grants.waits entry h i) placed is = absurd (none-some is)
-  granted-last from txn grant values step (of_grants.too_wide entry h i) placed is = absurd (none-some is)
+  granted-last from txn grant values step (of_grants.no_entry h) placed is = absurd (none-some _ is)
+  granted-last from txn grant values step (of_grants.ignored entry h i) placed is = absurd (none-some _ is)
+  granted-last from txn grant values step (of_grants.waits entry h i) placed is = absurd (none-some _ is)
+  granted-last from txn grant values step (of_grants.too_wide entry h i) placed is = absurd (none-some _ is)
   granted-last from txn grant values step (of_grants.reaches_lock_point entry last few) placed is =
       (entry, last, ap (λ (p : Placed). p.grants) (sym (Some_inj is)))
 

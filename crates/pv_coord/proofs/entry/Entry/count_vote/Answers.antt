@@ -3,7 +3,7 @@ use Rattle.std.specs.Prelude.{not}
 use Rattle.std.specs.List.{filter}
 use Rattle.std.proofs.lemmas.List.{map-append}
 use Rattle.pv_base.specs.declared.txn.SiteId.{SiteId}
-use Rattle.pv_coord.proofs.Changed.{not-true}
+use Rattle.std.proofs.lemmas.Bool.{not-true}
 use Rattle.pv_coord.proofs.RoomLemmas.{fewer-votes}
 use Rattle.pv_coord.specs.EntryView.{work_in}
 use Rattle.pv_coord.specs.Work.{Work, sites_of, silent, with_vote, is_vote_ignored}

@@ -1,6 +1,6 @@
 use Rattle.std.proofs.Common.{refl, List, sym, ap, ◌∙◌}
 use Rattle.pv_coord.proofs.Arrivals.{ignored-at, waits-at, last-at, if-error}
-use Rattle.pv_coord.proofs.Changed.{not-true, not-false}
+use Rattle.std.proofs.lemmas.Bool.{not-true, not-false}
 use Rattle.pv_coord.specs.Answers.{waits, last}
 use Rattle.pv_coord.specs.Coordinator.{Grants}
 use Rattle.pv_coord.specs.Work.{Work, is_grant_ignored, with_grant}

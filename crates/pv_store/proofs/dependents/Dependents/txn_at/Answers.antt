@@ -3,14 +3,12 @@ use Rattle.std.proofs.Common.{◌≡◌, ◌∙◌, zero, suc, ℕ, Some, None, 
 use Rattle.std.specs.Prelude.{slice_get}
 use Rattle.std.specs.Option.{option_map}
 use Rattle.std.specs.Global.{Vec}
+use Rattle.std.proofs.lemmas.Option.{none-some}
 use Rattle.pv_base.specs.declared.catalog.ItemId.{ItemId}
 use Rattle.pv_base.specs.declared.txn.TxnId.{TxnId}
 use Rattle.pv_store.specs.Kept.{Places, txns_of}
 use Rattle.pv_store.specs.PlacesView.{places_of}
 use Rattle.pv_store.proofs.dependents.Dependents.txn_at.Goals as goal
-
-none-some : {X : Type 0} (x : X) → None ≡ Some x → ⊥
-none-some x e = cc
 
 at-place : (entries : List (TxnId × Vec ItemId)) (place : ℕ) (entry : TxnId × Vec ItemId) → slice_get entries place ≡ Some entry
     → slice_get (txns_of (places_of entries)) place ≡ Some entry.0
