@@ -33,7 +33,8 @@ pub(crate) fn values_after(
     promised_values(alloc, outcomes, values, txn, &found)
 }
 
-// Of these writes the first of each item that has a value here, ascending by item. Takes time in proportion to the writes, where they ascend.
+// Of these writes the first of each item that has a value here, ascending by item. Takes time in proportion to the writes times those that are kept: each is
+// looked for from the front.
 fn held_writes<'a>(
     alloc: Global,
     values: &[Option<Poly<i64>>],
