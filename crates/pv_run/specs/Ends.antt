@@ -1,6 +1,7 @@
 -- How the commands end that run a schedule or make one: what was read, what was written, what the bay keeps, and when each status comes.
 use Rattle.std.specs.Bool.{⊤}
-use Rattle.std.specs.Prelude.{◌≡◌, ◌≢◌, ℕ, ◌≤◌, List, [], Some, Result, Ok, Err, OnErr, length}
+use Rattle.std.specs.Prelude.{◌≡◌, ◌≢◌, ℕ, ◌≤◌, true, false, List, [], Some, is_some, Result, Ok, Err, OnErr, length}
+use Rattle.std.specs.Io.KnownBytes.{Appends}
 use Rattle.pv_base.specs.Fault.{Rose}
 use Rattle.pv_base.specs.declared.limits.TheConstants.{MAX_INPUT}
 use Rattle.pv_disk.specs.BayModel.{BayModel}
@@ -48,12 +49,21 @@ module _ {W B : Type 0} (sink : sinks.Ghosts W) (M : BayModel B) (form : Form) (
     -- Where it is done the bay keeps a disk for each site of the run's last world, which holds the site's log there.
     pub kept : status ≡ Done → (schedule : Schedule) → IsSchedule input schedule → KeepsSites M old new (last_world schedule).sites
 
+-- The input is what the source gave: all that it had left, where it tells that, and all that the reads have given since. One of the two is told.
+module _ {R : Type 0} (source : sources.Ghosts R) (unread left : R) (input : List ℕ) where
+  pub record WasRead : Type 0 where
+    pub whole : (text : List ℕ) → source.left unread ≡ Some text → input ≡ text
+    pub given : Appends (source.given unread) (source.given left) input
+    pub told : is_some (source.left unread) ≡ false → (is_some (source.given unread) ≡ true) × (is_some (source.given left) ≡ true)
+
 -- How `run` and `json` end: as the text does that was read, or with why none was.
 module _ {R W B : Type 0} (source : sources.Ghosts R) (sink : sinks.Ghosts W) (M : BayModel B) (form : Form) (unread left : R) (before after : W) (old new : B)
     (ended : Result TextEnd ReadEnd) where
   pub record EndsRun : Type 0 where
     -- Where the source tells its bytes, what is answered to them, with the headline.
     pub answers : (input : List ℕ) → source.left unread ≡ Some input → AnswersRun sink M form before after old new (run_status ended) input
+    -- Where the input was read, all that was read of it is answered so, whether or not the source tells its bytes. Where the run is done the bay was given its disks to keep.
+    pub given : (end : TextEnd) → ended ≡ Ok end → (input : List ℕ) × WasRead source unread left input × AnswersRun sink M form before after old new (run_status ended) input
     -- Where it is done, the whole input was read.
     pub read : ended ≡ Ok text.Done → (input : List ℕ) → source.left unread ≡ Some input → source.left left ≡ Some []
     -- It gives up for the input only where a fault of it was counted, before more than the limit had come, and then nothing was written.
@@ -63,9 +73,9 @@ module _ {R W B : Type 0} (source : sources.Ghosts R) (sink : sinks.Ghosts W) (M
     pub write_fault : ended ≡ Ok text.WriteFault → HasFailed sink before after × ((input : List ℕ) → source.left unread ≡ Some input → length input ≤ MAX_INPUT)
     -- Of an input that is too long nothing was written.
     pub too_long : ended ≡ Err why.TooLong → WritesNothing sink before after
-    -- Where it is done the bay was given the disks of a run to keep.
-    pub kept : ended ≡ Ok text.Done → (schedule : Schedule) × KeepsSites M old new (last_world schedule).sites
-    -- However else it ends, the bay is as it was.
+    -- The source's count of faults stays, unless it gives up for the input.
+    pub unfailed : (ended ≡ Err why.Failed → ⊥) → source.faults left ≡ source.faults unread
+    -- Unless it is done, the bay is as it was.
     pub alone : ended ≢ Ok text.Done → new ≡ old
 
 -- How `make` ends: with the whole schedule of this number written, or with why it wasn't.

@@ -6,6 +6,8 @@ use Rattle.pv_app.specs.Ends.{Ends}
 use Rattle.pv_app.specs.declared.command.Command.{Command}
 use Rattle.pv_app.specs.declared.command.Command.TheVariants.{Run, Make, Big, Show}
 use Rattle.pv_run.specs.KeptDisks.{last_world}
+use Rattle.pv_run.specs.Statuses.{run_status}
+use Rattle.pv_run.specs.declared.text_end.TextEnd.TheVariants as text
 use Rattle.pv_app.proofs.BayLemmas.{rest-after}
 use Rattle.pv_app.proofs.CommandLemmas.{one-command}
 use Rattle.pv_app.proofs.app.polydb.Goals as goal
@@ -29,7 +31,11 @@ returns-in-Some-Run-clause-command g c = λ command is.
 pub returns-in-Some-Run-clause-handed_back : goal.returns-in-Some-Run-clause-handed_back
 returns-in-Some-Run-clause-handed_back g c = λ rest.
     rest-after g.B.Bay.model c.args.bay.now c.read_and_run.new.bay c.read_and_run.result rest
-    (λ done. let kept = c.read_and_run.ensures.kept done in ((last_world kept.0).sites, kept.1)) c.read_and_run.ensures.alone
+    (λ done.
+    let read = c.read_and_run.ensures.given text.Done done in
+    let answered = read.2.done (ap run_status done) in
+    ((last_world answered.0).sites, read.2.kept (ap run_status done) answered.0 answered.1))
+    c.read_and_run.ensures.alone
 
 pub returns-in-Some-Make-clause-command : goal.returns-in-Some-Make-clause-command
 returns-in-Some-Make-clause-command g c = λ command is.

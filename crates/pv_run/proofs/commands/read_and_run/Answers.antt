@@ -14,6 +14,16 @@ returns-in-Ok g c =
           let whole = c.in-Ok.ensures.whole input left in
           subst (λ (text : List ℕ). AnswersRun g.W.Sink g.B.Bay.model c.args.form c.args.sink.now c.run_text.new.sink c.args.bay.now c.run_text.new.bay (text_status ended) text)
           (c.deref.ensures.value ∙ whole.0) c.run_text.ensures.answers;
+      given = λ end is. (
+        c.in-Ok.input.items,
+        record {
+          whole = λ text left. (c.in-Ok.ensures.whole text left).0;
+          given = c.in-Ok.ensures.given;
+          told = c.in-Ok.ensures.kept (λ no_memory. let wrong : ⊥ = cc in wrong);
+        },
+        subst (λ (text : List ℕ). AnswersRun g.W.Sink g.B.Bay.model c.args.form c.args.sink.now c.run_text.new.sink c.args.bay.now c.run_text.new.bay (text_status ended) text)
+            c.deref.ensures.value c.run_text.ensures.answers,
+      );
       read = λ done input left. (c.in-Ok.ensures.whole input left).1;
       read_fault = λ is. absurd (let wrong : ⊥ = cc in wrong);
       write_fault = λ is. (
@@ -23,9 +33,7 @@ returns-in-Ok g c =
             omega (arith, ap length (c.deref.ensures.value ∙ whole.0), c.deref.ensures.len, c.in-Ok.ensures.within),
       );
       too_long = λ is. absurd (let wrong : ⊥ = cc in wrong);
-      kept = λ done.
-          let at_done = c.run_text.ensures.answers.done (ap text_status (IfOk-at_ok (λ e. ended ≡ e) done refl)) in
-          (at_done.0, c.run_text.ensures.answers.kept (ap text_status (IfOk-at_ok (λ e. ended ≡ e) done refl)) at_done.0 at_done.1);
+      unfailed = λ other. c.in-Ok.ensures.uncounted (λ failed. let wrong : ⊥ = cc in wrong);
       alone = λ other. c.run_text.ensures.alone (λ done. other (ap Ok done));
     }
 
@@ -37,12 +45,13 @@ returns-in-Err g c =
       answers = λ input left.
           unread g.W.Sink g.B.Bay.model c.args.form c.args.sink.now c.args.bay.now input (c.promises_are_kept.ensures input) end
           (λ is. c.in-Err.ensures.too_long (ap Err is) input left);
+      given = λ other is. absurd (let wrong : ⊥ = cc in wrong);
       read = λ done. absurd (let wrong : ⊥ = cc in wrong);
       read_fault = λ is.
           let failed = IfErr-at_err (λ e. end ≡ e) is refl in
           (c.in-Err.ensures.fault (ap Err failed), c.in-Err.ensures.failed_within (ap Err failed), search rules);
       write_fault = λ is. absurd (let wrong : ⊥ = cc in wrong);
       too_long = λ is. search rules;
-      kept = λ done. absurd (let wrong : ⊥ = cc in wrong);
+      unfailed = λ other. c.in-Err.ensures.uncounted (λ failed. other (ap Err (IfErr-at_err (λ e. end ≡ e) failed refl)));
       alone = λ other. refl;
     }
