@@ -124,7 +124,7 @@ extern "C" {
 #define POLYDB_NOT_HERE 30u
 /* There is no such site as the message comes from. */
 #define POLYDB_NO_SENDER 31u
-/* That isn't what the site has asked to be written: it is written already, its bytes weren't given since the site was opened, or it was never asked for. */
+/* That isn't what the host was given to write: it is written already, its bytes weren't given since the site was opened, or they never were. */
 #define POLYDB_NOT_NEXT 32u
 /* No item has this name. */
 #define POLYDB_UNKNOWN_NAME 33u
@@ -196,7 +196,8 @@ void polydb_world_close(polydb_world *world);
 /* ---- a site: one site of several, for a host that carries its messages and writes its journal ---- */
 
 /*
- * A host does this, in any order and as often as it likes, but for the two calls of the inner loop, which belong together:
+ * A host does this, in any order and as often as it likes, but for the two calls of the inner loop, which belong together. With a room of 64 KiB, say, it
+ * writes all records that have come meanwhile together, with two writes and two syncs for all of them:
  *
  *     open the site on what its file holds
  *     for ever:
@@ -214,19 +215,20 @@ void polydb_world_close(polydb_world *world);
  * What the host owes besides (`host/polydb_host.h` does what is on files of it, for a site on a folder, and `node/polydb_node.h` carries messages and ticks too):
  *   - the file, and for a new one its entry in the folder, is synced before its bytes are read for polydb_site_open: the site counts as written all that it
  *     finds, and of a process that was killed the file may show bytes that aren't on the disk yet;
+ *   - the file of a site that is opened the first time is POLYDB_EMPTY_JOURNAL; and later the one that its last process left;
  *   - the file holds what was written and synced before polydb_site_journal_synced was called, until the site is opened again. A crash in
  *     a write leaves any bytes where that write puts its bytes, and all other bytes alone;
  *   - where a write or a sync fails, polydb_site_journal_synced isn't called. The host writes the same bytes again (polydb_site_take_journal gives them
  *     again), and syncs. A later sync that answers 0 without a new write proves nothing: the system may have given up the bytes, and shows them still. That is so
  *     after a restart, too: a host that can't rule it out opens the site on a copy, all of which it has written and synced, with its entry in the folder;
- *   - one open site at a time has the file;
+ *   - one open site at a time has the file, and nothing that an earlier process has written lands in it once it is opened again: not from a queue, either;
  *   - bytes that polydb_site_receive is given may be any bytes; but where they spell a message, a site of the same configuration let it out;
  *   - all sites are opened with the same configuration, always, but that all of them together may get a higher limit of journals (polydb_site_open); and each
  *     number is one site's. The file holds neither the configuration nor `me`: that it is opened as another site, or under another configuration, isn't noticed.
  *
  * What is proved of it: each call makes of the site what the program's site makes of the same input; nothing is let out before all records are in the file
  * that the site had when it made it, and nothing is shown while one isn't; and at each moment, and whatever a crash in a write leaves, the file is a journal
- * of the first records of the site, as many as the host has said to be written, or one more. `polydb show` shows the file where it is called site-S.pv,
+ * of the first records of the site: of as many as the host has said to be written, or of these and all of the group that it was given to write. `polydb show` shows the file where it is called site-S.pv,
  * for site S.
  */
 
@@ -305,13 +307,14 @@ uint32_t polydb_site_receive(polydb_site *site, const uint8_t *message, size_t l
 uint32_t polydb_site_tick(polydb_site *site);
 
 /*
- * What the host is to write next into its file: `*written` bytes at `*place` (from 0), which may lie within the file. The site only
- * notes that it gave them: the same bytes come until polydb_site_journal_synced.
+ * What the host is to write next into its file: `*written` bytes at `*place` (from 0), which may lie within the file. They are a group of the records that wait, as
+ * many as have room and one at least; and once polydb_site_journal_synced is called for them, one byte more, which makes all of them count. The group stays
+ * as it is, and the same bytes come, until then: a record that comes meanwhile waits for the next group.
  *
  *   POLYDB_DONE        the bytes are in `out`
  *   POLYDB_CLOSED      the handle is closed
  *   POLYDB_NOTHING     all is written
- *   POLYDB_TOO_SMALL   there are `*written` bytes, and less room
+ *   POLYDB_TOO_SMALL   there is less room than `*written` bytes, which the first record that waits has, or the group; the group is what it was
  */
 uint32_t polydb_site_take_journal(polydb_site *site, uint8_t *out, size_t room, size_t *written, uint64_t *place);
 

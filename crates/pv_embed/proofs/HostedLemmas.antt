@@ -15,32 +15,19 @@ use Rattle.pv_site.specs.Steps as step
 use Rattle.pv_site.specs.Steps.{HoldsWhatRuns, IsReady, Steps}
 use Rattle.pv_site.specs.Values.{note_of, outgoing_of}
 use Rattle.pv_site.specs.declared.input.Step.{Step}
+use Rattle.pv_host.proofs.HostLemmas.{asks_keep, called_stores}
 use Rattle.pv_host.specs.HostLaws.{host_model}
-use Rattle.pv_host.specs.HostLog.{HostGoes, HostState, IsSameBesideRoom, contents_of, with_content, with_written, written_to}
+use Rattle.pv_host.specs.HostLog.{HostGoes, HostState, IsSameBesideRoom, asked_after, contents_of, with_asked, with_written, written_to}
 use Rattle.pv_embed.specs.Held.{Held, Out}
 use Rattle.pv_embed.specs.Hosted.{HasStepped}
 use Rattle.pv_embed.specs.Outputs.{held_of, outputs_of, outs}
 use Rattle.pv_embed.specs.declared.made.Made.{Made}
 
--- What follows from both of what a call makes of a log that is down and of one that isn't.
-either_way : (A B C : Type 0) (down : Bool) → (A → C) → (B → C) → MatchBool down A B → C
-either_way A B C true where_down where_up is = where_down is
-either_way A B C false where_down where_up is = where_up is
-
 -- No call of the log changes what the host has told to be stored.
-stored_called : (old new : HostState) (call : LogCall) (ok : Bool) → HostGoes old call ok new → new.stored ≡ old.stored
-stored_called old new read_all ok goes =
-    either_way ((ok ≡ false) × (new ≡ old)) ((ok ≡ not old.is_read) × (new ≡ record old { is_read = true; is_down = old.is_read })) (new.stored ≡ old.stored) old.is_down
-    (λ down. ap (λ (log : HostState). log.stored) down.1) (λ up. ap (λ (log : HostState). log.stored) up.1) goes
-stored_called old new (reserve content) ok goes = ap (λ (log : HostState). log.stored) goes
-stored_called old new (append content) ok goes =
-    either_way ((ok ≡ false) × (new ≡ old)) ((length content < 2 ^ 32) × (ok ≡ true) × IsSameBesideRoom (with_content old content) new) (new.stored ≡ old.stored) old.is_down
-    (λ down. ap (λ (log : HostState). log.stored) down.1) (λ up. ap (λ (log : HostState). log.stored) up.2) goes
-
 pub stored_after : (calls : List LogCall) (old new : HostState) (ok : Bool) → Makes HostGoes old calls ok new → new.stored ≡ old.stored
 stored_after [] old new ok makes = ap (λ (log : HostState). log.stored) makes.1
-stored_after (call ∷ calls) old new ok (inl fails) = stored_called old new call false fails.1
-stored_after (call ∷ calls) old new ok (inr goes) = stored_after calls goes.0 new ok goes.2 ∙ stored_called old goes.0 call true goes.1
+stored_after (call ∷ calls) old new ok (inl fails) = called_stores old new call false fails.1
+stored_after (call ∷ calls) old new ok (inr goes) = stored_after calls goes.0 new ok goes.2 ∙ called_stores old goes.0 call true goes.1
 
 -- Nor does a step, and the log becomes no shorter by it.
 pub stored_logged : (appended : Option Record) (old new : HostState) → Logs host_model old new appended → new.stored ≡ old.stored
@@ -104,20 +91,37 @@ held_stepped me before queue after made size out same grown long all =
     ∙ ap (λ (l : List Out). flat_map (held_of me) before ++ map (λ one. record { length = size; out = one }) l) all
 
 -- What the log holds is the same once the host has written, and so are its limit and whether it is down.
-written_contents : (log : HostState) (pending : Contents) (behind_gate : Bool) → log.pending ≡ pending → contents_of (written_to log pending behind_gate) ≡ contents_of log
+written_contents : (log : HostState) (asked : Contents) (behind_gate : Bool) → log.asked ≡ asked → contents_of (written_to log asked behind_gate) ≡ contents_of log
 written_contents log [] behind_gate is = refl
-written_contents log (content ∷ later) false is = refl
-written_contents log (content ∷ later) true is = append_assoc log.stored (content ∷ []) later ∙ ap (λ (l : Contents). log.stored ++ l) (sym is)
+written_contents log (first ∷ later) false is = refl
+written_contents log (first ∷ later) true is =
+    append_assoc log.stored (first ∷ later) log.pending ∙ ap (λ (l : Contents). log.stored ++ (l ++ log.pending)) (sym is)
 
-written_limit : (log : HostState) (pending : Contents) (behind_gate : Bool) → (written_to log pending behind_gate).limit ≡ log.limit
+written_limit : (log : HostState) (asked : Contents) (behind_gate : Bool) → (written_to log asked behind_gate).limit ≡ log.limit
 written_limit log [] behind_gate = refl
-written_limit log (content ∷ later) false = refl
-written_limit log (content ∷ later) true = refl
+written_limit log (first ∷ later) false = refl
+written_limit log (first ∷ later) true = refl
 
-written_down : (log : HostState) (pending : Contents) (behind_gate : Bool) → (written_to log pending behind_gate).is_down ≡ log.is_down
+written_down : (log : HostState) (asked : Contents) (behind_gate : Bool) → (written_to log asked behind_gate).is_down ≡ log.is_down
 written_down log [] behind_gate = refl
-written_down log (content ∷ later) false = refl
-written_down log (content ∷ later) true = refl
+written_down log (first ∷ later) false = refl
+written_down log (first ∷ later) true = refl
+
+-- The same where it is asked to write, and then what is stored is the same too.
+record SameContents (old new : HostState) : Type 0 where
+  contents : contents_of new ≡ contents_of old
+  stored : new.stored ≡ old.stored
+  limit : new.limit ≡ old.limit
+  down : new.is_down ≡ old.is_down
+
+asked_contents : (room : ℕ) (log : HostState) (asked : Contents) → log.asked ≡ asked → SameContents log (asked_after room log asked)
+asked_contents room log (first ∷ later) is = record { contents = refl; stored = refl; limit = refl; down = refl }
+asked_contents room log [] is = record {
+  contents = ap (λ (l : Contents). contents_of (asked_after room log l)) (sym is) ∙ asks_keep room log;
+  stored = refl;
+  limit = refl;
+  down = refl;
+}
 
 holds_still : (old new : HostState) (records : List Record) (running : Option Running) → contents_of new ≡ contents_of old → new.is_down ≡ old.is_down
     → HoldsWhatRuns host_model old records running → HoldsWhatRuns host_model new records running
@@ -130,14 +134,34 @@ holds_still old new records (Some running) same down holds = record {
 
 module _ (site : SiteState HostState) (log : HostState) (same : IsSameBesideRoom (with_written site.log) log) where
   pub contents_written : contents_of log ≡ contents_of site.log
-  contents_written = ap contents_of same ∙ written_contents site.log site.log.pending site.log.behind_gate refl
+  contents_written = ap contents_of same ∙ written_contents site.log site.log.asked site.log.behind_gate refl
 
   pub ready_written : IsReady host_model site → IsReady host_model (record site { log = log })
   ready_written ready =
-      let down = ap (λ (l : HostState). l.is_down) same ∙ written_down site.log site.log.pending site.log.behind_gate in
-      let limit = ap (λ (l : HostState). l.limit) same ∙ written_limit site.log site.log.pending site.log.behind_gate in
+      let down = ap (λ (l : HostState). l.is_down) same ∙ written_down site.log site.log.asked site.log.behind_gate in
+      let limit = ap (λ (l : HostState). l.limit) same ∙ written_limit site.log site.log.asked site.log.behind_gate in
       record {
         intact = subst (λ (l : Contents). size_of l ≤ MAX_LENGTH) (sym contents_written) ready.intact;
         limit = limit ∙ ready.limit;
         holds = holds_still site.log log site.records site.running contents_written down ready.holds;
       }
+
+module _ (site : SiteState HostState) (room : ℕ) (log : HostState) (same : log ≡ with_asked room site.log) where
+  is_same : SameContents site.log log
+  is_same = subst (SameContents site.log) (sym same) (asked_contents room site.log site.log.asked refl)
+
+  pub contents_asked : contents_of log ≡ contents_of site.log
+  unfolding is_same
+  contents_asked = is_same.contents
+
+  pub stored_asked : log.stored ≡ site.log.stored
+  unfolding is_same
+  stored_asked = is_same.stored
+
+  pub ready_asked : IsReady host_model site → IsReady host_model (record site { log = log })
+  unfolding is_same
+  ready_asked ready = record {
+    intact = subst (λ (l : Contents). size_of l ≤ MAX_LENGTH) (sym is_same.contents) ready.intact;
+    limit = is_same.limit ∙ ready.limit;
+    holds = holds_still site.log log site.records site.running is_same.contents is_same.down ready.holds;
+  }

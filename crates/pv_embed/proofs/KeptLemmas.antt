@@ -62,7 +62,7 @@ still_same log new (content ∷ later) false none same = cc
 still_same log new (content ∷ later) true none same = cc
 
 pub nothing_written : (log new : HostState) → next_write log ≡ None → IsSameBesideRoom (with_written log) new → IsSameBesideRoom log new
-nothing_written log new none same = still_same log new log.pending log.behind_gate none same
+nothing_written log new none same = still_same log new log.asked log.behind_gate none same
 
 -- Of two lists that begin the same records, one whose journal is no longer than the other's begins the other.
 begins : (front records later others : List Record) → front ++ later ≡ records ++ others → sum_by record_bytes front ≤ sum_by record_bytes records

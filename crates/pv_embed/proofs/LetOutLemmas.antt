@@ -16,19 +16,19 @@ use Rattle.pv_site.specs.SiteState.{SiteState, here_with}
 use Rattle.pv_site.specs.Steps.{IsReady}
 use Rattle.pv_host.specs.HostLaws.{host_model}
 use Rattle.pv_host.specs.HostLog.{HostState, written_to}
-use Rattle.pv_embed.proofs.HostedLemmas.{stored_logged}
+use Rattle.pv_embed.proofs.HostedLemmas.{stored_asked, stored_logged}
 use Rattle.pv_embed.proofs.KeptLemmas.{out_stored, records_whole, step_rests}
 use Rattle.pv_embed.specs.Held.{Held}
 use Rattle.pv_embed.specs.Hosted.{HostedState, stored_length}
 use Rattle.pv_embed.specs.Kept.{HoldsStoredRecords}
-use Rattle.pv_embed.specs.LetOut.{Goes, GoesOn, WasLetOut, steps, stays, writes, takes, none, one_more}
+use Rattle.pv_embed.specs.LetOut.{Goes, GoesOn, WasLetOut, asks, steps, stays, writes, takes, none, one_more}
 use Rattle.pv_embed.specs.declared.made.Output.{Output}
 
 -- Once the host has told of a write, as much of the log is in the file, or more.
-more_written : (log : HostState) (pending : Contents) (behind_gate : Bool) → size_of log.stored ≤ size_of (written_to log pending behind_gate).stored
+more_written : (log : HostState) (asked : Contents) (behind_gate : Bool) → size_of log.stored ≤ size_of (written_to log asked behind_gate).stored
 more_written log [] behind_gate = omega arith
-more_written log (content ∷ later) false = omega arith
-more_written log (content ∷ later) true = omega (arith, sum_by-append (λ (c : List ℕ). 5 + length c) log.stored (content ∷ []))
+more_written log (first ∷ later) false = omega arith
+more_written log (first ∷ later) true = omega (arith, sum_by-append (λ (c : List ℕ). 5 + length c) log.stored (first ∷ later))
 
 still_stored_by : (old new : HostState) → new.stored ≡ old.stored → size_of old.stored ≤ size_of new.stored
 still_stored_by old new same = let size : size_of new.stored ≡ size_of old.stored = ap size_of same in omega (arith, size)
@@ -36,9 +36,10 @@ still_stored_by old new same = let size : size_of new.stored ≡ size_of old.sto
 stored_once : (old new : HostedState) → Goes old new → stored_length old ≤ stored_length new
 stored_once old new (steps input stepped) = still_stored_by old.site.log new.site.log (stored_logged _ old.site.log new.site.log stepped.steps.log)
 stored_once old new (stays same) = still_stored_by old.site.log new.site.log (ap (λ (log : HostState). log.stored) same.0)
+stored_once old new (asks room asked) = still_stored_by old.site.log new.site.log (stored_asked old.site room new.site.log asked.log)
 stored_once old new (writes told) =
-    let size : stored_length new ≡ size_of (written_to old.site.log old.site.log.pending old.site.log.behind_gate).stored = ap (λ (log : HostState). size_of log.stored) told.log in
-    omega (arith, size, more_written old.site.log old.site.log.pending old.site.log.behind_gate)
+    let size : stored_length new ≡ size_of (written_to old.site.log old.site.log.asked old.site.log.behind_gate).stored = ap (λ (log : HostState). size_of log.stored) told.log in
+    omega (arith, size, more_written old.site.log old.site.log.asked old.site.log.behind_gate)
 stored_once old new (takes result taken) = still_stored_by old.site.log new.site.log (ap (λ (hosted : HostedState). hosted.site.log.stored) taken.1)
 
 same_records : (old new : HostedState) → new.site.records ≡ old.site.records → (later : List Record) × (new.site.records ≡ old.site.records ++ later)
@@ -48,6 +49,7 @@ records_once : (old new : HostedState) → Goes old new → (later : List Record
 records_once old new (steps input stepped) =
     (option_to_list (step_on (here_with old.site stepped.running) input).appended, ap (λ (site : SiteState HostState). site.records) stepped.steps.site)
 records_once old new (stays same) = same_records old new (ap (λ (hosted : HostedState). hosted.site.records) same.1)
+records_once old new (asks room asked) = same_records old new (ap (λ (hosted : HostedState). hosted.site.records) asked.same)
 records_once old new (writes told) = same_records old new (ap (λ (hosted : HostedState). hosted.site.records) told.same)
 records_once old new (takes result taken) = same_records old new (ap (λ (hosted : HostedState). hosted.site.records) taken.1)
 

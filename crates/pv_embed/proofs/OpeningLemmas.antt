@@ -20,7 +20,7 @@ use Rattle.pv_embed.specs.declared.fault.OpenFault.TheVariants as fault
 -- All that a log holds that has just been opened on a file stands in the file.
 pub journal_opened : (file : List ℕ) (limit : ℕ) (log : HostState) → IsOpenedOn file limit log → IsJournal (contents_of log) file
 journal_opened file limit log opened =
-    subst (λ (contents : Contents). IsJournal contents file) (sym (ap (λ (l : Contents). log.stored ++ l) opened.pending ∙ append-nil log.stored)) opened.journal
+    subst (λ (contents : Contents). IsJournal contents file) (sym (ap (λ (l : Contents). log.stored ++ (l ++ log.pending)) opened.asked ∙ ap (λ (l : Contents). log.stored ++ l) opened.pending ∙ append-nil log.stored)) opened.journal
 
 -- What is refused for the contents of the file is refused.
 pub refused_on : (config : List ℕ) (me : ℕ) (file : List ℕ) (schedule : model.Schedule) (contents : Contents) (reason : OpenFault) → Configures config schedule

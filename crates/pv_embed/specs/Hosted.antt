@@ -8,7 +8,7 @@ use Rattle.pv_site.specs.SiteState.{SiteState, here_with}
 use Rattle.pv_site.specs.Steps.{Steps}
 use Rattle.pv_site.specs.declared.input.Step.{Step}
 use Rattle.pv_host.specs.HostLaws.{host_model}
-use Rattle.pv_host.specs.HostLog.{HostState, IsSameBesideRoom, contents_of, with_written}
+use Rattle.pv_host.specs.HostLog.{HostState, IsSameBesideRoom, contents_of, with_asked, with_written}
 use Rattle.pv_embed.specs.Held.{Held}
 use Rattle.pv_embed.specs.Outputs.{TakesFrom, outs}
 use Rattle.pv_embed.specs.declared.made.Output.{Output}
@@ -46,6 +46,11 @@ pub record HasStepped (old new : HostedState) (input : model.Input) : Type 0 whe
 abbrev pub Gives : {X E : Type 0} → HostedState → HostedState → model.Input → Result X E → Type 0
 Gives old new input (Ok _) = HasStepped old new input
 Gives old new input (Err _) = Stays old new
+
+-- The host is asked to write a group of what waits, as far as it has so much room.
+pub record Asks (room : ℕ) (old new : HostedState) : Type 0 where
+  pub log : new.site.log ≡ with_asked room old.site.log
+  pub same : new ≡ record old { site = record old.site { log = new.site.log } }
 
 -- The host has told that it has written what came next.
 pub record Writes (old new : HostedState) : Type 0 where

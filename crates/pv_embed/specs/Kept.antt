@@ -9,7 +9,7 @@ use Rattle.pv_host.specs.HostFile.{IsStored}
 use Rattle.pv_embed.specs.Held.{Held}
 use Rattle.pv_embed.specs.Hosted.{HostedState, stored_length}
 
--- The file is a journal of the first of the site's records: of as many as the host has told to be in it, or of these and the next one.
+-- The file is a journal of the first of the site's records: of as many as the host has told to be in it, or of these and all of the group that it was asked to write.
 pub record HoldsStoredRecords (hosted : HostedState) (file : List ℕ) : Type 0 where
   pub contents : Contents
   pub journal : IsJournal contents file

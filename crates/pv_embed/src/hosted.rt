@@ -8,11 +8,11 @@ ghost use Rattle.pv_site.specs.Opens.{Opens};
 ghost use Rattle.pv_site.specs.Steps.{IsReady};
 ghost use Rattle.pv_site.specs.Values.{input_of};
 ghost use Rattle.pv_host.specs.HostLaws.{host_model};
-ghost use Rattle.pv_host.specs.HostLog.{HostState, contents_of, next_write};
+ghost use Rattle.pv_host.specs.HostLog.{HostState, contents_of, least_write, next_write};
 ghost use Rattle.pv_host.specs.HostWrites.{write_of};
 ghost use Rattle.pv_embed.specs.Opening.{IsUnread, OpensHosted, RefusesContents};
 ghost use Rattle.pv_embed.specs.Held.{Held};
-ghost use Rattle.pv_embed.specs.Hosted.{Gives, TakesNext, Writes, stored_length};
+ghost use Rattle.pv_embed.specs.Hosted.{Asks, Gives, TakesNext, Writes, stored_length};
 ghost use Rattle.pv_embed.specs.Outputs.{IsSpelled, out_of};
 ghost use Rattle.pv_embed.specs.Requests.{ReceivesBy, SubmitsBy, ReadsBy};
 
@@ -33,9 +33,9 @@ use std::marker::Model;
 
 /// A site of the database for a host that carries its messages and writes its journal.
 ///
-/// The host opens it on the bytes of its journal, a file of the host. It gives it requests, messages and ticks; each is a step of the site. Then it writes what
-/// [`HostedSite::next_write`] says into the file, syncs, and says so by [`HostedSite::written`], until there is nothing to write; and takes
-/// what the site lets out by [`HostedSite::take`]: messages for other sites, and reports. Nothing is let out before all records are in the file that
+/// The host opens it on the bytes of its journal, a file of the host. It gives it requests, messages and ticks; each is a step of the site. Then it asks for a group of
+/// the records that wait by [`HostedSite::ask`], writes what [`HostedSite::next_write`] says into the file, syncs, and says so by [`HostedSite::written`], until there
+/// is nothing to write; and takes what the site lets out by [`HostedSite::take`]: messages for other sites, and reports. Nothing is let out before all records are in the file that
 /// the site had when it made it, and nothing is read while a record isn't.
 ///
 /// After a crash of the host the site is opened again on what the file then holds.
@@ -200,8 +200,24 @@ impl HostedSite {
         self.step(&Input::Tick)
     }
 
-    /// What the host is to write next into its file, if there is something. It is the same until the host has told that it is done. The cost is bounded by a
-    /// constant.
+    /// The host is to write a group of the records that wait: as many as have so much room, in bytes, and one at least. A group that it was asked to write before
+    /// stays until it has told that it is written. Takes time in proportion to the records of the group.
+    pub fn ask(&mut self, room: usize)
+        ensures { Asks room self.old self.new }
+    {
+        self.site.log().ask(room);
+    }
+
+    /// For how many bytes the host needs room at least to be told what to write next, if there is something to write or to ask for. The cost is bounded by a constant.
+    pub fn least_write(&mut self) -> Option<usize>
+        ensures unchanged { self.new ≡ self.old }
+        ensures least { result ≡ least_write self.old.site.log }
+    {
+        self.site.log().least_write()
+    }
+
+    /// What the host is to write next into its file of the group that it was asked to write, if there is one. It is the same until the host has told that it is done. The
+    /// cost is bounded by a constant.
     pub fn next_write(&mut self) -> Option<HostWrite<'_>>
         ensures* unchanged { sem 𝓛 (follows_so the_row the_row self.entry.ghost_name none (λ _ _. ⊤) (λ new. new ≡ self.old)) }
         ensures write { option_map write_of result ≡ next_write self.old.site.log }
@@ -209,7 +225,8 @@ impl HostedSite {
         self.site.log().next_write()
     }
 
-    /// The host has written that, and synced its file. Where there is nothing to write, nothing happens. The cost is bounded by a constant.
+    /// The host has written that, and synced its file. Where it was asked to write nothing, nothing happens. Once a group is written, the cost is in proportion to what
+    /// waits; else it is bounded by a constant.
     pub fn written(&mut self)
         ensures { Writes self.old self.new }
     {

@@ -17,7 +17,7 @@ ghost use Rattle.pv_host.specs.HostFile.{IsFile, MayLeave};
 ghost use Rattle.pv_host.specs.HostLaws.{host_model};
 ghost use Rattle.pv_host.specs.HostLog.{HostState, HostWrite, next_write};
 ghost use Rattle.pv_embed.specs.Held.{Held};
-ghost use Rattle.pv_embed.specs.Hosted.{HasStepped, HostedState, Stays, TakesNext, Writes};
+ghost use Rattle.pv_embed.specs.Hosted.{Asks, HasStepped, HostedState, Stays, TakesNext, Writes};
 ghost use Rattle.pv_embed.specs.Kept.{HoldsStoredRecords, RestOn};
 ghost use Rattle.pv_embed.specs.LetOut.{WasLetOut};
 ghost use Rattle.pv_embed.specs.Opening.{HasOpenedOn};
@@ -30,7 +30,8 @@ use pv_site::{crashes_leave_before_or_after, logs_tell_of_records};
 /// Of a host that writes what it is told into the file on which the site was opened:
 ///
 /// - Each file that it may hold stays one through every call, and is one again once it has written what comes next. So is what a crash leaves.
-/// - Whatever such a file is, it is a journal of the first of the site's records: of as many as the host has told to be in it, or of these and the next one.
+/// - Whatever such a file is, it is a journal of the first of the site's records: of as many as the host has told to be in it, or of these and all of the
+/// group that it was asked to write.
 /// - What a step makes rests on all records that the site has after it, and is held with the length of a journal of them. When something is let out, each such
 ///   file is a journal at least as long, and one that is begins with these records.
 /// - So from the moment that something is let out, whatever calls come and whatever a crash leaves, all records on which it rests are in the file (`kept`).
@@ -41,6 +42,7 @@ pub fn files_hold_what_was_let_out()
     ensures opened { (config file : List ℕ) (me : ℕ) (hosted : HostedState) → HasOpenedOn config me file hosted → IsFile hosted.site.log file }
     ensures stepped { (old new : HostedState) (input : model.Input) (file : List ℕ) → HasStepped old new input → IsFile old.site.log file → IsFile new.site.log file }
     ensures stayed { (old new : HostedState) (file : List ℕ) → Stays old new → IsFile old.site.log file → IsFile new.site.log file }
+    ensures asked { (old new : HostedState) (room : ℕ) (file : List ℕ) → Asks room old new → IsFile old.site.log file → IsFile new.site.log file }
     ensures written { (old new : HostedState) (write : HostWrite) (file : List ℕ) → Writes old new → next_write old.site.log ≡ Some write → IsFile old.site.log file →
         IsFile new.site.log (overlaid file write.place write.bytes) }
     ensures idle { (old new : HostedState) (file : List ℕ) → Writes old new → next_write old.site.log ≡ None → IsFile old.site.log file → IsFile new.site.log file }

@@ -9,9 +9,10 @@ use Rattle.pv_protocol.specs.State as model
 use Rattle.pv_protocol.specs.Step.{step_on}
 use Rattle.pv_site.specs.OnLog.{Logs}
 use Rattle.pv_site.specs.SiteState.{here_with}
+use Rattle.pv_host.proofs.HostLemmas.{asked_stores}
 use Rattle.pv_host.specs.HostLaws.{host_model}
 use Rattle.pv_host.specs.HostLog.{HostState, HostGoes, IsSameBesideRoom, with_written, written_to}
-use Rattle.pv_embed.specs.Hosted.{HostedState, HasStepped, Stays, Writes, stored_length}
+use Rattle.pv_embed.specs.Hosted.{Asks, HostedState, HasStepped, Stays, Writes, stored_length}
 use Rattle.pv_handle.specs.declared.bytes.Waiting.{Waiting}
 
 same-stored : (old new : HostState) → new ≡ old → new.stored ≡ old.stored
@@ -50,15 +51,19 @@ stepped-stored old new input stepped =
 pub stays-stored : (old new : HostedState) → Stays old new → stored_length new ≡ stored_length old
 stays-stored old new stays = ap (λ (log : HostState). size_of log.stored) stays.0
 
-written-stored : (log : HostState) (pending : Contents) (behind_gate : Bool) → size_of log.stored ≤ size_of (written_to log pending behind_gate).stored
+written-stored : (log : HostState) (asked : Contents) (behind_gate : Bool) → size_of log.stored ≤ size_of (written_to log asked behind_gate).stored
 written-stored log [] behind_gate = omega arith
-written-stored log (content ∷ later) false = omega arith
-written-stored log (content ∷ later) true = omega (arith, sum_by-append (λ (c : List ℕ). 5 + length c) log.stored (content ∷ []))
+written-stored log (first ∷ later) false = omega arith
+written-stored log (first ∷ later) true = omega (arith, sum_by-append (λ (c : List ℕ). 5 + length c) log.stored (first ∷ later))
+
+pub asks-stored : (room : ℕ) (old new : HostedState) → Asks room old new → stored_length new ≡ stored_length old
+asks-stored room old new asks =
+    ap (λ (log : HostState). size_of log.stored) asks.log ∙ ap size_of (asked_stores room old.site.log old.site.log.asked)
 
 pub writes-stored : (old new : HostedState) → Writes old new → stored_length old ≤ stored_length new
 writes-stored old new writes =
     let is : stored_length new ≡ size_of (with_written old.site.log).stored = ap (λ (log : HostState). size_of log.stored) writes.log in
-    let more = written-stored old.site.log old.site.log.pending old.site.log.behind_gate in
+    let more = written-stored old.site.log old.site.log.asked old.site.log.behind_gate in
     omega (arith, is, more)
 
 -- What waits may still be let out where no less is stored.

@@ -7,9 +7,9 @@ use Rattle.pv_protocol.specs.Lines.{line_of}
 use Rattle.pv_protocol.specs.Report.{item_line, reading_at}
 use Rattle.pv_protocol.specs.Shown.{shown}
 use Rattle.pv_report.specs.NamesOnlyItems.{NamesOnlyItems}
-use Rattle.pv_host.specs.HostLog.{HostWrite, next_write}
+use Rattle.pv_host.specs.HostLog.{HostWrite, least_write, next_write}
 use Rattle.pv_embed.specs.Held.{Held, Out, message, note}
-use Rattle.pv_embed.specs.Hosted.{HostedState, Writes, log_length, stored_length}
+use Rattle.pv_embed.specs.Hosted.{Asks, HostedState, Writes, log_length, stored_length}
 use Rattle.pv_handle.specs.ByteState.{ByteState}
 use Rattle.pv_handle.specs.Given.{GivesBytes}
 use Rattle.pv_handle.specs.declared.faults.ValueFault.{ValueFault}
@@ -57,20 +57,19 @@ TakesBytes room out old new (Ok (TooSmall needed)) =
     (next : Held) × (later : List Held) × IsNext old next later × GivesOut old.site.me old.site.catalog next.out room out (TooSmall needed) × (new ≡ old)
 TakesBytes room out old new (Err _) = (new ≡ old) × (out ≡ room)
 
--- What is to be written next is given, if there is something.
-abbrev pub GivesWrite : Option HostWrite → List ℕ → List ℕ → Given → Type 0
-GivesWrite None room out given = (given ≡ Nothing) × (out ≡ room)
-GivesWrite (Some write) room out given = GivesBytes write.bytes write.place room out given
+-- The host is asked to write what has room, and given it: the records of the group, or the gate before them.
+pub record GivesWrite (room out : List ℕ) (old new : HostedState) (count to : ℕ) : Type 0 where
+  pub asks : Asks (length room) old new
+  pub write : HostWrite
+  pub next : next_write new.site.log ≡ Some write
+  pub gives : GivesBytes write.bytes write.place room out (Bytes count to)
 
--- whether the host was given the bytes of what it is to write next: in this answer, or before
-abbrev pub taken_after : Given → Bool → Bool
-taken_after (Bytes count to) taken = true
-taken_after Nothing taken = taken
-taken_after (TooSmall needed) taken = taken
-
--- What is to be written next is given, and the site is as it was, but that it knows of that.
+-- What is to be written next is given, and the site is as it was, but that the host was asked to write that and has its bytes; or nothing waits; or there is no
+-- room for the least that can be written next, and then the host isn't asked to write.
 abbrev pub TakesWrite : List ℕ → List ℕ → ByteState → ByteState → Given → Type 0
-TakesWrite room out old new given = GivesWrite (next_write old.hosted.site.log) room out given × (new ≡ record old { taken = taken_after given old.taken })
+TakesWrite room out old new Nothing = (least_write old.hosted.site.log ≡ None) × (new ≡ old) × (out ≡ room)
+TakesWrite room out old new (Bytes count to) = GivesWrite room out old.hosted new.hosted count to × (new.taken ≡ true)
+TakesWrite room out old new (TooSmall needed) = (least_write old.hosted.site.log ≡ Some needed) × (length room < needed) × (new ≡ old) × (out ≡ room)
 
 -- So many bytes at this place are what is to be written next.
 abbrev pub IsNextWrite : ℕ → ℕ → Option HostWrite → Type 0

@@ -3,7 +3,7 @@ ghost use Rattle.std.specs.Prelude.{◌≡◌, ◌≤◌, IfSome, None};
 ghost use Rattle.pv_protocol.specs.State as model;
 ghost use Rattle.pv_embed.specs.Hosted.{Gives, HostedState, stored_length};
 ghost use Rattle.pv_embed.specs.Requests.{ReceivesBy, SubmitsBy};
-ghost use Rattle.pv_handle.specs.ByteSite.{AcceptsWrite, NothingMayLeave, ReadsBytes, TakesBytes, TakesWrite, taken_after};
+ghost use Rattle.pv_handle.specs.ByteSite.{AcceptsWrite, NothingMayLeave, ReadsBytes, TakesBytes, TakesWrite};
 ghost use Rattle.pv_handle.specs.ByteState.{OnSite, OpensBytes};
 ghost use Rattle.pv_handle.specs.Waiting.{left_after, waits_before};
 
@@ -91,15 +91,24 @@ impl ByteSite {
         self.site.tick()
     }
 
-    /// What the host is to write next into its file. It is the same until the host has told that it is done.
+    /// What the host is to write next into its file: of the records that wait a group, as many as have room in `out`, and one at least. Where there is no room for one
+    /// it isn't asked to write, and told how much room it needs. Else the same comes until it has told that it is done.
     pub fn next_write(&mut self, out: &mut [u8]) -> Given
         ensures { TakesWrite out.old out.new self.old self.new result }
     {
-        let Some(write) = self.site.next_write() else {
+        let Some(needed) = self.site.least_write() else {
             return Given::Nothing;
         };
+        if out.len() < needed {
+            return Given::TooSmall { needed };
+        }
+        self.site.ask(out.len());
+        let Some(write) = self.site.next_write() else {
+            // There is something to write.
+            unreachable!();
+        };
         let given = give(write.bytes, write.place, out);
-        self.taken = taken_after(given, self.taken);
+        self.taken = true;
         given
     }
 
@@ -172,16 +181,6 @@ fn bring(site: &mut HostedSite, waiting: &mut Option<Waiting>)
     };
     if let Some(output) = site.take() {
         *waiting = Some(Waiting { length, output });
-    }
-}
-
-// Whether the host was given the bytes of what it is to write next: by this answer, or before.
-fn taken_after(given: Given, before: bool) -> bool
-    ensures { result ≡ taken_after given before }
-{
-    match given {
-        Given::Bytes { .. } => true,
-        Given::Nothing | Given::TooSmall { .. } => before,
     }
 }
 

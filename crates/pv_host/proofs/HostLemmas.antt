@@ -1,12 +1,14 @@
 -- How a log whose journal a host writes grows.
-use Rattle.std.proofs.Common.{◌≡◌, ◌≢◌, ◌⊎◌, inl, inr, ⊎_elim, ℕ, ◌+◌, ◌-◌, ◌≤◌, List, [], ◌∷◌, ◌++◌, Option, Some, None, length, take, drop, arith, sym, ◌∙◌, ap, subst, append_assoc, append-nil, length-append, refl, Bool, true, false, Result, Ok, Err}
+use Rattle.std.proofs.Common.{◌≡◌, ◌≢◌, ◌⊎◌, inl, inr, ⊎_elim, ℕ, ◌+◌, ◌-◌, ◌≤◌, List, [], ◌∷◌, ◌++◌, Option, Some, None, length, take, arith, sym, ◌∙◌, ap, subst, append_assoc, append-nil, length-append, refl, Bool, true, false, not, Result, Ok, Err, ◌<◌, ◌^◌}
 use Rattle.std.specs.Prelude.{MatchBool, IfErr}
-use Rattle.std.proofs.lemmas.List.{take_at, drop_at, take-append-le, take_all}
+use Rattle.std.specs.List.{flat_map}
+use Rattle.std.specs.Option.{option_map}
+use Rattle.std.proofs.lemmas.List.{take-append-le, take_all}
 use Rattle.std.proofs.lemmas.List.Sums.{sum_by-append, sum_by-cons}
 use Rattle.std.proofs.lemmas.Bool.{cases_lt}
 use Rattle.byteorder.specs.Endian.{big_bytes}
 use Rattle.pv_base.specs.BigEndian.{big_endian}
-use Rattle.pv_base.proofs.BigEndianLemmas.{bytes_high_first-big_endian, length-big_endian}
+use Rattle.pv_base.proofs.BigEndianLemmas.{bytes_high_first-big_endian}
 use Rattle.pv_base.specs.Answer.{Answers}
 use Rattle.pv_base.specs.Fault.{Rose}
 use Rattle.pv_disk.specs.MemDisk.{MemGoes, MemState}
@@ -14,30 +16,19 @@ use Rattle.pv_disk.specs.MemLaws.{mem_model}
 use Rattle.pv_disk.specs.declared.disk_error.LookError.{LookError}
 use Rattle.pv_disk.specs.declared.disk_error.LookError.TheVariants.{Failed, NotOurs, NoMemory}
 use Rattle.pv_journal.specs.Reading.{LooksBy}
-use Rattle.pv_disk_model.specs.Calls.{OnlyReads}
+use Rattle.pv_disk_model.specs.Calls.{LogCall, OnlyReads, append, read_all, reserve}
 use Rattle.pv_disk_model.specs.Log.{LeavesOnly, IsBeforeOrAfter, Adds, StaysUp}
 use Rattle.pv_disk_model.specs.Size.{Contents, size_of}
 use Rattle.pv_format.specs.Journal.{framed, end_of}
 use Rattle.pv_law_journal.proofs.SizeLemmas.{length-framed, end_of-size}
-use Rattle.pv_host.specs.Frames.{content_in, is_frame}
-use Rattle.pv_host.specs.HostLog.{HostState, WasHeld, contents_of, with_content, IsSameBesideRoom}
+use Rattle.pv_host.specs.HostLog.{HostGoes, HostState, HostWrite, WasHeld, IsSameBesideRoom, asked_after, behind_gate_of, contents_of, fitting, group_of, least_write, left_of, next_write, with_asked, with_content, write_after}
 use Rattle.pv_host.specs.HostLaws.{host_model, held_now, faults_of}
+use Rattle.pv_host.proofs.GroupLemmas.{fitting-nothing, group-all}
+use Rattle.pv_host.specs.Waiting.{WaitingState, first_length}
 
 -- What the kit writes of a number.
 pub written_four : (number : ℕ) → big_bytes 4 number ≡ big_endian 4 number
 written_four number = bytes_high_first-big_endian 4 number
-
--- The content of a frame is the one of which it was made.
-pub content_framed : (bytes content : List ℕ) → bytes ≡ framed content ++ 0 ∷ [] → content_in bytes ≡ content
-content_framed bytes content is =
-    let size : length (framed content) ≡ length bytes - 1 = omega (arith, ap length is, length-append (framed content) (0 ∷ [])) in
-    let front : take (length bytes - 1) bytes ≡ framed content = ap (take (length bytes - 1)) is ∙ take_at (framed content) (0 ∷ []) (length bytes - 1) size in
-    ap (drop 4) front ∙ drop_at (big_endian 4 (length content)) content 4 (length-big_endian 4 (length content))
-
-pub made_frame : (bytes content : List ℕ) → bytes ≡ framed content ++ 0 ∷ [] → is_frame bytes
-made_frame bytes content is = is ∙ ap (λ (c : List ℕ). framed c ++ 0 ∷ []) (sym (content_framed bytes content is))
-
-pub ruleset frames = (content_framed, made_frame)
 
 -- How long a log is with some contents more.
 pub size_of-join : (contents others : Contents) → size_of (contents ++ others) ≡ size_of contents + (size_of others - 9)
@@ -47,15 +38,11 @@ pub size_of-one : (contents : Contents) (content : List ℕ) → size_of (conten
 size_of-one contents content =
     omega (arith, sum_by-append (λ (c : List ℕ). 5 + length c) contents (content ∷ []), sum_by-cons (λ (c : List ℕ). 5 + length c) content [])
 
--- The gate after what is stored lies within the log, and so does the record after it.
-pub end_within : (stored pending : Contents) → end_of stored + 1 ≤ size_of (stored ++ pending)
-end_within stored pending = omega (arith, size_of-join stored pending, end_of-size stored)
+-- The gate after what is stored lies within the log, and so do the records after it.
+pub end_within : (stored others : Contents) → end_of stored + 1 ≤ size_of (stored ++ others)
+end_within stored others = omega (arith, size_of-join stored others, end_of-size stored)
 
-pub next_within : (stored : Contents) (content : List ℕ) (later : Contents) → end_of stored + (6 + length content) ≤ size_of (stored ++ content ∷ later)
-next_within stored content later =
-    omega (arith, sum_by-append (λ (c : List ℕ). 5 + length c) stored (content ∷ later), sum_by-cons (λ (c : List ℕ). 5 + length c) content later, end_of-size stored)
-
-pub ruleset ends = (end_within, next_within, end_of-size, length-framed, size_of-one)
+pub ruleset ends = (end_within, end_of-size, size_of-one)
 
 -- At each moment of an append a crash leaves the contents from before, or these with the new one.
 pub pushed_moments : (old new : HostState) (content : List ℕ) (was : Contents) → contents_of new ≡ contents_of old ++ content ∷ [] → Some (contents_of old) ≡ Some was
@@ -83,7 +70,9 @@ pushed_moments old new content was grown is =
 
 module _ (old new : HostState) (content : List ℕ) (same : IsSameBesideRoom (with_content old content) new) where
   grown : contents_of new ≡ contents_of old ++ content ∷ []
-  grown = ap contents_of same ∙ sym (append_assoc old.stored old.pending (content ∷ []))
+  grown =
+      ap contents_of same ∙ ap (λ (l : Contents). old.stored ++ l) (sym (append_assoc old.asked old.pending (content ∷ [])))
+      ∙ sym (append_assoc old.stored (old.asked ++ old.pending) (content ∷ []))
 
   pub adds : Adds host_model old new content
   adds = record {
@@ -108,16 +97,19 @@ where_up A B false up is = is
 
 pub ruleset appends = (adds, stays_up)
 
--- What is found in a file is all that a log holds that has just been opened on it.
-pub all_found : (found stored pending contents : Contents) → found ≡ contents → stored ≡ [] → pending ≡ [] → (found ++ stored) ++ pending ≡ contents
-all_found found stored pending contents is none nothing =
-    ap (λ (l : Contents). (found ++ stored) ++ l) nothing ∙ append-nil (found ++ stored) ∙ ap (λ (l : Contents). found ++ l) none ∙ append-nil found ∙ is
+-- What a log has stored that was just opened is what was found.
+pub stored_found : (found : Contents) (groups : List WaitingState) (contents : Contents) → found ≡ contents → groups ≡ []
+    → found ++ flat_map (λ (waiting : WaitingState). waiting.asked) groups ≡ contents
+stored_found found groups contents is none =
+    ap (λ (l : List WaitingState). found ++ flat_map (λ (waiting : WaitingState). waiting.asked) l) none ∙ append-nil found ∙ is
 
-pub end_found : (found stored contents : Contents) (size : ℕ) → found ≡ contents → stored ≡ [] → size ≡ size_of contents → size - 1 ≡ end_of (found ++ stored)
-end_found found stored contents size is none sized =
-    let all : found ++ stored ≡ contents = ap (λ (l : Contents). found ++ l) none ∙ append-nil found ∙ is in
-    let end : size - 1 ≡ end_of contents = omega (arith, sized, end_of-size contents) in
-    end ∙ ap end_of (sym all)
+-- What is found in a file is all that a log holds that has just been opened on it.
+pub all_found : (found asked pending contents : Contents) → found ≡ contents → asked ≡ [] → pending ≡ [] → found ++ (asked ++ pending) ≡ contents
+all_found found asked pending contents is none nothing =
+    ap (λ (l : Contents). found ++ (l ++ pending)) none ∙ ap (λ (l : Contents). found ++ l) nothing ∙ append-nil found ∙ is
+
+pub end_found : (found contents : Contents) (size : ℕ) → found ≡ contents → size ≡ size_of contents → size - 1 ≡ end_of found
+end_found found contents size is sized = let end : size - 1 ≡ end_of contents = omega (arith, sized, end_of-size contents) in end ∙ ap end_of (sym is)
 
 -- An error that tells of one call tells as much of another.
 pub told_on : {V F X Y E : Type 0} (IsValue : V → Type 0) (IsFault : F → Type 0) (value_of : X → V) (other_of : Y → V) (fault_of : E → Option F) (e : E)
@@ -135,3 +127,84 @@ never_failed looks old new (Err Failed) unarmed none looked =
     absurd (omega (arith, rose, same, none))
 never_failed looks old new (Err (NotOurs place)) unarmed none looked = λ is. cc
 never_failed looks old new (Err NoMemory) unarmed none looked = λ is. cc
+
+either_way : (A B C : Type 0) (down : Bool) → (A → C) → (B → C) → MatchBool down A B → C
+either_way A B C true where_down where_up is = where_down is
+either_way A B C false where_down where_up is = where_up is
+
+-- No call of the log stores anything.
+pub called_stores : (old new : HostState) (call : LogCall) (ok : Bool) → HostGoes old call ok new → new.stored ≡ old.stored
+called_stores old new read_all ok goes =
+    either_way ((ok ≡ false) × (new ≡ old)) ((ok ≡ not old.is_read) × (new ≡ record old { is_read = true; is_down = old.is_read })) (new.stored ≡ old.stored) old.is_down
+    (λ down. ap (λ (log : HostState). log.stored) down.1) (λ up. ap (λ (log : HostState). log.stored) up.1) goes
+called_stores old new (reserve content) ok goes = ap (λ (log : HostState). log.stored) goes
+called_stores old new (append content) ok goes =
+    either_way ((ok ≡ false) × (new ≡ old)) ((length content < 2 ^ 32) × (ok ≡ true) × IsSameBesideRoom (with_content old content) new) (new.stored ≡ old.stored) old.is_down
+    (λ down. ap (λ (log : HostState). log.stored) down.1) (λ up. ap (λ (log : HostState). log.stored) up.2) goes
+
+-- Nor does asking.
+pub asked_stores : (room : ℕ) (log : HostState) (asked : Contents) → (asked_after room log asked).stored ≡ log.stored
+asked_stores room log [] = refl
+asked_stores room log (first ∷ later) = refl
+
+-- ## Asking
+-- Where there is no group one is made; else the log is as it was.
+pub asks_first : (room : ℕ) (log : HostState) → log.asked ≡ []
+    → with_asked room log ≡ record log { asked = group_of room log.pending; pending = left_of room log.pending }
+asks_first room log none = ap (asked_after room log) none
+
+asks_by : (room : ℕ) (log : HostState) (asked : Contents) → (asked ≡ [] → ⊥) → asked_after room log asked ≡ log
+asks_by room log [] some = absurd (some refl)
+asks_by room log (first ∷ later) some = refl
+
+pub asks_again : (room : ℕ) (log : HostState) → (log.asked ≡ [] → ⊥) → with_asked room log ≡ log
+asks_again room log some = asks_by room log log.asked some
+
+-- Asking keeps what the log holds.
+asks_keep_by : (room : ℕ) (log : HostState) (asked : Contents) → log.asked ≡ asked → contents_of (asked_after room log asked) ≡ contents_of log
+asks_keep_by room log [] is =
+    ap (λ (l : Contents). log.stored ++ l) (group-all room log.pending) ∙ ap (λ (l : Contents). log.stored ++ (l ++ log.pending)) (sym is)
+asks_keep_by room log (first ∷ later) is = refl
+
+pub asks_keep : (room : ℕ) (log : HostState) → contents_of (with_asked room log) ≡ contents_of log
+asks_keep room log = asks_keep_by room log log.asked refl
+
+-- The least that can be written next: the gate; or the records of the group; or where there is none, the first record that waits.
+least_gate_by : (stored asked : Contents) (gate : Bool) → (asked ≡ [] → ⊥) → gate ≡ true
+    → option_map (λ (write : HostWrite). length write.bytes) (write_after stored asked gate) ≡ Some 1
+least_gate_by stored [] gate some is = absurd (some refl)
+least_gate_by stored (first ∷ later) true some is = refl
+least_gate_by stored (first ∷ later) false some is = absurd cc
+
+pub least_gate : (log : HostState) → (log.asked ≡ [] → ⊥) → log.behind_gate ≡ true → least_write log ≡ Some 1
+least_gate log some behind =
+    ap (λ (l : HostState). option_map (λ (write : HostWrite). length write.bytes) (next_write l)) (asks_again 0 log some)
+    ∙ least_gate_by log.stored log.asked log.behind_gate some behind
+
+least_group_by : (stored asked : Contents) (gate : Bool) → (asked ≡ [] → ⊥) → gate ≡ false
+    → option_map (λ (write : HostWrite). length write.bytes) (write_after stored asked gate) ≡ Some (length (behind_gate_of asked))
+least_group_by stored [] gate some is = absurd (some refl)
+least_group_by stored (first ∷ later) false some is = refl
+least_group_by stored (first ∷ later) true some is = absurd cc
+
+pub least_group : (log : HostState) → (log.asked ≡ [] → ⊥) → log.behind_gate ≡ false → least_write log ≡ Some (length (behind_gate_of log.asked))
+least_group log some behind =
+    ap (λ (l : HostState). option_map (λ (write : HostWrite). length write.bytes) (next_write l)) (asks_again 0 log some)
+    ∙ least_group_by log.stored log.asked log.behind_gate some behind
+
+least_of : (stored pending : Contents) → option_map (λ (write : HostWrite). length write.bytes) (write_after stored (group_of 0 pending) false) ≡ first_length pending
+least_of stored [] = refl
+least_of stored (first ∷ later) =
+    let nothing : 0 - (5 + length first) ≡ 0 = omega arith in
+    ap (λ (n : ℕ). Some (length (behind_gate_of (first ∷ fitting n later)))) nothing
+    ∙ ap (λ (l : Contents). Some (length (behind_gate_of (first ∷ l)))) (fitting-nothing later)
+    ∙ ap Some (omega (arith, length-append (framed first) (0 ∷ []), length-framed first))
+
+-- a group of no room: the first record alone
+pub least_first : (log : HostState) → log.asked ≡ [] → log.behind_gate ≡ false → least_write log ≡ first_length log.pending
+least_first log none behind =
+    ap (λ (l : HostState). option_map (λ (write : HostWrite). length write.bytes) (next_write l)) (asks_first 0 log none)
+    ∙ ap (λ b. option_map (λ (write : HostWrite). length write.bytes) (write_after log.stored (group_of 0 log.pending) b)) behind
+    ∙ least_of log.stored log.pending
+
+pub ruleset asks = (asks_first, asks_again, least_gate, least_group, least_first)

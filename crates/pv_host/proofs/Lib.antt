@@ -1,2 +1,5 @@
 mod FileLemmas
+mod GroupLemmas
+mod GroupReads
 mod HostLemmas
+mod WaitingLemmas

@@ -12,6 +12,7 @@ write_of write = record { place = write.place; bytes = write.bytes.now }
 -- The log has just been opened on a file with these bytes, and may become so long.
 pub record IsOpenedOn (file : List ℕ) (limit : ℕ) (log : HostState) : Type 0 where
   pub journal : IsJournal log.stored file
+  pub asked : log.asked ≡ []
   pub pending : log.pending ≡ []
   pub behind_gate : log.behind_gate ≡ false
   pub limit_is : log.limit ≡ limit

@@ -6,18 +6,17 @@ ghost use Rattle.pv_disk.specs.declared.disk_error.LookError.TheVariants as look
 ghost use Rattle.pv_disk_model.specs.Size.{Contents, size_of};
 ghost use Rattle.pv_format.specs.Journal.{framed, IsJournal, IsNotOurs};
 ghost use Rattle.pv_journal.specs.Opening.{contents_in, place_in};
-ghost use Rattle.pv_host.specs.HostLog.{HostState, IsSameBesideRoom, HasPlace, next_write, with_content, with_written};
+ghost use Rattle.pv_host.specs.HostLog.{HostState, IsSameBesideRoom, HasPlace, least_write, next_write, with_asked, with_content, with_written};
 ghost use Rattle.pv_host.specs.HostLaws.{host_model};
 ghost use Rattle.pv_host.specs.HostWrites.{IsOpenedOn, write_of};
 
 use crate::HostWrite;
-use crate::frame::Frame;
+use crate::waiting::Waiting;
 use pv_base::{History, MAX_JOURNAL, MAX_LENGTH, MIN_JOURNAL};
 use pv_disk::{Log, LogError, LookError, MemDisk};
 use pv_journal::{armed_journals, look};
 use pv_law_journal::one_journal;
 use std::alloc::Global;
-use std::collections::VecDeque;
 use std::marker::Model;
 use std::mem::replace;
 
@@ -26,9 +25,10 @@ const OPEN: [u8; 1] = [1];
 
 /// A log whose journal is a file of the host.
 ///
-/// The host writes what [`HostLog::next_write`] says, syncs, and tells so by [`HostLog::written`]; and so on until there is nothing to write. A
-/// record is written behind the closed gate of what stands in the file, and that gate is opened by a write of its own, so at each
-/// moment the file is a journal.
+/// The host asks for what to write ([`HostLog::ask`]), writes what [`HostLog::next_write`] says, syncs, and tells so by [`HostLog::written`]; and so on until there
+/// is nothing to write. What it asks for is a group: all records that wait and have room, one at least. They are written together behind the closed gate of
+/// what stands in the file, and that gate is opened by a write of its own, so at each moment the file is a journal. A record that is added meanwhile waits for the
+/// next group.
 ///
 /// The log counts an append as done. Its owner lets nothing out that rests on it before the host has written it.
 ///
@@ -38,9 +38,9 @@ const OPEN: [u8; 1] = [1];
 /// In memory it has what the host hasn't written, and what was in the file when the log was opened, up to the first reading or append.
 #[derive(Drop)]
 pub struct HostLog {
-    /// The records that the host hasn't written, the oldest first.
-    pending: VecDeque<Frame>,
-    /// Whether the first of them stands in the file, and its gate is next.
+    /// The records that the host hasn't written: the group that it was asked to write, and those after it.
+    waiting: Waiting,
+    /// Whether the group stands in the file, and the gate before it is next.
     behind_gate: bool,
     /// The place of the gate before it.
     end: u64,
@@ -48,16 +48,14 @@ pub struct HostLog {
     length: u64,
     /// How long it may become.
     limit: u64,
-    /// The memory of the next record, without any byte of it.
-    next: Vec<u8>,
     /// What was in the file, until it is read or a record is added.
     unread: Option<Vec<Vec<u8>>>,
     /// Whether it was read when there was nothing left to read: each call then answers `Down`.
     down: bool,
     /// What was in the file.
     found: History<Vec<u8>>,
-    /// What the host has written since.
-    stored: History<Frame>,
+    /// What waited each time that the host had written a group, which was the first of it.
+    stored: History<Waiting>,
 }
 
 impl Model for HostLog {
@@ -99,12 +97,11 @@ impl HostLog {
             None => return Err(LookError::NoMemory),
         };
         Ok(HostLog {
-            pending: VecDeque::new(alloc),
+            waiting: Waiting::new(alloc),
             behind_gate: false,
             end: length - 1,
             length,
             limit,
-            next: Vec::new(alloc),
             found: found(&contents),
             unread: Some(contents),
             down: false,
@@ -112,12 +109,25 @@ impl HostLog {
         })
     }
 
-    /// What the host is to write next, if there is something. It is the same until the host has told that it is done.
+    /// The host is to write a group of the records that wait: as many as have so much room, in bytes, and one at least. What it was asked to write before stays the
+    /// group until it has told that it is written.
+    #[tactic(auto, using(crate::proofs::HostLemmas::asks))]
+    pub fn ask(&mut self, room: usize)
+        ensures { self.new ≡ with_asked room self.old }
+    {
+        if !self.waiting.has_group() {
+            self.waiting.ask(room);
+        }
+    }
+
+    /// What the host is to write next of the group that it was asked to write, if there is one. It is the same until the host has told that it is done.
     #[tactic(auto, using(crate::proofs::HostLemmas::ends))]
     pub fn next_write(&self) -> Option<HostWrite<'_>>
         ensures { option_map write_of result ≡ next_write self.now }
     {
-        let frame = self.pending.front()?;
+        if !self.waiting.has_group() {
+            return None;
+        }
         if self.behind_gate {
             return Some(HostWrite {
                 place: self.end,
@@ -126,25 +136,37 @@ impl HostLog {
         }
         Some(HostWrite {
             place: self.end + 1,
-            bytes: frame.bytes(),
+            bytes: self.waiting.group(),
         })
     }
 
-    /// The host has written that, and synced its file. Where there is nothing to write, nothing happens.
+    /// For how many bytes the host needs room at least to be told what to write next, if there is something to write or to ask for.
+    #[tactic(auto, using(crate::proofs::HostLemmas::asks))]
+    pub fn least_write(&self) -> Option<usize>
+        ensures { result ≡ least_write self.now }
+    {
+        if self.behind_gate {
+            return Some(OPEN.len());
+        }
+        if self.waiting.has_group() {
+            return Some(self.waiting.group().len());
+        }
+        self.waiting.next_length()
+    }
+
+    /// The host has written that, and synced its file. Where it was asked to write nothing, nothing happens.
     #[tactic(auto, using(crate::proofs::HostLemmas::ends))]
     pub fn written(&mut self)
         ensures { IsSameBesideRoom (with_written self.old) self.new }
     {
         if !self.behind_gate {
-            self.behind_gate = !self.pending.is_empty();
+            self.behind_gate = self.waiting.has_group();
             return;
         }
-        let Some(frame) = self.pending.pop_front() else {
-            return;
-        };
         self.behind_gate = false;
-        self.end += frame.bytes().len() as u64;
-        self.stored = self.stored.and(&frame);
+        self.end += self.waiting.group().len() as u64;
+        self.stored = self.stored.and(&self.waiting);
+        self.waiting.drop_group();
     }
 
     /// How long the journal in the host's file is, up to and with its closed gate, by what the host has told.
@@ -180,8 +202,7 @@ impl Log for HostLog {
         if length > self.limit {
             return Err(LogError::Full(length));
         }
-        self.pending.reserve(1)?;
-        self.next.reserve(5 + content as usize)?;
+        self.waiting.reserve(content as usize)?;
         Ok(())
     }
 
@@ -209,11 +230,7 @@ impl HostLog {
     {
         self.unread = None;
         self.length += 5 + content.len() as u64;
-        let empty = Vec::new(*self.next.allocator());
-        let memory = replace(&mut self.next, empty);
-        self.pending
-            .push_back(Frame::fill(memory, content))
-            .unwrap();
+        self.waiting.push(content);
     }
 }
 

@@ -1,10 +1,10 @@
 //! A log whose journal a host writes: it says which bytes go where in the host's file, and is told when they are there.
 #![tactic(auto)]
 
-mod frame;
 mod host_log;
 mod host_write;
 mod hosts;
+mod waiting;
 
 pub use host_log::HostLog;
 pub use host_write::HostWrite;

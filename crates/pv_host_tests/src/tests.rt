@@ -4,11 +4,17 @@ use pv_host::{EMPTY_JOURNAL, HostLog};
 use std::process::Abort;
 use std::test::Fail;
 
-// What two records make of an empty journal, the second of them added while the first was being written.
+// What two records make of an empty journal.
 const TWO: [u8; 24] = *b"PVJRNL01\x01\0\0\0\x02ab\x01\0\0\0\x03cde\0";
 
-// Writes what comes next, as a host does.
-fn write_next(rt: &impl Abort, log: &mut HostLog, file: &mut Vec<u8>) -> Result<bool, Fail> {
+// Writes what comes next, as a host does that has so much room.
+fn write_next(
+    rt: &impl Abort,
+    log: &mut HostLog,
+    room: usize,
+    file: &mut Vec<u8>,
+) -> Result<bool, Fail> {
+    log.ask(room);
     let Some(write) = log.next_write() else {
         return Ok(false);
     };
@@ -25,7 +31,7 @@ fn write_next(rt: &impl Abort, log: &mut HostLog, file: &mut Vec<u8>) -> Result<
 }
 
 #[test]
-fn a_host_writes_two_records(rt: HostRuntime) -> Result<(), Fail> {
+fn a_record_added_meanwhile_waits_for_the_next_group(rt: HostRuntime) -> Result<(), Fail> {
     let alloc = rt.alloc();
     let mut file = EMPTY_JOURNAL.to_vec(alloc)?;
     let mut log = HostLog::open(alloc, EMPTY_JOURNAL.to_vec(alloc)?, 32)?;
@@ -33,18 +39,48 @@ fn a_host_writes_two_records(rt: HostRuntime) -> Result<(), Fail> {
     assert_eq!(rt; log.stored(), 9);
     log.reserve(2)?;
     log.append(b"ab")?;
-    assert!(rt; write_next(&rt, &mut log, &mut file)?);
+    assert!(rt; write_next(&rt, &mut log, 100, &mut file)?);
     log.reserve(3)?;
     log.append(b"cde")?;
     assert_eq!(rt; log.stored(), 9);
-    assert!(rt; write_next(&rt, &mut log, &mut file)?);
+    assert!(rt; write_next(&rt, &mut log, 100, &mut file)?);
     assert_eq!(rt; log.stored(), 16);
-    assert!(rt; write_next(&rt, &mut log, &mut file)?);
-    assert!(rt; write_next(&rt, &mut log, &mut file)?);
-    assert!(rt; !write_next(&rt, &mut log, &mut file)?);
+    assert!(rt; write_next(&rt, &mut log, 100, &mut file)?);
+    assert!(rt; write_next(&rt, &mut log, 100, &mut file)?);
+    assert!(rt; !write_next(&rt, &mut log, 100, &mut file)?);
     assert_eq!(rt; log.stored(), 24);
     assert_eq!(rt; file.as_slice(), TWO.as_slice());
     let mut again = HostLog::open(alloc, file, 32)?;
     assert_eq!(rt; again.read_all()?.len(), 2);
+    Ok(())
+}
+
+#[test]
+fn records_that_have_room_are_one_group(rt: HostRuntime) -> Result<(), Fail> {
+    let alloc = rt.alloc();
+    let mut file = EMPTY_JOURNAL.to_vec(alloc)?;
+    let mut log = HostLog::open(alloc, EMPTY_JOURNAL.to_vec(alloc)?, 40)?;
+    assert_eq!(rt; log.read_all()?.len(), 0);
+    assert_eq!(rt; log.least_write(), None);
+    log.reserve(2)?;
+    log.append(b"ab")?;
+    log.reserve(3)?;
+    log.append(b"cde")?;
+    log.reserve(1)?;
+    log.append(b"f")?;
+    // Seven bytes and eight have room, and six more have none.
+    assert_eq!(rt; log.least_write(), Some(7));
+    assert!(rt; write_next(&rt, &mut log, 15, &mut file)?);
+    assert_eq!(rt; log.least_write(), Some(1));
+    assert!(rt; write_next(&rt, &mut log, 15, &mut file)?);
+    assert_eq!(rt; file.as_slice(), TWO.as_slice());
+    assert_eq!(rt; log.stored(), 24);
+    // One has always room.
+    assert!(rt; write_next(&rt, &mut log, 0, &mut file)?);
+    assert!(rt; write_next(&rt, &mut log, 0, &mut file)?);
+    assert!(rt; !write_next(&rt, &mut log, 0, &mut file)?);
+    assert_eq!(rt; log.stored(), 30);
+    let mut again = HostLog::open(alloc, file, 40)?;
+    assert_eq!(rt; again.read_all()?.len(), 3);
     Ok(())
 }

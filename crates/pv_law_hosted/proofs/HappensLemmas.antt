@@ -1,5 +1,5 @@
 -- Whatever happens in a deployment, the run that mirrors it goes on, and mirrors it then.
-use Rattle.std.proofs.Common.{◌≡◌, ⊎_elim, ℕ, ◌<◌, Option, Some, None, List, [], ◌∷◌, ◌++◌, map, take, append-nil, refl, sym, ap, ◌∙◌, subst}
+use Rattle.std.proofs.Common.{◌≡◌, ⊎_elim, ℕ, ◌<◌, Option, Some, None, List, [], ◌∷◌, ◌++◌, map, append-nil, refl, sym, ap, ◌∙◌, subst}
 use Rattle.std.specs.Prelude.{option_to_list}
 use Rattle.std.specs.Option.{option_map}
 use Rattle.std.proofs.lemmas.List.Elements.{All-nil}
@@ -15,10 +15,11 @@ use Rattle.pv_protocol.specs.Records.{journal_bytes}
 use Rattle.pv_protocol.specs.State as model
 use Rattle.pv_protocol.specs.State.{Setup, Running}
 use Rattle.pv_site.specs.SiteState.{setup_of}
+use Rattle.pv_host.proofs.HostLemmas.{asked_stores}
 use Rattle.pv_host.specs.HostFile.{IsFile, IsStored, MayLeave}
 use Rattle.pv_host.specs.HostLog.{HostState, HostWrite, next_write}
 use Rattle.pv_embed.specs.Held.{Held, Out}
-use Rattle.pv_embed.specs.Hosted.{HasStepped, HostedState, Stays, TakesNext, Writes, stored_length}
+use Rattle.pv_embed.specs.Hosted.{Asks, HasStepped, HostedState, Stays, TakesNext, Writes, stored_length}
 use Rattle.pv_embed.specs.Opening.{Configures, HasOpenedOn}
 use Rattle.pv_embed.specs.Outputs.{TakesFrom, out_of}
 use Rattle.pv_embed.specs.declared.made.Output.{Output}
@@ -28,9 +29,9 @@ use Rattle.pv_law_hosted.proofs.GoesLemmas.{goes-up}
 use Rattle.pv_law_hosted.proofs.MirroredLemmas.{Becomes, becomes-mirrored}
 use Rattle.pv_law_hosted.proofs.OpensLemmas.{becomes-opened}
 use Rattle.pv_law_hosted.proofs.StoreLemmas.{idle-stored, write-stores}
-use Rattle.pv_law_hosted.proofs.TakesLemmas.{becomes-written, cut-one}
+use Rattle.pv_law_hosted.proofs.TakesLemmas.{becomes-written, cut-group}
 use Rattle.pv_law_hosted.specs.Deployment.{Deployment, Station, station_at, with_station}
-use Rattle.pv_law_hosted.specs.DeploymentEvents.{Happens, HappensAt, HappensTo, Stands, takes, stays, is_writing, writes, idles, lets_out, goes}
+use Rattle.pv_law_hosted.specs.DeploymentEvents.{Happens, HappensAt, HappensTo, Stands, takes, stays, asks, is_writing, writes, idles, lets_out, goes}
 use Rattle.pv_law_hosted.specs.Given.{Content, MayBeGiven}
 use Rattle.pv_law_hosted.specs.Mirrored.{FollowsHosted, FollowsProcess, IsMirrored}
 
@@ -44,6 +45,7 @@ pub record Laws : Type 0 where
   pub opened : (config file : List ℕ) (me : ℕ) (hosted : HostedState) → HasOpenedOn config me file hosted → IsFile hosted.site.log file
   pub stepped : (old new : HostedState) (input : model.Input) (file : List ℕ) → HasStepped old new input → IsFile old.site.log file → IsFile new.site.log file
   pub stayed : (old new : HostedState) (file : List ℕ) → Stays old new → IsFile old.site.log file → IsFile new.site.log file
+  pub asked : (old new : HostedState) (room : ℕ) (file : List ℕ) → Asks room old new → IsFile old.site.log file → IsFile new.site.log file
   pub written : (old new : HostedState) (write : HostWrite) (file : List ℕ) → Writes old new → next_write old.site.log ≡ Some write → IsFile old.site.log file
       → IsFile new.site.log (overlaid file write.place write.bytes)
   pub idle : (old new : HostedState) (file : List ℕ) → Writes old new → next_write old.site.log ≡ None → IsFile old.site.log file → IsFile new.site.log file
@@ -88,13 +90,13 @@ module _ (laws : Laws) (config : List ℕ) (schedule : Schedule) (configures : C
     gone-stored left (Some running) up journal =
         goes-up setup n d events m known left [] (All-nil (MayBeGiven setup.catalog d n)) running up site.site.log.stored journal f.stored
 
-    gone-more : (left : List ℕ) (pending : Contents) → site.site.log.pending ≡ pending → IsJournal (site.site.log.stored ++ take 1 pending) left
+    gone-more : (left : List ℕ) (asked : Contents) → site.site.log.asked ≡ asked → IsJournal (site.site.log.stored ++ asked) left
         → GoesOn (record old { file = left; hosted = None })
     gone-more left [] none journal =
         gone-stored left content.running refl (subst (λ (l : Contents). IsJournal l left) (append-nil site.site.log.stored) journal)
-    gone-more left (one ∷ later) some journal =
-        let cut = cut-one setup d n laws.tells old.file site content rest f one later some in
-        goes-up setup n d events m known left cut.done cut.may cut.up.0 cut.up.1 (site.site.log.stored ++ one ∷ []) journal cut.spelled
+    gone-more left (one ∷ others) some journal =
+        let cut = cut-group setup d n laws.tells old.file site content rest f one others some in
+        goes-up setup n d events m known left cut.done cut.may cut.up.0 cut.up.1 (site.site.log.stored ++ one ∷ others) journal cut.spelled
 
     -- ## Something is let out, or nothing is
     still-there : (next : HostedState) → next ≡ record site { held = next.held } → next.held ≡ site.held → next ≡ site
@@ -127,6 +129,11 @@ module _ (laws : Laws) (config : List ℕ) (schedule : Schedule) (configures : C
         (becomes-still setup d n content rest (record old { hosted = Some next }) refl
         (follows-still setup d n old.file old.file site next content rest f (laws.stayed site next old.file same f.is_file) (stands next refl)
         (ap (λ (log : HostState). log.stored) same.0) same.1))
+    happens new here (asks next room asked) stands =
+        by (record old { hosted = Some next })
+        (becomes-still setup d n content rest (record old { hosted = Some next }) refl
+        (follows-still setup d n old.file old.file site next content rest f (laws.asked site next room old.file asked f.is_file) (stands next refl)
+        (ap (λ (log : HostState). log.stored) asked.log ∙ asked_stores room site.site.log site.site.log.asked) asked.same))
     happens new here (is_writing left may) stands =
         by (record old { file = left })
         (becomes-still setup d n content rest (record old { file = left }) refl
@@ -151,7 +158,7 @@ module _ (laws : Laws) (config : List ℕ) (schedule : Schedule) (configures : C
     happens new here (lets_out next result t) stands =
         next-out next result site.held refl t.0 t.1 (laws.taken site next result old.file t f.is_file) (stands next refl)
     happens new here (goes left may) stands =
-        ⊎_elim (λ journal. gone-stored left content.running refl journal) (λ journal. gone-more left site.site.log.pending refl journal)
+        ⊎_elim (λ journal. gone-stored left content.running refl journal) (λ journal. gone-more left site.site.log.asked refl journal)
         (laws.journals site.site.log left (laws.crashed site old.file left f.is_file may))
 
   -- ## With a process or without

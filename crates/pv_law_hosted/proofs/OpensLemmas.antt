@@ -46,7 +46,7 @@ module _ (one_record : (entry other : Record) (bytes : List ℕ) → SpellsRecor
     log-stored = one_journal old.file o.log.stored gone.contents o.opened_on.journal gone.journal
 
     log-all : contents_of o.log ≡ gone.contents
-    log-all = ap (λ (l : Contents). o.log.stored ++ l) o.opened_on.pending ∙ append-nil o.log.stored ∙ log-stored
+    log-all = ap (λ (l : Contents). o.log.stored ++ (l ++ o.log.pending)) o.opened_on.asked ∙ ap (λ (l : Contents). o.log.stored ++ l) o.opened_on.pending ∙ append-nil o.log.stored ∙ log-stored
 
     were-read : o.opened.contents ≡ gone.contents
     were-read = o.opened.read (contents_of o.log) refl ∙ log-all

@@ -1,7 +1,7 @@
 -- A site takes something, or its host has written a record: what is done by then is settled, and the rest waits.
-use Rattle.std.proofs.Common.{◌≡◌, ⊎_elim, ℕ, ◌+◌, ◌≤◌, Some, None, List, [], ◌∷◌, ◌++◌, length, length-append, map, All, append_assoc, append-nil, refl, sym, ap, ap₂, ◌∙◌, subst, arith}
+use Rattle.std.proofs.Common.{◌≡◌, ⊎_elim, ℕ, zero, suc, ◌+◌, ◌≤◌, Some, None, List, [], ◌∷◌, ◌++◌, length, length-append, map, All, append_assoc, append-nil, refl, sym, ap, ap₂, ◌∙◌, subst, arith}
 use Rattle.std.proofs.lemmas.List.{map-append}
-use Rattle.std.proofs.lemmas.List.Elements.{All-nil, All-cons, All-head, All-tail, All-append, All-weaker}
+use Rattle.std.proofs.lemmas.List.Elements.{All-append, All-weaker}
 use Rattle.std.proofs.lemmas.List.Sums.{sum_by-append}
 use Rattle.pv_disk_model.specs.Size.{Contents, size_of}
 use Rattle.pv_format.specs.Contents.{SpellRecords}
@@ -10,6 +10,7 @@ use Rattle.pv_protocol.specs.Records.{journal_bytes}
 use Rattle.pv_protocol.specs.State.{Setup}
 use Rattle.pv_site.specs.SiteState.{setup_of}
 use Rattle.pv_site.specs.Steps.{HoldsWhatRuns}
+use Rattle.pv_host.proofs.GroupLemmas.{all-parts}
 use Rattle.pv_host.specs.HostFile.{IsFile}
 use Rattle.pv_host.specs.HostLaws.{host_model}
 use Rattle.pv_host.specs.HostLog.{contents_of}
@@ -18,19 +19,11 @@ use Rattle.pv_embed.specs.Hosted.{HostedState, stored_length}
 use Rattle.pv_law_hosted.proofs.GivenLemmas.{all-grows, held_for-append, with_all-append}
 use Rattle.pv_law_hosted.proofs.MirroredLemmas.{Becomes}
 use Rattle.pv_law_hosted.proofs.SplitLemmas.{IsUp, all-up, given-either, held-within, outs-held, parted, spelled-front, spelled-length}
-use Rattle.pv_law_hosted.proofs.StoreLemmas.{StoresOne}
+use Rattle.pv_law_hosted.proofs.StoreLemmas.{StoresGroup}
 use Rattle.pv_law_hosted.specs.Deployment.{Deployment, Station, station_at}
 use Rattle.pv_law_hosted.specs.DeploymentEvents.{Stands}
 use Rattle.pv_law_hosted.specs.Given.{Content, Given, MayBeGiven, WaitsForRecord, held_for, outs_of_all, with_all, with_given}
 use Rattle.pv_law_hosted.specs.Mirrored.{FollowsHosted}
-
-pub all-parts : {X : Type 0} (P : X → Type 0) (xs ys : List X) → All P (xs ++ ys) → All P xs × All P ys
-all-parts P [] ys all = (All-nil P, all)
-all-parts P (x ∷ xs) ys all =
-    let rest = all-parts P xs ys (All-tail P x (xs ++ ys) all) in (All-cons P x xs (All-head P x (xs ++ ys) all) rest.0, rest.1)
-
-size-more : (contents : Contents) (content : List ℕ) → size_of contents ≤ size_of (contents ++ content ∷ [])
-size-more contents content = omega (arith, sum_by-append (λ (c : List ℕ). 5 + length c) contents (content ∷ []))
 
 module _ (setup : Setup) (d : Deployment) (n : ℕ)
     (tells : (records : List Record) (contents : Contents) → SpellRecords records contents → size_of contents ≡ journal_bytes records) where
@@ -95,7 +88,7 @@ module _ (setup : Setup) (d : Deployment) (n : ℕ)
         process = done-follows file next content before done left has;
       }
 
-  -- ## A record is written
+  -- ## A group is written
   -- The first of the things that wait adds a record.
   first-more : (content : Content) (given : Given) (later : List Given) → WaitsForRecord setup n content (given ∷ later) → IsUp (with_given setup n content given)
   first-more content given later waits =
@@ -104,78 +97,107 @@ module _ (setup : Setup) (d : Deployment) (n : ℕ)
       let long = ap (λ (l : List Record). length l) wrong in absurd (omega (arith, long, length-append content.records (waits.0 ∷ []))))
       (λ grows. grows.2) (given-either setup n content given)
 
-  -- What waits is cut behind the record that one more content spells, and behind all that appends nothing after it.
-  pub record Cut (content : Content) (waiting : List Given) (stored : Contents) (one : List ℕ) : Type 0 where
+  -- What waits is cut behind so many more records, and behind all that appends nothing after them.
+  record CutAt (content : Content) (givens : List Given) (count : ℕ) : Type 0 where
+    done : List Given
+    left : List Given
+    split : givens ≡ done ++ left
+    long : length (with_all setup n content done).records ≡ length content.records + count
+    up : IsUp (with_all setup n content done)
+    first : WaitsForRecord setup n (with_all setup n content done) left
+
+  -- The first of what waits adds a record, and then the next one, and so on.
+  cut-at : (k : ℕ) (content : Content) (givens : List Given) → WaitsForRecord setup n content givens
+      → length content.records + suc k ≤ length (with_all setup n content givens).records → CutAt content givens (suc k)
+  cut-at k content [] waits enough = absurd (omega (arith, enough))
+  cut-at zero content (given ∷ later) waits enough =
+      let mid = with_given setup n content given in
+      let parts = parted setup n mid later in
+      let records = ap (λ (l : List Record). length l) (parts.still ∙ waits.1) in
+      record {
+        done = given ∷ parts.quiet;
+        left = parts.left;
+        split = ap (λ (l : List Given). given ∷ l) parts.split;
+        long = omega (arith, records, length-append content.records (waits.0 ∷ []));
+        up = all-up setup n mid parts.quiet (first-more content given later waits);
+        first = parts.waits;
+      }
+  cut-at (suc k) content (given ∷ later) waits enough =
+      let mid = with_given setup n content given in
+      let parts = parted setup n mid later in
+      let settled = with_all setup n mid parts.quiet in
+      let records = ap (λ (l : List Record). length l) (parts.still ∙ waits.1) in
+      let longer : length settled.records ≡ length content.records + 1 = omega (arith, records, length-append content.records (waits.0 ∷ [])) in
+      let all : with_all setup n mid later ≡ with_all setup n settled parts.left =
+      ap (with_all setup n mid) parts.split ∙ with_all-append setup n mid parts.quiet parts.left in
+      let rest = cut-at k settled parts.left parts.waits (omega (arith, enough, longer, ap (λ (c : Content). length c.records) all)) in
+      let done : with_all setup n mid (parts.quiet ++ rest.done) ≡ with_all setup n settled rest.done = with_all-append setup n mid parts.quiet rest.done in
+      record {
+        done = given ∷ (parts.quiet ++ rest.done);
+        left = rest.left;
+        split =
+            ap (λ (l : List Given). given ∷ l)
+            (parts.split ∙ ap (λ (l : List Given). parts.quiet ++ l) rest.split ∙ sym (append_assoc parts.quiet rest.done rest.left));
+        long = omega (arith, ap (λ (c : Content). length c.records) done, rest.long, longer);
+        up = subst IsUp (sym done) rest.up;
+        first = subst (λ (c : Content). WaitsForRecord setup n c rest.left) (sym done) rest.first;
+      }
+
+  -- What waits is cut behind the records that the contents of a group spell, and behind all that appends nothing after them.
+  pub record Cut (content : Content) (waiting : List Given) (stored group : Contents) : Type 0 where
     pub done : List Given
     pub left : List Given
     pub split : waiting ≡ done ++ left
     pub may : All (MayBeGiven setup.catalog d n) done
     pub allowed : All (MayBeGiven setup.catalog d n) left
-    pub spelled : SpellRecords (with_all setup n content done).records (stored ++ one ∷ [])
+    pub spelled : SpellRecords (with_all setup n content done).records (stored ++ group)
     pub up : IsUp (with_all setup n content done)
     pub first : WaitsForRecord setup n (with_all setup n content done) left
 
   module _ (file : List ℕ) (site : HostedState) (content : Content) (rest : List Out) (f : FollowsHosted setup d n file site content rest)
-      (one : List ℕ) (later_ones : Contents) (pending : site.site.log.pending ≡ one ∷ later_ones) where
+      (one : List ℕ) (others : Contents) (asked : site.site.log.asked ≡ one ∷ others) where
     all-spelled : SpellRecords site.site.records (contents_of site.site.log)
     all-spelled =
         (subst (λ r. HoldsWhatRuns host_model site.site.log site.site.records r) f.stands.up f.stands.ready.holds).held (contents_of site.site.log) refl
 
-    -- Something waits.
-    some-waits : (waiting : List Given) → f.waiting ≡ waiting → (given : Given) × ((later : List Given) × (waiting ≡ given ∷ later))
-    some-waits [] none =
-        let same : content ≡ now site = sym (ap (with_all setup n content) none) ∙ f.come in
-        let long = spelled-length content.records site.site.log.stored f.stored in
+    group-waits : length content.records + suc (length others) ≤ length (with_all setup n content f.waiting).records
+    group-waits =
+        let stored = spelled-length content.records site.site.log.stored f.stored in
         let all = spelled-length site.site.records (contents_of site.site.log) all-spelled in
-        let records = ap (λ (c : Content). length c.records) same in
-        let more = length-append site.site.log.stored site.site.log.pending in
-        let some = ap (λ (l : Contents). length l) pending in
-        absurd (omega (arith, long, all, records, more, some))
-    some-waits (given ∷ later) some = (given, (later, refl))
+        let records = ap (λ (c : Content). length c.records) f.come in
+        omega (arith, stored, all, records, ap (λ (l : Contents). length l) asked, length-append site.site.log.stored (site.site.log.asked ++ site.site.log.pending),
+        length-append site.site.log.asked site.site.log.pending)
 
-    -- It is done, with all that appends nothing after it.
-    cut-first : (given : Given) (later : List Given) → f.waiting ≡ given ∷ later → Cut content f.waiting site.site.log.stored one
-    cut-first given later is_waiting =
-        let first : WaitsForRecord setup n content (given ∷ later) = subst (WaitsForRecord setup n content) is_waiting f.first in
-        let mid = with_given setup n content given in
-        let parts = parted setup n mid later in
-        let done = given ∷ parts.quiet in
-        let all : f.waiting ≡ done ++ parts.left = is_waiting ∙ ap (λ (l : List Given). given ∷ l) parts.split in
-        let may = all-parts (MayBeGiven setup.catalog d n) done parts.left (subst (All (MayBeGiven setup.catalog d n)) all f.allowed) in
-        let settled = with_all setup n content done in
-        let records : settled.records ≡ content.records ++ first.0 ∷ [] = parts.still ∙ first.1 in
-        let come : with_all setup n content (done ++ parts.left) ≡ now site = sym (ap (with_all setup n content) all) ∙ f.come in
-        let grown = all-grows setup n settled parts.left in
-        let rest_is : site.site.records ≡ settled.records ++ grown.0 =
-        sym (ap (λ (c : Content). c.records) (sym (with_all-append setup n content done parts.left) ∙ come)) ∙ grown.1 in
-        let contents : contents_of site.site.log ≡ (site.site.log.stored ++ one ∷ []) ++ later_ones =
-        ap (λ (l : Contents). site.site.log.stored ++ l) pending ∙ sym (append_assoc site.site.log.stored (one ∷ []) later_ones) in
-        let long : length settled.records ≡ length (site.site.log.stored ++ one ∷ []) =
-        let a = ap (λ (l : List Record). length l) records in
-        let b = length-append content.records (first.0 ∷ []) in
-        let c = length-append site.site.log.stored (one ∷ []) in
-        let e = spelled-length content.records site.site.log.stored f.stored in
-        omega (arith, a, b, c, e) in
+    pub cut-group : Cut content f.waiting site.site.log.stored (one ∷ others)
+    cut-group =
+        let at = cut-at (length others) content f.waiting f.first group-waits in
+        let settled = with_all setup n content at.done in
+        let may = all-parts (MayBeGiven setup.catalog d n) at.done at.left (subst (All (MayBeGiven setup.catalog d n)) at.split f.allowed) in
+        let come : with_all setup n settled at.left ≡ now site =
+        sym (with_all-append setup n content at.done at.left) ∙ sym (ap (with_all setup n content) at.split) ∙ f.come in
+        let grown = all-grows setup n settled at.left in
+        let rest_is : site.site.records ≡ settled.records ++ grown.0 = sym (ap (λ (c : Content). c.records) come) ∙ grown.1 in
+        let contents : contents_of site.site.log ≡ (site.site.log.stored ++ one ∷ others) ++ site.site.log.pending =
+        ap (λ (l : Contents). site.site.log.stored ++ (l ++ site.site.log.pending)) asked ∙ sym (append_assoc site.site.log.stored (one ∷ others) site.site.log.pending) in
+        let long : length settled.records ≡ length (site.site.log.stored ++ one ∷ others) =
+        omega (arith, at.long, length-append site.site.log.stored (one ∷ others), spelled-length content.records site.site.log.stored f.stored) in
         record {
-          done = done;
-          left = parts.left;
-          split = all;
+          done = at.done;
+          left = at.left;
+          split = at.split;
           may = may.0;
           allowed = may.1;
-          spelled = spelled-front settled.records grown.0 (site.site.log.stored ++ one ∷ []) later_ones long
+          spelled = spelled-front settled.records grown.0 (site.site.log.stored ++ one ∷ others) site.site.log.pending long
               (subst (SpellRecords (settled.records ++ grown.0)) contents (subst (λ (l : List Record). SpellRecords l (contents_of site.site.log)) rest_is all-spelled));
-          up = all-up setup n mid parts.quiet (first-more content given later first);
-          first = parts.waits;
+          up = at.up;
+          first = at.first;
         }
 
-    pub cut-one : Cut content f.waiting site.site.log.stored one
-    cut-one = let some = some-waits f.waiting refl in cut-first some.0 some.1.0 some.1.1
-
   module _ (file left : List ℕ) (site next : HostedState) (content : Content) (rest : List Out) (f : FollowsHosted setup d n file site content rest)
-      (is_file : IsFile next.site.log left) (stands : Stands next) (one : StoresOne site.site.log next.site.log)
+      (is_file : IsFile next.site.log left) (stands : Stands next) (one : StoresGroup site.site.log next.site.log)
       (is : next ≡ record site { site = record site.site { log = next.site.log } }) where
-    cut : Cut content f.waiting site.site.log.stored one.0
-    cut = cut-one file site content rest f one.0 one.1.0 one.1.1
+    cut : Cut content f.waiting site.site.log.stored (one.0 ∷ one.1.0)
+    cut = cut-group file site content rest f one.0 one.1.0 one.1.1
 
     one-done : HasDone left next content f.ready cut.done cut.left
     one-done = record {
@@ -190,8 +212,8 @@ module _ (setup : Setup) (d : Deployment) (n : ℕ)
       held = ap (λ (h : HostedState). h.held) is ∙ f.held ∙ ap (λ (l : List Given). f.ready ++ held_for setup n content l) cut.split;
       in_file = All-weaker (λ (it : Held). it.length ≤ stored_length site) (λ (it : Held). it.length ≤ stored_length next)
           (λ it le.
-          let more : stored_length next ≡ size_of (site.site.log.stored ++ one.0 ∷ []) = ap size_of one.1.2 in
-          omega (arith, le, more, size-more site.site.log.stored one.0)) f.ready f.in_file;
+          let more : stored_length next ≡ size_of (site.site.log.stored ++ one.0 ∷ one.1.0) = ap size_of one.1.2 in
+          omega (arith, le, more, sum_by-append (λ (c : List ℕ). 5 + length c) site.site.log.stored (one.0 ∷ one.1.0))) f.ready f.in_file;
       unopened = λ down. let wrong : Some cut.up.0 ≡ None = sym cut.up.1 ∙ down in cc;
     }
 

@@ -17,6 +17,7 @@ returns-clause-event c =
       opened = c.files_hold_what_was_let_out.ensures.opened;
       stepped = c.files_hold_what_was_let_out.ensures.stepped;
       stayed = c.files_hold_what_was_let_out.ensures.stayed;
+      asked = c.files_hold_what_was_let_out.ensures.asked;
       written = c.files_hold_what_was_let_out.ensures.written;
       idle = c.files_hold_what_was_let_out.ensures.idle;
       taken = c.files_hold_what_was_let_out.ensures.taken;

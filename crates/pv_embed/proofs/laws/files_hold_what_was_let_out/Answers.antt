@@ -22,6 +22,10 @@ returns-clause-stepped c = λ old new input file stepped is_file.
 pub returns-clause-stayed : goal.returns-clause-stayed
 returns-clause-stayed c = λ old new file stays is_file. c.files_are_journals.ensures.called old.site.log new.site.log (reserve 0) true file stays.0 is_file
 
+pub returns-clause-asked : goal.returns-clause-asked
+returns-clause-asked c = λ old new room file asks is_file.
+    subst (λ (log : HostState). IsFile log file) (sym asks.log) (c.files_are_journals.ensures.asked old.site.log room file is_file)
+
 pub returns-clause-written : goal.returns-clause-written
 returns-clause-written c = λ old new write file writes is is_file. c.files_are_journals.ensures.written old.site.log new.site.log write file is writes.log is_file
 
@@ -63,5 +67,5 @@ returns-clause-kept c = λ made now output running file contents was_ready out r
 pub returns-clause-reopened : goal.returns-clause-reopened
 returns-clause-reopened c = λ config file me hosted contents records opened journal spelled.
     let same : opened.log.stored ≡ contents = (c.one_journal.ensures file).one_value opened.log.stored contents opened.opened_on.journal journal in
-    let all : contents_of opened.log ≡ contents = ap (λ (l : Contents). opened.log.stored ++ l) opened.opened_on.pending ∙ append-nil opened.log.stored ∙ same in
+    let all : contents_of opened.log ≡ contents = ap (λ (l : Contents). opened.log.stored ++ (l ++ opened.log.pending)) opened.opened_on.asked ∙ ap (λ (l : Contents). opened.log.stored ++ l) opened.opened_on.pending ∙ append-nil opened.log.stored ∙ same in
     c.crashes_leave_before_or_after.ensures.openings opened.log me opened.schedule.catalog records hosted.site (subst (SpellRecords records) (sym all) spelled) opened.opened

@@ -1,4 +1,5 @@
-use Rattle.pv_host.proofs.FileLemmas.{file_opened, file_called, file_written, file_left, file_journal, file_holds}
+use Rattle.pv_host.proofs.FileLemmas.{file_asked, file_opened, file_called, file_written, file_left, file_journal, file_holds}
+use Rattle.pv_host.proofs.HostLemmas.{called_stores}
 use Rattle.pv_host.proofs.hosts.files_are_journals.Goals as goal
 
 pub returns-clause-opened : goal.returns-clause-opened
@@ -18,3 +19,9 @@ returns-clause-journals c = file_journal
 
 pub returns-clause-holds : goal.returns-clause-holds
 returns-clause-holds c = file_holds
+
+pub returns-clause-asked : goal.returns-clause-asked
+returns-clause-asked c = λ log room file is_file. file_asked log file is_file room
+
+pub returns-clause-stores : goal.returns-clause-stores
+returns-clause-stores c = called_stores

@@ -1,6 +1,6 @@
 use Rattle.std.proofs.Common.{◌≡◌, map, refl, sym, ◌∙◌, ap}
 use Rattle.pv_disk_model.specs.Size.{size_of}
-use Rattle.pv_host.proofs.HostLemmas.{all_found, end_found, told_on}
+use Rattle.pv_host.proofs.HostLemmas.{all_found, end_found, stored_found, told_on}
 use Rattle.pv_host.proofs.host_log.HostLog.open.Goals as goal
 
 pub returns-in-Err-clause-answer : goal.returns-in-Err-clause-answer
@@ -12,9 +12,11 @@ invariant_of-result c =
     let is : map (λ it. it.items) c.found.result.items ≡ contents = ap (λ l. map (λ it. it.items) l) (c.found.ensures ∙ c.deref-2.ensures.value) in
     let sized = c.in-Some.ensures c.in-Some.length refl in
     let size = sized.0 ∙ ap (λ l. size_of (map (λ it. it.items) l)) c.deref.ensures.value in
-    let all = all_found (map (λ it. it.items) c.found.result.items) c.new-3.result.items c.new.result.items contents is c.new-3.ensures c.new.ensures.items in
+    -- nothing was stored by the log yet, and nothing waits: the names of the calls `Waiting::new` and `History::new` are the check's
+    let stored = stored_found (map (λ it. it.items) c.found.result.items) c.new-2.result.items contents is c.new-2.ensures in
+    let all = all_found _ c.new.result.asked c.new.result.pending contents stored c.new.ensures.asked c.new.ensures.pending in
     record {
-      end_is = end_found (map (λ it. it.items) c.found.result.items) c.new-3.result.items contents c.in-Some.length is c.new-3.ensures size;
+      end_is = end_found _ contents c.in-Some.length stored size;
       length_is = size ∙ ap size_of (sym all);
       bounded = sized.1;
       limited = c.requires.most;

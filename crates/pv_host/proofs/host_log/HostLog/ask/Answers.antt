@@ -1,0 +1,30 @@
+use Rattle.std.proofs.Common.{rules, ◌≡◌, ◌++◌, [], ap, map, subst, sym, ◌∙◌}
+use Rattle.std.specs.Prelude.{IfSome}
+use Rattle.pv_disk_model.specs.Size.{Contents, size_of}
+use Rattle.pv_host.specs.HostLog.{contents_of}
+use Rattle.pv_host.specs.HostView.{log_of}
+use Rattle.pv_host.specs.Waiting.{WaitingState}
+use Rattle.pv_host.proofs.GroupLemmas.{group-all}
+use Rattle.pv_host.proofs.host_log.HostLog.ask.Goals as goal
+
+pub ask-requires : goal.ask-requires
+ask-requires c = c.has_group.ensures.none (search rules)
+
+pub invariant_of-self : goal.invariant_of-self
+invariant_of-self c =
+    let inside = c.self.inside in
+    let was = c.self.invariant in
+    let stored = (log_of inside).stored in
+    let none : inside.waiting.asked ≡ [] = c.has_group.ensures.none (search rules) in
+    let all : contents_of (log_of (record inside { waiting = c.ask.new.self })) ≡ contents_of (log_of inside) =
+    ap (λ (waiting : WaitingState). stored ++ (waiting.asked ++ waiting.pending)) c.ask.ensures
+    ∙ ap (λ (l : Contents). stored ++ l) (group-all c.args.room inside.waiting.pending)
+    ∙ ap (λ (l : Contents). stored ++ (l ++ inside.waiting.pending)) (sym none) in
+    record {
+      end_is = was.end_is;
+      length_is = was.length_is ∙ ap size_of (sym all);
+      bounded = was.bounded;
+      limited = was.limited;
+      gate = λ _. was.gate none;
+      unread = subst (λ (l : Contents). IfSome inside.unread (λ all. map (λ it. it.items) all.items ≡ l)) (sym all) was.unread;
+    }
