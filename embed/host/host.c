@@ -127,8 +127,8 @@ polydb_host_cause polydb_host_tick(polydb_host *host, polydb_host_error *error) 
 
 /* ---- what the site wants written, and what it lets out ---- */
 
-/* One write, and its sync: of a record, and then of the gate before it. The site hears of it last, and of nothing that has failed: the same bytes come again then. Where
- * the library gives the records that wait as one write, this is one write for all of them. */
+/* One write, and its sync: of all records that wait and have room, and then of the gate before them. The site hears of it last, and of nothing that has failed: the same
+ * bytes come again then. */
 static polydb_host_cause write_next(polydb_host *host, bool *wrote, polydb_host_error *error) {
     size_t length;
     uint64_t place;

@@ -431,7 +431,8 @@ class Site(_Open):
         _check(self._call(_site_tick), "tick")
 
     def next_write(self) -> Optional[JournalWrite]:
-        """What is to be written next into the journal, or None. The same comes until `written`."""
+        """What is to be written next into the journal, or None: all records that wait, as far as 64 KiB have room for them, and then the gate before them. The same comes
+        until `written`."""
         place = c_uint64(0)
         status, data = _fill(lambda out, room, written: self._call(_site_take_journal, out, room, written, byref(place)), _WRITE_ROOM)
         if status == _NOTHING:

@@ -351,7 +351,7 @@ class FileHost:
                 return
 
     def _write_all(self, site: Site) -> None:
-        """One write and its sync: of a record, and then of the gate before it. Where the library gives the records that wait as one write, it is one for all of them."""
+        """One write and its sync after another: of all records that wait and have room, and then of the gate before them."""
         while (write := site.next_write()) is not None:
             self.files.write(write.place, write.bytes)
             site.written(write)

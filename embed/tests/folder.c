@@ -30,6 +30,7 @@ static call failing;
 static int fails_in;   /* the call of this kind that fails, from 1 on; 0 for none */
 static int fails_with; /* errno */
 static bool dies;      /* it doesn't fail, but kills the process; a write is made in part before */
+static unsigned syncs; /* of files, so far */
 
 static bool is_hit(call which) {
     if (failing != which || fails_in == 0 || --fails_in > 0) {
@@ -58,7 +59,10 @@ ssize_t __wrap_pwrite(int file, const void *bytes, size_t length, off_t place) {
 
 int __real_fdatasync(int file);
 int __wrap_fdatasync(int file);
-int __wrap_fdatasync(int file) { return is_hit(FDATASYNC) ? -1 : __real_fdatasync(file); }
+int __wrap_fdatasync(int file) {
+    syncs++;
+    return is_hit(FDATASYNC) ? -1 : __real_fdatasync(file);
+}
 
 int __real_fsync(int file);
 int __wrap_fsync(int file);
@@ -313,6 +317,31 @@ static void sites_are_compared(void) {
     drop_folder();
 }
 
+/* ---- groups ---- */
+
+/* All records that wait are written together, with two syncs: the promises of all requests, and then their outcomes. */
+static void records_are_written_together(void) {
+    enum { REQUESTS = 16 };
+    char config[32 * (REQUESTS + 1)] = "sites 1\n", program[32];
+    for (int i = 0; i < REQUESTS; i++) {
+        sprintf(config + strlen(config), "item i%d 0 100\n", i);
+    }
+    new_folder();
+    polydb_host *host;
+    assert(open_as(&host, 0, config, false) == POLYDB_HOST_DONE);
+    settles(host);
+    int before = commits;
+    unsigned synced = syncs;
+    for (int i = 0; i < REQUESTS; i++) {
+        int length = sprintf(program, "i%d := i%d - 1", i, i);
+        assert(polydb_host_submit(host, (const uint8_t *)program, (size_t)length, false, &error) == POLYDB_HOST_DONE);
+    }
+    settles(host);
+    assert(commits == before + REQUESTS && syncs == synced + 4);
+    polydb_host_close(host);
+    drop_folder();
+}
+
 /* ---- journals ---- */
 
 static void empty_files_are_new(void) {
@@ -527,6 +556,7 @@ int main(void) {
     children_keep_no_lock();
     names_are_compared();
     sites_are_compared();
+    records_are_written_together();
     empty_files_are_new();
     lost_sites_are_refused();
     no_journals_are_refused();

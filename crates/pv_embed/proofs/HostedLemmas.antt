@@ -1,9 +1,9 @@
 -- What a site with a host is after a step and after a write of its host.
-use Rattle.std.proofs.Common.{◌≡◌, inl, inr, ℕ, ◌+◌, ◌<◌, ◌≤◌, Bool, true, false, not, List, [], ◌∷◌, ◌++◌, Option, Some, None, Ok, MatchBool, map, refl, sym, ◌∙◌, ap, subst, append_assoc, length, ◌^◌, arith, All}
+use Rattle.std.proofs.Common.{◌≡◌, inl, inr, ℕ, ◌+◌, ◌≤◌, Bool, true, false, List, [], ◌∷◌, ◌++◌, Option, Some, None, Ok, map, refl, sym, ◌∙◌, ap, subst, append_assoc, length, arith, All}
 use Rattle.std.specs.Prelude.{flat_map}
 use Rattle.pv_base.specs.declared.limits.TheConstants.{MAX_LENGTH}
 use Rattle.pv_format.specs.Record.{Record}
-use Rattle.pv_disk_model.specs.Calls.{LogCall, Makes, read_all, reserve, append}
+use Rattle.pv_disk_model.specs.Calls.{LogCall, Makes, reserve, append}
 use Rattle.pv_disk_model.specs.Size.{Contents, size_of}
 use Rattle.pv_protocol.specs.State as model
 use Rattle.pv_protocol.specs.State.{Running}

@@ -7,3 +7,4 @@ pub mod StoredLemmas
 pub mod TakeLemmas
 pub mod There
 pub mod WorldBox
+pub mod WriteLemmas

@@ -1,5 +1,5 @@
 mod FileLemmas
-mod GroupLemmas
+pub mod GroupLemmas
 mod GroupReads
-mod HostLemmas
+pub mod HostLemmas
 mod WaitingLemmas

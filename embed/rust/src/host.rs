@@ -206,7 +206,7 @@ impl FileHost {
         }
     }
 
-    /// One write and its sync: of a record, and then of the gate before it. Where the library gives the records that wait as one write, it is one for all of them.
+    /// One write and its sync after another: of all records that wait and have room, and then of the gate before them.
     fn write_all(&mut self) -> Result<(), HostError> {
         while let Some(write) = self.site.next_write()? {
             self.files.write(write.place, &write.bytes)?;

@@ -420,7 +420,8 @@ impl Site {
         answer(unsafe { calls::polydb_site_tick(&mut self.handle) })
     }
 
-    /// What is to be written next into the journal. The same comes until [`Site::written`].
+    /// What is to be written next into the journal: all records that wait, as far as 64 KiB have room for them, and then the gate before them. The same comes until
+    /// [`Site::written`].
     pub fn next_write(&mut self) -> Result<Option<JournalWrite>, Error> {
         let mut place = 0;
         let (status, bytes) = fill_from(WRITE_ROOM, |out, written| unsafe {

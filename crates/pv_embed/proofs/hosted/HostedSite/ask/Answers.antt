@@ -1,6 +1,6 @@
 use Rattle.std.proofs.Common.{◌≡◌, ◌≤◌, All, ap, sym, subst, ◌∙◌}
 use Rattle.pv_disk_model.specs.Size.{size_of}
-use Rattle.pv_host.specs.HostLog.{HostState, with_asked}
+use Rattle.pv_host.specs.HostLog.{with_asked}
 use Rattle.pv_embed.proofs.HostedLemmas.{contents_asked, ready_asked, stored_asked}
 use Rattle.pv_embed.proofs.hosted.HostedSite.ask.Goals as goal
 use Rattle.pv_embed.specs.declared.made.Made.{Made}
