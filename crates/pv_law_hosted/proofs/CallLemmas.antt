@@ -8,7 +8,7 @@ use Rattle.pv_base.specs.Catalog.{Declared}
 use Rattle.pv_base.specs.declared.limits.TheConstants.{MAX_PROGRAM_ITEMS}
 use Rattle.pv_check.specs.CheckRefusal.{check_refusal}
 use Rattle.pv_disk_model.specs.Disk.{overlaid}
-use Rattle.pv_embed.specs.Hosted.{Gives, HostedState, Stays, TakesNext, Writes}
+use Rattle.pv_embed.specs.Hosted.{Asks, Gives, HostedState, Stays, TakesNext, Writes}
 use Rattle.pv_embed.specs.Opening.{HasOpenedOn}
 use Rattle.pv_embed.specs.Outputs.{out_of}
 use Rattle.pv_embed.specs.Requests.{ReceivesBy, SubmitsBy}
@@ -21,7 +21,7 @@ use Rattle.pv_host.specs.HostFile.{MayLeave}
 use Rattle.pv_host.specs.HostLog.{HostWrite, next_write}
 use Rattle.pv_law_hosted.specs.Calls.{HasSite, IsFromASite}
 use Rattle.pv_law_hosted.specs.Deployment.{Deployment, Station, station_at, with_station}
-use Rattle.pv_law_hosted.specs.DeploymentEvents.{Happens, HappensAt, HappensTo, Stands, carried, goes, idles, is_writing, lets_out, request, stays, takes, time, writes}
+use Rattle.pv_law_hosted.specs.DeploymentEvents.{Happens, HappensAt, HappensTo, Stands, asks, carried, goes, idles, is_writing, lets_out, request, stays, takes, time, writes}
 use Rattle.pv_law_programs.proofs.DeclaredItems.{declared-items}
 use Rattle.pv_law_world.proofs.NumeralLemmas.{small-numbers}
 use Rattle.pv_law_hosted.specs.Mirrored.{FollowsHosted, FollowsProcess, IsMirrored}
@@ -131,6 +131,9 @@ module _ (config : List ℕ) (catalog : Declared) (d : Deployment) (n : ℕ) (si
   pub tick-happens : {E : Type 0} (next : HostedState) (result : Result ⊤ E) → Stands next → Gives site next tick result
       → Happens config catalog d (with_station d n (record old { hosted = Some next }))
   tick-happens next result stands by = next-happens next stands (ticks-to next result by)
+
+  pub ask-happens : (next : HostedState) (room : ℕ) → Stands next → Asks room site next → Happens config catalog d (with_station d n (record old { hosted = Some next }))
+  ask-happens next room stands by = next-happens next stands (asks next room by)
 
   pub write-happens : (next : HostedState) (write : HostWrite) → Stands next → next_write site.site.log ≡ Some write → Writes site next
       → Happens config catalog d (with_station d n (record old { file = overlaid old.file write.place write.bytes; hosted = Some next }))

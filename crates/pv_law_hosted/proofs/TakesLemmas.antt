@@ -113,7 +113,7 @@ module _ (setup : Setup) (d : Deployment) (n : ℕ)
   cut-at zero content (given ∷ later) waits enough =
       let mid = with_given setup n content given in
       let parts = parted setup n mid later in
-      let records = ap (λ (l : List Record). length l) (parts.still ∙ waits.1) in
+      let records : length (with_all setup n mid parts.quiet).records ≡ length (content.records ++ waits.0 ∷ []) = ap (λ (l : List Record). length l) (parts.still ∙ waits.1) in
       record {
         done = given ∷ parts.quiet;
         left = parts.left;
@@ -126,7 +126,7 @@ module _ (setup : Setup) (d : Deployment) (n : ℕ)
       let mid = with_given setup n content given in
       let parts = parted setup n mid later in
       let settled = with_all setup n mid parts.quiet in
-      let records = ap (λ (l : List Record). length l) (parts.still ∙ waits.1) in
+      let records : length settled.records ≡ length (content.records ++ waits.0 ∷ []) = ap (λ (l : List Record). length l) (parts.still ∙ waits.1) in
       let longer : length settled.records ≡ length content.records + 1 = omega (arith, records, length-append content.records (waits.0 ∷ [])) in
       let all : with_all setup n mid later ≡ with_all setup n settled parts.left =
       ap (with_all setup n mid) parts.split ∙ with_all-append setup n mid parts.quiet parts.left in
@@ -165,8 +165,15 @@ module _ (setup : Setup) (d : Deployment) (n : ℕ)
         let stored = spelled-length content.records site.site.log.stored f.stored in
         let all = spelled-length site.site.records (contents_of site.site.log) all-spelled in
         let records = ap (λ (c : Content). length c.records) f.come in
-        omega (arith, stored, all, records, ap (λ (l : Contents). length l) asked, length-append site.site.log.stored (site.site.log.asked ++ site.site.log.pending),
-        length-append site.site.log.asked site.site.log.pending)
+        omega (
+          arith,
+          stored,
+          all,
+          records,
+          ap (λ (l : Contents). length l) asked,
+          length-append site.site.log.stored (site.site.log.asked ++ site.site.log.pending),
+          length-append site.site.log.asked site.site.log.pending,
+        )
 
     pub cut-group : Cut content f.waiting site.site.log.stored (one ∷ others)
     cut-group =

@@ -1,23 +1,24 @@
 -- The worked deployment, event by event.
-use Rattle.std.proofs.Common.{◌≡◌, ◌⊎◌, inl, inr, ⊎_elim, ℕ, zero, suc, ◌+◌, ◌^◌, ◌<◌, Bool, true, false, Option, Some, None, List, [], ◌∷◌, ◌++◌, length, arith, refl, ap, ◌∙◌, subst}
+use Rattle.std.proofs.Common.{◌≡◌, ◌⊎◌, inl, inr, ⊎_elim, ℕ, zero, suc, ◌+◌, ◌^◌, ◌<◌, true, false, Option, Some, None, List, [], ◌∷◌, ◌++◌, length, arith, refl, sym, ap, ◌∙◌, subst}
 use Rattle.std.proofs.lemmas.List.Elements.{All-nil, All-cons}
 use Rattle.pv_base.specs.BigEndian.{big_endian}
+use Rattle.pv_base.specs.declared.limits.TheConstants.{MAX_JOURNAL}
 use Rattle.pv_disk_model.specs.Disk.{Torn}
 use Rattle.pv_disk_model.specs.Log.{Adds, IsBeforeOrAfter, LeavesOnly}
-use Rattle.pv_disk_model.specs.Size.{Contents}
+use Rattle.pv_disk_model.specs.Size.{Contents, size_of}
 use Rattle.pv_embed.specs.Opening.{Configures, HasOpenedOn}
 use Rattle.pv_format.specs.Contents.{SpellRecords}
 use Rattle.pv_format.specs.Journal.{IsJournal, end_of, framed}
 use Rattle.pv_format.specs.Record.{Record, epoch_begun}
 use Rattle.pv_format.specs.RecordSpelling.{SpellsRecord}
 use Rattle.pv_host.specs.HostLaws.{host_model}
-use Rattle.pv_host.specs.HostLog.{WasHeld}
-use Rattle.pv_law_hosted.proofs.CallLemmas.{going-happens, opening-happens, some-same, write-happens}
+use Rattle.pv_host.specs.HostLog.{HostState, WasHeld, contents_of}
+use Rattle.pv_law_hosted.proofs.CallLemmas.{ask-happens, going-happens, opening-happens, some-same, write-happens}
 use Rattle.pv_law_hosted.specs.Calls.{HasSite}
 use Rattle.pv_law_hosted.specs.Claims.{HoldsSite}
 use Rattle.pv_law_hosted.specs.Deployment.{Deployment, IsNew, IsNewStation}
 use Rattle.pv_law_hosted.specs.DeploymentEvents.{Happens, Stands}
-use Rattle.pv_law_hosted.specs.Worked.{config, catalog, schedule, first_epoch, new_file, written_file, found_file, opened_log, begun_log, begun_records, begun, fresh, up, writing, found}
+use Rattle.pv_law_hosted.specs.Worked.{config, catalog, schedule, first_epoch, new_file, written_file, found_file, opened_log, begun_log, asked_log, begun_records, begun, fresh, up, asked, writing, found}
 use Rattle.pv_law_hosted.specs.Mirrored.{IsMirrored, world_of}
 use Rattle.pv_model.specs.Events.{Event}
 use Rattle.pv_model.specs.LineCauses.{Before, at_first}
@@ -67,16 +68,16 @@ new-journal : IsJournal [] new_file
 new-journal = record { short = All-nil (λ (c : List ℕ). length c < 2 ^ 32); gate = 0; rest = []; closed = λ is. absurd (omega (arith, is)); is = refl }
 
 -- What a crash might have left since, of a log with the first content or with none.
-of-new : (t : ℕ) (left : Option Contents) → WasHeld (begun_log false) t left → (WasHeld opened_log t left) ⊎ (left ≡ Some (first_epoch ∷ []))
+of-new : (t : ℕ) (left : Option Contents) → WasHeld begun_log t left → (WasHeld opened_log t left) ⊎ (left ≡ Some (first_epoch ∷ []))
 of-new t left (zero, since, within, is) = inl (0, since, omega arith, is)
 of-new t left (suc zero, since, within, is) = inr is
 of-new t left (suc (suc k), since, within, is) = absurd (omega (arith, within))
 
-of-none : (t : ℕ) (left : Option Contents) → WasHeld opened_log t left → WasHeld (begun_log false) t left × (left ≡ Some [])
+of-none : (t : ℕ) (left : Option Contents) → WasHeld opened_log t left → WasHeld begun_log t left × (left ≡ Some [])
 of-none t left (zero, since, within, is) = ((0, since, omega arith, is), is)
 of-none t left (suc k, since, within, is) = absurd (omega (arith, within))
 
-left-only : LeavesOnly host_model opened_log (begun_log false) (IsBeforeOrAfter [] first_epoch)
+left-only : LeavesOnly host_model opened_log begun_log (IsBeforeOrAfter [] first_epoch)
 left-only = record {
   later = omega arith;
   each = λ left held. ⊎_elim (λ early. inl (of-none 0 left early).1) (λ late. inr late) (of-new 0 left held);
@@ -84,13 +85,13 @@ left-only = record {
   keeps = λ t left le held. (of-none t left held).0;
 }
 
-adds-epoch : Adds host_model opened_log (begun_log false) first_epoch
+adds-epoch : Adds host_model opened_log begun_log first_epoch
 adds-epoch = record {
   contents = λ was is. subst (λ (l : Contents). Some (first_epoch ∷ []) ≡ Some (l ++ first_epoch ∷ [])) (some-same is) refl;
   known = refl;
   size = refl;
   limit = refl;
-  any_moment = λ was is. subst (λ (l : Contents). LeavesOnly host_model opened_log (begun_log false) (IsBeforeOrAfter l first_epoch)) (some-same is) left-only;
+  any_moment = λ was is. subst (λ (l : Contents). LeavesOnly host_model opened_log begun_log (IsBeforeOrAfter l first_epoch)) (some-same is) left-only;
   durable = λ was is left may. may ∙ subst (λ (l : Contents). Some (first_epoch ∷ []) ≡ Some (l ++ first_epoch ∷ [])) (some-same is) refl;
 }
 
@@ -102,7 +103,7 @@ none-too-many : too_many_in catalog 0 [] ≡ None
 unfolding too_many_in
 none-too-many = refl
 
-opened-site : HasOpened host_model opened_log 0 catalog (begun false).site
+opened-site : HasOpened host_model opened_log 0 catalog (begun begun_log).site
 opened-site = record {
   contents = [];
   records = [];
@@ -121,32 +122,32 @@ opened-site = record {
   calls = inr (
     record opened_log { is_read = true },
     (refl, refl),
-    inr (record opened_log { is_read = true }, refl, inr (begun_log false, (omega arith, refl, refl), (refl, refl))),
+    inr (record opened_log { is_read = true }, refl, inr (begun_log, (omega arith, refl, refl), (refl, refl))),
   );
 }
 
-opened-on : HasOpenedOn config 0 new_file (begun false)
+opened-on : HasOpenedOn config 0 new_file (begun begun_log)
 opened-on = record {
   schedule = schedule;
   configured = configures;
   known = omega arith;
   log = opened_log;
-  opened_on = record { journal = new-journal; pending = refl; behind_gate = refl; limit_is = refl; up = refl; unread = refl };
+  opened_on = record { journal = new-journal; asked = refl; pending = refl; behind_gate = refl; limit_is = refl; up = refl; unread = refl };
   opened = opened-site;
   held = refl;
 }
 
--- The site stands, whether its record is behind the gate or not.
-stands : (behind_gate : Bool) → Stands (begun behind_gate)
+-- The site stands with each log that holds the record.
+stands : (log : HostState) → contents_of log ≡ first_epoch ∷ [] → log.is_down ≡ false → log.limit ≡ MAX_JOURNAL → Stands (begun log)
 unfolding journal_bytes
-stands behind_gate = record {
+stands log has up limit = record {
   ready = record {
-    intact = omega arith;
-    limit = refl;
+    intact = let size : size_of (contents_of log) ≡ size_of (first_epoch ∷ []) = ap size_of has in omega (arith, size);
+    limit = limit;
     holds = record {
-      up = refl;
-      size = refl;
-      held = λ contents is. subst (SpellRecords begun_records) (some-same is) (spelled-epoch, tt);
+      up = up;
+      size = ap size_of has;
+      held = λ contents is. subst (SpellRecords begun_records) (sym has ∙ some-same is) (spelled-epoch, tt);
     };
   };
   running = just_started 1;
@@ -161,19 +162,23 @@ is-new = record {
 }
 
 pub opens : Happens config catalog fresh up
-opens = opening-happens config catalog fresh 0 (begun false) (omega arith) refl opened-on (stands false)
+opens = opening-happens config catalog fresh 0 (begun begun_log) (omega arith) refl opened-on (stands begun_log refl refl refl)
 
-has-site : HasSite catalog up 0 (begun false)
+has-site : HasSite catalog up 0 (begun begun_log)
 has-site = record { known = omega arith; here = refl; me = refl; declared = refl }
 
 pub dies : Happens config catalog up fresh
-dies = going-happens config catalog up 0 (begun false) has-site new_file (inl refl)
+dies = going-happens config catalog up 0 (begun begun_log) has-site new_file (inl refl)
 
-pub writes-record : Happens config catalog up writing
+pub asks-for-record : Happens config catalog up asked
+asks-for-record =
+    ask-happens config catalog up 0 (begun begun_log) has-site (begun (asked_log false)) 100 (stands (asked_log false) refl refl refl) (record { log = refl; same = refl })
+
+pub writes-record : Happens config catalog asked writing
 unfolding big_endian
 writes-record =
-    write-happens config catalog up 0 (begun false) has-site (begun true) (record { place = end_of [] + 1; bytes = framed first_epoch ++ 0 ∷ [] }) (stands true) refl
-    (record { log = refl; same = refl })
+    write-happens config catalog asked 0 (begun (asked_log false)) (record { known = omega arith; here = refl; me = refl; declared = refl }) (begun (asked_log true))
+    (record { place = end_of [] + 1; bytes = framed first_epoch ++ 0 ∷ [] }) (stands (asked_log true) refl refl refl) refl (record { log = refl; same = refl })
 
 torn-gate : Torn 8 1 written_file found_file
 unfolding big_endian
@@ -181,7 +186,7 @@ torn-gate = record { before = refl; after = refl; no_shorter = omega arith; no_l
 
 pub dies-writing : Happens config catalog writing found
 dies-writing =
-    going-happens config catalog writing 0 (begun true) (record { known = omega arith; here = refl; me = refl; declared = refl }) found_file
+    going-happens config catalog writing 0 (begun (asked_log true)) (record { known = omega arith; here = refl; me = refl; declared = refl }) found_file
     (inr (record { place = 8; bytes = 1 ∷ [] }, refl, torn-gate))
 
 found-journal : IsJournal (first_epoch ∷ []) found_file
@@ -218,8 +223,9 @@ module _ (one_record : (entry other : Record) (bytes : List ℕ) → SpellsRecor
         let first = goes_on fresh up [] new opens in
         let second = goes_on up fresh ([] ++ first.0) first.1 dies in
         let third = goes_on fresh up (([] ++ first.0) ++ second.0) second.1 opens in
-        let fourth = goes_on up writing ((([] ++ first.0) ++ second.0) ++ third.0) third.1 writes-record in
-        let fifth = goes_on writing found (((([] ++ first.0) ++ second.0) ++ third.0) ++ fourth.0) fourth.1 dies-writing in
-        let events = ((((([] ++ first.0) ++ second.0) ++ third.0) ++ fourth.0) ++ fifth.0) in
-        let held = holds-epoch (site_at (world_of (setup_of catalog) events) 0) (holds events fifth.1) in
-        (events, fifth.1, held.0, held.1)
+        let fourth = goes_on up asked ((([] ++ first.0) ++ second.0) ++ third.0) third.1 asks-for-record in
+        let fifth = goes_on asked writing (((([] ++ first.0) ++ second.0) ++ third.0) ++ fourth.0) fourth.1 writes-record in
+        let sixth = goes_on writing found ((((([] ++ first.0) ++ second.0) ++ third.0) ++ fourth.0) ++ fifth.0) fifth.1 dies-writing in
+        let events = (((((([] ++ first.0) ++ second.0) ++ third.0) ++ fourth.0) ++ fifth.0) ++ sixth.0) in
+        let held = holds-epoch (site_at (world_of (setup_of catalog) events) 0) (holds events sixth.1) in
+        (events, sixth.1, held.0, held.1)

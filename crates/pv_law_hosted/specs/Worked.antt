@@ -40,26 +40,21 @@ found_file = header ++ 1 ∷ (framed first_epoch ++ 0 ∷ [])
 -- ## The site
 -- the log as it is opened on the new file, and once the epoch was begun
 abbrev pub opened_log : HostState
-opened_log = record { stored = []; pending = []; behind_gate = false; limit = MAX_JOURNAL; is_down = false; is_read = false; places = 0; bytes = 0 }
+opened_log = record { stored = []; asked = []; pending = []; behind_gate = false; limit = MAX_JOURNAL; is_down = false; is_read = false; bytes = 0 }
 
-abbrev pub begun_log : Bool → HostState
-begun_log behind_gate = record {
-  stored = [];
-  pending = first_epoch ∷ [];
-  behind_gate = behind_gate;
-  limit = MAX_JOURNAL;
-  is_down = false;
-  is_read = true;
-  places = 0;
-  bytes = 0;
-}
+abbrev pub begun_log : HostState
+begun_log = record opened_log { pending = first_epoch ∷ []; is_read = true }
+
+-- the log once the host was asked to write the record, which stands behind the gate or doesn't
+abbrev pub asked_log : Bool → HostState
+asked_log behind_gate = record begun_log { asked = first_epoch ∷ []; pending = []; behind_gate = behind_gate }
 
 abbrev pub begun_records : List Record
 begun_records = epoch_begun 1 ∷ []
 
--- the site in its first epoch, where its record stands behind the gate or doesn't
-abbrev pub begun : Bool → HostedState
-begun behind_gate = record {
+-- the site in its first epoch, with this log
+abbrev pub begun : HostState → HostedState
+begun log = record {
   site = record {
     me = 0;
     catalog = catalog;
@@ -67,7 +62,7 @@ begun behind_gate = record {
     running = Some (just_started 1);
     epoch = 1;
     first = true;
-    log = begun_log behind_gate;
+    log = log;
   };
   held = [];
 }
@@ -79,11 +74,15 @@ fresh = record { file = new_file; hosted = None; let_out = [] } ∷ []
 
 -- a process on a new file
 abbrev pub up : Deployment
-up = record { file = new_file; hosted = Some (begun false); let_out = [] } ∷ []
+up = record { file = new_file; hosted = Some (begun begun_log); let_out = [] } ∷ []
+
+-- its host was asked to write the record
+abbrev pub asked : Deployment
+asked = record { file = new_file; hosted = Some (begun (asked_log false)); let_out = [] } ∷ []
 
 -- the record is in the file, and the gate is to be opened
 abbrev pub writing : Deployment
-writing = record { file = written_file; hosted = Some (begun true); let_out = [] } ∷ []
+writing = record { file = written_file; hosted = Some (begun (asked_log true)); let_out = [] } ∷ []
 
 -- the process is gone, and left the gate open
 abbrev pub found : Deployment

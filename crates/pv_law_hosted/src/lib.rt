@@ -11,7 +11,7 @@ ghost use Rattle.pv_base.specs.declared.reply.Reply.{Reply};
 ghost use Rattle.pv_base.specs.declared.txn.TxnId.{TxnId};
 ghost use Rattle.pv_embed.specs.Held.{message, note};
 ghost use Rattle.pv_disk_model.specs.Disk.{overlaid};
-ghost use Rattle.pv_embed.specs.Hosted.{Gives, HostedState, TakesNext, Writes, log_length, stored_length};
+ghost use Rattle.pv_embed.specs.Hosted.{Asks, Gives, HostedState, TakesNext, Writes, log_length, stored_length};
 ghost use Rattle.pv_embed.specs.Opening.{Configures, HasOpenedOn};
 ghost use Rattle.pv_embed.specs.Outputs.{out_of};
 ghost use Rattle.pv_embed.specs.Requests.{ReceivesBy, SubmitsBy};
@@ -73,7 +73,7 @@ pub fn deployments_are_runs()
 /// - It opens a site on the file that the last process of that number has left (`opened`).
 ///
 /// [`HostedSite::stands_ready`](pv_embed::HostedSite::stands_ready) shows that the site stands after a call. Before it, it has its number, its catalog and what
-/// stands ready, since the deployment is mirrored (`has`). A reading, and a question what to write, change nothing.
+/// stands ready, since the deployment is mirrored (`has`). A reading changes nothing, nor does a question what is to be written of what was asked for.
 pub fn calls_happen()
     ensures has { (catalog : Declared) (d : Deployment) (events : List Event) (n : ℕ) (site : HostedState) → IsMirrored (setup_of catalog) d events → n < catalog.sites →
         (station_at d n).hosted ≡ Some site → HasSite catalog d n site × Stands site }
@@ -85,6 +85,9 @@ pub fn calls_happen()
         Happens config catalog d (with_station d n (record (station_at d n) { hosted = Some next })) }
     ensures ticked { (config : List ℕ) (catalog : Declared) (d : Deployment) (n : ℕ) (site next : HostedState) (result : Result ⊤ NoMemory) →
         HasSite catalog d n site → Stands next → Gives site next tick result →
+        Happens config catalog d (with_station d n (record (station_at d n) { hosted = Some next })) }
+    ensures asked { (config : List ℕ) (catalog : Declared) (d : Deployment) (n : ℕ) (site next : HostedState) (room : ℕ) →
+        HasSite catalog d n site → Stands next → Asks room site next →
         Happens config catalog d (with_station d n (record (station_at d n) { hosted = Some next })) }
     ensures wrote { (config : List ℕ) (catalog : Declared) (d : Deployment) (n : ℕ) (site next : HostedState) (write : HostWrite) →
         HasSite catalog d n site → Stands next → next_write site.site.log ≡ Some write → Writes site next →
@@ -165,8 +168,8 @@ pub fn hosted_reports_hold()
 }
 
 /// A deployment of one site, computed, so that the laws above don't speak of nothing. The site is opened on a new file, and its process goes before anything is written
-/// (`opened`, `died`): that leaves the deployment as it was, in which no process was yet. The site is opened anew, in the same epoch; its host writes the epoch's record
-/// behind the gate and says so (`wrote`). Then the gate is opened in the file, and the process goes before its host has said so (`found`).
+/// (`opened`, `died`): that leaves the deployment as it was, in which no process was yet. The site is opened anew, in the same epoch; its host asks what to write (`asked`),
+/// writes the epoch's record behind the gate and says so (`wrote`). Then the gate is opened in the file, and the process goes before its host has said so (`found`).
 ///
 /// A run mirrors it, and the site of that run has the record that was found and never said to be written, and is down (`mirrored`).
 pub fn a_record_is_found()
@@ -174,7 +177,8 @@ pub fn a_record_is_found()
     ensures new { IsNew worked.catalog worked.fresh }
     ensures opened { Happens worked.config worked.catalog worked.fresh worked.up }
     ensures died { Happens worked.config worked.catalog worked.up worked.fresh }
-    ensures wrote { Happens worked.config worked.catalog worked.up worked.writing }
+    ensures asked { Happens worked.config worked.catalog worked.up worked.asked }
+    ensures wrote { Happens worked.config worked.catalog worked.asked worked.writing }
     ensures found { Happens worked.config worked.catalog worked.writing worked.found }
     ensures mirrored { (events : List Event) × IsMirrored (setup_of worked.catalog) worked.found events ×
         ((site_at (world_of (setup_of worked.catalog) events) 0).records ≡ worked.begun_records) ×

@@ -1,5 +1,5 @@
 use Rattle.std.proofs.Common.{arith, refl}
-use Rattle.pv_law_hosted.proofs.WorkedLemmas.{configures, dies, dies-writing, is-new, mirrored-found, opens, writes-record}
+use Rattle.pv_law_hosted.proofs.WorkedLemmas.{asks-for-record, configures, dies, dies-writing, is-new, mirrored-found, opens, writes-record}
 use Rattle.pv_law_hosted.proofs.a_record_is_found.Goals as goal
 use Rattle.pv_law_hosted.specs.Worked.{config, catalog, schedule, fresh, found}
 use Rattle.pv_site.specs.SiteState.{setup_of}
@@ -15,6 +15,9 @@ returns-clause-opened c = opens
 
 pub returns-clause-died : goal.returns-clause-died
 returns-clause-died c = dies
+
+pub returns-clause-asked : goal.returns-clause-asked
+returns-clause-asked c = asks-for-record
 
 pub returns-clause-wrote : goal.returns-clause-wrote
 returns-clause-wrote c = writes-record

@@ -1,4 +1,4 @@
-use Rattle.pv_law_hosted.proofs.CallLemmas.{going-happens, idle-happens, mirrored-has, opening-happens, receive-happens, submit-happens, take-happens, tick-happens, write-happens, writing-happens}
+use Rattle.pv_law_hosted.proofs.CallLemmas.{ask-happens, going-happens, idle-happens, mirrored-has, opening-happens, receive-happens, submit-happens, take-happens, tick-happens, write-happens, writing-happens}
 use Rattle.pv_law_hosted.proofs.calls_happen.Goals as goal
 
 pub returns-clause-has : goal.returns-clause-has
@@ -13,6 +13,9 @@ returns-clause-received c config catalog d n site next bytes result has stands f
 
 pub returns-clause-ticked : goal.returns-clause-ticked
 returns-clause-ticked c config catalog d n site next result has stands by = tick-happens config catalog d n site has next result stands by
+
+pub returns-clause-asked : goal.returns-clause-asked
+returns-clause-asked c config catalog d n site next room has stands by = ask-happens config catalog d n site has next room stands by
 
 pub returns-clause-wrote : goal.returns-clause-wrote
 returns-clause-wrote c config catalog d n site next write has stands is by = write-happens config catalog d n site has next write stands is by
