@@ -1,9 +1,9 @@
 -- What a site with a host is after a step and after a write of its host.
-use Rattle.std.proofs.Common.{◌≡◌, inl, inr, ℕ, ◌+◌, ◌≤◌, Bool, true, false, List, [], ◌∷◌, ◌++◌, Option, Some, None, Ok, map, refl, sym, ◌∙◌, ap, subst, append_assoc, length, arith, All}
+use Rattle.std.proofs.Common.{◌≡◌, inl, inr, ℕ, ◌+◌, ◌<◌, ◌≤◌, Bool, true, false, not, List, [], ◌∷◌, ◌++◌, Option, Some, None, Ok, MatchBool, map, refl, sym, ◌∙◌, ap, subst, append_assoc, length, ◌^◌, arith, All}
 use Rattle.std.specs.Prelude.{flat_map}
 use Rattle.pv_base.specs.declared.limits.TheConstants.{MAX_LENGTH}
 use Rattle.pv_format.specs.Record.{Record}
-use Rattle.pv_disk_model.specs.Calls.{LogCall, Makes, reserve, append}
+use Rattle.pv_disk_model.specs.Calls.{LogCall, Makes, read_all, reserve, append}
 use Rattle.pv_disk_model.specs.Size.{Contents, size_of}
 use Rattle.pv_protocol.specs.State as model
 use Rattle.pv_protocol.specs.State.{Running}
@@ -15,19 +15,32 @@ use Rattle.pv_site.specs.Steps as step
 use Rattle.pv_site.specs.Steps.{HoldsWhatRuns, IsReady, Steps}
 use Rattle.pv_site.specs.Values.{note_of, outgoing_of}
 use Rattle.pv_site.specs.declared.input.Step.{Step}
-use Rattle.pv_host.proofs.HostLemmas.{asks_keep, called_stores}
 use Rattle.pv_host.specs.HostLaws.{host_model}
-use Rattle.pv_host.specs.HostLog.{HostGoes, HostState, IsSameBesideRoom, asked_after, contents_of, with_asked, with_written, written_to}
+use Rattle.pv_host.specs.HostLog.{HostGoes, HostState, IsSameBesideRoom, asked_after, contents_of, with_asked, with_content, with_written, written_to}
 use Rattle.pv_embed.specs.Held.{Held, Out}
 use Rattle.pv_embed.specs.Hosted.{HasStepped}
 use Rattle.pv_embed.specs.Outputs.{held_of, outputs_of, outs}
 use Rattle.pv_embed.specs.declared.made.Made.{Made}
 
+-- What follows from both of what a call makes of a log that is down and of one that isn't.
+either_way : (A B C : Type 0) (down : Bool) → (A → C) → (B → C) → MatchBool down A B → C
+either_way A B C true where_down where_up is = where_down is
+either_way A B C false where_down where_up is = where_up is
+
 -- No call of the log changes what the host has told to be stored.
+stored_called : (old new : HostState) (call : LogCall) (ok : Bool) → HostGoes old call ok new → new.stored ≡ old.stored
+stored_called old new read_all ok goes =
+    either_way ((ok ≡ false) × (new ≡ old)) ((ok ≡ not old.is_read) × (new ≡ record old { is_read = true; is_down = old.is_read })) (new.stored ≡ old.stored) old.is_down
+    (λ down. ap (λ (log : HostState). log.stored) down.1) (λ up. ap (λ (log : HostState). log.stored) up.1) goes
+stored_called old new (reserve content) ok goes = ap (λ (log : HostState). log.stored) goes
+stored_called old new (append content) ok goes =
+    either_way ((ok ≡ false) × (new ≡ old)) ((length content < 2 ^ 32) × (ok ≡ true) × IsSameBesideRoom (with_content old content) new) (new.stored ≡ old.stored) old.is_down
+    (λ down. ap (λ (log : HostState). log.stored) down.1) (λ up. ap (λ (log : HostState). log.stored) up.2) goes
+
 pub stored_after : (calls : List LogCall) (old new : HostState) (ok : Bool) → Makes HostGoes old calls ok new → new.stored ≡ old.stored
 stored_after [] old new ok makes = ap (λ (log : HostState). log.stored) makes.1
-stored_after (call ∷ calls) old new ok (inl fails) = called_stores old new call false fails.1
-stored_after (call ∷ calls) old new ok (inr goes) = stored_after calls goes.0 new ok goes.2 ∙ called_stores old goes.0 call true goes.1
+stored_after (call ∷ calls) old new ok (inl fails) = stored_called old new call false fails.1
+stored_after (call ∷ calls) old new ok (inr goes) = stored_after calls goes.0 new ok goes.2 ∙ stored_called old goes.0 call true goes.1
 
 -- Nor does a step, and the log becomes no shorter by it.
 pub stored_logged : (appended : Option Record) (old new : HostState) → Logs host_model old new appended → new.stored ≡ old.stored
@@ -107,21 +120,18 @@ written_down log [] behind_gate = refl
 written_down log (first ∷ later) false = refl
 written_down log (first ∷ later) true = refl
 
--- The same where it is asked to write, and then what is stored is the same too.
-record SameContents (old new : HostState) : Type 0 where
-  contents : contents_of new ≡ contents_of old
-  stored : new.stored ≡ old.stored
-  limit : new.limit ≡ old.limit
-  down : new.is_down ≡ old.is_down
+-- What is stored, the limit and whether it is down are the same where it is asked to write.
+asked_stored : (room : ℕ) (log : HostState) (asked : Contents) → (asked_after room log asked).stored ≡ log.stored
+asked_stored room log [] = refl
+asked_stored room log (first ∷ later) = refl
 
-asked_contents : (room : ℕ) (log : HostState) (asked : Contents) → log.asked ≡ asked → SameContents log (asked_after room log asked)
-asked_contents room log (first ∷ later) is = record { contents = refl; stored = refl; limit = refl; down = refl }
-asked_contents room log [] is = record {
-  contents = ap (λ (l : Contents). contents_of (asked_after room log l)) (sym is) ∙ asks_keep room log;
-  stored = refl;
-  limit = refl;
-  down = refl;
-}
+asked_limit : (room : ℕ) (log : HostState) (asked : Contents) → (asked_after room log asked).limit ≡ log.limit
+asked_limit room log [] = refl
+asked_limit room log (first ∷ later) = refl
+
+asked_down : (room : ℕ) (log : HostState) (asked : Contents) → (asked_after room log asked).is_down ≡ log.is_down
+asked_down room log [] = refl
+asked_down room log (first ∷ later) = refl
 
 holds_still : (old new : HostState) (records : List Record) (running : Option Running) → contents_of new ≡ contents_of old → new.is_down ≡ old.is_down
     → HoldsWhatRuns host_model old records running → HoldsWhatRuns host_model new records running
@@ -147,21 +157,15 @@ module _ (site : SiteState HostState) (log : HostState) (same : IsSameBesideRoom
       }
 
 module _ (site : SiteState HostState) (room : ℕ) (log : HostState) (same : log ≡ with_asked room site.log) where
-  is_same : SameContents site.log log
-  is_same = subst (SameContents site.log) (sym same) (asked_contents room site.log site.log.asked refl)
-
-  pub contents_asked : contents_of log ≡ contents_of site.log
-  unfolding is_same
-  contents_asked = is_same.contents
-
   pub stored_asked : log.stored ≡ site.log.stored
-  unfolding is_same
-  stored_asked = is_same.stored
+  stored_asked = ap (λ (l : HostState). l.stored) same ∙ asked_stored room site.log site.log.asked
 
-  pub ready_asked : IsReady host_model site → IsReady host_model (record site { log = log })
-  unfolding is_same
-  ready_asked ready = record {
-    intact = subst (λ (l : Contents). size_of l ≤ MAX_LENGTH) (sym is_same.contents) ready.intact;
-    limit = is_same.limit ∙ ready.limit;
-    holds = holds_still site.log log site.records site.running is_same.contents is_same.down ready.holds;
-  }
+  pub ready_asked : contents_of log ≡ contents_of site.log → IsReady host_model site → IsReady host_model (record site { log = log })
+  ready_asked keeps ready =
+      let down = ap (λ (l : HostState). l.is_down) same ∙ asked_down room site.log site.log.asked in
+      let limit = ap (λ (l : HostState). l.limit) same ∙ asked_limit room site.log site.log.asked in
+      record {
+        intact = subst (λ (l : Contents). size_of l ≤ MAX_LENGTH) (sym keeps) ready.intact;
+        limit = limit ∙ ready.limit;
+        holds = holds_still site.log log site.records site.running keeps down ready.holds;
+      }

@@ -48,7 +48,7 @@ Gives old new input (Ok _) = HasStepped old new input
 Gives old new input (Err _) = Stays old new
 
 -- The host is asked to write a group of what waits, as far as it has so much room.
-pub record Asks (room : ℕ) (old new : HostedState) : Type 0 where
+pub record AsksForGroup (room : ℕ) (old new : HostedState) : Type 0 where
   pub log : new.site.log ≡ with_asked room old.site.log
   pub same : new ≡ record old { site = record old.site { log = new.site.log } }
 

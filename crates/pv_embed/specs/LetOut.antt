@@ -3,14 +3,14 @@ use Rattle.std.specs.Prelude.{◌≡◌, ℕ, List, ◌∷◌, Option, Some, dro
 use Rattle.std.specs.List.{Contains}
 use Rattle.pv_protocol.specs.State as model
 use Rattle.pv_embed.specs.Held.{Held}
-use Rattle.pv_embed.specs.Hosted.{Asks, HasStepped, HostedState, Stays, TakesNext, Writes}
+use Rattle.pv_embed.specs.Hosted.{AsksForGroup, HasStepped, HostedState, Stays, TakesNext, Writes}
 use Rattle.pv_embed.specs.declared.made.Output.{Output}
 
 -- What a call makes of the site: a step, or room for one; or the host is asked to write, has told of a write, or has asked for what is let out.
 pub data Goes (old new : HostedState) : Type 0 where
   steps : (input : model.Input) → HasStepped old new input → Goes old new
   stays : Stays old new → Goes old new
-  asks : (room : ℕ) → Asks room old new → Goes old new
+  asks : (room : ℕ) → AsksForGroup room old new → Goes old new
   writes : Writes old new → Goes old new
   takes : (result : Option Output) → TakesNext old new result → Goes old new
 

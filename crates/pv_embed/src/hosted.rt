@@ -12,7 +12,7 @@ ghost use Rattle.pv_host.specs.HostLog.{HostState, contents_of, least_write, nex
 ghost use Rattle.pv_host.specs.HostWrites.{write_of};
 ghost use Rattle.pv_embed.specs.Opening.{IsUnread, OpensHosted, RefusesContents};
 ghost use Rattle.pv_embed.specs.Held.{Held};
-ghost use Rattle.pv_embed.specs.Hosted.{Asks, Gives, TakesNext, Writes, stored_length};
+ghost use Rattle.pv_embed.specs.Hosted.{AsksForGroup, Gives, TakesNext, Writes, stored_length};
 ghost use Rattle.pv_embed.specs.Outputs.{IsSpelled, out_of};
 ghost use Rattle.pv_embed.specs.Requests.{ReceivesBy, SubmitsBy, ReadsBy};
 
@@ -203,7 +203,8 @@ impl HostedSite {
     /// The host is to write a group of the records that wait: as many as have so much room, in bytes, and one at least. A group that it was asked to write before
     /// stays until it has told that it is written. Takes time in proportion to the records of the group.
     pub fn ask(&mut self, room: usize)
-        ensures { Asks room self.old self.new }
+        ensures asks { AsksForGroup room self.old self.new }
+        ensures stores { stored_length self.new ≡ stored_length self.old }
     {
         self.site.log().ask(room);
     }

@@ -17,7 +17,7 @@ ghost use Rattle.pv_host.specs.HostFile.{IsFile, MayLeave};
 ghost use Rattle.pv_host.specs.HostLaws.{host_model};
 ghost use Rattle.pv_host.specs.HostLog.{HostState, HostWrite, next_write};
 ghost use Rattle.pv_embed.specs.Held.{Held};
-ghost use Rattle.pv_embed.specs.Hosted.{Asks, HasStepped, HostedState, Stays, TakesNext, Writes};
+ghost use Rattle.pv_embed.specs.Hosted.{AsksForGroup, HasStepped, HostedState, Stays, TakesNext, Writes};
 ghost use Rattle.pv_embed.specs.Kept.{HoldsStoredRecords, RestOn};
 ghost use Rattle.pv_embed.specs.LetOut.{WasLetOut};
 ghost use Rattle.pv_embed.specs.Opening.{HasOpenedOn};
@@ -42,7 +42,7 @@ pub fn files_hold_what_was_let_out()
     ensures opened { (config file : List ℕ) (me : ℕ) (hosted : HostedState) → HasOpenedOn config me file hosted → IsFile hosted.site.log file }
     ensures stepped { (old new : HostedState) (input : model.Input) (file : List ℕ) → HasStepped old new input → IsFile old.site.log file → IsFile new.site.log file }
     ensures stayed { (old new : HostedState) (file : List ℕ) → Stays old new → IsFile old.site.log file → IsFile new.site.log file }
-    ensures asked { (old new : HostedState) (room : ℕ) (file : List ℕ) → Asks room old new → IsFile old.site.log file → IsFile new.site.log file }
+    ensures asked { (old new : HostedState) (room : ℕ) (file : List ℕ) → AsksForGroup room old new → IsFile old.site.log file → IsFile new.site.log file }
     ensures written { (old new : HostedState) (write : HostWrite) (file : List ℕ) → Writes old new → next_write old.site.log ≡ Some write → IsFile old.site.log file →
         IsFile new.site.log (overlaid file write.place write.bytes) }
     ensures idle { (old new : HostedState) (file : List ℕ) → Writes old new → next_write old.site.log ≡ None → IsFile old.site.log file → IsFile new.site.log file }

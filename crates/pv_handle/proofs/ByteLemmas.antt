@@ -15,7 +15,7 @@ use Rattle.pv_site.specs.declared.input.Outgoing.{Outgoing}
 use Rattle.pv_host.specs.HostLaws.{host_model}
 use Rattle.pv_host.specs.HostLog.{HostState}
 use Rattle.pv_embed.specs.Held.{Held, Out, message, note}
-use Rattle.pv_embed.specs.Hosted.{Asks, HostedState, HasStepped, Stays, Gives, Writes, log_length}
+use Rattle.pv_embed.specs.Hosted.{AsksForGroup, HostedState, HasStepped, Stays, Gives, Writes, log_length}
 use Rattle.pv_embed.specs.Outputs.{outs}
 use Rattle.pv_embed.specs.Requests.{SubmitsBy, ReceivesBy}
 use Rattle.pv_embed.specs.declared.fault.ReceiveFault.{ReceiveFault}
@@ -50,7 +50,7 @@ module _ (waiting : Option Waiting) (old new : HostedState) where
   pub writes-front : Writes old new → Writes (front waiting old) (front waiting new)
   writes-front writes = record { log = writes.log; same = ap (front waiting) writes.same }
 
-  pub asks-front : (room : ℕ) → Asks room old new → Asks room (front waiting old) (front waiting new)
+  pub asks-front : (room : ℕ) → AsksForGroup room old new → AsksForGroup room (front waiting old) (front waiting new)
   asks-front room asks = record { log = asks.log; same = ap (front waiting) asks.same }
 
   pub gives-front : {X E : Type 0} (input : model.Input) (result : Result X E) → Gives old new input result → Gives (front waiting old) (front waiting new) input result

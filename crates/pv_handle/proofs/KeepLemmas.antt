@@ -1,14 +1,14 @@
 -- What the site does keeps what the fields of a site in bytes say.
 use Rattle.std.proofs.Common.{◌≡◌, ℕ, Bool, List, Result, Ok, Err, sym, subst, arith}
 use Rattle.pv_protocol.specs.State as model
-use Rattle.pv_embed.specs.Hosted.{Asks, HostedState, HasStepped, Stays, Gives, Writes, stored_length}
+use Rattle.pv_embed.specs.Hosted.{AsksForGroup, HostedState, HasStepped, Stays, Gives, Writes, stored_length}
 use Rattle.pv_embed.specs.Requests.{SubmitsBy, ReceivesBy}
 use Rattle.pv_embed.specs.declared.fault.ReceiveFault.{ReceiveFault}
 use Rattle.pv_embed.specs.declared.fault.ReceiveFault.TheVariants as receiving
 use Rattle.pv_embed.specs.declared.fault.SubmitFault.{SubmitFault}
 use Rattle.pv_embed.specs.declared.fault.SubmitFault.TheVariants as submitting
 use Rattle.pv_handle.proofs.ByteLemmas.{asks-front, front, stepped-front, stays-front, writes-front, stepped-givable, same-givable}
-use Rattle.pv_handle.proofs.StoredLemmas.{asks-stored, stepped-stored, stays-stored, writes-stored, waits-on}
+use Rattle.pv_handle.proofs.StoredLemmas.{stepped-stored, stays-stored, writes-stored, waits-on}
 use Rattle.pv_handle.specs.ByteView.{IsByteSite}
 use Rattle.pv_handle.specs.declared.bytes.ByteSite.TheInside.{Inside}
 
@@ -42,9 +42,8 @@ module _ (inside : Inside) (new : HostedState) (was : IsByteSite inside) where
         given = same-givable (front inside.waiting inside.site) (front inside.waiting new) new.site.log front_writes.same was.given;
       }
 
-  pub asks-keeps : (room : ℕ) → Asks room inside.site new → Is
-  asks-keeps room asks =
-      let stored = asks-stored room inside.site new asks in
+  pub asks-keeps : (room : ℕ) → AsksForGroup room inside.site new → stored_length new ≡ stored_length inside.site → Is
+  asks-keeps room asks stored =
       let front_asks = asks-front inside.waiting inside.site new room asks in
       record {
         stored = waits-on inside.waiting (stored_length inside.site) (stored_length new) (omega (arith, stored)) was.stored;

@@ -9,7 +9,7 @@ use Rattle.pv_protocol.specs.Shown.{shown}
 use Rattle.pv_report.specs.NamesOnlyItems.{NamesOnlyItems}
 use Rattle.pv_host.specs.HostLog.{HostWrite, least_write, next_write}
 use Rattle.pv_embed.specs.Held.{Held, Out, message, note}
-use Rattle.pv_embed.specs.Hosted.{Asks, HostedState, Writes, log_length, stored_length}
+use Rattle.pv_embed.specs.Hosted.{AsksForGroup, HostedState, Writes, log_length, stored_length}
 use Rattle.pv_handle.specs.ByteState.{ByteState}
 use Rattle.pv_handle.specs.Given.{GivesBytes}
 use Rattle.pv_handle.specs.declared.faults.ValueFault.{ValueFault}
@@ -59,7 +59,7 @@ TakesBytes room out old new (Err _) = (new ≡ old) × (out ≡ room)
 
 -- The host is asked to write what has room, and given it: the records of the group, or the gate before them.
 pub record GivesWrite (room out : List ℕ) (old new : HostedState) (count to : ℕ) : Type 0 where
-  pub asks : Asks (length room) old new
+  pub asks : AsksForGroup (length room) old new
   pub write : HostWrite
   pub next : next_write new.site.log ≡ Some write
   pub gives : GivesBytes write.bytes write.place room out (Bytes count to)

@@ -12,6 +12,7 @@ use crate::given::{Given, give};
 use crate::outputs::{give_output, shown_text};
 use pv_base::{Catalog, NoMemory};
 use pv_embed::{HostedSite, OpenFault, Output, ReceiveFault, SubmitFault};
+use pv_host::groups_fit_their_room;
 use std::alloc::Global;
 use std::marker::Model;
 
@@ -96,6 +97,7 @@ impl ByteSite {
     pub fn next_write(&mut self, out: &mut [u8]) -> Given
         ensures { TakesWrite out.old out.new self.old self.new result }
     {
+        groups_fit_their_room();
         let Some(needed) = self.site.least_write() else {
             return Given::Nothing;
         };

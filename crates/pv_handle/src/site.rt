@@ -119,7 +119,7 @@ impl SiteSlot {
         }
     }
 
-    /// What the host is to write next into its file. The site stays as it is, but that it knows of what it gave.
+    /// What the host is to write next into its file, as far as there is room. The site stays as it is, but that it was asked for that and knows of what it gave.
     pub fn next_write(&mut self, alloc: Global, out: &mut [u8]) -> Option<Given>
         ensures given { Asks (TakesWrite out.old out.new) self.old.handle.site self.new.handle.site result }
         ensures unchanged { IfNone result (out.new ≡ out.old) }

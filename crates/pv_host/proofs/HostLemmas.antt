@@ -142,11 +142,6 @@ called_stores old new (append content) ok goes =
     either_way ((ok ≡ false) × (new ≡ old)) ((length content < 2 ^ 32) × (ok ≡ true) × IsSameBesideRoom (with_content old content) new) (new.stored ≡ old.stored) old.is_down
     (λ down. ap (λ (log : HostState). log.stored) down.1) (λ up. ap (λ (log : HostState). log.stored) up.2) goes
 
--- Nor does asking.
-pub asked_stores : (room : ℕ) (log : HostState) (asked : Contents) → (asked_after room log asked).stored ≡ log.stored
-asked_stores room log [] = refl
-asked_stores room log (first ∷ later) = refl
-
 -- ## Asking
 -- Where there is no group one is made; else the log is as it was.
 pub asks_first : (room : ℕ) (log : HostState) → log.asked ≡ []
@@ -160,14 +155,12 @@ asks_by room log (first ∷ later) some = refl
 pub asks_again : (room : ℕ) (log : HostState) → (log.asked ≡ [] → ⊥) → with_asked room log ≡ log
 asks_again room log some = asks_by room log log.asked some
 
--- Asking keeps what the log holds.
-asks_keep_by : (room : ℕ) (log : HostState) (asked : Contents) → log.asked ≡ asked → contents_of (asked_after room log asked) ≡ contents_of log
-asks_keep_by room log [] is =
-    ap (λ (l : Contents). log.stored ++ l) (group-all room log.pending) ∙ ap (λ (l : Contents). log.stored ++ (l ++ log.pending)) (sym is)
-asks_keep_by room log (first ∷ later) is = refl
-
-pub asks_keep : (room : ℕ) (log : HostState) → contents_of (with_asked room log) ≡ contents_of log
-asks_keep room log = asks_keep_by room log log.asked refl
+-- What waits is the same once a group of it is asked for.
+pub group_keeps : (stored : Contents) (old new : WaitingState) (room : ℕ) → old.asked ≡ [] → new ≡ record old { asked = group_of room old.pending; pending = left_of room old.pending }
+    → stored ++ (new.asked ++ new.pending) ≡ stored ++ (old.asked ++ old.pending)
+group_keeps stored old new room none is =
+    ap (λ (waiting : WaitingState). stored ++ (waiting.asked ++ waiting.pending)) is ∙ ap (λ (l : Contents). stored ++ l) (group-all room old.pending)
+    ∙ ap (λ (l : Contents). stored ++ (l ++ old.pending)) (sym none)
 
 -- The least that can be written next: the gate; or the records of the group; or where there is none, the first record that waits.
 least_gate_by : (stored asked : Contents) (gate : Bool) → (asked ≡ [] → ⊥) → gate ≡ true

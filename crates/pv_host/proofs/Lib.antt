@@ -1,5 +1,6 @@
 mod FileLemmas
-pub mod GroupLemmas
+mod GroupLemmas
 mod GroupReads
-pub mod HostLemmas
+mod HostLemmas
+mod LeastLemmas
 mod WaitingLemmas

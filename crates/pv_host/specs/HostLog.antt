@@ -83,6 +83,10 @@ with_asked room log = asked_after room log log.asked
 abbrev pub least_write : HostState → Option ℕ
 least_write log = option_map (λ (write : HostWrite). length write.bytes) (next_write (with_asked 0 log))
 
+-- There is something to write, for which there is so much room.
+abbrev pub Fits : ℕ → Option HostWrite → Type 0
+Fits room given = (write : HostWrite) × (given ≡ Some write) × (length write.bytes ≤ room)
+
 -- ## What the calls make of it
 -- The log with one content more.
 abbrev pub with_content : HostState → List ℕ → HostState

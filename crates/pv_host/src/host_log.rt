@@ -6,7 +6,7 @@ ghost use Rattle.pv_disk.specs.declared.disk_error.LookError.TheVariants as look
 ghost use Rattle.pv_disk_model.specs.Size.{Contents, size_of};
 ghost use Rattle.pv_format.specs.Journal.{framed, IsJournal, IsNotOurs};
 ghost use Rattle.pv_journal.specs.Opening.{contents_in, place_in};
-ghost use Rattle.pv_host.specs.HostLog.{HostState, IsSameBesideRoom, HasPlace, least_write, next_write, with_asked, with_content, with_written};
+ghost use Rattle.pv_host.specs.HostLog.{HostState, IsSameBesideRoom, HasPlace, contents_of, least_write, next_write, with_asked, with_content, with_written};
 ghost use Rattle.pv_host.specs.HostLaws.{host_model};
 ghost use Rattle.pv_host.specs.HostWrites.{IsOpenedOn, write_of};
 
@@ -113,7 +113,8 @@ impl HostLog {
     /// group until it has told that it is written.
     #[tactic(auto, using(crate::proofs::HostLemmas::asks))]
     pub fn ask(&mut self, room: usize)
-        ensures { self.new ≡ with_asked room self.old }
+        ensures asks { self.new ≡ with_asked room self.old }
+        ensures keeps { contents_of self.new ≡ contents_of self.old }
     {
         if !self.waiting.has_group() {
             self.waiting.ask(room);

@@ -1,9 +1,9 @@
 // What is true of logs whose journals hosts write. The functions do nothing: each states a law.
-ghost use Rattle.std.specs.Prelude.{◌≡◌, ℕ, Bool, true, false, List, Some};
+ghost use Rattle.std.specs.Prelude.{◌≡◌, ◌≤◌, ℕ, Bool, true, false, List, Some};
 ghost use Rattle.pv_disk_model.specs.Calls.{LogCall, append, reserve};
 ghost use Rattle.pv_disk_model.specs.Disk.{overlaid};
 ghost use Rattle.pv_host.specs.HostFile.{HoldsStored, IsFile, IsStored, MayLeave};
-ghost use Rattle.pv_host.specs.HostLog.{HostGoes, HostState, HostWrite, IsSameBesideRoom, next_write, with_asked, with_written};
+ghost use Rattle.pv_host.specs.HostLog.{Fits, HostGoes, HostState, HostWrite, IsSameBesideRoom, least_write, next_write, with_asked, with_written};
 ghost use Rattle.pv_host.specs.HostWrites.{IsOpenedOn};
 
 /// Of a host that writes what it is told, from a file on which the log was opened:
@@ -29,4 +29,9 @@ pub fn files_are_journals()
 pub fn host_logs_never_fail()
     ensures appends { (old new : HostState) (content : List ℕ) (ok : Bool) → old.is_down ≡ false → HostGoes old (append content) ok new → (ok ≡ true) × (new.is_down ≡ false) }
     ensures reserves { (old new : HostState) (content : ℕ) (ok : Bool) → old.is_down ≡ false → HostGoes old (reserve content) ok new → new.is_down ≡ false }
+{}
+
+/// A host that has room for the least that can be written next, and asks to write what has room, is given something for which it has room.
+pub fn groups_fit_their_room()
+    ensures { (log : HostState) (room needed : ℕ) → least_write log ≡ Some needed → needed ≤ room → Fits room (next_write (with_asked room log)) }
 {}

@@ -8,7 +8,7 @@ use Rattle.pv_base.specs.Catalog.{Declared}
 use Rattle.pv_base.specs.declared.limits.TheConstants.{MAX_PROGRAM_ITEMS}
 use Rattle.pv_check.specs.CheckRefusal.{check_refusal}
 use Rattle.pv_disk_model.specs.Disk.{overlaid}
-use Rattle.pv_embed.specs.Hosted.{Asks, Gives, HostedState, Stays, TakesNext, Writes}
+use Rattle.pv_embed.specs.Hosted.{AsksForGroup, Gives, HostedState, Stays, TakesNext, Writes}
 use Rattle.pv_embed.specs.Opening.{HasOpenedOn}
 use Rattle.pv_embed.specs.Outputs.{out_of}
 use Rattle.pv_embed.specs.Requests.{ReceivesBy, SubmitsBy}
@@ -132,7 +132,7 @@ module _ (config : List ℕ) (catalog : Declared) (d : Deployment) (n : ℕ) (si
       → Happens config catalog d (with_station d n (record old { hosted = Some next }))
   tick-happens next result stands by = next-happens next stands (ticks-to next result by)
 
-  pub ask-happens : (next : HostedState) (room : ℕ) → Stands next → Asks room site next → Happens config catalog d (with_station d n (record old { hosted = Some next }))
+  pub ask-happens : (next : HostedState) (room : ℕ) → Stands next → AsksForGroup room site next → Happens config catalog d (with_station d n (record old { hosted = Some next }))
   ask-happens next room stands by = next-happens next stands (asks next room by)
 
   pub write-happens : (next : HostedState) (write : HostWrite) → Stands next → next_write site.site.log ≡ Some write → Writes site next

@@ -10,7 +10,6 @@ use Rattle.pv_protocol.specs.State.{Setup, Running}
 use Rattle.pv_protocol.specs.Step.{records_after, site_step, step_on}
 use Rattle.pv_site.specs.SiteState.{SiteState, here_with, setup_of}
 use Rattle.pv_site.specs.Steps.{HoldsWhatRuns}
-use Rattle.pv_host.proofs.GroupLemmas.{all-parts}
 use Rattle.pv_host.specs.HostFile.{IsFile}
 use Rattle.pv_host.specs.HostLaws.{host_model}
 use Rattle.pv_host.specs.HostLog.{HostState}
@@ -21,7 +20,7 @@ use Rattle.pv_law_hosted.proofs.GivenLemmas.{held_for-append, with_all-append}
 use Rattle.pv_law_hosted.proofs.MirroredLemmas.{Becomes}
 use Rattle.pv_law_hosted.proofs.SplitLemmas.{all-up, parted}
 use Rattle.pv_embed.proofs.HostedLemmas.{stored_logged}
-use Rattle.pv_law_hosted.proofs.TakesLemmas.{HasDone, done-becomes, now}
+use Rattle.pv_law_hosted.proofs.TakesLemmas.{HasDone, all-parts, done-becomes, now}
 use Rattle.pv_law_hosted.specs.Deployment.{Deployment, Station, station_at}
 use Rattle.pv_law_hosted.specs.DeploymentEvents.{MayTake, Stands}
 use Rattle.pv_law_hosted.specs.Given as process

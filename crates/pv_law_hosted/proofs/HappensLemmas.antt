@@ -15,11 +15,11 @@ use Rattle.pv_protocol.specs.Records.{journal_bytes}
 use Rattle.pv_protocol.specs.State as model
 use Rattle.pv_protocol.specs.State.{Setup, Running}
 use Rattle.pv_site.specs.SiteState.{setup_of}
-use Rattle.pv_host.proofs.HostLemmas.{asked_stores}
 use Rattle.pv_host.specs.HostFile.{IsFile, IsStored, MayLeave}
 use Rattle.pv_host.specs.HostLog.{HostState, HostWrite, next_write}
+use Rattle.pv_embed.proofs.HostedLemmas.{stored_asked}
 use Rattle.pv_embed.specs.Held.{Held, Out}
-use Rattle.pv_embed.specs.Hosted.{Asks, HasStepped, HostedState, Stays, TakesNext, Writes, stored_length}
+use Rattle.pv_embed.specs.Hosted.{AsksForGroup, HasStepped, HostedState, Stays, TakesNext, Writes, stored_length}
 use Rattle.pv_embed.specs.Opening.{Configures, HasOpenedOn}
 use Rattle.pv_embed.specs.Outputs.{TakesFrom, out_of}
 use Rattle.pv_embed.specs.declared.made.Output.{Output}
@@ -45,7 +45,7 @@ pub record Laws : Type 0 where
   pub opened : (config file : List ℕ) (me : ℕ) (hosted : HostedState) → HasOpenedOn config me file hosted → IsFile hosted.site.log file
   pub stepped : (old new : HostedState) (input : model.Input) (file : List ℕ) → HasStepped old new input → IsFile old.site.log file → IsFile new.site.log file
   pub stayed : (old new : HostedState) (file : List ℕ) → Stays old new → IsFile old.site.log file → IsFile new.site.log file
-  pub asked : (old new : HostedState) (room : ℕ) (file : List ℕ) → Asks room old new → IsFile old.site.log file → IsFile new.site.log file
+  pub asked : (old new : HostedState) (room : ℕ) (file : List ℕ) → AsksForGroup room old new → IsFile old.site.log file → IsFile new.site.log file
   pub written : (old new : HostedState) (write : HostWrite) (file : List ℕ) → Writes old new → next_write old.site.log ≡ Some write → IsFile old.site.log file
       → IsFile new.site.log (overlaid file write.place write.bytes)
   pub idle : (old new : HostedState) (file : List ℕ) → Writes old new → next_write old.site.log ≡ None → IsFile old.site.log file → IsFile new.site.log file
@@ -133,7 +133,7 @@ module _ (laws : Laws) (config : List ℕ) (schedule : Schedule) (configures : C
         by (record old { hosted = Some next })
         (becomes-still setup d n content rest (record old { hosted = Some next }) refl
         (follows-still setup d n old.file old.file site next content rest f (laws.asked site next room old.file asked f.is_file) (stands next refl)
-        (ap (λ (log : HostState). log.stored) asked.log ∙ asked_stores room site.site.log site.site.log.asked) asked.same))
+        (stored_asked site.site room next.site.log asked.log) asked.same))
     happens new here (is_writing left may) stands =
         by (record old { file = left })
         (becomes-still setup d n content rest (record old { file = left }) refl

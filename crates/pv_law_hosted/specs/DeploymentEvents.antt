@@ -12,7 +12,7 @@ use Rattle.pv_site.specs.Steps.{IsReady}
 use Rattle.pv_host.specs.HostFile.{MayLeave}
 use Rattle.pv_host.specs.HostLaws.{host_model}
 use Rattle.pv_host.specs.HostLog.{HostWrite, next_write}
-use Rattle.pv_embed.specs.Hosted.{Asks, HostedState, HasStepped, Stays, TakesNext, Writes}
+use Rattle.pv_embed.specs.Hosted.{AsksForGroup, HostedState, HasStepped, Stays, TakesNext, Writes}
 use Rattle.pv_embed.specs.Opening.{HasOpenedOn}
 use Rattle.pv_embed.specs.Outputs.{out_of}
 use Rattle.pv_embed.specs.declared.made.Output.{Output}
@@ -39,7 +39,7 @@ pub data HappensTo (catalog : Declared) (d : Deployment) (n : ℕ) (site : Hoste
   -- a call is refused, or changes nothing
   stays : (next : HostedState) → Stays site next → HappensTo catalog d n site old (record old { hosted = Some next })
   -- the host is asked to write a group of what waits, which stays as it is until the host has said that it is written
-  asks : (next : HostedState) (room : ℕ) → Asks room site next → HappensTo catalog d n site old (record old { hosted = Some next })
+  asks : (next : HostedState) (room : ℕ) → AsksForGroup room site next → HappensTo catalog d n site old (record old { hosted = Some next })
   -- some of what the host writes has come into the file, and more is to come or the write has failed
   is_writing : (left : List ℕ) → MayLeave site.site.log old.file left → HappensTo catalog d n site old (record old { file = left })
   -- the write is in the file, and the host says so; or it says so where there is nothing to write

@@ -11,7 +11,7 @@ ghost use Rattle.pv_base.specs.declared.reply.Reply.{Reply};
 ghost use Rattle.pv_base.specs.declared.txn.TxnId.{TxnId};
 ghost use Rattle.pv_embed.specs.Held.{message, note};
 ghost use Rattle.pv_disk_model.specs.Disk.{overlaid};
-ghost use Rattle.pv_embed.specs.Hosted.{Asks, Gives, HostedState, TakesNext, Writes, log_length, stored_length};
+ghost use Rattle.pv_embed.specs.Hosted.{AsksForGroup, Gives, HostedState, TakesNext, Writes, log_length, stored_length};
 ghost use Rattle.pv_embed.specs.Opening.{Configures, HasOpenedOn};
 ghost use Rattle.pv_embed.specs.Outputs.{out_of};
 ghost use Rattle.pv_embed.specs.Requests.{ReceivesBy, SubmitsBy};
@@ -87,7 +87,7 @@ pub fn calls_happen()
         HasSite catalog d n site → Stands next → Gives site next tick result →
         Happens config catalog d (with_station d n (record (station_at d n) { hosted = Some next })) }
     ensures asked { (config : List ℕ) (catalog : Declared) (d : Deployment) (n : ℕ) (site next : HostedState) (room : ℕ) →
-        HasSite catalog d n site → Stands next → Asks room site next →
+        HasSite catalog d n site → Stands next → AsksForGroup room site next →
         Happens config catalog d (with_station d n (record (station_at d n) { hosted = Some next })) }
     ensures wrote { (config : List ℕ) (catalog : Declared) (d : Deployment) (n : ℕ) (site next : HostedState) (write : HostWrite) →
         HasSite catalog d n site → Stands next → next_write site.site.log ≡ Some write → Writes site next →
