@@ -79,8 +79,8 @@ all_read contents read gave place has gate =
     }
 
 -- An open gate comes, and no whole record.
-pub cut_read : (contents : Contents) (read gave : List ℕ) (place : ℕ) → HasRead contents read place → IsOpenEnd gave → EndsShort contents (read ++ gave) place
-cut_read contents read gave place has end =
+pub cut_read : (contents : Contents) (read gave : List ℕ) (place left : ℕ) → HasRead contents read place → IsOpenEnd left gave → EndsShort contents (read ++ gave) place
+cut_read contents read gave place left has end =
     record {
       short = has.short;
       rest = end.0;

@@ -1,6 +1,6 @@
 -- How a journal is read from a disk.
 pub use Rattle.pv_law_calls.specs.Reading.{Looks, LooksOn, LooksBy, Gave}
-use Rattle.std.specs.Prelude.{◌≡◌, ◌≢◌, ℕ, ◌+◌, ◌^◌, ◌<◌, ◌≤◌, List, [], ◌∷◌, ◌++◌, Option, Some, None, length, Vec}
+use Rattle.std.specs.Prelude.{◌≡◌, ◌≢◌, ◌⊎◌, ℕ, ◌+◌, ◌^◌, ◌<◌, ◌≤◌, List, [], ◌∷◌, ◌++◌, Option, Some, None, length, Vec}
 use Rattle.std.specs.declared.alloc.Global.{Global}
 use Rattle.pv_disk_model.specs.Size.{Contents}
 use Rattle.pv_base.specs.BigEndian.{big_endian}
@@ -47,9 +47,14 @@ abbrev pub IsGate : List ℕ → Gate → Type 0
 IsGate read Closed = (gate : ℕ) × (gate ≢ 1) × (read ≡ gate ∷ [])
 IsGate read (Open count) = read ≡ 1 ∷ big_endian 4 count
 
--- What is read at an open gate after which no whole record comes: it, and after it no length, or one.
-abbrev pub IsOpenEnd : List ℕ → Type 0
-IsOpenEnd read = (rest : List ℕ) × (length rest ≤ 4) × (read ≡ 1 ∷ rest)
+-- What is read behind an open gate after which no whole record comes, where so many bytes are left from the gate on: no length, for which there is no room; or one for whose
+-- content there is none, with the next gate.
+abbrev pub RunsPast : List ℕ → ℕ → Type 0
+RunsPast rest left = ((rest ≡ []) × (left < 5)) ⊎ ((count : ℕ) × (count < 2 ^ 32) × (rest ≡ big_endian 4 count) × (left ≤ count + 5))
+
+-- What is read at such a gate: it, and what is read behind it, which has at most four bytes.
+abbrev pub IsOpenEnd : ℕ → List ℕ → Type 0
+IsOpenEnd left read = (rest : List ℕ) × (length rest ≤ 4) × (read ≡ 1 ∷ rest) × RunsPast rest left
 
 -- What is read of a record: a closed gate, or all of the record with this content.
 abbrev pub IsRecord : List ℕ → Option (Vec ℕ Global) → Type 0

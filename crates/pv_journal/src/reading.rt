@@ -131,7 +131,7 @@ pub fn read_record<D: Disk>(
     ensures not_ours { (at : ℕ) → IsErrOf result (LookError.NotOurs at)
         → (bytes : List ℕ) → D.model.content disk.old ≡ Some bytes → (at ≡ place) × StandsCut (drop place bytes) }
     ensures gave { IfOk result (λ found. Gave D.model disk.old disk.new (λ read. IsRecord read found)) }
-    ensures gave_none { (at : ℕ) → IsErrOf result (LookError.NotOurs at) → (at ≡ place) × Gave D.model disk.old disk.new IsOpenEnd }
+    ensures gave_none { (at : ℕ) → IsErrOf result (LookError.NotOurs at) → (at ≡ place) × Gave D.model disk.old disk.new (IsOpenEnd (size - place)) }
 {
     match gate_at(disk, size, place)? {
         Gate::Closed => Ok(None),
@@ -176,7 +176,7 @@ pub fn gate_at<D: Disk>(disk: &mut D, size: u64, place: u64) -> Result<Gate, Loo
     ensures not_ours { (at : ℕ) → IsErrOf result (LookError.NotOurs at)
         → (bytes : List ℕ) → D.model.content disk.old ≡ Some bytes → (at ≡ place) × StandsCut (drop place bytes) }
     ensures gave { IfOk result (λ gate. Gave D.model disk.old disk.new (λ read. IsGate read gate)) }
-    ensures gave_none { (at : ℕ) → IsErrOf result (LookError.NotOurs at) → (at ≡ place) × Gave D.model disk.old disk.new IsOpenEnd }
+    ensures gave_none { (at : ℕ) → IsErrOf result (LookError.NotOurs at) → (at ≡ place) × Gave D.model disk.old disk.new (IsOpenEnd (size - place)) }
 {
     let mut gate = [0];
     read_from(disk, place, &mut gate)?;

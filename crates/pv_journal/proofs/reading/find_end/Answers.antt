@@ -94,8 +94,9 @@ returns-in_err-gate_at-clause-gave_none g c place known =
     let lengths = c.loop-count.invariant.6.0 in
     let before = c.loop-count.invariant.6.1 in
     let cut = c.gate_at.ensures.gave_none place (search rules) in
-    let gave : Gave M c.loop-count.disk c.gate_at.new.disk IsOpenEnd = cut.1 in
-    let end : IsOpenEnd gave.0 = gave.2 in (
+    let left = c.in_ok-size.size - c.loop-count.place in
+    let gave : Gave M c.loop-count.disk c.gate_at.new.disk (IsOpenEnd left) = cut.1 in
+    let end : IsOpenEnd left gave.0 = gave.2 in (
       before.0 ++ gave.0,
       gives_more M c.args.disk.now c.loop-count.disk c.gate_at.new.disk before.0 gave.0 before.1 gave.1,
       inr (record { lengths = lengths; before = before.0; to = subst (OutlinesTo lengths before.0) (sym cut.0) before.2; rest = end.0; few = end.1; is = ap (λ (l : List ℕ). before.0 ++ l) end.2 }),

@@ -1,4 +1,4 @@
-use Rattle.std.proofs.Common.{rules, arith, ◌≡◌, ℕ, ◌-◌, List, [], ◌∷◌, ◌++◌, length, take, drop, sym, ◌∙◌, ap, length-take, length-drop}
+use Rattle.std.proofs.Common.{rules, arith, ◌≡◌, inl, inr, ℕ, ◌-◌, List, [], ◌∷◌, ◌++◌, length, take, drop, refl, sym, ◌∙◌, ap, length-take, length-drop}
 use Rattle.pv_law_calls.proofs.GivenLemmas.{gives_more}
 use Rattle.pv_journal.proofs.GivenLemmas.{gate_closed, gate_open}
 use Rattle.pv_law_calls.proofs.RecordLemmas.{after_gate}
@@ -55,7 +55,7 @@ returns-then-left-lt5-clause-gave_none g c at known =
     let read = c.read_from.new.into in
     let one : length read ≡ 1 = search rules in
     let same : at ≡ c.args.place = cc in
-    (same, (read, c.in_ok-read_from.ensures.gave, ([], omega arith, gate_open read one c.if-gate-ne1.false)))
+    (same, (read, c.in_ok-read_from.ensures.gave, ([], omega arith, gate_open read one c.if-gate-ne1.false, inl (refl, c.if-left-lt5.true))))
 
 pub returns-then-from-left-clause-gave_none : goal.returns-then-from-left-clause-gave_none
 returns-then-from-left-clause-gave_none g c at known =
@@ -68,7 +68,12 @@ returns-then-from-left-clause-gave_none g c at known =
       (
         read ++ number,
         gives_more g.D.Disk.model c.args.disk.now c.read_from.new.disk c.read_from-2.new.disk read number c.in_ok-read_from.ensures.gave c.in_ok-read_from-2.ensures.gave,
-        (number, omega (arith, four), ap (λ (l : List ℕ). l ++ number) (gate_open read one c.if-gate-ne1.false)),
+        (
+          number,
+          omega (arith, four),
+          ap (λ (l : List ℕ). l ++ number) (gate_open read one c.if-gate-ne1.false),
+          inr (c.number_in-count.result, c.number_in-count.type_inv, sym c.number_in-count.ensures, omega (arith, c.if-from-left.true, c.from.ensures)),
+        ),
       ),
     )
 

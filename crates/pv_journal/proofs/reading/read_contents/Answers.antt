@@ -88,10 +88,11 @@ returns-in_err-content-clause-gave_none g c place known =
     let all = map (λ (it : Vec ℕ Global). it.items) c.loop-all.all.items in
     let before = c.loop-all.invariant.5 in
     let cut = c.read_record.ensures.gave_none place (search rules) in
-    let gave : Gave M c.loop-all.disk c.read_record.new.disk IsOpenEnd = cut.1 in (
+    let left = c.in_ok-size.size - c.loop-all.place in
+    let gave : Gave M c.loop-all.disk c.read_record.new.disk (IsOpenEnd left) = cut.1 in (
       before.0 ++ gave.0,
       gives_more M c.args.disk.now c.loop-all.disk c.read_record.new.disk before.0 gave.0 before.1 gave.1,
-      inr (all, subst (EndsShort all (before.0 ++ gave.0)) (sym cut.0) (cut_read all before.0 gave.0 c.loop-all.place before.2 gave.2)),
+      inr (all, subst (EndsShort all (before.0 ++ gave.0)) (sym cut.0) (cut_read all before.0 gave.0 c.loop-all.place left before.2 gave.2)),
     )
 
 pub returns-in_default-clause-gave : goal.returns-in_default-clause-gave
