@@ -1,14 +1,15 @@
 -- A content of a block, as it is read: its length, and then so many bytes.
-use Rattle.std.proofs.Common.{◌≡◌, ℕ, ◌+◌, ◌-◌, ◌^◌, ◌<◌, ◌≤◌, List, [], ◌++◌, Option, Some, None, Result, Ok, Err, length, take, drop, sym, ◌∙◌, ap, arith, append_assoc, length-append, length-take}
+use Rattle.std.proofs.Common.{◌≡◌, inl, inr, ℕ, ◌+◌, ◌^◌, ◌<◌, ◌≤◌, List, [], ◌++◌, Option, Some, None, Result, Ok, Err, length, take, drop, sym, ◌∙◌, ap, arith, append_assoc, length-append, length-take}
 use Rattle.std.specs.Prelude.{IfOk}
 use Rattle.std.specs.Io.KnownBytes.{Appends}
 use Rattle.std.proofs.lemmas.List.{append-nil, drop-drop, take-append-drop, take-take}
 use Rattle.pv_base.specs.BigEndian.{big_endian}
+use Rattle.pv_base.proofs.BigEndianLemmas.{length-big_endian}
 use Rattle.pv_disk_model.specs.DiskModel.{DiskModel}
 use Rattle.pv_disk_model.specs.Disk.{Gives}
 use Rattle.pv_format.specs.Journal.{framed}
 use Rattle.pv_law_journal.proofs.SizeLemmas.{length-framed}
-use Rattle.pv_ckpt.specs.Reading.{BeginsAt, IsCutBefore}
+use Rattle.pv_ckpt.specs.Reading.{BeginsAt, IsCutBefore, LacksLength}
 use Rattle.pv_ckpt.proofs.PackLemmas.{count_told}
 
 nothing_added : (given : Option (List ℕ)) → Appends given given []
@@ -45,6 +46,11 @@ cut_far rest number left count is spelled fits long far content more short same 
     let front : number ≡ take 4 (framed content ++ more) = is ∙ sym (take-take 4 left rest long) ∙ ap (λ (l : List ℕ). take 4 l) same in
     let told = count_told content more number count front spelled fits short in
     absurd (omega (arith, ap length same, length-append (framed content) more, length-framed content, length-take left rest, told, far))
+
+-- What was read of a length that isn't there lies in the block.
+pub lacking_within : (read : List ℕ) (left : ℕ) → LacksLength read left → length read ≤ left
+lacking_within read left (inl (is, few)) = omega (arith, ap length is)
+lacking_within read left (inr (count, fits, is, room, far)) = omega (arith, ap length is, length-big_endian 4 count, room)
 
 -- What follows of an answer from two clauses on it.
 pub IfOk-both : {X E : Type 0} (P Q R : X → Type 0) (result : Result X E) → IfOk result P → IfOk result Q → ((x : X) → P x → Q x → R x) → IfOk result R

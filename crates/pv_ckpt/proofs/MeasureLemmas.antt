@@ -14,8 +14,8 @@ use Rattle.pv_law_calls.proofs.GivenLemmas.{gives_more}
 use Rattle.pv_law_checkpoints.specs.TwoAreas.{block_of, greatest_place}
 use Rattle.pv_law_checkpoints.proofs.Blocks.{records_size}
 use Rattle.pv_law_journal.proofs.SizeLemmas.{length-framed}
-use Rattle.pv_ckpt.specs.Outline.{IsOutlined, MeasuresBlock, gate_of, length_of}
-use Rattle.pv_ckpt.specs.Reading.{BeginsAt, IsInRange, IsReadOf, IsReadShort}
+use Rattle.pv_ckpt.specs.Outline.{IsOutlined, IsOutOfRange, MeasuresBlock, gate_of, length_of}
+use Rattle.pv_ckpt.specs.Reading.{BeginsAt, IsInRange, IsReadOf}
 use Rattle.pv_ckpt.specs.declared.roots.Root.{Root}
 use Rattle.pv_ckpt.proofs.FramedLemmas.{framed_stands, gives_nothing}
 use Rattle.pv_ckpt.proofs.ReadLemmas.{begins_more, block_of-push}
@@ -62,15 +62,15 @@ module _ {D : Type 0} (M : DiskModel D) (old : D) (place : ℕ) where
       let all = with_content mid new packed next count one.0 has next_is fits gives one.1 one.2 in
       (one.0, one.1, all.0, all.1)
 
--- Nothing is read of a block that is out of range.
-pub outside_short : (root : Root) (size : ℕ) → 59 ≤ size → (IsInRange root size → ⊥) → IsReadShort [] root
-outside_short root size long none = elim (cases_lt root.place 58) [
-  | inl early ↦ inl (refl, inl early)
+-- A block that isn't in range on a disk of this size.
+pub outside : (root : Root) (size : ℕ) → 59 ≤ size → (IsInRange root size → ⊥) → IsOutOfRange root
+outside root size long none = elim (cases_lt root.place 58) [
+  | inl early ↦ inl early
   | inr behind ↦ elim (cases_lt greatest_place root.place) [
-    | inl far ↦ inl (refl, inr far)
+    | inl far ↦ inr (inl far)
     | inr near ↦ elim (cases_lt (root.place + root.size) size) [
       | inl inside ↦ absurd (none (record { behind_roots = behind; in_range = near; ends = inside }))
-      | inr past ↦ inr (behind, omega (arith, past, long), omega arith)
+      | inr past ↦ inr (inr (omega (arith, past, long)))
     ]
   ]
 ]

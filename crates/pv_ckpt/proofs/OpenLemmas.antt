@@ -1,5 +1,5 @@
 -- The log that was opened, and what a reading answers.
-use Rattle.std.proofs.Common.{◌≡◌, ℕ, ◌≤◌, true, false, List, Some, Result, Ok, Err, length, arith, refl, sym, ◌∙◌, subst}
+use Rattle.std.proofs.Common.{◌≡◌, ℕ, ◌≤◌, true, false, List, Some, Result, Ok, Err, arith, refl, sym, ◌∙◌, subst}
 use Rattle.std.specs.Prelude.{IsErrOf, is_err, is_ok}
 use Rattle.pv_base.specs.declared.failure.Failed.{Failed as Fault}
 use Rattle.pv_disk_model.specs.Calls.{sync}

@@ -196,7 +196,7 @@ pub none_read : (front walked : List ℕ) (root : Root) → IsRootOf front root 
 none_read front walked root root_is whole (inl (nothing, outside)) =
     let is : front ≡ front ++ walked = sym (append-nil front) ∙ ap (λ (l : List ℕ). front ++ l) (sym nothing) in (
       front,
-      inl is,
+      inl (is, omega (arith, whole, ap length is)),
       none_here front front root root_is refl (omega (arith, whole)) (λ packed in_range fits full. elim outside [
         | inl early ↦ absurd (omega (arith, early, in_range.behind_roots))
         | inr far ↦ absurd (omega (arith, far, in_range.in_range))
@@ -207,7 +207,7 @@ none_read front walked root root_is whole (inr (behind, big, few)) = elim (cases
       let empty : walked ≡ [] = nil_from_length walked (omega (arith, nothing)) in
       let is : front ≡ front ++ walked = sym (append-nil front) ∙ ap (λ (l : List ℕ). front ++ l) (sym empty) in (
         front,
-        inl is,
+        inl (is, omega (arith, whole, ap length is)),
         none_here front front root root_is refl (omega (arith, whole)) (λ packed in_range fits full. absurd (omega (arith, in_range.ends, big, whole))),
       )
   | inl some ↦

@@ -75,9 +75,9 @@ module _ {D : Type 0} (M : DiskModel D) (of_record : List ℕ → List ℕ) (old
     }
 
     -- An open gate comes, and no whole record.
-    pub is_cut : (new : D) (gave : List ℕ) → Gives M mid new gave → IsOpenEnd gave → ((bytes : List ℕ) → M.content old ≡ Some bytes → StandsCut (drop place bytes))
+    pub is_cut : (new : D) (left : ℕ) (gave : List ℕ) → Gives M mid new gave → IsOpenEnd left gave → ((bytes : List ℕ) → M.content old ≡ Some bytes → StandsCut (drop place bytes))
         → ReadsCut M of_record old new start place later
-    is_cut new gave gives (rest, few, is) stands = record {
+    is_cut new left gave gives (rest, few, is, past) stands = record {
       short = has.short;
       end_is = has.place_is;
       read = rest;

@@ -1,5 +1,5 @@
 -- What an opening reads of a log in two areas: all but the contents.
-use Rattle.std.specs.Prelude.{◌≡◌, ◌⊎◌, ℕ, ◌≤◌, List, ◌∷◌, ◌++◌, Some, length}
+use Rattle.std.specs.Prelude.{◌≡◌, ◌⊎◌, ℕ, ◌+◌, ◌-◌, ◌<◌, ◌≤◌, List, [], ◌∷◌, ◌++◌, Some, length}
 use Rattle.std.specs.List.{flat_map}
 use Rattle.pv_base.specs.BigEndian.{big_endian}
 use Rattle.pv_disk_model.specs.DiskModel.{DiskModel}
@@ -7,9 +7,9 @@ use Rattle.pv_disk_model.specs.Disk.{Gives}
 use Rattle.pv_disk_model.specs.Size.{Contents, size_of}
 use Rattle.pv_format.specs.Journal.{records_of, AreShort}
 use Rattle.pv_law_calls.specs.Reading.{Gave}
-use Rattle.pv_law_checkpoints.specs.TwoAreas.{block_of, IsNotOurs}
-use Rattle.pv_ckpt.specs.Reading.{BeginsAt, IsReadOf, IsReadShort}
-use Rattle.pv_ckpt.specs.Roots.{IsHeld}
+use Rattle.pv_law_checkpoints.specs.TwoAreas.{block_of, greatest_place}
+use Rattle.pv_ckpt.specs.Reading.{BeginsAt, IsReadOf, LacksLength}
+use Rattle.pv_ckpt.specs.Roots.{IsHeld, IsRootOf, IsRootless}
 use Rattle.pv_ckpt.specs.declared.roots.Root.{Root}
 
 -- What is read of a content in a block: its length.
@@ -32,13 +32,57 @@ pub record Outlines (packed later : Contents) (whole read : List ℕ) : Type 0 w
 abbrev pub IsOutlined : List ℕ → List ℕ → (packed later : Contents) → Type 0
 IsOutlined bytes read packed later = (whole : List ℕ) × IsReadOf bytes whole × Outlines packed later whole read
 
--- The reads gave all of these bytes, or all but some contents.
-abbrev pub IsOutlineOf : List ℕ → List ℕ → Type 0
-IsOutlineOf bytes read = (bytes ≡ read) ⊎ ((packed : Contents) × (later : Contents) × IsOutlined bytes read packed later)
+-- The block of this root is out of range, or may be: its place is, or a disk that has no more than a log begins with ends before the byte behind it.
+abbrev pub IsOutOfRange : Root → Type 0
+IsOutOfRange root = (root.place < 58) ⊎ (greatest_place < root.place) ⊎ (59 ≤ root.place + root.size)
 
--- So far was read of a block that there isn't: the lengths of these contents, and then no length, or one that goes past its end.
-abbrev pub IsOutlinedShort : Contents → List ℕ → Root → Type 0
-IsOutlinedShort packed read root = (rest : List ℕ) × (length rest ≤ 4) × (read ≡ flat_map length_of packed ++ rest) × IsReadShort (block_of packed ++ rest) root
+-- Of the block of this root, whose place is in range, the lengths of these contents were read. They don't fill it, and then comes no length, or one that goes past its end.
+pub record LeavesUnfilled (packed : Contents) (read : List ℕ) (root : Root) : Type 0 where
+  pub behind_roots : 58 ≤ root.place
+  pub in_range : root.place ≤ greatest_place
+  pub short : AreShort packed
+  pub before : length (block_of packed) < root.size
+  pub rest : List ℕ
+  pub lacks : LacksLength rest (root.size - length (block_of packed))
+  pub is : read ≡ flat_map length_of packed ++ rest
+
+-- So far was read of a block that there isn't: nothing where it is out of range, else lengths that don't fill it.
+abbrev pub IsOutlinedShort : List ℕ → Root → Type 0
+IsOutlinedShort read root = ((read ≡ []) × IsOutOfRange root) ⊎ ((packed : Contents) × LeavesUnfilled packed read root)
+
+-- What a log begins with, in which a root is in force that has no block. It shows where that root stands.
+pub record OutlinesNoBlock (read : List ℕ) (place : ℕ) : Type 0 where
+  pub front : List ℕ
+  pub roots : length front ≡ 59
+  pub root : Root
+  pub root_is : IsRootOf front root
+  pub block : List ℕ
+  pub short : IsOutlinedShort block root
+  pub is : read ≡ front ++ block
+  pub place_is : place ≡ root.at
+
+-- What a log begins with, the lengths of contents that fill the block of the root in force, an open gate and a length for each record behind it, and then an open gate, at
+-- this place, and after it no length, or one that the disk has no bytes for.
+pub record OutlinesCut (read : List ℕ) (place : ℕ) : Type 0 where
+  pub front : List ℕ
+  pub roots : length front ≡ 59
+  pub root : Root
+  pub root_is : IsRootOf front root
+  pub behind_roots : 58 ≤ root.place
+  pub in_range : root.place ≤ greatest_place
+  pub packed : Contents
+  pub fits : AreShort packed
+  pub filled : root.size ≡ length (block_of packed)
+  pub later : Contents
+  pub short : AreShort later
+  pub rest : List ℕ
+  pub few : length rest ≤ 4
+  pub is : read ≡ front ++ (flat_map length_of packed ++ (flat_map gate_of later ++ 1 ∷ rest))
+  pub place_is : place ≡ root.place + root.size + length (records_of later)
+
+-- No log in two areas, which shows at this place: in what it begins with, which alone was read, in the block of the root in force, or at an open gate behind it.
+abbrev pub OutlinesNone : List ℕ → ℕ → Type 0
+OutlinesNone read place = ((length read ≤ 59) × IsRootless read place) ⊎ OutlinesNoBlock read place ⊎ OutlinesCut read place
 
 module _ {D : Type 0} (M : DiskModel D) where
   -- A block begins at this place with these contents, and the reads gave their lengths.
@@ -53,6 +97,6 @@ module _ {D : Type 0} (M : DiskModel D) where
       Gave M old new (λ read. (bytes : List ℕ) × (packed : Contents) × (later : Contents) × IsOutlined bytes read packed later × IsHeld bytes root end packed later
       × (size ≡ size_of (packed ++ later)))
 
-  -- What the reads gave is the outline of some bytes that are no log, which shows at this place.
+  -- What the reads gave is the outline of no log, which shows at this place.
   abbrev pub GaveNoOutline : D → D → ℕ → Type 0
-  GaveNoOutline old new place = Gave M old new (λ read. (bytes : List ℕ) × IsOutlineOf bytes read × IsNotOurs bytes place)
+  GaveNoOutline old new place = Gave M old new (λ read. OutlinesNone read place)

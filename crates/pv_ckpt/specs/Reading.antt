@@ -1,6 +1,7 @@
 -- How a log in two areas is read from a disk: what it begins with, and then what stands from the place of the root in force on.
 use Rattle.std.specs.Prelude.{◌≡◌, ◌≢◌, ◌⊎◌, ℕ, ◌+◌, ◌^◌, ◌<◌, ◌≤◌, min, List, [], ◌∷◌, ◌++◌, Some, length, take, drop}
 use Rattle.std.specs.List.{flat_map}
+use Rattle.pv_base.specs.BigEndian.{big_endian}
 use Rattle.pv_disk_model.specs.Size.{Contents}
 use Rattle.pv_disk_model.specs.DiskModel.{DiskModel}
 use Rattle.pv_disk_model.specs.Disk.{Gives}
@@ -22,9 +23,9 @@ pub record IsReadInTwo (bytes read : List ℕ) : Type 0 where
   pub in_force : IsInForce bytes at
   pub area : drop 59 read ≡ drop (place_at bytes at) bytes
 
--- The reads gave all of these bytes, but for those between the roots and the area in force.
+-- The reads gave all of these bytes, which are no more than a log begins with, or all but those between the roots and the area in force.
 abbrev pub IsReadOf : List ℕ → List ℕ → Type 0
-IsReadOf bytes read = (bytes ≡ read) ⊎ IsReadInTwo bytes read
+IsReadOf bytes read = ((bytes ≡ read) × (length read ≤ 59)) ⊎ IsReadInTwo bytes read
 
 -- The bytes are the log that was found.
 abbrev pub IsFound : List ℕ → Found → Type 0
@@ -48,6 +49,10 @@ LacksBlock bytes root =
 -- In the first so many of these bytes there is no whole framed content.
 abbrev pub IsCutBefore : List ℕ → ℕ → Type 0
 IsCutBefore bytes left = (content more : List ℕ) → length content < 2 ^ 32 → take left bytes ≡ framed content ++ more → ⊥
+
+-- Of a block of which so many bytes are left no length was read, for which there is no room; or one that goes past its end.
+abbrev pub LacksLength : List ℕ → ℕ → Type 0
+LacksLength read left = ((read ≡ []) × (left < 4)) ⊎ ((count : ℕ) × (count < 2 ^ 32) × (read ≡ big_endian 4 count) × (4 ≤ left) × (left < 4 + count))
 
 -- So far was read of a block that there isn't: nothing where its place is out of range, else not all of it.
 abbrev pub IsReadShort : List ℕ → Root → Type 0

@@ -9,8 +9,8 @@ ghost use Rattle.pv_journal.specs.Opening.{contents_in};
 ghost use Rattle.pv_law_calls.specs.Reading.{Gave, LooksBy};
 ghost use Rattle.pv_law_checkpoints.specs.TwoAreas.{block_of, IsNotOurs};
 ghost use Rattle.pv_ckpt.specs.Outline.{GaveNoOutline, GaveOutline, IsOutlinedShort, MeasuresBlock, gate_of};
-ghost use Rattle.pv_ckpt.specs.Reading.{BeginsAt, GaveFound, GaveNone, IsCutBefore, IsFound, IsInRange, IsReadShort, LacksBlock, ReadsCut, ReadsFront, ReadsRecords};
-ghost use Rattle.pv_ckpt.specs.Roots.{IsLogBy};
+ghost use Rattle.pv_ckpt.specs.Reading.{BeginsAt, GaveFound, GaveNone, IsCutBefore, IsFound, IsInRange, IsReadShort, LacksBlock, LacksLength, ReadsCut, ReadsFront, ReadsRecords};
+ghost use Rattle.pv_ckpt.specs.Roots.{IsLogBy, IsRootless};
 
 use crate::roots::{BEHIND_ROOTS, LEAST, Root, root_in};
 use pv_disk::{Disk, LookError};
@@ -36,7 +36,7 @@ pub(crate) struct Measured {
     pub(crate) root: Root,
     /// Where the closed gate stands at which its area ends.
     pub(crate) end: u64,
-    /// Its length as a log.
+    /// Its length: what a journal with its contents would have.
     pub(crate) length: u64,
 }
 
@@ -93,7 +93,7 @@ fn read_front<D: Disk>(alloc: Global, disk: &mut D) -> Result<Front, LookError>
     ensures bounded { IfOk result (λ front. front.size ≤ MAX_LENGTH) }
     ensures not_ours { (place : ℕ) → IsErrOf result (LookError.NotOurs place)
         → (bytes : List ℕ) → D.model.content disk.old ≡ Some bytes → IsNotOurs bytes place }
-    ensures gave_none { (place : ℕ) → IsErrOf result (LookError.NotOurs place) → Gave D.model disk.old disk.new (λ read. IsNotOurs read place) }
+    ensures gave_none { (place : ℕ) → IsErrOf result (LookError.NotOurs place) → Gave D.model disk.old disk.new (λ read. (length read ≤ 59) × IsRootless read place) }
 {
     let size = size_of_disk(disk)?;
     let front = read_content(alloc, disk, 0, size.min(LEAST) as usize)?;
@@ -193,7 +193,7 @@ fn length_at<D: Disk>(disk: &mut D, at: u64, place: u64, end: u64) -> Result<u32
     ensures not_ours { (shown : ℕ) → IsErrOf result (LookError.NotOurs shown)
         → (shown ≡ at) × ((bytes : List ℕ) → D.model.content disk.old ≡ Some bytes → IsCutBefore (drop place bytes) (end - place)) }
     ensures gave { IfOk result (λ count. Gives D.model disk.old disk.new (big_endian 4 count)) }
-    ensures gave_none { (shown : ℕ) → IsErrOf result (LookError.NotOurs shown) → Gave D.model disk.old disk.new (λ read. (place + length read ≤ end) × (length read ≤ 4)) }
+    ensures gave_none { (shown : ℕ) → IsErrOf result (LookError.NotOurs shown) → Gave D.model disk.old disk.new (λ read. LacksLength read (end - place)) }
 {
     if end - place < 4 {
         return Err(LookError::NotOurs(at));
@@ -275,7 +275,7 @@ fn measure_block<D: Disk>(disk: &mut D, size: u64, root: Root) -> Result<u64, Lo
         × (root.size ≡ length (block_of packed))) }
     ensures not_ours { (at : ℕ) → IsErrOf result (LookError.NotOurs at)
         → (at ≡ root.at) × ((bytes : List ℕ) → D.model.content disk.old ≡ Some bytes → LacksBlock bytes root) }
-    ensures gave_none { (at : ℕ) → IsErrOf result (LookError.NotOurs at) → (packed : Contents) × Gave D.model disk.old disk.new (λ read. IsOutlinedShort packed read root) }
+    ensures gave_none { (at : ℕ) → IsErrOf result (LookError.NotOurs at) → Gave D.model disk.old disk.new (λ read. IsOutlinedShort read root) }
 {
     if !is_in_range(root, size) {
         return Err(LookError::NotOurs(root.at));

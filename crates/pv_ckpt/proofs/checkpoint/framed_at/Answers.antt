@@ -1,4 +1,4 @@
-use Rattle.std.proofs.Common.{arith, ◌+◌, ◌++◌, ◌∙◌, ap, take, List, ℕ}
+use Rattle.std.proofs.Common.{arith, ◌++◌, ◌∙◌, ap, take, List, ℕ}
 use Rattle.pv_format.specs.Journal.{framed}
 use Rattle.pv_law_calls.proofs.LookLemmas.{looks_none}
 use Rattle.pv_law_calls.proofs.RecordLemmas.{after_gate}

@@ -1,12 +1,12 @@
-use Rattle.std.proofs.Common.{rules, arith, ◌≡◌, inr, ◌∙◌, refl, length-append, ◌+◌, ◌-◌, ◌++◌, ◌∷◌, [], false, true}
+use Rattle.std.proofs.Common.{rules, arith, ◌≡◌, inl, inr, ◌∙◌, refl, subst, length, length-append, ◌+◌, ◌-◌, ◌++◌, ◌∷◌, [], false, true}
 use Rattle.std.specs.List.{flat_map}
 use Rattle.pv_law_calls.proofs.GivenLemmas.{gives_more}
 use Rattle.pv_law_calls.proofs.LookLemmas.{looked_ok, looks_none}
 use Rattle.pv_law_checkpoints.specs.TwoAreas.{block_of}
 use Rattle.pv_ckpt.specs.Outline.{length_of}
-use Rattle.pv_ckpt.specs.Reading.{IsInRange}
+use Rattle.pv_ckpt.specs.Reading.{IsInRange, LacksLength}
 use Rattle.pv_ckpt.proofs.FramedLemmas.{gives_nothing}
-use Rattle.pv_ckpt.proofs.MeasureLemmas.{none_measured, one_more_measured, outside_short}
+use Rattle.pv_ckpt.proofs.MeasureLemmas.{none_measured, one_more_measured, outside}
 use Rattle.pv_ckpt.proofs.ReadLemmas.{cut_lacks}
 use Rattle.pv_ckpt.proofs.reading.measure_block.Goals as goal
 
@@ -16,7 +16,7 @@ returns-then-not-is_in_range-clause-effect g c = looks_none g.D.Disk.model c.arg
 pub returns-then-not-is_in_range-clause-gave_none : goal.returns-then-not-is_in_range-clause-gave_none
 returns-then-not-is_in_range-clause-gave_none g c at known =
     let no : c.is_in_range.result ≡ false = search rules in
-    ([], ([], gives_nothing g.D.Disk.model c.args.disk.now, ([], omega arith, refl, outside_short c.args.root c.args.size c.requires.long (c.is_in_range.ensures.no no))))
+    ([], gives_nothing g.D.Disk.model c.args.disk.now, inl (refl, outside c.args.root c.args.size c.requires.long (c.is_in_range.ensures.no no)))
 
 pub loop-place-init : goal.loop-place-init
 loop-place-init g c =
@@ -45,21 +45,21 @@ returns-in_err-count-clause-gave_none g c at known =
     let gave = c.length_at.ensures.gave_none at (search rules) in
     let yes : c.is_in_range.result ≡ true = search rules in
     let in_range : IsInRange root c.args.size = c.is_in_range.ensures.yes yes in
-    let before = c.loop-place-test.true in (
-      packed,
-      (
-        flat_map length_of packed ++ gave.0,
-        gives_more g.D.Disk.model c.args.disk.now c.loop-place.disk c.length_at.new.disk (flat_map length_of packed) gave.0 inv.3.3.gave gave.1,
-        (
-          gave.0,
-          gave.2.1,
-          refl,
-          inr (
-            in_range.behind_roots,
-            omega (arith, in_range.behind_roots, inv.3.2, before),
-            omega (arith, inv.3.2, gave.2.0, length-append (block_of packed) gave.0),
-          ),
-        ),
+    let before = c.loop-place-test.true in
+    let left_is : root.place + root.size - c.loop-place.place ≡ root.size - length (block_of packed) = omega (arith, inv.3.2) in (
+      flat_map length_of packed ++ gave.0,
+      gives_more g.D.Disk.model c.args.disk.now c.loop-place.disk c.length_at.new.disk (flat_map length_of packed) gave.0 inv.3.3.gave gave.1,
+      inr (
+        packed,
+        record {
+          behind_roots = in_range.behind_roots;
+          in_range = in_range.in_range;
+          short = inv.3.3.short;
+          before = omega (arith, inv.3.2, before);
+          rest = gave.0;
+          lacks = subst (λ n. LacksLength gave.0 n) left_is gave.2;
+          is = refl;
+        },
       ),
     )
 

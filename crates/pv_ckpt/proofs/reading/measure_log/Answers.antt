@@ -1,17 +1,16 @@
-use Rattle.std.proofs.Common.{rules, arith, ◌≡◌, inl, inr, refl, sym, ◌∙◌, subst, [], ◌∷◌, Some, ◌++◌, List, ℕ}
+use Rattle.std.proofs.Common.{rules, arith, ◌≡◌, inl, inr, refl, ◌∙◌, [], ◌∷◌, Some, ◌++◌}
 use Rattle.std.specs.List.{flat_map}
 use Rattle.pv_law_calls.proofs.GivenLemmas.{gives_more}
 use Rattle.pv_law_calls.proofs.LookLemmas.{looked_err, looked_ok}
-use Rattle.pv_ckpt.specs.Outline.{IsOutlined, gate_of, length_of}
-use Rattle.pv_law_checkpoints.specs.TwoAreas.{block_of}
-use Rattle.pv_ckpt.proofs.FoundLemmas.{cut_known, cut_read, found_known, found_read, gives_three, lacks_known, lacks_read, whole}
+use Rattle.pv_ckpt.specs.Outline.{gate_of, length_of}
+use Rattle.pv_ckpt.proofs.FoundLemmas.{cut_known, found_known, found_read, gives_three, lacks_known, whole}
 use Rattle.pv_ckpt.proofs.MeasureLemmas.{measured_size, outlined}
 use Rattle.pv_ckpt.proofs.reading.measure_log.Goals as goal
 
 pub returns-in_err-front-clause-gave_none : goal.returns-in_err-front-clause-gave_none
 returns-in_err-front-clause-gave_none g c place known =
     let gave = c.read_front.ensures.gave_none place (search rules) in
-    (gave.0, gave.1, (gave.0, inl refl, gave.2))
+    (gave.0, gave.1, inl gave.2)
 
 pub returns-in_err-packed-clause-effect : goal.returns-in_err-packed-clause-effect
 returns-in_err-packed-clause-effect g c =
@@ -32,24 +31,19 @@ returns-in_err-packed-clause-gave_none g c place known =
     let root = c.in_ok-front.front.root in
     let front = c.in_ok-front.ensures.front in
     let told = c.measure_block.ensures.not_ours place (search rules) in
-    let none = c.measure_block.ensures.gave_none place (search rules) in
-    let packed = none.0 in
-    let short = none.1.2 in
-    let rest = short.0 in
-    let lacks = lacks_read front.read root front.root_is front.few place (block_of packed ++ rest) told.0 short.3 in
-    let read : none.1.0 ≡ flat_map length_of packed ++ rest = short.2 in (
-      front.read ++ none.1.0,
-      gives_more M c.args.disk.now c.read_front.new.disk c.measure_block.new.disk front.read none.1.0 front.gave none.1.1,
-      (
-        lacks.0,
-        inr (
-          packed,
-          [],
-          subst (λ (l : List ℕ). IsOutlined lacks.0 (front.read ++ l) packed []) (sym read)
-              (outlined front.read rest lacks.0 packed [] (whole front.read root front.root_is front.few) lacks.1),
-        ),
-        lacks.2,
-      ),
+    let none = c.measure_block.ensures.gave_none place (search rules) in (
+      front.read ++ none.0,
+      gives_more M c.args.disk.now c.read_front.new.disk c.measure_block.new.disk front.read none.0 front.gave none.1,
+      inr (inl (record {
+        front = front.read;
+        roots = whole front.read root front.root_is front.few;
+        root = root;
+        root_is = front.root_is;
+        block = none.0;
+        short = none.2;
+        is = refl;
+        place_is = told.0;
+      })),
     )
 
 pub returns-in_err-end-clause-effect : goal.returns-in_err-end-clause-effect
@@ -83,14 +77,27 @@ returns-in_err-end-clause-gave_none g c place known =
     let packed = measured.0 in
     let cut = c.measure_records.ensures.not_ours place (search rules) in
     let reads = cut.1 in
-    let tail = 1 ∷ reads.read in
-    let none =
-    cut_read front.read root front.root_is front.few c.in_ok-front.front.size packed cut.0 block.in_range measured.2.short measured.3 tail (omega arith)
-    place reads.read refl reads.few reads.short reads.end_is in (
+    let tail = 1 ∷ reads.read in (
       front.read ++ (flat_map length_of packed ++ (flat_map gate_of cut.0 ++ tail)),
       gives_three M c.args.disk.now c.read_front.new.disk c.measure_block.new.disk c.measure_records.new.disk front.read (flat_map length_of packed) (flat_map gate_of cut.0 ++ tail) front.gave
           measured.2.gave reads.gave,
-      (none.0, inr (packed, cut.0, outlined front.read tail none.0 packed cut.0 (whole front.read root front.root_is front.few) none.1), none.2),
+      inr (inr (record {
+        front = front.read;
+        roots = whole front.read root front.root_is front.few;
+        root = root;
+        root_is = front.root_is;
+        behind_roots = block.in_range.behind_roots;
+        in_range = block.in_range.in_range;
+        packed = packed;
+        fits = measured.2.short;
+        filled = measured.3;
+        later = cut.0;
+        short = reads.short;
+        rest = reads.read;
+        few = reads.few;
+        is = refl;
+        place_is = reads.end_is;
+      })),
     )
 
 pub returns-clause-found : goal.returns-clause-found

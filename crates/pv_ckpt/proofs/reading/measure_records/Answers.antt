@@ -24,7 +24,7 @@ returns-in_err-gate_at-clause-not_ours g c place known =
     let gave = told.1 in (
       later,
       subst (λ n. ReadsCut M gate_of c.args.disk.now c.gate_at.new.disk c.args.start n later) (sym told.0)
-          (is_cut M gate_of c.args.disk.now c.args.start c.loop-count.disk c.loop-count.place later inv.3.1 c.gate_at.new.disk gave.0 gave.1 gave.2
+          (is_cut M gate_of c.args.disk.now c.args.start c.loop-count.disk c.loop-count.place later inv.3.1 c.gate_at.new.disk (c.args.size - c.loop-count.place) gave.0 gave.1 gave.2
           (λ bytes is. (c.gate_at.ensures.not_ours place (search rules) bytes (inv.0.1 ∙ is)).1)),
     )
 

@@ -1,14 +1,14 @@
-use Rattle.std.proofs.Common.{rules, ◌≡◌, ℕ, ◌+◌, List, Some, Vec, Global, vec_len, length, take, drop, refl, sym, ◌∙◌}
+use Rattle.std.proofs.Common.{rules, arith, ◌≡◌, ℕ, ◌+◌, ◌-◌, List, Some, Vec, Global, vec_len, length, take, drop, refl, sym, ◌∙◌}
 use Rattle.pv_base.specs.BigEndian.{big_endian}
 use Rattle.pv_format.specs.Journal.{framed}
 use Rattle.pv_ckpt.specs.Reading.{BeginsAt}
-use Rattle.pv_ckpt.proofs.FramedLemmas.{IfOk-both, framed_stands}
+use Rattle.pv_ckpt.proofs.FramedLemmas.{IfOk-both, framed_stands, lacking_within}
 use Rattle.pv_ckpt.proofs.reading.read_framed.Goals as goal
 
 pub returns-in_err-count-clause-gave_none : goal.returns-in_err-count-clause-gave_none
 returns-in_err-count-clause-gave_none g c shown known =
     let gave = c.length_at.ensures.gave_none shown (search rules) in
-    (gave.0, gave.1, gave.2.0)
+    (gave.0, gave.1, omega (arith, lacking_within gave.0 (c.args.end - c.args.place) gave.2, c.requires.within))
 
 pub returns-clause-stands : goal.returns-clause-stands
 returns-clause-stands g c =

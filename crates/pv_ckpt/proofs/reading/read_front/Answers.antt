@@ -2,7 +2,7 @@ use Rattle.std.proofs.Common.{rules, arith, ◌≡◌, ◌≤◌, ℕ, List, [],
 use Rattle.pv_law_calls.proofs.GivenLemmas.{gives_more}
 use Rattle.pv_law_checkpoints.specs.TwoAreas.{IsNotOurs}
 use Rattle.pv_ckpt.specs.Roots.{IsRootOf, IsRootless}
-use Rattle.pv_ckpt.proofs.FrontLemmas.{rootless_moved, rootless_read}
+use Rattle.pv_ckpt.proofs.FrontLemmas.{rootless_moved}
 use Rattle.pv_ckpt.proofs.reading.read_front.Goals as goal
 
 pub returns-clause-not_ours : goal.returns-clause-not_ours
@@ -19,10 +19,12 @@ pub returns-clause-gave_none : goal.returns-clause-gave_none
 returns-clause-gave_none g c place known =
     let front = c.in_ok-front.front.items in
     let same : c.in-Err.place ≡ place = cc in
+    let count : c.min.result ≡ min c.in_ok-size.size 59 = search rules in
+    let few : length front ≤ 59 = search rules in
     let none = subst (λ (l : List ℕ). IsRootless l c.in-Err.place) c.deref.ensures.value c.in-Err.ensures.none in (
       front,
       gives_more g.D.Disk.model c.args.disk.now c.size_of_disk.new.disk c.read_content.new.disk [] front c.in_ok-size.ensures.gave c.in_ok-front.ensures.gave,
-      subst (IsNotOurs front) same (rootless_read front c.in-Err.place none),
+      (few, subst (IsRootless front) same none),
     )
 
 pub returns-in-Ok-clause-front : goal.returns-in-Ok-clause-front

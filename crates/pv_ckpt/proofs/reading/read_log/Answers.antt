@@ -5,12 +5,13 @@ use Rattle.pv_law_calls.proofs.GivenLemmas.{gives_more}
 use Rattle.pv_law_calls.proofs.LookLemmas.{looked_err, looked_ok}
 use Rattle.pv_law_checkpoints.specs.TwoAreas.{block_of}
 use Rattle.pv_ckpt.proofs.FoundLemmas.{cut_known, cut_read, found_known, found_read, gives_three, lacks_known, lacks_read}
+use Rattle.pv_ckpt.proofs.FrontLemmas.{rootless_read}
 use Rattle.pv_ckpt.proofs.reading.read_log.Goals as goal
 
 pub returns-in_err-front-clause-gave_none : goal.returns-in_err-front-clause-gave_none
 returns-in_err-front-clause-gave_none g c place known =
     let gave = c.read_front.ensures.gave_none place (search rules) in
-    (gave.0, gave.1, (gave.0, inl refl, gave.2))
+    (gave.0, gave.1, (gave.0, inl (refl, gave.2.0), rootless_read gave.0 place gave.2.1))
 
 pub returns-in_err-contents-clause-effect : goal.returns-in_err-contents-clause-effect
 returns-in_err-contents-clause-effect g c =

@@ -25,7 +25,7 @@ returns-in_err-content-clause-not_ours g c place known =
     let gave = told.1 in (
       later,
       subst (λ n. ReadsCut M record_of c.args.disk.now c.read_record.new.disk c.args.start n later) (sym told.0)
-          (is_cut M record_of c.args.disk.now c.args.start c.loop-content.disk c.loop-content.place later has c.read_record.new.disk gave.0 gave.1 gave.2
+          (is_cut M record_of c.args.disk.now c.args.start c.loop-content.disk c.loop-content.place later has c.read_record.new.disk (c.args.size - c.loop-content.place) gave.0 gave.1 gave.2
           (λ bytes is. (c.read_record.ensures.not_ours place (search rules) bytes (inv.0.1 ∙ is)).1)),
     )
 

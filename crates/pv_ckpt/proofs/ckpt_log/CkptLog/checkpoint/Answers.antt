@@ -1,5 +1,4 @@
 use Rattle.std.proofs.Common.{rules, arith, ◌<◌, ◌-◌, ◌^◌, ◌∙◌, refl, sym, subst, true, Err, Vec, Global, ℕ}
-use Rattle.pv_disk.specs.declared.disk_error.LookError.TheVariants as look
 use Rattle.pv_law_calls.specs.Reading.{LooksBy, LooksOn}
 use Rattle.pv_law_checkpoints.proofs.LogLemmas.{end_within}
 use Rattle.pv_ckpt.specs.declared.ckpt_log.CkptLog.{CkptLog}

@@ -3,7 +3,7 @@ use Rattle.pv_disk_model.specs.Size.{Contents, size_of}
 use Rattle.pv_law_calls.specs.Reading.{LooksBy}
 use Rattle.pv_law_calls.proofs.GivenLemmas.{gave_later}
 use Rattle.pv_law_checkpoints.specs.TwoAreas.{IsNotOurs}
-use Rattle.pv_ckpt.specs.Outline.{GaveNoOutline, GaveOutline, IsOutlined, IsOutlineOf}
+use Rattle.pv_ckpt.specs.Outline.{GaveNoOutline, GaveOutline, IsOutlined, OutlinesNone}
 use Rattle.pv_ckpt.specs.Roots.{IsHeld}
 use Rattle.pv_ckpt.specs.declared.ckpt_log.CkptLog.{CkptLog}
 use Rattle.pv_ckpt.specs.declared.reading.Measured.{Measured}
@@ -18,7 +18,7 @@ returns-in-Err-NotOurs g c =
     let looks = subst (λ e. LooksBy M {X = Measured} c.sync.new.self c.measure_log.new.disk (Err e)) c.in-Err-NotOurs.field-0-is c.in-Err-NotOurs.ensures.effect in
     let told = c.measure_log.ensures.gave_none place (search rules) in
     let gave : GaveNoOutline M c.args.disk c.measure_log.new.disk place =
-    gave_later M c.args.disk c.sync.new.self c.measure_log.new.disk (λ read. (bytes : List ℕ) × IsOutlineOf bytes read × IsNotOurs bytes place) c.sync.ensures.gives told in (
+    gave_later M c.args.disk c.sync.new.self c.measure_log.new.disk (λ read. OutlinesNone read place) c.sync.ensures.gives told in (
       opened_after M c.args.disk c.sync.new.self c.measure_log.new.disk done.0 looks,
       (c.sync.new.self, done.1, looks.0.reads),
       looks.1 ∙ done.0.observes.content,
