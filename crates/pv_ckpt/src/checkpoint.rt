@@ -16,7 +16,7 @@ ghost use Rattle.pv_ckpt.specs.Checkpointing.{Checkpoints, IsReadyFor, name_and_
 ghost use Rattle.pv_ckpt.specs.Packing.{IsMadeFor, IsPackedFrom};
 ghost use Rattle.pv_ckpt.specs.CkptLog.{IsIntact};
 
-use crate::roots::{BEHIND_ROOTS, BOTH, LEAST, Root};
+use crate::roots::{BEHIND_ROOTS, LEAST, Root, other_root};
 use crate::writing::{root_fields, write_synced};
 use crate::{CkptError, CkptLog};
 use pv_base::{Failed, NoMemory};
@@ -230,7 +230,7 @@ fn pack(alloc: Global, root: Root, end: u64, block: Vec<u8>) -> Result<Packed, N
 {
     let size = block.len() as u64;
     let next = Root {
-        at: BOTH - root.at,
+        at: other_root(root.at),
         number: root.number + 1,
         place: place_for(size, root.place, end),
         size,

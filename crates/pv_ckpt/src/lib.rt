@@ -16,4 +16,4 @@ pub use ckpt_error::CkptError;
 pub use ckpt_log::{CkptLog, format, look};
 pub use memory::{armed_logs, formatted_logs};
 pub use open_ckpt::OpenCkpt;
-pub use roots::START;
+pub use roots::HEADER;

@@ -1,7 +1,7 @@
 // The two roots of a log in two areas, and which of them is in force.
 ghost use Rattle.std.specs.Prelude.{◌≡◌, ◌≢◌, ℕ, ◌+◌, ◌≤◌, List, None, length, take, drop, IfOk, IfErr, IfSome};
 ghost use Rattle.pv_base.specs.BigEndian.{number_of};
-ghost use Rattle.pv_law_checkpoints.specs.Roots.{gate_at, IsInForce};
+ghost use Rattle.pv_law_checkpoints.specs.Roots.{gate_at, other_root, IsInForce};
 ghost use Rattle.pv_law_checkpoints.specs.TwoAreas.{Starts};
 ghost use Rattle.pv_ckpt.specs.Roots.{IsRootOf, IsRootless};
 
@@ -9,16 +9,13 @@ use pv_bytes::Take;
 use pv_journal::agreement;
 
 /// What a log in two areas begins with.
-pub const START: [u8; 8] = *b"PVCKPT01";
+pub const HEADER: [u8; 8] = *b"PVCKPT01";
 
 /// Where the first root stands.
 const FIRST: usize = 8;
 
 /// Where the second root stands.
 const SECOND: usize = 33;
-
-/// What the places of both roots add up to: beside the root at one place the other stands at `BOTH` less that place.
-pub(crate) const BOTH: u64 = 41;
 
 /// Where the bytes of both roots end.
 pub(crate) const BEHIND_ROOTS: u64 = 58;
@@ -47,7 +44,7 @@ pub(crate) fn root_in(front: &[u8]) -> Result<Root, u64>
     ensures root { IfOk result (λ root. IsRootOf front.now root) }
     ensures none { IfErr result (λ place. IsRootless front.now place) }
 {
-    let place = agreement(front, &START);
+    let place = agreement(front, &HEADER);
     if place < 8 {
         return Err(place as u64);
     }
@@ -95,7 +92,7 @@ fn root_at(front: &[u8], at: usize) -> Root
     ensures place { result.at ≡ at }
     ensures root { IsRootOf front.now result }
 {
-    let other = BOTH as usize - at;
+    let other = other_root(at as u64) as usize;
     Root {
         at: at as u64,
         number: number_at(front, at + 1),
@@ -103,6 +100,14 @@ fn root_at(front: &[u8], at: usize) -> Root
         size: number_at(front, at + 17),
         other_open: front[other] == 1,
     }
+}
+
+/// Where the other root stands, beside the one that stands here.
+pub(crate) fn other_root(at: u64) -> u64
+    requires { at ≤ 33 }
+    ensures { result ≡ other_root at }
+{
+    FIRST as u64 + SECOND as u64 - at
 }
 
 /// The number that the eight bytes from here on are, the most significant first.

@@ -8,7 +8,7 @@ ghost use Rattle.pv_law_calls.specs.Reading.{LooksBy};
 ghost use Rattle.pv_law_checkpoints.specs.Roots.{start};
 ghost use Rattle.pv_show.specs.SiteText.{IsFoundIn, log, no_log};
 
-use pv_ckpt::START;
+use pv_ckpt::HEADER;
 use pv_disk::{Disk, LookError};
 use pv_journal::{read_from, size_of_disk};
 use std::alloc::Global;
@@ -43,5 +43,5 @@ fn begins_in_two_areas<D: Disk>(disk: &mut D) -> Result<bool, LookError>
     }
     let mut front = [0; 8];
     read_from(disk, 0, &mut front)?;
-    Ok(front == START)
+    Ok(front == HEADER)
 }
