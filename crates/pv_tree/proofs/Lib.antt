@@ -1,4 +1,5 @@
 pub mod AddedNames
+pub mod AfterLemmas
 pub mod ChosenLemmas
 pub mod KeptLemmas
 pub mod MeaningLemmas

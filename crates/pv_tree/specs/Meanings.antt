@@ -14,6 +14,11 @@ module _ {V : Type 0} where
     pub there : number < length meanings
     pub is : cases_at meanings number ≡ cases
 
+  -- There is a node with this number.
+  pub record IsMade (meanings : List (List (Case V))) (number : ℕ) : Type 0 where
+    pub there : number < length meanings
+    pub canonical : IsCanonical (cases_at meanings number)
+
   -- Every node that was there is there, and has its cases.
   pub record Keeps (old new : List (List (Case V))) : Type 0 where
     pub longer : length old ≤ length new

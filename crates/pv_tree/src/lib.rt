@@ -7,6 +7,7 @@ mod names;
 mod nodes;
 mod poly;
 mod read;
+mod reading;
 mod settling;
 mod table;
 mod tree;

@@ -15,7 +15,9 @@ ghost use Rattle.pv_tree.specs.Meanings.{cases_at};
 use crate::nodes::Nodes;
 use crate::tree::Tree;
 use pv_base::{Case, CaseError, Exact, HELD_NAMES, Literal, NameError, NoMemory, TxnId};
-use pv_cases::{first_difference, ordered, settled_value, sure_value, table_of, two_values};
+use pv_cases::{
+    first_difference, names_of, ordered, settled_value, sure_value, table_of, two_values,
+};
 use std::alloc::Global;
 use std::marker::Model;
 
@@ -195,7 +197,7 @@ impl<V: Exact> Poly<V> {
     /// The polyvalue of exactly these cases, which have to be its canonical ones.
     ///
     /// The first thing that is wrong with them is reported, in the order of the errors of [`CaseError`], unless the memory runs out. Takes
-    /// the time that [`join`](Poly::join) takes; one case that is always met is kept as it is.
+    /// the time that [`join`](Poly::join) takes; where nothing is wrong, no table is made, and one case that is always met is kept as it is.
     pub fn from_cases(alloc: Global, cases: Vec<Case<V>>) -> Result<Poly<V>, CaseError>
         requires few_cases { length cases.items < 2 ^ 32 }
         requires few_literals { sum (map (λ case. length case.when) cases.items) < 2 ^ 32 }
@@ -206,11 +208,33 @@ impl<V: Exact> Poly<V> {
                 tree: Tree::sure(alloc, value),
             });
         }
+        if let Some(poly) = Poly::read(alloc, &cases)? {
+            return Ok(poly);
+        }
         let poly = Poly::joined(alloc, &cases)?;
         match first_difference(&cases, poly.tree.cases()) {
             None => Ok(poly),
             Some(place) => Err(CaseError::NotReduced(place as u32)),
         }
+    }
+
+    // The polyvalue of exactly these cases, where they are seen to be its canonical ones, without a table.
+    fn read(alloc: Global, cases: &[Case<V>]) -> Result<Option<Poly<V>>, NoMemory>
+        ensures { IfOk result (λ found. IfSome found (IsKept HELD_NAMES cases.now)) }
+    {
+        let mut nodes = Nodes::new(alloc);
+        let Some((root, _)) = nodes.guess(cases, 0, 0)? else {
+            return Ok(None);
+        };
+        let tree = Tree::of_nodes(alloc, nodes, root)?;
+        let None = first_difference(cases, tree.cases()) else {
+            return Ok(None);
+        };
+        let txns = names_of(alloc, cases)?;
+        if txns.len() > HELD_NAMES as usize {
+            return Ok(None);
+        }
+        Ok(Some(Poly { tree }))
     }
 
     /// The polyvalue that these cases make up, in any order and not reduced.
