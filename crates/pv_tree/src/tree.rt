@@ -111,7 +111,7 @@ impl<V: Exact> Tree<V> {
         ensures { IfOk result (λ copy. copy ≡ self.now) }
     {
         let held = match &self.held {
-            Held::One([case]) => Held::One([case.copy(alloc)?]),
+            Held::One([case]) => Held::One([copy_case(alloc, case)?]),
             Held::Two([before, after]) => Held::Two([before.copy(alloc)?, after.copy(alloc)?]),
             Held::Many(nodes, cases) => Held::Many(nodes.copy(alloc)?, copy_cases(alloc, cases)?),
         };
@@ -241,6 +241,19 @@ impl<V: Exact> Nodes<V> {
             }
         }
     }
+}
+
+// An equal case. Most have no conditions, and these are made without looking for memory to copy them to.
+fn copy_case<V: Exact>(alloc: Global, case: &Case<V>) -> Result<Case<V>, NoMemory>
+    ensures { IfOk result (λ copy. copy ≡ case.now) }
+{
+    if case.when.is_empty() {
+        return Ok(Case {
+            when: Vec::new(alloc),
+            value: case.value,
+        });
+    }
+    case.copy(alloc)
 }
 
 // The value of one case alone, which is always met.
