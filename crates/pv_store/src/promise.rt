@@ -14,7 +14,7 @@ ghost use Rattle.pv_store.specs.Refusals.{IsRefusedFor, if_too_many, names_count
 use crate::StoreError;
 use crate::outcomes::Outcomes;
 use pv_base::{Exact, Literal, NameError, NoMemory, TxnId};
-use pv_cases::{is_sure, names_of};
+use pv_cases::is_sure;
 use pv_tree::Poly;
 use std::alloc::Global;
 
@@ -61,7 +61,7 @@ pub(crate) fn settled<V: Exact>(
     if is_sure(value.cases()) {
         return value.copy(alloc);
     }
-    let txns = names_of(alloc, value.cases())?;
+    let txns = value.names(alloc)?;
     let known = known_outcomes(alloc, outcomes, &txns)?;
     if known.is_empty() {
         return value.copy(alloc);

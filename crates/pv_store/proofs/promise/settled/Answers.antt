@@ -2,7 +2,7 @@
 use Rattle.std.proofs.Common.{◌≡◌, ◌∙◌, [], ◌∷◌, List, length, arith, ap, sym, subst, refl, rules}
 use Rattle.std.proofs.lemmas.Bool.{eqb-true}
 use Rattle.std.proofs.lemmas.Result.{IfOk-weaker}
-use Rattle.pv_base.specs.Polyvalue.{AreNames, AreOutcomes, IsSettled, value_at, with_outcomes}
+use Rattle.pv_base.specs.Polyvalue.{AreOutcomes, IsSettled, value_at, with_outcomes}
 use Rattle.pv_cases.proofs.SureCases.{one-case-is}
 use Rattle.pv_protocol.specs.Records.{choice}
 use Rattle.pv_store.specs.Promise.{known_among}
@@ -25,7 +25,7 @@ returns-then-is_empty-clause-value g c = λ records are.
     let outcomes = c.args.outcomes.now.outcomes in
     let txns = c.in_ok-txns.txns.items in
     let known = c.in_ok-known.known in
-    let named = subst (λ cases. AreNames cases txns) c.cases-2.ensures.cases c.in_ok-txns.ensures in
+    let named = c.in_ok-txns.ensures.names in
     let none : known.items ≡ [] = no-more known.items (sym known.ok.0 ∙ eqb-true known.len 0 (sym c.if-is_empty.ensures)) in
     let empty : known_among outcomes txns ≡ [] = ap (known_among outcomes) (sym c.deref.ensures.value) ∙ sym c.in_ok-known.ensures ∙ none in
     IfOk-weaker c.copy-then-is_empty.result (λ copy. copy ≡ c.args.value.now) _
@@ -40,14 +40,14 @@ settle_all-requires g c =
     let txns = c.in_ok-txns.txns.items in
     let ascend : AreOutcomes c.deref-2.result.now =
     subst AreOutcomes (ap (known_among outcomes) (sym c.deref.ensures.value) ∙ sym c.in_ok-known.ensures ∙ sym c.deref-2.ensures.value)
-    (known-ascend outcomes txns c.in_ok-txns.ensures.ascending) in
+    (known-ascend outcomes txns c.in_ok-txns.ensures.names.ascending) in
     (search rules, ascend)
 
 pub returns-clause-value : goal.returns-clause-value
 returns-clause-value g c = λ records are.
     let outcomes = c.args.outcomes.now.outcomes in
     let txns = c.in_ok-txns.txns.items in
-    let named = subst (λ cases. AreNames cases txns) c.cases-2.ensures.cases c.in_ok-txns.ensures in
+    let named = c.in_ok-txns.ensures.names in
     let literals = ap (known_among outcomes) (sym c.deref.ensures.value) ∙ sym c.in_ok-known.ensures ∙ sym c.deref-2.ensures.value in
     IfOk-weaker c.settle_all.result (IsSettled c.deref-2.result.now c.args.value.now) _
     (λ after is assignment. is.same assignment
