@@ -20,9 +20,16 @@ pub fn put_truth(put: &mut Put, truth: bool) -> Result<(), NoMemory>
 pub fn put_txn(put: &mut Put, txn: TxnId) -> Result<(), NoMemory>
     ensures { (bytes : List ℕ) → SpellsTxn txn bytes → OnOk result (put.new.bytes ≡ put.old.bytes ++ bytes) }
 {
-    put.u8(txn.site.0)?;
-    put.u32(txn.epoch)?;
-    put.u32(txn.number)
+    put.bytes(&txn_bytes(txn))
+}
+
+// The bytes of a transaction, to be written at once: there are some in each message, record and literal.
+fn txn_bytes(txn: TxnId) -> [u8; 9]
+    ensures { (bytes : List ℕ) → SpellsTxn txn bytes → result ≡ bytes }
+{
+    let [a, b, c, d] = txn.epoch.to_be_bytes();
+    let [e, f, g, h] = txn.number.to_be_bytes();
+    [txn.site.0, a, b, c, d, e, f, g, h]
 }
 
 /// Reads a site's number.

@@ -5,7 +5,7 @@ use pv_base::NoMemory;
 use std::alloc::Global;
 
 // For how many elements room is made that nothing but a count has told of.
-const FEW: usize = 4;
+const FEW: usize = 8;
 
 /// An empty vector, with room for so many elements.
 pub(crate) fn with_room<T>(alloc: Global, count: usize) -> Result<Vec<T>, NoMemory>
