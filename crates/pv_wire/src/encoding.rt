@@ -32,9 +32,11 @@ fn put_envelope(put: &mut Put, envelope: &Envelope) -> Result<(), NoMemory>
     requires { (bytes : List ℕ) × SpellsEnvelope (envelope_of envelope.now) bytes }
     ensures { (bytes : List ℕ) → SpellsEnvelope (envelope_of envelope.now) bytes → OnOk result (put.new.bytes ≡ put.old.bytes ++ bytes) }
 {
-    put.u8(kind_number(&envelope.message))?;
-    put.u8(envelope.from.0)?;
-    put.u8(envelope.to.0)?;
+    put.bytes(&[
+        kind_number(&envelope.message),
+        envelope.from.0,
+        envelope.to.0,
+    ])?;
     put_txn(put, txn_of(&envelope.message))?;
     put_body(put, &envelope.message)
 }
