@@ -49,7 +49,13 @@
 extern "C" {
 #endif
 
-/* ---- limits ---- */
+/* ---- the version, and limits ---- */
+
+/* The version that this header describes, 0.2.0: 10,000 times the first number, 100 times the second, and the third. */
+#define POLYDB_VERSION_NUMBER 200u
+
+/* The version of the library, in the same way: a program that loads the library may find another one than it was compiled for. */
+uint32_t polydb_version(void);
 
 /* How much there may be. None of it can be set, but the limit of journals by the configuration's line `journal`. */
 

@@ -38,6 +38,7 @@ __all__ = [
     "Message",
     "Report",
     "run",
+    "version",
     "PolydbError",
     "Malformed",
     "TooLong",
@@ -261,6 +262,7 @@ _out = POINTER(c_uint8)
 _size = POINTER(c_size_t)
 _place = POINTER(c_uint64)
 
+_version = _declare("polydb_version")
 _run = _declare("polydb_run", c_char_p, c_size_t, _out, c_size_t, _size)
 _world_open = _declare("polydb_world_open", _handle, c_char_p, c_size_t)
 _world_step = _declare("polydb_world_step", _handle, c_char_p, c_size_t)
@@ -304,6 +306,12 @@ def run(schedule: Text) -> Tuple[int, bytes]:
     """The status and the text that `polydb run` gives for a schedule: (0, text) where all of it was run."""
     text = _bytes(schedule)
     return _fill(lambda out, room, written: _run(text, len(text), out, room, written))
+
+
+def version() -> Tuple[int, int, int]:
+    """The version of the library: (0, 2, 0)."""
+    number = _version()
+    return number // 10_000, number // 100 % 100, number % 100
 
 
 class _Open:

@@ -275,6 +275,7 @@ static void with_failing_allocations(void (*body)(void)) {
 }
 
 int main(void) {
+    CHECK(polydb_version() == POLYDB_VERSION_NUMBER);
     closed_handles();
     open_handles();
     small_buffers();

@@ -6,4 +6,5 @@ mod numbers;
 mod run;
 mod site;
 mod status;
+mod version;
 mod world;

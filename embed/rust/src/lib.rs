@@ -20,6 +20,7 @@ mod calls {
 
     #[link(name = "polydb", kind = "static")]
     extern "C" {
+        pub fn polydb_version() -> u32;
         pub fn polydb_world_open(world: *mut Handle, catalog: *const u8, length: usize) -> u32;
         pub fn polydb_world_step(world: *mut Handle, line: *const u8, length: usize) -> u32;
         pub fn polydb_world_take(
@@ -317,6 +318,11 @@ pub const MIN_JOURNAL: u64 = 32;
 /// The greatest limit of journals, in bytes, and the limit where none is declared.
 pub const MAX_JOURNAL: u64 = 4_294_967_296;
 
+/// The version of the library: 10,000 times the first number, 100 times the second, and the third.
+pub fn version() -> u32 {
+    unsafe { calls::polydb_version() }
+}
+
 /// The status and the text that `polydb run` gives for a schedule. At status 0 all of it was run.
 pub fn run(schedule: &[u8]) -> (u32, Vec<u8>) {
     fill(|out, written| unsafe {
@@ -560,5 +566,10 @@ mod tests {
             world.take_into(&mut out.taken).unwrap();
             assert_eq!(out.taken, all);
         }
+    }
+
+    #[test]
+    fn the_version_is_told() {
+        assert_eq!(version(), 200);
     }
 }
