@@ -74,6 +74,8 @@ uint32_t polydb_version(void);
 /* Bytes of the limit of journals: the least that may be declared, and the greatest, which is the limit where none is. */
 #define POLYDB_MIN_JOURNAL 32u
 #define POLYDB_MAX_JOURNAL 4294967296u
+/* Bytes of a status's text. */
+#define POLYDB_MAX_STATUS_TEXT 80u
 
 /* ---- statuses ---- */
 
@@ -145,6 +147,15 @@ uint32_t polydb_version(void);
 #define POLYDB_BROKEN_OFF 35u
 /* The world takes no more steps: an earlier one gave POLYDB_SENT_LIMIT or POLYDB_BROKEN_OFF. */
 #define POLYDB_ENDED 36u
+
+/*
+ * What a status says, for a person: `the text is no program`. There is neither a line feed nor a zero behind it.
+ *
+ *   POLYDB_DONE        the text is in `out`
+ *   POLYDB_NOTHING     there is no such status
+ *   POLYDB_TOO_SMALL   the text has `*written` bytes, and there is less room
+ */
+uint32_t polydb_status_text(uint32_t status, uint8_t *out, size_t room, size_t *written);
 
 /* ---- a world: all sites of a schedule in one handle ---- */
 

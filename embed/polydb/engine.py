@@ -38,6 +38,7 @@ __all__ = [
     "Message",
     "Report",
     "run",
+    "status_text",
     "version",
     "PolydbError",
     "Malformed",
@@ -263,6 +264,7 @@ _size = POINTER(c_size_t)
 _place = POINTER(c_uint64)
 
 _version = _declare("polydb_version")
+_status_text = _declare("polydb_status_text", c_uint32, _out, c_size_t, _size)
 _run = _declare("polydb_run", c_char_p, c_size_t, _out, c_size_t, _size)
 _world_open = _declare("polydb_world_open", _handle, c_char_p, c_size_t)
 _world_step = _declare("polydb_world_step", _handle, c_char_p, c_size_t)
@@ -312,6 +314,12 @@ def version() -> Tuple[int, int, int]:
     """The version of the library: (0, 2, 0)."""
     number = _version()
     return number // 10_000, number // 100 % 100, number % 100
+
+
+def status_text(status: int) -> Optional[str]:
+    """What a status says, or None where there is no such status."""
+    found, text = _fill(lambda out, room, written: _status_text(status, out, room, written))
+    return text.decode() if found == _DONE else None
 
 
 class _Open:

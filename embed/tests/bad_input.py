@@ -152,6 +152,8 @@ def journal_of(epochs):
 def limits():
     """What is at a limit is taken, and what is above it isn't. A journal at its limit opens under a higher one."""
     assert polydb.version() == (0, 2, 0)
+    assert polydb.status_text(0) == "done" and polydb.status_text(27) == "the text is no program"
+    assert polydb.status_text(5) is None and polydb.status_text(1 << 31) is None
     for sites, refusal in [(polydb.MAX_SITES, None), (polydb.MAX_SITES + 1, polydb.Malformed)]:
         opened(f"sites {sites}\nitem a 0 1\n", refusal)
     for items, refusal in [(polydb.MAX_ITEMS, None), (polydb.MAX_ITEMS + 1, polydb.Malformed)]:

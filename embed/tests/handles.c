@@ -250,6 +250,31 @@ static void wait_for_journal(void) {
     polydb_site_close(&site);
 }
 
+/* ---- what is asked ---- */
+
+/* Each status has a text of its own, and other numbers have none. */
+static void status_texts(void) {
+    int texts = 0;
+    for (uint32_t status = 0; status < 256; status++) {
+        uint8_t out[POLYDB_MAX_STATUS_TEXT + 1];
+        size_t written = 99;
+        memset(out, '.', sizeof out);
+        uint32_t found = polydb_status_text(status, out, 0, &written);
+        if (found == POLYDB_NOTHING) {
+            CHECK(written == 0 && status != POLYDB_DONE && status != POLYDB_UNWRITTEN);
+            continue;
+        }
+        CHECK(found == POLYDB_TOO_SMALL && written > 0 && written <= POLYDB_MAX_STATUS_TEXT && out[0] == '.');
+        size_t needed = written;
+        CHECK(polydb_status_text(status, out, needed - 1, &written) == POLYDB_TOO_SMALL && out[0] == '.');
+        CHECK(polydb_status_text(status, out, sizeof out, &written) == POLYDB_DONE && written == needed && out[needed] == '.');
+        CHECK(memchr(out, '.', needed) == NULL);
+        texts++;
+    }
+    CHECK(texts == 27);
+    CHECK(polydb_status_text(UINT32_MAX, (uint8_t[1]){0}, 1, &(size_t){0}) == POLYDB_NOTHING);
+}
+
 /* ---- a whole run ---- */
 
 static void whole_run(void) {
@@ -281,6 +306,7 @@ int main(void) {
     small_buffers();
     closed_sites();
     wait_for_journal();
+    status_texts();
     whole_run();
     with_failing_allocations(retried);
     with_failing_allocations(wait_for_journal);

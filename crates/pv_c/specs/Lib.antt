@@ -2,3 +2,4 @@ pub mod Answer
 pub mod Causes
 pub mod Run
 pub mod Status
+pub mod StatusTexts

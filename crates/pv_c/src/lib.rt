@@ -6,5 +6,6 @@ mod numbers;
 mod run;
 mod site;
 mod status;
+mod status_text;
 mod version;
 mod world;

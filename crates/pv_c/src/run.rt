@@ -25,8 +25,8 @@ pub extern "C" fn polydb_run(
     put(text, ran.status, out)
 }
 
-// Writes the text of a run that ended with this status, if there is room for all, and answers the number of that.
-fn put(text: &[u8], status: u32, out: &mut [u8]) -> u32
+/// Writes a text, if there is room for all of it, and answers this status or that there is too little.
+pub fn put(text: &[u8], status: u32, out: &mut [u8]) -> u32
     ensures { PutsText status text.now out.old out.new (length text.now) result }
 {
     if out.len() < text.len() {

@@ -21,6 +21,12 @@ mod calls {
     #[link(name = "polydb", kind = "static")]
     extern "C" {
         pub fn polydb_version() -> u32;
+        pub fn polydb_status_text(
+            status: u32,
+            out: *mut u8,
+            room: usize,
+            written: *mut usize,
+        ) -> u32;
         pub fn polydb_world_open(world: *mut Handle, catalog: *const u8, length: usize) -> u32;
         pub fn polydb_world_step(world: *mut Handle, line: *const u8, length: usize) -> u32;
         pub fn polydb_world_take(
@@ -323,6 +329,14 @@ pub fn version() -> u32 {
     unsafe { calls::polydb_version() }
 }
 
+/// What a status of the library says, if there is such a status.
+pub fn status_text(status: u32) -> Option<String> {
+    let (found, text) = fill(|out, written| unsafe {
+        calls::polydb_status_text(status, out.as_mut_ptr(), out.len(), written)
+    });
+    (found == DONE).then(|| String::from_utf8_lossy(&text).into_owned())
+}
+
 /// The status and the text that `polydb run` gives for a schedule. At status 0 all of it was run.
 pub fn run(schedule: &[u8]) -> (u32, Vec<u8>) {
     fill(|out, written| unsafe {
@@ -571,5 +585,11 @@ mod tests {
     #[test]
     fn the_version_is_told() {
         assert_eq!(version(), 200);
+    }
+
+    #[test]
+    fn statuses_have_texts() {
+        assert_eq!(status_text(27).as_deref(), Some("the text is no program"));
+        assert_eq!(status_text(5), None);
     }
 }
