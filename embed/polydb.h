@@ -22,7 +22,8 @@
  *   - a handle begins as zeroes, is changed by nothing but these calls, and isn't copied: after a copy, closing both frees twice. It may be moved, if the
  *     old place is used no more;
  *   - no handle is used by two calls at once. Two threads with a handle each are fine, and a handle may move from thread to thread;
- *   - each pointer isn't null and has as many bytes behind it as the call is told; with a length of 0 it is any pointer that isn't null;
+ *   - each pointer isn't NULL and has as many bytes behind it as the call is told. But NULL with a length of 0 is an empty text: for catalog, line, input,
+ *     configuration, journal, program, message and name. `out` isn't NULL, also with a room of 0;
  *   - `out`, what the numbers go to and the handle don't overlap each other or the input;
  *   - no call is made from a signal handler, or from the child of a fork of a program with threads;
  *   - malloc, realloc and free are of one allocator, and malloc aligns a block for its size up to 16.

@@ -252,6 +252,28 @@ static void wait_for_journal(void) {
 
 /* ---- what is asked ---- */
 
+/* NULL with a length of 0 is an empty text, wherever a text is given. */
+static void no_texts(void) {
+    static const uint8_t names[] = "sites 1\nitem a 0 100\n";
+    polydb_world world = {0};
+    polydb_site site = {0};
+    uint8_t out[256];
+    size_t written = 99;
+
+    CHECK(polydb_run(NULL, 0, out, sizeof out, &written) == POLYDB_MALFORMED && written > 0);
+    CHECK(polydb_world_open(&world, NULL, 0) == POLYDB_MALFORMED);
+    CHECK(polydb_world_open(&world, names, sizeof names - 1) == POLYDB_DONE);
+    CHECK(polydb_world_step(&world, NULL, 0) == POLYDB_NOT_ONE_EVENT);
+    polydb_world_close(&world);
+    CHECK(polydb_site_open(&site, NULL, 0, 0, EMPTY, sizeof POLYDB_EMPTY_JOURNAL) == POLYDB_MALFORMED);
+    CHECK(polydb_site_open(&site, CONFIG, CONFIG_LENGTH, 0, NULL, 0) == POLYDB_NOT_OURS);
+    CHECK(polydb_site_open(&site, CONFIG, CONFIG_LENGTH, 0, EMPTY, sizeof POLYDB_EMPTY_JOURNAL) == POLYDB_DONE);
+    CHECK(polydb_site_submit(&site, NULL, 0, false) == POLYDB_BAD_TEXT);
+    CHECK(polydb_site_receive(&site, NULL, 0) == POLYDB_BAD_MESSAGE);
+    CHECK(polydb_site_read(&site, NULL, 0, out, sizeof out, &written) == POLYDB_UNKNOWN_NAME);
+    polydb_site_close(&site);
+}
+
 /* Each status has a text of its own, and other numbers have none. */
 static void status_texts(void) {
     int texts = 0;
@@ -306,6 +328,7 @@ int main(void) {
     small_buffers();
     closed_sites();
     wait_for_journal();
+    no_texts();
     status_texts();
     whole_run();
     with_failing_allocations(retried);

@@ -2,6 +2,7 @@
 #![tactic(auto)]
 
 mod given_numbers;
+mod given_text;
 mod numbers;
 mod run;
 mod site;

@@ -2,6 +2,7 @@
 ghost use Rattle.std.specs.Prelude.{length};
 ghost use Rattle.pv_c.specs.Run.{PutsText, RunsInto};
 
+use crate::given_text::given;
 use crate::status::{NO_MEMORY, TOO_SMALL};
 use pv_embed_world::run;
 use std::alloc::Global;
@@ -16,7 +17,7 @@ pub extern "C" fn polydb_run(
 ) -> u32
     ensures { RunsInto input.now out.old out.new written.new result }
 {
-    let Ok(ran) = run(alloc, input) else {
+    let Ok(ran) = run(alloc, given(input)) else {
         *written = 0;
         return NO_MEMORY;
     };

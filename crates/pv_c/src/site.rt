@@ -9,6 +9,7 @@ ghost use Rattle.pv_handle.specs.Slot.{Opens, Calls, Asks};
 ghost use Rattle.pv_c.specs.Answer.{Answers, GivenAs, ReadAs};
 ghost use Rattle.pv_c.specs.Causes.{memory_number, message_number, opening_number, request_number, value_number, write_number};
 
+use crate::given_text::given;
 use crate::numbers::{
     numbers_of_asked, numbers_of_taken, numbers_of_value, status_of_message, status_of_opening,
     status_of_request, status_of_tick, status_of_write,
@@ -27,7 +28,7 @@ pub extern "C" fn polydb_site_open(
 ) -> u32
     ensures { Answers opening_number result (Opens (OpensBytes config.now me journal.now) site.old.handle.site site.new.handle.site) }
 {
-    status_of_opening(site.open(alloc, config, me, journal))
+    status_of_opening(site.open(alloc, given(config), me, given(journal)))
 }
 
 /// A request.
@@ -40,7 +41,7 @@ pub extern "C" fn polydb_site_submit(
 ) -> u32
     ensures { Answers request_number result (Calls (OnSite (λ old new. SubmitsBy old new text.now query)) site.old.handle.site site.new.handle.site) }
 {
-    status_of_request(site.submit(alloc, text, query))
+    status_of_request(site.submit(alloc, given(text), query))
 }
 
 /// A message comes.
@@ -48,7 +49,7 @@ pub extern "C" fn polydb_site_submit(
 pub extern "C" fn polydb_site_receive(alloc: Global, site: &mut SiteSlot, message: &[u8]) -> u32
     ensures { Answers message_number result (Calls (OnSite (λ old new. ReceivesBy old new message.now)) site.old.handle.site site.new.handle.site) }
 {
-    status_of_message(site.receive(alloc, message))
+    status_of_message(site.receive(alloc, given(message)))
 }
 
 /// Time has passed.
@@ -125,7 +126,7 @@ pub extern "C" fn polydb_site_read(
         (Calls (λ old new answer. (new ≡ old) × ReadsBytes old.hosted name.now out.old out.new answer) site.old.handle.site site.new.handle.site) }
     ensures unchanged { site.old.handle.site ≡ None → out.new ≡ out.old }
 {
-    let answer = site.read(alloc, name, out);
+    let answer = site.read(alloc, given(name), out);
     let numbers = numbers_of_value(answer);
     *written = numbers.count;
     numbers.status

@@ -7,6 +7,7 @@ ghost use Rattle.pv_handle.specs.World.{TakesKept};
 ghost use Rattle.pv_c.specs.Answer.{Answers, Counted};
 ghost use Rattle.pv_c.specs.Causes.{world_number};
 
+use crate::given_text::given;
 use crate::numbers::status_of_world;
 use crate::status::{CLOSED, DONE};
 use pv_handle::WorldSlot;
@@ -17,7 +18,7 @@ use std::alloc::Global;
 pub extern "C" fn polydb_world_open(alloc: Global, world: &mut WorldSlot, catalog: &[u8]) -> u32
     ensures { Answers world_number result (Opens (hosted.Opens catalog.now) world.old.handle.world world.new.handle.world) }
 {
-    status_of_world(world.open(alloc, catalog))
+    status_of_world(world.open(alloc, given(catalog)))
 }
 
 /// One step.
@@ -25,7 +26,7 @@ pub extern "C" fn polydb_world_open(alloc: Global, world: &mut WorldSlot, catalo
 pub extern "C" fn polydb_world_step(alloc: Global, world: &mut WorldSlot, line: &[u8]) -> u32
     ensures { Answers world_number result (Calls (λ old new. StepsByLine old new line.now) world.old.handle.world world.new.handle.world) }
 {
-    status_of_world(world.step(alloc, line))
+    status_of_world(world.step(alloc, given(line)))
 }
 
 /// Writes the oldest lines that are kept, as far as there is room, drops what was written, and says how many bytes that is.
