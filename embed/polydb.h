@@ -158,6 +158,13 @@ uint32_t polydb_version(void);
  */
 uint32_t polydb_status_text(uint32_t status, uint8_t *out, size_t room, size_t *written);
 
+/* Where what a call was given is at fault; zeroes with POLYDB_DONE, and where the call says nothing else. */
+typedef struct {
+    uint32_t line;   /* a line, from 1 */
+    uint32_t column; /* a byte of a program's text, from 1 */
+    uint64_t number; /* a place, an index or a count */
+} polydb_fault;
+
 /* ---- a world: all sites of a schedule in one handle ---- */
 
 /* Closed if all zeroes. Not to be copied. The fields are the library's. */
@@ -289,6 +296,18 @@ uint32_t polydb_site_open(polydb_site *site, const uint8_t *config, size_t confi
                           size_t journal_length);
 
 /*
+ * The same, and says in `*fault` where it is refused:
+ *
+ *   POLYDB_MALFORMED          `line` of the configuration; and `column` of its program, where that is at fault
+ *   POLYDB_NOT_OURS           at the byte `number`, from 0, it shows that the bytes are no journal
+ *   POLYDB_BAD_RECORD         the record `number`, from 0, is the first that is none
+ *   POLYDB_TOO_MANY_OUTCOMES  the value would name `number` outcomes
+ *   POLYDB_FULL               the journal would have `number` bytes: so high has the limit to be
+ */
+uint32_t polydb_site_open_at(polydb_site *site, const uint8_t *config, size_t config_length, uint8_t me, const uint8_t *journal,
+                             size_t journal_length, polydb_fault *fault);
+
+/*
  * A request: the program that the text is runs, with this site as its coordinator. A query assigns nothing and has a `return`. What becomes of it is
  * reported. Each request that is taken has one report `txn ..` with its number, in the order of the requests, and later one `commit ..` or `refuse ..` with
  * that number; or in place of these `spent ..`, where the site has no number left for it, and then nothing more. If the site is closed before, there is
@@ -302,6 +321,15 @@ uint32_t polydb_site_open(polydb_site *site, const uint8_t *config, size_t confi
  *   POLYDB_NO_MEMORY    there was no memory
  */
 uint32_t polydb_site_submit(polydb_site *site, const uint8_t *program, size_t length, bool query);
+
+/*
+ * The same, and says in `*fault` where it is refused:
+ *
+ *   POLYDB_BAD_TEXT     `column` of the token that can't stand there, names no item or is nested too deep, or behind the end of a text that ends too early; or
+ *                       `column` is 0, and the text has `number` bytes, too many
+ *   POLYDB_BAD_PROGRAM  it names `number` items, too many; or `number` is 0
+ */
+uint32_t polydb_site_submit_at(polydb_site *site, const uint8_t *program, size_t length, bool query, polydb_fault *fault);
 
 /*
  * A message comes: bytes that polydb_site_take_message of some site, or of this one, has given.

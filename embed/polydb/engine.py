@@ -95,7 +95,14 @@ _WRITE_ROOM = 1 << 16  # bytes of a write; more is taken where one doesn't fit
 
 
 class PolydbError(Exception):
-    """A call was refused, and nothing has changed but where a kind of this error says so."""
+    """A call was refused, and nothing has changed but where a kind of this error says so.
+
+    Where the opening of a site or a request is refused, `line`, `column` and `number` say where what was given is at fault, as `polydb_fault` of the header does; they are 0 elsewhere.
+    """
+
+    line: int = 0
+    column: int = 0
+    number: int = 0
 
 
 class Malformed(PolydbError, ValueError):
@@ -226,10 +233,21 @@ Text = Union[str, bytes, bytearray, memoryview]
 Bytes = Union[bytes, bytearray, memoryview]
 
 
-def _check(status: int, what: str) -> None:
-    if status != _DONE:
-        error = _ERRORS.get(status, PolydbError)
-        raise error(f"{what}: {error.__doc__ or ''} (status {status})")
+class _Fault(ctypes.Structure):
+    """Where what was given is at fault, as C has it."""
+
+    _fields_ = [("line", c_uint32), ("column", c_uint32), ("number", c_uint64)]
+
+
+def _check(status: int, what: str, fault: Optional[_Fault] = None) -> None:
+    if status == _DONE:
+        return
+    kind = _ERRORS.get(status, PolydbError)
+    where = [f"{name} {value}" for name in ("line", "column", "number") if fault is not None and (value := getattr(fault, name))]
+    error = kind(f"{what}: {' '.join([kind.__doc__ or '', *where])} (status {status})")
+    if fault is not None:
+        error.line, error.column, error.number = fault.line, fault.column, fault.number
+    raise error
 
 
 class _Handle(ctypes.Structure):
@@ -263,6 +281,8 @@ _out = POINTER(c_uint8)
 _size = POINTER(c_size_t)
 _place = POINTER(c_uint64)
 
+_fault = POINTER(_Fault)
+
 _version = _declare("polydb_version")
 _status_text = _declare("polydb_status_text", c_uint32, _out, c_size_t, _size)
 _run = _declare("polydb_run", c_char_p, c_size_t, _out, c_size_t, _size)
@@ -270,8 +290,8 @@ _world_open = _declare("polydb_world_open", _handle, c_char_p, c_size_t)
 _world_step = _declare("polydb_world_step", _handle, c_char_p, c_size_t)
 _world_take = _declare("polydb_world_take", _handle, _out, c_size_t, _size)
 _world_close = _declare("polydb_world_close", _handle, result=None)
-_site_open = _declare("polydb_site_open", _handle, c_char_p, c_size_t, c_uint8, c_char_p, c_size_t)
-_site_submit = _declare("polydb_site_submit", _handle, c_char_p, c_size_t, c_bool)
+_site_open = _declare("polydb_site_open_at", _handle, c_char_p, c_size_t, c_uint8, c_char_p, c_size_t, _fault)
+_site_submit = _declare("polydb_site_submit_at", _handle, c_char_p, c_size_t, c_bool, _fault)
 _site_receive = _declare("polydb_site_receive", _handle, c_char_p, c_size_t)
 _site_tick = _declare("polydb_site_tick", _handle)
 _site_take_journal = _declare("polydb_site_take_journal", _handle, _out, c_size_t, _size, _place)
@@ -430,12 +450,14 @@ class Site(_Open):
             raise NoSite(f"open: {NoSite.__doc__} ({me})")
         text = _bytes(config)
         journal = _raw(journal)
-        _check(self._call(_site_open, text, len(text), me, journal, len(journal)), "open")
+        fault = _Fault()
+        _check(self._call(_site_open, text, len(text), me, journal, len(journal), byref(fault)), "open", fault)
 
     def submit(self, program: Text, query: bool = False) -> None:
         """A request, with this site as its coordinator. A query assigns nothing and has a `return`."""
         text = _bytes(program)
-        _check(self._call(_site_submit, text, len(text), query), "submit")
+        fault = _Fault()
+        _check(self._call(_site_submit, text, len(text), query, byref(fault)), "submit", fault)
 
     def receive(self, message: Bytes) -> None:
         """A message that another site, or this one, has let out."""

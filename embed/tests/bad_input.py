@@ -149,6 +149,27 @@ def journal_of(epochs):
     return file
 
 
+def where_it_is_at_fault():
+    """A refused text says where."""
+
+    def fault(error, call, *arguments):
+        try:
+            call(*arguments)
+        except error as found:
+            return found.line, found.column, found.number
+        raise AssertionError(f"not refused: {error}")
+
+    site = new_site(0)
+    assert fault(polydb.BadText, site.submit, "a := b + x") == (0, 10, 0)
+    assert fault(polydb.BadText, site.submit, "a := 1" + " " * polydb.MAX_PROGRAM) == (0, 0, polydb.MAX_PROGRAM + 6)
+    assert fault(polydb.BadProgram, site.submit, "return 1", True) == (0, 0, 0)
+    assert fault(polydb.Malformed, Site, "sites 1\nitem A 0 1\n", 0, polydb.EMPTY_JOURNAL) == (2, 0, 0)
+    assert fault(polydb.NotOurs, Site, CONFIG, 0, b"PVJRNL02\0") == (0, 0, 7)
+    full = "sites 1\njournal 32\nitem a 0 1\n"
+    assert fault(polydb.Full, Site, full, 0, journal_of(2)) == (0, 0, 39)
+    Site(full.replace("32", "39"), 0, journal_of(2)).close()
+
+
 def limits():
     """What is at a limit is taken, and what is above it isn't. A journal at its limit opens under a higher one."""
     assert polydb.version() == (0, 2, 0)
@@ -288,6 +309,7 @@ def main():
     what_is_refused()
     what_is_no_bytes()
     limits()
+    where_it_is_at_fault()
     no_messages()
     cut_journals()
     writes_never_asked_for()

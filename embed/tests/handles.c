@@ -257,6 +257,7 @@ static void no_texts(void) {
     static const uint8_t names[] = "sites 1\nitem a 0 100\n";
     polydb_world world = {0};
     polydb_site site = {0};
+    polydb_fault fault;
     uint8_t out[256];
     size_t written = 99;
 
@@ -267,8 +268,10 @@ static void no_texts(void) {
     polydb_world_close(&world);
     CHECK(polydb_site_open(&site, NULL, 0, 0, EMPTY, sizeof POLYDB_EMPTY_JOURNAL) == POLYDB_MALFORMED);
     CHECK(polydb_site_open(&site, CONFIG, CONFIG_LENGTH, 0, NULL, 0) == POLYDB_NOT_OURS);
+    CHECK(polydb_site_open_at(&site, CONFIG, CONFIG_LENGTH, 0, NULL, 0, &fault) == POLYDB_NOT_OURS && fault.number == 0);
     CHECK(polydb_site_open(&site, CONFIG, CONFIG_LENGTH, 0, EMPTY, sizeof POLYDB_EMPTY_JOURNAL) == POLYDB_DONE);
     CHECK(polydb_site_submit(&site, NULL, 0, false) == POLYDB_BAD_TEXT);
+    CHECK(polydb_site_submit_at(&site, NULL, 0, false, &fault) == POLYDB_BAD_TEXT && fault.column == 1);
     CHECK(polydb_site_receive(&site, NULL, 0) == POLYDB_BAD_MESSAGE);
     CHECK(polydb_site_read(&site, NULL, 0, out, sizeof out, &written) == POLYDB_UNKNOWN_NAME);
     polydb_site_close(&site);
@@ -295,6 +298,65 @@ static void status_texts(void) {
     }
     CHECK(texts == 27);
     CHECK(polydb_status_text(UINT32_MAX, (uint8_t[1]){0}, 1, &(size_t){0}) == POLYDB_NOTHING);
+}
+
+/* Where what is given is at fault. */
+static void faults(void) {
+    static const struct {
+        const char *program;
+        uint32_t status, column;
+        uint64_t number;
+    } programs[] = {
+        {"a := ", POLYDB_BAD_TEXT, 6, 0},
+        {"a := x", POLYDB_BAD_TEXT, 6, 0},
+        {"a := 1 ; return", POLYDB_BAD_TEXT, 16, 0},
+        {"return 1", POLYDB_BAD_PROGRAM, 0, 0},
+    };
+    static const char config[] = "sites 1\n# a comment\nitem a 0 100\nitem a 0 1\n";
+    static const char event[] = "sites 1\nitem a 0 100\nsubmit 0 a := b\n";
+    static const char small[] = "sites 1\njournal 32\nitem a 0 1\n";
+    static char long_program[POLYDB_MAX_PROGRAM + 1];
+    polydb_site site = {0};
+    polydb_fault fault = {9, 9, 9};
+    uint8_t file[64] = POLYDB_EMPTY_JOURNAL;
+    size_t length = sizeof POLYDB_EMPTY_JOURNAL;
+
+    CHECK(polydb_site_submit_at(&site, PROGRAM, PROGRAM_LENGTH, false, &fault) == POLYDB_CLOSED);
+    CHECK(fault.line == 0 && fault.column == 0 && fault.number == 0);
+    CHECK(polydb_site_open_at(&site, (const uint8_t *)config, sizeof config - 1, 0, EMPTY, length, &fault) == POLYDB_MALFORMED);
+    CHECK(fault.line == 4 && fault.column == 0 && fault.number == 0);
+    CHECK(polydb_site_open_at(&site, (const uint8_t *)event, sizeof event - 1, 0, EMPTY, length, &fault) == POLYDB_MALFORMED);
+    CHECK(fault.line == 3 && fault.column == 6 && fault.number == 0);
+    CHECK(polydb_site_open_at(&site, CONFIG, CONFIG_LENGTH, 0, CONFIG, CONFIG_LENGTH, &fault) == POLYDB_NOT_OURS && fault.number == 0);
+
+    /* Its limit has room for two epochs. A third wants a higher one, and then the same journal is opened. */
+    for (int epoch = 1; epoch <= 2; epoch++) {
+        uint64_t place;
+        size_t written;
+        CHECK(polydb_site_open_at(&site, (const uint8_t *)small, sizeof small - 1, 0, file, length, &fault) == POLYDB_DONE && fault.number == 0);
+        while (polydb_site_take_journal(&site, file + length, sizeof file - length, &written, &place) == POLYDB_DONE) {
+            memmove(file + place, file + length, written);
+            CHECK(polydb_site_journal_synced(&site, place, written) == POLYDB_DONE);
+            if (place == length) {
+                length += written;
+            }
+        }
+        polydb_site_close(&site);
+    }
+    CHECK(length == 29);
+    CHECK(polydb_site_open_at(&site, (const uint8_t *)small, sizeof small - 1, 0, file, length, &fault) == POLYDB_FULL && fault.number == 39);
+    CHECK(polydb_site_open_at(&site, CONFIG, CONFIG_LENGTH, 0, file, length, &fault) == POLYDB_DONE);
+
+    for (size_t i = 0; i < sizeof programs / sizeof *programs; i++) {
+        const char *program = programs[i].program;
+        CHECK(polydb_site_submit_at(&site, (const uint8_t *)program, strlen(program), false, &fault) == programs[i].status);
+        CHECK(fault.line == 0 && fault.column == programs[i].column && fault.number == programs[i].number);
+    }
+    memset(long_program, ' ', sizeof long_program);
+    CHECK(polydb_site_submit_at(&site, (const uint8_t *)long_program, sizeof long_program, false, &fault) == POLYDB_BAD_TEXT);
+    CHECK(fault.column == 0 && fault.number == sizeof long_program);
+    CHECK(polydb_site_submit_at(&site, PROGRAM, PROGRAM_LENGTH, false, &fault) == POLYDB_DONE && fault.number == 0);
+    polydb_site_close(&site);
 }
 
 /* ---- a whole run ---- */
@@ -330,6 +392,7 @@ int main(void) {
     wait_for_journal();
     no_texts();
     status_texts();
+    faults();
     whole_run();
     with_failing_allocations(retried);
     with_failing_allocations(wait_for_journal);

@@ -1,5 +1,6 @@
 pub mod Answer
 pub mod Causes
+pub mod Faults
 pub mod Run
 pub mod Status
 pub mod StatusTexts

@@ -1,9 +1,11 @@
 //! The engine for C and for what calls C: each function is a call of the engine, and gives a number for its answer.
 #![tactic(auto)]
 
+mod fault;
 mod given_numbers;
 mod given_text;
 mod numbers;
+mod placing;
 mod run;
 mod site;
 mod status;

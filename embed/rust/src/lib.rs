@@ -16,7 +16,7 @@ use std::io::{self, Write};
 use std::ptr;
 
 mod calls {
-    use super::Handle;
+    use super::{Fault, Handle};
 
     #[link(name = "polydb", kind = "static")]
     extern "C" {
@@ -36,19 +36,21 @@ mod calls {
             written: *mut usize,
         ) -> u32;
         pub fn polydb_world_close(world: *mut Handle);
-        pub fn polydb_site_open(
+        pub fn polydb_site_open_at(
             site: *mut Handle,
             config: *const u8,
             config_length: usize,
             me: u8,
             journal: *const u8,
             journal_length: usize,
+            fault: *mut Fault,
         ) -> u32;
-        pub fn polydb_site_submit(
+        pub fn polydb_site_submit_at(
             site: *mut Handle,
             program: *const u8,
             length: usize,
             query: bool,
+            fault: *mut Fault,
         ) -> u32;
         pub fn polydb_site_receive(site: *mut Handle, message: *const u8, length: usize) -> u32;
         pub fn polydb_site_tick(site: *mut Handle) -> u32;
@@ -337,6 +339,18 @@ pub fn status_text(status: u32) -> Option<String> {
     (found == DONE).then(|| String::from_utf8_lossy(&text).into_owned())
 }
 
+/// Where what a call was given is at fault, as `polydb_fault` of the header says for each status; zeroes where it says nothing.
+#[repr(C)]
+#[derive(Clone, Copy, Debug, Default, PartialEq, Eq)]
+pub struct Fault {
+    /// A line, from 1.
+    pub line: u32,
+    /// A byte of a program's text, from 1.
+    pub column: u32,
+    /// A place, an index or a count.
+    pub number: u64,
+}
+
 /// The status and the text that `polydb run` gives for a schedule. At status 0 all of it was run.
 pub fn run(schedule: &[u8]) -> (u32, Vec<u8>) {
     fill(|out, written| unsafe {
@@ -405,27 +419,48 @@ unsafe impl Send for Site {}
 impl Site {
     /// Site `me` of a configuration, going on from what the host's file holds: [`EMPTY_JOURNAL`] in a new site's.
     pub fn open(config: &[u8], me: u8, journal: &[u8]) -> Result<Site, Error> {
+        Site::open_at(config, me, journal).map_err(|(error, _)| error)
+    }
+
+    /// The same; and where it is refused, it is said where what was given is at fault.
+    pub fn open_at(config: &[u8], me: u8, journal: &[u8]) -> Result<Site, (Error, Fault)> {
         let mut site = Site {
             handle: Handle::CLOSED,
         };
+        let mut fault = Fault::default();
         answer(unsafe {
-            calls::polydb_site_open(
+            calls::polydb_site_open_at(
                 &mut site.handle,
                 config.as_ptr(),
                 config.len(),
                 me,
                 journal.as_ptr(),
                 journal.len(),
+                &mut fault,
             )
-        })?;
+        })
+        .map_err(|error| (error, fault))?;
         Ok(site)
     }
 
     /// A request, with this site as its coordinator.
     pub fn submit(&mut self, program: &[u8], query: bool) -> Result<(), Error> {
+        self.submit_at(program, query).map_err(|(error, _)| error)
+    }
+
+    /// The same; and where it is refused, it is said where the text is at fault.
+    pub fn submit_at(&mut self, program: &[u8], query: bool) -> Result<(), (Error, Fault)> {
+        let mut fault = Fault::default();
         answer(unsafe {
-            calls::polydb_site_submit(&mut self.handle, program.as_ptr(), program.len(), query)
+            calls::polydb_site_submit_at(
+                &mut self.handle,
+                program.as_ptr(),
+                program.len(),
+                query,
+                &mut fault,
+            )
         })
+        .map_err(|error| (error, fault))
     }
 
     /// A message that another site, or this one, has let out.
@@ -585,6 +620,19 @@ mod tests {
     #[test]
     fn the_version_is_told() {
         assert_eq!(version(), 200);
+    }
+
+    #[test]
+    fn faults_have_places() {
+        let refused = Site::open_at(b"sites 1\nitem A 0 1\n", 0, EMPTY_JOURNAL);
+        let line = Fault {
+            line: 2,
+            ..Fault::default()
+        };
+        assert_eq!(refused.map(|_| ()), Err((Error::Malformed, line)));
+        let mut site = Site::open(CATALOG, 0, EMPTY_JOURNAL).unwrap();
+        let (error, fault) = site.submit_at(b"a := b + x", false).unwrap_err();
+        assert_eq!((error, fault.column), (Error::BadText, 10));
     }
 
     #[test]
