@@ -274,7 +274,7 @@ typedef struct {
 
 /*
  * Opens a closed handle with site `me` of a configuration: lines `sites`, `journal` and `item` of a schedule, the same for all sites. The journal is
- * what the host's file holds. What the file holds beyond the journal's end doesn't matter. The site keeps copies of what it needs.
+ * what the host's file holds. What the file holds beyond the journal's end doesn't matter, and the opening takes no memory for it. The site keeps copies of what it needs.
  *
  *   POLYDB_DONE               the site is open. It is in a new epoch, whose record is the first thing to write
  *   POLYDB_IN_USE             the handle was open

@@ -1,5 +1,6 @@
 pub mod ByteLemmas
 pub mod KeepLemmas
+pub mod OpeningLemmas
 pub mod ReadLemmas
 pub mod SiteBox
 pub mod StepLemmas

@@ -3,6 +3,7 @@ pub mod ByteState
 pub mod ByteView
 pub mod Faults
 pub mod Given
+pub mod Opening
 pub mod SiteHandle
 pub mod Slot
 pub mod Waiting

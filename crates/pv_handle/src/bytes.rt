@@ -9,6 +9,7 @@ ghost use Rattle.pv_handle.specs.Waiting.{left_after, waits_before};
 
 use crate::faults::{NotNext, ValueFault};
 use crate::given::{Given, give};
+use crate::opening::open_hosted;
 use crate::outputs::{give_output, shown_text};
 use pv_base::{Catalog, NoMemory};
 use pv_embed::{HostedSite, OpenFault, Output, ReceiveFault, SubmitFault};
@@ -55,14 +56,11 @@ impl Model for ByteSite {
 }
 
 impl ByteSite {
-    /// Opens a site on the bytes of its journal, as [`HostedSite::open`] does.
+    /// Opens a site on the bytes of its journal, as [`HostedSite::open`] does. It takes memory for the journal alone, whatever stands behind it.
     pub fn open(alloc: Global, config: &[u8], me: u8, journal: &[u8]) -> Result<ByteSite, OpenFault>
         ensures { OpensBytes config.now me journal.now result }
     {
-        let Ok(journal) = Vec::from_slice(alloc, journal) else {
-            return Err(OpenFault::NoMemory);
-        };
-        let site = HostedSite::open(alloc, config, me, journal)?;
+        let site = open_hosted(alloc, config, me, journal)?;
         Ok(ByteSite {
             alloc,
             site,

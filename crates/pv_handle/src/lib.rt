@@ -4,6 +4,7 @@
 mod bytes;
 mod faults;
 mod given;
+mod opening;
 mod outputs;
 mod parts;
 mod refused;
