@@ -3,5 +3,6 @@ mod KeptLemmas
 mod LetOutLemmas
 mod MadeLemmas
 mod OpeningLemmas
+mod OutcomeLemmas
 mod ReadLemmas
 mod RequestLemmas

@@ -4,5 +4,6 @@ pub mod HostedView
 pub mod Kept
 pub mod LetOut
 pub mod Opening
+pub mod Outcomes
 pub mod Outputs
 pub mod Requests

@@ -1,4 +1,6 @@
 // One site, for a host that carries its messages and writes its journal.
+mod asking;
+
 ghost use Rattle.std.specs.Prelude.{◌≡◌, ◌<◌, ◌≤◌, ℕ, length, slice_get, Some, Err, IfSome};
 ghost use Rattle.std.specs.Option.{option_map};
 ghost use Rattle.pv_base.specs.Catalog.{Declared};
