@@ -37,7 +37,7 @@
  * Room. Where a call writes bytes to `out`, they are `room` bytes at most, and too small a room loses nothing: POLYDB_TOO_SMALL says in `*written` how many
  * bytes there are, nothing is written, and the same bytes come again. But polydb_world_take has no such status: it writes a part, and the next call goes on.
  * After every call `out` is as it was beyond the bytes that were written. `*written` is 0 but with POLYDB_DONE and POLYDB_TOO_SMALL, and but for polydb_run,
- * which has a text with other statuses too; `*place` and `*to` are 0 but with POLYDB_DONE.
+ * which has a text with other statuses too; `*place`, `*to` and `*at` are 0 but with POLYDB_DONE.
  */
 #ifndef POLYDB_H
 #define POLYDB_H
@@ -274,7 +274,8 @@ typedef struct {
 
 /*
  * Opens a closed handle with site `me` of a configuration: lines `sites`, `journal` and `item` of a schedule, the same for all sites. The journal is
- * what the host's file holds. What the file holds beyond the journal's end doesn't matter, and the opening takes no memory for it. The site keeps copies of what it needs.
+ * what the host's file holds. What the file holds beyond the journal's end doesn't matter, and the opening takes no memory for it. The site keeps
+ * copies of what it needs.
  *
  *   POLYDB_DONE               the site is open. It is in a new epoch, whose record is the first thing to write
  *   POLYDB_IN_USE             the handle was open
@@ -402,6 +403,54 @@ uint32_t polydb_site_take_message(polydb_site *site, uint8_t *out, size_t room, 
  *   POLYDB_NO_MEMORY     there was no memory
  */
 uint32_t polydb_site_read(polydb_site *site, const uint8_t *name, size_t length, uint8_t *out, size_t room, size_t *written);
+
+/* What became of a transaction. */
+#define POLYDB_COMMITTED 1u
+#define POLYDB_NOT_COMMITTED 2u
+#define POLYDB_AT_WORK 3u
+
+/*
+ * What became of a transaction of this site, by the three numbers of its `txn` report, as 0, 1 and 0 of `txn 0.1.0`. It is what another site is answered that asks
+ * for the outcome. A client that has such a number asks after a crash, so that a retry does nothing twice. Nothing changes.
+ *
+ * It is told only once all is written that the site has asked for: else a crash might undo it. POLYDB_COMMITTED and POLYDB_NOT_COMMITTED are final; a transaction
+ * that is POLYDB_AT_WORK may still commit or not, and doesn't if the site is closed before.
+ *
+ *   POLYDB_DONE        `*outcome` is POLYDB_COMMITTED, POLYDB_NOT_COMMITTED or POLYDB_AT_WORK; with other statuses it is 0
+ *   POLYDB_CLOSED      the handle is closed
+ *   POLYDB_NOT_HERE    it is a transaction of another site
+ *   POLYDB_UNWRITTEN   polydb_site_take_journal has something to write, and nothing is told before polydb_site_journal_synced
+ *   POLYDB_NOTHING     the site has given this number to no transaction yet, and may still do so
+ *   POLYDB_NO_MEMORY   there was no memory
+ */
+uint32_t polydb_site_outcome(polydb_site *site, uint8_t coordinator, uint32_t epoch, uint32_t number, uint32_t *outcome);
+
+/* How far a site is. */
+typedef struct {
+    uint64_t stored; /* bytes of the journal that are in the file, by what the host has said: up to its closed gate, and with it */
+    uint64_t asked;  /* as many as there are once all is written that the site has asked for */
+    uint64_t limit;  /* as many as there may be: of the configuration */
+    uint32_t epoch;  /* the epoch in which the site was opened; 0 while something is to be written, since a crash may undo it */
+} polydb_info;
+
+/*
+ * How far the site is. Nothing changes.
+ *
+ *   POLYDB_DONE        it is in `*info`
+ *   POLYDB_CLOSED      the handle is closed; `*info` has zeroes
+ */
+uint32_t polydb_site_info(polydb_site *site, polydb_info *info);
+
+/*
+ * The name of the item of this number, from 0, in the order in which the configuration declares them; `*at` is the site that it is at, which may be another one.
+ * Nothing changes.
+ *
+ *   POLYDB_DONE        the name is in `out`
+ *   POLYDB_CLOSED      the handle is closed
+ *   POLYDB_NOTHING     there are no more than `number` items
+ *   POLYDB_TOO_SMALL   the name has `*written` bytes, and there is less room
+ */
+uint32_t polydb_site_item(polydb_site *site, uint64_t number, uint8_t *out, size_t room, size_t *written, uint64_t *at);
 
 /* Closes the handle and frees all that it holds. A closed handle stays closed. The host's file goes on: open the site again on it. */
 void polydb_site_close(polydb_site *site);

@@ -16,6 +16,7 @@ from __future__ import annotations
 import ctypes
 import os
 from ctypes import POINTER, byref, c_bool, c_char_p, c_size_t, c_uint8, c_uint32, c_uint64, c_void_p, string_at
+from enum import Enum
 from pathlib import Path
 from threading import Lock
 from typing import Any, Callable, List, NamedTuple, Optional, Tuple, Union
@@ -34,8 +35,11 @@ __all__ = [
     "Output",
     "World",
     "Site",
+    "Info",
     "JournalWrite",
     "Message",
+    "Outcome",
+    "Placed",
     "Report",
     "run",
     "status_text",
@@ -239,6 +243,12 @@ class _Fault(ctypes.Structure):
     _fields_ = [("line", c_uint32), ("column", c_uint32), ("number", c_uint64)]
 
 
+class _Info(ctypes.Structure):
+    """How far a site is, as C has it."""
+
+    _fields_ = [("stored", c_uint64), ("asked", c_uint64), ("limit", c_uint64), ("epoch", c_uint32)]
+
+
 def _check(status: int, what: str, fault: Optional[_Fault] = None) -> None:
     if status == _DONE:
         return
@@ -298,6 +308,9 @@ _site_take_journal = _declare("polydb_site_take_journal", _handle, _out, c_size_
 _site_journal_synced = _declare("polydb_site_journal_synced", _handle, c_uint64, c_size_t)
 _site_take_message = _declare("polydb_site_take_message", _handle, _out, c_size_t, _size, _place)
 _site_read = _declare("polydb_site_read", _handle, c_char_p, c_size_t, _out, c_size_t, _size)
+_site_outcome = _declare("polydb_site_outcome", _handle, c_uint8, c_uint32, c_uint32, POINTER(c_uint32))
+_site_info = _declare("polydb_site_info", _handle, POINTER(_Info))
+_site_item = _declare("polydb_site_item", _handle, c_uint64, _out, c_size_t, _size, _place)
 _site_close = _declare("polydb_site_close", _handle, result=None)
 
 
@@ -438,6 +451,30 @@ class Report(NamedTuple):
 Output = Union[Message, Report]
 
 
+class Outcome(Enum):
+    """What became of a transaction. The first two are final."""
+
+    COMMITTED = 1
+    NOT_COMMITTED = 2
+    AT_WORK = 3
+
+
+class Info(NamedTuple):
+    """How far a site is: bytes of its journal in the file, as many as there are once all is written, as many as there may be; and its epoch, or None while something is to be written."""
+
+    stored: int
+    asked: int
+    limit: int
+    epoch: Optional[int]
+
+
+class Placed(NamedTuple):
+    """An item of the configuration, and the site that it is at."""
+
+    name: str
+    site: int
+
+
 class Site(_Open):
     """One site, for a host that carries its messages and writes its journal."""
 
@@ -497,3 +534,33 @@ class Site(_Open):
         status, line = _fill(lambda out, room, written: self._call(_site_read, text, len(text), out, room, written))
         _check(status, "read")
         return line.decode().removeprefix(f"item {text.decode()} ").rstrip("\n")
+
+    def outcome(self, transaction: str) -> Optional[Outcome]:
+        """What became of a transaction of this site, `0.1.0`, once all is written; None where its number was given to none yet, and may still be."""
+        words = transaction.split(".")
+        if len(words) != 3 or not all(word.isascii() and word.isdigit() and int(word) < 1 << 32 for word in words) or int(words[0]) > 255:
+            raise ValueError(f"no transaction: {transaction}")
+        site, epoch, number = map(int, words)
+        outcome = c_uint32(0)
+        status = self._call(_site_outcome, site, epoch, number, byref(outcome))
+        if status == _NOTHING:
+            return None
+        _check(status, "outcome")
+        return Outcome(outcome.value)
+
+    def info(self) -> Info:
+        """How far the site is."""
+        info = _Info()
+        _check(self._call(_site_info, byref(info)), "info")
+        return Info(info.stored, info.asked, info.limit, info.epoch or None)
+
+    def items(self) -> List[Placed]:
+        """All items of the configuration, in the order in which it declares them."""
+        items: List[Placed] = []
+        while True:
+            at = c_uint64(0)
+            status, name = _fill(lambda out, room, written: self._call(_site_item, len(items), out, room, written, byref(at)))
+            if status == _NOTHING:
+                return items
+            _check(status, "items")
+            items.append(Placed(name.decode(), at.value))

@@ -170,6 +170,36 @@ def where_it_is_at_fault():
     Site(full.replace("32", "39"), 0, journal_of(2)).close()
 
 
+def what_is_asked():
+    """Items, how far a site is, and what became of a transaction."""
+    host = Hosted(0)
+    assert host.site.items() == [polydb.Placed("a", 0), polydb.Placed("b", 1)]
+    assert host.site.info() == polydb.Info(9, 19, polydb.MAX_JOURNAL, None)
+    refused(polydb.Unwritten, host.site.outcome, "0.1.0")
+    refused(polydb.NotHere, host.site.outcome, "1.1.0")
+    host.settle()
+    assert host.site.info() == polydb.Info(19, 19, polydb.MAX_JOURNAL, 1)
+    assert host.site.outcome("0.1.0") is None
+    for wrong_name in ["", "0", "0.1", "0.1.0.0", "0.1.x", "256.1.0", "0.1.4294967296", "0.-1.0", "0.1. 0"]:
+        try:
+            host.site.outcome(wrong_name)
+        except ValueError:
+            continue
+        raise AssertionError(wrong_name)
+    hosts = [Hosted(0), Hosted(1)]
+    hosts[0].site.submit(TRANSFER)
+    hosts[0].settle()
+    assert hosts[0].site.outcome("0.1.0") is polydb.Outcome.AT_WORK
+    hosts = [Hosted(0), Hosted(1)]
+    commit(hosts)
+    assert hosts[0].site.outcome("0.1.0") is polydb.Outcome.COMMITTED
+    later = Hosted(0, bytes(hosts[0].file))
+    refused(polydb.Unwritten, later.site.outcome, "0.1.0")
+    later.settle()
+    assert later.site.outcome("0.1.0") is polydb.Outcome.COMMITTED
+    assert later.site.outcome("0.1.1") is polydb.Outcome.NOT_COMMITTED
+
+
 def limits():
     """What is at a limit is taken, and what is above it isn't. A journal at its limit opens under a higher one."""
     assert polydb.version() == (0, 2, 0)
@@ -310,6 +340,7 @@ def main():
     what_is_no_bytes()
     limits()
     where_it_is_at_fault()
+    what_is_asked()
     no_messages()
     cut_journals()
     writes_never_asked_for()

@@ -359,6 +359,92 @@ static void faults(void) {
     polydb_site_close(&site);
 }
 
+/* Writes all that the site asks for into a file in memory. */
+static void write_all(polydb_site *site, uint8_t *file, size_t most, size_t *length) {
+    static uint8_t bytes[4096];
+    size_t written;
+    uint64_t place;
+    while (polydb_site_take_journal(site, bytes, sizeof bytes, &written, &place) == POLYDB_DONE) {
+        CHECK(place + written <= most);
+        memcpy(file + place, bytes, written);
+        if (place + written > *length) {
+            *length = place + written;
+        }
+        CHECK(polydb_site_journal_synced(site, place, written) == POLYDB_DONE);
+    }
+}
+
+static uint32_t outcome_of(polydb_site *site, uint32_t epoch, uint32_t number) {
+    uint32_t outcome = 99;
+    uint32_t status = polydb_site_outcome(site, 0, epoch, number, &outcome);
+    CHECK((status == POLYDB_DONE) == (outcome != 0));
+    return status == POLYDB_DONE ? outcome : 100 + status;
+}
+
+/* What became of transactions: before anything is written, while they are at work, after a commit, and in a later process. */
+static void what_became(void) {
+    static const uint8_t two[] = "sites 2\nitem a 0 100\nitem b 1 50\n";
+    static const uint8_t transfer[] = "a := a - 10 ; b := b + 10";
+    static uint8_t file[4096] = POLYDB_EMPTY_JOURNAL;
+    size_t length = sizeof POLYDB_EMPTY_JOURNAL;
+    polydb_site site = {0};
+    polydb_info info;
+    uint32_t outcome = 99;
+    uint8_t out[64] = {0};
+    size_t written = 99;
+    uint64_t at = 99;
+
+    CHECK(polydb_site_outcome(&site, 0, 1, 0, &outcome) == POLYDB_CLOSED && outcome == 0);
+    CHECK(polydb_site_info(&site, &info) == POLYDB_CLOSED && info.epoch == 0 && info.limit == 0);
+    CHECK(polydb_site_item(&site, 0, out, sizeof out, &written, &at) == POLYDB_CLOSED && written == 0 && at == 0);
+
+    CHECK(polydb_site_open(&site, two, sizeof two - 1, 0, file, length) == POLYDB_DONE);
+    CHECK(polydb_site_item(&site, 0, out, sizeof out, &written, &at) == POLYDB_DONE && written == 1 && out[0] == 'a' && at == 0);
+    CHECK(polydb_site_item(&site, 1, out, 0, &written, &at) == POLYDB_TOO_SMALL && written == 1 && out[0] == 'a' && at == 0);
+    CHECK(polydb_site_item(&site, 1, out, sizeof out, &written, &at) == POLYDB_DONE && written == 1 && out[0] == 'b' && at == 1);
+    CHECK(polydb_site_item(&site, 2, out, sizeof out, &written, &at) == POLYDB_NOTHING && written == 0 && at == 0);
+    CHECK(polydb_site_item(&site, UINT64_MAX, out, sizeof out, &written, &at) == POLYDB_NOTHING);
+
+    CHECK(polydb_site_info(&site, &info) == POLYDB_DONE && info.stored == 9 && info.asked == 19 && info.limit == POLYDB_MAX_JOURNAL && info.epoch == 0);
+    CHECK(polydb_site_submit(&site, PROGRAM, PROGRAM_LENGTH, false) == POLYDB_DONE);
+    CHECK(outcome_of(&site, 1, 0) == 100 + POLYDB_UNWRITTEN);
+    CHECK(polydb_site_outcome(&site, 1, 1, 0, &outcome) == POLYDB_NOT_HERE && outcome == 0);
+    write_all(&site, file, sizeof file, &length);
+    CHECK(polydb_site_info(&site, &info) == POLYDB_DONE && info.stored == info.asked && info.stored == length && info.epoch == 1);
+    CHECK(outcome_of(&site, 1, 0) == POLYDB_AT_WORK);
+    CHECK(outcome_of(&site, 1, 1) == 100 + POLYDB_NOTHING);
+    CHECK(outcome_of(&site, 2, 0) == 100 + POLYDB_NOTHING);
+    CHECK(outcome_of(&site, 0, 7) == POLYDB_NOT_COMMITTED);
+
+    /* The first goes on by messages of the site to itself; the second waits for the other site, which isn't there. */
+    CHECK(polydb_site_submit(&site, transfer, sizeof transfer - 1, false) == POLYDB_DONE);
+    for (;;) {
+        uint8_t message[4096];
+        uint64_t to = 99;
+        write_all(&site, file, sizeof file, &length);
+        uint32_t status = polydb_site_take_message(&site, message, sizeof message, &written, &to);
+        if (status == POLYDB_NOTHING) {
+            break;
+        }
+        CHECK(status == POLYDB_DONE);
+        if (to == 0) {
+            CHECK(polydb_site_receive(&site, message, written) == POLYDB_DONE);
+        }
+    }
+    CHECK(outcome_of(&site, 1, 0) == POLYDB_COMMITTED);
+    CHECK(outcome_of(&site, 1, 1) == POLYDB_AT_WORK);
+    polydb_site_close(&site);
+
+    CHECK(polydb_site_open(&site, two, sizeof two - 1, 0, file, length) == POLYDB_DONE);
+    CHECK(outcome_of(&site, 1, 0) == 100 + POLYDB_UNWRITTEN);
+    write_all(&site, file, sizeof file, &length);
+    CHECK(outcome_of(&site, 1, 0) == POLYDB_COMMITTED);
+    CHECK(outcome_of(&site, 1, 1) == POLYDB_NOT_COMMITTED);
+    CHECK(outcome_of(&site, 2, 0) == 100 + POLYDB_NOTHING);
+    CHECK(polydb_site_info(&site, &info) == POLYDB_DONE && info.epoch == 2);
+    polydb_site_close(&site);
+}
+
 /* ---- a whole run ---- */
 
 static void whole_run(void) {
@@ -393,6 +479,7 @@ int main(void) {
     no_texts();
     status_texts();
     faults();
+    what_became();
     whole_run();
     with_failing_allocations(retried);
     with_failing_allocations(wait_for_journal);

@@ -1,4 +1,5 @@
 pub mod Answer
+pub mod Asked
 pub mod Causes
 pub mod Faults
 pub mod Run

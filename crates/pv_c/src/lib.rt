@@ -1,6 +1,7 @@
 //! The engine for C and for what calls C: each function is a call of the engine, and gives a number for its answer.
 #![tactic(auto)]
 
+mod asking;
 mod fault;
 mod given_numbers;
 mod given_text;

@@ -1,3 +1,4 @@
+pub mod AskLemmas
 pub mod ByteLemmas
 pub mod KeepLemmas
 pub mod OpeningLemmas

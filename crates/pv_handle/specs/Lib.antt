@@ -1,3 +1,4 @@
+pub mod Asked
 pub mod ByteSite
 pub mod ByteState
 pub mod ByteView

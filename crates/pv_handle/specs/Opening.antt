@@ -1,5 +1,5 @@
 -- An opening on the bytes that a file begins with.
-use Rattle.std.specs.Prelude.{Bool, true, false, Result, Ok, Err}
+use Rattle.std.specs.Prelude.{Bool, true, false, Result, Err}
 use Rattle.pv_embed.specs.Hosted.{HostedState}
 use Rattle.pv_embed.specs.declared.fault.OpenFault.{OpenFault}
 use Rattle.pv_embed.specs.declared.fault.OpenFault.TheVariants.{NotOurs}

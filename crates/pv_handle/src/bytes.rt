@@ -1,4 +1,6 @@
 // A site whose messages, reports and values go out as bytes, for a host that has only so much room for them.
+mod asking;
+
 ghost use Rattle.std.specs.Prelude.{◌≡◌, ◌≤◌, IfSome, None};
 ghost use Rattle.pv_protocol.specs.State as model;
 ghost use Rattle.pv_embed.specs.Hosted.{Gives, HostedState, stored_length};

@@ -4,6 +4,7 @@
 mod bytes;
 mod faults;
 mod given;
+mod info;
 mod opening;
 mod outputs;
 mod parts;
@@ -14,6 +15,7 @@ mod world;
 pub use bytes::ByteSite;
 pub use faults::{NotNext, ValueFault};
 pub use given::Given;
+pub use info::SiteInfo;
 pub use outputs::REPORT;
 pub use refused::Refused;
 pub use site::SiteSlot;

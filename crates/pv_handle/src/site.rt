@@ -1,4 +1,5 @@
 // The slot of a site.
+mod asking;
 mod handle;
 
 ghost use Rattle.std.specs.Prelude.{◌≡◌, Some, None, IsSome, is_some};

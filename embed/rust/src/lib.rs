@@ -16,7 +16,7 @@ use std::io::{self, Write};
 use std::ptr;
 
 mod calls {
-    use super::{Fault, Handle};
+    use super::{Fault, Handle, Told};
 
     #[link(name = "polydb", kind = "static")]
     extern "C" {
@@ -76,6 +76,22 @@ mod calls {
             out: *mut u8,
             room: usize,
             written: *mut usize,
+        ) -> u32;
+        pub fn polydb_site_outcome(
+            site: *mut Handle,
+            coordinator: u8,
+            epoch: u32,
+            number: u32,
+            outcome: *mut u32,
+        ) -> u32;
+        pub fn polydb_site_info(site: *mut Handle, info: *mut Told) -> u32;
+        pub fn polydb_site_item(
+            site: *mut Handle,
+            number: u64,
+            out: *mut u8,
+            room: usize,
+            written: *mut usize,
+            at: *mut u64,
         ) -> u32;
         pub fn polydb_site_close(site: *mut Handle);
         pub fn polydb_run(
@@ -351,6 +367,40 @@ pub struct Fault {
     pub number: u64,
 }
 
+/// What became of a transaction.
+#[derive(Clone, Copy, Debug, PartialEq, Eq)]
+pub enum Outcome {
+    /// It has committed.
+    Committed,
+    /// It hasn't committed, and never will.
+    NotCommitted,
+    /// The site works on it.
+    AtWork,
+}
+
+/// How far a site is.
+#[derive(Clone, Copy, Debug, PartialEq, Eq)]
+pub struct Info {
+    /// How many bytes of the journal are in the file.
+    pub stored: u64,
+    /// How many there are once all is written that the site has asked for.
+    pub asked: u64,
+    /// How many there may be.
+    pub limit: u64,
+    /// The epoch in which the site was opened, unless something is to be written: a crash may undo it.
+    pub epoch: Option<u32>,
+}
+
+// How far a site is, as C has it.
+#[repr(C)]
+#[derive(Default)]
+struct Told {
+    stored: u64,
+    asked: u64,
+    limit: u64,
+    epoch: u32,
+}
+
 /// The status and the text that `polydb run` gives for a schedule. At status 0 all of it was run.
 pub fn run(schedule: &[u8]) -> (u32, Vec<u8>) {
     fill(|out, written| unsafe {
@@ -539,6 +589,62 @@ impl Site {
         answer(status)?;
         Ok(line)
     }
+
+    /// What became of a transaction of this site, once all is written, by the three numbers of its `txn` report; or `None` where the site has given its
+    /// number to none yet, and may still do so.
+    pub fn outcome(
+        &mut self,
+        coordinator: u8,
+        epoch: u32,
+        number: u32,
+    ) -> Result<Option<Outcome>, Error> {
+        let mut outcome = 0;
+        let status = unsafe {
+            calls::polydb_site_outcome(&mut self.handle, coordinator, epoch, number, &mut outcome)
+        };
+        if status == NOTHING {
+            return Ok(None);
+        }
+        answer(status)?;
+        Ok(Some(match outcome {
+            1 => Outcome::Committed,
+            2 => Outcome::NotCommitted,
+            _ => Outcome::AtWork,
+        }))
+    }
+
+    /// How far the site is.
+    pub fn info(&mut self) -> Result<Info, Error> {
+        let mut told = Told::default();
+        answer(unsafe { calls::polydb_site_info(&mut self.handle, &mut told) })?;
+        Ok(Info {
+            stored: told.stored,
+            asked: told.asked,
+            limit: told.limit,
+            epoch: (told.epoch != 0).then_some(told.epoch),
+        })
+    }
+
+    /// The name of the item of this number, from 0, in the order in which the configuration declares them, and the site that it is at; or `None`
+    /// where there are no more.
+    pub fn item(&mut self, number: u64) -> Result<Option<(Vec<u8>, u64)>, Error> {
+        let mut at = 0;
+        let (status, name) = fill(|out, written| unsafe {
+            calls::polydb_site_item(
+                &mut self.handle,
+                number,
+                out.as_mut_ptr(),
+                out.len(),
+                written,
+                &mut at,
+            )
+        });
+        if status == NOTHING {
+            return Ok(None);
+        }
+        answer(status)?;
+        Ok(Some((name, at)))
+    }
 }
 
 impl Drop for Site {
@@ -633,6 +739,23 @@ mod tests {
         let mut site = Site::open(CATALOG, 0, EMPTY_JOURNAL).unwrap();
         let (error, fault) = site.submit_at(b"a := b + x", false).unwrap_err();
         assert_eq!((error, fault.column), (Error::BadText, 10));
+    }
+
+    #[test]
+    fn a_site_is_asked() {
+        let mut site = Site::open(CATALOG, 0, EMPTY_JOURNAL).unwrap();
+        assert_eq!(site.item(1), Ok(Some((b"b".to_vec(), 1))));
+        assert_eq!(site.item(2), Ok(None));
+        assert_eq!(site.info().map(|info| info.epoch), Ok(None));
+        site.submit(b"a := a - 10 ; b := b + 10", false).unwrap();
+        assert_eq!(site.outcome(0, 1, 0), Err(Error::Unwritten));
+        assert_eq!(site.outcome(1, 1, 0), Err(Error::NotHere));
+        while let Some(write) = site.next_write().unwrap() {
+            site.written(&write).unwrap();
+        }
+        assert_eq!(site.outcome(0, 1, 0), Ok(Some(Outcome::AtWork)));
+        assert_eq!(site.outcome(0, 1, 1), Ok(None));
+        assert_eq!(site.info().map(|info| info.epoch), Ok(Some(1)));
     }
 
     #[test]
