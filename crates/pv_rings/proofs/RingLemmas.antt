@@ -132,6 +132,3 @@ module _ {M : Type 0} where
     handed-at P old new such each =
         each-weaker HandsAt (λ k one other. (more : List M) × Hands more one other × P k more) old new
         (λ k x y within hands. ((if k == to then message ∷ [] else []), hands, such k)) each
-
-    pub nowhere-handed : (outs : List (Out M)) → length outs ≤ to → Each HandsAt outs outs
-    nowhere-handed outs past = each-self HandsAt outs (λ k out within. at-other k (k == to) refl (λ is. absurd (omega arith)) out)

@@ -1,0 +1,5 @@
+pub mod ArrivalLemmas
+pub mod AskedLemmas
+pub mod ListLemmas
+pub mod PostingLemmas
+pub mod TellingLemmas

@@ -1,0 +1,19 @@
+//! What comes to a site in a box and what goes out of it: messages and requests that rings bring, parcels and answers that are posted, and who waits
+//! for what.
+#![tactic(auto)]
+
+mod answer;
+mod arrival;
+mod asked;
+mod ends;
+mod head;
+mod posting;
+mod telling;
+
+pub use answer::{Answer, What};
+pub use arrival::{Arrival, copy_request};
+pub use asked::{Asker, Begun};
+pub use ends::{Ends, Parcel};
+pub use head::{Head, joined, parted};
+pub use posting::post_all;
+pub use telling::Telling;
