@@ -1,0 +1,5 @@
+//! The tests of pv_mail.
+#![tactic(auto)]
+
+#[cfg(test)]
+mod tests;
