@@ -44,8 +44,8 @@ impl Ends {
     {
         let sites = self.sites_in.len();
         let clients = self.clients_in.len();
-        let site = least(*next, sites);
-        let client = least(*next - site, clients);
+        let site = (*next).min(sites);
+        let client = (*next - site).min(clients);
         let (arrival, count) = match self.take_between(site..sites, client..clients) {
             Some(came) => came,
             None => self.take_between(0..site, 0..client)?,
@@ -89,12 +89,6 @@ fn behind(arrival: &Arrival, sites: usize) -> usize
         Arrival::Parcel { from, .. } => from.0 as usize + 1,
         Arrival::Request { client, .. } => sites + *client as usize + 1,
     }
-}
-
-fn least(one: usize, other: usize) -> usize
-    ensures { (result ≤ one) × (result ≤ other) }
-{
-    if one < other { one } else { other }
 }
 
 /// An equal request, which shares nothing with this one.

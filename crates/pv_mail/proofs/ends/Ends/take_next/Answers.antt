@@ -14,8 +14,8 @@ returns-in_err-arrival-in-None-clause-none c =
     let old = c.args.self.now in
     let mid = c.take_between.new.self in
     let new = c.take_between-in-None.new.self in
-    let site = c.least-site.result in
-    let client = c.least-client.result in
+    let site = c.min-site.result in
+    let client = c.min-client.result in
     if-none c.from_residual.result (AllFoundEmpty old new)
     (nothing-found old mid new site client
     (subst (λ (end : ℕ). AreFoundEmpty site end old.sites_in.items mid.sites_in.items) (c.len-sites.ensures ∙ old.sites_in.ok.0) c.in-None.ensures.no_site)
@@ -31,8 +31,8 @@ pub returns-clause-some : goal.returns-clause-some
 returns-clause-some c =
     let old = c.args.self.now in
     let mid = c.take_between.new.self in
-    let site = c.least-site.result in
-    let client = c.least-client.result in
+    let site = c.min-site.result in
+    let client = c.min-client.result in
     elim c.match-take_between.branch [
       | in-Some w ↦ comes-as old mid c.match-take_between.self _ c.match-take_between.arrival w.self-is w.arrival-is w.in-Some.ensures.some
       | in-None+in_ok-arrival-in-None w ↦
