@@ -5,6 +5,7 @@
 mod answer;
 mod arrival;
 mod asked;
+mod crossing;
 mod ends;
 mod head;
 mod posting;
@@ -13,6 +14,7 @@ mod telling;
 pub use answer::{Answer, What};
 pub use arrival::{Arrival, copy_request};
 pub use asked::{Asker, Begun};
+pub use crossing::ends_cross_threads;
 pub use ends::{Ends, Parcel};
 pub use head::{Head, joined, parted};
 pub use posting::post_all;
