@@ -1,0 +1,5 @@
+pub mod Asking
+pub mod Each
+pub mod Messages
+pub mod Rounds
+pub mod Seated
