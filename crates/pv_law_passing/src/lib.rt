@@ -2,13 +2,13 @@
 //! once and in order. The functions do nothing: each states a law.
 #![tactic(auto)]
 
-ghost use Rattle.std.specs.Prelude.{ℕ, List};
-ghost use mathlib.Core.List.{Sublist};
+ghost use Rattle.std.specs.Prelude.{◌≡◌, ℕ, ◌<◌, List, [], ◌∷◌, ◌++◌};
+ghost use mathlib.Core.List.{IsPrefix, Sublist};
 ghost use Rattle.pv_law_histories.specs.Fitting.{FitTogether};
-ghost use Rattle.pv_law_histories.specs.History.{Stamped};
+ghost use Rattle.pv_law_histories.specs.History.{Intake, request, Stamped};
 ghost use Rattle.pv_law_histories.specs.Posting.{PassMessages};
-ghost use Rattle.pv_law_passing.specs.Asking.{AsksInOrder, asked_by};
-ghost use Rattle.pv_law_passing.specs.Rings.{GoByRings, Ring};
+ghost use Rattle.pv_law_passing.specs.Asking.{AsksInOrder, asked_by, with_asked};
+ghost use Rattle.pv_law_passing.specs.Rings.{Brings, GoByRings, Ring, Sealed, WasTaken};
 ghost use Rattle.pv_model.specs.LiveScript.{Request};
 ghost use Rattle.pv_protocol.specs.State.{Setup};
 
@@ -27,4 +27,24 @@ pub fn rings_pass_messages()
 pub fn requests_stand_once()
     ensures { (client : ℕ) (script posted taken : List Request) (history : List Stamped) → AsksInOrder client script posted taken history →
         Sublist (asked_by client history) script }
+{}
+
+/// How a ring goes on: it loses what it is offered, or takes it, however often it counts.
+pub fn rings_go_on()
+    ensures loses { (ring : Ring) (one : Sealed) → Brings ring → Brings (record ring { offered = ring.offered ++ one ∷ [] }) }
+    ensures takes { (ring : Ring) (one : Sealed) (count : ℕ) → Brings ring →
+        Brings (record ring { offered = ring.offered ++ one ∷ []; posted = ring.posted ++ (one, count) ∷ [] }) }
+    ensures taken { (rings later : ℕ → ℕ → Ring) (sites to : ℕ) (intake : Intake) → ((from : ℕ) → from < sites → IsPrefix (rings from to).taken (later from to).taken) →
+        WasTaken rings sites to intake → WasTaken later sites to intake }
+{}
+
+/// How what stands of a client's requests goes on: of one more that its site took the history has one more, or none where it was lost; and an entry that is none of
+/// the client's leaves them.
+pub fn requests_go_on()
+    ensures stands { (client : ℕ) (taken : List Request) (history : List Stamped) (entry : Stamped) (asked : Request) → entry.intake ≡ request client asked →
+        Sublist (asked_by client history) taken → Sublist (asked_by client (history ++ entry ∷ [])) (taken ++ asked ∷ []) }
+    ensures lost { (client : ℕ) (taken : List Request) (history : List Stamped) (asked : Request) →
+        Sublist (asked_by client history) taken → Sublist (asked_by client history) (taken ++ asked ∷ []) }
+    ensures other { (client : ℕ) (history : List Stamped) (entry : Stamped) → with_asked client entry.intake [] ≡ [] →
+        asked_by client (history ++ entry ∷ []) ≡ asked_by client history }
 {}
