@@ -4,19 +4,10 @@
 
 #include <sys/types.h>
 
-#include "polydb_host.h"
+#include "errors.h"
 
 /* A name in a site's folder: `site-15.id.new` and its zero. */
 enum { NAME_ROOM = 24 };
-
-/* Sets an error, and gives its cause. `what` and `name` are joined. */
-polydb_host_cause refuse(polydb_host_error *error, polydb_host_cause cause, const char *what, const char *name);
-
-/* The same of POLYDB_HOST_SYSTEM, with errno. */
-polydb_host_cause refuse_system(polydb_host_error *error, const char *what, const char *name);
-
-/* The same of POLYDB_HOST_ENGINE, with a status. */
-polydb_host_cause refuse_status(polydb_host_error *error, const char *what, uint32_t status);
 
 /* Writes all these bytes from this place on. Gives false, with errno, where not all of them are written. */
 bool write_at(int file, const uint8_t *bytes, size_t length, uint64_t place);

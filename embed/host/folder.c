@@ -14,15 +14,28 @@
 #include <sys/stat.h>
 #include <unistd.h>
 
-#include "polydb.h"
+#include "files.h"
+#include "identity.h"
+
+/* The files of a site. A descriptor is -1 where the file isn't open. */
+typedef struct {
+    polydb_store store;
+    int folder;
+    int lock;
+    int journal;
+    uint8_t site;
+    bool is_named;    /* the folder says which site it is */
+    bool ended_well;  /* so did the last process that had the site here */
+    bool has_journal; /* the journal's file is there and has bytes */
+    bool runs;        /* the lock's file says that this process has the site */
+    bool has_failed;  /* a write or a sync of this process has */
+    char journal_name[NAME_ROOM];
+} site_folder;
 
 /* What the lock's file says of the process that has the lock, or had it last. Of one length, so that the one covers the other. */
 static const char RUNS[] = "runs\n";
 static const char ENDED[] = "done\n";
 enum { STATE_LENGTH = sizeof RUNS - 1 };
-
-static const size_t EMPTY_LENGTH = sizeof POLYDB_EMPTY_JOURNAL;
-enum { HEADER_LENGTH = 8, GATE_OPEN = 1 };
 
 static void name_of(char *out, uint8_t site, const char *end) { snprintf(out, NAME_ROOM, "site-%u.%s", (unsigned)site, end); }
 
@@ -64,16 +77,6 @@ static polydb_host_cause take_lock(site_folder *files, polydb_host_error *error)
     return POLYDB_HOST_DONE;
 }
 
-polydb_host_cause folder_open(site_folder *files, const char *path, uint8_t site, polydb_host_error *error) {
-    *files = (site_folder){.folder = -1, .lock = -1, .journal = -1, .site = site};
-    name_of(files->journal_name, site, "pv");
-    files->folder = open(path, O_RDONLY | O_DIRECTORY | O_CLOEXEC);
-    if (files->folder < 0) {
-        return refuse_system(error, "open", "the folder");
-    }
-    return take_lock(files, error);
-}
-
 /* Says in the lock's file that this process has the site, so that the next one knows where this one ends without a word. */
 static polydb_host_cause say_it_runs(site_folder *files, polydb_host_error *error) {
     if (!write_at(files->lock, (const uint8_t *)RUNS, STATE_LENGTH, 0)) {
@@ -94,51 +97,6 @@ static void say_it_ended(site_folder *files) {
 }
 
 /* ---- who the site is ---- */
-
-/* The lines before the configuration. Gives their length. */
-static size_t spell_identity(char *out, size_t room, uint8_t site, size_t config_length) {
-    return (size_t)snprintf(out, room, "polydb site 1\nsite %u\nconfig %zu\n", (unsigned)site, config_length);
-}
-enum { IDENTITY_ROOM = 64 };
-
-/* Whether a site that was opened first with the one configuration may be opened with the other. A configuration that only grows could be let in here. */
-static bool configs_agree(const uint8_t *kept, size_t kept_length, const uint8_t *given, size_t given_length) {
-    return kept_length == given_length && memcmp(kept, given, given_length) == 0;
-}
-
-/* The number of the first line in which two texts differ. */
-static unsigned first_line_apart(const uint8_t *one, size_t one_length, const uint8_t *other, size_t other_length) {
-    unsigned line = 1;
-    for (size_t i = 0; i < one_length && i < other_length && one[i] == other[i]; i++) {
-        line += one[i] == '\n';
-    }
-    return line;
-}
-
-static polydb_host_cause compare_identity(const uint8_t *bytes, size_t length, uint8_t site, const uint8_t *config, size_t config_length, const char *name,
-                                          polydb_host_error *error) {
-    char head[IDENTITY_ROOM + 1] = {0};
-    unsigned kept_site, version;
-    size_t kept_length;
-    int head_length = 0;
-    memcpy(head, bytes, length < IDENTITY_ROOM ? length : IDENTITY_ROOM);
-    if (sscanf(head, "polydb site %u\nsite %u\nconfig %zu%n", &version, &kept_site, &kept_length, &head_length) != 3 || version != 1) {
-        return refuse(error, POLYDB_HOST_DAMAGED, "read", name);
-    }
-    head_length++; /* the line's end */
-    if ((size_t)head_length > length || length - (size_t)head_length != kept_length) {
-        return refuse(error, POLYDB_HOST_DAMAGED, "read", name);
-    }
-    if (kept_site != site) {
-        snprintf(head, sizeof head, "it is site %u", kept_site);
-        return refuse(error, POLYDB_HOST_OTHER_SITE, name, head);
-    }
-    if (!configs_agree(bytes + head_length, kept_length, config, config_length)) {
-        snprintf(head, sizeof head, "from line %u on", first_line_apart(bytes + head_length, kept_length, config, config_length));
-        return refuse(error, POLYDB_HOST_OTHER_CONFIG, name, head);
-    }
-    return POLYDB_HOST_DONE;
-}
 
 /* Reads a small file whole: at most `most` bytes. The bytes are to be freed. */
 static polydb_host_cause read_small(int file, size_t most, uint8_t **bytes, size_t *length, const char *name, polydb_host_error *error) {
@@ -164,7 +122,8 @@ static polydb_host_cause read_small(int file, size_t most, uint8_t **bytes, size
     return POLYDB_HOST_DONE;
 }
 
-polydb_host_cause folder_compare(site_folder *files, const uint8_t *config, size_t length, polydb_host_error *error) {
+/* Looks whether the folder is this site's with this configuration, if it says so at all. */
+static polydb_host_cause compare(site_folder *files, const polydb_host_setup *setup, polydb_host_error *error) {
     char name[NAME_ROOM];
     name_of(name, files->site, "id");
     int file = openat(files->folder, name, O_RDONLY | O_CLOEXEC);
@@ -173,9 +132,9 @@ polydb_host_cause folder_compare(site_folder *files, const uint8_t *config, size
     }
     uint8_t *bytes = NULL;
     size_t count = 0;
-    polydb_host_cause cause = read_small(file, IDENTITY_ROOM + (16u << 20), &bytes, &count, name, error);
+    polydb_host_cause cause = read_small(file, MOST_IDENTITY, &bytes, &count, name, error);
     if (cause == POLYDB_HOST_DONE) {
-        cause = compare_identity(bytes, count, files->site, config, length, name, error);
+        cause = compare_identity(bytes, count, files->site, setup->config, setup->config_length, name, error);
     }
     free(bytes);
     close(file);
@@ -183,18 +142,16 @@ polydb_host_cause folder_compare(site_folder *files, const uint8_t *config, size
     return cause;
 }
 
-static polydb_host_cause put_identity(site_folder *files, const uint8_t *config, size_t length, polydb_host_error *error) {
-    char name[NAME_ROOM], beside[NAME_ROOM], head[IDENTITY_ROOM];
+static polydb_host_cause put_identity(site_folder *files, const polydb_host_setup *setup, polydb_host_error *error) {
+    char name[NAME_ROOM], beside[NAME_ROOM];
     name_of(name, files->site, "id");
     name_of(beside, files->site, "id.new");
-    size_t head_length = spell_identity(head, sizeof head, files->site, length);
-    uint8_t *bytes = malloc(head_length + length);
+    size_t length;
+    uint8_t *bytes = spell_identity(files->site, setup->config, setup->config_length, &length);
     if (bytes == NULL) {
         return refuse(error, POLYDB_HOST_NO_MEMORY, "write", name);
     }
-    memcpy(bytes, head, head_length);
-    memcpy(bytes + head_length, config, length);
-    polydb_host_cause cause = put_file(files->folder, name, beside, bytes, head_length + length, NULL, error);
+    polydb_host_cause cause = put_file(files->folder, name, beside, bytes, length, NULL, error);
     free(bytes);
     files->is_named = cause == POLYDB_HOST_DONE;
     return cause;
@@ -202,56 +159,18 @@ static polydb_host_cause put_identity(site_folder *files, const uint8_t *config,
 
 /* ---- the journal ---- */
 
-static uint64_t number_at(const uint8_t *bytes) {
-    return (uint64_t)bytes[0] << 24 | (uint64_t)bytes[1] << 16 | (uint64_t)bytes[2] << 8 | (uint64_t)bytes[3];
-}
-
-/*
- * Finds where the journal in a file ends, by the lengths of its records alone, a window of the file at a time. Behind an open gate whose record goes past the end of the
- * file it stops: what is up to that gate shows that it is no journal.
- */
-static bool find_end(int file, uint64_t size, journal_content *content) {
-    enum { HEAD = 5 }; /* a gate, and the length of its record */
-    uint8_t window[8192];
-    uint64_t from = 0, place = HEADER_LENGTH;
-    size_t count = 0;
-    content->records = 0;
-    for (;;) {
-        if (place + HEAD > from + count || place < from) {
-            ssize_t more = read_at(file, window, sizeof window, place);
-            if (more < 0) {
-                return false;
-            }
-            from = place;
-            count = (size_t)more;
-        }
-        const uint8_t *head = window + (place - from);
-        size_t there = count - (size_t)(place - from);
-        content->length = (size_t)place + (there > 0);
-        if (there < HEAD || size < place + HEAD || head[0] != GATE_OPEN || number_at(head + 1) >= size - place - HEAD) {
-            return true;
-        }
-        place += HEAD + number_at(head + 1);
-        content->records++;
-    }
-}
+static ssize_t read_from(const void *from, uint8_t *bytes, size_t length, uint64_t place) { return read_at(((const site_folder *)from)->journal, bytes, length, place); }
 
 static polydb_host_cause read_content(site_folder *files, uint64_t size, journal_content *content, polydb_host_error *error) {
-    uint8_t header[HEADER_LENGTH];
-    ssize_t count = read_at(files->journal, header, sizeof header, 0);
-    if (count < 0) {
-        return refuse_system(error, "read", files->journal_name);
-    }
-    if (count < HEADER_LENGTH || memcmp(header, POLYDB_EMPTY_JOURNAL, HEADER_LENGTH) != 0) {
-        content->length = (size_t)count; /* no journal, by its first bytes */
-    } else if (!find_end(files->journal, size, content)) {
+    journal_source source = {.read = read_from, .from = files, .size = size};
+    if (!find_end(&source, content)) {
         return refuse_system(error, "read", files->journal_name);
     }
     content->bytes = malloc(content->length + 1);
     if (content->bytes == NULL) {
         return refuse(error, POLYDB_HOST_NO_MEMORY, "read", files->journal_name);
     }
-    count = read_at(files->journal, content->bytes, content->length, 0);
+    ssize_t count = read_at(files->journal, content->bytes, content->length, 0);
     if (count < 0) {
         return refuse_system(error, "read", files->journal_name);
     }
@@ -259,18 +178,8 @@ static polydb_host_cause read_content(site_folder *files, uint64_t size, journal
     return POLYDB_HOST_DONE;
 }
 
-static polydb_host_cause without_records(journal_content *content, polydb_host_error *error) {
-    content->bytes = malloc(EMPTY_LENGTH);
-    if (content->bytes == NULL) {
-        return refuse(error, POLYDB_HOST_NO_MEMORY, "a new journal", "");
-    }
-    memcpy(content->bytes, POLYDB_EMPTY_JOURNAL, EMPTY_LENGTH);
-    content->length = EMPTY_LENGTH;
-    return POLYDB_HOST_DONE;
-}
-
-polydb_host_cause folder_read(site_folder *files, bool is_there, bool adopts, journal_content *content, polydb_host_error *error) {
-    *content = (journal_content){.bytes = NULL};
+/* Syncs the journal and reads it: of a new site, which is refused where the site was said to be there, the journal without records. */
+static polydb_host_cause read_journal(site_folder *files, const polydb_host_setup *setup, journal_content *content, polydb_host_error *error) {
     struct stat about = {.st_size = 0};
     files->journal = openat(files->folder, files->journal_name, O_RDWR | O_CLOEXEC);
     if (files->journal < 0 && errno != ENOENT) {
@@ -283,11 +192,11 @@ polydb_host_cause folder_read(site_folder *files, bool is_there, bool adopts, jo
     if (!files->has_journal && files->is_named) {
         return refuse(error, POLYDB_HOST_LOST, "open", files->journal_name);
     }
-    if (!files->has_journal && is_there) {
+    if (!files->has_journal && setup->is_there) {
         return refuse(error, POLYDB_HOST_NOT_THERE, "open", files->journal_name);
     }
     if (!files->has_journal) {
-        return without_records(content, error);
+        return without_records(content) ? POLYDB_HOST_DONE : refuse(error, POLYDB_HOST_NO_MEMORY, "a new journal", "");
     }
     polydb_host_cause cause = POLYDB_HOST_DONE;
     if (!sync_data(files->journal) || !sync_folder(files->folder)) {
@@ -298,11 +207,14 @@ polydb_host_cause folder_read(site_folder *files, bool is_there, bool adopts, jo
         return cause;
     }
     cause = read_content(files, (uint64_t)about.st_size, content, error);
-    if (cause == POLYDB_HOST_DONE && !files->is_named && content->records > 0 && !adopts) {
+    if (cause == POLYDB_HOST_DONE && !files->is_named && content->records > 0 && !setup->adopts) {
         cause = refuse(error, POLYDB_HOST_UNNAMED, "open", files->journal_name);
     }
-    if (cause == POLYDB_HOST_DONE && !files->is_named && content->records == 0 && is_there) {
+    if (cause == POLYDB_HOST_DONE && !files->is_named && content->records == 0 && setup->is_there) {
         cause = refuse(error, POLYDB_HOST_NOT_THERE, "open", files->journal_name);
+    }
+    if (cause == POLYDB_HOST_DONE && content->records > 0 && setup->is_new) {
+        cause = refuse(error, POLYDB_HOST_THERE, "make", files->journal_name);
     }
     return cause;
 }
@@ -323,30 +235,59 @@ static polydb_host_cause put_journal(site_folder *files, const journal_content *
     return cause;
 }
 
-polydb_host_cause folder_settle(site_folder *files, const journal_content *content, const uint8_t *config, size_t length, polydb_host_error *error) {
+/* ---- the folder as a store ---- */
+
+static site_folder *files_of(polydb_store *store) { return (site_folder *)store; }
+
+static polydb_host_cause folder_read(polydb_store *store, const polydb_host_setup *setup, journal_content *content, polydb_host_found *found, polydb_host_error *error) {
+    site_folder *files = files_of(store);
+    polydb_host_cause cause = compare(files, setup, error);
+    bool was_named = files->is_named;
+    if (cause == POLYDB_HOST_DONE) {
+        cause = read_journal(files, setup, content, error);
+    }
+    found->is_new = !was_named && content->records == 0;
+    found->is_copied = files->has_journal && !files->ended_well;
+    return cause;
+}
+
+/*
+ * Makes that what was read is in the journal's file and on the disk, by a file of its own where there is none or the one that is there is in doubt; that the
+ * folder says whose it is; and that the next opening knows of this one.
+ */
+static polydb_host_cause folder_settle(polydb_store *store, const polydb_host_setup *setup, const journal_content *content, polydb_host_found *found, polydb_host_error *error) {
+    (void)found;
+    site_folder *files = files_of(store);
     polydb_host_cause cause = say_it_runs(files, error);
     if (cause == POLYDB_HOST_DONE && (!files->has_journal || !files->ended_well)) {
         cause = put_journal(files, content, error);
     }
     if (cause == POLYDB_HOST_DONE && !files->is_named) {
-        cause = put_identity(files, config, length, error);
+        cause = put_identity(files, setup, error);
     }
     files->has_failed |= cause != POLYDB_HOST_DONE;
     return cause;
 }
 
-polydb_host_cause folder_write(site_folder *files, const uint8_t *bytes, size_t length, uint64_t place, polydb_host_error *error) {
+/* Each write is synced before the next begins. */
+static polydb_host_cause folder_write(polydb_store *store, const store_write *writes, size_t count, polydb_host_error *error) {
+    site_folder *files = files_of(store);
     polydb_host_cause cause = POLYDB_HOST_DONE;
-    if (!write_at(files->journal, bytes, length, place)) {
-        cause = refuse_system(error, "write", files->journal_name);
-    } else if (!sync_data(files->journal)) {
-        cause = refuse_system(error, "fdatasync", files->journal_name);
+    for (size_t i = 0; i < count && cause == POLYDB_HOST_DONE; i++) {
+        if (!write_at(files->journal, writes[i].bytes, writes[i].length, writes[i].place)) {
+            cause = refuse_system(error, "write", files->journal_name);
+        } else if (!sync_data(files->journal)) {
+            cause = refuse_system(error, "fdatasync", files->journal_name);
+        }
     }
     files->has_failed |= cause != POLYDB_HOST_DONE;
     return cause;
 }
 
-void folder_close(site_folder *files, bool is_owner) {
+/* Where this process is the one that took the lock it says that it ended well, if so, and lets go of the lock. In a child the memory is left, as another thread of the parent may
+ * have been within malloc. */
+static void folder_close(polydb_store *store, bool is_owner) {
+    site_folder *files = files_of(store);
     if (files->journal >= 0) {
         close(files->journal); /* all of it that counts was synced */
     }
@@ -360,5 +301,29 @@ void folder_close(site_folder *files, bool is_owner) {
     if (files->folder >= 0) {
         close(files->folder);
     }
-    *files = (site_folder){.folder = -1, .lock = -1, .journal = -1};
+    if (is_owner) {
+        free(files);
+    } else {
+        files->folder = files->lock = files->journal = -1;
+    }
+}
+
+static const store_calls FOLDER = {.read = folder_read, .settle = folder_settle, .write = folder_write, .close = folder_close};
+
+polydb_host_cause folder_open(polydb_store **store, const char *path, uint8_t site, polydb_host_error *error) {
+    *store = NULL;
+    site_folder *files = malloc(sizeof *files);
+    if (files == NULL) {
+        return refuse(error, POLYDB_HOST_NO_MEMORY, "open", "the folder");
+    }
+    *files = (site_folder){.store = {.calls = &FOLDER}, .folder = -1, .lock = -1, .journal = -1, .site = site};
+    name_of(files->journal_name, site, "pv");
+    files->folder = open(path, O_RDONLY | O_DIRECTORY | O_CLOEXEC);
+    polydb_host_cause cause = files->folder < 0 ? refuse_system(error, "open", "the folder") : take_lock(files, error);
+    if (cause != POLYDB_HOST_DONE) {
+        folder_close(&files->store, true);
+        return cause;
+    }
+    *store = &files->store;
+    return cause;
 }

@@ -1,5 +1,5 @@
 /*
- * A site of polydb on a folder: what every host of a site in C needs of files, over the calls of `polydb.h`.
+ * A site of polydb on a folder: what every host of a site in C needs of files, over the calls of `polydb.h`. `../etcd/polydb_etcd.h` has a journal in etcd for the same calls.
  *
  * A host of this kind opens a site on a folder, writes what the site wants written, syncs it, and hands over what the site lets out by two calls of
  * the program: one for messages to other sites, one for reports. The program carries messages, and tells the site of requests, messages and time:
@@ -67,7 +67,18 @@ typedef enum {
     /* This process is a child of the one that opened the site. */
     POLYDB_HOST_FORKED = 10,
     /* Nothing of the site is in the folder, and it was said to be there. */
-    POLYDB_HOST_NOT_THERE = 11
+    POLYDB_HOST_NOT_THERE = 11,
+    /* The site is there with records, and was said to be new. */
+    POLYDB_HOST_THERE = 12,
+
+    /* Of a store (`setup.store`). */
+
+    /* Another process has opened the site since. What this one has waits for ever, and each later call is refused: close it. */
+    POLYDB_HOST_REPLACED = 13,
+    /* The store can't be reached, or refuses something: `what` says which. */
+    POLYDB_HOST_STORE = 14,
+    /* The store is another one than that in which the site was made, or a copy of it. `adopts` takes it. */
+    POLYDB_HOST_OTHER_STORE = 15
 } polydb_host_cause;
 
 /* A refusal with its circumstances. */
@@ -75,17 +86,22 @@ typedef struct {
     polydb_host_cause cause;
     int number;      /* errno, where the cause is POLYDB_HOST_SYSTEM; else 0 */
     uint32_t status; /* of polydb.h, where the cause is POLYDB_HOST_ENGINE; else 0 */
-    char what[56];   /* what was done with which file: "fdatasync site-0.pv" */
+    char what[120];  /* what was done with which file: "fdatasync site-0.pv" */
 } polydb_host_error;
 
-/* What to open, and whom to hand what the site lets out. All that is pointed to but the context may be freed after the opening. */
+/* Where a journal is kept, if not on a folder. */
+typedef struct polydb_store polydb_store;
+
+/* What to open, and whom to hand what the site lets out. All that is pointed to but the context and the store may be freed after the opening. */
 typedef struct {
-    const char *folder; /* is there already */
+    const char *folder;  /* is there already */
+    polydb_store *store; /* where the journal is kept, in place of the folder; or null. The opening takes it: it is closed with the host, or where the opening is refused */
     const uint8_t *config;
     size_t config_length;
     uint8_t site;
     bool is_there; /* the site was opened here before: a folder without it is refused, and not taken for a new site's. A site whose files were lost isn't to begin anew */
-    bool adopts;   /* takes a journal with records beside which nothing says whose it is */
+    bool is_new;   /* the site isn't there yet, or has no record: one that has is refused, and stays as it is */
+    bool adopts;   /* takes a journal with records beside which nothing says whose it is, or a store that is another one */
 
     /* Called within polydb_host_settle alone. Of this host's functions they may call polydb_host_submit, polydb_host_receive and polydb_host_tick. Neither pointer may be null. */
     void *context;
@@ -101,6 +117,7 @@ typedef struct {
     bool is_copied;   /* the process before didn't end well: the journal was written anew */
     uint64_t records; /* how many the journal had */
     uint64_t length;  /* how long the journal was, from its header to its closed gate */
+    uint64_t owner;   /* of a store: how many openings the site has had with this one, which tells its process from the ones before; else 0 */
 } polydb_host_found;
 
 /* A site that is open. */
@@ -135,6 +152,13 @@ polydb_host_cause polydb_host_read(polydb_host *host, const uint8_t *name, size_
 
 /* How long the journal in the file is, by what was written and synced. */
 uint64_t polydb_host_length(const polydb_host *host);
+
+/* How full a store is: so many bytes of so many, as it said last. Of a folder both are 0. */
+typedef struct {
+    uint64_t used;
+    uint64_t limit;
+} polydb_host_fill;
+polydb_host_fill polydb_host_filled(const polydb_host *host);
 
 /*
  * Closes the site and lets go of its lock. What wasn't settled is lost, as in a crash. In the child of a fork it closes the child's descriptors alone: the
