@@ -103,9 +103,7 @@ polydb_host_cause polydb_host_open(polydb_host **host, const polydb_host_setup *
     *host = NULL;
     polydb_host *made = calloc(1, sizeof *made);
     if (made == NULL) {
-        if (setup->store != NULL) {
-            setup->store->calls->close(setup->store, true);
-        }
+        polydb_store_close(setup->store);
         return refuse(error, POLYDB_HOST_NO_MEMORY, "open", "");
     }
     made->process = getpid();
@@ -149,6 +147,12 @@ void polydb_host_close(polydb_host *host) {
         free(host->held.bytes);
         free(host->own.bytes);
         free(host);
+    }
+}
+
+void polydb_store_close(polydb_store *store) {
+    if (store != NULL) {
+        store->calls->close(store, true);
     }
 }
 
@@ -401,6 +405,11 @@ polydb_host_cause polydb_host_read(polydb_host *host, const uint8_t *name, size_
     return POLYDB_HOST_DONE;
 }
 
+polydb_host_cause polydb_host_confirm(polydb_host *host, polydb_host_error *error) {
+    polydb_host_cause cause = may_use(host, error);
+    return cause == POLYDB_HOST_DONE ? confirm(host, error) : cause;
+}
+
 uint64_t polydb_host_length(const polydb_host *host) { return host->length; }
 
 polydb_host_fill polydb_host_filled(const polydb_host *host) {
@@ -449,7 +458,7 @@ const char *polydb_host_describe(const polydb_host_error *error, char *out, size
         [POLYDB_HOST_NOT_THERE] = "nothing of the site is there",
         [POLYDB_HOST_THERE] = "it is there already, whose journal has records",
         [POLYDB_HOST_REPLACED] = "another process has opened the site since, so this one stops",
-        [POLYDB_HOST_STORE] = "the store doesn't do it",
+        [POLYDB_HOST_STORE] = "the store can't be reached, or refuses it",
         [POLYDB_HOST_OTHER_STORE] = "the store isn't the one in which the site was made, or is a copy of it",
     };
     switch (error->cause) {

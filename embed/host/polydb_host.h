@@ -150,6 +150,12 @@ polydb_host_cause polydb_host_settle(polydb_host *host, polydb_host_error *error
  */
 polydb_host_cause polydb_host_read(polydb_host *host, const uint8_t *name, size_t name_length, const char **line, size_t *length, polydb_host_error *error);
 
+/*
+ * Whether the site is still this process's, as its store says now: POLYDB_HOST_DONE, or POLYDB_HOST_REPLACED. Nobody has to ask, as nothing is let out or shown without it; but
+ * a site in which nothing happens hears of it late. Of a folder it always is.
+ */
+polydb_host_cause polydb_host_confirm(polydb_host *host, polydb_host_error *error);
+
 /* How long the journal in the file is, by what was written and synced. */
 uint64_t polydb_host_length(const polydb_host *host);
 
@@ -165,6 +171,9 @@ polydb_host_fill polydb_host_filled(const polydb_host *host);
  * parent has the site as before. Null is fine.
  */
 void polydb_host_close(polydb_host *host);
+
+/* Closes a store that no opening has taken. Null is fine. */
+void polydb_store_close(polydb_store *store);
 
 /* An error in words: `fdatasync site-0.pv: No space left on device`. At most `room` bytes with the zero at the end; gives `out`. */
 const char *polydb_host_describe(const polydb_host_error *error, char *out, size_t room);

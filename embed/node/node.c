@@ -73,6 +73,8 @@ struct polydb_node {
     requests requests;
     bool is_spent;
     bool is_failing; /* a write has failed, and that was said */
+    polydb_host_error replaced; /* once another process has the site, with that cause */
+    unsigned filled; /* tenths of the store that were said to be full */
     polydb_node_counts counts;
     void *context;
     void (*answer)(void *context, uint64_t tag, const char *line, size_t length);
@@ -418,6 +420,7 @@ static void on_report(void *context, const char *line, size_t length) {
 
 static polydb_host_cause open_host(polydb_node *node, const polydb_node_setup *setup, polydb_host_found *found, polydb_host_error *error) {
     polydb_host_setup of_host = {.folder = setup->folder,
+                                 .store = setup->store,
                                  .config = setup->config,
                                  .config_length = setup->config_length,
                                  .site = setup->site,
@@ -475,10 +478,8 @@ static polydb_host_cause open_net(polydb_node *node, const char *listen, polydb_
     return POLYDB_HOST_DONE;
 }
 
-polydb_host_cause polydb_node_open(polydb_node **node, const polydb_node_setup *setup, polydb_host_found *found, polydb_host_error *error) {
-    *error = (polydb_host_error){.cause = POLYDB_HOST_DONE};
-    *node = NULL;
-    *found = (polydb_host_found){.is_new = false};
+/* Makes a node that has read its files, and nothing else. */
+static polydb_host_cause make_node(polydb_node **node, const polydb_node_setup *setup, polydb_host_error *error) {
     if (setup->site >= SITES) {
         return node_refuse(error, POLYDB_NODE_BAD_FILE, 0, "there is no site %u", setup->site);
     }
@@ -498,9 +499,25 @@ polydb_host_cause polydb_node_open(polydb_node **node, const polydb_node_setup *
     made->notice = setup->notice;
     crypto_generichash(made->digest, DIGEST, setup->config, setup->config_length, NULL, 0);
     polydb_host_cause cause = open_files(made, setup, error);
-    if (cause == POLYDB_HOST_DONE) {
-        cause = open_host(made, setup, found, error);
+    if (cause != POLYDB_HOST_DONE) {
+        polydb_node_close(made);
+        return cause;
     }
+    *node = made;
+    return POLYDB_HOST_DONE;
+}
+
+polydb_host_cause polydb_node_open(polydb_node **node, const polydb_node_setup *setup, polydb_host_found *found, polydb_host_error *error) {
+    *error = (polydb_host_error){.cause = POLYDB_HOST_DONE};
+    *node = NULL;
+    *found = (polydb_host_found){.is_new = false};
+    polydb_node *made = NULL;
+    polydb_host_cause cause = make_node(&made, setup, error);
+    if (cause != POLYDB_HOST_DONE) {
+        polydb_store_close(setup->store);
+        return cause;
+    }
+    cause = open_host(made, setup, found, error);
     if (cause == POLYDB_HOST_DONE) {
         cause = open_clock(made, error);
     }
@@ -574,11 +591,23 @@ polydb_host_cause polydb_node_submit(polydb_node *node, uint64_t tag, const uint
     return cause;
 }
 
+/* Whether what the host has said is that another process has the site. Then nothing is to be done any more. */
+static bool is_replaced(polydb_node *node, polydb_host_cause cause, const polydb_host_error *error) {
+    if (cause == POLYDB_HOST_REPLACED && node->replaced.cause == POLYDB_HOST_DONE) {
+        node->replaced = *error;
+    }
+    return node->replaced.cause != POLYDB_HOST_DONE;
+}
+
 /* Writes what waits and lets out what may go. What fails is said once, and made again at each tick. */
 static void settle(polydb_node *node) {
     polydb_host_error error;
-    char words[160];
-    bool is_failing = polydb_host_settle(node->host, &error) != POLYDB_HOST_DONE;
+    char words[200];
+    polydb_host_cause cause = polydb_host_settle(node->host, &error);
+    if (is_replaced(node, cause, &error)) {
+        return;
+    }
+    bool is_failing = cause != POLYDB_HOST_DONE;
     if (is_failing && !node->is_failing) {
         notice(node, "%s; nothing is let out that rests on it, and it is made again", polydb_host_describe(&error, words, sizeof words));
     } else if (!is_failing && node->is_failing) {
@@ -594,7 +623,24 @@ polydb_host_cause polydb_node_read(polydb_node *node, const uint8_t *name, size_
         work_again(node);
         cause = polydb_host_read(node->host, name, name_length, line, length, error);
     }
+    if (is_replaced(node, cause, error)) {
+        work_again(node);
+    }
     return cause;
+}
+
+/* Asks whether the site is still this process's, and how full the store is. That is said at half, and then at each tenth more. */
+static void look_at_store(polydb_node *node) {
+    polydb_host_error error;
+    if (node->is_failing || is_replaced(node, polydb_host_confirm(node->host, &error), &error)) {
+        return;
+    }
+    polydb_host_fill fill = polydb_host_filled(node->host);
+    unsigned tenths = fill.limit == 0 ? 0 : (unsigned)(fill.used / (fill.limit / 10 + 1));
+    if (tenths >= 5 && tenths > node->filled) {
+        node->filled = tenths;
+        notice(node, "the store has %" PRIu64 " of its %" PRIu64 " bytes; when it is full nothing more is written", fill.used, fill.limit);
+    }
 }
 
 /* A tick, if it is time: one, however long nobody looked. */
@@ -610,6 +656,7 @@ static bool tick(polydb_node *node) {
     if (milliseconds() - node->beaten >= BEAT) {
         say_hello(node);
         look_who_is_away(node);
+        look_at_store(node);
     }
     return true;
 }
@@ -650,6 +697,10 @@ polydb_host_cause polydb_node_work(polydb_node *node, polydb_host_error *error) 
     }
     if (any) {
         work_again(node);
+    }
+    if (node->replaced.cause != POLYDB_HOST_DONE) {
+        *error = node->replaced;
+        return error->cause;
     }
     return node->is_spent ? node_refuse(error, POLYDB_NODE_SPENT, 0, "numbers") : POLYDB_HOST_DONE;
 }

@@ -46,10 +46,11 @@ extern "C" {
 
 typedef struct {
     const char *folder;
+    polydb_store *store;
     const uint8_t *config;
     size_t config_length;
     uint8_t site;
-    bool is_there, adopts; /* as a host has them */
+    bool is_there, adopts; /* all as a host has them */
 
     const char *peers;  /* the file of addresses and public keys */
     const char *key;    /* the file of the secret key */
@@ -78,7 +79,8 @@ polydb_host_cause polydb_node_read(polydb_node *node, const uint8_t *name, size_
 /* Can be read when there is something to do, also for a tick. It isn't to be read. */
 int polydb_node_descriptor(const polydb_node *node);
 
-/* Does what there is to do, and doesn't wait but for syncs. What fails is made again at a later tick, and was given to `notice`; POLYDB_NODE_SPENT is refused. */
+/* Does what there is to do, and doesn't wait but for syncs and a store. What fails is made again at a later tick, and was given to `notice`; POLYDB_NODE_SPENT and POLYDB_HOST_REPLACED
+ * are refused: the node is to be closed then. */
 polydb_host_cause polydb_node_work(polydb_node *node, polydb_host_error *error);
 
 /* Waits for at most so many milliseconds until there is something to do, and does it. */

@@ -31,11 +31,14 @@
 
 #include "polydb_node.h"
 #include "text.h"
+#ifndef POLYDB_WITHOUT_ETCD
+#include "etcd/polydb_etcd.h"
+#endif
 
 enum { CLIENTS = 256, LINE = 2048, MOST_WAITING = 4 << 20, NO_FILE = -1 };
 
 /* Exit statuses. */
-enum { ENDED = 0, WRONG_USE = 2, NOT_OPENED = 3, SPENT = 4 };
+enum { ENDED = 0, WRONG_USE = 2, NOT_OPENED = 3, SPENT = 4, REPLACED = 5 };
 
 typedef struct {
     int file;        /* NO_FILE: nobody is here */
@@ -266,10 +269,11 @@ static int serve(server *all) {
                 hear_client(all, &all->clients[i]);
             }
         }
-        if (polydb_node_work(all->node, &error) != POLYDB_HOST_DONE) {
+        polydb_host_cause cause = polydb_node_work(all->node, &error);
+        if (cause != POLYDB_HOST_DONE) {
             char words[200];
             say(all->site, "%s", polydb_node_describe(&error, words, sizeof words));
-            return SPENT;
+            return cause == POLYDB_HOST_REPLACED ? REPLACED : SPENT;
         }
         for (int i = 0; i < CLIENTS; i++) {
             if (all->clients[i].file != NO_FILE) {
@@ -352,23 +356,30 @@ static bool read_file(const char *path, text *out) {
     return is_read;
 }
 
-static void say_what_was_found(const server *all, const polydb_host_found *found, const char *folder) {
+static void say_what_was_found(const server *all, const polydb_host_found *found, const char *place) {
     if (found->records == 0) {
-        say(all->site, "new, on %s", folder);
+        say(all->site, "new, on %s", place);
     } else {
-        say(all->site, "on %s, whose journal has %" PRIu64 " records, %" PRIu64 " bytes", folder, found->records, found->length);
+        say(all->site, "on %s, whose journal has %" PRIu64 " records, %" PRIu64 " bytes", place, found->records, found->length);
+    }
+    if (found->owner != 0) {
+        say(all->site, "taken by opening %" PRIu64, found->owner);
+    } else if (found->records > 0) {
         say(all->site, found->is_copied ? "the process before didn't end well, so the journal was written anew" : "the process before ended well");
     }
 }
 
 typedef struct {
     const char *site, *config, *peers, *key, *data, *socket, *listen, *tick, *new_key;
+    const char *etcd, *etcd_prefix, *etcd_limit, *etcd_authority, *etcd_certificate, *etcd_key;
     bool adopts, is_new;
 } options;
 
-static const char USAGE[] = "usage: polydbd --new --site NUMBER --config FILE --data FOLDER [--key FILE]\n"
-                            "       polydbd --site NUMBER --config FILE --peers FILE --data FOLDER\n"
+static const char USAGE[] = "usage: polydbd --new --site NUMBER --config FILE --data FOLDER [--key FILE] [ETCD]\n"
+                            "       polydbd --site NUMBER --config FILE --peers FILE --data FOLDER [ETCD]\n"
                             "               [--key FILE] [--socket PATH] [--listen ADDRESS] [--tick MILLISECONDS] [--adopt]\n"
+                            "               with a journal in etcd, ETCD is --etcd URL,URL,URL [--etcd-prefix WORDS] [--etcd-limit BYTES]\n"
+                            "               [--etcd-authority FILE] [--etcd-certificate FILE --etcd-key FILE]\n"
                             "       polydbd --new-key FILE\n"
                             "       polydbd --version\n";
 
@@ -382,6 +393,47 @@ static int make_key(const char *path) {
     puts(key);
     return fflush(stdout) == 0 ? ENDED : NOT_OPENED;
 }
+
+/* ---- a journal in etcd ---- */
+
+#ifdef POLYDB_WITHOUT_ETCD
+static bool open_store(unsigned site, const options *with, polydb_store **store) {
+    *store = NULL;
+    if (with->etcd != NULL) {
+        say(site, "--etcd: this polydbd was built without libcurl");
+    }
+    return with->etcd == NULL;
+}
+#else
+/* Makes the store that was asked for; null for the folder. */
+static bool open_store(unsigned site, const options *with, polydb_store **store) {
+    polydb_etcd_setup setup = {.urls = with->etcd,
+                               .prefix = with->etcd_prefix,
+                               .authority = with->etcd_authority,
+                               .certificate = with->etcd_certificate,
+                               .key = with->etcd_key};
+    char *end = "", words[200];
+    polydb_host_error error;
+    *store = NULL;
+    if (with->etcd == NULL) {
+        return true;
+    }
+    if (with->etcd_limit != NULL) {
+        setup.limit = strtoull(with->etcd_limit, &end, 10);
+    }
+    if (*end != '\0') {
+        say(site, "--etcd-limit: %s is no number", with->etcd_limit);
+        return false;
+    }
+    if (polydb_etcd_open(store, &setup, (uint8_t)site, &error) != POLYDB_HOST_DONE) {
+        say(site, "%s", polydb_host_describe(&error, words, sizeof words));
+        return false;
+    }
+    return true;
+}
+#endif
+
+/* ---- making a site ---- */
 
 /* Nothing is let out while a site is made. */
 static void no_message(void *context, uint8_t to, const uint8_t *bytes, size_t length) { (void)context, (void)to, (void)bytes, (void)length; }
@@ -401,14 +453,13 @@ static int make_site(unsigned site, const options *with, const text *config, con
                                .config = (const uint8_t *)(config->bytes == NULL ? "" : config->bytes),
                                .config_length = config->length,
                                .site = (uint8_t)site,
+                               .is_new = true,
                                .message = no_message,
                                .report = no_report};
-    polydb_host_cause cause = polydb_host_open(&host, &setup, &found, &error);
-    if (cause == POLYDB_HOST_DONE && found.records > 0) {
-        say(site, "it is on %s already, whose journal has %" PRIu64 " records", with->data, found.records);
-        polydb_host_close(host);
+    if (!open_store(site, with, &setup.store)) {
         return NOT_OPENED;
     }
+    polydb_host_cause cause = polydb_host_open(&host, &setup, &found, &error);
     if (cause == POLYDB_HOST_DONE) {
         polydb_host_close(host);
         cause = access(key_path, F_OK) == 0 ? polydb_node_public_key(key_path, key, &error) : polydb_node_new_key(key_path, key, &error);
@@ -470,13 +521,17 @@ static int run(const options *with) {
                                .notice = on_notice};
     polydb_host_found found;
     polydb_host_error error;
+    if (!open_store(site, with, &setup.store)) {
+        text_free(&config);
+        return NOT_OPENED;
+    }
     polydb_host_cause cause = polydb_node_open(&all.node, &setup, &found, &error);
     text_free(&config);
     if (cause != POLYDB_HOST_DONE) {
         say(site, "%s%s", polydb_node_describe(&error, words, sizeof words), cause == POLYDB_HOST_NOT_THERE ? "; a site that never was is made by --new" : "");
         return NOT_OPENED;
     }
-    say_what_was_found(&all, &found, with->data);
+    say_what_was_found(&all, &found, with->etcd == NULL ? with->data : with->etcd);
     const char *path = with->socket == NULL ? socket_path : with->socket;
     int status = NOT_OPENED;
     all.listener = listen_for_clients(path);
@@ -499,6 +554,9 @@ int main(int count, char **words) {
                                           {"key", required_argument, NULL, 'k'},    {"data", required_argument, NULL, 'd'},   {"socket", required_argument, NULL, 'o'},
                                           {"listen", required_argument, NULL, 'l'}, {"tick", required_argument, NULL, 't'},   {"new-key", required_argument, NULL, 'n'},
                                           {"adopt", no_argument, NULL, 'a'},        {"new", no_argument, NULL, 'w'},          {"version", no_argument, NULL, 'v'},
+                                          {"etcd", required_argument, NULL, 'e'},   {"etcd-prefix", required_argument, NULL, 'f'},
+                                          {"etcd-limit", required_argument, NULL, 'm'},       {"etcd-authority", required_argument, NULL, 'u'},
+                                          {"etcd-certificate", required_argument, NULL, 'r'}, {"etcd-key", required_argument, NULL, 'y'},
                                           {NULL, 0, NULL, 0}};
     options with = {.site = NULL};
     for (int name; (name = getopt_long(count, words, "", NAMES, NULL)) != -1;) {
@@ -512,6 +570,12 @@ int main(int count, char **words) {
         case 'l': with.listen = optarg; break;
         case 't': with.tick = optarg; break;
         case 'n': with.new_key = optarg; break;
+        case 'e': with.etcd = optarg; break;
+        case 'f': with.etcd_prefix = optarg; break;
+        case 'm': with.etcd_limit = optarg; break;
+        case 'u': with.etcd_authority = optarg; break;
+        case 'r': with.etcd_certificate = optarg; break;
+        case 'y': with.etcd_key = optarg; break;
         case 'a': with.adopts = true; break;
         case 'w': with.is_new = true; break;
         case 'v': puts("polydbd " POLYDB_VERSION); return ENDED;
