@@ -122,8 +122,11 @@ static bool fail_saying(etcd_client *client, long status) {
 bool client_ask(etcd_client *client, const char *path, const text *request, int64_t most, etcd_answer *answer) {
     *answer = (etcd_answer){.pairs = NULL};
     char url[256];
-    if (request->has_failed || (size_t)snprintf(url, sizeof url, "%s%s", client->members[client->current], path) >= sizeof url) {
+    if (request->has_failed) {
         return fail(client, "no memory");
+    }
+    if ((size_t)snprintf(url, sizeof url, "%s%s", client->members[client->current], path) >= sizeof url) {
+        return fail(client, "the address is too long");
     }
     client->in.length = 0;
     client->in.has_failed = false;

@@ -460,15 +460,16 @@ static polydb_host_cause open_clock(polydb_node *node, polydb_host_error *error)
     return is_open ? POLYDB_HOST_DONE : node_refuse(error, POLYDB_HOST_SYSTEM, errno, "the clock");
 }
 
-static polydb_host_cause open_net(polydb_node *node, const char *listen, polydb_host_error *error) {
+static polydb_host_cause open_listener(polydb_node *node, const char *listen, polydb_host_error *error) {
     node->net = zmq_ctx_new();
     if (node->net == NULL) {
         return refuse_net(error, "a context");
     }
     const char *address = listen == NULL ? node->peers[node->me].address : listen;
-    if (!listen_to_all(node, address)) {
-        return node_refuse(error, POLYDB_NODE_NET, zmq_errno(), "listen on %s", address);
-    }
+    return listen_to_all(node, address) ? POLYDB_HOST_DONE : node_refuse(error, POLYDB_NODE_NET, zmq_errno(), "listen on %s", address);
+}
+
+static polydb_host_cause open_links(polydb_node *node, polydb_host_error *error) {
     for (int site = 0; site < SITES; site++) {
         if (node->peers[site].is_there && site != node->me && !connect_to(node, site)) {
             return node_refuse(error, POLYDB_NODE_NET, zmq_errno(), "connect to %s", node->peers[site].address);
@@ -513,16 +514,23 @@ polydb_host_cause polydb_node_open(polydb_node **node, const polydb_node_setup *
     *found = (polydb_host_found){.is_new = false};
     polydb_node *made = NULL;
     polydb_host_cause cause = make_node(&made, setup, error);
-    if (cause != POLYDB_HOST_DONE) {
-        polydb_store_close(setup->store);
-        return cause;
+    bool takes_first = setup->store == NULL; /* an opening on a store takes the site from another process: what else may fail comes before */
+    if (cause == POLYDB_HOST_DONE && takes_first) {
+        cause = open_host(made, setup, found, error);
     }
-    cause = open_host(made, setup, found, error);
     if (cause == POLYDB_HOST_DONE) {
         cause = open_clock(made, error);
     }
     if (cause == POLYDB_HOST_DONE) {
-        cause = open_net(made, setup->listen, error);
+        cause = open_listener(made, setup->listen, error);
+    }
+    if (cause != POLYDB_HOST_DONE) {
+        polydb_store_close(setup->store);
+    } else if (!takes_first) {
+        cause = open_host(made, setup, found, error);
+    }
+    if (cause == POLYDB_HOST_DONE) {
+        cause = open_links(made, error);
     }
     if (cause != POLYDB_HOST_DONE) {
         polydb_node_close(made);

@@ -521,25 +521,41 @@ static int run(const options *with) {
                                .notice = on_notice};
     polydb_host_found found;
     polydb_host_error error;
-    if (!open_store(site, with, &setup.store)) {
-        text_free(&config);
-        return NOT_OPENED;
+    const char *path = with->socket == NULL ? socket_path : with->socket;
+    if (with->etcd != NULL) { /* before the site is taken from another process, which may listen here */
+        all.listener = listen_for_clients(path);
+        if (all.listener < 0) {
+            say(site, "%s: %s", path, strerror(errno));
+            text_free(&config);
+            return NOT_OPENED;
+        }
     }
-    polydb_host_cause cause = polydb_node_open(&all.node, &setup, &found, &error);
+    polydb_host_cause cause = POLYDB_HOST_STORE;
+    if (open_store(site, with, &setup.store)) {
+        cause = polydb_node_open(&all.node, &setup, &found, &error);
+        if (cause != POLYDB_HOST_DONE) {
+            say(site, "%s%s", polydb_node_describe(&error, words, sizeof words), cause == POLYDB_HOST_NOT_THERE ? "; a site that never was is made by --new" : "");
+        }
+    }
     text_free(&config);
     if (cause != POLYDB_HOST_DONE) {
-        say(site, "%s%s", polydb_node_describe(&error, words, sizeof words), cause == POLYDB_HOST_NOT_THERE ? "; a site that never was is made by --new" : "");
+        if (all.listener >= 0) {
+            unlink(path);
+        }
         return NOT_OPENED;
     }
     say_what_was_found(&all, &found, with->etcd == NULL ? with->data : with->etcd);
-    const char *path = with->socket == NULL ? socket_path : with->socket;
     int status = NOT_OPENED;
-    all.listener = listen_for_clients(path);
+    if (all.listener < 0) {
+        all.listener = listen_for_clients(path);
+    }
     if (all.listener < 0 || all.signals < 0) {
         say(site, "%s: %s", path, strerror(errno));
     } else {
         say(site, "ready, takes requests at %s", path);
         status = serve(&all);
+    }
+    if (all.listener >= 0) {
         unlink(path);
     }
     for (int i = 0; i < CLIENTS; i++) {
