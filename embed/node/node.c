@@ -658,7 +658,8 @@ static bool tick(polydb_node *node) {
         return false;
     }
     polydb_host_error error;
-    if (polydb_host_tick(node->host, &error) != POLYDB_HOST_DONE) {
+    polydb_host_cause cause = polydb_host_tick(node->host, &error);
+    if (!is_replaced(node, cause, &error) && cause != POLYDB_HOST_DONE) {
         notice(node, "a tick is left out: no memory");
     }
     if (milliseconds() - node->beaten >= BEAT) {

@@ -110,7 +110,7 @@ class EtcdSites(nodes.Sites):
             network.move(self.address(me), f"s{me}a")
         self.replaced = []  # processes that have to end by themselves
         self.store = etcd_store.Store(self.members[0].client, network.words("e0"))
-        self.store.wait()
+        self.store.pairs("nothing")  # once it answers
         super().__init__(CONFIG, SITES, tick=100, one_folder=True)
         lines = [line.split() for line in self.peers.read_text().splitlines()[1:]]
         self.peers.write_text("".join(f"{me} tcp://{self.address(me)}:7400 {key}\n" for me, (_, _, key) in enumerate(lines)))
@@ -294,7 +294,6 @@ def look(sites):
         sites.stop(me)
     total = sum(map(int, shown.values()))
     assert total == FIRST_VALUE * len(ITEMS), f"the total is {total}, and was {FIRST_VALUE * len(ITEMS)}: {shown}"
-    sites.store.wait()
     files = sites.folder / "by-etcd"
     files.mkdir()
     for me in range(SITES):

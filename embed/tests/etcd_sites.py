@@ -377,7 +377,7 @@ def main():
         for proxy in proxies:
             threading.Thread(target=proxy.serve_forever, daemon=True).start()
         store = etcd_store.Store(member.client)
-        store.wait()
+        store.pairs("nothing")  # once it answers
         urls = ",".join(f"http://127.0.0.1:{proxy.server_address[1]}" for proxy in proxies)
         while counts["events"] < events:
             name = f"{seed} {number}"

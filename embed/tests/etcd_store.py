@@ -58,6 +58,16 @@ class Store:
         self.url, self.words = url, list(words)
 
     def ask(self, path, body):
+        """An answer; where there is none, as while a leader is chosen, it is asked for again."""
+        end = time.monotonic() + PATIENCE
+        while True:
+            try:
+                return self.ask_once(path, body)
+            except (OSError, ValueError, subprocess.CalledProcessError, http.client.HTTPException) as error:
+                assert time.monotonic() < end, f"{self.url} doesn't answer: {error}"
+                time.sleep(0.05)
+
+    def ask_once(self, path, body):
         text = json.dumps(body)
         if self.words:
             said = subprocess.run([*self.words, "curl", "-sS", "-m", "10", "-d", "@-", self.url + path], input=text, capture_output=True, text=True, check=True).stdout
@@ -67,23 +77,14 @@ class Store:
             said = link.getresponse().read()
             link.close()
         answer = json.loads(said)
-        assert "header" in answer, answer
+        if "header" not in answer:
+            raise ValueError(f"{answer}")
         return answer
 
     def pairs(self, first, end=None, **more):
         body = {"key": spell(first), **({"range_end": spell(end)} if end else {}), **more}
         found = self.ask("/v3/kv/range", body).get("kvs", [])
         return [(base64.b64decode(one["key"]).decode(), base64.b64decode(one.get("value", "")), int(one["mod_revision"])) for one in found]
-
-    def wait(self):
-        """Waits until it answers what all members agree on."""
-        end = time.monotonic() + PATIENCE
-        while True:
-            try:
-                return self.pairs("nothing")
-            except (OSError, AssertionError, ValueError, subprocess.CalledProcessError, http.client.HTTPException):
-                assert time.monotonic() < end, f"{self.url} doesn't answer"
-                time.sleep(0.05)
 
 
 def journal_of(store, me, prefix="polydb/"):
