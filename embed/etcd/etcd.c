@@ -26,7 +26,8 @@ enum {
     KEY_ROOM = 160,
     OWNER_ROOM = 160,
     TOKEN = 16,                 /* random bytes that tell an owner from all others */
-    ATTEMPT = 1000,             /* milliseconds that one member has for an answer */
+    ATTEMPT = 1000, LEAST = 50, /* milliseconds that one member has for an answer; with fewer left none is asked again */
+    PAUSE = 20,                 /* milliseconds until the next one is asked */
     FIRST_PATIENCE = 3000,      /* that a call has, if nothing is said */
     WRITE_HEAD = 8,             /* bytes before the pieces of a write: the number of the opening that has made it */
     PIECE_HEAD = 12,            /* bytes before a piece: its place and its length */
@@ -36,7 +37,7 @@ enum {
     LONG_PAGE = 1 << 20         /* bytes of an answer from which on fewer keys are asked for */
 };
 static const uint64_t DEFAULT_LIMIT = (uint64_t)2 << 30; /* etcd's own, where nothing is set */
-static const int64_t FILL_AGAIN = 10000;                 /* milliseconds until the members' size is asked for again */
+static const int64_t FILL_AGAIN = 5000;                  /* milliseconds until the members' size is asked for again */
 
 typedef struct {
     polydb_store store;
@@ -112,18 +113,15 @@ static void add_get(site_keys *keys, const char *key) {
 
 /* Sends what was begun until there is an answer, from one member after another, as long as patience lasts. Each request here may be sent more than once. */
 static bool ask(site_keys *keys, const char *path, etcd_answer *answer) {
-    int64_t end = client_now() + keys->patience;
-    for (;;) {
-        int64_t left = end - client_now();
-        if (client_ask(&keys->client, path, &keys->request, left < ATTEMPT ? left : ATTEMPT, answer)) {
-            return true;
-        }
-        left = end - client_now();
-        if (left <= 0) {
+    int64_t end = client_now() + keys->patience, left = keys->patience;
+    while (!client_ask(&keys->client, path, &keys->request, left < ATTEMPT ? left : ATTEMPT, answer)) {
+        left = end - client_now() - PAUSE;
+        if (left < LEAST) {
             return false;
         }
-        usleep(left < 20 ? (useconds_t)left * 1000 : 20000);
+        usleep(PAUSE * 1000);
     }
+    return true;
 }
 
 static polydb_host_cause refuse_store(site_keys *keys, polydb_host_error *error) { return refuse(error, POLYDB_HOST_STORE, "etcd at", keys->client.failure); }

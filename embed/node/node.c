@@ -637,17 +637,21 @@ polydb_host_cause polydb_node_read(polydb_node *node, const uint8_t *name, size_
     return cause;
 }
 
-/* Asks whether the site is still this process's, and how full the store is. That is said at half, and then at each tenth more. */
-static void look_at_store(polydb_node *node) {
-    polydb_host_error error;
-    if (node->is_failing || is_replaced(node, polydb_host_confirm(node->host, &error), &error)) {
-        return;
-    }
+/* Says how full a store is: at half, and then at each tenth more. */
+static void look_how_full(polydb_node *node) {
     polydb_host_fill fill = polydb_host_filled(node->host);
     unsigned tenths = fill.limit == 0 ? 0 : (unsigned)(fill.used / (fill.limit / 10 + 1));
     if (tenths >= 5 && tenths > node->filled) {
         node->filled = tenths;
         notice(node, "the store has %" PRIu64 " of its %" PRIu64 " bytes; when it is full nothing more is written", fill.used, fill.limit);
+    }
+}
+
+/* Asks whether the site is still this process's, so that one in which nothing happens hears of it, too. */
+static void look_whose_it_is(polydb_node *node) {
+    polydb_host_error error;
+    if (!node->is_failing) {
+        is_replaced(node, polydb_host_confirm(node->host, &error), &error);
     }
 }
 
@@ -665,7 +669,8 @@ static bool tick(polydb_node *node) {
     if (milliseconds() - node->beaten >= BEAT) {
         say_hello(node);
         look_who_is_away(node);
-        look_at_store(node);
+        look_whose_it_is(node);
+        look_how_full(node);
     }
     return true;
 }

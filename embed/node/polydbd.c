@@ -481,9 +481,49 @@ static bool take_number(const char *words, unsigned limit, unsigned *number) {
     return words[0] >= '0' && words[0] <= '9' && *end == '\0' && errno == 0 && value < limit;
 }
 
+/* Opens the node, and says what was found. */
+static bool open_node(server *all, const options *with, polydb_node_setup *setup) {
+    char words[200];
+    polydb_host_found found;
+    polydb_host_error error;
+    if (!open_store(all->site, with, &setup->store)) {
+        return false;
+    }
+    polydb_host_cause cause = polydb_node_open(&all->node, setup, &found, &error);
+    if (cause != POLYDB_HOST_DONE) {
+        say(all->site, "%s%s", polydb_node_describe(&error, words, sizeof words), cause == POLYDB_HOST_NOT_THERE ? "; a site that never was is made by --new" : "");
+        return false;
+    }
+    say_what_was_found(all, &found, with->etcd == NULL ? with->data : with->etcd);
+    return true;
+}
+
+static bool open_socket(server *all, const char *path) {
+    all->listener = listen_for_clients(path);
+    if (all->listener < 0) {
+        say(all->site, "%s: %s", path, strerror(errno));
+    }
+    return all->listener >= 0;
+}
+
+/* Opens all that there is to open, and serves. A site in etcd is taken from the process that has it: so what else may fail comes before, as another process that has the socket; and on a folder
+ * the lock says best what is wrong. */
+static int open_and_serve(server *all, const options *with, polydb_node_setup *setup, const char *path) {
+    bool takes = with->etcd != NULL, is_open = all->signals >= 0 && (!takes || open_socket(all, path)) && open_node(all, with, setup) && (takes || open_socket(all, path));
+    int status = NOT_OPENED;
+    if (is_open) {
+        say(all->site, "ready, takes requests at %s", path);
+        status = serve(all);
+    }
+    if (all->listener >= 0) {
+        unlink(path);
+    }
+    return status;
+}
+
 static int run(const options *with) {
     static server all = {.listener = NO_FILE};
-    char socket_path[4096], key_path[4096], words[200];
+    char socket_path[4096], key_path[4096];
     unsigned site, tick = 0;
     if (!take_number(with->site, 16, &site) || (with->tick != NULL && !take_number(with->tick, 3600001, &tick))) {
         fputs(USAGE, stderr);
@@ -506,6 +546,9 @@ static int run(const options *with) {
         return made;
     }
     all.signals = catch_signals();
+    if (all.signals < 0) {
+        say(site, "signals: %s", strerror(errno));
+    }
     polydb_node_setup setup = {.folder = with->data,
                                .config = (const uint8_t *)(config.bytes == NULL ? "" : config.bytes),
                                .config_length = config.length,
@@ -519,45 +562,8 @@ static int run(const options *with) {
                                .context = &all,
                                .answer = on_answer,
                                .notice = on_notice};
-    polydb_host_found found;
-    polydb_host_error error;
-    const char *path = with->socket == NULL ? socket_path : with->socket;
-    if (with->etcd != NULL) { /* before the site is taken from another process, which may listen here */
-        all.listener = listen_for_clients(path);
-        if (all.listener < 0) {
-            say(site, "%s: %s", path, strerror(errno));
-            text_free(&config);
-            return NOT_OPENED;
-        }
-    }
-    polydb_host_cause cause = POLYDB_HOST_STORE;
-    if (open_store(site, with, &setup.store)) {
-        cause = polydb_node_open(&all.node, &setup, &found, &error);
-        if (cause != POLYDB_HOST_DONE) {
-            say(site, "%s%s", polydb_node_describe(&error, words, sizeof words), cause == POLYDB_HOST_NOT_THERE ? "; a site that never was is made by --new" : "");
-        }
-    }
+    int status = open_and_serve(&all, with, &setup, with->socket == NULL ? socket_path : with->socket);
     text_free(&config);
-    if (cause != POLYDB_HOST_DONE) {
-        if (all.listener >= 0) {
-            unlink(path);
-        }
-        return NOT_OPENED;
-    }
-    say_what_was_found(&all, &found, with->etcd == NULL ? with->data : with->etcd);
-    int status = NOT_OPENED;
-    if (all.listener < 0) {
-        all.listener = listen_for_clients(path);
-    }
-    if (all.listener < 0 || all.signals < 0) {
-        say(site, "%s: %s", path, strerror(errno));
-    } else {
-        say(site, "ready, takes requests at %s", path);
-        status = serve(&all);
-    }
-    if (all.listener >= 0) {
-        unlink(path);
-    }
     for (int i = 0; i < CLIENTS; i++) {
         drop(&all.clients[i]);
     }

@@ -10,6 +10,7 @@ After so many events (3,000). The seed is printed; with ONLY, the deployment of 
 import os
 import random
 import shutil
+import signal
 import subprocess
 import sys
 import tempfile
@@ -363,6 +364,7 @@ def main():
     if etcd_store.missing():
         print(f"left out: {etcd_store.missing()}")
         sys.exit(77)
+    signal.signal(signal.SIGTERM, lambda *_: sys.exit(1))  # so that nothing is left behind
     events = int(sys.argv[1]) if len(sys.argv) > 1 else 3_000
     seed = int(sys.argv[2]) if len(sys.argv) > 2 else random.SystemRandom().getrandbits(32)
     only = int(sys.argv[3]) if len(sys.argv) > 3 else None

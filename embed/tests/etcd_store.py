@@ -35,13 +35,14 @@ class Member:
         self.name, self.folder, self.words = name, folder, list(words)
         self.client, self.peer = (f"http://{host}:{port}" for port in ports)
         self.process = None
+        self.more = []  # words of its own
 
     def start(self, members):
         cluster = ",".join(f"{one.name}={one.peer}" for one in members)
         with open(f"{self.folder}/{self.name}.log", "a") as log:
             self.process = subprocess.Popen(
                 [*self.words, "etcd", "--name", self.name, "--data-dir", f"{self.folder}/{self.name}", "--initial-cluster", cluster]
-                + ["--listen-client-urls", self.client, "--advertise-client-urls", self.client, "--listen-peer-urls", self.peer, "--initial-advertise-peer-urls", self.peer],
+                + ["--listen-client-urls", self.client, "--advertise-client-urls", self.client, "--listen-peer-urls", self.peer, "--initial-advertise-peer-urls", self.peer, *self.more],
                 stdout=log, stderr=log, start_new_session=True,
             )  # fmt: skip
 
