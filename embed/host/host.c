@@ -214,8 +214,8 @@ static polydb_host_cause tell_gate(polydb_host *host, const store_write *gate, p
     return tell(host, gate, error);
 }
 
-/* One write: of records, and then of the gate before them. The site hears of it last, and of nothing that has failed: the same bytes come again then. Where
- * the library gives the records that wait as one write, this is one write for all of them. */
+/* One write, and its sync: of all records that wait and have room, and then of the gate before them. The site hears of it last, and of nothing that has failed: the same
+ * bytes come again then. */
 static polydb_host_cause write_next(polydb_host *host, bool *wrote, polydb_host_error *error) {
     size_t length;
     uint64_t place;

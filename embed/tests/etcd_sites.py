@@ -96,6 +96,13 @@ class Proxy(BaseHTTPRequestHandler):
         pass
 
 
+class Listener(ThreadingHTTPServer):
+    daemon_threads = True
+
+    def handle_error(self, *_):
+        pass  # a site has been killed
+
+
 # ---- sites ----
 
 
@@ -373,7 +380,7 @@ def main():
     member = etcd_store.Member("m0", folder, ports=(etcd_store.free_port(), etcd_store.free_port()), words=["nice"])
     begun, counts, number = time.monotonic(), Counter(), 0 if only is None else only
     Proxy.member, Proxy.counts = member.client, counts
-    proxies = [ThreadingHTTPServer(("127.0.0.1", 0), Proxy) for _ in range(2)]
+    proxies = [Listener(("127.0.0.1", 0), Proxy) for _ in range(2)]
     try:
         member.start([member])
         for proxy in proxies:
