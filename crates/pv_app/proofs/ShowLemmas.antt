@@ -16,7 +16,6 @@ use Rattle.pv_io.specs.Stream.{AppendsPrefix}
 use Rattle.pv_io.specs.declared.read_end.ReadEnd.{ReadEnd}
 use Rattle.pv_io.specs.declared.read_end.ReadEnd.TheVariants as why
 use Rattle.pv_io.specs.declared.sink.Sink.{Ghosts}
-use Rattle.pv_io.specs.declared.source.Source as sources
 use Rattle.pv_disk_model.specs.DiskModel.{DiskModel}
 use Rattle.pv_run.specs.InputAnswers.{GivesUp}
 use Rattle.pv_run.specs.WriteEndView.{IsWriteFault}
@@ -89,8 +88,8 @@ show-write-fault at.NoMemory is = absurd (let wrong : ⊥ = cc in wrong)
 show-write-fault at.BayFault is = absurd (let wrong : ⊥ = cc in wrong)
 
 -- Of an input that wasn't read nothing is shown.
-module _ {R W B V : Type 0} (source : sources.Ghosts R) (sink : Ghosts W) (M : BayModel B) (D : DiskModel V) (before left : R) (same : W) (bay : B) (input : List ℕ) where
-  pub unread : (end : ReadEnd) → (end ≡ why.TooLong → MAX_INPUT < length input) → AnswersShow source sink M D before left same same bay bay (Err end) input
+module _ {W B V : Type 0} (sink : Ghosts W) (M : BayModel B) (D : DiskModel V) (same : W) (bay : B) (input : List ℕ) where
+  pub unread : (end : ReadEnd) → (end ≡ why.TooLong → MAX_INPUT < length input) → AnswersShow sink M D same same bay bay (Err end) input
   unread why.Failed over = record {
     shown = λ short script says. (refl, Keeps-refl (sink.held same));
     refused = λ short number cause is.

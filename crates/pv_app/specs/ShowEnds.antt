@@ -1,6 +1,6 @@
 -- How `show` ends: what was read, what was written, what was done with the bay's disks, and when each status comes.
 use Rattle.std.specs.Bool.{⊤}
-use Rattle.std.specs.Prelude.{◌≡◌, ℕ, ◌≤◌, ◌<◌, List, [], Some, Result, Ok, Err, OnErr, length}
+use Rattle.std.specs.Prelude.{◌≡◌, ◌≢◌, ℕ, ◌≤◌, ◌<◌, List, [], Some, Result, Ok, Err, OnErr, length}
 use Rattle.pv_base.specs.Catalog.{Declared}
 use Rattle.pv_base.specs.Fault.{Rose}
 use Rattle.pv_base.specs.declared.limits.TheConstants.{MAX_INPUT, MAX_SITES}
@@ -17,6 +17,7 @@ use Rattle.pv_disk_model.specs.DiskModel.{DiskModel}
 use Rattle.pv_model.specs.LineCauses.{LineCause}
 use Rattle.pv_model.specs.LiveScript.{LiveScript}
 use Rattle.pv_model.specs.Schedule.{IsLiveScript, IsMalformedLiveScript}
+use Rattle.pv_run.specs.Ends.{WasRead}
 use Rattle.pv_run.specs.InputAnswers.{GivesUpOr, fault_text}
 use Rattle.pv_run.specs.Statuses.{unread_status}
 use Rattle.pv_run.specs.declared.status.Status.{Status}
@@ -58,8 +59,7 @@ module _ {B V W : Type 0} (M : BayModel B) (D : DiskModel V) (sink : sinks.Ghost
   ShowsInput (Err why.NoMemory) = (new ≡ old) × WritesNothing sink before after
   ShowsInput (Err why.TooLong) = ⊥
 
-module _ {R W B V : Type 0} (source : sources.Ghosts R) (sink : sinks.Ghosts W) (M : BayModel B) (D : DiskModel V) (unread left : R) (before after : W) (old new : B)
-    (ended : Result ShowEnd ReadEnd) where
+module _ {W B V : Type 0} (sink : sinks.Ghosts W) (M : BayModel B) (D : DiskModel V) (before after : W) (old new : B) (ended : Result ShowEnd ReadEnd) where
   -- What is shown to this input.
   pub record AnswersShow (input : List ℕ) : Type 0 where
     -- Of a live script, what was found on the disk of each of its sites was written.
@@ -70,17 +70,23 @@ module _ {R W B V : Type 0} (source : sources.Ghosts R) (sink : sinks.Ghosts W) 
         × (ended ≡ Ok Malformed → Writes sink before after (fault_text number cause))
     -- So it is where the input is too long. Nothing is written then, and no write has failed.
     pub long : MAX_INPUT < length input → GivesUpOr sink (show_status ended) status.TooLong [] before after × (new ≡ old)
-    -- It is done only where the whole input was read, and is a live script.
-    pub done : ended ≡ Ok Done → (source.left left ≡ Some []) × (script : LiveScript) × IsLiveScript input script
+    -- It is done only where the input is a live script.
+    pub done : ended ≡ Ok Done → (script : LiveScript) × IsLiveScript input script
     -- It is `Malformed` only where the input is.
     pub malformed : ended ≡ Ok Malformed → (number : ℕ) × (cause : LineCause) × IsMalformedLiveScript input number cause
     -- However it ends, only disks of sites that the script declares were looked at.
     pub only_declared : (script : LiveScript) → IsLiveScript input script → OnlyReadsDisks M D script.catalog.sites old new
 
-  -- How `show` ends: as it ends to show what the text declares that was read, or with why none was read.
+-- How `show` ends: as it ends to show what the text declares that was read, or with why none was read.
+module _ {R W B V : Type 0} (source : sources.Ghosts R) (sink : sinks.Ghosts W) (M : BayModel B) (D : DiskModel V) (unread left : R) (before after : W) (old new : B)
+    (ended : Result ShowEnd ReadEnd) where
   pub record EndsShow : Type 0 where
     -- Where the source tells its bytes, what is shown to them.
-    pub answers : (input : List ℕ) → source.left unread ≡ Some input → AnswersShow input
+    pub answers : (input : List ℕ) → source.left unread ≡ Some input → AnswersShow sink M D before after old new ended input
+    -- Where the input was read, all that was read of it is shown so, whether or not the source tells its bytes.
+    pub given : (end : ShowEnd) → ended ≡ Ok end → (input : List ℕ) × WasRead source unread left input × AnswersShow sink M D before after old new ended input
+    -- Where it is done, the whole input was read.
+    pub read : ended ≡ Ok Done → (input : List ℕ) → source.left unread ≡ Some input → source.left left ≡ Some []
     -- However it ends, disks were only read.
     pub only_reads : OnlyReadsDisks M D MAX_SITES old new
     -- Where the input wasn't read, or is malformed, the bay is as it was.
@@ -94,3 +100,5 @@ module _ {R W B V : Type 0} (source : sources.Ghosts R) (sink : sinks.Ghosts W) 
     pub write_fault : ended ≡ Ok WriteFault → HasFailed sink before after
     -- Of an input that is too long nothing was written.
     pub too_long : ended ≡ Err why.TooLong → WritesNothing sink before after
+    -- The source's count of faults stays, unless it gives up for the input.
+    pub unfailed : ended ≢ Err why.Failed → source.faults left ≡ source.faults unread

@@ -74,7 +74,7 @@ module _ {R W B : Type 0} (source : sources.Ghosts R) (sink : sinks.Ghosts W) (M
     -- Of an input that is too long nothing was written.
     pub too_long : ended ≡ Err why.TooLong → WritesNothing sink before after
     -- The source's count of faults stays, unless it gives up for the input.
-    pub unfailed : (ended ≡ Err why.Failed → ⊥) → source.faults left ≡ source.faults unread
+    pub unfailed : ended ≢ Err why.Failed → source.faults left ≡ source.faults unread
     -- Unless it is done, the bay is as it was.
     pub alone : ended ≢ Ok text.Done → new ≡ old
 
