@@ -1,0 +1,9 @@
+//! The tests of pv_crew.
+#![tactic(auto)]
+
+#[cfg(test)]
+mod desk;
+#[cfg(test)]
+mod one_turn;
+#[cfg(test)]
+mod tests;
