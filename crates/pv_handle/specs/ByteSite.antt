@@ -1,5 +1,5 @@
 -- What a site in bytes does, by its answers.
-use Rattle.std.specs.Prelude.{◌≡◌, ◌≢◌, ℕ, ◌<◌, ◌≤◌, Bool, true, false, List, [], ◌∷◌, Option, Some, None, Result, Ok, Err, length, slice_get, ⊤}
+use Rattle.std.specs.Prelude.{◌≡◌, ◌≢◌, ℕ, ◌<◌, ◌≤◌, true, false, List, [], ◌∷◌, Option, Some, None, Result, Ok, Err, length, slice_get, ⊤}
 use Rattle.pv_base.specs.Catalog.{Declared, Item, place_of}
 use Rattle.pv_format.specs.MessageSpelling.{SpellsEnvelope}
 use Rattle.pv_protocol.specs.LineText.{line_text}
