@@ -14,7 +14,7 @@
 
 enum {
     CONNECT = 500,        /* milliseconds until a member that can't be reached is left */
-    MOST_ANSWER = 1 << 28 /* bytes */
+    MOST_ANSWER = 1 << 29 /* bytes */
 };
 
 int64_t client_now(void) {

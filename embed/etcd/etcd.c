@@ -33,7 +33,7 @@ enum {
     PIECE_HEAD = 12,            /* bytes before a piece: its place and its length */
     MOST_WRITE = 1 << 20,       /* bytes: etcd takes 1.5 MiB a request, if nothing else is set */
     MOST_TAKINGS = 20,          /* times that another process may come before when the site is taken */
-    FIRST_PAGE = 64, MOST_PAGE = 4096, /* keys that are read at once: first, and at most */
+    LEAST_PAGE = 16, MOST_PAGE = 256, /* keys that are read at once: at first, and where a longer answer didn't come; and at most */
     LONG_PAGE = 1 << 20         /* bytes of an answer from which on fewer keys are asked for */
 };
 static const uint64_t DEFAULT_LIMIT = (uint64_t)2 << 30; /* etcd's own, where nothing is set */
@@ -302,13 +302,17 @@ static polydb_host_cause refuse_write(uint64_t number, const char *what, polydb_
 
 /* Reads all writes, in their order, a page at a time. None may be missing. */
 static polydb_host_cause read_writes(site_keys *keys, image *to, polydb_host_error *error) {
-    unsigned page = FIRST_PAGE;
+    unsigned page = LEAST_PAGE;
     keys->next = 0;
     for (bool more = true; more;) {
         etcd_answer answer;
         ask_for_writes(keys, keys->next, page);
         if (!ask(keys, "/v3/kv/range", &answer)) {
-            return refuse_store(keys, error);
+            if (page <= LEAST_PAGE) {
+                return refuse_store(keys, error);
+            }
+            page = LEAST_PAGE;
+            continue;
         }
         for (size_t i = 0; i < answer.count; i++, keys->next++) {
             char key[KEY_ROOM];
@@ -322,7 +326,7 @@ static polydb_host_cause read_writes(site_keys *keys, image *to, polydb_host_err
         }
         more = answer.more && answer.count > 0;
         if (keys->client.in.length > LONG_PAGE) {
-            page = page > 1 ? page / 2 : 1;
+            page = page > LEAST_PAGE ? page / 2 : LEAST_PAGE;
         } else if (page < MOST_PAGE) {
             page *= 2;
         }
