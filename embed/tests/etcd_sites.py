@@ -30,7 +30,7 @@ from deployments import Deployment, events_of  # noqa: E402
 from polydb import Full, Message, Report, Site  # noqa: E402
 
 SITE = Path(os.environ.get("POLYDB_PROGRAMS", HERE.parent / "out")) / "etcd_site"
-PATIENCE = (20, 60, 400)  # milliseconds that a site waits for etcd
+PATIENCE = (60, 400)  # milliseconds that a site waits for etcd
 REPLACED, STORE, ENGINE = 13, 14, 8  # causes of a host
 UNWRITTEN, FULL = 37, 26  # statuses of the library
 
