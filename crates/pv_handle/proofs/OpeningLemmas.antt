@@ -26,6 +26,7 @@ module _ (front back : List ℕ) where
   opened-longer : (limit : ℕ) (log : HostState) → IsOpenedOn front limit log → IsOpenedOn (front ++ back) limit log
   opened-longer limit log opened = record {
     journal = longer log.stored opened.journal;
+    asked = opened.asked;
     pending = opened.pending;
     behind_gate = opened.behind_gate;
     limit_is = opened.limit_is;
