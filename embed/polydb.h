@@ -253,8 +253,8 @@ void polydb_world_close(polydb_world *world);
  *
  * What is proved of it: each call makes of the site what the program's site makes of the same input; nothing is let out before all records are in the file
  * that the site had when it made it, and nothing is shown while one isn't; and at each moment, and whatever a crash in a write leaves, the file is a journal
- * of the first records of the site: of as many as the host has said to be written, or of these and all of the group that it was given to write. `polydb show` shows the file where it is called site-S.pv,
- * for site S.
+ * of the first records of the site: of as many as the host has said to be written, or of these and all of the group that it was given to write. `polydb
+ * show` shows the file where it is called site-S.pv, for site S.
  */
 
 /* Closed if all zeroes. Not to be copied. The fields are the library's. */
