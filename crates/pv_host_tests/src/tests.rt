@@ -58,29 +58,27 @@ fn a_record_added_meanwhile_waits_for_the_next_group(rt: HostRuntime) -> Result<
 #[test]
 fn records_that_have_room_are_one_group(rt: HostRuntime) -> Result<(), Fail> {
     let alloc = rt.alloc();
-    let mut file = EMPTY_JOURNAL.to_vec(alloc)?;
-    let mut log = HostLog::open(alloc, EMPTY_JOURNAL.to_vec(alloc)?, 40)?;
-    assert_eq!(rt; log.read_all()?.len(), 0);
-    assert_eq!(rt; log.least_write(), None);
+    let mut log = HostLog::open(alloc, EMPTY_JOURNAL.to_vec(alloc)?, 32)?;
     log.reserve(2)?;
     log.append(b"ab")?;
     log.reserve(3)?;
     log.append(b"cde")?;
-    log.reserve(1)?;
-    log.append(b"f")?;
-    // Seven bytes and eight have room, and six more have none.
+    // One record has seven bytes, and both have fifteen.
+    log.ask(15);
+    let write = log.next_write().expect(&rt, "a group");
+    assert_eq!(rt; write.bytes, b"\0\0\0\x02ab\x01\0\0\0\x03cde\0".as_slice());
+    Ok(())
+}
+
+#[test]
+fn one_record_has_always_room(rt: HostRuntime) -> Result<(), Fail> {
+    let alloc = rt.alloc();
+    let mut log = HostLog::open(alloc, EMPTY_JOURNAL.to_vec(alloc)?, 32)?;
+    log.reserve(2)?;
+    log.append(b"ab")?;
     assert_eq!(rt; log.least_write(), Some(7));
-    assert!(rt; write_next(&rt, &mut log, 15, &mut file)?);
-    assert_eq!(rt; log.least_write(), Some(1));
-    assert!(rt; write_next(&rt, &mut log, 15, &mut file)?);
-    assert_eq!(rt; file.as_slice(), TWO.as_slice());
-    assert_eq!(rt; log.stored(), 24);
-    // One has always room.
-    assert!(rt; write_next(&rt, &mut log, 0, &mut file)?);
-    assert!(rt; write_next(&rt, &mut log, 0, &mut file)?);
-    assert!(rt; !write_next(&rt, &mut log, 0, &mut file)?);
-    assert_eq!(rt; log.stored(), 30);
-    let mut again = HostLog::open(alloc, file, 40)?;
-    assert_eq!(rt; again.read_all()?.len(), 3);
+    log.ask(0);
+    let write = log.next_write().expect(&rt, "a group");
+    assert_eq!(rt; write.bytes, b"\0\0\0\x02ab\0".as_slice());
     Ok(())
 }
