@@ -1,7 +1,9 @@
 -- What the site's answer makes of its box.
 use Rattle.std.proofs.Common.{◌≡◌, ℕ, ◌+◌, ◌-◌, ◌<◌, ◌≤◌, true, Option, None, Some, List, [], ◌∷◌, ◌++◌, length, map, take, refl, sym, ap, ◌∙◌, subst, length-append, arith, inr}
 use Rattle.std.proofs.lemmas.List.{length-map}
-use Rattle.std.specs.Prelude.{Ok, Err, is_some, max, not}
+use Rattle.std.proofs.lemmas.List.Elements.{All-push}
+use Rattle.std.specs.Prelude.{Ok, Err, All, is_some, max, not}
+use Rattle.pv_base.specs.Catalog.{Declared}
 use Rattle.pv_disk_model.specs.LogModel.{LogModel}
 use Rattle.pv_history.specs.Entries.{intake_of, stamped_of}
 use Rattle.pv_history.specs.declared.entry.Entry.{Entry}
@@ -11,6 +13,7 @@ use Rattle.pv_history.specs.declared.entry.TheConstants.{MAX_ENTRIES}
 use Rattle.pv_law_histories.specs.Course.{IsStepAt, left_at, input_of, sent_at, sent_by}
 use Rattle.pv_law_histories.specs.Posting.{kept_by, stamp_with}
 use Rattle.pv_mail.specs.Answers.{asker_of, begun_after_all, told, told_of_all}
+use Rattle.pv_mail.specs.Given.{IsTakenFor}
 use Rattle.pv_mail.specs.Posting.{PostsAll}
 use Rattle.pv_mail.specs.Telling.{TellsAll, TellsLossTo}
 use Rattle.pv_mail.specs.declared.answer.Answer.{Answer}
@@ -27,7 +30,7 @@ use Rattle.pv_site.specs.declared.error.StepError.TheVariants.{Fault, Down, NoMe
 use Rattle.pv_site.specs.declared.input.Step.{Step}
 use Rattle.pv_cell.proofs.HistoryLemmas.{made-follows, broken-follows, down-follows}
 use Rattle.pv_cell.proofs.SiteLemmas.{NotDown, stands-made, stands-broken, stands-same, stands-still}
-use Rattle.pv_cell.specs.Box.{IsBox, IsFromSite, Stands, course_site}
+use Rattle.pv_cell.specs.Box.{ArePlanned, IsBox, IsFromSite, Stands, course_site}
 use Rattle.pv_cell.specs.Changes.{Enters, TakesIn, kept_of}
 use Rattle.pv_cell.specs.Follows.{Follows, FollowsNo}
 use Rattle.pv_cell.specs.declared.site_box.SiteBox.{SiteBox}
@@ -41,7 +44,8 @@ loss-length seen (Some asker) outs after tells = tells.0
 
 module _ {W : Type 0} (M : LogModel W) (old new : SiteBox W) (site : SiteState W) (taken : Taken) (stamp : ℕ) (asker : Option Asker)
     (box : IsBox M old) (ready : IsReady M site) (room : length old.history.items < MAX_ENTRIES)
-    (stamp_is : stamp ≡ max old.stamp (stamp_with (intake_of taken)) + 1) (asker_is : asker ≡ asker_of (intake_of taken)) where
+    (stamp_is : stamp ≡ max old.stamp (stamp_with (intake_of taken)) + 1) (asker_is : asker ≡ asker_of (intake_of taken))
+    (planned : IsTakenFor old.site.me old.site.catalog taken) where
   -- the box, after the site's answer
   abbrev mid : SiteBox W
   mid = record old { site = site }
@@ -51,6 +55,20 @@ module _ {W : Type 0} (M : LogModel W) (old new : SiteBox W) (site : SiteState W
 
   counted : (entry : Entry) → new.history.items ≡ old.history.items ++ entry ∷ [] → length new.history.items ≡ length old.history.items + 1
   counted entry is = ap (λ (all : List Entry). length all) is ∙ length-append old.history.items (entry ∷ [])
+
+  all-planned : (entry : Entry) → entry.input ≡ taken → new.history.items ≡ old.history.items ++ entry ∷ [] → site.me ≡ old.site.me → site.catalog ≡ old.site.catalog
+      → ArePlanned site new.history.items
+  all-planned entry input is me catalog =
+      subst (λ (all : List Entry). ArePlanned site all) (sym is)
+      (subst (λ (n : ℕ). All (λ (one : Entry). IsTakenFor n site.catalog one.input) (old.history.items ++ entry ∷ [])) (sym me)
+      (subst (λ (declared : Declared). All (λ (one : Entry). IsTakenFor old.site.me declared one.input) (old.history.items ++ entry ∷ [])) (sym catalog)
+      (All-push (λ (one : Entry). IsTakenFor old.site.me old.site.catalog one.input) old.history.items entry box.planned
+      (subst (λ (t : Taken). IsTakenFor old.site.me old.site.catalog t) (sym input) planned))))
+
+  still-planned : site.me ≡ old.site.me → site.catalog ≡ old.site.catalog → ArePlanned site old.history.items
+  still-planned me catalog =
+      subst (λ (n : ℕ). All (λ (one : Entry). IsTakenFor n site.catalog one.input) old.history.items) (sym me)
+      (subst (λ (declared : Declared). All (λ (one : Entry). IsTakenFor old.site.me declared one.input) old.history.items) (sym catalog) box.planned)
 
   -- ## A step was made
   module _ (step : Step) (running : Running) (is : old.site.running ≡ Some running)
@@ -92,6 +110,7 @@ module _ {W : Type 0} (M : LogModel W) (old new : SiteBox W) (site : SiteState W
           answer = Ok step;
           history = follows.history;
           intake_is = refl;
+          planned = planned;
           stamp = stamp_is;
           new_stamp = refl;
           made = subst (λ (r : Option Running). Steps M old.site site r (input_of (intake_of taken)) (Ok step)) (sym is) made;
@@ -122,6 +141,7 @@ module _ {W : Type 0} (M : LogModel W) (old new : SiteBox W) (site : SiteState W
           down = box.down ∙ (ap (λ (r : Option Running). not (is_some r)) is ∙ sym (ap (λ (s : SiteState W). not (is_some s.running)) made.site));
           rings = (box.rings.0 ∙ sites, sym follows.posts.0 ∙ (box.rings.1 ∙ sites), box.rings.2 ∙ follows.tells.0, box.rings.3);
           entries = subst (λ (n : ℕ). n ≤ MAX_ENTRIES) (sym count-is) most;
+          planned = all-planned entry refl follows.history (ap (λ (s : SiteState W). s.me) made.site) (ap (λ (s : SiteState W). s.catalog) made.site);
           again = λ arrival same. subst (λ (n : ℕ). IsFromSite n arrival) sites (box.again arrival same);
           idle = box.idle;
         }
@@ -166,6 +186,7 @@ module _ {W : Type 0} (M : LogModel W) (old new : SiteBox W) (site : SiteState W
           answer = Err Fault;
           history = history;
           intake_is = refl;
+          planned = planned;
           stamp = stamp_is;
           new_stamp = refl;
           made = subst (λ (r : Option Running). Steps M old.site site r (input_of (intake_of taken)) (Err Fault)) (sym is) breaks;
@@ -187,6 +208,7 @@ module _ {W : Type 0} (M : LogModel W) (old new : SiteBox W) (site : SiteState W
           down = sym (ap (λ (s : SiteState W). not (is_some s.running)) breaks.site);
           rings = (box.rings.0 ∙ sites, box.rings.1 ∙ sites, box.rings.2, box.rings.3);
           entries = grown fault_entry history;
+          planned = all-planned fault_entry refl history (ap (λ (s : SiteState W). s.me) breaks.site) (ap (λ (s : SiteState W). s.catalog) breaks.site);
           again = λ arrival same. subst (λ n. IsFromSite n arrival) sites (box.again arrival same);
           idle = box.idle;
         }
@@ -217,6 +239,7 @@ module _ {W : Type 0} (M : LogModel W) (old new : SiteBox W) (site : SiteState W
               answer = Err Down;
               history = follows.1;
               intake_is = refl;
+              planned = planned;
               stamp = stamp_is;
               new_stamp = refl;
               made = subst (λ (r : Option Running). Steps M old.site site r (input_of (intake_of taken)) (Err Down)) (sym none) (refl, same);
@@ -238,6 +261,7 @@ module _ {W : Type 0} (M : LogModel W) (old new : SiteBox W) (site : SiteState W
             down = box.down ∙ sym (ap (λ (s : SiteState W). not (is_some s.running)) same);
             rings = (box.rings.0 ∙ sites, box.rings.1 ∙ sites, box.rings.2 ∙ follows.2.0, box.rings.3);
             entries = grown down_entry follows.1;
+            planned = all-planned down_entry refl follows.1 (ap (λ (s : SiteState W). s.me) same) (ap (λ (s : SiteState W). s.catalog) same);
             again = λ arrival is. subst (λ n. IsFromSite n arrival) sites (box.again arrival is);
             idle = box.idle;
           },
@@ -264,6 +288,7 @@ module _ {W : Type 0} (M : LogModel W) (old new : SiteBox W) (site : SiteState W
             down = box.down ∙ sym (ap (λ (s : SiteState W). not (is_some s.running)) stays.site);
             rings = (box.rings.0 ∙ sites, box.rings.1 ∙ sites, box.rings.2 ∙ loss-length _ asker _ _ follows.1, box.rings.3);
             entries = box.entries;
+            planned = still-planned (ap (λ (s : SiteState W). s.me) stays.site) (ap (λ (s : SiteState W). s.catalog) stays.site);
             again = λ arrival is. subst (λ n. IsFromSite n arrival) sites (box.again arrival is);
             idle = box.idle;
           },

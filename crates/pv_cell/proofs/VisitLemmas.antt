@@ -13,7 +13,7 @@ use Rattle.pv_mail.specs.declared.arrival.Arrival.TheVariants as arrival
 use Rattle.pv_mail.specs.declared.asked.Asker.{Asker}
 use Rattle.pv_mail.specs.declared.ends.Ends.{Ends}
 use Rattle.pv_cell.proofs.BoxLemmas.{loss-length}
-use Rattle.pv_cell.specs.Box.{IsBox, IsTickDue, IsWorn, Stands}
+use Rattle.pv_cell.specs.Box.{ArePlanned, IsBox, IsTickDue, IsWorn, Stands}
 use Rattle.pv_cell.specs.Changes.{Enters, Kept, LeavesTaken, Loses, TakesIn, kept_of}
 use Rattle.pv_cell.specs.Room.{IsRoomier}
 use Rattle.pv_cell.specs.Visits.{Arrives, IsNext, TakesArrival, TakesTick, Visits}
@@ -32,6 +32,7 @@ module _ {W : Type 0} (M : LogModel W) where
     down = is.down;
     rings = is.rings;
     entries = is.entries;
+    planned = is.planned;
     again = is.again;
     idle = few;
   }
@@ -47,6 +48,7 @@ module _ {W : Type 0} (M : LogModel W) where
           down = is.down;
           rings = is.rings;
           entries = subst (λ (n : ℕ). n ≤ MAX_ENTRIES) same is.entries;
+          planned = subst (λ (all : List Entry). ArePlanned old.site all) (sym roomier.1) is.planned;
           again = is.again;
           idle = is.idle;
         }
@@ -95,6 +97,7 @@ module _ {W : Type 0} (M : LogModel W) where
       down = is.down;
       rings = (is.rings.0, is.rings.1, is.rings.2 ∙ loss-length _ asker _ _ tells, is.rings.3);
       entries = is.entries;
+      planned = is.planned;
       again = is.again;
       idle = is.idle;
     }

@@ -1,9 +1,11 @@
 -- A box, and what is always so of it.
-use Rattle.std.specs.Prelude.{◌≡◌, ◌⊎◌, ℕ, ◌-◌, ◌<◌, ◌≤◌, ◌^◌, true, Some, None, is_some, not, length, ⊤}
+use Rattle.std.specs.Prelude.{◌≡◌, ◌⊎◌, ℕ, ◌-◌, ◌<◌, ◌≤◌, ◌^◌, true, Some, None, List, All, is_some, not, length, ⊤}
 use Rattle.pv_base.specs.declared.limits.TheConstants.{HELD_NAMES}
 use Rattle.pv_disk_model.specs.LogModel.{LogModel}
 use Rattle.pv_format.specs.Checkpoint.{first_standing}
+use Rattle.pv_history.specs.declared.entry.Entry.{Entry}
 use Rattle.pv_history.specs.declared.entry.TheConstants.{MAX_ENTRIES}
+use Rattle.pv_mail.specs.Given.{IsTakenFor}
 use Rattle.pv_mail.specs.declared.arrival.Arrival.{Arrival}
 use Rattle.pv_mail.specs.declared.arrival.Arrival.TheVariants as arrival
 use Rattle.pv_protocol.specs.Sound.{IsSetupInRange}
@@ -27,6 +29,10 @@ pub record Stands {W : Type 0} (count : ℕ) (site : SiteState W) : Type 0 where
   pub setup : IsSetupInRange (setup_of site.catalog)
   pub narrow : IsNarrow HELD_NAMES site.catalog site.me site.records
   pub entered : (running : Running) → site.running ≡ Some running → length running.entries ≤ count
+
+-- The site could make a step of whatever was taken in: a request can run and has its plan, and a message comes from a site and is spelled.
+abbrev pub ArePlanned : {W : Type 0} → SiteState W → List Entry → Type 0
+ArePlanned site entries = All (λ entry. IsTakenFor site.me site.catalog entry.input) entries
 
 -- Where it is a message, it comes from one of the sites.
 abbrev pub IsFromSite : ℕ → Arrival → Type 0
@@ -62,5 +68,6 @@ pub record IsBox {W : Type 0} (M : LogModel W) (box : SiteBox W) : Type 0 where
   pub down : box.down ≡ not (is_some box.site.running)
   pub rings : HasRings box
   pub entries : length box.history.items ≤ MAX_ENTRIES
+  pub planned : ArePlanned box.site box.history.items
   pub again : (arrival : Arrival) → box.again ≡ Some arrival → IsFromSite box.site.catalog.sites arrival
   pub idle : box.idle ≤ IDLE_VISITS

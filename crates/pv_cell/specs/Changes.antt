@@ -7,6 +7,7 @@ use Rattle.pv_law_histories.specs.Course.{IsStep, left_by, input_of, sent_by}
 use Rattle.pv_law_histories.specs.History.{Intake, Came, done, fault, down}
 use Rattle.pv_law_histories.specs.Posting.{kept_by, stamp_with}
 use Rattle.pv_mail.specs.Answers.{asker_of, begun_by, told_by}
+use Rattle.pv_mail.specs.Given.{IsTakenFor}
 use Rattle.pv_mail.specs.Looks.{SameInRings}
 use Rattle.pv_mail.specs.Posting.{PostsAll}
 use Rattle.pv_mail.specs.Telling.{TellsAll, TellsLossTo}
@@ -67,6 +68,7 @@ module _ {W : Type 0} (M : LogModel W) where
     pub answer : Result Step StepError
     pub history : new.history ≡ old.history ++ entry ∷ []
     pub intake_is : (stamped_of entry).intake ≡ intake
+    pub planned : IsTakenFor old.site.me old.site.catalog entry.input
     pub stamp : entry.stamp ≡ max old.stamp (stamp_with intake) + 1
     pub new_stamp : new.stamp ≡ entry.stamp
     pub made : Steps M old.site new.site old.site.running (input_of intake) answer
