@@ -1,11 +1,16 @@
 -- A look at rings in turn, and what is handed to rings.
-use Rattle.std.proofs.Common.{◌≡◌, ◌≢◌, ◌⊎◌, ℕ, ◌<◌, ◌≤◌, ◌+◌, ◌==◌, Bool, true, false, if◌then◌else◌, List, [], ◌∷◌, ◌++◌, length, get_or, set, refl, sym, ap, ◌∙◌, subst, inl, inr, ⊎_elim, arith, rules, append-nil, append_assoc, eq-eqb, eqb-true}
+use Rattle.std.proofs.Common.{◌≡◌, ◌≢◌, ◌⊎◌, ℕ, ◌<◌, ◌≤◌, ◌+◌, ◌==◌, Bool, true, false, if◌then◌else◌, List, [], ◌∷◌, ◌++◌, length, get_or, set, refl, sym, ap, ◌∙◌, subst, inl, inr, ⊎_elim, arith, rules, append-nil, append_assoc, length-append, eq-eqb, eqb-true}
 use mathlib.Core.Logic.{dite}
 use native.Mathlib.Decide.{dec_le}
-use Rattle.pv_post.specs.Ends.{offered}
+use Rattle.pv_post.specs.Ends.{SameOut, offered, plan_of, posted}
+use Rattle.pv_post.specs.Plan.{is_due}
+use Rattle.pv_post.specs.Posted.{IsPosted}
+use Rattle.pv_post.specs.declared.fault_plan.FaultPlan.{FaultPlan}
 use Rattle.pv_post.specs.declared.inlet.In.{In}
 use Rattle.pv_post.specs.declared.outlet.Out.{Out}
-use Rattle.pv_rings.specs.Rings.{Each, Rests, IsFoundEmpty, Gives, GivesOne, AreFoundEmpty, Hands, HandsEach}
+use Rattle.pv_post.specs.declared.posted.Posted.{Posted}
+use Rattle.pv_post.specs.declared.posted.Posted.TheVariants.{Dropped, Full, Once, Twice}
+use Rattle.pv_rings.specs.Rings.{Each, Rests, IsFoundEmpty, Gives, GivesOne, IsFirst, AreFoundEmpty, Keeps, Hands, HandsEach}
 use Rattle.pv_rings.proofs.EachLemmas.{get_or-any, each-self, each-weaker, each-trans, each-set}
 
 module _ {M : Type 0} where
@@ -25,8 +30,12 @@ module _ {M : Type 0} where
   )
 
   -- what is so of a place, before and after a look at the rings between these two
-  abbrev Looked : (from to : ℕ) → ℕ → In M → In M → Type 0
+  abbrev pub Looked : (from to : ℕ) → ℕ → In M → In M → Type 0
   Looked from to k one other = (from ≤ k → k < to → IsFoundEmpty one other) × ((k < from) ⊎ (to ≤ k) → other ≡ one)
+
+  -- the same of the ring that gave
+  abbrev pub First : (from at : ℕ) → ℕ → In M → In M → Type 0
+  First from at k one other = (from ≤ k → k < at → IsFoundEmpty one other) × ((k < from) ⊎ (at < k) → other ≡ one)
 
   rests-same : (x z : In M) → z ≡ x → Rests x z
   rests-same x z is = subst (λ (v : In M). Rests x v) (sym is) (rests-self x)
@@ -63,6 +72,16 @@ module _ {M : Type 0} where
           (λ k x' z isnt r. ((λ same. absurd (isnt same)), (λ other. rests-looked from at k x' z r))),
     )
 
+    -- Those before it were found empty, and it gave.
+    pub is-first : (to : ℕ) → at < to → IsFirst from to at old (set mid at y)
+    is-first to below = (
+      low,
+      below,
+      each-set (Looked from at) (First from at) old mid at y are within
+          (λ d e r. ((λ low' high. absurd (omega (arith, high))), (λ out. absurd (⊎_elim (λ under. omega (arith, low, under)) (λ past. omega (arith, past)) out))))
+          (λ k x' z isnt r. (r.0, (λ out. r.1 (⊎_elim (λ under. inl under) (λ past. inr (omega arith)) out)))),
+    )
+
   -- A ring gives after all of them rested.
   pub gives-one-after : (ring : ℕ) (message : M) (count : ℕ) (a b c : List (In M)) → Each (λ k one other. Rests one other) a b
       → GivesOne ring message count b c → GivesOne ring message count a c
@@ -90,13 +109,65 @@ module _ {M : Type 0} where
       one other
 
   -- ## Rings out
+  pub keeps-trans : (plan : FaultPlan) (number next : ℕ) (first later : List M) (kept more : List (M × ℕ)) → next ≡ number + length first
+      → Keeps plan number first kept → Keeps plan next later more → Keeps plan number (first ++ later) (kept ++ more)
+  keeps-trans plan number next [] later kept more is none keeps =
+      subst (λ (front : List (M × ℕ)). Keeps plan number later (front ++ more)) (sym none)
+      (subst (λ (n : ℕ). Keeps plan n later more) (omega (arith, is)) keeps)
+  keeps-trans plan number next (message ∷ first) later kept more is (inl lost) keeps =
+      inl (keeps-trans plan (number + 1) next first later kept more (omega (arith, is)) lost keeps)
+  keeps-trans plan number next (message ∷ first) later kept more is (inr taken) keeps =
+      inr (taken.0 ++ more, ap (λ (all : List (M × ℕ)). all ++ more) taken.1, taken.2, keeps-trans plan (number + 1) next first later taken.0 more (omega (arith, is)) taken.3 keeps)
+
+  -- What comes of a post is what the ring keeps of it.
+  module _ (old new : Out M) (message : M) (same : SameOut old new) (offers : offered new ≡ offered old ++ message ∷ []) where
+    abbrev Kept : Type 0
+    Kept = (kept : List (M × ℕ)) × (posted new ≡ posted old ++ kept) × Keeps (plan_of old) (length (offered old) + 1) (message ∷ []) kept
+
+    number-is : length (offered new) ≡ length (offered old) + 1
+    number-is = ap (λ (all : List M). length all) offers ∙ length-append (offered old) (message ∷ [])
+
+    lost : posted new ≡ posted old → Kept
+    lost is = ([], is ∙ sym (append-nil (posted old)), inl refl)
+
+    -- whether the post is such a one, by the plan and the number that the ring had before
+    as-before : (each : FaultPlan → ℕ) (test : Bool) → is_due (each (plan_of new)) (length (offered new)) ≡ test
+        → is_due (each (plan_of old)) (length (offered old) + 1) ≡ test
+    as-before each test is =
+        ap (λ (plan : FaultPlan). is_due (each plan) (length (offered old) + 1)) (sym same.1)
+        ∙ (ap (λ (n : ℕ). is_due (each (plan_of new)) n) (sym number-is) ∙ is)
+
+    counted : (count : ℕ) (test : Bool) → is_due (plan_of old).double_each (length (offered old) + 1) ≡ test → (if test then 2 else 1) ≡ count
+        → is_due (plan_of old).drop_each (length (offered old) + 1) ≡ false → posted new ≡ posted old ++ (message, count) ∷ [] → Kept
+    counted count test doubled is kept posts = (
+      (message, count) ∷ [],
+      posts,
+      inr ([], ap (λ (n : ℕ). (message, n) ∷ []) (sym is ∙ ap (λ (twice : Bool). if twice then 2 else 1) (sym doubled)), kept, refl),
+    )
+
+    pub posted-kept : (result : Posted M) → IsPosted old new message result → Kept
+    posted-kept (Dropped back) is = lost is.2
+    posted-kept (Full back) is = lost is.2
+    posted-kept Once is =
+        counted 1 false (as-before (λ (plan : FaultPlan). plan.double_each) false is.1) refl (as-before (λ (plan : FaultPlan). plan.drop_each) false is.0) is.2
+    posted-kept Twice is =
+        counted 2 true (as-before (λ (plan : FaultPlan). plan.double_each) true is.1) refl (as-before (λ (plan : FaultPlan). plan.drop_each) false is.0) is.2
+
   pub hands-nothing : (out : Out M) → Hands [] out out
-  hands-nothing out = (search rules, sym (append-nil (offered out)))
+  hands-nothing out = (search rules, sym (append-nil (offered out)), ([], sym (append-nil (posted out)), refl))
 
   pub hands-trans : (first later : List M) (a b c : Out M) → Hands first a b → Hands later b c → Hands (first ++ later) a c
   hands-trans first later a b c one other = (
     (((other.0.0.0.0 ∙ one.0.0.0.0, other.0.0.0.1 ∙ one.0.0.0.1, other.0.0.0.2 ∙ one.0.0.0.2, other.0.0.0.3 ∙ one.0.0.0.3), other.0.0.1 ∙ one.0.0.1), other.0.1 ∙ one.0.1),
     other.1 ∙ (ap (λ (all : List M). all ++ later) one.1 ∙ append_assoc (offered a) first later),
+    (
+      one.2.0 ++ other.2.0,
+      other.2.1 ∙ (ap (λ (all : List (M × ℕ)). all ++ other.2.0) one.2.1 ∙ append_assoc (posted a) one.2.0 other.2.0),
+      keeps-trans (plan_of a) (length (offered a) + 1) (length (offered b) + 1) first later one.2.0 other.2.0
+          (let count : length (offered b) ≡ length (offered a) + length first = ap (λ (all : List M). length all) one.1 ∙ length-append (offered a) first in
+          omega (arith, count))
+          one.2.2 (subst (λ (plan : FaultPlan). Keeps plan (length (offered b) + 1) later other.2.0) one.0.1 other.2.2),
+    ),
   )
 
   pub none-handed : (P : ℕ → List M → Type 0) (outs : List (Out M)) → ((k : ℕ) → k < length outs → P k []) → HandsEach P outs outs
