@@ -67,8 +67,8 @@ impl<L: Log> SiteBox<L> {
     ghost use Rattle.pv_cell.specs.contracts.site_box.SiteBox.{the_row};
     ghost use Rattle.pv_mail.specs.contracts.ends.Ends as lent;
 
-    /// A box of the site of this number, whose history is empty. The site is one as [`Site::open`] gives it, and nothing was posted on the ends. There is
-    /// one end of each kind for each site of the catalog, and there are as many ends to clients as from them.
+    /// A box of the site of this number, whose history is empty. The site is one as [`Site::open`] gives it on a log without contents, and nothing was posted
+    /// on the ends. There is one end of each kind for each site of the catalog, and there are as many ends to clients as from them.
     pub fn new(alloc: Global, me: SiteId, site: Site<L>, ends: Ends) -> Result<SiteBox<L>, NoMemory>
         requires me { (me.0 ≡ site.me) × (site.me < site.catalog.sites) }
         requires catalog { IsSetupInRange (setup_of site.catalog) }
@@ -101,7 +101,7 @@ impl<L: Log> SiteBox<L> {
     /// makes its step, and what it sends and has to say is posted. Takes the time of the step and of what it posts, however long the history is.
     ///
     /// - [`Visit::Took`]: the history has one more entry.
-    /// - [`Visit::Idle`]: nothing was there, and nothing changes.
+    /// - [`Visit::Idle`]: nothing was there, and nothing changes but the count of such visits, by which a tick comes due.
     /// - [`Visit::Worn`]: the history has [`MAX_ENTRIES`] entries, or its last stamp is the greatest. Nothing is taken.
     /// - [`Visit::Lost`]: there was no memory. The site is as if the input hadn't come, and a client whose request it is hears of it.
     /// - [`Visit::Stray`]: the parcel isn't the spelling of a message from that ring's site to this one, or has the greatest stamp; or the program of the

@@ -5,8 +5,8 @@
 pub enum Visit {
     /// An input was taken, and the history has its entry.
     Took,
-    /// There was nothing to take: this visit looked at every ring into the box, each held nothing, no message was left to count again, and no
-    /// tick was due.
+    /// There was nothing to take: this visit asked every ring into the box, none gave anything, no message was left to count again, and no
+    /// tick was due. Of the looks at the rings themselves contracts don't tell.
     Idle,
     /// The history has all entries that it may have, or no stamp is left. Nothing is taken any more.
     Worn,

@@ -94,10 +94,10 @@ Says (what.Line said) line = line_of said ≡ line
 Says what.NoMemory line = ⊤
 
 abbrev pub Tells : ℕ → Answer → Told → Type 0
-Tells seen answer told = (answer.number ≡ told.asker.number) × (answer.seen ≡ seen) × Says answer.what told.line
+Tells seen answer one = (answer.number ≡ one.asker.number) × (answer.seen ≡ seen) × Says answer.what one.line
 
 -- One by one, these answers, made when the history had so many entries, say that.
 abbrev pub AllTell : ℕ → List Answer → List Told → Type 0
 AllTell seen [] [] = ⊤
-AllTell seen (answer ∷ answers) (told ∷ more) = Tells seen answer told × AllTell seen answers more
+AllTell seen (answer ∷ answers) (one ∷ more) = Tells seen answer one × AllTell seen answers more
 AllTell seen answers other = ⊥

@@ -7,7 +7,7 @@ use Rattle.pv_mail.specs.declared.ends.Ends.{Ends}
 abbrev pub SameInRings : Ends → Ends → Type 0
 SameInRings old new = (new.sites_in ≡ old.sites_in) × (new.clients_in ≡ old.clients_in)
 
--- All rings were looked at, and held nothing.
+-- No ring gave anything.
 abbrev pub AllFoundEmpty : Ends → Ends → Type 0
 AllFoundEmpty old new =
     Each (λ k one other. IsFoundEmpty one other) old.sites_in.items new.sites_in.items
