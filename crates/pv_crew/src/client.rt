@@ -11,7 +11,7 @@ use std::thread;
 /// After so many looks in a row that found no answer a client asks no more.
 pub const MAX_LOOKS: u32 = 10_000_000;
 
-/// A client. It asks for what its script says, in order, and for the next thing only after it has heard of the one before.
+/// A client. It asks for what its script says, in order, and for the next thing only after as many answers as it has asked for things.
 ///
 /// Contracts see its `script`; what it has asked for is what was `posted` on `asks`, each once, and what it has heard is what was `taken` of `hears`.
 #[derive(Drop)]
@@ -28,6 +28,7 @@ pub struct Client<Q: Drop, A: Drop> {
     pub script: History<Q>,
     ghost no_faults: { plan_of asks ≡ no_faults },
     ghost in_order: { posted asks ++ once_each (reverse left.items) ≡ once_each script.items },
+    ghost heard_of_asked: { length heard.items ≤ length (posted asks) },
     ghost one_by_one: { length (posted asks) ≤ length heard.items + 1 },
     ghost all_heard: { messages_of (taken hears) ≡ heard.items },
     ghost room: { length heard.items + length left.items ≤ vec_capacity heard },
@@ -35,7 +36,8 @@ pub struct Client<Q: Drop, A: Drop> {
 
 impl<Q: Drop, A: Drop> Client<Q, A> {
     ghost use Rattle.std.specs.Prelude.{◌<◌, [], true, false, IfOk};
-    ghost use Rattle.pv_crew.specs.Asking.{GoesOn};
+    ghost use Rattle.pv_post.specs.Ends.{known};
+    ghost use Rattle.pv_crew.specs.Asking.{GoesOn, HasEnded};
 
     /// A client with this script, by rings on which nothing was posted and none fails.
     pub fn new(
@@ -63,10 +65,12 @@ impl<Q: Drop, A: Drop> Client<Q, A> {
         })
     }
 
-    /// Asks for all that is left, in order. It ends early where no answer comes for [`MAX_LOOKS`] looks in a row, or where the ring has no free place.
+    /// Asks for all that is left, in order, until all is asked for and heard. It ends early where no answer comes for [`MAX_LOOKS`] looks in a row, or where the ring
+    /// has no free place.
     pub fn play(&mut self)
         requires { length (posted self.old.asks) ≤ length self.old.heard.items }
-        ensures { GoesOn self.old self.new }
+        ensures same { GoesOn self.old self.new }
+        ensures ended { HasEnded self.new }
     {
         while self.ask() {
             if !self.hear() {
@@ -80,6 +84,8 @@ impl<Q: Drop, A: Drop> Client<Q, A> {
         requires { length (posted self.old.asks) ≤ length self.old.heard.items }
         ensures same { GoesOn self.old self.new }
         ensures asked { result ≡ true → (length self.new.left.items + 1 ≡ length self.old.left.items) × (length self.new.heard.items + length self.new.left.items < vec_capacity self.new.heard) }
+        ensures unheard { result ≡ true → length self.new.heard.items < length (posted self.new.asks) }
+        ensures ended { result ≡ false → HasEnded self.new }
     {
         let Some(request) = self.left.pop() else {
             return false;
@@ -93,29 +99,33 @@ impl<Q: Drop, A: Drop> Client<Q, A> {
         }
     }
 
-    // Waits for an answer, and tells whether it came.
+    // Waits for the answer to what was asked last, and tells whether it came.
     fn hear(&mut self) -> bool
-        requires { length self.old.heard.items + length self.old.left.items < vec_capacity self.old.heard }
+        requires room { length self.old.heard.items + length self.old.left.items < vec_capacity self.old.heard }
+        requires unheard { length self.old.heard.items < length (posted self.old.asks) }
         ensures same { GoesOn self.old self.new }
         ensures left { self.new.left ≡ self.old.left }
         ensures heard { result ≡ true → length (posted self.new.asks) ≤ length self.new.heard.items }
+        ensures ended { result ≡ false → HasEnded self.new }
     {
-        for _ in 0..MAX_LOOKS {
+        for _ in 1..MAX_LOOKS {
             if self.look() {
                 return true;
             }
             thread::yield_now();
         }
-        false
+        self.look()
     }
 
     // Looks for an answer, and tells whether it was there.
     fn look(&mut self) -> bool
-        requires { length self.old.heard.items + length self.old.left.items < vec_capacity self.old.heard }
+        requires room { length self.old.heard.items + length self.old.left.items < vec_capacity self.old.heard }
+        requires unheard { length self.old.heard.items < length (posted self.old.asks) }
         ensures same { GoesOn self.old self.new }
         ensures left { self.new.left ≡ self.old.left }
+        ensures asks { self.new.asks ≡ self.old.asks }
         ensures heard { result ≡ true → length (posted self.new.asks) ≤ length self.new.heard.items }
-        ensures none { result ≡ false → self.new.heard ≡ self.old.heard }
+        ensures none { result ≡ false → (self.new.heard ≡ self.old.heard) × (known self.new.hears ≡ []) }
     {
         let Some((answer, _)) = self.hears.take() else {
             return false;

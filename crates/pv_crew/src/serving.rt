@@ -2,7 +2,7 @@
 ghost use Rattle.std.specs.Prelude.{◌≡◌, ◌≤◌, [], All, IfOk, length};
 ghost use Rattle.pv_base.specs.declared.limits.TheConstants.{MAX_SITES};
 ghost use Rattle.pv_post.specs.Ends.{posted};
-ghost use Rattle.pv_crew.specs.Asking.{GoesOn};
+ghost use Rattle.pv_crew.specs.Asking.{HasPlayed};
 ghost use Rattle.pv_crew.specs.Each.{Each};
 ghost use Rattle.pv_crew.specs.Rounds.{IsLaterRound, IsRoundOf};
 
@@ -40,7 +40,7 @@ pub fn serve<
     requires rounds { All (IsRoundOf turns.now) rounds.items }
     requires clients { All (λ client. posted client.asks ≡ []) clients.items }
     ensures rounds { IfOk result (λ ended. Each IsLaterRound rounds.items ended.0.items) }
-    ensures clients { IfOk result (λ ended. Each GoesOn clients.items ended.1.items) }
+    ensures clients { IfOk result (λ ended. Each HasPlayed clients.items ended.1.items) }
 {
     let ended = AtomicBool::new(false);
     let (rounds, clients) = thread::join(
@@ -51,7 +51,7 @@ pub fn serve<
         { work_all(rt, turns, rounds, gate, &ended) },
         || -> Result<Vec<Client<Q, A>>, NoMemory>
             requires { All (λ client. posted client.asks ≡ []) clients.items }
-            ensures { IfOk result (λ back. Each GoesOn clients.items back.items) }
+            ensures { IfOk result (λ back. Each HasPlayed clients.items back.items) }
         { play_all(rt, clients, &ended) },
     );
     Ok((rounds?, clients?))
@@ -87,14 +87,14 @@ fn play_all<T: Threads + Sync, Q: Send + Drop, A: Send + Drop>(
     ended: &AtomicBool,
 ) -> Result<Vec<Client<Q, A>>, NoMemory>
     requires { All (λ client. posted client.asks ≡ []) clients.items }
-    ensures { IfOk result (λ back. Each GoesOn clients.items back.items) }
+    ensures { IfOk result (λ back. Each HasPlayed clients.items back.items) }
 {
     let back = thread::map_vec(
         rt,
         clients,
         &|client: Client<Q, A>| -> Client<Q, A>
             requires { posted client.asks ≡ [] }
-            ensures { GoesOn client result }
+            ensures { HasPlayed client result }
         { played(client) },
     );
     ended.store(true, Ordering::SeqCst);
@@ -104,7 +104,7 @@ fn play_all<T: Threads + Sync, Q: Send + Drop, A: Send + Drop>(
 // The client when it has asked.
 fn played<Q: Drop, A: Drop>(client: Client<Q, A>) -> Client<Q, A>
     requires { posted client.asks ≡ [] }
-    ensures { GoesOn client result }
+    ensures { HasPlayed client result }
 {
     let mut client = client;
     client.play();
