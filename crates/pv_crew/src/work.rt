@@ -1,5 +1,5 @@
 // What a worker does.
-ghost use Rattle.std.specs.Prelude.{◌≡◌, ◌<◌, ◌≤◌, length};
+ghost use Rattle.std.specs.Prelude.{◌≡◌, ◌+◌, ◌<◌, ◌≤◌, true, false, length};
 ghost use Rattle.pv_base.specs.declared.limits.TheConstants.{MAX_SITES};
 ghost use Rattle.pv_crew.specs.Rounds.{IsLaterRound, IsRoundOf};
 ghost use Rattle.pv_crew.specs.Seated.{IsLater, IsReady};
@@ -74,7 +74,8 @@ fn pause(took: bool) {
 // How many visits in a row took nothing, when there was one more.
 fn longer(idle: u32, took: bool) -> u32
     requires { idle < MAX_IDLE }
-    ensures { result ≤ MAX_IDLE }
+    ensures took { took ≡ true → result ≡ 0 }
+    ensures none { took ≡ false → result ≡ idle + 1 }
 {
     if took { 0 } else { idle + 1 }
 }
@@ -82,7 +83,8 @@ fn longer(idle: u32, took: bool) -> u32
 // The place behind this one; behind the last comes the first.
 fn next(at: usize, count: usize) -> usize
     requires { at < count }
-    ensures { result < count }
+    ensures next { at + 1 < count → result ≡ at + 1 }
+    ensures first { at + 1 ≡ count → result ≡ 0 }
 {
     if at + 1 < count { at + 1 } else { 0 }
 }
