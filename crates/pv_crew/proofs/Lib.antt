@@ -1,2 +1,1 @@
-mod EachLemmas
 mod SeatedLemmas

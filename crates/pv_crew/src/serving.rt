@@ -2,8 +2,8 @@
 ghost use Rattle.std.specs.Prelude.{◌≡◌, ◌≤◌, [], All, IfOk, length};
 ghost use Rattle.pv_base.specs.declared.limits.TheConstants.{MAX_SITES};
 ghost use Rattle.pv_post.specs.Ends.{posted};
+ghost use Rattle.pv_rings.specs.Rings.{Each};
 ghost use Rattle.pv_crew.specs.Asking.{HasPlayed};
-ghost use Rattle.pv_crew.specs.Each.{Each};
 ghost use Rattle.pv_crew.specs.Rounds.{IsLaterRound, IsRoundOf};
 
 use crate::client::Client;
@@ -39,19 +39,19 @@ pub fn serve<
     requires turns { length turns.now ≤ MAX_SITES }
     requires rounds { All (IsRoundOf turns.now) rounds.items }
     requires clients { All (λ client. posted client.asks ≡ []) clients.items }
-    ensures rounds { IfOk result (λ ended. Each IsLaterRound rounds.items ended.0.items) }
-    ensures clients { IfOk result (λ ended. Each HasPlayed clients.items ended.1.items) }
+    ensures rounds { IfOk result (λ ended. Each (λ _. IsLaterRound) rounds.items ended.0.items) }
+    ensures clients { IfOk result (λ ended. Each (λ _. HasPlayed) clients.items ended.1.items) }
 {
     let ended = AtomicBool::new(false);
     let (rounds, clients) = thread::join(
         rt,
         || -> Result<Vec<Round<V, V::Entry>>, NoMemory>
             requires { (length turns.now ≤ MAX_SITES) × All (IsRoundOf turns.now) rounds.items }
-            ensures { IfOk result (λ back. Each IsLaterRound rounds.items back.items) }
+            ensures { IfOk result (λ back. Each (λ _. IsLaterRound) rounds.items back.items) }
         { work_all(rt, turns, rounds, gate, &ended) },
         || -> Result<Vec<Client<Q, A>>, NoMemory>
             requires { All (λ client. posted client.asks ≡ []) clients.items }
-            ensures { IfOk result (λ back. Each HasPlayed clients.items back.items) }
+            ensures { IfOk result (λ back. Each (λ _. HasPlayed) clients.items back.items) }
         { play_all(rt, clients, &ended) },
     );
     Ok((rounds?, clients?))
@@ -67,7 +67,7 @@ fn work_all<T: Threads + Wait + Sync, V: Visited + Send + Drop, G: Gate + Sync>(
 ) -> Result<Vec<Round<V, V::Entry>>, NoMemory>
     requires turns { length turns.now ≤ MAX_SITES }
     requires rounds { All (IsRoundOf turns.now) rounds.items }
-    ensures { IfOk result (λ back. Each IsLaterRound rounds.items back.items) }
+    ensures { IfOk result (λ back. Each (λ _. IsLaterRound) rounds.items back.items) }
 {
     let back = thread::map_vec(
         rt,
@@ -87,7 +87,7 @@ fn play_all<T: Threads + Sync, Q: Send + Drop, A: Send + Drop>(
     ended: &AtomicBool,
 ) -> Result<Vec<Client<Q, A>>, NoMemory>
     requires { All (λ client. posted client.asks ≡ []) clients.items }
-    ensures { IfOk result (λ back. Each HasPlayed clients.items back.items) }
+    ensures { IfOk result (λ back. Each (λ _. HasPlayed) clients.items back.items) }
 {
     let back = thread::map_vec(
         rt,
