@@ -7,3 +7,5 @@ mod desk;
 mod one_turn;
 #[cfg(test)]
 mod tests;
+#[cfg(test)]
+mod watch;

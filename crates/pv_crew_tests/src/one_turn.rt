@@ -11,13 +11,13 @@ use std::alloc::Global;
 
 /// A turn, and the round of its one worker.
 #[derive(Drop)]
-pub struct OneTurn {
-    pub turns: Vec<Turn<Desk>>,
-    pub rounds: Vec<Round<Desk, u64>>,
+pub struct OneTurn<'a> {
+    pub turns: Vec<Turn<Desk<'a>>>,
+    pub rounds: Vec<Round<Desk<'a>, u64>>,
 }
 
 /// The desk in a turn that one worker visits.
-pub fn in_turn(alloc: Global, desk: Desk) -> Result<OneTurn, NoMemory>
+pub fn in_turn<'a>(alloc: Global, desk: Desk<'a>) -> Result<OneTurn<'a>, NoMemory>
     ensures few { IfOk result (λ made. vec_len made.turns ≤ MAX_SITES) }
     ensures rounds { IfOk result (λ made. All (IsRoundOf made.turns.items) made.rounds.items) }
 {

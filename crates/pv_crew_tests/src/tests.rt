@@ -1,6 +1,7 @@
-// What a client asks for and hears: with both ends of its rings on one thread, and by a desk that a worker visits on a thread of its own.
+// What a client asks for and hears: with both ends of its rings on one thread, and by a desk that a worker visits on a thread of its own, between the gate's calls.
 use crate::desk::Desk;
 use crate::one_turn::{OneTurn, in_turn};
+use crate::watch::Watch;
 use pv_crew::*;
 use pv_post::{FaultPlan, pair};
 use std::alloc::{AllocFailed, Global};
@@ -42,8 +43,16 @@ fn a_worker_serves_a_client(rt: HostRuntime) -> Result<(), Fail> {
     let client = Client::new(rt.alloc(), requests(rt.alloc())?, asks, hears)?;
     let mut clients = Vec::new(rt.alloc());
     clients.push(client)?;
-    let OneTurn { turns, rounds } = in_turn(rt.alloc(), Desk { asked, answers })?;
-    let (_, clients) = serve(&rt, &turns, rounds, clients, &IdleGate)?;
+    let watch = Watch::new();
+    let desk = Desk {
+        asked,
+        answers,
+        watch: &watch,
+    };
+    let OneTurn { turns, rounds } = in_turn(rt.alloc(), desk)?;
+    let (_, clients) = serve(&rt, &turns, rounds, clients, &watch)?;
     assert_eq!(rt; clients[0].heard.as_slice(), [2, 6].as_slice());
+    assert!(rt; watch.is_in_order());
+    assert!(rt; watch.visits() >= 2);
     Ok(())
 }
