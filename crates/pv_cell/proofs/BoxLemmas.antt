@@ -12,14 +12,13 @@ use Rattle.pv_history.specs.declared.entry.Taken.{Taken}
 use Rattle.pv_history.specs.declared.entry.TheConstants.{MAX_ENTRIES}
 use Rattle.pv_law_histories.specs.Course.{IsStepAt, left_at, input_of, sent_at, sent_by}
 use Rattle.pv_law_histories.specs.Posting.{kept_by, stamp_with}
-use Rattle.pv_mail.specs.Answers.{asker_of, begun_after_all, told, told_of_all}
+use Rattle.pv_mail.specs.Answers.{asker_of, begun_after_all, told_of_all}
 use Rattle.pv_mail.specs.Given.{IsTakenFor}
 use Rattle.pv_mail.specs.Posting.{PostsAll}
-use Rattle.pv_mail.specs.Telling.{TellsAll, TellsLossTo}
+use Rattle.pv_mail.specs.Telling.{TellsAll, TellsDownTo, TellsLossTo}
 use Rattle.pv_mail.specs.declared.answer.Answer.{Answer}
 use Rattle.pv_mail.specs.declared.asked.Asker.{Asker}
 use Rattle.pv_post.specs.declared.outlet.Out.{Out}
-use Rattle.pv_protocol.specs.Lines.{Line}
 use Rattle.pv_protocol.specs.State.{Input, Outgoing, Running}
 use Rattle.pv_protocol.specs.Step.{step_on}
 use Rattle.pv_site.specs.SiteState.{SiteState, here_with, setup_of}
@@ -41,6 +40,11 @@ use Rattle.pv_cell.specs.declared.visit.Visit.TheVariants.{Took, Idle, Worn, Los
 pub loss-length : (seen : ℕ) (asker : Option Asker) (outs after : List (Out Answer)) → TellsLossTo seen asker outs after → length outs ≡ length after
 loss-length seen None outs after is = ap (λ (all : List (Out Answer)). length all) (sym is)
 loss-length seen (Some asker) outs after tells = tells.0
+
+-- So it is where it is told that its site is down.
+down-length : (me seen : ℕ) (asker : Option Asker) (outs after : List (Out Answer)) → TellsDownTo me seen asker outs after → length outs ≡ length after
+down-length me seen None outs after is = ap (λ (all : List (Out Answer)). length all) (sym is)
+down-length me seen (Some asker) outs after tells = tells.0
 
 module _ {W : Type 0} (M : LogModel W) (old new : SiteBox W) (site : SiteState W) (taken : Taken) (stamp : ℕ) (asker : Option Asker)
     (box : IsBox M old) (ready : IsReady M site) (room : length old.history.items < MAX_ENTRIES)
@@ -248,10 +252,9 @@ module _ {W : Type 0} (M : LogModel W) (old new : SiteBox W) (site : SiteState W
               short = omega arith;
               begun = refl;
               posts = refl;
-              tells = subst (λ (me : ℕ). TellsAll (length new.history.items) (told (asker_of (intake_of taken)) (Line.down me)) old.ends.clients_out.items new.ends.clients_out.items)
-                  box.me
-                  (subst (λ (a : Option Asker). TellsAll (length new.history.items) (told a (Line.down old.me.0)) old.ends.clients_out.items new.ends.clients_out.items) asker_is
-                  (subst (λ (n : ℕ). TellsAll n (told asker (Line.down old.me.0)) old.ends.clients_out.items new.ends.clients_out.items) (sym count) follows.2));
+              tells = subst (λ (me : ℕ). TellsDownTo me (length new.history.items) (asker_of (intake_of taken)) old.ends.clients_out.items new.ends.clients_out.items) box.me
+                  (subst (λ (a : Option Asker). TellsDownTo old.me.0 (length new.history.items) a old.ends.clients_out.items new.ends.clients_out.items) asker_is
+                  (subst (λ (n : ℕ). TellsDownTo old.me.0 n asker old.ends.clients_out.items new.ends.clients_out.items) (sym count) follows.2));
             },
           ),
           record {
@@ -259,7 +262,7 @@ module _ {W : Type 0} (M : LogModel W) (old new : SiteBox W) (site : SiteState W
             stands = subst (λ (n : ℕ). Stands n site) (sym count) (stands-same M (length old.history.items) old.site site box.stands same);
             me = box.me ∙ sym (ap (λ (s : SiteState W). s.me) same);
             down = box.down ∙ sym (ap (λ (s : SiteState W). not (is_some s.running)) same);
-            rings = (box.rings.0 ∙ sites, box.rings.1 ∙ sites, box.rings.2 ∙ follows.2.0, box.rings.3);
+            rings = (box.rings.0 ∙ sites, box.rings.1 ∙ sites, box.rings.2 ∙ down-length _ _ asker _ _ follows.2, box.rings.3);
             entries = grown down_entry follows.1;
             planned = all-planned down_entry refl follows.1 (ap (λ (s : SiteState W). s.me) same) (ap (λ (s : SiteState W). s.catalog) same);
             again = λ arrival is. subst (λ n. IsFromSite n arrival) sites (box.again arrival is);

@@ -10,7 +10,7 @@ use Rattle.pv_mail.specs.Answers.{asker_of, begun_by, told_by}
 use Rattle.pv_mail.specs.Given.{IsTakenFor}
 use Rattle.pv_mail.specs.Looks.{SameInRings}
 use Rattle.pv_mail.specs.Posting.{PostsAll}
-use Rattle.pv_mail.specs.Telling.{TellsAll, TellsLossTo}
+use Rattle.pv_mail.specs.Telling.{TellsAll, TellsDownTo, TellsLossTo}
 use Rattle.pv_mail.specs.declared.answer.Answer.{Answer}
 use Rattle.pv_mail.specs.declared.asked.Asker.{Asker}
 use Rattle.pv_mail.specs.declared.asked.Begun.{Begun}
@@ -36,7 +36,7 @@ Posts me stamp down sends old new = new ≡ old
 abbrev pub TellsOf : (me seen : ℕ) → List Begun → Intake → Came → List (Out Answer) → List (Out Answer) → Type 0
 TellsOf me seen begun intake (done notes) old new = TellsAll seen (told_by me begun intake (done notes)) old new
 TellsOf me seen begun intake fault old new = new ≡ old
-TellsOf me seen begun intake down old new = TellsAll seen (told_by me begun intake down) old new
+TellsOf me seen begun intake down old new = TellsDownTo me seen (asker_of intake) old new
 
 -- What a box keeps of what it took in: its site, its history with the last stamp, what is begun, and what it handed to rings.
 pub record Kept (W : Type 0) : Type 0 where

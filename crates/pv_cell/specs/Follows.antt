@@ -2,11 +2,10 @@
 use Rattle.std.specs.Prelude.{◌≡◌, ℕ, ◌+◌, ◌-◌, ◌≤◌, true, Option, [], ◌∷◌, ◌++◌, length, map, take}
 use Rattle.pv_history.specs.declared.entry.Seen.TheVariants as seen
 use Rattle.pv_history.specs.declared.entry.Taken.{Taken}
-use Rattle.pv_mail.specs.Answers.{begun_after_all, told, told_of_all}
+use Rattle.pv_mail.specs.Answers.{begun_after_all, told_of_all}
 use Rattle.pv_mail.specs.Posting.{PostsAll}
-use Rattle.pv_mail.specs.Telling.{TellsAll, TellsLossTo}
+use Rattle.pv_mail.specs.Telling.{TellsAll, TellsDownTo, TellsLossTo}
 use Rattle.pv_mail.specs.declared.asked.Asker.{Asker}
-use Rattle.pv_protocol.specs.Lines.{Line}
 use Rattle.pv_site.specs.Values.{note_of, outgoing_of}
 use Rattle.pv_site.specs.declared.error.StepError.{StepError}
 use Rattle.pv_site.specs.declared.error.StepError.TheVariants.{Fault, Down, NoMemory}
@@ -43,7 +42,7 @@ module _ {W : Type 0} (old new : SiteBox W) (stamp : ℕ) (taken : Taken) (asker
   FollowsNo Down Took =
       (new ≡ record old { ends = record old.ends { clients_out = new.ends.clients_out }; history = new.history; stamp = stamp })
       × (new.history.items ≡ old.history.items ++ record { stamp = stamp; input = taken; sends = 0; short = 0; seen = seen.Down } ∷ [])
-      × TellsAll (length old.history.items + 1) (told asker (Line.down old.me.0)) old.ends.clients_out.items new.ends.clients_out.items
+      × TellsDownTo old.me.0 (length old.history.items + 1) asker old.ends.clients_out.items new.ends.clients_out.items
   FollowsNo NoMemory Lost =
       (new ≡ record old { ends = record old.ends { clients_out = new.ends.clients_out } })
       × TellsLossTo (length old.history.items) asker old.ends.clients_out.items new.ends.clients_out.items

@@ -1,7 +1,7 @@
 // What the steps of a site tell its clients.
 ghost use Rattle.std.specs.Prelude.{◌≡◌, map};
 ghost use Rattle.pv_mail.specs.Answers.{asker_after, begun_after, begun_after_all, told, told_of, told_of_all, with_begun};
-ghost use Rattle.pv_mail.specs.Telling.{HasRoomFor, TellsAll, TellsLossTo, TellsOne};
+ghost use Rattle.pv_mail.specs.Telling.{HasRoomFor, TellsAll, TellsDownTo, TellsLossTo, TellsOne};
 ghost use Rattle.pv_protocol.specs.Lines as model;
 ghost use Rattle.pv_site.specs.Values.{note_of};
 
@@ -90,7 +90,7 @@ impl Telling {
 
     /// Tells a client that its site is down.
     pub fn down(self, outs: &mut Vec<Out<Answer>>, asker: Option<Asker>)
-        ensures { TellsAll self.seen (told asker (model.Line.down self.site.0)) outs.old.items outs.new.items }
+        ensures { TellsDownTo self.site.0 self.seen asker outs.old.items outs.new.items }
     {
         if let Some(asker) = asker {
             self.tell(outs, asker, What::Line(Line::Down(self.site)));
