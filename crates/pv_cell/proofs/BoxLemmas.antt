@@ -153,7 +153,7 @@ module _ {W : Type 0} (M : LogModel W) (old new : SiteBox W) (site : SiteState W
     ended : Ends new Took
     ended =
         subst (λ (end : SiteBox W). Ends end Took) (sym follows.changed)
-        (((refl, refl, (refl, refl)), enters), kept-box)
+        (((refl, refl, refl, (refl, refl)), enters), kept-box)
 
   followed-by : (step : Step) (running : Option Running) → old.site.running ≡ running → Steps M old.site site running (input_of (intake_of taken)) (Ok step)
       → Follows mid new stamp taken asker step → Ends new Took
@@ -220,7 +220,7 @@ module _ {W : Type 0} (M : LogModel W) (old new : SiteBox W) (site : SiteState W
     faulted : FollowsNo mid new stamp taken asker Fault Took → Ends new Took
     faulted follows =
         subst (λ (end : SiteBox W). Ends end Took) (sym follows.0)
-        (((refl, refl, (refl, refl)), fault-enters follows.1), fault-box follows.1)
+        (((refl, refl, refl, (refl, refl)), fault-enters follows.1), fault-box follows.1)
 
   module _ (none : old.site.running ≡ None) (same : site ≡ old.site) where
     abbrev down_entry : Entry
@@ -237,7 +237,7 @@ module _ {W : Type 0} (M : LogModel W) (old new : SiteBox W) (site : SiteState W
         let count = counted down_entry follows.1 in
         subst (λ (end : SiteBox W). Ends end Took) (sym follows.0) (
           (
-            (refl, refl, (refl, refl)),
+            (refl, refl, refl, (refl, refl)),
             record {
               entry = down_entry;
               answer = Err Down;
@@ -277,7 +277,7 @@ module _ {W : Type 0} (M : LogModel W) (old new : SiteBox W) (site : SiteState W
         let sites : old.site.catalog.sites ≡ site.catalog.sites = sym (ap (λ (s : SiteState W). s.catalog.sites) stays.site) in
         subst (λ (end : SiteBox W). Ends end Lost) (sym follows.0) (
           (
-            (refl, refl, (refl, refl)),
+            (refl, refl, refl, (refl, refl)),
             record {
               changed = refl;
               site = inr stays;

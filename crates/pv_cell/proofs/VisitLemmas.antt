@@ -5,7 +5,7 @@ use Rattle.pv_history.specs.declared.entry.Entry.{Entry}
 use Rattle.pv_history.specs.declared.entry.TheConstants.{MAX_ENTRIES}
 use Rattle.pv_law_histories.specs.History.{Intake, tick}
 use Rattle.pv_mail.specs.Answers.{asker_of}
-use Rattle.pv_mail.specs.Arrivals.{Comes}
+use Rattle.pv_mail.specs.Arrivals.{Comes, NoneBefore, place_of}
 use Rattle.pv_mail.specs.Looks.{SameInRings}
 use Rattle.pv_mail.specs.Telling.{TellsLossTo}
 use Rattle.pv_mail.specs.declared.arrival.Arrival.{Arrival}
@@ -80,7 +80,7 @@ module _ {W : Type 0} (M : LogModel W) where
       (changed : new ≡ record old { ends = record old.ends { clients_out = new.ends.clients_out } })
       (tells : TellsLossTo (length old.history.items) asker old.ends.clients_out.items new.ends.clients_out.items) where
     pub loss-leaves : LeavesTaken old new
-    loss-leaves = subst (λ (end : SiteBox W). LeavesTaken old end) (sym changed) (refl, refl, (refl, refl))
+    loss-leaves = subst (λ (end : SiteBox W). LeavesTaken old end) (sym changed) (refl, refl, refl, (refl, refl))
 
     pub loss-loses : Loses M (kept_of old) (kept_of new) asker
     loss-loses = record {
@@ -104,8 +104,8 @@ module _ {W : Type 0} (M : LogModel W) where
 
   -- ## Ticks
   pub tick-takes : (old new : SiteBox W) (visit : Visit) → (IsWorn old → ⊥) → TakesIn M (record old { idle = 0 }) new tick visit → TakesTick M old new visit
-  tick-takes old new Took not_worn takes = (not_worn, (takes.0.0, takes.0.2), takes.1, takes.0.1)
-  tick-takes old new Lost not_worn takes = (not_worn, (takes.0.0, takes.0.2), takes.1, takes.0.1)
+  tick-takes old new Took not_worn takes = (not_worn, (takes.0.0, takes.0.2, takes.0.3), takes.1, takes.0.1)
+  tick-takes old new Lost not_worn takes = (not_worn, (takes.0.0, takes.0.2, takes.0.3), takes.1, takes.0.1)
   tick-takes old new Idle not_worn takes = absurd takes
   tick-takes old new Worn not_worn takes = absurd takes
   tick-takes old new Stray not_worn takes = absurd takes
@@ -126,9 +126,21 @@ module _ {W : Type 0} (M : LogModel W) where
       subst (λ (ends : Ends). Comes old ends (arrival.Parcel from parcel) count)
       (λ i. record { sites_in = sym same.0 i; sites_out = mid.sites_out; clients_in = sym same.1 i; clients_out = mid.clients_out }) comes
 
-  next-same : (old mid new : SiteBox W) (came : Arrival) (count : ℕ) → SameInRings mid.ends new.ends → IsNext old mid came count → IsNext old new came count
-  next-same old mid new came count same (inl left) = inl (left.0, left.1, (same.0 ∙ left.2.0, same.1 ∙ left.2.1))
-  next-same old mid new came count same (inr comes) = inr (comes.0, comes-same old.ends mid.ends new.ends came count same comes.1)
+  turn-same : (first place : ℕ) (old mid new : Ends) → SameInRings mid new → NoneBefore first place old mid → NoneBefore first place old new
+  turn-same first place old mid new same turn =
+      subst (λ (ends : Ends). NoneBefore first place old ends)
+      (λ i. record { sites_in = sym same.0 i; sites_out = mid.sites_out; clients_in = sym same.1 i; clients_out = mid.clients_out }) turn
+
+  next-same : (old mid new : SiteBox W) (came : Arrival) (count : ℕ) → new.next ≡ mid.next → SameInRings mid.ends new.ends → IsNext old mid came count
+      → IsNext old new came count
+  next-same old mid new came count next same (inl left) = inl (left.0, left.1, next ∙ left.2, (same.0 ∙ left.3.0, same.1 ∙ left.3.1))
+  next-same old mid new came count next same (inr comes) =
+      inr (
+        comes.0,
+        comes-same old.ends mid.ends new.ends came count same comes.1,
+        turn-same old.next (place_of (length old.ends.sites_in.items) came) old.ends mid.ends new.ends same comes.2,
+        next ∙ comes.3,
+      )
 
   module _ (old mid new : SiteBox W) (came : Arrival) (count : ℕ) (not_worn : IsWorn old → ⊥) (not_due : IsTickDue old → ⊥)
       (changed : mid ≡ record old {
@@ -137,7 +149,7 @@ module _ {W : Type 0} (M : LogModel W) where
         next = mid.next;
       })
       (next : IsNext old mid came count) (again : new.again ≡ (if count == 2 then Some came else mid.again))
-      (same : (new.idle ≡ 0) × SameInRings mid.ends new.ends) where
+      (same : (new.idle ≡ 0) × (new.next ≡ mid.next) × SameInRings mid.ends new.ends) where
     arrived : (visit : Visit) → TakesArrival M old new came visit
         → (IsWorn old → ⊥) × ((IsTickDue old × TakesTick M old new visit)
         ⊎ ((IsTickDue old → ⊥) × (new.idle ≡ 0) × ((it : Arrival) × Arrives old new it × TakesArrival M old new it visit)))
@@ -150,7 +162,7 @@ module _ {W : Type 0} (M : LogModel W) where
           came,
           (
             count,
-            next-same old mid new came count same.1 next,
+            next-same old mid new came count same.1 same.2 next,
             again ∙ ap (λ (left : Option Arrival). if count == 2 then Some came else left) (ap (λ (box : SiteBox W). box.again) changed),
           ),
           takes,

@@ -57,9 +57,9 @@ kept_of box = record {
   clients_out = box.ends.clients_out.items;
 }
 
--- What is left to take, the visits that found nothing and the rings in are as they were.
+-- What is left to take, the visits that found nothing, the ring that is asked first and the rings in are as they were.
 abbrev pub LeavesTaken : {W : Type 0} → SiteBox W → SiteBox W → Type 0
-LeavesTaken old new = (new.again ≡ old.again) × (new.idle ≡ old.idle) × SameInRings old.ends new.ends
+LeavesTaken old new = (new.again ≡ old.again) × (new.idle ≡ old.idle) × (new.next ≡ old.next) × SameInRings old.ends new.ends
 
 module _ {W : Type 0} (M : LogModel W) where
   -- The history has one more entry, of what the site made of this intake, with what was posted and heard of it.

@@ -1,9 +1,9 @@
 -- What a visit does, by its answer.
-use Rattle.std.specs.Prelude.{◌≡◌, ◌⊎◌, ℕ, ◌+◌, ◌==◌, min, Some, None, if◌then◌else◌}
+use Rattle.std.specs.Prelude.{◌≡◌, ◌⊎◌, ℕ, ◌+◌, ◌==◌, min, Some, None, if◌then◌else◌, length}
 use Rattle.pv_disk_model.specs.LogModel.{LogModel}
 use Rattle.pv_law_histories.specs.History.{Intake, tick}
 use Rattle.pv_mail.specs.Arrivals as arrivals
-use Rattle.pv_mail.specs.Arrivals.{Comes, IsIntakeOf, IsStray}
+use Rattle.pv_mail.specs.Arrivals.{Comes, IsIntakeOf, IsStray, NoneBefore, place_behind, place_of}
 use Rattle.pv_mail.specs.Looks.{AllFoundEmpty, SameInRings}
 use Rattle.pv_mail.specs.declared.arrival.Arrival.{Arrival}
 use Rattle.pv_cell.specs.Box.{IsTickDue, IsWorn, me_of}
@@ -14,10 +14,14 @@ use Rattle.pv_cell.specs.declared.visit.Visit.{Visit}
 use Rattle.pv_cell.specs.declared.visit.Visit.TheVariants.{Took, Idle, Worn, Lost, Stray}
 
 module _ {W : Type 0} where
-  -- What is taken next, and how often it counts: it is left from the visit before; or nothing is left, and a ring gives it.
+  -- What is taken next, and how often it counts: it is left from the visit before; or nothing is left, and a ring gives it, where those before it in turn gave
+  -- nothing, and the next one is asked first then.
   abbrev pub IsNext : SiteBox W → SiteBox W → Arrival → ℕ → Type 0
   IsNext old new arrival count =
-      ((old.again ≡ Some arrival) × (count ≡ 1) × SameInRings old.ends new.ends) ⊎ ((old.again ≡ None) × Comes old.ends new.ends arrival count)
+      ((old.again ≡ Some arrival) × (count ≡ 1) × (new.next ≡ old.next) × SameInRings old.ends new.ends)
+      ⊎ ((old.again ≡ None) × Comes old.ends new.ends arrival count
+      × NoneBefore old.next (place_of (length old.ends.sites_in.items) arrival) old.ends new.ends
+      × (new.next ≡ place_behind (length old.ends.sites_in.items) arrival))
 
   -- It is taken, and left where it counts twice.
   abbrev pub Arrives : SiteBox W → SiteBox W → Arrival → Type 0
@@ -25,12 +29,13 @@ module _ {W : Type 0} where
 
   -- A tick comes from no ring.
   abbrev pub Ticks : SiteBox W → SiteBox W → Type 0
-  Ticks old new = (new.again ≡ old.again) × SameInRings old.ends new.ends
+  Ticks old new = (new.again ≡ old.again) × (new.next ≡ old.next) × SameInRings old.ends new.ends
 
   -- A visit finds nothing.
   pub record FindsNothing (old new : SiteBox W) : Type 0 where
     pub none_left : (old.again ≡ None) × (new.again ≡ None)
     pub rings : AllFoundEmpty old.ends new.ends
+    pub next : new.next ≡ old.next
     pub kept : kept_of new ≡ kept_of old
     pub idle : new.idle ≡ min (old.idle + 1) IDLE_VISITS
 

@@ -55,8 +55,8 @@ pub struct SiteBox<L: Log> {
     pub(crate) begun: Vec<Begun>,
     /// What was taken at the last visit and counts once more.
     pub(crate) again: Option<Arrival>,
-    /// The ring that is looked at first.
-    next: usize,
+    /// The place of the ring that is asked first.
+    pub(crate) next: usize,
     /// How many visits in a row have found nothing, at most so many as make a tick due.
     pub(crate) idle: u32,
 }
@@ -79,7 +79,7 @@ impl<L: Log> SiteBox<L> {
         requires fresh { AreFresh ends }
         ensures is_box { IfOk result (IsBox L.model) }
         ensures holds { IfOk result (λ new. (new.site ≡ site) × (new.ends ≡ ends)) }
-        ensures empty { IfOk result (λ new. (new.history.items ≡ []) × (new.stamp ≡ 0) × (new.begun.items ≡ []) × (new.again ≡ None) × (new.idle ≡ 0)) }
+        ensures empty { IfOk result (λ new. (new.history.items ≡ []) × (new.stamp ≡ 0) × (new.begun.items ≡ []) × (new.again ≡ None) × (new.idle ≡ 0) × (new.next ≡ 0)) }
     {
         let begun = Vec::with_capacity(alloc, ends.clients_in.len())?;
         Ok(SiteBox {
@@ -195,7 +195,7 @@ impl<L: Log> SiteBox<L> {
           next = self.new.next;
         } }
         ensures some { IfSome result (λ it. IsNext self.old self.new it.0 it.1 × IsFromSite self.old.site.catalog.sites it.0) }
-        ensures none { IfNone result ((self.old.again ≡ None) × AllFoundEmpty self.old.ends self.new.ends) }
+        ensures none { IfNone result ((self.old.again ≡ None) × (self.new.next ≡ self.old.next) × AllFoundEmpty self.old.ends self.new.ends) }
         ensures is_box { IsBox L.model self.new }
     {
         if let Some(arrival) = self.again.take() {
@@ -222,7 +222,7 @@ impl<L: Log> SiteBox<L> {
         requires from { IsFromSite self.old.site.catalog.sites arrival }
         ensures takes { TakesArrival L.model self.old self.new arrival result }
         ensures again { self.new.again ≡ (if count == 2 then Some arrival else self.old.again) }
-        ensures same { (self.new.idle ≡ self.old.idle) × SameInRings self.old.ends self.new.ends }
+        ensures same { (self.new.idle ≡ self.old.idle) × (self.new.next ≡ self.old.next) × SameInRings self.old.ends self.new.ends }
         ensures is_box { IsBox L.model self.new }
     {
         match arrival {
@@ -238,7 +238,7 @@ impl<L: Log> SiteBox<L> {
         requires from { from.0 < self.old.site.catalog.sites }
         ensures takes { TakesArrival L.model self.old self.new (arrival.Parcel from parcel) result }
         ensures again { self.new.again ≡ (if count == 2 then Some (arrival.Parcel from parcel) else self.old.again) }
-        ensures same { (self.new.idle ≡ self.old.idle) × SameInRings self.old.ends self.new.ends }
+        ensures same { (self.new.idle ≡ self.old.idle) × (self.new.next ≡ self.old.next) × SameInRings self.old.ends self.new.ends }
         ensures is_box { IsBox L.model self.new }
     {
         let visit = self.take_bytes(from, &parcel);
@@ -282,7 +282,7 @@ impl<L: Log> SiteBox<L> {
         requires not_worn { IsWorn self.old → ⊥ }
         ensures takes { TakesArrival L.model self.old self.new (arrival.Request client request) result }
         ensures again { self.new.again ≡ (if count == 2 then Some (arrival.Request client request) else self.old.again) }
-        ensures same { (self.new.idle ≡ self.old.idle) × SameInRings self.old.ends self.new.ends }
+        ensures same { (self.new.idle ≡ self.old.idle) × (self.new.next ≡ self.old.next) × SameInRings self.old.ends self.new.ends }
         ensures is_box { IsBox L.model self.new }
     {
         if count != 2 {

@@ -1,5 +1,5 @@
 -- What comes from a ring, and what is passed over.
-use Rattle.std.specs.Prelude.{◌≡◌, ◌⊎◌, ℕ, ◌+◌, ◌-◌, ◌<◌, ◌^◌, Option, Some, None, length}
+use Rattle.std.specs.Prelude.{◌≡◌, ◌⊎◌, ℕ, ◌+◌, ◌-◌, ◌<◌, ◌≤◌, ◌^◌, Option, Some, None, length}
 use Rattle.pv_base.specs.Catalog.{Declared}
 use Rattle.pv_format.specs.Message.{Message}
 use Rattle.pv_format.specs.MessageSpelling.{SpellsEnvelope}
@@ -8,7 +8,7 @@ use Rattle.pv_law_histories.specs.History.{Intake}
 use Rattle.pv_model.specs.Plan.{plan_of}
 use Rattle.pv_protocol.specs.WellFormed.{CanRun}
 use Rattle.pv_script.specs.LiveView.{request_of}
-use Rattle.pv_rings.specs.Rings.{Each, GivesOne, Rests}
+use Rattle.pv_rings.specs.Rings.{AreFoundEmpty, Each, GivesOne, IsFirst, IsFoundEmpty, Rests}
 use Rattle.pv_mail.specs.declared.arrival.Arrival.{Arrival}
 use Rattle.pv_mail.specs.declared.arrival.Arrival.TheVariants as arrival
 use Rattle.pv_mail.specs.declared.asked.Asker.{Asker}
@@ -24,10 +24,31 @@ abbrev pub IsOfRing : Ends → Arrival → Type 0
 IsOfRing ends (arrival.Request client request) = client < length ends.clients_in.items
 IsOfRing ends (arrival.Parcel from parcel) = from.0 < length ends.sites_in.items
 
--- the place behind the ring that gave it, among all in turn: those of so many sites, and then those of clients
+-- the place of the ring that gave it, among all in turn: those of so many sites, and then those of clients
+abbrev pub place_of : ℕ → Arrival → ℕ
+place_of sites (arrival.Request client request) = sites + client
+place_of sites (arrival.Parcel from parcel) = from.0
+
+-- the place behind it
 abbrev pub place_behind : ℕ → Arrival → ℕ
-place_behind sites (arrival.Request client request) = sites + client + 1
-place_behind sites (arrival.Parcel from parcel) = from.0 + 1
+place_behind sites came = place_of sites came + 1
+
+-- A place comes before another one in turn: all come, from a first one on to the last, and then those before the first.
+abbrev pub IsBefore : (first place other : ℕ) → Type 0
+IsBefore first place other = ((first ≤ place) × (place < other)) ⊎ ((other < first) × ((first ≤ place) ⊎ (place < other)))
+
+-- Each ring whose place comes before this one in turn gave nothing.
+abbrev pub NoneBefore : (first place : ℕ) → Ends → Ends → Type 0
+NoneBefore first place old new =
+    Each (λ k one other. IsBefore first k place → IsFoundEmpty one other) old.sites_in.items new.sites_in.items
+    × Each (λ k one other. IsBefore first (length old.sites_in.items + k) place → IsFoundEmpty one other) old.clients_in.items new.clients_in.items
+
+-- The ring that gave it is the first one of these of sites, and then of these of clients.
+abbrev pub IsFirstOf : (site site_end client client_end : ℕ) → Arrival → Ends → Ends → Type 0
+IsFirstOf site site_end client client_end (arrival.Request from request) old new =
+    AreFoundEmpty site site_end old.sites_in.items new.sites_in.items × IsFirst client client_end from old.clients_in.items new.clients_in.items
+IsFirstOf site site_end client client_end (arrival.Parcel from parcel) old new =
+    IsFirst site site_end from.0 old.sites_in.items new.sites_in.items × (new.clients_in.items ≡ old.clients_in.items)
 
 -- A ring gave this, which counts so often, and no other ring gave anything.
 abbrev pub Comes : Ends → Ends → Arrival → ℕ → Type 0

@@ -1,6 +1,6 @@
 // What comes from the rings into a box.
 ghost use Rattle.std.specs.Prelude.{◌≡◌, ◌<◌, ◌≤◌, ◌^◌, length, IfSome, IfNone, IfOk};
-ghost use Rattle.pv_mail.specs.Arrivals.{Comes, place_behind};
+ghost use Rattle.pv_mail.specs.Arrivals.{Comes, IsFirstOf, NoneBefore, place_behind, place_of};
 ghost use Rattle.pv_mail.specs.Looks.{AllFoundEmpty, SameOutRings};
 ghost use Rattle.pv_rings.specs.Rings.{AreFoundEmpty};
 ghost use Rattle.pv_script.specs.LiveView.{request_of};
@@ -37,6 +37,7 @@ impl Ends {
     pub fn take_next(&mut self, next: &mut usize) -> Option<(Arrival, u8)>
         requires few { (length self.old.sites_in.items ≤ 2 ^ 8) × (length self.old.clients_in.items < 2 ^ 32) }
         ensures some { IfSome result (λ it. Comes self.old self.new it.0 it.1) }
+        ensures turn { IfSome result (λ it. NoneBefore next.old (place_of (length self.old.sites_in.items) it.0) self.old self.new) }
         ensures none { IfNone result (AllFoundEmpty self.old self.new) }
         ensures next { IfSome result (λ it. next.new ≡ place_behind (length self.old.sites_in.items) it.0) }
         ensures rest { IfNone result (next.new ≡ next.old) }
@@ -60,6 +61,7 @@ impl Ends {
         requires clients { (clients.start ≤ clients.end) × (clients.end ≤ length self.old.clients_in.items) }
         requires few { (length self.old.sites_in.items ≤ 2 ^ 8) × (length self.old.clients_in.items < 2 ^ 32) }
         ensures some { IfSome result (λ it. Comes self.old self.new it.0 it.1) }
+        ensures turn { IfSome result (λ it. IsFirstOf sites.start sites.end clients.start clients.end it.0 self.old self.new) }
         ensures no_site { IfNone result (AreFoundEmpty sites.start sites.end self.old.sites_in.items self.new.sites_in.items) }
         ensures no_client { IfNone result (AreFoundEmpty clients.start clients.end self.old.clients_in.items self.new.clients_in.items) }
         ensures out { SameOutRings self.old self.new }
