@@ -111,6 +111,13 @@ static void add_get(site_keys *keys, const char *key) {
     text_print(&keys->request, "}}");
 }
 
+/* The same without what the key has, which may be long: whether it is there, and since when. */
+static void add_look(site_keys *keys, const char *key) {
+    text_print(&keys->request, "{\"request_range\":");
+    add_key(keys, key);
+    text_print(&keys->request, ",\"keys_only\":true}}");
+}
+
 /* Sends what was begun until there is an answer, from one member after another, as long as patience lasts. Each request here may be sent more than once. */
 static bool ask(site_keys *keys, const char *path, etcd_answer *answer) {
     int64_t end = client_now() + keys->patience, left = keys->patience;
@@ -175,7 +182,7 @@ static polydb_host_cause take_site(site_keys *keys, polydb_host_found *found, po
     }
     for (int taking = 0; taking < MOST_TAKINGS; taking++) {
         const etcd_pair *there = answer_pair(&answer, key);
-        if (there != NULL && has_value(there, keys->owner, strlen(keys->owner))) { /* an earlier sending was done */
+        if (keys->number > 0 && has_value(there, keys->owner, strlen(keys->owner))) { /* an earlier sending was done */
             found->owner = keys->number;
             answer_free(&answer);
             return POLYDB_HOST_DONE;
@@ -205,19 +212,37 @@ static polydb_host_cause take_site(site_keys *keys, polydb_host_found *found, po
     return refuse(error, POLYDB_HOST_BUSY, "take the site in etcd", "");
 }
 
+static polydb_host_cause refuse_write(uint64_t number, const char *what, polydb_host_error *error) {
+    char words[100];
+    snprintf(words, sizeof words, "write %" PRIu64 " of the journal %s", number, what);
+    return refuse(error, POLYDB_HOST_LOST, words, "");
+}
+
+/* Whether the site is this process's, and its journal as long as it knows: by what these keys have another process may have it, or the store has lost what it had acknowledged. */
+static polydb_host_cause look_whose(const site_keys *keys, const etcd_answer *answer, const char *owner, const char *last, polydb_host_error *error) {
+    const etcd_pair *there = answer_pair(answer, owner), *before = answer_pair(answer, last);
+    if (!has_value(there, keys->owner, strlen(keys->owner))) {
+        return refuse_replaced(there, error);
+    }
+    bool is_there = before != NULL && before->revision == keys->last_revision;
+    return is_there ? POLYDB_HOST_DONE : refuse_write(keys->next - 1, "was acknowledged, and is gone", error);
+}
+
 static polydb_host_cause etcd_confirm(polydb_store *store, polydb_host_error *error) {
     site_keys *keys = keys_of(store);
-    char key[KEY_ROOM];
+    char owner[KEY_ROOM], last[KEY_ROOM];
     etcd_answer answer;
-    name_key(keys, key, "owner");
-    begin(keys, "");
-    add_key(keys, key);
-    text_print(&keys->request, "}");
-    if (!ask(keys, "/v3/kv/range", &answer)) {
+    name_key(keys, owner, "owner");
+    name_write(keys, last, keys->next - 1);
+    begin(keys, "{\"success\":[");
+    add_get(keys, owner);
+    text_print(&keys->request, ",");
+    add_look(keys, last);
+    text_print(&keys->request, "]}");
+    if (!ask(keys, "/v3/kv/txn", &answer)) {
         return refuse_store(keys, error);
     }
-    const etcd_pair *owner = answer_pair(&answer, key);
-    polydb_host_cause cause = has_value(owner, keys->owner, strlen(keys->owner)) ? POLYDB_HOST_DONE : refuse_replaced(owner, error);
+    polydb_host_cause cause = look_whose(keys, &answer, owner, last, error);
     answer_free(&answer);
     return cause;
 }
@@ -292,12 +317,6 @@ static void ask_for_writes(site_keys *keys, uint64_t from, unsigned most) {
     text_print(&keys->request, ",");
     add_bytes(&keys->request, "range_end", end, strlen(end));
     text_print(&keys->request, ",\"limit\":\"%u\"}", most);
-}
-
-static polydb_host_cause refuse_write(uint64_t number, const char *what, polydb_host_error *error) {
-    char words[100];
-    snprintf(words, sizeof words, "write %" PRIu64 " of the journal %s", number, what);
-    return refuse(error, POLYDB_HOST_LOST, words, "");
 }
 
 /* Reads all writes, in their order, a page at a time. None may be missing. */
@@ -521,12 +540,10 @@ static polydb_host_cause go_on(site_keys *keys, uint64_t revision) {
 
 /* What a refused write means, by what its keys have: an earlier sending of it was done, another process has the site, or the store has lost what it had acknowledged. */
 static polydb_host_cause judge(site_keys *keys, const etcd_answer *answer, const char *owner, const char *last, const char *next, polydb_host_error *error) {
-    const etcd_pair *there = answer_pair(answer, owner), *before = answer_pair(answer, last), *written = answer_pair(answer, next);
-    if (!has_value(there, keys->owner, strlen(keys->owner))) {
-        return refuse_replaced(there, error);
-    }
-    if (before == NULL || before->revision != keys->last_revision) {
-        return refuse_write(keys->next - 1, "was acknowledged, and is gone", error);
+    const etcd_pair *written = answer_pair(answer, next);
+    polydb_host_cause cause = look_whose(keys, answer, owner, last, error);
+    if (cause != POLYDB_HOST_DONE) {
+        return cause;
     }
     if (written == NULL || !has_value(written, keys->value.bytes, keys->value.length)) {
         return refuse_write(keys->next, "is another one than this process has made", error);
@@ -553,7 +570,7 @@ static polydb_host_cause etcd_write(polydb_store *store, const store_write *writ
     text_print(&keys->request, "],\"failure\":[");
     add_get(keys, owner);
     text_print(&keys->request, ",");
-    add_get(keys, last);
+    add_look(keys, last);
     text_print(&keys->request, ",");
     add_get(keys, next);
     text_print(&keys->request, "]}");

@@ -361,8 +361,8 @@ polydb_host_cause polydb_host_settle(polydb_host *host, polydb_host_error *error
         polydb_host_error later;
         bool any;
         polydb_host_cause written = write_all(host, error);
-        if (written == POLYDB_HOST_REPLACED || written == POLYDB_HOST_STORE) {
-            return written; /* nothing can be let out of one that isn't to be asked whose the site is */
+        if (written == POLYDB_HOST_REPLACED || written == POLYDB_HOST_STORE || written == POLYDB_HOST_LOST) {
+            return written; /* nothing can be let out of one that isn't to be asked whose the site is, or has lost what that rests on */
         }
         polydb_host_cause handed = let_out(host, &any, written == POLYDB_HOST_DONE ? error : &later);
         if (written != POLYDB_HOST_DONE) {

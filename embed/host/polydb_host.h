@@ -56,7 +56,7 @@ typedef enum {
     POLYDB_HOST_OTHER_CONFIG = 4,
     /* The journal has records, and nothing says of which site and configuration. `adopts` takes it. */
     POLYDB_HOST_UNNAMED = 5,
-    /* The site was opened before, and its journal isn't there, or has no byte. */
+    /* The site was opened before, and its journal isn't there, or has no byte. Of a store: a write that it had acknowledged isn't there. */
     POLYDB_HOST_LOST = 6,
     /* The file that says which site it is can't be read as such. */
     POLYDB_HOST_DAMAGED = 7,
@@ -151,8 +151,8 @@ polydb_host_cause polydb_host_settle(polydb_host *host, polydb_host_error *error
 polydb_host_cause polydb_host_read(polydb_host *host, const uint8_t *name, size_t name_length, const char **line, size_t *length, polydb_host_error *error);
 
 /*
- * Whether the site is still this process's, as its store says now: POLYDB_HOST_DONE, or POLYDB_HOST_REPLACED. Nobody has to ask, as nothing is let out or shown without it; but
- * a site in which nothing happens hears of it late. Of a folder it always is.
+ * Whether the site is still this process's, as its store says now: POLYDB_HOST_DONE, or POLYDB_HOST_REPLACED; or POLYDB_HOST_LOST, where the store was set back. Nobody has to ask, as nothing is
+ * let out or shown without it; but a site in which nothing happens hears of it late. Of a folder it always is.
  */
 polydb_host_cause polydb_host_confirm(polydb_host *host, polydb_host_error *error);
 

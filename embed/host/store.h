@@ -24,7 +24,7 @@ typedef struct {
     /* Makes these writes, one after another. With the answer POLYDB_HOST_DONE all are there for good. With another one the same are asked for again, before any other. */
     polydb_host_cause (*write)(polydb_store *store, const store_write *writes, size_t count, polydb_host_error *error);
 
-    /* Whether no other process has taken the site, by now. Null where none can while this one is there. */
+    /* Whether no other process has taken the site, by now, and the journal has the last write. Null where that is so while this one is there. */
     polydb_host_cause (*confirm)(polydb_store *store, polydb_host_error *error);
 
     /* How full the place is. Null where that isn't known. */
