@@ -26,14 +26,14 @@ enum {
     KEY_ROOM = 160,
     OWNER_ROOM = 160,
     TOKEN = 16,                 /* random bytes that tell an owner from all others */
-    ATTEMPT = 1000, LEAST = 50, /* milliseconds that one member has for an answer; with fewer left none is asked again */
+    ATTEMPT = 1000, LEAST = 50, /* milliseconds that one member has for an answer, and later twice what has gone; with fewer left none is asked again */
     PAUSE = 20,                 /* milliseconds until the next one is asked */
     FIRST_PATIENCE = 3000,      /* that a call has, if nothing is said */
     WRITE_HEAD = 8,             /* bytes before the pieces of a write: the number of the opening that has made it */
     PIECE_HEAD = 12,            /* bytes before a piece: its place and its length */
     MOST_WRITE = 1 << 20,       /* bytes: etcd takes 1.5 MiB a request, if nothing else is set */
     MOST_TAKINGS = 20,          /* times that another process may come before when the site is taken */
-    LEAST_PAGE = 16, MOST_PAGE = 256, /* keys that are read at once: at first, and where a longer answer didn't come; and at most */
+    FIRST_PAGE = 16, MOST_PAGE = 256, /* keys that are read at once: at first, and where a longer answer didn't come, down to one; and at most */
     LONG_PAGE = 1 << 20         /* bytes of an answer from which on fewer keys are asked for */
 };
 static const uint64_t DEFAULT_LIMIT = (uint64_t)2 << 30; /* etcd's own, where nothing is set */
@@ -120,9 +120,11 @@ static void add_look(site_keys *keys, const char *key) {
 
 /* Sends what was begun until there is an answer, from one member after another, as long as patience lasts. Each request here may be sent more than once. */
 static bool ask(site_keys *keys, const char *path, etcd_answer *answer) {
-    int64_t end = client_now() + keys->patience, left = keys->patience;
-    while (!client_ask(&keys->client, path, &keys->request, left < ATTEMPT ? left : ATTEMPT, answer)) {
-        left = end - client_now() - PAUSE;
+    int64_t begun = client_now(), left = keys->patience, most = ATTEMPT;
+    while (!client_ask(&keys->client, path, &keys->request, left < most ? left : most, answer)) {
+        int64_t gone = client_now() - begun + PAUSE;
+        left = keys->patience - gone;
+        most = 2 * gone > ATTEMPT ? 2 * gone : ATTEMPT;
         if (left < LEAST) {
             return false;
         }
@@ -283,7 +285,9 @@ static bool overlay(image *to, uint64_t place, const uint8_t *bytes, size_t leng
         to->bytes = larger;
         to->room = 2 * end;
     }
-    memcpy(to->bytes + place, bytes, length);
+    if (length > 0) {
+        memcpy(to->bytes + place, bytes, length);
+    }
     if (end > to->length) {
         to->length = end;
     }
@@ -321,16 +325,16 @@ static void ask_for_writes(site_keys *keys, uint64_t from, unsigned most) {
 
 /* Reads all writes, in their order, a page at a time. None may be missing. */
 static polydb_host_cause read_writes(site_keys *keys, image *to, polydb_host_error *error) {
-    unsigned page = LEAST_PAGE;
+    unsigned page = FIRST_PAGE;
     keys->next = 0;
     for (bool more = true; more;) {
         etcd_answer answer;
         ask_for_writes(keys, keys->next, page);
         if (!ask(keys, "/v3/kv/range", &answer)) {
-            if (page <= LEAST_PAGE) {
+            if (page == 1) {
                 return refuse_store(keys, error);
             }
-            page = LEAST_PAGE;
+            page = page > FIRST_PAGE ? FIRST_PAGE : 1;
             continue;
         }
         for (size_t i = 0; i < answer.count; i++, keys->next++) {
@@ -345,20 +349,22 @@ static polydb_host_cause read_writes(site_keys *keys, image *to, polydb_host_err
         }
         more = answer.more && answer.count > 0;
         if (keys->client.in.length > LONG_PAGE) {
-            page = page > LEAST_PAGE ? page / 2 : LEAST_PAGE;
+            page = page > 1 ? page / 2 : 1;
         } else if (page < MOST_PAGE) {
             page *= 2;
         }
         answer_free(&answer);
     }
-    return keys->next > 0 ? POLYDB_HOST_DONE : refuse_write(0, "is missing", error);
+    return to->length > 0 ? POLYDB_HOST_DONE : refuse_write(0, keys->next > 0 ? "can't be read" : "is missing", error);
 }
 
 static ssize_t read_image(const void *from, uint8_t *bytes, size_t length, uint64_t place) {
     const image *whole = from;
     size_t count = place >= whole->length ? 0 : whole->length - (size_t)place;
     count = count < length ? count : length;
-    memcpy(bytes, whole->bytes + (count > 0 ? place : 0), count);
+    if (count > 0) {
+        memcpy(bytes, whole->bytes + place, count);
+    }
     return (ssize_t)count;
 }
 
@@ -374,30 +380,35 @@ static polydb_host_cause look_for_records(site_keys *keys, polydb_host_error *er
     return any ? refuse(error, POLYDB_HOST_THERE, "make the site in etcd", "") : POLYDB_HOST_DONE;
 }
 
-/* Compares the site, its configuration and the cluster with what stands beside the journal, if it is there. */
+/* Compares the site, its configuration and the cluster with what stands beside the journal, if it is there. A journal beside which nothing stands is adopted, or refused. */
 static polydb_host_cause compare(site_keys *keys, const polydb_host_setup *setup, polydb_host_error *error) {
-    char id[KEY_ROOM], cluster[KEY_ROOM], number[24];
+    char id[KEY_ROOM], cluster[KEY_ROOM], first[KEY_ROOM], number[24];
     etcd_answer answer;
     name_key(keys, id, "id");
     name_key(keys, cluster, "cluster");
+    name_write(keys, first, 0);
     begin(keys, "{\"success\":[");
     add_get(keys, id);
     text_print(&keys->request, ",");
     add_get(keys, cluster);
+    text_print(&keys->request, ",");
+    add_look(keys, first);
     text_print(&keys->request, "]}");
     if (!ask(keys, "/v3/kv/txn", &answer)) {
         return refuse_store(keys, error);
     }
     const etcd_pair *there = answer_pair(&answer, id), *of = answer_pair(&answer, cluster);
     polydb_host_cause cause = POLYDB_HOST_DONE;
+    keys->is_made = there != NULL || answer_pair(&answer, first) != NULL;
+    snprintf(number, sizeof number, "%" PRIu64, keys->client.cluster);
     if (there != NULL) {
         cause = compare_identity((const uint8_t *)there->value, there->value_length, keys->site, setup->config, setup->config_length, id, error);
+    } else if (keys->is_made && !setup->adopts) {
+        cause = refuse(error, POLYDB_HOST_UNNAMED, id, "");
     }
-    snprintf(number, sizeof number, "%" PRIu64, keys->client.cluster);
-    if (cause == POLYDB_HOST_DONE && there != NULL && !setup->adopts && !has_value(of, number, strlen(number))) {
+    if (cause == POLYDB_HOST_DONE && keys->is_made && !setup->adopts && !has_value(of, number, strlen(number))) {
         cause = refuse(error, POLYDB_HOST_OTHER_STORE, cluster, "");
     }
-    keys->is_made = there != NULL;
     answer_free(&answer);
     return cause;
 }
@@ -502,18 +513,27 @@ static polydb_host_cause make_site(site_keys *keys, const polydb_host_setup *set
     return is_ours ? POLYDB_HOST_DONE : refuse(error, POLYDB_HOST_BUSY, "make the site in etcd", "");
 }
 
-/* Says that the site belongs to this cluster from now on, where an opening has taken it out of another one. */
-static polydb_host_cause put_cluster(site_keys *keys, polydb_host_error *error) {
-    char cluster[KEY_ROOM], owner[KEY_ROOM], number[24];
+/* Says whose the site is, and that it belongs to this cluster from now on, where an opening has adopted it. */
+static polydb_host_cause put_adopted(site_keys *keys, const polydb_host_setup *setup, polydb_host_error *error) {
+    char id[KEY_ROOM], cluster[KEY_ROOM], owner[KEY_ROOM], number[24];
+    size_t length;
     etcd_answer answer;
+    uint8_t *identity = spell_identity(keys->site, setup->config, setup->config_length, &length);
+    if (identity == NULL) {
+        return refuse(error, POLYDB_HOST_NO_MEMORY, "adopt the site in etcd", "");
+    }
+    name_key(keys, id, "id");
     name_key(keys, cluster, "cluster");
     name_key(keys, owner, "owner");
     snprintf(number, sizeof number, "%" PRIu64, keys->client.cluster);
     begin(keys, "{\"compare\":[");
     add_is_value(keys, owner, keys->owner);
     text_print(&keys->request, "],\"success\":[");
+    add_put(keys, id, identity, length);
+    text_print(&keys->request, ",");
     add_put(keys, cluster, number, strlen(number));
     text_print(&keys->request, "]}");
+    free(identity);
     if (!ask(keys, "/v3/kv/txn", &answer)) {
         return refuse_store(keys, error);
     }
@@ -528,7 +548,7 @@ static polydb_host_cause etcd_settle(polydb_store *store, const polydb_host_setu
         found->owner = 1;
         return make_site(keys, setup, content, error);
     }
-    return setup->adopts ? put_cluster(keys, error) : POLYDB_HOST_DONE;
+    return setup->adopts ? put_adopted(keys, setup, error) : POLYDB_HOST_DONE;
 }
 
 /* Takes note that the write that was sent is there, since this revision. */
