@@ -335,6 +335,7 @@ static int catch_signals(void) {
     sigemptyset(&set);
     sigaddset(&set, SIGTERM);
     sigaddset(&set, SIGINT);
+    signal(SIGPIPE, SIG_IGN); /* an older libcurl may cause it by https:// */
     if (sigprocmask(SIG_BLOCK, &set, NULL) != 0) {
         return NO_FILE;
     }
@@ -412,7 +413,7 @@ static bool open_store(unsigned site, const options *with, polydb_store **store)
                                .authority = with->etcd_authority,
                                .certificate = with->etcd_certificate,
                                .key = with->etcd_key};
-    char *end = "", words[200];
+    char *end, words[200];
     polydb_host_error error;
     *store = NULL;
     if (with->etcd == NULL) {
@@ -421,7 +422,7 @@ static bool open_store(unsigned site, const options *with, polydb_store **store)
     if (with->etcd_limit != NULL) {
         setup.limit = strtoull(with->etcd_limit, &end, 10);
     }
-    if (*end != '\0') {
+    if (with->etcd_limit != NULL && (with->etcd_limit[0] < '0' || with->etcd_limit[0] > '9' || *end != '\0')) {
         say(site, "--etcd-limit: %s is no number", with->etcd_limit);
         return false;
     }
