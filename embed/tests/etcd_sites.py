@@ -144,6 +144,7 @@ class EtcdProcess:
         is_first = not self.schedule.is_born[me]
         self.waiting.append(Given(None if is_first else f"start {me}", self.ahead.length, [], [] if is_first else [f"started {me} {self.ahead.epoch}"]))
         self.fresh = []  # what the site has made since it was settled
+        self.settling = None  # what tells it to settle while the next process takes the site
 
     def close(self):
         for pipe in (self.process.stdin, self.process.stdout):
@@ -271,9 +272,22 @@ class EtcdProcess:
         self.are_let_out([line for line in said if line.startswith(("message ", "report "))])
         self.deployment.count("kills")
 
+    def settle_beside(self):
+        """It settles while the next process takes the site, and its writes may come at any moment of that."""
+        self.goes_on()
+        self.settling = threading.Timer(self.chance.uniform(0.0, 0.1), self.process.stdin.write, ["settle\n"])
+        self.settling.start()
+
     def ends(self, length):
         """The journal has been found as long as this by the next process: what it has of this one has happened, and all else never was."""
         self.settle_to(length)
+        if self.settling is not None:  # what it lets out now was made before
+            self.settling.join()
+            said = []
+            while not (word := self.process.stdout.readline().rstrip("\n")).startswith(("done", "refused ")):
+                assert word, f"site {self.me} has ended"
+                said.append(word)
+            self.are_let_out(said)
         if self.is_up:
             self.schedule.stops(self.me)
         self.ahead.site.close()
@@ -327,6 +341,8 @@ class EtcdDeployment(Deployment):
             self.gone[me] = self.processes[me]
             self.replaced.append(self.processes[me])
             self.processes[me] = None
+            if self.chance.random() < 0.7:
+                self.gone[me].settle_beside()
             self.open(me)
         elif self.replaced and self.chance.random() < 0.05:
             self.replaced.pop(0).is_refused()
