@@ -12,7 +12,8 @@
  *     a site that is open elsewhere takes it from there: nothing excludes that, as nobody can tell a machine that has gone from one that is only out of reach;
  *   - a write counts once etcd has acknowledged it. One whose acknowledgement doesn't come is sent again, the same, before anything else: its transaction takes it once, and says so where
  *     an earlier one was taken;
- *   - the number of the site and its configuration stand beside the journal, and are compared at each opening; so is the number of the cluster, which is another one after a backup was restored.
+ *   - the number of the site and its configuration stand beside the journal, and are compared at each opening; so is the number of the cluster, which is another one after a backup was
+ *     restored with a token of its own.
  *
  * Keys of site S, behind a prefix (`polydb/`): `site-S/id` as in a folder's `site-S.id`; `site-S/cluster` the cluster's number; `site-S/owner` who has the site; and
  * `site-S/journal/N`, with N of 16 hexadecimal digits from 0 on, the writes: the number of the opening that has made it (8 bytes, the highest first), and of each piece the place

@@ -1,5 +1,5 @@
-"""What operators do to a site in etcd: a store that fills and has room again, a backup that is restored, a member of another cluster, certificates, another configuration, a site that is made twice or was never made,
-and a second process on one machine. One member on 127.0.0.1, and `polydbd` with one site.
+"""What operators do to a site in etcd: a store that fills and has room again, a backup that is restored, a store that has lost a write, a member of another cluster, certificates, another configuration, a higher limit
+of journals, a site that is made twice or was never made, and a second process on one machine. One member on 127.0.0.1, and `polydbd` with one site.
 """
 
 import os
@@ -80,6 +80,34 @@ def who_may_open(folder, members):
         said = site.start(0)
         assert re.search(r"whose journal has \d+ records", said) and re.search(r"taken by opening \d+", said), said
         site.stop(0)
+        etcdctl(member, "del", "polydb/site-0/id")
+        other.write_text(CONFIG.replace("\n", "\njournal 100000\n", 1))  # another limit, which is the one thing that may change
+        site.refused("nothing says of which site and configuration", config=other)
+        site.start(0, "--adopt", config=other)
+        assert site.polydbc(0, "read", "a") == ["item a 90"]
+        site.stop(0)
+        site.refused("another configuration")
+        site.start(0, config=other)
+        site.stop(0)
+
+
+def a_write_that_is_gone(folder, members):
+    """A store that was set back under a process: it shows nothing and lets nothing out, though it is the owner still."""
+    members.append(member := new_member(folder, "set-back"))
+    with OneSite(member.client) as site:
+        site.start(0)
+        client = site.client(0)
+        nodes.commits(client, "a := a - 10")
+        keys = etcdctl(member, "get", "--prefix", "--keys-only", "polydb/site-0/journal/").stdout.split()
+        etcdctl(member, "del", keys[-1])
+        assert "was acknowledged, and is gone" in site.polydbc(0, "read", "a", status=1)[0]
+        tag = client.send("submit", "a := a - 10")
+        assert "was acknowledged, and is gone" in site.wait_for_log(0, "nothing is let out that rests on it")
+        client.socket.settimeout(0.5)
+        try:
+            raise AssertionError(f"request {tag}: {client.line()}")
+        except TimeoutError:
+            pass
 
 
 def a_store_that_fills(folder, members):
@@ -114,7 +142,8 @@ def a_store_that_fills(folder, members):
 
 
 def a_backup_that_is_restored(folder, members):
-    """It is a cluster with another number: the site is refused, also where one address of several leads there, until somebody says that it is to be taken."""
+    """With a token of its own it is a cluster with another number: the site is refused, also where one address of several leads there, until somebody says that it is to be taken. With the token and the address of
+    the cluster before, as by default, it has the number of that, and nothing notices it."""
     members.append(member := new_member(folder, "whole"))
     with OneSite(member.client) as site:
         site.start(0)
@@ -141,6 +170,14 @@ def a_backup_that_is_restored(folder, members):
         assert site.polydbc(0, "read", "a") == ["item a 90"]  # set back: that is what a backup is
         site.stop(0)
         site.start(0, "--etcd", restored.client)
+        site.stop(0)
+        again = etcd_store.Member("again", folder, ports=(etcd_store.free_port(), member.peer.rsplit(":", 1)[1]), words=["nice"])
+        words = ["--name", "again", "--data-dir", f"{folder}/again", "--initial-cluster", f"again={again.peer}", "--initial-advertise-peer-urls", again.peer]
+        etcdctl(restored, "snapshot", "restore", f"{folder}/backup", *words)
+        again.start([again])
+        members.append(again)
+        etcd_store.Store(again.client).pairs("nothing")
+        site.start(0, "--etcd", again.client)
         site.stop(0)
 
 
@@ -180,7 +217,7 @@ def main():
         print(f"left out: {etcd_store.missing() or 'no etcdctl'}")
         sys.exit(77)
     signal.signal(signal.SIGTERM, lambda *_: sys.exit(1))  # so that nothing is left behind
-    tests = [who_may_open, a_store_that_fills, a_backup_that_is_restored, certificates]
+    tests = [who_may_open, a_store_that_fills, a_write_that_is_gone, a_backup_that_is_restored, certificates]
     for test in tests:
         if len(sys.argv) > 1 and test.__name__ not in sys.argv[1:]:
             continue
