@@ -18,15 +18,18 @@ void *__real_realloc(void *block, size_t size);
 /* How many allocations go well before one fails. Below 0 all go well. */
 static long good = -1;
 static long asked;
+/* The greatest of the blocks that were asked for. */
+static size_t largest;
 
-static bool fails(void) {
+static bool fails(size_t size) {
     asked++;
+    largest = size > largest ? size : largest;
     return good >= 0 && good-- == 0;
 }
 
-void *__wrap_malloc(size_t size) { return fails() ? NULL : __real_malloc(size); }
+void *__wrap_malloc(size_t size) { return fails(size) ? NULL : __real_malloc(size); }
 
-void *__wrap_realloc(void *block, size_t size) { return fails() ? NULL : __real_realloc(block, size); }
+void *__wrap_realloc(void *block, size_t size) { return fails(size) ? NULL : __real_realloc(block, size); }
 
 /* ---- checks ---- */
 
@@ -277,6 +280,18 @@ static void no_texts(void) {
     polydb_site_close(&site);
 }
 
+/* What the file holds behind the journal takes no memory, whatever it is. */
+static void behind_the_journal(void) {
+    static uint8_t file[1 << 20] = POLYDB_EMPTY_JOURNAL;
+    polydb_site site = {0};
+
+    memset(file + sizeof POLYDB_EMPTY_JOURNAL, 'x', sizeof file - sizeof POLYDB_EMPTY_JOURNAL);
+    largest = 0;
+    CHECK(polydb_site_open(&site, CONFIG, CONFIG_LENGTH, 0, file, sizeof file) == POLYDB_DONE);
+    CHECK(largest > 0 && largest < 1 << 16);
+    polydb_site_close(&site);
+}
+
 /* Each status has a text of its own, and other numbers have none. */
 static void status_texts(void) {
     int texts = 0;
@@ -374,6 +389,24 @@ static void write_all(polydb_site *site, uint8_t *file, size_t most, size_t *len
     }
 }
 
+/* Writes, and gives the site its own messages, until it lets out nothing more. */
+static void carry_own(polydb_site *site, uint8_t *file, size_t most, size_t *length) {
+    static uint8_t message[4096];
+    for (;;) {
+        size_t written;
+        uint64_t to;
+        write_all(site, file, most, length);
+        uint32_t status = polydb_site_take_message(site, message, sizeof message, &written, &to);
+        if (status == POLYDB_NOTHING) {
+            return;
+        }
+        CHECK(status == POLYDB_DONE);
+        if (to == 0) {
+            CHECK(polydb_site_receive(site, message, written) == POLYDB_DONE);
+        }
+    }
+}
+
 static uint32_t outcome_of(polydb_site *site, uint32_t epoch, uint32_t number) {
     uint32_t outcome = 99;
     uint32_t status = polydb_site_outcome(site, 0, epoch, number, &outcome);
@@ -417,20 +450,10 @@ static void what_became(void) {
     CHECK(outcome_of(&site, 0, 7) == POLYDB_NOT_COMMITTED);
 
     /* The first goes on by messages of the site to itself; the second waits for the other site, which isn't there. */
+    carry_own(&site, file, sizeof file, &length);
+    CHECK(outcome_of(&site, 1, 0) == POLYDB_COMMITTED);
     CHECK(polydb_site_submit(&site, transfer, sizeof transfer - 1, false) == POLYDB_DONE);
-    for (;;) {
-        uint8_t message[4096];
-        uint64_t to = 99;
-        write_all(&site, file, sizeof file, &length);
-        uint32_t status = polydb_site_take_message(&site, message, sizeof message, &written, &to);
-        if (status == POLYDB_NOTHING) {
-            break;
-        }
-        CHECK(status == POLYDB_DONE);
-        if (to == 0) {
-            CHECK(polydb_site_receive(&site, message, written) == POLYDB_DONE);
-        }
-    }
+    carry_own(&site, file, sizeof file, &length);
     CHECK(outcome_of(&site, 1, 0) == POLYDB_COMMITTED);
     CHECK(outcome_of(&site, 1, 1) == POLYDB_AT_WORK);
     polydb_site_close(&site);
@@ -477,6 +500,7 @@ int main(void) {
     closed_sites();
     wait_for_journal();
     no_texts();
+    behind_the_journal();
     status_texts();
     faults();
     what_became();
