@@ -15,7 +15,7 @@ const RECORDS: [(&str, &str); 5] = [
     ("01 00000001", "Epoch(1)"),
     (
         "02 00 00000001 00000000 01 00000000 0001 00 0000000000000065",
-        "Prepared { txn: TxnId { site: SiteId(0), epoch: 1, number: 0 }, writes: [Read { item: ItemId(0), value: Poly { cases: One([Case { when: [], value: 101 }]) } }] }",
+        "Prepared { txn: TxnId { site: SiteId(0), epoch: 1, number: 0 }, writes: [Read { item: ItemId(0), value: Poly { tree: Tree { held: One([Case { when: [], value: 101 }]) } } }] }",
     ),
     (
         "02 01 00000002 00000003 00",
@@ -23,7 +23,7 @@ const RECORDS: [(&str, &str); 5] = [
     ),
     (
         "02 00 00000001 00000000 02 00000001 0001 00 ffffffffffffffff 000003ff 0002 01 00 01 00000001 00000000 0000000000000032 01 01 01 00000001 00000000 000000000000003c",
-        "Prepared { txn: TxnId { site: SiteId(0), epoch: 1, number: 0 }, writes: [Read { item: ItemId(1), value: Poly { cases: One([Case { when: [], value: -1 }]) } }, Read { item: ItemId(1023), value: Poly { cases: Many([Case { when: [Literal { txn: TxnId { site: SiteId(1), epoch: 1, number: 0 }, commits: false }], value: 50 }, Case { when: [Literal { txn: TxnId { site: SiteId(1), epoch: 1, number: 0 }, commits: true }], value: 60 }]) } }] }",
+        "Prepared { txn: TxnId { site: SiteId(0), epoch: 1, number: 0 }, writes: [Read { item: ItemId(1), value: Poly { tree: Tree { held: One([Case { when: [], value: -1 }]) } } }, Read { item: ItemId(1023), value: Poly { tree: Tree { held: Two([Case { when: [Literal { txn: TxnId { site: SiteId(1), epoch: 1, number: 0 }, commits: false }], value: 50 }, Case { when: [Literal { txn: TxnId { site: SiteId(1), epoch: 1, number: 0 }, commits: true }], value: 60 }]) } } }] }",
     ),
     (
         "03 00 00000001 00000000 01",

@@ -12,7 +12,7 @@ const MESSAGES: [(&str, &str); 11] = [
     ),
     (
         "02 01 00 00 00000001 00000000 00000001 00000002 01 00000003 0002 01 00 01 00000001 00000000 0000000000000032 01 01 01 00000001 00000000 000000000000003c",
-        "Envelope { from: SiteId(1), to: SiteId(0), message: Granted { txn: TxnId { site: SiteId(0), epoch: 1, number: 0 }, grant: GrantId { epoch: 1, number: 2 }, values: [Read { item: ItemId(3), value: Poly { cases: Many([Case { when: [Literal { txn: TxnId { site: SiteId(1), epoch: 1, number: 0 }, commits: false }], value: 50 }, Case { when: [Literal { txn: TxnId { site: SiteId(1), epoch: 1, number: 0 }, commits: true }], value: 60 }]) } }] } }",
+        "Envelope { from: SiteId(1), to: SiteId(0), message: Granted { txn: TxnId { site: SiteId(0), epoch: 1, number: 0 }, grant: GrantId { epoch: 1, number: 2 }, values: [Read { item: ItemId(3), value: Poly { tree: Tree { held: Two([Case { when: [Literal { txn: TxnId { site: SiteId(1), epoch: 1, number: 0 }, commits: false }], value: 50 }, Case { when: [Literal { txn: TxnId { site: SiteId(1), epoch: 1, number: 0 }, commits: true }], value: 60 }]) } } }] } }",
     ),
     (
         "03 01 00 00 00000001 00000000 000003ff 01 00000001 00000007",
@@ -20,7 +20,7 @@ const MESSAGES: [(&str, &str); 11] = [
     ),
     (
         "04 00 0f 00 00000001 00000000 00000001 00000000 01 00000000 0001 00 ffffffffffffffff",
-        "Envelope { from: SiteId(0), to: SiteId(15), message: Prepare { txn: TxnId { site: SiteId(0), epoch: 1, number: 0 }, grant: GrantId { epoch: 1, number: 0 }, writes: [Read { item: ItemId(0), value: Poly { cases: One([Case { when: [], value: -1 }]) } }] } }",
+        "Envelope { from: SiteId(0), to: SiteId(15), message: Prepare { txn: TxnId { site: SiteId(0), epoch: 1, number: 0 }, grant: GrantId { epoch: 1, number: 0 }, writes: [Read { item: ItemId(0), value: Poly { tree: Tree { held: One([Case { when: [], value: -1 }]) } } }] } }",
     ),
     (
         "04 00 01 00 00000001 00000000 00000001 00000000 00",
