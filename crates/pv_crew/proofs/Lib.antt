@@ -1,1 +1,5 @@
+mod ClosingLemmas
+mod DealingLemmas
+mod ListLemmas
 mod SeatedLemmas
+mod ServingLemmas

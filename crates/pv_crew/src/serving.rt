@@ -1,28 +1,29 @@
-// Workers and clients, each in a thread of its own.
-ghost use Rattle.std.specs.Prelude.{◌≡◌, ◌≤◌, [], All, IfOk, length};
+// From values to values: each is in a turn while workers serve clients.
+ghost use Rattle.std.specs.Prelude.{◌≡◌, ◌<◌, ◌≤◌, [], All, IfOk, vec_len};
+ghost use mathlib.Core.List.{IsPrefix};
 ghost use Rattle.pv_base.specs.declared.limits.TheConstants.{MAX_SITES};
 ghost use Rattle.pv_post.specs.Ends.{posted};
 ghost use Rattle.pv_rings.specs.Rings.{Each};
 ghost use Rattle.pv_crew.specs.Asking.{HasPlayed};
-ghost use Rattle.pv_crew.specs.Rounds.{IsLaterRound, IsRoundOf};
 
 use crate::client::Client;
+use crate::closing::close_all;
+use crate::dealing::deal_all;
 use crate::gate::Gate;
-use crate::round::Round;
+use crate::running::run;
 use crate::visited::Visited;
-use crate::work::work;
 use pv_base::NoMemory;
-use pv_turn::Turn;
+use pv_turn::Entries;
+use std::alloc::Global;
 use std::sync::Wait;
-use std::sync::atomic::{AtomicBool, Ordering};
-use std::thread;
 use std::thread::Threads;
 
-/// Serves the clients: the workers of these rounds go round the turns and visit what they find there, and all clients ask at the same time. It ends when all have
-/// ended, and gives the rounds and the clients back, in order.
+/// Serves the clients: each value is in a turn, so many workers go round the turns and visit what they find there, and all clients ask at the same time. It ends
+/// when all have ended, and gives the values and the clients back, in order.
 ///
-/// A worker ends when all clients have ended, or after [`MAX_IDLE`](crate::MAX_IDLE) visits in a row that took nothing. The gate is told of each visit. Where no
-/// thread can be made, all is done in this one.
+/// The worker of number w begins at the value of number w modulo their count. A worker ends when all clients have ended, or after
+/// [`MAX_IDLE`](crate::MAX_IDLE) visits in a row that took nothing. The gate is told of each visit, with the number of its value. Where no thread can be made, all is
+/// done in this one.
 pub fn serve<
     T: Threads + Wait + Sync,
     V: Visited + Send + Drop,
@@ -31,82 +32,22 @@ pub fn serve<
     G: Gate + Sync,
 >(
     rt: &T,
-    turns: &[Turn<V>],
-    rounds: Vec<Round<V, V::Entry>>,
+    alloc: Global,
+    values: Vec<V>,
+    workers: u32,
     clients: Vec<Client<Q, A>>,
     gate: &G,
-) -> Result<(Vec<Round<V, V::Entry>>, Vec<Client<Q, A>>), NoMemory>
-    requires turns { length turns.now ≤ MAX_SITES }
-    requires rounds { All (IsRoundOf turns.now) rounds.items }
+) -> Result<(Vec<V>, Vec<Client<Q, A>>), NoMemory>
+    requires values { (0 < vec_len values) × (vec_len values ≤ MAX_SITES) }
+    requires workers { 0 < workers }
     requires clients { All (λ client. posted client.asks ≡ []) clients.items }
-    ensures rounds { IfOk result (λ ended. Each (λ _. IsLaterRound) rounds.items ended.0.items) }
-    ensures clients { IfOk result (λ ended. Each (λ _. HasPlayed) clients.items ended.1.items) }
-{
-    let ended = AtomicBool::new(false);
-    let (rounds, clients) = thread::join(
-        rt,
-        || -> Result<Vec<Round<V, V::Entry>>, NoMemory>
-            requires { (length turns.now ≤ MAX_SITES) × All (IsRoundOf turns.now) rounds.items }
-            ensures { IfOk result (λ back. Each (λ _. IsLaterRound) rounds.items back.items) }
-        { work_all(rt, turns, rounds, gate, &ended) },
-        || -> Result<Vec<Client<Q, A>>, NoMemory>
-            requires { All (λ client. posted client.asks ≡ []) clients.items }
-            ensures { IfOk result (λ back. Each (λ _. HasPlayed) clients.items back.items) }
-        { play_all(rt, clients, &ended) },
-    );
-    Ok((rounds?, clients?))
-}
 
-// Lets each worker go its round, in a thread of its own.
-fn work_all<T: Threads + Wait + Sync, V: Visited + Send + Drop, G: Gate + Sync>(
-    rt: &T,
-    turns: &[Turn<V>],
-    rounds: Vec<Round<V, V::Entry>>,
-    gate: &G,
-    ended: &AtomicBool,
-) -> Result<Vec<Round<V, V::Entry>>, NoMemory>
-    requires turns { length turns.now ≤ MAX_SITES }
-    requires rounds { All (IsRoundOf turns.now) rounds.items }
-    ensures { IfOk result (λ back. Each (λ _. IsLaterRound) rounds.items back.items) }
+    // The entries of each value begin with those that it had.
+    ensures values { IfOk result (λ served. Each (λ _ old new. IsPrefix (V.entries old) (V.entries new)) values.items served.0.items) }
+    ensures clients { IfOk result (λ served. Each (λ _. HasPlayed) clients.items served.1.items) }
 {
-    let back = thread::map_vec(
-        rt,
-        rounds,
-        &|round: Round<V, V::Entry>| -> Round<V, V::Entry>
-            requires { (length turns.now ≤ MAX_SITES) × IsRoundOf turns.now round }
-            ensures { IsLaterRound round result }
-        { work(rt, turns, round, gate, ended) },
-    )?;
-    Ok(back)
-}
-
-// Lets each client ask, in a thread of its own; when all have ended, workers hear of it.
-fn play_all<T: Threads + Sync, Q: Send + Drop, A: Send + Drop>(
-    rt: &T,
-    clients: Vec<Client<Q, A>>,
-    ended: &AtomicBool,
-) -> Result<Vec<Client<Q, A>>, NoMemory>
-    requires { All (λ client. posted client.asks ≡ []) clients.items }
-    ensures { IfOk result (λ back. Each (λ _. HasPlayed) clients.items back.items) }
-{
-    let back = thread::map_vec(
-        rt,
-        clients,
-        &|client: Client<Q, A>| -> Client<Q, A>
-            requires { posted client.asks ≡ [] }
-            ensures { HasPlayed client result }
-        { played(client) },
-    );
-    ended.store(true, Ordering::SeqCst);
-    Ok(back?)
-}
-
-// The client when it has asked.
-fn played<Q: Drop, A: Drop>(client: Client<Q, A>) -> Client<Q, A>
-    requires { posted client.asks ≡ [] }
-    ensures { HasPlayed client result }
-{
-    let mut client = client;
-    client.play();
-    client
+    let (turns, rounds) = deal_all(alloc, values, workers)?;
+    let (rounds, clients) = run(rt, &turns, rounds, clients, gate)?;
+    let values = close_all(alloc, turns, rounds)?;
+    Ok((values, clients))
 }

@@ -4,8 +4,6 @@
 #[cfg(test)]
 mod desk;
 #[cfg(test)]
-mod one_turn;
-#[cfg(test)]
 mod tests;
 #[cfg(test)]
 mod watch;

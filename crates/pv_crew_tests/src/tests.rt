@@ -1,7 +1,7 @@
-// What a client asks for and hears: with both ends of its rings on one thread, and by a desk that a worker visits on a thread of its own, between the gate's calls.
+// What a client asks for and hears: with both ends of its rings on one thread, and by one of two desks that two workers visit on threads of their own, between the
+// gate's calls.
 use crate::desk::Desk;
-use crate::one_turn::{OneTurn, in_turn};
-use crate::watch::Watch;
+use crate::watch::Watches;
 use pv_crew::*;
 use pv_post::{FaultPlan, pair};
 use std::alloc::{AllocFailed, Global};
@@ -37,22 +37,30 @@ fn a_client_asks_in_order(rt: HostRuntime) -> Result<(), Fail> {
 }
 
 #[test]
-fn a_worker_serves_a_client(rt: HostRuntime) -> Result<(), Fail> {
+fn workers_serve_a_client(rt: HostRuntime) -> Result<(), Fail> {
     let (asks, asked) = pair::<u64>(rt.alloc(), NONE)?;
     let (answers, hears) = pair::<u64>(rt.alloc(), NONE)?;
+    let (idle_answers, idle_asked) = pair::<u64>(rt.alloc(), NONE)?;
     let client = Client::new(rt.alloc(), requests(rt.alloc())?, asks, hears)?;
     let mut clients = Vec::new(rt.alloc());
     clients.push(client)?;
-    let watch = Watch::new();
-    let desk = Desk {
+    let watches = Watches::new();
+    let mut desks = Vec::new(rt.alloc());
+    desks.push(Desk {
         asked,
         answers,
-        watch: &watch,
-    };
-    let OneTurn { turns, rounds } = in_turn(rt.alloc(), desk)?;
-    let (_, clients) = serve(&rt, &turns, rounds, clients, &watch)?;
+        watch: &watches.first,
+    })?;
+    desks.push(Desk {
+        asked: idle_asked,
+        answers: idle_answers,
+        watch: &watches.second,
+    })?;
+    let (desks, clients) = serve(&rt, rt.alloc(), desks, 2, clients, &watches)?;
     assert_eq!(rt; clients[0].heard.as_slice(), [2, 6].as_slice());
-    assert!(rt; watch.is_in_order());
-    assert!(rt; watch.visits() >= 2);
+    assert_eq!(rt; desks.len(), 2);
+    assert!(rt; watches.first.is_in_order());
+    assert!(rt; watches.second.is_in_order());
+    assert!(rt; watches.first.visits() >= 2);
     Ok(())
 }

@@ -1,4 +1,4 @@
-// A gate that watches a desk, for the tests.
+// A gate that watches two desks, for the tests.
 use pv_base::SiteId;
 use pv_crew::Gate;
 use std::sync::atomic::{AtomicBool, AtomicU32, Ordering};
@@ -10,7 +10,7 @@ const BEGUN: u32 = 1;
 
 const VISITED: u32 = 2;
 
-/// A gate that sees whether one worker calls it before each visit of the desk and after it.
+/// Sees whether what is done at a desk is done in order: the gate is told, the desk is visited, the gate is told again.
 #[derive(Drop)]
 pub struct Watch {
     stage: AtomicU32,
@@ -19,7 +19,7 @@ pub struct Watch {
 }
 
 impl Watch {
-    /// A gate that nobody has called.
+    /// Nothing was done.
     pub fn new() -> Watch {
         Watch {
             stage: AtomicU32::new(NOTHING),
@@ -52,23 +52,40 @@ impl Watch {
         }
         self.stage.store(to, Ordering::SeqCst);
     }
+}
 
-    // The desk is at the first site.
-    fn at(&self, site: SiteId) {
-        if site.0 != 0 {
-            self.wrong.store(true, Ordering::SeqCst);
+/// The gate of two desks.
+#[derive(Drop)]
+pub struct Watches {
+    pub first: Watch,
+    pub second: Watch,
+}
+
+impl Watches {
+    /// Nothing was done at either.
+    pub fn new() -> Watches {
+        Watches {
+            first: Watch::new(),
+            second: Watch::new(),
+        }
+    }
+
+    // The one at this site.
+    fn at(&self, site: SiteId) -> &Watch {
+        if site.0 == 0 {
+            &self.first
+        } else {
+            &self.second
         }
     }
 }
 
-impl Gate for Watch {
+impl Gate for Watches {
     fn before(&self, site: SiteId) {
-        self.at(site);
-        self.step(NOTHING, BEGUN);
+        self.at(site).step(NOTHING, BEGUN);
     }
 
     fn after(&self, site: SiteId) {
-        self.at(site);
-        self.step(VISITED, NOTHING);
+        self.at(site).step(VISITED, NOTHING);
     }
 }

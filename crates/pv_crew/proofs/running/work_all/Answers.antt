@@ -1,6 +1,6 @@
 use Rattle.std.proofs.Common.{rules, get_or, sym, subst}
 use Rattle.pv_crew.specs.Rounds.{IsLaterRound, IsRoundOf}
-use Rattle.pv_crew.proofs.serving.work_all.Goals as goal
+use Rattle.pv_crew.proofs.running.work_all.Goals as goal
 
 pub map_vec-requires-after_bounds : goal.map_vec-requires-after_bounds
 map_vec-requires-after_bounds g c κs within = λ i x less is. (c.requires.turns, subst (IsRoundOf c.args.turns.now) (sym is) (c.requires.rounds i x less))
