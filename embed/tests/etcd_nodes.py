@@ -5,10 +5,11 @@ replaced wake up again.
 
 Three members of etcd and three polydbd, each on a machine of its own (a namespace with its link to a bridge), and for each site a second machine. Clients ask for transfers at each site. Meanwhile, at random
 moments: a site is killed and started again; a member is killed and started again; a link is cut for up to three seconds; a site's process is stopped (SIGSTOP) or cut off, another one takes the site on its
-other machine, and then the first one goes on (SIGCONT). That one has to say that it was replaced, and to end, and to answer nothing.
+other machine, and then the first one goes on (SIGCONT). That one has to say that it was replaced, and to end, and to answer nothing, within seconds of when it could ask two members again; how long that took is said.
 
 After COUNT commits (10,000) all is left alone, and looked at: the items have their first total, and each is certain; the journals have no write of a process that was replaced, by the revisions of etcd in which
-each opening has taken the site; and `polydb show` says of the journals alone what the sites do, where the program is there. It needs root, for the namespaces.
+each opening has taken the site; `polydb show` says of the journals alone what the sites do, where the program is there; and what the processes were given, which they write down (`traced/trace.c`), becomes a
+schedule, whose run is what they let out and showed (`traces.py`). It needs root, for the namespaces.
 """
 
 import os
@@ -30,12 +31,15 @@ import etcd_store  # noqa: E402
 import many_nodes  # noqa: E402
 import many_transfers  # noqa: E402
 import nodes  # noqa: E402
+import traces  # noqa: E402
 from many_nodes import CONFIG, FIRST_VALUE, ITEMS, SITES  # noqa: E402
 
 CLIENTS = 3  # at each site
 TROUBLE = 25  # commits between two troubles, on average
 MEMBERS = 3
 PATIENCE = 120.0
+TRACED = nodes.PROGRAMS / "traced" / "polydbd"  # one that writes down what its site is given and lets out
+ENDS_WITHIN = 30.0  # seconds until a process that was replaced has ended, from when it and two members are up and can be reached: 5 where the machine isn't busy
 
 
 def run(*words):
@@ -109,6 +113,7 @@ class EtcdSites(nodes.Sites):
             self.machine.append(f"s{me}a")
             network.move(self.address(me), f"s{me}a")
         self.replaced = []  # processes that have to end by themselves
+        self.meanwhile = lambda: None  # is called while this waits
         self.store = etcd_store.Store(self.members[0].client, network.words("e0"))
         self.store.pairs("nothing")  # once it answers
         super().__init__(CONFIG, SITES, tick=100, one_folder=True)
@@ -128,7 +133,14 @@ class EtcdSites(nodes.Sites):
         return self.data(me) / f"{self.machine[me]}.sock"
 
     def words(self, me, *more, config=None):
-        return [*self.network.words(self.machine[me]), *super().words(me, "--etcd", self.urls, "--socket", self.socket(me), *more, config=config)]
+        program, *words = super().words(me, "--etcd", self.urls, "--socket", self.socket(me), *more, config=config)
+        return [*self.network.words(self.machine[me]), TRACED if TRACED.exists() else program, *words]
+
+    def __exit__(self, *words):
+        for one in self.replaced:
+            if one.process.poll() is None:
+                one.process.kill()
+        super().__exit__(*words)
 
     def restart(self, me):
         """Starts a site, which may take some tries while etcd can't be reached."""
@@ -138,6 +150,7 @@ class EtcdSites(nodes.Sites):
             with open(self.logs[me], "a") as log:
                 self.processes[me] = subprocess.Popen(self.words(me), stderr=log)
             while self.processes[me].poll() is None and "ready" not in self.log(me)[len(before) :]:
+                self.meanwhile()
                 time.sleep(0.01)
             if self.processes[me].poll() is None:
                 return
@@ -145,38 +158,63 @@ class EtcdSites(nodes.Sites):
             assert "can't be reached" in said and time.monotonic() < end, said
 
     def replace(self, me, chance):
-        """Another process takes the site, while the one before is stopped or cut off; then that one goes on, and is to end. Gives what has to be told to go on, and what it left behind."""
-        old, path, machine = self.processes[me], self.socket(me), self.machine[me]
-        is_cut = chance.random() < 0.3
-        if is_cut:
+        """Another process takes the site, while the one before is stopped or cut off; then that one goes on, and is to end."""
+        old, machine = self.processes[me], self.machine[me]
+        one = Replaced(self, me, old, machine, is_cut=chance.random() < 0.3)
+        if one.is_cut:
             self.network.cut(machine)
         else:
             old.send_signal(signal.SIGSTOP)
+        path = self.socket(me)
         self.machine[me] = machine[:-1] + ("a" if machine.endswith("b") else "b")
         self.network.move(self.address(me), self.machine[me])
         self.restart(me)
-        asked = nodes.Client(path)  # the one before may take it, but has nothing to say any more
-        name = next(name for name, site in ITEMS.items() if site == me)
-        asked.socket.sendall(f"read 1 {name}\nsubmit 2 {name} := {name} + 1\n".encode())
-        asked.socket.settimeout(PATIENCE)
+        one.ask(path)
+        self.replaced.append(one)
+        return one
 
-        def wake():
-            if is_cut:
-                self.network.cut(machine, False)
-            else:
-                old.send_signal(signal.SIGCONT)
-            said = b""
-            try:
-                while more := asked.socket.recv(65536):
-                    said += more
-            except ConnectionError:
-                pass
-            asked.close()
-            status = old.wait(PATIENCE)
-            words = [line for line in said.decode().splitlines() if not line.startswith("error ")]
-            assert status == 5 and not words, f"site {me}: a process that was replaced ends with {status}, after {words}"
 
-        return wake
+class Replaced:
+    """A process that was replaced: what it is asked, when it goes on, and how it ends."""
+
+    def __init__(self, sites, me, process, machine, is_cut):
+        self.sites, self.me, self.process, self.machine, self.is_cut = sites, me, process, machine, is_cut
+        self.woken = self.ended = None
+        self.said = b""
+
+    def ask(self, path):
+        """It may take this, but has nothing to say any more."""
+        self.asked = nodes.Client(path)
+        name = next(name for name, site in ITEMS.items() if site == self.me)
+        self.asked.socket.sendall(f"read 1 {name}\nsubmit 2 {name} := {name} + 1\n".encode())
+        self.asked.socket.setblocking(False)
+
+    def wake(self):
+        if self.is_cut:
+            self.sites.network.cut(self.machine, False)
+        else:
+            self.process.send_signal(signal.SIGCONT)
+        self.woken = time.monotonic()
+
+    def look(self, since):
+        """Whether it has ended, as it is to; `since` is when two members could be reached again, if they can."""
+        if self.woken is None or self.ended is not None:
+            return self.ended is not None
+        is_over = self.process.poll() is not None
+        try:
+            while more := self.asked.socket.recv(65536):
+                self.said += more
+        except (BlockingIOError, ConnectionError):
+            pass
+        if not is_over:
+            gone = 0.0 if since is None else time.monotonic() - max(since, self.woken)
+            assert gone < ENDS_WITHIN, f"site {self.me}: a process that was replaced is still there {gone:.0f} seconds after it could ask, cut off: {self.is_cut}, and has said: {self.said}"
+            return False
+        self.asked.close()
+        self.ended = time.monotonic() - (self.woken if since is None else max(since, self.woken))
+        words = [line for line in self.said.decode().splitlines() if not line.startswith("error ")]
+        assert self.process.returncode == 5 and not words, f"site {self.me}: a process that was replaced ends with {self.process.returncode}, after {words}"
+        return True
 
 
 class Load(many_nodes.Load):
@@ -206,12 +244,21 @@ class Trouble:
         self.counts = {"sites killed": 0, "members killed": 0, "links cut": 0, "sites replaced": 0}
         self.members_down = set()
         self.cut = set()
+        self.since = time.monotonic()  # when a majority of members could be reached again, if one can
+        sites.meanwhile = self.undo
 
     def undo(self, is_all=False):
         for when, call in list(self.later):
             if is_all or when <= time.monotonic():
                 self.later.remove((when, call))
                 call()
+        lost = {f"e{number}" for number in self.members_down} | {machine for machine in self.cut if machine.startswith("e")}
+        if 2 * len(lost) >= MEMBERS:
+            self.since = None
+        elif self.since is None:
+            self.since = time.monotonic()
+        for one in self.sites.replaced:
+            one.look(self.since)
 
     def soon(self, call, least=0.2, most=3.0):
         self.later.append((time.monotonic() + self.chance.uniform(least, most), call))
@@ -261,10 +308,9 @@ class Trouble:
     def replace_site(self):
         me = self.chance.randrange(SITES)
         others = {f"s{me}a", f"s{me}b"}
-        if others & self.cut or any(process.poll() is None for _, process in self.sites.replaced if _ == me):
+        if others & self.cut or any(one.ended is None for one in self.sites.replaced if one.me == me):
             return
-        self.sites.replaced.append((me, self.sites.processes[me]))
-        self.soon(self.sites.replace(me, self.chance), 0.0, 2.0)
+        self.soon(self.sites.replace(me, self.chance).wake, 0.0, 2.0)
         self.counts["sites replaced"] += 1
 
 
@@ -280,6 +326,9 @@ def work(load, trouble):
             trouble.make()
             next_trouble = load.committed + load.chance.expovariate(1 / TROUBLE)
     trouble.undo(is_all=True)
+    while not all(one.look(trouble.since) for one in trouble.sites.replaced):
+        trouble.undo()
+        time.sleep(0.01)
 
 
 def look(sites):
@@ -299,7 +348,9 @@ def look(sites):
     for me in range(SITES):
         journal, writes, openings = etcd_store.journal_of(sites.store, me)
         (files / f"site-{me}.pv").write_bytes(journal)
-        print(f"site {me}: {len(journal)} bytes in {writes} writes, {openings} openings, and no write of one that was replaced")
+        print(f"site {me}: {len(journal)} bytes in {writes} writes, {openings} openings, and no write of one that was replaced", flush=True)
+    if TRACED.exists():
+        print(traces.check(CONFIG, SITES, os.environ["POLYDB_TRACE"], [etcd_store.writes_of(sites.store, me) for me in range(SITES)]), flush=True)
     if many_transfers.program() is None:
         return "the total is kept; not looked at by show: there is no program"
     by_files = many_transfers.show(files, CONFIG)
@@ -326,6 +377,8 @@ def main():
     seed = int(sys.argv[2]) if len(sys.argv) > 2 else random.SystemRandom().getrandbits(32)
     print(f"seed {seed}", flush=True)
     folder = tempfile.mkdtemp(prefix="polydb-etcd-")
+    os.environ["POLYDB_TRACE"] = f"{folder}/traces"
+    os.mkdir(os.environ["POLYDB_TRACE"])
     network = Network()
     members = []
     try:
@@ -347,6 +400,9 @@ def main():
                     thread.join()
             assert not load.faults, load.faults
             troubles = ", ".join(f"{number} {what}" for what, number in trouble.counts.items())
+            took = sorted(one.ended for one in sites.replaced)
+            if took:
+                troubles += f", which ended {took[len(took) // 2]:.2f} seconds after they could ask (median), and at most {took[-1]:.2f}"
             print(f"{load.committed} committed, {load.refused} refused, {load.unknown} cut off; {troubles}; {time.monotonic() - begun:.0f} seconds", flush=True)
             print(look(sites))
     finally:

@@ -88,23 +88,34 @@ class Store:
         return [(base64.b64decode(one["key"]).decode(), base64.b64decode(one.get("value", "")), int(one["mod_revision"])) for one in found]
 
 
+def writes_of(store, me, prefix="polydb/"):
+    """The writes of a site's journal, each with the number of the opening that made it, its bytes, and the revision of etcd in which it is there."""
+    found = []
+    first = f"{prefix}site-{me}/journal/"
+    while page := store.pairs(first + f"{len(found):016x}", first[:-1] + "0", limit="2000"):
+        for key, value, revision in page:
+            assert key == f"{first}{len(found):016x}", (key, len(found))
+            found.append((int.from_bytes(value[:8], "big"), value[8:], revision))
+    return found
+
+
+def put(data, pieces):
+    """Makes a write's pieces."""
+    at = 0
+    while at < len(pieces):
+        place, length = int.from_bytes(pieces[at : at + 8], "big"), int.from_bytes(pieces[at + 8 : at + 12], "big")
+        assert place <= len(data), (place, len(data))
+        data[place : place + length] = pieces[at + 12 : at + 12 + length]
+        at += 12 + length
+
+
 def journal_of(store, me, prefix="polydb/"):
     """The journal of a site as bytes, and what was looked at: each write says which opening made it. No number is behind a greater one, and none is written after the next one has taken
     the site."""
-    data, numbers, number = bytearray(), [], 0
-    writes = []
-    first = f"{prefix}site-{me}/journal/"
-    while page := store.pairs(first + f"{len(writes):016x}", first[:-1] + "0", limit="2000"):
-        writes += page
-    for position, (key, value, revision) in enumerate(writes):
-        assert key == f"{first}{position:016x}", (key, position)
-        numbers.append((int.from_bytes(value[:8], "big"), revision))
-        at = 8
-        while at < len(value):
-            place, length = int.from_bytes(value[at : at + 8], "big"), int.from_bytes(value[at + 8 : at + 12], "big")
-            assert place <= len(data), (key, place, len(data))
-            data[place : place + length] = value[at + 12 : at + 12 + length]
-            at += 12 + length
+    writes, data = writes_of(store, me, prefix), bytearray()
+    for _, pieces, _ in writes:
+        put(data, pieces)
+    numbers = [number for number, _, _ in writes]
     taken = {}  # the revision in which each opening has taken the site, back from the last one
     owner = f"{prefix}site-{me}/owner"
     [(_, value, revision)] = store.pairs(owner)
@@ -114,7 +125,7 @@ def journal_of(store, me, prefix="polydb/"):
         if not found:
             break
         [(_, value, revision)] = found
-    for number, revision in numbers:
+    for number, _, revision in writes:
         assert taken[number] <= revision, (number, revision, taken)
         assert number + 1 not in taken or revision < taken[number + 1], f"site {me}: opening {number} has written after opening {number + 1} took the site"
     assert numbers == sorted(numbers) and sorted(taken) == list(range(1, max(taken) + 1)), (numbers[-5:], sorted(taken))
