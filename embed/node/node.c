@@ -41,6 +41,7 @@ enum {
     HANDSHAKE = 5000,         /* milliseconds that a connection has to show its key */
     BEAT = 1000, SILENT = 4000, /* milliseconds between two hellos; without a sign of a peer until it counts as away */
     RECONNECT = 20, RECONNECT_MOST = 200, /* milliseconds until a peer is tried again that is away: first, and later */
+    PAUSE = 50,               /* milliseconds until what has failed is made again */
     SAID_AGAIN = 60000,       /* milliseconds until it is said again that strangers are kept out */
     FIRST_TICK = 100          /* milliseconds between two ticks, if nothing is said */
 };
@@ -50,6 +51,7 @@ typedef enum { HELLO = 'h', WELCOME = 'w', NO = 'n', MESSAGE = 'm' } kind;
 /* What this node knows of a peer. */
 typedef struct {
     void *socket; /* to send to it */
+    int64_t answered; /* when something came back by that socket; 0 for never */
     int64_t heard; /* when something was heard, in milliseconds of the clock; 0 for never */
     bool is_away;  /* so it was said last */
     bool is_odd;   /* it has another version or configuration, and that was said */
@@ -72,7 +74,8 @@ struct polydb_node {
     int64_t kept_out; /* when it was said last that a stranger was; 0 for never */
     requests requests;
     bool is_spent;
-    bool is_failing; /* a write has failed, and that was said */
+    polydb_host_error failure; /* why the last write or question has failed, if it has, and that was said */
+    int64_t failed;            /* when it did */
     polydb_host_error replaced; /* once another process has the site, with that cause */
     unsigned filled; /* tenths of the store that were said to be full */
     polydb_node_counts counts;
@@ -133,15 +136,6 @@ static void on_message(void *context, uint8_t to, const uint8_t *bytes, size_t l
         node->counts.sent++;
     } else {
         node->counts.lost++;
-    }
-}
-
-static void say_hello(polydb_node *node) {
-    node->beaten = milliseconds();
-    for (int site = 0; site < SITES; site++) {
-        if (node->links[site].socket != NULL) {
-            send_frame(node, node->links[site].socket, HELLO, NULL, 0);
-        }
     }
 }
 
@@ -287,6 +281,7 @@ static bool take_answer(polydb_node *node, int site) {
     const uint8_t *bytes = zmq_msg_data(&frame);
     const char *wrong;
     char what = kind_of(node, bytes, (size_t)length, &wrong);
+    node->links[site].answered = milliseconds();
     if (what == WELCOME) {
         hear(node, site);
     } else if (wrong != NULL) {
@@ -385,6 +380,33 @@ static bool connect_to(polydb_node *node, int site) {
     node->links[site].socket = socket;
     return socket != NULL && set_limits(socket) && set_text(socket, ZMQ_CURVE_SERVERKEY, one->key) && set_text(socket, ZMQ_CURVE_PUBLICKEY, node->keys.public) &&
            set_text(socket, ZMQ_CURVE_SECRETKEY, node->keys.secret) && zmq_connect(socket, one->address) == 0 && watch_socket(node, socket);
+}
+
+static void close_socket(void *socket) {
+    if (socket != NULL) {
+        zmq_close(socket);
+    }
+}
+
+/*
+ * Says hello to all peers. A peer that has kept this site out as a stranger isn't tried again by libzmq, and no frame can be sent to it from then on. It may know the key by now: so where nothing
+ * can be sent, and nothing has come back for a while, it is connected to anew. What waited for it is lost, which a message may be.
+ */
+static void say_hello(polydb_node *node) {
+    node->beaten = milliseconds();
+    for (int site = 0; site < SITES; site++) {
+        peer_link *one = &node->links[site];
+        if (!node->peers[site].is_there || site == node->me || (one->socket != NULL && send_frame(node, one->socket, HELLO, NULL, 0)) || node->beaten - one->answered <= SILENT) {
+            continue;
+        }
+        close_socket(one->socket);
+        if (connect_to(node, site)) {
+            send_frame(node, one->socket, HELLO, NULL, 0);
+        } else {
+            close_socket(one->socket); /* the next hello tries again */
+            one->socket = NULL;
+        }
+    }
 }
 
 /* ---- reports ---- */
@@ -540,12 +562,6 @@ polydb_host_cause polydb_node_open(polydb_node **node, const polydb_node_setup *
     return POLYDB_HOST_DONE;
 }
 
-static void close_socket(void *socket) {
-    if (socket != NULL) {
-        zmq_close(socket);
-    }
-}
-
 static void close_file(int file) {
     if (file >= 0) {
         close(file);
@@ -599,39 +615,55 @@ polydb_host_cause polydb_node_submit(polydb_node *node, uint64_t tag, const uint
     return cause;
 }
 
-/* Whether what the host has said is that another process has the site. Then nothing is to be done any more. */
-static bool is_replaced(polydb_node *node, polydb_host_cause cause, const polydb_host_error *error) {
-    if (cause == POLYDB_HOST_REPLACED && node->replaced.cause == POLYDB_HOST_DONE) {
-        node->replaced = *error;
-    }
-    return node->replaced.cause != POLYDB_HOST_DONE;
-}
+/* Whether something has failed that is to be made again. */
+static bool is_failing(const polydb_node *node) { return node->failure.cause != POLYDB_HOST_DONE; }
 
-/* Writes what waits and lets out what may go. What fails is said once, and made again at each tick. */
-static void settle(polydb_node *node) {
-    polydb_host_error error;
+/* Takes note of how a write or a question to the store ended. What fails is said once; where another process has the site nothing is to be done any more. */
+static void heed(polydb_node *node, polydb_host_cause cause, const polydb_host_error *error) {
     char words[200];
-    polydb_host_cause cause = polydb_host_settle(node->host, &error);
-    if (is_replaced(node, cause, &error)) {
+    if (cause == POLYDB_HOST_REPLACED) {
+        node->replaced = node->replaced.cause == POLYDB_HOST_DONE ? *error : node->replaced;
         return;
     }
-    bool is_failing = cause != POLYDB_HOST_DONE;
-    if (is_failing && !node->is_failing) {
-        notice(node, "%s; nothing is let out that rests on it, and it is made again", polydb_host_describe(&error, words, sizeof words));
-    } else if (!is_failing && node->is_failing) {
-        notice(node, "what had failed is written");
+    bool was_failing = is_failing(node);
+    node->failure = cause == POLYDB_HOST_DONE ? (polydb_host_error){.cause = POLYDB_HOST_DONE} : *error;
+    node->failed = milliseconds();
+    if (is_failing(node) && !was_failing) {
+        notice(node, "%s; nothing is let out that rests on it, and it is made again", polydb_host_describe(error, words, sizeof words));
+    } else if (was_failing && !is_failing(node)) {
+        notice(node, "what had failed is done");
     }
-    node->is_failing = is_failing;
+}
+
+/* Writes what waits and lets out what may go. What has failed is made again, but not at once: a question takes as long as the store lets it wait, and there is other work. */
+static void settle(polydb_node *node) {
+    polydb_host_error error;
+    if (is_failing(node) && milliseconds() - node->failed < PAUSE) {
+        return;
+    }
+    polydb_host_cause cause = polydb_host_settle(node->host, &error);
+    if (cause == POLYDB_HOST_DONE && is_failing(node)) {
+        cause = polydb_host_confirm(node->host, &error); /* where nothing was to be written, nothing was asked */
+    }
+    heed(node, cause, &error);
 }
 
 polydb_host_cause polydb_node_read(polydb_node *node, const uint8_t *name, size_t name_length, const char **line, size_t *length, polydb_host_error *error) {
-    polydb_host_cause cause = polydb_host_read(node->host, name, name_length, line, length, error);
-    if (cause == POLYDB_HOST_ENGINE && error->status == POLYDB_UNWRITTEN && !node->is_failing) {
+    polydb_host_cause cause = POLYDB_HOST_STORE;
+    if (is_failing(node) && node->failure.cause == POLYDB_HOST_STORE) { /* it was asked a moment ago, and will be in another */
+        *line = NULL;
+        *length = 0;
+        *error = node->failure;
+        return cause;
+    }
+    cause = polydb_host_read(node->host, name, name_length, line, length, error);
+    if (cause == POLYDB_HOST_ENGINE && error->status == POLYDB_UNWRITTEN && !is_failing(node)) {
         settle(node);
         work_again(node);
         cause = polydb_host_read(node->host, name, name_length, line, length, error);
     }
-    if (is_replaced(node, cause, error)) {
+    if (cause == POLYDB_HOST_REPLACED || cause == POLYDB_HOST_STORE || cause == POLYDB_HOST_LOST) {
+        heed(node, cause, error);
         work_again(node);
     }
     return cause;
@@ -639,6 +671,9 @@ polydb_host_cause polydb_node_read(polydb_node *node, const uint8_t *name, size_
 
 /* Says how full a store is: at half, and then at each tenth more. */
 static void look_how_full(polydb_node *node) {
+    if (is_failing(node)) {
+        return;
+    }
     polydb_host_fill fill = polydb_host_filled(node->host);
     unsigned tenths = fill.limit == 0 ? 0 : (unsigned)(fill.used / (fill.limit / 10 + 1));
     if (tenths >= 5 && tenths > node->filled) {
@@ -647,11 +682,11 @@ static void look_how_full(polydb_node *node) {
     }
 }
 
-/* Asks whether the site is still this process's, so that one in which nothing happens hears of it, too. */
+/* Asks whether the site is still this process's, so that one in which nothing happens hears of it, too; and says so where nobody can tell. */
 static void look_whose_it_is(polydb_node *node) {
     polydb_host_error error;
-    if (!node->is_failing) {
-        is_replaced(node, polydb_host_confirm(node->host, &error), &error);
+    if (!is_failing(node)) {
+        heed(node, polydb_host_confirm(node->host, &error), &error);
     }
 }
 
@@ -663,7 +698,9 @@ static bool tick(polydb_node *node) {
     }
     polydb_host_error error;
     polydb_host_cause cause = polydb_host_tick(node->host, &error);
-    if (!is_replaced(node, cause, &error) && cause != POLYDB_HOST_DONE) {
+    if (cause == POLYDB_HOST_REPLACED) {
+        heed(node, cause, &error);
+    } else if (cause != POLYDB_HOST_DONE) {
         notice(node, "a tick is left out: no memory");
     }
     if (milliseconds() - node->beaten >= BEAT) {
@@ -700,12 +737,12 @@ polydb_host_cause polydb_node_work(polydb_node *node, polydb_host_error *error) 
     (void)!read(node->again, &count, sizeof count);
     bool has_ticked = tick(node);
     bool any = take_some(node);
-    if (!node->is_failing || has_ticked) {
+    if (!is_failing(node) || has_ticked) {
         settle(node);
     }
     for (int round = 0; any && round < ROUNDS; round++) {
         any = take_some(node);
-        if (any && !node->is_failing) {
+        if (any && !is_failing(node)) {
             settle(node);
         }
     }

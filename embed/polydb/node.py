@@ -107,6 +107,7 @@ class _Link:
 
     def __init__(self, socket: Any) -> None:
         self.socket = socket
+        self.answered = 0.0  # when something came back by that socket
         self.heard: Optional[float] = None
         self.is_away = self.is_odd = False
 
@@ -322,7 +323,7 @@ class Node:
             else:
                 if self._is_failing:
                     self._is_failing = False
-                    self._notice("what had failed is written")
+                    self._notice("what had failed is done")
             outputs = self._outputs[:]
             self._outputs.clear()
             for output in outputs:
@@ -468,9 +469,14 @@ class Node:
             self._notice("a tick is left out: no memory")
 
     def _say_hello(self) -> None:
+        """Says hello to all peers. A peer that has kept this site out as a stranger isn't tried again by libzmq, and no frame can be sent to it from then on. It may know the key by now: so
+        where nothing can be sent, and nothing has come back for a while, it is connected to anew. What waited for it is lost, which a message may be."""
         self._beaten = time.monotonic()
-        for link in self._links.values():
-            self._send_frame(link, _HELLO)
+        for site, link in self._links.items():
+            if not self._send_frame(link, _HELLO) and self._beaten - link.answered > _SILENT:
+                link.socket.close()
+                link.socket = self._connect(self._peers[site])
+                self._send_frame(link, _HELLO)
 
     def _take_answers(self, site: int, link: _Link) -> None:
         while True:
@@ -478,6 +484,7 @@ class Node:
                 frame = link.socket.recv(zmq.DONTWAIT)
             except zmq.ZMQError:
                 return
+            link.answered = time.monotonic()
             kind = self._kind(frame)
             if isinstance(kind, str):
                 self.refused += 1
@@ -500,17 +507,20 @@ class Node:
         self._all.zap_domain = b"polydb"
         self._all.bind(address)
         self._back = zmq.Socket.shadow(self._all.underlying)  # the same socket, for sending at once
-        plain = zmq.Context.shadow(self._net.underlying)
+        self._plain = zmq.Context.shadow(self._net.underlying)
         for site, peer in self._peers.items():
             if site != self.me:
-                socket = plain.socket(zmq.DEALER)
-                self._set_limits(socket)
-                socket.curve_serverkey = peer.key
-                socket.curve_publickey = self._public
-                socket.curve_secretkey = self._secret
-                socket.connect(peer.address)
-                self._links[site] = _Link(socket)
+                self._links[site] = _Link(self._connect(peer))
         self._say_hello()
+
+    def _connect(self, peer: Peer) -> Any:
+        socket = self._plain.socket(zmq.DEALER)
+        self._set_limits(socket)
+        socket.curve_serverkey = peer.key
+        socket.curve_publickey = self._public
+        socket.curve_secretkey = self._secret
+        socket.connect(peer.address)
+        return socket
 
     @staticmethod
     def _set_limits(socket: Any) -> None:

@@ -122,7 +122,7 @@ async def talk(sites):
     assert not waits.done()
     failing[0] = False
     await waits
-    await notices[0].has("what had failed is written")
+    await notices[0].has("what had failed is done")
 
     # What a node that is closed leaves is unknown.
     failing[0] = True
@@ -157,6 +157,12 @@ async def wrong_keys(sites):
         await asyncio.sleep(0.02)
     else:
         raise AssertionError(sites.log(2))
+    good = sites.peers.read_text()
+    sites.peers.write_text((sites.folder / "false-peers").read_text())
+    sites.stop(2)
+    await asyncio.to_thread(sites.start, 2)
+    await notices.has("site 2 is here")  # which knows its key by now
+    sites.peers.write_text(good)
     await node.close()
 
 

@@ -1,4 +1,4 @@
-"""What operators do to a site in etcd: a store that fills and has room again, a backup that is restored, a store that has lost a write, a member of another cluster, certificates, another configuration, a higher limit
+"""What operators do to a site in etcd: a store that is away, or fills and has room again, a backup that is restored, a store that has lost a write, a member of another cluster, certificates, another configuration, a higher limit
 of journals, a site that is made twice or was never made, and a second process on one machine. One member on 127.0.0.1, and `polydbd` with one site.
 """
 
@@ -9,6 +9,7 @@ import signal
 import subprocess
 import sys
 import tempfile
+import time
 from pathlib import Path
 
 HERE = Path(__file__).resolve().parent
@@ -19,6 +20,7 @@ import nodes  # noqa: E402
 
 CONFIG = "sites 1\nitem a 0 100\nitem b 0 50\n"
 QUOTA = 16 << 20
+QUESTION, SLACK = 3.0, 10.0  # seconds that a question waits for etcd; and more, as the machine may be busy
 
 
 class OneSite(nodes.Sites):
@@ -108,6 +110,33 @@ def a_write_that_is_gone(folder, members):
             raise AssertionError(f"request {tag}: {client.line()}")
         except TimeoutError:
             pass
+
+
+def a_store_that_is_away(folder, members):
+    """A site in which nothing happens says that no member answers. What it is asked meanwhile waits for one question at most, and what was asked for goes on afterwards."""
+    members.append(member := new_member(folder, "away"))
+    with OneSite(member.client) as site:
+        site.start(0)
+        nodes.commits(site.client(0), "a := a - 10")
+        member.process.send_signal(signal.SIGSTOP)
+        site.wait_for_log(0, "can't be reached, or refuses it; nothing is let out")
+        begun = time.monotonic()
+        assert all("can't be reached" in line for _ in range(3) for line in site.polydbc(0, "read", "a", status=1)), site.log(0)
+        assert site.polydbc(0, "info")[0].startswith("info ")
+        took = time.monotonic() - begun
+        assert took < 4 * QUESTION + SLACK, f"four answers took {took} seconds"
+        tag = (client := site.client(0)).send("submit", "a := a - 10")
+        member.process.send_signal(signal.SIGCONT)
+        site.wait_for_log(0, "what had failed is done")
+        while not (line := client.line()).startswith((f"commit {tag} ", f"refuse {tag} ")):
+            assert line.startswith(f"txn {tag} "), line
+        assert site.polydbc(0, "read", "b") == ["item b 50"]
+        member.process.send_signal(signal.SIGSTOP)
+        begun = time.monotonic()
+        site.stop(0)
+        took = time.monotonic() - begun
+        member.process.send_signal(signal.SIGCONT)
+        assert took < QUESTION + SLACK, f"it took {took} seconds to stop"
 
 
 def a_store_that_fills(folder, members):
@@ -217,7 +246,7 @@ def main():
         print(f"left out: {etcd_store.missing() or 'no etcdctl'}")
         sys.exit(77)
     signal.signal(signal.SIGTERM, lambda *_: sys.exit(1))  # so that nothing is left behind
-    tests = [who_may_open, a_store_that_fills, a_write_that_is_gone, a_backup_that_is_restored, certificates]
+    tests = [who_may_open, a_store_that_is_away, a_store_that_fills, a_write_that_is_gone, a_backup_that_is_restored, certificates]
     for test in tests:
         if len(sys.argv) > 1 and test.__name__ not in sys.argv[1:]:
             continue

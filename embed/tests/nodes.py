@@ -270,7 +270,17 @@ def who_may_not():
             sites.processes[2] = subprocess.Popen(words, stderr=log)
         sites.wait_for_log(0, "a stranger was kept out", before)
         assert "site 2 is here" not in sites.log(0)[len(before) :]
+        # Once the others know its key it is let in, as it is.
+        good = sites.peers.read_text()
+        sites.peers.write_text(peers.read_text())
+        sites.stop(0)
+        before = sites.log(0)
+        sites.start(0)
+        sites.wait_for_log(0, "site 2 is here", before)
+        client = sites.client(0)
+        commits(client, "a := a - 1 ; c := c + 1")
         sites.kill(2)
+        sites.peers.write_text(good)
         # What isn't the protocol: on the port of peers, and on the socket of clients.
         for data in (b"", b"GET / HTTP/1.0\r\n\r\n", random.randbytes(100_000), bytes.fromhex("ff00000000000000017f0300435552564500"), bytes.fromhex("ff00000000000000017f03")):
             stranger = socket.create_connection(("127.0.0.1", sites.ports[0]))
@@ -344,7 +354,7 @@ def disks_that_fail():
             time.sleep(0.3)
             assert other.ask("read", "b").split()[2] in ("60", "locked")
             switch.unlink()
-            sites.wait_for_log(0, "what had failed is written", before)
+            sites.wait_for_log(0, "what had failed is done", before)
             while not client.line().startswith(("commit ", "refuse ")):
                 pass
             switch.write_text("")
