@@ -2,6 +2,7 @@
  * Clients that make transfers one after another for some seconds, each between two items of its own, one at each of two places; and how many were made, and how long one took.
  *
  *     load polydb SOCKET CLIENTS SECONDS          a polydbd, with items a0, a1, .. here and b0, b1, .. at another site
+ *     load queries SOCKET CLIENTS SECONDS         the same polydbd: both items are asked for, and nothing is written of that
  *     load postgres FOLDER CLIENTS SECONDS        a PostgreSQL with the databases left and right, each with the table items (name, value)
  */
 #define _GNU_SOURCE
@@ -29,7 +30,7 @@ typedef struct {
 } client;
 
 static const char *place;
-static bool is_postgres;
+static bool is_postgres, is_asking;
 static double end_at;
 
 static double now(void) {
@@ -72,7 +73,11 @@ static void *run_polydb(void *context) {
     char line[256];
     while (now() < end_at) {
         double begun = now();
-        fprintf(site, "submit 1 a%d := a%d - 1 ; b%d := b%d + 1\n", one->number, one->number, one->number, one->number);
+        if (is_asking) {
+            fprintf(site, "query 1 return a%d + b%d\n", one->number, one->number);
+        } else {
+            fprintf(site, "submit 1 a%d := a%d - 1 ; b%d := b%d + 1\n", one->number, one->number, one->number, one->number);
+        }
         fflush(site);
         do {
             if (fgets(line, sizeof line, site) == NULL) {
@@ -153,8 +158,9 @@ static int compare(const void *one, const void *other) {
 int main(int count, char **words) {
     static client clients[MOST];
     if (count != 5) {
-        stop("load polydb|postgres PLACE CLIENTS SECONDS");
+        stop("load polydb|queries|postgres PLACE CLIENTS SECONDS");
     }
+    is_asking = strcmp(words[1], "queries") == 0;
     is_postgres = strcmp(words[1], "postgres") == 0;
     place = words[2];
     int many = atoi(words[3]);
@@ -187,7 +193,7 @@ int main(int count, char **words) {
     if (made == 0) {
         stop("nothing was made");
     }
-    printf("%-8s %3d clients: %7.0f transfers a second, median %7.2f ms, 99th %7.2f ms, %llu refused\n", words[1], many, (double)made / seconds, times[made / 2] * 1000,
+    printf("%-8s %3d clients: %7.0f a second, median %7.2f ms, 99th %7.2f ms, %llu refused\n", words[1], many, (double)made / seconds, times[made / 2] * 1000,
            times[made * 99 / 100] * 1000, (unsigned long long)refused);
     return 0;
 }
