@@ -24,8 +24,8 @@ pub struct Begun {
     pub asker: Asker,
 }
 
-// Who asked for the transaction, which is decided now. Takes time in proportion to what is begun.
-pub(crate) fn take_asker(begun: &mut Vec<Begun>, txn: TxnId) -> Option<Asker>
+/// Who asked for the transaction, which is decided now. Takes time in proportion to what is begun.
+pub fn take_asker(begun: &mut Vec<Begun>, txn: TxnId) -> Option<Asker>
     ensures asker { result ≡ asker_in begun.old.items txn }
     ensures begun { begun.new.items ≡ without begun.old.items txn }
     ensures room { (vec_capacity begun.new ≡ vec_capacity begun.old) × (length begun.new.items ≤ length begun.old.items) }

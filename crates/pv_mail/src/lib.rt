@@ -13,7 +13,7 @@ mod telling;
 
 pub use answer::{Answer, What};
 pub use arrival::{Arrival, copy_request};
-pub use asked::{Asker, Begun};
+pub use asked::{Asker, Begun, take_asker};
 pub use crossing::ends_cross_threads;
 pub use ends::{Ends, Parcel};
 pub use head::{Head, joined, parted};

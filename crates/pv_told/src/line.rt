@@ -1,0 +1,22 @@
+// The line of a client's request.
+use pv_script::Line;
+
+/// What a client hears of a request.
+#[derive(Debug, Drop)]
+pub enum ClientWhat {
+    /// The history's line for the request, or for the transaction that it began; or that the site has met a fault since.
+    Line(Line),
+    /// There was no memory for the request.
+    NoMemory,
+    /// The box of the site takes nothing any more.
+    Worn,
+}
+
+/// What a client hears of one request.
+#[derive(Debug, Drop)]
+pub struct ClientLine {
+    /// The number of the request among its client's, from 0.
+    pub request: u32,
+    /// What the client hears.
+    pub what: ClientWhat,
+}
