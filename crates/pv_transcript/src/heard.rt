@@ -1,0 +1,59 @@
+// The lines of what clients heard, each put after what a buffer holds.
+ghost use Rattle.std.specs.Prelude.{◌≡◌, ◌++◌, OnOk};
+ghost use Rattle.pv_base.specs.Catalog.{Declared};
+ghost use Rattle.pv_report.specs.NamesOnlyItems.{NamesOnlyItems};
+ghost use Rattle.pv_script.specs.LineView.{line_of};
+ghost use Rattle.pv_transcript.specs.Heard as heard;
+ghost use Rattle.pv_transcript.specs.Heard.{client_head, heard_line};
+
+use crate::pieces::{push_bytes, push_numbered};
+use pv_base::{Catalog, NoMemory, SiteId};
+use pv_report::push_line;
+use pv_script::Line;
+
+/// The line of a request of a client, both counted from 0, where the client heard this line of its site.
+pub fn push_heard(
+    text: &mut Vec<u8>,
+    client: u32,
+    request: u32,
+    line: &Line,
+    catalog: &Catalog,
+) -> Result<(), NoMemory>
+    requires items { NamesOnlyItems catalog.now (line_of line.now) }
+    ensures { OnOk result (text.new.items ≡ text.old.items ++ heard_line catalog.now client request (heard.line (line_of line.now))) }
+{
+    push_head(text, client, request)?;
+    push_line(text, line, catalog)
+}
+
+/// The line of such a request, where the history of the client's site is full.
+pub fn push_worn(
+    text: &mut Vec<u8>,
+    client: u32,
+    request: u32,
+    site: SiteId,
+) -> Result<(), NoMemory>
+    ensures { (catalog : Declared) → OnOk result (text.new.items ≡ text.old.items ++ heard_line catalog client request (heard.worn site.0)) }
+{
+    push_head(text, client, request)?;
+    push_numbered(text, b"worn", u64::from(site.0))?;
+    push_bytes(text, b"\n")
+}
+
+/// The line of such a request, where it was lost for want of memory.
+pub fn push_no_memory(text: &mut Vec<u8>, client: u32, request: u32) -> Result<(), NoMemory>
+    ensures { (catalog : Declared) → OnOk result (text.new.items ≡ text.old.items ++ heard_line catalog client request heard.no_memory) }
+{
+    push_head(text, client, request)?;
+    push_bytes(text, b"no-memory\n")
+}
+
+// What the line begins with.
+#[tactic(auto, unfolding(crate::specs::Heard::client_head))]
+fn push_head(text: &mut Vec<u8>, client: u32, request: u32) -> Result<(), NoMemory>
+    ensures { OnOk result (text.new.items ≡ text.old.items ++ client_head client request) }
+{
+    push_numbered(text, b"client", u64::from(client))?;
+    push_numbered(text, b"", u64::from(request))?;
+    push_bytes(text, b" ")
+}
