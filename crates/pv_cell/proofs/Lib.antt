@@ -1,6 +1,12 @@
 pub mod ArrivalLemmas
 pub mod BoxLemmas
+pub mod CourseLemmas
 pub mod HistoryLemmas
 pub mod OpenLemmas
+pub mod SameLemmas
+pub mod SendLemmas
 pub mod SiteLemmas
+pub mod TogetherLemmas
+pub mod ToldLemmas
+pub mod TrafficLemmas
 pub mod VisitLemmas

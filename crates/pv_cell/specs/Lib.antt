@@ -1,7 +1,11 @@
 pub mod Box
 pub mod Changes
+pub mod Course
 pub mod Follows
 pub mod Lending
 pub mod Opens
 pub mod Room
+pub mod Together
+pub mod Told
+pub mod Traffic
 pub mod Visits

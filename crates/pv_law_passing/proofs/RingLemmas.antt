@@ -40,7 +40,7 @@ one-parcel from to sealed one other is too =
     λ i. record { stamp = stamp i; place = place i; message = (envelope i).message }
 
 module _ (setup : Setup) (histories : List (List Stamped)) (rings : ℕ → ℕ → Ring) (go : GoByRings setup histories rings) (to : ℕ) (there : to < length histories) where
-  taken-posted : (intake : Intake) → WasTaken rings (length histories) to intake → WasPosted setup histories to intake
+  taken-posted : (intake : Intake) → WasTaken (λ from. (rings from to).taken) (length histories) to intake → WasPosted setup histories to intake
   taken-posted (request client asked) was = tt
   taken-posted tick was = tt
   taken-posted (parcel from stamp place message) was =
@@ -60,7 +60,7 @@ pass-messages setup histories rings go = record {
   count = go.count;
   stamps = go.stamps;
   steps = go.steps;
-  posted = λ n less. All-weaker (λ entry. WasTaken rings (length histories) n entry.intake) (λ entry. WasPosted setup histories n entry.intake)
+  posted = λ n less. All-weaker (λ entry. WasTaken (λ from. (rings from n).taken) (length histories) n entry.intake) (λ entry. WasPosted setup histories n entry.intake)
       (λ entry was. taken-posted setup histories rings go n less entry.intake was) (history_of histories n) (go.taken n less);
 }
 
@@ -80,12 +80,12 @@ ring-takes ring one count brings = record {
   taken = prefix_trans ring.taken ring.posted (ring.posted ++ (one, count) ∷ []) brings.taken ((one, count) ∷ [], refl);
 }
 
-pub still-taken : (rings later : ℕ → ℕ → Ring) (sites to : ℕ) (intake : Intake) → ((from : ℕ) → from < sites → IsPrefix (rings from to).taken (later from to).taken)
-    → WasTaken rings sites to intake → WasTaken later sites to intake
-still-taken rings later sites to (request client asked) longer was = tt
-still-taken rings later sites to tick longer was = tt
-still-taken rings later sites to (parcel from stamp place message) longer was =
-    (was.0, (was.1.0, in-whole (rings from to).taken (later from to).taken was.1.0 (longer from was.0) was.1.1, was.1.2))
+pub still-taken : (taken later : ℕ → List (Sealed × ℕ)) (sites to : ℕ) (intake : Intake) → ((from : ℕ) → from < sites → IsPrefix (taken from) (later from))
+    → WasTaken taken sites to intake → WasTaken later sites to intake
+still-taken taken later sites to (request client asked) longer was = tt
+still-taken taken later sites to tick longer was = tt
+still-taken taken later sites to (parcel from stamp place message) longer was =
+    (was.0, (was.1.0, in-whole (taken from) (later from) was.1.0 (longer from was.0) was.1.1, was.1.2))
 
 -- ## Requests
 -- A beginning leaves out none but the last.
@@ -107,7 +107,7 @@ with-asked-append client (request asker one) asked more = one-before (asker == c
 with-asked-append client (parcel from stamp place message) asked more = refl
 with-asked-append client tick asked more = refl
 
-asked-push : (client : ℕ) (history : List Stamped) (entry : Stamped) → asked_by client (history ++ entry ∷ []) ≡ asked_by client history ++ with_asked client entry.intake []
+pub asked-push : (client : ℕ) (history : List Stamped) (entry : Stamped) → asked_by client (history ++ entry ∷ []) ≡ asked_by client history ++ with_asked client entry.intake []
 asked-push client [] entry = refl
 asked-push client (first ∷ history) entry =
     ap (with_asked client first.intake) (asked-push client history entry) ∙ with-asked-append client first.intake (asked_by client history) (with_asked client entry.intake [])

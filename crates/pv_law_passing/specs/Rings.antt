@@ -33,12 +33,12 @@ pub record Brings (ring : Ring) : Type 0 where
   pub posted : All (λ one. Contains ring.offered one.0) ring.posted
   pub taken : IsPrefix ring.taken ring.posted
 
--- A message that the site of this number took in was taken from the ring of the site that it came from.
-abbrev pub WasTaken : (ℕ → ℕ → Ring) → (sites to : ℕ) → Intake → Type 0
-WasTaken rings sites to (parcel from stamp place message) =
+-- A message that the site of this number took in is among what was taken from the ring of the site that it came from.
+abbrev pub WasTaken : (ℕ → List (Sealed × ℕ)) → (sites to : ℕ) → Intake → Type 0
+WasTaken taken sites to (parcel from stamp place message) =
     (from < sites)
-    × ((one : Sealed × ℕ) × Contains (rings from to).taken one × Seals from to one.0 (record { stamp = stamp; place = place; message = message }))
-WasTaken rings sites to other = ⊤
+    × ((one : Sealed × ℕ) × Contains (taken from) one × Seals from to one.0 (record { stamp = stamp; place = place; message = message }))
+WasTaken taken sites to other = ⊤
 
 -- The histories, one of each site, are what sites have between which these rings stand: each is its site's own steps, each entry is stamped, each ring was offered
 -- what the one site sends to the other, and each message that was taken in came from its ring.
@@ -49,4 +49,4 @@ pub record GoByRings (setup : Setup) (histories : List (List Stamped)) (rings : 
   pub rings_bring : (from to : ℕ) → from < length histories → to < length histories → Brings (rings from to)
   pub offered : (from to : ℕ) → from < length histories → to < length histories
       → AllZip (Seals from to) (rings from to).offered (posted_to setup from to first_site (history_of histories from))
-  pub taken : (n : ℕ) → n < length histories → All (λ entry. WasTaken rings (length histories) n entry.intake) (history_of histories n)
+  pub taken : (n : ℕ) → n < length histories → All (λ entry. WasTaken (λ from. (rings from n).taken) (length histories) n entry.intake) (history_of histories n)

@@ -9,10 +9,11 @@ ghost use Rattle.pv_law_histories.specs.History.{Intake, request, Stamped};
 ghost use Rattle.pv_law_histories.specs.Posting.{PassMessages};
 ghost use Rattle.pv_law_passing.specs.Asking.{AsksInOrder, asked_by, with_asked};
 ghost use Rattle.pv_law_passing.specs.Rings.{Brings, GoByRings, Ring, Sealed, WasTaken};
+ghost use Rattle.pv_law_passing.specs.Traffic.{GivesMore, GoTogether, GoesByItsRings, TakesOneMore, Traffic, rings_of};
 ghost use Rattle.pv_model.specs.LiveScript.{Request};
 ghost use Rattle.pv_protocol.specs.State.{Setup};
 
-use pv_law_histories::passed_messages_fit_together;
+use pv_law_histories::{histories_grow, passed_messages_fit_together};
 
 /// Sites between which rings stand pass messages on, so that their histories fit together: whatever the rings lose or count twice, a message that a site took in was
 /// posted to it.
@@ -21,6 +22,24 @@ pub fn rings_pass_messages()
     ensures fit { (setup : Setup) (histories : List (List Stamped)) (rings : ℕ → ℕ → Ring) → GoByRings setup histories rings → FitTogether setup histories }
 {
     passed_messages_fit_together();
+}
+
+/// Sites that each go by their own ends of rings go by the rings between them, where each ring gave a beginning of what it took; so their histories fit together.
+pub fn sites_go_by_rings()
+    ensures go { (setup : Setup) (histories : List (List Stamped)) (all : List Traffic) → GoTogether setup histories all → GoByRings setup histories (rings_of all) }
+    ensures fit { (setup : Setup) (histories : List (List Stamped)) (all : List Traffic) → GoTogether setup histories all → FitTogether setup histories }
+{
+    passed_messages_fit_together();
+}
+
+/// How one site's part goes on: it takes in one more, or takes from rings what comes to nothing.
+pub fn sites_go_on()
+    ensures more { (setup : Setup) (me : ℕ) (history : List Stamped) (entry : Stamped) (old new : Traffic) → GoesByItsRings setup me history old →
+        TakesOneMore setup me history entry old new → GoesByItsRings setup me (history ++ entry ∷ []) new }
+    ensures none { (setup : Setup) (me : ℕ) (history : List Stamped) (old new : Traffic) → GoesByItsRings setup me history old →
+        new.offered ≡ old.offered → new.posted ≡ old.posted → GivesMore setup.catalog.sites old new → GoesByItsRings setup me history new }
+{
+    histories_grow();
 }
 
 /// Of what a client asks for by a ring, what stands in its site's history stands there each once, in the order of the script.
@@ -34,8 +53,8 @@ pub fn rings_go_on()
     ensures loses { (ring : Ring) (one : Sealed) → Brings ring → Brings (record ring { offered = ring.offered ++ one ∷ [] }) }
     ensures takes { (ring : Ring) (one : Sealed) (count : ℕ) → Brings ring →
         Brings (record ring { offered = ring.offered ++ one ∷ []; posted = ring.posted ++ (one, count) ∷ [] }) }
-    ensures taken { (rings later : ℕ → ℕ → Ring) (sites to : ℕ) (intake : Intake) → ((from : ℕ) → from < sites → IsPrefix (rings from to).taken (later from to).taken) →
-        WasTaken rings sites to intake → WasTaken later sites to intake }
+    ensures taken { (taken later : ℕ → List (Sealed × ℕ)) (sites to : ℕ) (intake : Intake) → ((from : ℕ) → from < sites → IsPrefix (taken from) (later from)) →
+        WasTaken taken sites to intake → WasTaken later sites to intake }
 {}
 
 /// How what stands of a client's requests goes on: of one more that its site took the history has one more, or none where it was lost; and an entry that is none of

@@ -8,4 +8,4 @@ pub returns-clause-takes : goal.returns-clause-takes
 returns-clause-takes c ring one count brings = ring-takes ring one count brings
 
 pub returns-clause-taken : goal.returns-clause-taken
-returns-clause-taken c rings later sites to intake longer was = still-taken rings later sites to intake longer was
+returns-clause-taken c taken later sites to intake longer was = still-taken taken later sites to intake longer was

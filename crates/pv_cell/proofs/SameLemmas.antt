@@ -1,0 +1,234 @@
+-- A box stays the box that it was.
+use Rattle.std.proofs.Common.{◌≡◌, ◌≢◌, ◌⊎◌, ℕ, ◌==◌, Bool, true, false, List, [], ◌∷◌, ◌++◌, length, refl, sym, ap, ◌∙◌, subst, inl, inr, ⊎_elim, append-nil, eqb-true, Vec, Global}
+use Rattle.std.proofs.lemmas.Bool.{eqb-false}
+use Rattle.std.specs.Prelude.{Option, Some, None}
+use base.Growing.{prefix_trans}
+use mathlib.Core.List.{IsPrefix}
+use Rattle.pv_disk_model.specs.LogModel.{LogModel}
+use Rattle.pv_history.specs.Entries.{stamped_of}
+use Rattle.pv_history.specs.declared.entry.Entry.{Entry}
+use Rattle.pv_law_histories.specs.History.{Came, Intake, done, fault, down, tick}
+use Rattle.pv_mail.specs.Answers.{asker_of}
+use Rattle.pv_mail.specs.Arrivals.{Comes}
+use Rattle.pv_mail.specs.Looks.{SameInRings}
+use Rattle.pv_mail.specs.Telling.{TellsDownTo, TellsLossTo}
+use Rattle.pv_mail.specs.declared.answer.Answer.{Answer}
+use Rattle.pv_mail.specs.declared.arrival.Arrival.{Arrival}
+use Rattle.pv_mail.specs.declared.arrival.Arrival.TheVariants as arrival
+use Rattle.pv_mail.specs.declared.asked.Asker.{Asker}
+use Rattle.pv_mail.specs.declared.asked.Begun.{Begun}
+use Rattle.pv_mail.specs.declared.ends.Ends.{Ends}
+use Rattle.pv_mail.specs.declared.ends.Parcel.{Parcel}
+use Rattle.pv_post.specs.Ends.{SameIn, SameOut}
+use Rattle.pv_post.specs.declared.inlet.In.{In}
+use Rattle.pv_post.specs.declared.outlet.Out.{Out}
+use Rattle.pv_protocol.specs.State.{Outgoing}
+use Rattle.pv_rings.proofs.EachLemmas.{each-self, each-trans, each-weaker}
+use Rattle.pv_rings.proofs.RingLemmas.{hands-nothing, rests-self}
+use Rattle.pv_rings.specs.Rings.{Each, Gives, GivesOne, Hands, HandsEach, IsFoundEmpty, Rests}
+use Rattle.pv_script.specs.declared.live.Request.{Request}
+use Rattle.pv_site.specs.SiteState.{SiteState}
+use Rattle.pv_cell.proofs.CourseLemmas.{AreOneSite, one-site}
+use Rattle.pv_cell.specs.Box.{IsTickDue}
+use Rattle.pv_cell.specs.Changes.{Enters, Kept, Loses, Posts, TellsOf, kept_of}
+use Rattle.pv_cell.specs.Course.{AreSameEnds, Became}
+use Rattle.pv_cell.specs.Visits.{Arrives, FindsNothing, IsNext, TakesArrival, TakesTick, Visits}
+use Rattle.pv_cell.specs.declared.site_box.SiteBox.{SiteBox}
+use Rattle.pv_cell.specs.declared.visit.Visit.{Visit}
+use Rattle.pv_cell.specs.declared.visit.Visit.TheVariants.{Took, Idle, Worn, Lost, Stray}
+
+-- ## Ends
+module _ {M : Type 0} where
+  abbrev SameIns : List (In M) → List (In M) → Type 0
+  SameIns old new = Each (λ (k : ℕ) (one other : In M). SameIn one other) old new
+
+  abbrev SameOuts : List (Out M) → List (Out M) → Type 0
+  SameOuts old new = Each (λ (k : ℕ) (one other : Out M). SameOut one other) old new
+
+  ins-equal : (old new : List (In M)) → new ≡ old → SameIns old new
+  ins-equal old new is =
+      subst (λ (rings : List (In M)). SameIns old rings) (sym is) (each-self (λ (k : ℕ) (one other : In M). SameIn one other) old (λ k ring within. (rests-self ring).0))
+
+  outs-equal : (old new : List (Out M)) → new ≡ old → SameOuts old new
+  outs-equal old new is =
+      subst (λ (rings : List (Out M)). SameOuts old rings) (sym is)
+      (each-self (λ (k : ℕ) (one other : Out M). SameOut one other) old (λ k ring within. (hands-nothing ring).0))
+
+  ins-rest : (old new : List (In M)) → Each (λ k one other. Rests one other) old new → SameIns old new
+  ins-rest old new each =
+      each-weaker (λ (k : ℕ) (one other : In M). Rests one other) (λ (k : ℕ) (one other : In M). SameIn one other) old new (λ k x y within rests. rests.0) each
+
+  ins-empty : (old new : List (In M)) → Each (λ k one other. IsFoundEmpty one other) old new → SameIns old new
+  ins-empty old new each =
+      each-weaker (λ (k : ℕ) (one other : In M). IsFoundEmpty one other) (λ (k : ℕ) (one other : In M). SameIn one other) old new (λ k x y within is. is.0.0) each
+
+  ins-give : (ring : ℕ) (message : M) (count : ℕ) (old new : List (In M)) → GivesOne ring message count old new → SameIns old new
+  ins-give ring message count old new gives =
+      each-weaker (λ (k : ℕ) (one other : In M). (k ≡ ring → Gives message count one other) × (k ≢ ring → Rests one other))
+      (λ (k : ℕ) (one other : In M). SameIn one other) old new (λ k x y within one. at k (k == ring) refl x y one) gives.1
+    where
+      at : (k : ℕ) (test : Bool) → (k == ring) ≡ test → (x y : In M) → (k ≡ ring → Gives message count x y) × (k ≢ ring → Rests x y) → SameIn x y
+      at k true is x y one = (one.0 (eqb-true k ring is)).0
+      at k false is x y one = (one.1 (eqb-false k ring is)).0
+
+  outs-hand : (P : ℕ → List M → Type 0) (old new : List (Out M)) → HandsEach P old new → SameOuts old new
+  outs-hand P old new each =
+      each-weaker (λ (k : ℕ) (one other : Out M). (more : List M) × Hands more one other × P k more) (λ (k : ℕ) (one other : Out M). SameOut one other) old new
+      (λ k x y within hands. hands.1.0) each
+
+  outs-one : (more : ℕ → List M) (old new : List (Out M)) → Each (λ k one other. Hands (more k) one other) old new → SameOuts old new
+  outs-one more old new each =
+      each-weaker (λ (k : ℕ) (one other : Out M). Hands (more k) one other) (λ (k : ℕ) (one other : Out M). SameOut one other) old new
+      (λ k x y within hands. hands.0) each
+
+  in-trans : (a b c : In M) → SameIn a b → SameIn b c → SameIn a c
+  in-trans a b c one other = ((other.0.0 ∙ one.0.0, other.0.1 ∙ one.0.1, other.0.2 ∙ one.0.2, other.0.3 ∙ one.0.3), other.1 ∙ one.1)
+
+  out-trans : (a b c : Out M) → SameOut a b → SameOut b c → SameOut a c
+  out-trans a b c one other =
+      (((other.0.0.0 ∙ one.0.0.0, other.0.0.1 ∙ one.0.0.1, other.0.0.2 ∙ one.0.0.2, other.0.0.3 ∙ one.0.0.3), other.0.1 ∙ one.0.1), other.1 ∙ one.1)
+
+  ins-trans : (a b c : List (In M)) → SameIns a b → SameIns b c → SameIns a c
+  ins-trans a b c one other =
+      each-trans (λ (k : ℕ) (x y : In M). SameIn x y) (λ (k : ℕ) (x y : In M). SameIn x y) (λ (k : ℕ) (x y : In M). SameIn x y) a b c
+      (λ k x y z within. in-trans x y z) one other
+
+  outs-trans : (a b c : List (Out M)) → SameOuts a b → SameOuts b c → SameOuts a c
+  outs-trans a b c one other =
+      each-trans (λ (k : ℕ) (x y : Out M). SameOut x y) (λ (k : ℕ) (x y : Out M). SameOut x y) (λ (k : ℕ) (x y : Out M). SameOut x y) a b c
+      (λ k x y z within. out-trans x y z) one other
+
+-- ## What is handed out
+posts-same : (me stamp : ℕ) (came : Came) (sends : List Outgoing) (old new : List (Out Parcel)) → Posts me stamp came sends old new → SameOuts old new
+posts-same me stamp (done notes) sends old new posts = outs-hand _ old new posts
+posts-same me stamp fault sends old new same = outs-equal old new same
+posts-same me stamp down sends old new same = outs-equal old new same
+
+down-same : (me seen : ℕ) (asker : Option Asker) (old new : List (Out Answer)) → TellsDownTo me seen asker old new → SameOuts old new
+down-same me seen None old new same = outs-equal old new same
+down-same me seen (Some asker) old new tells = outs-one _ old new tells
+
+loss-same : (seen : ℕ) (asker : Option Asker) (old new : List (Out Answer)) → TellsLossTo seen asker old new → SameOuts old new
+loss-same seen None old new same = outs-equal old new same
+loss-same seen (Some asker) old new tells = outs-one _ old new tells
+
+tells-same : (me seen : ℕ) (begun : List Begun) (intake : Intake) (came : Came) (old new : List (Out Answer)) → TellsOf me seen begun intake came old new
+    → SameOuts old new
+tells-same me seen begun intake (done notes) old new tells = outs-hand _ old new tells
+tells-same me seen begun intake fault old new same = outs-equal old new same
+tells-same me seen begun intake down old new tells = down-same me seen (asker_of intake) old new tells
+
+-- ## What comes in
+abbrev SameWaysIn : Ends → Ends → Type 0
+SameWaysIn old new = SameIns old.sites_in.items new.sites_in.items × SameIns old.clients_in.items new.clients_in.items
+
+same-in : (old new : Ends) → SameInRings old new → SameWaysIn old new
+same-in old new same = (
+  ins-equal old.sites_in.items new.sites_in.items (ap (λ (all : Vec (In Parcel) Global). all.items) same.0),
+  ins-equal old.clients_in.items new.clients_in.items (ap (λ (all : Vec (In Request) Global). all.items) same.1),
+)
+
+comes-in : (old new : Ends) (came : Arrival) (count : ℕ) → Comes old new came count → SameWaysIn old new
+comes-in old new (arrival.Request client request) count comes =
+    (ins-rest old.sites_in.items new.sites_in.items comes.1, ins-give client request count old.clients_in.items new.clients_in.items comes.0)
+comes-in old new (arrival.Parcel from parcel) count comes =
+    (ins-give from.0 parcel count old.sites_in.items new.sites_in.items comes.0, ins-rest old.clients_in.items new.clients_in.items comes.1)
+
+-- ## Boxes
+module _ {W : Type 0} where
+  pub became-trans : (old mid new : SiteBox W) → Became old mid → Became mid new → Became old new
+  became-trans old mid new one other = record {
+    site = (other.site.0 ∙ one.site.0, other.site.1 ∙ one.site.1);
+    ends = (
+      ins-trans old.ends.sites_in.items mid.ends.sites_in.items new.ends.sites_in.items one.ends.0 other.ends.0,
+      outs-trans old.ends.sites_out.items mid.ends.sites_out.items new.ends.sites_out.items one.ends.1 other.ends.1,
+      ins-trans old.ends.clients_in.items mid.ends.clients_in.items new.ends.clients_in.items one.ends.2 other.ends.2,
+      outs-trans old.ends.clients_out.items mid.ends.clients_out.items new.ends.clients_out.items one.ends.3 other.ends.3,
+    );
+    history = prefix_trans old.history.items mid.history.items new.history.items one.history other.history;
+  }
+
+  pub became-self : (box : SiteBox W) → Became box box
+  became-self box = record {
+    site = (refl, refl);
+    ends = (
+      ins-equal box.ends.sites_in.items box.ends.sites_in.items refl,
+      outs-equal box.ends.sites_out.items box.ends.sites_out.items refl,
+      ins-equal box.ends.clients_in.items box.ends.clients_in.items refl,
+      outs-equal box.ends.clients_out.items box.ends.clients_out.items refl,
+    );
+    history = ([], append-nil box.history.items);
+  }
+
+  next-in : (old new : SiteBox W) (came : Arrival) (count : ℕ) → IsNext old new came count → SameWaysIn old.ends new.ends
+  next-in old new came count (inl left) = same-in old.ends new.ends left.3
+  next-in old new came count (inr next) = comes-in old.ends new.ends came count next.1
+
+  module _ (M : LogModel W) (old new : SiteBox W) (ways : SameWaysIn old.ends new.ends) where
+    enters-became : (intake : Intake) → Enters M (kept_of old) (kept_of new) intake → Became old new
+    enters-became intake e = record {
+      site = one-site M old.site new.site old.site.running _ e.answer e.made;
+      ends = (
+        ways.0,
+        posts-same old.site.me e.entry.stamp (stamped_of e.entry).came _ old.ends.sites_out.items new.ends.sites_out.items e.posts,
+        ways.1,
+        tells-same old.site.me (length new.history.items) old.begun.items intake (stamped_of e.entry).came old.ends.clients_out.items new.ends.clients_out.items e.tells,
+      );
+      history = (e.entry ∷ [], sym e.history);
+    }
+
+    loses-became : (asker : Option Asker) → Loses M (kept_of old) (kept_of new) asker → Became old new
+    loses-became asker loses = record {
+      site = ⊎_elim (λ same. (ap (λ (s : SiteState W). s.me) same, ap (λ (s : SiteState W). s.catalog) same))
+          (λ stays. (ap (λ (s : SiteState W). s.me) stays.site, ap (λ (s : SiteState W). s.catalog) stays.site)) loses.site;
+      ends = (
+        ways.0,
+        outs-equal old.ends.sites_out.items new.ends.sites_out.items (ap (λ (k : Kept W). k.sites_out) loses.changed),
+        ways.1,
+        loss-same (length old.history.items) asker old.ends.clients_out.items new.ends.clients_out.items loses.tells,
+      );
+      history = ([], append-nil old.history.items ∙ sym (ap (λ (k : Kept W). k.history) loses.changed));
+    }
+
+    same-became : kept_of new ≡ kept_of old → Became old new
+    same-became same = record {
+      site = (ap (λ (k : Kept W). k.site.me) same, ap (λ (k : Kept W). k.site.catalog) same);
+      ends = (
+        ways.0,
+        outs-equal old.ends.sites_out.items new.ends.sites_out.items (ap (λ (k : Kept W). k.sites_out) same),
+        ways.1,
+        outs-equal old.ends.clients_out.items new.ends.clients_out.items (ap (λ (k : Kept W). k.clients_out) same),
+      );
+      history = ([], append-nil old.history.items ∙ sym (ap (λ (k : Kept W). k.history) same));
+    }
+
+  module _ (M : LogModel W) (old new : SiteBox W) where
+    pub tick-became : (visit : Visit) → TakesTick M old new visit → Became old new
+    tick-became Took takes = enters-became M old new (same-in old.ends new.ends takes.1.2) tick takes.2
+    tick-became Worn takes = subst (λ (box : SiteBox W). Became old box) (sym takes.1) (became-self old)
+    tick-became Lost takes = loses-became M old new (same-in old.ends new.ends takes.1.2) None takes.2
+    tick-became Idle takes = absurd takes
+    tick-became Stray takes = absurd takes
+
+    arrival-became : (came : Arrival) → Arrives old new came → (visit : Visit) → TakesArrival M old new came visit → Became old new
+    arrival-became came arrives Took takes = enters-became M old new (next-in old new came arrives.0 arrives.1) takes.1.0 takes.1.2
+    arrival-became came arrives Lost takes = loses-became M old new (next-in old new came arrives.0 arrives.1) _ takes
+    arrival-became came arrives Stray takes = same-became M old new (next-in old new came arrives.0 arrives.1) takes.1
+    arrival-became came arrives Idle takes = absurd takes
+    arrival-became came arrives Worn takes = absurd takes
+
+    taking-became : (visit : Visit)
+        → (IsTickDue old × TakesTick M old new visit)
+        ⊎ ((IsTickDue old → ⊥) × (new.idle ≡ 0) × ((came : Arrival) × Arrives old new came × TakesArrival M old new came visit)) → Became old new
+    taking-became visit (inl due) = tick-became visit due.1
+    taking-became visit (inr came) = arrival-became came.2.0 came.2.1 visit came.2.2
+
+    pub visit-became : (visit : Visit) → Visits M old new visit → Became old new
+    visit-became Worn visits = subst (λ (box : SiteBox W). Became old box) (sym visits.1) (became-self old)
+    visit-became Idle visits =
+        same-became M old new
+        (ins-empty old.ends.sites_in.items new.ends.sites_in.items visits.2.rings.0, ins-empty old.ends.clients_in.items new.ends.clients_in.items visits.2.rings.1)
+        visits.2.kept
+    visit-became Took visits = taking-became Took visits.1
+    visit-became Lost visits = taking-became Lost visits.1
+    visit-became Stray visits = taking-became Stray visits.1

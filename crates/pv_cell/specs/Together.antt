@@ -1,0 +1,42 @@
+-- The boxes of all sites, with the rings between them.
+use Rattle.std.specs.Prelude.{◌≡◌, ℕ, ◌<◌, List, length, map, get_or}
+use mathlib.Core.List.{IsPrefix}
+use Rattle.pv_base.specs.Catalog.{Declared}
+use Rattle.pv_history.specs.Entries.{stamps_of}
+use Rattle.pv_law_histories.specs.History.{Stamped}
+use Rattle.pv_law_passing.specs.Traffic.{Traffic}
+use Rattle.pv_mail.specs.declared.ends.Parcel.{Parcel}
+use Rattle.pv_post.specs.Ends.{posted, taken}
+use Rattle.pv_post.specs.declared.inlet.In.{In}
+use Rattle.pv_post.specs.declared.outlet.Out.{Out}
+use Rattle.pv_cell.specs.Box.{HasRings}
+use Rattle.pv_cell.specs.Course.{HasCourse}
+use Rattle.pv_cell.specs.Traffic.{traffic_of}
+use Rattle.pv_cell.specs.declared.site_box.SiteBox.{SiteBox}
+
+module _ {W : Type 0} where
+  -- what each site took in, as the laws on histories speak of it
+  abbrev pub histories_of : List (SiteBox W) → List (List Stamped)
+  histories_of boxes = map (λ box. stamps_of box.history.items) boxes
+
+  -- what went through the rings of each
+  abbrev pub traffics_of : List (SiteBox W) → List Traffic
+  traffics_of boxes = map (λ box. traffic_of box.ends) boxes
+
+  -- It is the box of the site of this number, with its whole course.
+  pub record IsSitesBox (catalog : Declared) (n : ℕ) (box : SiteBox W) : Type 0 where
+    pub number : box.site.me ≡ n
+    pub catalog_is : box.site.catalog ≡ catalog
+    pub rings : HasRings box
+    pub course : HasCourse box
+
+  -- The ring from the box of the one site to that of the other gave a beginning of what it took.
+  abbrev pub Brought : (from to : ℕ) → (one other : SiteBox W) → Type 0
+  Brought from to one other =
+      (out : Out Parcel) (inlet : In Parcel) → IsPrefix (taken (get_or other.ends.sites_in.items from inlet)) (posted (get_or one.ends.sites_out.items to out))
+
+  -- They are the boxes of all sites, in order, with a ring from each to each.
+  pub record AreAllBoxes (catalog : Declared) (boxes : List (SiteBox W)) : Type 0 where
+    pub count : length boxes ≡ catalog.sites
+    pub boxes_are : (n : ℕ) (any : SiteBox W) → n < length boxes → IsSitesBox catalog n (get_or boxes n any)
+    pub brought : (from to : ℕ) (any : SiteBox W) → from < length boxes → to < length boxes → Brought from to (get_or boxes from any) (get_or boxes to any)

@@ -1,0 +1,52 @@
+// How a box goes on, visit by visit.
+ghost use Rattle.std.specs.Prelude.{List};
+ghost use Rattle.pv_base.specs.Catalog.{Declared};
+ghost use Rattle.pv_cell.specs.Box.{IsBox};
+ghost use Rattle.pv_cell.specs.Course.{Became, HasCourse, IsNew};
+ghost use Rattle.pv_cell.specs.Together.{AreAllBoxes, histories_of};
+ghost use Rattle.pv_cell.specs.Told.{TellsItsHistory};
+ghost use Rattle.pv_cell.specs.Visits.{TakesTick, Visits};
+ghost use Rattle.pv_law_histories.specs.Fitting.{FitTogether};
+ghost use Rattle.pv_site.specs.SiteState.{setup_of};
+
+use crate::{SiteBox, Visit};
+use pv_disk::Log;
+use pv_law_histories::histories_grow;
+use pv_law_passing::{sites_go_by_rings, sites_go_on};
+
+/// The history of a box is whole: from its opening on, through any visits and ticks, it is all that its site did (`HasCourse`). Its entries are the site's own
+/// steps, stamped, from the start on; what they post was offered to the rings, in order and in bytes, and what they took in was taken from the rings. The function
+/// does nothing: it states a law, of a new box and of each call.
+pub fn boxes_keep_their_course<L: Log>()
+    ensures new { (box : SiteBox L) → IsNew box → HasCourse box }
+    ensures visit { (old new : SiteBox L) (visit : Visit) → IsBox L.model old → Visits L.model old new visit → HasCourse old → HasCourse new }
+    ensures tick { (old new : SiteBox L) (visit : Visit) → IsBox L.model old → TakesTick L.model old new visit → HasCourse old → HasCourse new }
+{
+    histories_grow();
+    sites_go_on();
+}
+
+/// What a box told its clients is by its history: each line is one that an entry tells that client of that request, with as many entries as the answer says.
+/// So it is from the box's opening on, through any visits and ticks. The function does nothing: it states a law, of a new box and of each call.
+pub fn boxes_tell_their_history<L: Log>()
+    ensures new { (box : SiteBox L) → IsNew box → TellsItsHistory box }
+    ensures visit { (old new : SiteBox L) (visit : Visit) → Visits L.model old new visit → TellsItsHistory old → TellsItsHistory new }
+    ensures tick { (old new : SiteBox L) (visit : Visit) → TakesTick L.model old new visit → TellsItsHistory old → TellsItsHistory new }
+{}
+
+/// The histories of the boxes of all sites fit together, where each ring gave a beginning of what it took: so their merge is one run of the world. The function does
+/// nothing: it states a law.
+pub fn boxes_fit_together<L: Log>()
+    ensures { (catalog : Declared) (boxes : List (SiteBox L)) → AreAllBoxes catalog boxes → FitTogether (setup_of catalog) (histories_of boxes) }
+{
+    sites_go_by_rings();
+}
+
+/// A box stays the box that it was: the same site with the same rings, whose history only grows, through any visits and ticks. The function does nothing: it states
+/// a law, of each call and of several in a row.
+pub fn boxes_stay_the_same<L: Log>()
+    ensures none { (box : SiteBox L) → Became box box }
+    ensures visit { (old new : SiteBox L) (visit : Visit) → Visits L.model old new visit → Became old new }
+    ensures tick { (old new : SiteBox L) (visit : Visit) → TakesTick L.model old new visit → Became old new }
+    ensures both { (old mid new : SiteBox L) → Became old mid → Became mid new → Became old new }
+{}
