@@ -1,5 +1,5 @@
 //! A site in a box: it takes what rings bring it, one input a visit, stamps it, keeps what came of it as a history, and posts what its steps send
-//! and what its clients are to hear. What is so of a box at any time, after however many visits and ticks, is said of each of its calls by the laws of `course.rt`.
+//! and what its clients are to hear. What is so of a box at any time, after however many visits and ticks, is said of `new`, `visit` and `tick` by the laws of `course.rt`.
 #![tactic(auto)]
 
 mod course;

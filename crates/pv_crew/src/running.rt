@@ -93,11 +93,12 @@ fn play_all<T: Threads + Sync, Q: Send + Drop, A: Send + Drop>(
             ensures { HasPlayed client result }
         { played(client) },
     );
+    // Also where there was no memory for the clients: else the workers would go on.
     ended.store(true, Ordering::SeqCst);
     Ok(back?)
 }
 
-// The client when it has asked.
+// The client, once it has asked.
 fn played<Q: Drop, A: Drop>(client: Client<Q, A>) -> Client<Q, A>
     requires { posted client.asks ≡ [] }
     ensures { HasPlayed client result }

@@ -18,12 +18,14 @@ use std::alloc::Global;
 use std::sync::Wait;
 use std::thread::Threads;
 
-/// Serves the clients: each value is in a turn, so many workers go round the turns and visit what they find there, and all clients ask at the same time. It ends
+/// Serves the clients: each value is in a turn, `workers` threads go round the turns and visit what they find there, and all clients ask at the same time. It ends
 /// when all have ended, and gives the values and the clients back, in order.
 ///
-/// The worker of number w begins at the value of number w modulo their count. A worker ends when all clients have ended, or after
-/// [`MAX_IDLE`](crate::MAX_IDLE) visits in a row that took nothing. The gate is told of each visit, with the number of its value. Where no thread can be made, all is
-/// done in this one.
+/// The worker of number w begins at the value of number w modulo the count of values. A worker ends when all clients have ended, or after
+/// [`MAX_IDLE`](crate::MAX_IDLE) visits in a row that took nothing. The gate is told of each visit, with the number of its value. Where no thread can be made, the
+/// workers and then the clients go one after another in this one: a worker ends by its idle visits then, and a client hears nothing.
+///
+/// Without memory, which it takes before, while and after threads run, the values and the clients are gone.
 pub fn serve<
     T: Threads + Wait + Sync,
     V: Visited + Send + Drop,

@@ -1,17 +1,18 @@
 -- Rings from each of several sites to each.
 use Rattle.std.specs.Prelude.{◌≡◌, ℕ, Option, Some, None, Vec, List, [], ◌∷◌, ◌++◌, length, slice_get, All}
 use Rattle.std.specs.declared.alloc.Global.{Global}
-use Rattle.pv_post.specs.Ends.{IsPair, known, offered, plan_of, posted, taken}
+use Rattle.pv_post.specs.Ends.{IsPair, free, known, offered, plan_of, posted, taken}
 use Rattle.pv_post.specs.declared.fault_plan.FaultPlan.{FaultPlan}
 use Rattle.pv_post.specs.declared.inlet.In.{In}
 use Rattle.pv_post.specs.declared.outlet.Out.{Out}
+use Rattle.pv_post.specs.declared.ring.TheConstants.{PLACES}
 use Rattle.pv_rings.specs.Rings.{Each}
 use Rattle.pv_links.specs.Rows.{StandsAt}
 
 module _ {M : Type 0} where
-  -- Nothing was posted on the ring, and nothing was taken from it.
+  -- Nothing was posted on the ring, whose places are all free, and nothing was taken from it.
   abbrev pub IsUnusedOut : FaultPlan → Out M → Type 0
-  IsUnusedOut plan out = (plan_of out ≡ plan) × (offered out ≡ []) × (posted out ≡ [])
+  IsUnusedOut plan out = (plan_of out ≡ plan) × (offered out ≡ []) × (posted out ≡ []) × (free out ≡ PLACES)
 
   abbrev pub IsUnusedIn : In M → Type 0
   IsUnusedIn inlet = (taken inlet ≡ []) × (known inlet ≡ [])

@@ -26,7 +26,7 @@ pub fn link_all<M: Drop>(
     Ok((outs, ins))
 }
 
-// A new ring from the next site to each: the ends by which it posts. By the others the sites take; each is added to the row of its site.
+// A new ring from one more site to each. Gives the ends by which it posts; the other ends go to the rows of the sites that take.
 fn link_one<M: Drop>(
     alloc: Global,
     plan: FaultPlan,

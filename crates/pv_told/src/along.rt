@@ -63,7 +63,7 @@ fn tell_notes<'a>(
     Ok(())
 }
 
-// Adds what a client is told of the note. It is answered who is left of the asker: a request begins one transaction.
+// Adds what a client is told of the note. Gives back who is still to be answered: nobody once the request has begun its transaction.
 fn tell_note<'a>(
     told: &mut Vec<Told<'a>>,
     begun: &mut Vec<Begun>,

@@ -1,7 +1,6 @@
 // The lines of all requests of a client.
-ghost use Rattle.std.specs.Prelude.{◌≡◌, ℕ, false, true, None, Some, IfNone, IfOk, IfSome, is_some, []};
+ghost use Rattle.std.specs.Prelude.{◌≡◌, ℕ, None, Some, IfNone, IfOk, IfSome, is_some, []};
 ghost use Rattle.pv_history.specs.Entries.{stamps_of};
-ghost use Rattle.pv_law_histories.specs.History as law;
 ghost use Rattle.pv_told.specs.Along as along;
 ghost use Rattle.pv_told.specs.Along.{has_fault_since, line_among};
 ghost use Rattle.pv_told.specs.Lines.{AreLinesOf, IsSaid};
@@ -21,8 +20,11 @@ use std::alloc::Global;
 
 /// What a client hears of each of so many requests, in order, by the history of its site, whose box may be worn. It is the client at this place among the site's own.
 ///
+/// It is for a history that is at its end, when each request has its line or was lost ([`has_line`] tells): a request that is under way, or was never asked, counts as lost for
+/// want of memory.
+///
 /// Takes time in proportion to the history, to the transactions that came to an end times those that were begun and not decided then, and to the requests times the
-/// lines that the history has for clients.
+/// lines that the history has for clients, and times the requests that stand before a fault.
 pub fn lines_of_client(
     alloc: Global,
     site: SiteId,
@@ -47,7 +49,7 @@ pub fn lines_of_client(
     Ok(lines)
 }
 
-/// Whether the history has a line for the request of this number of the client, or for its transaction; a fault isn't meant. Takes time in proportion to the history, and
+/// Whether the history has a line for the request of this number of the client, or for its transaction; a fault since is no such line. Takes time in proportion to the history, and
 /// to the transactions that came to an end times those that were begun and not decided then.
 pub fn has_line(
     alloc: Global,

@@ -9,7 +9,8 @@ use crate::pieces::{push_bytes, push_numbered};
 use pv_base::{Mode, NoMemory, SiteId};
 use pv_script::Event;
 
-/// Puts the line of an event after what the buffer holds. It says the event: in a schedule of the same sites and items it is read as that.
+/// Puts the line of an event after what the buffer holds; a request's program stands as its text. Where that text is the program's, the line is meant to be read as the
+/// event, which no contract says.
 pub fn push_event(text: &mut Vec<u8>, event: &Event) -> Result<(), NoMemory>
     ensures { OnOk result (text.new.items ≡ text.old.items ++ event_line (event_of event.now)) }
 {

@@ -10,4 +10,4 @@ mod pieces;
 pub use catalog::push_catalog;
 pub use event::push_event;
 pub use heard::{push_heard, push_no_memory, push_worn};
-pub use parts::{push_answers, push_clients, push_schedule};
+pub use parts::{push_answers, push_clients_heading, push_schedule};

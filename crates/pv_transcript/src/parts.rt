@@ -38,7 +38,7 @@ fn push_events(text: &mut Vec<u8>, events: &[Event]) -> Result<(), NoMemory>
 }
 
 /// What the lines of clients begin with.
-pub fn push_clients(text: &mut Vec<u8>) -> Result<(), NoMemory>
+pub fn push_clients_heading(text: &mut Vec<u8>) -> Result<(), NoMemory>
     ensures { OnOk result (text.new.items ≡ text.old.items ++ codes "clients\n") }
 {
     push_bytes(text, b"clients\n")

@@ -20,6 +20,6 @@ loop-to-preserved g c =
       ap (λ (n : ℕ). n + 1) kept.0 ∙ sym long,
       let less = c.loop-to-test.true in let whole = c.len-to-end.ensures in let same = kept.0 in omega (arith, long),
       subst (λ l. AreLinked c.args.plan l first last) (sym new)
-          (linked-more c.args.plan outs out inlet c.in_ok-out.ensures.pair c.in_ok-out.ensures.inlet first mid last kept.2 (unused.0, unused.1, unused.2)
+          (linked-more c.args.plan outs out inlet c.in_ok-out.ensures.pair c.in_ok-out.ensures.inlet first mid last kept.2 unused
           (subst (λ n. AddsTo n inlet mid last) kept.0 c.in_ok-push_to.ensures)),
     )
