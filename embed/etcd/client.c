@@ -135,6 +135,7 @@ bool client_ask(etcd_client *client, const char *path, const text *request, int6
                   curl_easy_setopt(curl, CURLOPT_POSTFIELDSIZE_LARGE, (curl_off_t)request->length) == CURLE_OK &&
                   curl_easy_setopt(curl, CURLOPT_TIMEOUT_MS, (long)(most < 1 ? 1 : most)) == CURLE_OK;
     CURLcode code = is_set ? curl_easy_perform(curl) : CURLE_OUT_OF_MEMORY;
+    client->is_heard = code == CURLE_OK;
     if (code != CURLE_OK) {
         return fail(client, curl_easy_strerror(code));
     }

@@ -15,6 +15,7 @@ typedef struct {
     size_t count, current;
     text in;            /* what the member has answered */
     uint64_t cluster;   /* the number of the cluster that answered first: another one isn't heard. 0 for none yet */
+    bool is_heard;      /* a member has answered the last request, perhaps by a refusal */
     char failure[120];  /* why the last request has no answer */
 } etcd_client;
 

@@ -613,7 +613,8 @@ static polydb_host_cause etcd_write(polydb_store *store, const store_write *writ
 static polydb_host_fill etcd_fill(polydb_store *store) {
     site_keys *keys = keys_of(store);
     etcd_answer answer;
-    if (keys->sized == 0 || client_now() - keys->sized > FILL_AGAIN) {
+    bool is_time = keys->sized == 0 || client_now() - keys->sized > FILL_AGAIN;
+    if (is_time && keys->client.is_heard) { /* where no member answers it waits enough for what it has to ask */
         keys->sized = client_now();
         begin(keys, "{}");
         if (client_ask(&keys->client, "/v3/maintenance/status", &keys->request, ATTEMPT, &answer)) {

@@ -671,9 +671,6 @@ polydb_host_cause polydb_node_read(polydb_node *node, const uint8_t *name, size_
 
 /* Says how full a store is: at half, and then at each tenth more. */
 static void look_how_full(polydb_node *node) {
-    if (is_failing(node)) {
-        return;
-    }
     polydb_host_fill fill = polydb_host_filled(node->host);
     unsigned tenths = fill.limit == 0 ? 0 : (unsigned)(fill.used / (fill.limit / 10 + 1));
     if (tenths >= 5 && tenths > node->filled) {
