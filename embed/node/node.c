@@ -76,6 +76,7 @@ struct polydb_node {
     bool is_spent;
     polydb_host_error failure; /* why the last write or question has failed, if it has, and that was said */
     int64_t failed;            /* when it did */
+    bool has_just_failed;      /* it did since polydb_node_work ended last: there is other work before it is made again */
     polydb_host_error replaced; /* once another process has the site, with that cause */
     unsigned filled; /* tenths of the store that were said to be full */
     polydb_node_counts counts;
@@ -628,6 +629,7 @@ static void heed(polydb_node *node, polydb_host_cause cause, const polydb_host_e
     bool was_failing = is_failing(node);
     node->failure = cause == POLYDB_HOST_DONE ? (polydb_host_error){.cause = POLYDB_HOST_DONE} : *error;
     node->failed = milliseconds();
+    node->has_just_failed |= is_failing(node);
     if (is_failing(node) && !was_failing) {
         notice(node, "%s; nothing is let out that rests on it, and it is made again", polydb_host_describe(error, words, sizeof words));
     } else if (was_failing && !is_failing(node)) {
@@ -734,7 +736,7 @@ polydb_host_cause polydb_node_work(polydb_node *node, polydb_host_error *error) 
     (void)!read(node->again, &count, sizeof count);
     bool has_ticked = tick(node);
     bool any = take_some(node);
-    if (!is_failing(node) || has_ticked) {
+    if (!is_failing(node) || (has_ticked && !node->has_just_failed)) {
         settle(node);
     }
     for (int round = 0; any && round < ROUNDS; round++) {
@@ -743,6 +745,7 @@ polydb_host_cause polydb_node_work(polydb_node *node, polydb_host_error *error) 
             settle(node);
         }
     }
+    node->has_just_failed = false;
     if (any) {
         work_again(node);
     }

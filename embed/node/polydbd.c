@@ -267,6 +267,7 @@ static int serve(server *all) {
         for (int i = 0; i < CLIENTS; i++) {
             if (waits[FIRST_CLIENT + i].fd != NO_FILE && (waits[FIRST_CLIENT + i].revents & (POLLIN | POLLHUP | POLLERR)) != 0) {
                 hear_client(all, &all->clients[i]);
+                flush(&all->clients[i]); /* what a question to a store has answered doesn't wait for the next one */
             }
         }
         polydb_host_cause cause = polydb_node_work(all->node, &error);
