@@ -389,6 +389,17 @@ static void close_socket(void *socket) {
     }
 }
 
+/* Closes the socket to a peer, which the epoll isn't to know any more: libzmq has its descriptor for a while yet. */
+static void leave(polydb_node *node, peer_link *one) {
+    int file = -1;
+    size_t length = sizeof file;
+    if (one->socket != NULL && zmq_getsockopt(one->socket, ZMQ_FD, &file, &length) == 0) {
+        epoll_ctl(node->epoll, EPOLL_CTL_DEL, file, NULL);
+    }
+    close_socket(one->socket);
+    one->socket = NULL;
+}
+
 /*
  * Says hello to all peers. A peer that has kept this site out as a stranger isn't tried again by libzmq, and no frame can be sent to it from then on. It may know the key by now: so where nothing
  * can be sent, and nothing has come back for a while, it is connected to anew. What waited for it is lost, which a message may be.
@@ -400,12 +411,11 @@ static void say_hello(polydb_node *node) {
         if (!node->peers[site].is_there || site == node->me || (one->socket != NULL && send_frame(node, one->socket, HELLO, NULL, 0)) || node->beaten - one->answered <= SILENT) {
             continue;
         }
-        close_socket(one->socket);
+        leave(node, one);
         if (connect_to(node, site)) {
             send_frame(node, one->socket, HELLO, NULL, 0);
         } else {
-            close_socket(one->socket); /* the next hello tries again */
-            one->socket = NULL;
+            leave(node, one); /* the next hello tries again */
         }
     }
 }
