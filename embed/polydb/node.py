@@ -475,7 +475,10 @@ class Node:
         for site, link in self._links.items():
             if not self._send_frame(link, _HELLO) and self._beaten - link.answered > _SILENT:
                 link.socket.close()
-                link.socket = self._connect(self._peers[site])
+                try:
+                    link.socket = self._connect(self._peers[site])
+                except zmq.ZMQError:
+                    continue  # by the closed one nothing can be sent, so the next hello tries again
                 self._send_frame(link, _HELLO)
 
     def _take_answers(self, site: int, link: _Link) -> None:
@@ -515,11 +518,15 @@ class Node:
 
     def _connect(self, peer: Peer) -> Any:
         socket = self._plain.socket(zmq.DEALER)
-        self._set_limits(socket)
-        socket.curve_serverkey = peer.key
-        socket.curve_publickey = self._public
-        socket.curve_secretkey = self._secret
-        socket.connect(peer.address)
+        try:
+            self._set_limits(socket)
+            socket.curve_serverkey = peer.key
+            socket.curve_publickey = self._public
+            socket.curve_secretkey = self._secret
+            socket.connect(peer.address)
+        except BaseException:
+            socket.close()
+            raise
         return socket
 
     @staticmethod

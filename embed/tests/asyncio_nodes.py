@@ -2,6 +2,7 @@
 And peers with a good key that send what is nothing, a frame of 1 GiB, or half a frame."""
 
 import asyncio
+import errno
 import random
 import socket
 import sys
@@ -42,6 +43,14 @@ async def commits(node, program):
     while not (answer := await node.submit(program)):
         assert answer.cause in ("expired", "conflict", "grant-lost"), answer
     return answer
+
+
+async def until(holds, what):
+    for _ in range(3000):
+        if holds():
+            return
+        await asyncio.sleep(0.02)
+    raise AssertionError(what)
 
 
 async def refused(error, call):
@@ -151,17 +160,24 @@ async def wrong_keys(sites):
     (sites.folder / "false-peers").write_text("\n".join(peers))
     before = sites.log(2)
     node = await Node.open(sites.data(0), nodes.CONFIG, 0, sites.folder / "false-peers", key=sites.folder / "stranger", tick=0.04, notice=notices)
-    for _ in range(3000):
-        if "a stranger was kept out" in sites.log(2)[len(before) :]:
-            break
-        await asyncio.sleep(0.02)
-    else:
-        raise AssertionError(sites.log(2))
+    await until(lambda: "a stranger was kept out" in sites.log(2)[len(before) :], "it isn't kept out")
+    connect, failures = node._connect, []
+
+    def fail_once(peer):
+        if not failures:
+            failures.append(peer)
+            raise zmq.ZMQError(errno.EMFILE)
+        return connect(peer)
+
+    node._connect = fail_once
+    await until(lambda: failures, "site 2 isn't connected to anew")
     good = sites.peers.read_text()
     sites.peers.write_text((sites.folder / "false-peers").read_text())
     sites.stop(2)
     await asyncio.to_thread(sites.start, 2)
     await notices.has("site 2 is here")  # which knows its key by now
+    await until(lambda: node._links[2].answered > 0.0, "site 2 doesn't answer")
+    assert not any("has failed" in words for words in notices), notices
     sites.peers.write_text(good)
     await node.close()
 
