@@ -402,7 +402,8 @@ static void leave(polydb_node *node, peer_link *one) {
 
 /*
  * Says hello to all peers. A peer that has kept this site out as a stranger isn't tried again by libzmq, and no frame can be sent to it from then on. It may know the key by now: so where nothing
- * can be sent, and nothing has come back for a while, it is connected to anew. What waited for it is lost, which a message may be.
+ * can be sent, and nothing has come back for a while, it is connected to anew. The same is done where a peer is away so long that its queue is full, which can't be told from that. What waited for
+ * it is lost then, which a message may be; of these `counts.lost` has none.
  */
 static void say_hello(polydb_node *node) {
     node->beaten = milliseconds();

@@ -17,8 +17,8 @@
  *
  * What goes over the wire. A frame is 20 bytes and what follows: `PV`, the version 1, the kind, and 16 bytes of BLAKE2b of the configuration. So each frame is compared, the
  * first one too; of a site with another version or configuration nothing is taken, and both say so. Kinds: `h` a hello, which comes first and about once a second;
- * `w` its answer; `n` the answer to a frame of another version or configuration; `m` a message of a site. One that can't be sent or is too long for
- * the queue is lost, which a message may be.
+ * `w` its answer; `n` the answer to a frame of another version or configuration; `m` a message of a site. What can't be sent waits in a queue of 4,096 frames
+ * for each peer. Where that is full, messages are lost, which a message may be; and where nothing has come back for 4 seconds then, all that waits is lost, too.
  *
  * It starts no thread but those of libzmq, is used by one thread at a time, and after a fork by the parent alone. Syncs are made within polydb_node_work.
  * Link: `libpolydb_node.a libpolydb_host.a libpolydb.a -lzmq -lsodium`.
@@ -89,7 +89,7 @@ polydb_host_cause polydb_node_wait(polydb_node *node, int milliseconds, polydb_h
 /* Whether something was heard from this site within the last seconds. */
 bool polydb_node_hears(const polydb_node *node, uint8_t site);
 
-/* How many requests wait for their end; how many messages were sent, taken and lost for want of room; and how long the journal is. */
+/* How many requests wait for their end; how many messages were sent or wait for that, were taken, and were lost for want of room; and how long the journal is. */
 typedef struct {
     uint64_t open;
     uint64_t sent;

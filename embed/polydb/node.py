@@ -470,7 +470,8 @@ class Node:
 
     def _say_hello(self) -> None:
         """Says hello to all peers. A peer that has kept this site out as a stranger isn't tried again by libzmq, and no frame can be sent to it from then on. It may know the key by now: so
-        where nothing can be sent, and nothing has come back for a while, it is connected to anew. What waited for it is lost, which a message may be."""
+        where nothing can be sent, and nothing has come back for a while, it is connected to anew. The same is done where a peer is away so long that its queue is full, which can't be told from
+        that. What waited for it is lost then, which a message may be; of these `lost` has none."""
         self._beaten = time.monotonic()
         for site, link in self._links.items():
             if not self._send_frame(link, _HELLO) and self._beaten - link.answered > _SILENT:
