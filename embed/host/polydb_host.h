@@ -151,8 +151,8 @@ polydb_host_cause polydb_host_settle(polydb_host *host, polydb_host_error *error
 polydb_host_cause polydb_host_read(polydb_host *host, const uint8_t *name, size_t name_length, const char **line, size_t *length, polydb_host_error *error);
 
 /*
- * Whether the site is still this process's, as its store says now: POLYDB_HOST_DONE, or POLYDB_HOST_REPLACED; or POLYDB_HOST_LOST, where the store was set back. Nobody has to ask, as nothing is
- * let out or shown without it; but a site in which nothing happens hears of it late. Of a folder it always is.
+ * Whether the site is still this process's, as its store says now: POLYDB_HOST_DONE, or POLYDB_HOST_REPLACED; or POLYDB_HOST_LOST, where the store was set back; or POLYDB_HOST_STORE, where it
+ * doesn't say. Nobody has to ask, as nothing is let out or shown without it; but a site in which nothing happens hears of it late. Of a folder it always is.
  */
 polydb_host_cause polydb_host_confirm(polydb_host *host, polydb_host_error *error);
 

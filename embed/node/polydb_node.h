@@ -73,7 +73,8 @@ polydb_host_cause polydb_node_open(polydb_node **node, const polydb_node_setup *
 /* A request, whose answers come with this tag. If the node is closed before the last of them, it may have committed or not. */
 polydb_host_cause polydb_node_submit(polydb_node *node, uint64_t tag, const uint8_t *program, size_t length, bool is_query, polydb_host_error *error);
 
-/* What the site shows of an item, as polydb_host_read. Where records wait, it writes them first; POLYDB_UNWRITTEN comes only where that fails. */
+/* What the site shows of an item, as polydb_host_read. Where records wait, it writes them first; POLYDB_UNWRITTEN comes only where that fails. While a store fails, POLYDB_HOST_STORE comes at
+ * once: it isn't asked for this, and is asked again at a tick. */
 polydb_host_cause polydb_node_read(polydb_node *node, const uint8_t *name, size_t name_length, const char **line, size_t *length, polydb_host_error *error);
 
 /* Can be read when there is something to do, also for a tick. It isn't to be read. */
