@@ -4,6 +4,8 @@ the same.
 Each process is gone through once more by a second site of the library, on the journal that it was opened on: so it is known which lines and messages each step made, and how long the journal was
 after it. A step has happened if the journal that the process left is that long, and then it stands in the schedule; what a process took in after the last thing that anybody could see of it never
 was. The sites' steps are put in one order in which a message is sent before it is delivered; there is one, since no process is given what no other has let out.
+
+A host that lets something out before its write isn't found here where the write then comes: that is for `etcd_sites.py`, which finds what a process that was replaced lets out.
 """
 
 import sys
