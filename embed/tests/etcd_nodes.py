@@ -351,6 +351,8 @@ def look(sites):
         print(f"site {me}: {len(journal)} bytes in {writes} writes, {openings} openings, and no write of one that was replaced", flush=True)
     if TRACED.exists():
         print(traces.check(CONFIG, SITES, os.environ["POLYDB_TRACE"], [etcd_store.writes_of(sites.store, me) for me in range(SITES)]), flush=True)
+    else:
+        print("not compared with the run of a schedule: there is no polydbd that writes down what its site does", flush=True)
     if many_transfers.program() is None:
         return "the total is kept; not looked at by show: there is no program"
     by_files = many_transfers.show(files, CONFIG)

@@ -121,7 +121,9 @@ def a_store_that_is_away(folder, members):
         member.process.send_signal(signal.SIGSTOP)
         site.wait_for_log(0, "can't be reached, or refuses it; nothing is let out")
         begun = time.monotonic()
-        assert all("can't be reached" in line for _ in range(3) for line in site.polydbc(0, "read", "a", status=1)), site.log(0)
+        for _ in range(3):
+            said = site.polydbc(0, "read", "a", status=1)
+            assert len(said) == 1 and "can't be reached" in said[0], (said, site.log(0))
         assert site.polydbc(0, "info")[0].startswith("info ")
         took = time.monotonic() - begun
         assert took < 4 * QUESTION + SLACK, f"four answers took {took} seconds"
