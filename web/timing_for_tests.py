@@ -3,16 +3,22 @@
 from statistics import median
 from time import perf_counter, process_time
 
-#: How soon a click has to be answered, in milliseconds.
+#: How soon a click is to be answered, in milliseconds.
 FLUENT = 100
+
+#: How soon it has to be, on any machine: some are twice as slow as those on which it takes less than that.
+AT_MOST = 250
 
 
 def judge(test, milliseconds, name):
-    """Fails a test where something took too long, but for a machine on which other work holds it up: that is said."""
-    if milliseconds >= FLUENT and is_busy():
+    """Says where something took longer than it is to, and fails the test where it took too long; but for a machine on which other work holds it up: that is said."""
+    if milliseconds < FLUENT:
+        return
+    if is_busy():
         print(f"{name} isn't judged, as the machine has other work")
-    else:
-        test.assertLess(milliseconds, FLUENT, name)
+        return
+    print(f"{name} {milliseconds:.0f} ms, where it is to take less than {FLUENT}: on this machine, or from now on")
+    test.assertLess(milliseconds, AT_MOST, name)
 
 
 def is_busy():
