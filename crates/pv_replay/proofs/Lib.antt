@@ -1,5 +1,6 @@
 pub mod CaseLemmas
+pub mod ContentLemmas
+pub mod NumberLemmas
 pub mod OrderLemmas
 pub mod RefusalLemmas
-pub mod ContentLemmas
 pub mod ReplayLemmas

@@ -1,5 +1,6 @@
 // Items with their polyvalues: their count, and for each the item and the polyvalue. The items are ascending.
-ghost use Rattle.std.specs.Prelude.{◌≡◌, ◌++◌, ◌≤◌, ℕ, List, length, IfOk, IfErr, OnOk};
+ghost use Rattle.std.specs.Prelude.{◌≡◌, ◌++◌, ◌∷◌, [], ◌≤◌, ℕ, List, length, IfOk, IfErr, OnOk};
+ghost use Rattle.pv_base.specs.BigEndian.{big_endian, twos_complement};
 ghost use Rattle.pv_format.specs.Layout.{counted_layout, entries_layout, polyvalue_then};
 ghost use Rattle.pv_format.specs.PolyvalueSpelling.{SpellsPolyvalue};
 ghost use Rattle.pv_format.specs.RecordSpelling.{SpellsReads};
@@ -13,8 +14,9 @@ use crate::PolyError;
 use crate::fields::{take_count, take_item};
 use crate::poly::{put_poly, take_poly};
 use crate::room::with_room_for_few;
-use pv_base::NoMemory;
+use pv_base::{ItemId, NoMemory};
 use pv_bytes::{Put, Take};
+use pv_cases::sure_value;
 use pv_tree::Read;
 use std::alloc::Global;
 
@@ -36,8 +38,28 @@ fn put_read(put: &mut Put, read: &Read) -> Result<(), NoMemory>
     requires { (bytes : List ℕ) × SpellsPolyvalue read.now.cases bytes }
     ensures { (bytes : List ℕ) → SpellsEntry (λ (entry : model.Read). SpellsPolyvalue entry.cases) (λ entry. entry.item) read.now bytes → OnOk result (put.new.bytes ≡ put.old.bytes ++ bytes) }
 {
+    if let Some(value) = sure_value(read.value.cases()) {
+        return put_sure(put, read.item, value);
+    }
     put.u32(read.item.0)?;
     put_poly(put, &read.value)
+}
+
+// Writes an item and its value, which depends on no outcome. Most do, so that their bytes are written at once.
+fn put_sure(put: &mut Put, item: ItemId, value: i64) -> Result<(), NoMemory>
+    ensures { (bytes : List ℕ) → SpellsEntry (λ (entry : model.Read). SpellsPolyvalue entry.cases) (λ entry. entry.item)
+        (record { item = item.0; cases = record { when = []; value = value } ∷ [] }) bytes → OnOk result (put.new.bytes ≡ put.old.bytes ++ bytes) }
+{
+    put.bytes(&sure_bytes(item, value))
+}
+
+// The bytes of an item and of its value, which depends on no outcome.
+fn sure_bytes(item: ItemId, value: i64) -> [u8; 15]
+    ensures { result ≡ big_endian 4 item.0 ++ (big_endian 2 1 ++ (big_endian 1 0 ++ big_endian 8 (twos_complement value))) }
+{
+    let [a, b, c, d] = item.0.to_be_bytes();
+    let [e, f, g, h, i, j, k, l] = value.to_be_bytes();
+    [a, b, c, d, 0, 1, 0, e, f, g, h, i, j, k, l]
 }
 
 /// Reads items with their polyvalues, at least so many. A refusal is the first fault in reading order. Takes time in proportion to the
