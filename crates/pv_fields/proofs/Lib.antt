@@ -1,5 +1,6 @@
-pub mod PartLemmas
-pub mod ListLemmas
-pub mod PolyvalueLemmas
 pub mod EntryLemmas
+pub mod ListLemmas
+pub mod NumberLemmas
+pub mod PartLemmas
+pub mod PolyvalueLemmas
 pub mod SizeLemmas

@@ -1,6 +1,5 @@
 pub mod CaseLemmas
-pub mod ContentLemmas
-pub mod NumberLemmas
 pub mod OrderLemmas
 pub mod RefusalLemmas
+pub mod ContentLemmas
 pub mod ReplayLemmas

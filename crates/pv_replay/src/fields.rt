@@ -1,5 +1,6 @@
 // The fields that messages and records have in common.
-ghost use Rattle.std.specs.Prelude.{◌≡◌, ◌≢◌, ◌++◌, ◌<◌, ℕ, List, if◌then◌else◌, IfOk, IfErr, OnOk};
+ghost use Rattle.std.specs.Prelude.{◌≡◌, ◌≢◌, ◌++◌, ◌∷◌, ◌<◌, ℕ, List, if◌then◌else◌, IfOk, IfErr, OnOk};
+ghost use Rattle.pv_base.specs.BigEndian.{big_endian};
 ghost use Rattle.pv_format.specs.Layout.{site_layout, truth_layout, txn_layout};
 ghost use Rattle.pv_format.specs.Spelling.{IsAllowed, IsSite, IsTruth, SpellsTxn, is_count_from, is_item_from};
 ghost use Rattle.pv_fields.specs.Decoding.{Passes, PassesNumber, Stops, StopsNumber};
@@ -23,9 +24,9 @@ pub fn put_txn(put: &mut Put, txn: TxnId) -> Result<(), NoMemory>
     put.bytes(&txn_bytes(txn))
 }
 
-// The bytes of a transaction, to be written at once: there are some in each message, record and literal.
-fn txn_bytes(txn: TxnId) -> [u8; 9]
-    ensures { (bytes : List ℕ) → SpellsTxn txn bytes → result ≡ bytes }
+/// The bytes of a transaction, to be written at once: there are some in each message, record and literal.
+pub(crate) fn txn_bytes(txn: TxnId) -> [u8; 9]
+    ensures { result ≡ txn.site.0 ∷ (big_endian 4 txn.epoch ++ big_endian 4 txn.number) }
 {
     let [a, b, c, d] = txn.epoch.to_be_bytes();
     let [e, f, g, h] = txn.number.to_be_bytes();

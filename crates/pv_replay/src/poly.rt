@@ -17,7 +17,7 @@ ghost use Rattle.pv_replay.specs.Refused.{IsRefused};
 
 use crate::PolyError;
 use crate::choice::{choice_of, chosen};
-use crate::fields::{put_truth, put_txn, take_truth, take_txn};
+use crate::fields::{take_truth, take_txn, txn_bytes};
 use crate::order::look_canonical;
 use crate::room::{with_room, with_room_for_few};
 use pv_base::{Case, CaseError, Literal, NoMemory};
@@ -72,8 +72,15 @@ fn put_literals(put: &mut Put, when: &[Literal]) -> Result<(), NoMemory>
 fn put_literal(put: &mut Put, literal: Literal) -> Result<(), NoMemory>
     ensures { (bytes : List ℕ) → SpellsLiteral literal bytes → OnOk result (put.new.bytes ≡ put.old.bytes ++ bytes) }
 {
-    put_truth(put, literal.commits)?;
-    put_txn(put, literal.txn)
+    put.bytes(&literal_bytes(literal))
+}
+
+// The bytes of a literal, to be written at once.
+fn literal_bytes(literal: Literal) -> [u8; 10]
+    ensures { (bytes : List ℕ) → SpellsLiteral literal bytes → result ≡ bytes }
+{
+    let [a, b, c, d, e, f, g, h, i] = txn_bytes(literal.txn);
+    [u8::from(literal.commits), a, b, c, d, e, f, g, h, i]
 }
 
 /// Reads a polyvalue. A refusal is the first fault in reading order: a field that isn't whole, or isn't in its range; or, where all of the

@@ -1,5 +1,6 @@
 // Messages as bytes: the kind, the sites, the transaction, and what the kind has besides.
-ghost use Rattle.std.specs.Prelude.{◌≡◌, ◌++◌, ℕ, List, IfOk, OnOk};
+ghost use Rattle.std.specs.Prelude.{◌≡◌, ◌++◌, ◌∷◌, ℕ, List, IfOk, OnOk};
+ghost use Rattle.pv_base.specs.BigEndian.{big_endian};
 ghost use Rattle.pv_format.specs.MessageSpelling.{SpellsBody, SpellsEnvelope};
 ghost use Rattle.pv_wire.specs.Values.{envelope_of, message_of};
 
@@ -8,7 +9,7 @@ use crate::length::body_length;
 use crate::message::{kind_number, txn_of};
 use crate::wants::put_wants;
 use crate::{Envelope, Message};
-use pv_base::NoMemory;
+use pv_base::{NoMemory, SiteId, TxnId};
 use pv_bytes::Put;
 use pv_replay::{put_reads, put_truth, put_txn};
 use std::alloc::Global;
@@ -32,13 +33,23 @@ fn put_envelope(put: &mut Put, envelope: &Envelope) -> Result<(), NoMemory>
     requires { (bytes : List ℕ) × SpellsEnvelope (envelope_of envelope.now) bytes }
     ensures { (bytes : List ℕ) → SpellsEnvelope (envelope_of envelope.now) bytes → OnOk result (put.new.bytes ≡ put.old.bytes ++ bytes) }
 {
-    put.bytes(&[
-        kind_number(&envelope.message),
-        envelope.from.0,
-        envelope.to.0,
-    ])?;
-    put_txn(put, txn_of(&envelope.message))?;
-    put_body(put, &envelope.message)
+    let message = &envelope.message;
+    put.bytes(&head_bytes(
+        kind_number(message),
+        envelope.from,
+        envelope.to,
+        txn_of(message),
+    ))?;
+    put_body(put, message)
+}
+
+// The bytes of the kind, the sites and the transaction, to be written at once.
+fn head_bytes(kind: u8, from: SiteId, to: SiteId, txn: TxnId) -> [u8; HEAD]
+    ensures { result ≡ kind ∷ from.0 ∷ to.0 ∷ txn.site.0 ∷ (big_endian 4 txn.epoch ++ big_endian 4 txn.number) }
+{
+    let [a, b, c, d] = txn.epoch.to_be_bytes();
+    let [e, f, g, h] = txn.number.to_be_bytes();
+    [kind, from.0, to.0, txn.site.0, a, b, c, d, e, f, g, h]
 }
 
 // Writes what a message has after its transaction.

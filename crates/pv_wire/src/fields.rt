@@ -16,8 +16,16 @@ use pv_replay::PolyError;
 pub fn put_grant(put: &mut Put, grant: GrantId) -> Result<(), NoMemory>
     ensures { (bytes : List ℕ) → SpellsGrant grant bytes → OnOk result (put.new.bytes ≡ put.old.bytes ++ bytes) }
 {
-    put.u32(grant.epoch)?;
-    put.u32(grant.number)
+    put.bytes(&grant_bytes(grant))
+}
+
+// The bytes of a grant, to be written at once.
+fn grant_bytes(grant: GrantId) -> [u8; 8]
+    ensures { (bytes : List ℕ) → SpellsGrant grant bytes → result ≡ bytes }
+{
+    let [a, b, c, d] = grant.epoch.to_be_bytes();
+    let [e, f, g, h] = grant.number.to_be_bytes();
+    [a, b, c, d, e, f, g, h]
 }
 
 /// Writes why a participant won't promise.

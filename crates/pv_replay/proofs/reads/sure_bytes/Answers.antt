@@ -4,7 +4,7 @@ use Rattle.std.proofs.lemmas.Int.{to_z-of_z}
 use Rattle.std.specs.Int.{cast_unsigned, to_be_bytes, w64}
 use Rattle.pv_base.specs.BigEndian.{big_endian}
 use Rattle.pv_base.proofs.BigEndianLemmas.{big_endian-one, bytes_high_first-big_endian, cast_unsigned-twos_complement}
-use Rattle.pv_replay.proofs.NumberLemmas.{four_bytes, eight_bytes}
+use Rattle.pv_fields.proofs.NumberLemmas.{four_bytes, eight_bytes}
 use Rattle.pv_replay.proofs.reads.sure_bytes.Goals as goal
 
 pub returns : goal.returns
