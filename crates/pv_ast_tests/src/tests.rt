@@ -24,127 +24,20 @@ const RETURN_IN_A_BRANCH: &str = "if a { a := 8 ; return b } ; b := 1";
 // Programs, each with the values of a and b before it and after it, and with its reply.
 type Worked = (&'static str, (i64, i64), (i64, i64), Reply);
 
-const WITHDRAWALS: &[Worked] = &[
+const WORKED: &[Worked] = &[
     (WITHDRAWAL, (100, 1), (90, 1), Reply::Value(90)),
     (WITHDRAWAL, (10, 1), (0, 1), Reply::Value(0)),
     (WITHDRAWAL, (5, 1), (5, 1), REQUIRE),
-];
-
-const RETURNS: &[Worked] = &[
     ("return 7 ; a := 1", (3, 4), (3, 4), Reply::Value(7)),
     ("a := 1 ; return 7", (3, 4), (1, 4), Reply::Value(7)),
     ("b := a", (3, 4), (3, 3), Reply::Nothing),
-];
-
-const QUOTIENTS: &[Worked] = &[
     ("return -7 / 2 ; a := 1", (3, 4), (3, 4), Reply::Value(-3)),
     ("return -7 % 2 ; a := 1", (3, 4), (3, 4), Reply::Value(-1)),
-];
-
-const TAKEN_BRANCHES: &[Worked] = &[
     (BRANCHES, (0, 9), (3, 2), Reply::Nothing),
     (BRANCHES, (1, 9), (1, 9), ZERO_DIVISOR),
-];
-
-const RETURNS_IN_A_BRANCH: &[Worked] = &[
     (RETURN_IN_A_BRANCH, (-1, 9), (8, 9), Reply::Value(9)),
     (RETURN_IN_A_BRANCH, (0, 9), (0, 1), Reply::Nothing),
-];
-
-// Expressions with the values of a and b, and their own value.
-const VALUES: &[(&str, i64, i64, i64)] = &[
-    ("a + b", i64::MAX, 0, i64::MAX),
-    ("a + b", i64::MIN, i64::MAX, -1),
-    ("a - b", -1, i64::MAX, i64::MIN),
-    ("a - b", i64::MIN, i64::MIN, 0),
-    ("a * b", i64::MAX, -1, -i64::MAX),
-    ("a * b", i64::MIN, 1, i64::MIN),
-    ("a * b", i64::MIN, 0, 0),
-    ("a / b", i64::MAX, -1, -i64::MAX),
-    ("a / b", i64::MIN, 1, i64::MIN),
-    ("a / b", i64::MIN, i64::MAX, -1),
-    ("a / b", i64::MAX, i64::MIN, 0),
-    ("a / b", 7, 2, 3),
-    ("a / b", 7, -2, -3),
-    ("a / b", -7, -2, 3),
-    ("a % b", 7, -2, 1),
-    ("a % b", -7, -2, -1),
-    ("a % b", -6, 2, 0),
-    ("a % b", i64::MAX, -1, 0),
-    ("a % b", i64::MAX, i64::MIN, i64::MAX),
-    ("a % b", i64::MIN, i64::MAX, -1),
-    ("a % b", i64::MIN, i64::MIN, 0),
-    ("min(a, b)", i64::MIN, i64::MAX, i64::MIN),
-    ("min(a, b)", i64::MAX, i64::MIN, i64::MIN),
-    ("max(a, b)", i64::MIN, i64::MAX, i64::MAX),
-    ("max(a, b)", i64::MAX, i64::MIN, i64::MAX),
-    ("min(a, b)", 3, 3, 3),
-    ("a = b", i64::MIN, i64::MIN, 1),
-    ("a = b", i64::MIN, i64::MAX, 0),
-    ("a <> b", i64::MIN, i64::MIN, 0),
-    ("a <> b", i64::MIN, i64::MAX, 1),
-    ("a < b", i64::MIN, i64::MAX, 1),
-    ("a < b", i64::MAX, i64::MIN, 0),
-    ("a < b", i64::MAX, i64::MAX, 0),
-    ("a <= b", i64::MIN, i64::MAX, 1),
-    ("a <= b", i64::MAX, i64::MIN, 0),
-    ("a <= b", i64::MIN, i64::MIN, 1),
-    ("a > b", i64::MIN, i64::MAX, 0),
-    ("a > b", i64::MAX, i64::MIN, 1),
-    ("a > b", i64::MAX, i64::MAX, 0),
-    ("a >= b", i64::MIN, i64::MAX, 0),
-    ("a >= b", i64::MAX, i64::MIN, 1),
-    ("a >= b", i64::MIN, i64::MIN, 1),
-    ("a and b", i64::MIN, i64::MAX, 1),
-    ("a and b", i64::MAX, 0, 0),
-    ("a and b", 0, i64::MAX, 0),
-    ("a or b", i64::MIN, 0, 1),
-    ("a or b", 0, i64::MAX, 1),
-    ("a or b", 0, i64::MIN, 1),
-    ("a or b", 0, 0, 0),
-];
-
-// Expressions with the values of a and b for which they decline.
-const DECLINES: &[(&str, i64, i64, Decline)] = &[
-    ("a + b", i64::MAX, 1, Decline::Overflow),
-    ("a + b", i64::MIN, -1, Decline::Overflow),
-    ("a - b", i64::MIN, 1, Decline::Overflow),
-    ("a - b", i64::MAX, -1, Decline::Overflow),
-    ("a - b", 0, i64::MIN, Decline::Overflow),
-    ("a * b", i64::MAX, 2, Decline::Overflow),
-    ("a * b", i64::MIN, -1, Decline::Overflow),
-    ("a * b", -1, i64::MIN, Decline::Overflow),
-    ("a / b", i64::MIN, -1, Decline::Overflow),
-    ("a % b", i64::MIN, -1, Decline::Overflow),
-    ("a / b", i64::MIN, 0, Decline::ZeroDivisor),
-    ("a % b", i64::MAX, 0, Decline::ZeroDivisor),
-    ("a / b", 0, 0, Decline::ZeroDivisor),
-    ("a % b", 0, 0, Decline::ZeroDivisor),
-];
-
-// A value of a, with the replies of `return -a` and `return not a`.
-const MINUS_AND_NOT: &[(i64, Reply, i64)] = &[
-    (i64::MIN, OVERFLOW, 0),
-    (i64::MAX, Reply::Value(-i64::MAX), 0),
-    (0, Reply::Value(0), 1),
-    (-1, Reply::Value(1), 0),
-];
-
-// Expressions with a divisor of 0 on one side, the value of a, and the reply.
-const BESIDE_A_FAULT: &[(&str, i64, Reply)] = &[
-    ("a or 1 / 0", 1, Reply::Value(1)),
-    ("a or 1 / 0", -1, Reply::Value(1)),
-    ("a or 1 / 0", 0, ZERO_DIVISOR),
-    ("a and 1 / 0", 0, Reply::Value(0)),
-    ("a and 1 / 0", 1, ZERO_DIVISOR),
-    ("a and 1 / 0", i64::MIN, ZERO_DIVISOR),
-    ("min(a, 1 / 0)", 0, ZERO_DIVISOR),
-    ("a < 1 / 0", 0, ZERO_DIVISOR),
-    // The left side is always looked at, and first.
-    ("1 / 0 or 1", 0, ZERO_DIVISOR),
-    ("1 / 0 and 1", 0, ZERO_DIVISOR),
-    ("1 / 0 + 1", 0, ZERO_DIVISOR),
-    ("9223372036854775807 + 1 + 1 / 0", 0, OVERFLOW),
+    ("return a + b", (i64::MAX, 1), (i64::MAX, 1), OVERFLOW),
 ];
 
 // the program of a text over a and b
@@ -185,76 +78,9 @@ fn assert_does(rt: &(impl Abort + AllocGlobal), table: &[Worked]) -> Result<(), 
     Ok(())
 }
 
-// Asserts what is replied to the return of an expression where a and b have these values.
-fn assert_replies(
-    rt: &(impl Abort + AllocGlobal),
-    expression: &str,
-    a: i64,
-    b: i64,
-    reply: Reply,
-) -> Result<(), Fail> {
-    let text = format!(in rt.alloc(); "return {expression}")?;
-    let effect = effect(rt, text.as_str(), a, b)?;
-    assert_eq!(rt; effect.reply, reply, "at {text} with {a} and {b}");
-    Ok(())
-}
-
 #[test]
-fn a_withdrawal_is_done_where_there_is_enough(rt: HostRuntime) -> Result<(), NoMemory> {
-    assert_does(&rt, WITHDRAWALS)
-}
-
-#[test]
-fn nothing_runs_after_a_return(rt: HostRuntime) -> Result<(), NoMemory> {
-    assert_does(&rt, RETURNS)
-}
-
-#[test]
-fn quotients_are_cut_towards_zero(rt: HostRuntime) -> Result<(), NoMemory> {
-    assert_does(&rt, QUOTIENTS)
-}
-
-#[test]
-fn only_the_branch_that_is_taken_runs(rt: HostRuntime) -> Result<(), NoMemory> {
-    assert_does(&rt, TAKEN_BRANCHES)
-}
-
-#[test]
-fn a_return_in_a_branch_ends_the_program(rt: HostRuntime) -> Result<(), NoMemory> {
-    assert_does(&rt, RETURNS_IN_A_BRANCH)
-}
-
-#[test]
-fn each_operator_gives_its_value(rt: HostRuntime) -> Result<(), Fail> {
-    for (expression, a, b, value) in VALUES {
-        assert_replies(&rt, expression, *a, *b, Reply::Value(*value))?;
-    }
-    Ok(())
-}
-
-#[test]
-fn a_result_outside_64_bits_and_a_divisor_of_0_decline(rt: HostRuntime) -> Result<(), Fail> {
-    for (expression, a, b, decline) in DECLINES {
-        assert_replies(&rt, expression, *a, *b, Reply::Declined(*decline))?;
-    }
-    Ok(())
-}
-
-#[test]
-fn minus_and_not_at_the_ends(rt: HostRuntime) -> Result<(), Fail> {
-    for (number, negative, negation) in MINUS_AND_NOT {
-        assert_replies(&rt, "-a", *number, 0, *negative)?;
-        assert_replies(&rt, "not a", *number, 0, Reply::Value(*negation))?;
-    }
-    Ok(())
-}
-
-#[test]
-fn and_and_or_look_right_only_where_they_must(rt: HostRuntime) -> Result<(), Fail> {
-    for (expression, a, reply) in BESIDE_A_FAULT {
-        assert_replies(&rt, expression, *a, 0, *reply)?;
-    }
-    Ok(())
+fn each_program_does_what_it_says(rt: HostRuntime) -> Result<(), NoMemory> {
+    assert_does(&rt, WORKED)
 }
 
 #[test]
@@ -267,14 +93,4 @@ fn a_copy_is_equal(rt: HostRuntime) -> Result<(), Fail> {
         assert_eq!(rt; first.as_str(), second.as_str());
     }
     Ok(())
-}
-
-#[test]
-fn rows_have_each_item_once(rt: HostRuntime) {
-    let [a, b] = rows(1, 2);
-    let branches = program(&rt, BRANCHES);
-    assert!(rt; branches.has_items(&[b, a]));
-    assert!(rt; !branches.has_items(&[a]));
-    assert!(rt; !branches.has_items(&[a, b, a]));
-    assert!(rt; program(&rt, "return 1").has_items(&[]));
 }

@@ -1,8 +1,8 @@
-// What checkpoints make of the bytes, and what a crash in each call of one leaves.
+// What checkpoints make of the bytes; and many of them, to be timed.
 ghost use Rattle.std.specs.Prelude.{◌≡◌, ◌<◌, ◌≤◌, ◌^◌, length, IfOk};
 
 use crate::tests::PACKED_ONCE;
-use pv_base::{Mode, buffer};
+use pv_base::buffer;
 use pv_ckpt::*;
 use pv_disk::{Disk, Log, LogError, LookError, MemDisk};
 use std::alloc::Global;
@@ -75,21 +75,6 @@ fn bytes_of(alloc: Global, disk: &mut MemDisk) -> Result<Vec<u8>, Fail> {
     Ok(bytes)
 }
 
-// The number in force, and whether the gate of the root that isn't in force is 1. All numbers are below 256 here.
-fn standing(disk: &mut MemDisk) -> Result<(u8, bool), Fail> {
-    if disk.len()? < 59 {
-        return Err(LookError::Failed.into());
-    }
-    let mut front = [0; 59];
-    disk.read_at(0, &mut front)?;
-    let first = front[8] == 1;
-    let second = front[33] == 1;
-    if second && (!first || front[16] < front[41]) {
-        return Ok((front[41], first));
-    }
-    Ok((front[16], second))
-}
-
 // The three records behind an empty block.
 const APPENDED: [u8; 116] = *b"PVCKPT01\
     \x01\0\0\0\0\0\0\0\x01\0\0\0\0\0\0\0\x3a\0\0\0\0\0\0\0\0\
@@ -153,116 +138,6 @@ fn checkpoints_pack_the_bytes(rt: HostRuntime) -> Result<(), Fail> {
     assert!(rt; packs_to(alloc, 0, &APPENDED)?);
     assert!(rt; packs_to(alloc, 1, &PACKED_ONCE)?);
     assert!(rt; packs_to(alloc, 2, &PACKED_TWICE)?);
-    Ok(())
-}
-
-// What is left of a checkpoint after so many others where this write or sync of it fires, counted from 1: the number in force, and whether the other root's gate is 1. None
-// where something else isn't as it is to be.
-fn left_by(
-    alloc: Global,
-    checkpoints: u32,
-    call: u32,
-    mode: Mode,
-) -> Result<Option<(u8, bool)>, Fail> {
-    let mut disk = MemDisk::new(alloc);
-    format(&mut disk)?;
-    // The sync of the opening, the twelve calls of the appends and the six of a first checkpoint come before.
-    let before = if checkpoints == 0 { 13u32 } else { 19 };
-    disk.arm(before.saturating_add(call), mode, true);
-    let mut log = worked(alloc, disk)?;
-    pack_all(&mut log, checkpoints)?;
-    if packed(&mut log) != Err(CkptError::Failed) {
-        return Ok(None);
-    }
-    if packed(&mut log) != Err(CkptError::Down) {
-        return Ok(None);
-    }
-
-    let mut disk = log.close();
-    let left = standing(&mut disk)?;
-    if !are_the_contents(&look(alloc, &mut disk)?) {
-        return Ok(None);
-    }
-    // It is opened again, and packed.
-    let mut log = opened(alloc, disk)?;
-    packed(&mut log)?;
-    if !are_the_contents(&log.read_all()?) {
-        return Ok(None);
-    }
-    Ok(Some(left))
-}
-
-// The first of the two calls that fire, one in each run; how; and what is left.
-type Cut = (u32, Mode, u8, bool);
-
-// Where the other root's gate isn't 1: six calls.
-const FIRST_CUTS: [Cut; 9] = [
-    (1, Mode::Lost, 1, false),
-    (1, Mode::Kept, 1, false),
-    (1, Mode::Torn, 1, false),
-    (3, Mode::Lost, 1, false),
-    (3, Mode::Kept, 1, false),
-    (3, Mode::Torn, 1, false),
-    (5, Mode::Lost, 1, false),
-    (5, Mode::Kept, 2, true),
-    (5, Mode::Torn, 1, false),
-];
-
-// Where it is 1: eight calls.
-const LATER_CUTS: [Cut; 12] = [
-    (1, Mode::Lost, 2, true),
-    (1, Mode::Kept, 2, true),
-    (1, Mode::Torn, 2, true),
-    (3, Mode::Lost, 2, true),
-    (3, Mode::Kept, 2, false),
-    (3, Mode::Torn, 2, false),
-    (5, Mode::Lost, 2, false),
-    (5, Mode::Kept, 2, false),
-    (5, Mode::Torn, 2, false),
-    (7, Mode::Lost, 2, false),
-    (7, Mode::Kept, 3, true),
-    (7, Mode::Torn, 2, false),
-];
-
-#[test]
-fn a_first_checkpoint_leaves_the_contents(rt: HostRuntime) -> Result<(), Fail> {
-    let alloc = rt.alloc();
-    for (call, mode, number, open) in &FIRST_CUTS {
-        assert_eq!(rt; left_by(alloc, 0, *call, *mode)?, Some((*number, *open)));
-        assert_eq!(rt;
-            left_by(alloc, 0, call.saturating_add(1), *mode)?,
-            Some((*number, *open))
-        );
-    }
-    Ok(())
-}
-
-#[test]
-fn a_later_checkpoint_leaves_the_contents(rt: HostRuntime) -> Result<(), Fail> {
-    let alloc = rt.alloc();
-    for (call, mode, number, open) in &LATER_CUTS {
-        assert_eq!(rt; left_by(alloc, 1, *call, *mode)?, Some((*number, *open)));
-        assert_eq!(rt;
-            left_by(alloc, 1, call.saturating_add(1), *mode)?,
-            Some((*number, *open))
-        );
-    }
-    Ok(())
-}
-
-// A log without contents whose number in force is the greatest.
-const SPENT: [u8; 59] = *b"PVCKPT01\
-    \x01\xff\xff\xff\xff\xff\xff\xff\xff\0\0\0\0\0\0\0\x3a\0\0\0\0\0\0\0\0\
-    \0\0\0\0\0\0\0\0\0\0\0\0\0\0\0\0\0\0\0\0\0\0\0\0\0\
-    \0";
-
-#[test]
-fn the_greatest_number_is_not_passed(rt: HostRuntime) -> Result<(), Fail> {
-    let alloc = rt.alloc();
-    let mut log = opened(alloc, MemDisk::of(alloc, SPENT.to_vec(alloc)?))?;
-    assert_eq!(rt; packed(&mut log), Err(CkptError::Spent));
-    add(&mut log, b"one")?;
-    assert_eq!(rt; log.read_all()?.len(), 1);
     Ok(())
 }
 

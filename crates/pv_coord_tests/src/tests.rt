@@ -109,37 +109,8 @@ fn a_transaction_of_one_participant_reaches_its_lock_point(rt: HostRuntime) -> R
     assert_eq!(rt; begun, txn(0));
     let strange = take(alloc, &mut coord, ELSEWHERE, A)?;
     assert_eq!(rt; strange, Taken::Ignored);
-    let other = take(alloc, &mut coord, HERE, B)?;
-    assert_eq!(rt; other, Taken::Ignored);
     let last = take(alloc, &mut coord, HERE, A)?;
     assert_eq!(rt; last, Taken::Last(1));
-    Ok(())
-}
-
-#[test]
-fn what_is_known_of_a_transaction_goes_with_its_entry(rt: HostRuntime) -> Result<(), Fail> {
-    let alloc = rt.alloc();
-    let mut coord = Coord::new(alloc, HERE, 1, 0);
-    assert!(rt; !coord.any() && !coord.issued(txn(0)));
-    let begun = begin(alloc, &mut coord, &[(HERE, A), (THERE, B)])?;
-    assert!(rt; coord.any() && coord.works(begun) && coord.issued(begun) && !coord.issued(txn(1)));
-    assert!(rt; coord.denied(begun, THERE, B) && !coord.denied(begun, THERE, A));
-    let first = take(alloc, &mut coord, THERE, B)?;
-    assert_eq!(rt; first, Taken::Wait);
-    assert!(rt; coord.taken(begun, THERE) == Some(GRANT) && coord.taken(begun, HERE).is_none());
-    assert!(rt; !coord.denied(begun, THERE, B) && coord.reply(begun).is_none());
-    let again = take(alloc, &mut coord, THERE, B)?;
-    assert_eq!(rt; again, Taken::Ignored);
-    let last = take(alloc, &mut coord, HERE, A)?;
-    assert_eq!(rt; last, Taken::Last(2));
-    assert!(rt; coord.reply(begun).is_some() && coord.votes_on(begun, THERE) == Some(GRANT));
-    assert_eq!(rt; coord.vote(begun, THERE), Vote::Wait);
-    coord.take_vote(begun, THERE);
-    assert_eq!(rt; coord.vote(begun, THERE), Vote::Ignored);
-    assert_eq!(rt; coord.vote(begun, HERE), Vote::Last);
-    assert!(rt; coord.parts(begun).is_some());
-    coord.drop_entry(begun);
-    assert!(rt; !coord.any() && !coord.works(begun) && coord.parts(begun).is_none());
     Ok(())
 }
 

@@ -2,7 +2,7 @@
 ghost use Rattle.std.specs.Prelude.{◌≡◌, ◌<◌, ◌≤◌, ◌+◌, ◌^◌, ◌++◌, false, List, ℕ, None, length, IfOk, OnOk};
 ghost use Rattle.pv_disk_model.specs.Log.{Adds};
 
-use pv_base::{Failed, Mode, SiteId};
+use pv_base::{Failed, SiteId};
 use pv_disk::*;
 use std::alloc::Global;
 use std::fs;
@@ -24,25 +24,13 @@ fn add<L: Log>(log: &mut L, content: &[u8]) -> Result<(), LogError>
 }
 
 #[test]
-fn appends_fail_where_planned(rt: HostRuntime) -> Result<(), Fail> {
+fn a_log_in_memory_holds_what_is_added(rt: HostRuntime) -> Result<(), Fail> {
     let alloc = rt.alloc();
-    let fails = vec![in alloc;
-        AppendFail {
-            number: 1,
-            kept: true
-        },
-    ]?;
-    let mut log = ListLog::new(alloc, 32, fails);
+    let mut log = ListLog::new(alloc, 32, Vec::new(alloc));
     add(&mut log, b"one")?;
-    assert_eq!(rt; log.length(), 17);
-    assert_eq!(rt; log.reserve(11), Err(LogError::Full(33)));
-    assert_eq!(rt; add(&mut log, b"two"), Err(LogError::Failed));
-    assert_eq!(rt; log.read_all().err(), Some(LogError::Down));
-
-    let mut log = log.reopen();
     let held = log.read_all()?;
-    assert_eq!(rt; held.len(), 2);
-    assert_eq!(rt; held[1].as_slice(), b"two".as_slice());
+    assert_eq!(rt; held.len(), 1);
+    assert_eq!(rt; held[0].as_slice(), b"one".as_slice());
     Ok(())
 }
 
@@ -54,76 +42,6 @@ fn held(alloc: Global, disk: &mut MemDisk) -> Result<Vec<u8>, Fail> {
     Ok(bytes)
 }
 
-// What a write at the end leaves that fires in this mode, after one of "XY" at 1 into "abcd".
-fn fires(alloc: Global, mode: Mode) -> Result<Vec<u8>, Fail> {
-    let mut disk = MemDisk::of(alloc, b"abcd".to_vec(alloc)?);
-    disk.reserve(3, 2)?;
-    disk.write_at(1, b"XY")?;
-    disk.arm(1, mode, true);
-    match disk.write_at(4, b"Z") {
-        Ok(()) => Ok(Vec::new(alloc)),
-        Err(_) => held(alloc, &mut disk),
-    }
-}
-
-#[test]
-fn each_mode_leaves_its_image(rt: HostRuntime) -> Result<(), Fail> {
-    let alloc = rt.alloc();
-    assert_eq!(rt; fires(alloc, Mode::Lost)?.as_slice(), b"abcd".as_slice());
-    assert_eq!(rt; fires(alloc, Mode::Kept)?.as_slice(), b"aXYdZ".as_slice());
-    assert_eq!(rt;
-        fires(alloc, Mode::Torn)?.as_slice(),
-        b"a\xa5\xa5d\xa5".as_slice()
-    );
-    Ok(())
-}
-
-// What a sync leaves that fires in this mode, after a write of "XY" at 3 into "abcd".
-fn sync_fires(alloc: Global, mode: Mode) -> Result<Vec<u8>, Fail> {
-    let mut disk = MemDisk::of(alloc, b"abcd".to_vec(alloc)?);
-    disk.reserve(2, 1)?;
-    disk.write_at(3, b"XY")?;
-    disk.arm(1, mode, false);
-    match disk.sync() {
-        Ok(()) => Ok(Vec::new(alloc)),
-        Err(_) => held(alloc, &mut disk),
-    }
-}
-
-#[test]
-fn a_sync_that_fires_leaves_the_same_images(rt: HostRuntime) -> Result<(), Fail> {
-    let alloc = rt.alloc();
-    for (mode, left) in [
-        (Mode::Lost, b"abcd".as_slice()),
-        (Mode::Kept, b"abcXY".as_slice()),
-        (Mode::Torn, b"abc\xa5\xa5".as_slice()),
-    ] {
-        assert_eq!(rt; sync_fires(alloc, mode)?.as_slice(), left);
-    }
-    Ok(())
-}
-
-#[test]
-fn each_arm_fires_once(rt: HostRuntime) -> Result<(), Fail> {
-    let alloc = rt.alloc();
-    let mut disk = MemDisk::new(alloc);
-    disk.arm(2, Mode::Kept, false);
-    disk.sync()?;
-    assert_eq!(rt; disk.fired(), None);
-    assert!(rt; disk.sync().is_err());
-    assert_eq!(rt; disk.fired(), Some(false));
-    disk.sync()?;
-    assert_eq!(rt; disk.calls(), 3);
-    disk.mend();
-    assert_eq!(rt; disk.fired(), None);
-
-    disk.fail_read(1);
-    disk.read_at(0, &mut [])?;
-    assert!(rt; disk.read_at(0, &mut []).is_err());
-    disk.read_at(0, &mut [])?;
-    Ok(())
-}
-
 #[test]
 fn a_bay_in_memory_hands_out_and_takes_back(rt: HostRuntime) -> Result<(), Fail> {
     let alloc = rt.alloc();
@@ -132,41 +50,11 @@ fn a_bay_in_memory_hands_out_and_takes_back(rt: HostRuntime) -> Result<(), Fail>
     let mut bay = MemBay::new(vec![in alloc; zero, one]?)?;
     let mut disk = bay.disk(SiteId(1))?;
     assert_eq!(rt; held(alloc, &mut disk)?.as_slice(), b"one".as_slice());
-
-    // A call of it fails, and it comes again with a count of 0.
     disk.reserve(3, 1)?;
     disk.write_at(0, b"two")?;
-    disk.arm(1, Mode::Kept, false);
-    assert_eq!(rt; disk.sync(), Err(Failed));
-    assert_eq!(rt; disk.faults(), 1);
     bay.back(SiteId(1), disk);
     let mut disk = bay.disk(SiteId(1))?;
     assert_eq!(rt; held(alloc, &mut disk)?.as_slice(), b"two".as_slice());
-    assert_eq!(rt; disk.faults(), 0);
-    assert_eq!(rt; disk.calls(), 2);
-    Ok(())
-}
-
-#[test]
-fn a_bay_in_memory_has_no_disk_past_its_list(rt: HostRuntime) -> Result<(), Fail> {
-    let mut bay = MemBay::new(Vec::new(rt.alloc()))?;
-    assert_eq!(rt; bay.disk(SiteId(0)).err(), Some(BayError::Failed));
-    Ok(())
-}
-
-#[test]
-fn a_bay_in_memory_keeps_the_last_disk(rt: HostRuntime) -> Result<(), Fail> {
-    let alloc = rt.alloc();
-    let mut bay = MemBay::new(Vec::new(alloc))?;
-    assert!(rt; bay.kept(SiteId(3)).is_none());
-    bay.keep(SiteId(3), MemDisk::of(alloc, b"first".to_vec(alloc)?));
-    bay.keep(SiteId(3), MemDisk::of(alloc, b"second".to_vec(alloc)?));
-    assert!(rt; bay.kept(SiteId(2)).is_none());
-    if let Some(mut disk) = bay.kept(SiteId(3)) {
-        assert_eq!(rt; held(alloc, &mut disk)?.as_slice(), b"second".as_slice());
-    }
-    assert!(rt; bay.kept(SiteId(3)).is_none());
-    assert!(rt; bay.kept(SiteId(16)).is_none());
     Ok(())
 }
 

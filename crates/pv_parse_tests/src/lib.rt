@@ -2,10 +2,6 @@
 #![tactic(auto)]
 
 #[cfg(test)]
-mod depth_tests;
-#[cfg(test)]
 mod refusal_tests;
 #[cfg(test)]
 mod tests;
-#[cfg(test)]
-mod token_tests;

@@ -1,5 +1,5 @@
 // Texts that aren't programs, with the leftmost fault that each has by the grammar, worked out by hand.
-use crate::tests::{assert_reads, items, reading};
+use crate::tests::assert_reads;
 use std::test::Fail;
 
 // Texts, with the leftmost fault of each.
@@ -144,37 +144,53 @@ const REFUSED: &[(&str, &str)] = &[
     ("a := 1.5", "Malformed(7)"),
     ("1 := a", "Malformed(1)"),
     ("a := 0x1", "Malformed(7)"),
+    // A byte may begin no token.
+    ("#", "Malformed(1)"),
+    ("A := 1", "Malformed(1)"),
+    ("aB := 1", "Malformed(2)"),
+    ("_x := 1", "Malformed(1)"),
+    ("a := b!", "Malformed(7)"),
+    ("a := b != 1", "Malformed(8)"),
+    ("a := é", "Malformed(6)"),
+    ("a := bé + c", "Malformed(7)"),
+    ("a := 1\r", "Malformed(7)"),
+    ("a := \0", "Malformed(6)"),
+    // Tokens stand below at most 32 brackets, calls, signs, nots and branches.
+    (
+        "a := (((((((((((((((((((((((((((((((((1",
+        "TooDeep(39)",
+    ),
+    (
+        "return max(max(max(max(max(max(max(max(max(max(max(max(max(max(max(max(max(max(max(max(max(max(max(max(max(max(max(max(max(max(max(max(max(a,1)",
+        "TooDeep(140)",
+    ),
+    (
+        "a := ---------------------------------a",
+        "TooDeep(39)",
+    ),
+    (
+        "a := not not not not not not not not not not not not not not not not not not not not not not not not not not not not not not not not not a",
+        "TooDeep(138)",
+    ),
+    (
+        "if 1{if 1{if 1{if 1{if 1{if 1{if 1{if 1{if 1{if 1{if 1{if 1{if 1{if 1{if 1{if 1{if 1{if 1{if 1{if 1{if 1{if 1{if 1{if 1{if 1{if 1{if 1{if 1{if 1{if 1{if 1{if 1{if 1{a:=1",
+        "TooDeep(166)",
+    ),
+    (
+        "a := (((((((((((((((((((((((((((((((((c",
+        "UnknownName(39)",
+    ),
+    (
+        "a := ((((((((((((((((((((((((((((((((()",
+        "Malformed(39)",
+    ),
+    (
+        "a := c (((((((((((((((((((((((((((((((((a",
+        "UnknownName(6)",
+    ),
 ];
 
 #[test]
 fn each_text_has_its_leftmost_fault(rt: HostRuntime) -> Result<(), Fail> {
     assert_reads(&rt, rt.alloc(), REFUSED)
-}
-
-#[test]
-fn a_byte_that_begins_no_token_is_a_fault(rt: HostRuntime) -> Result<(), Fail> {
-    assert_reads(
-        &rt,
-        rt.alloc(),
-        &[
-            ("#", "Malformed(1)"),
-            ("A := 1", "Malformed(1)"),
-            ("aB := 1", "Malformed(2)"),
-            ("_x := 1", "Malformed(1)"),
-            ("a := _", "Malformed(6)"),
-            ("a := b!", "Malformed(7)"),
-            ("a := b != 1", "Malformed(8)"),
-            ("a := b & 1", "Malformed(8)"),
-            ("a := é", "Malformed(6)"),
-            ("a := bé + c", "Malformed(7)"),
-            ("a := b # é", "Malformed(8)"),
-            ("a := 'b'", "Malformed(6)"),
-            ("a := 1\r", "Malformed(7)"),
-            ("a := \0", "Malformed(6)"),
-        ],
-    )?;
-    let catalog = items(rt.alloc())?;
-    let found = reading(rt.alloc(), &catalog, b"a := b +\xff")?;
-    assert_eq!(rt; found.as_str(), "Malformed(9)");
-    Ok(())
 }

@@ -378,6 +378,11 @@ const READ: &[(&str, &str)] = &[
         "Malformed(8)",
     ),
     ("return 1 + 99999999999999999999 + c", "Malformed(12)"),
+    // So many brackets are just enough.
+    (
+        "a := ((((((((((((((((((((((((((((((((b))))))))))))))))))))))))))))))))",
+        "a := b",
+    ),
     // A fault has its column.
     ("a := (", "Malformed(7)"),
     ("a := c", "UnknownName(6)"),

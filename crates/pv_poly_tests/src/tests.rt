@@ -134,60 +134,19 @@ fn assert_settled(rt: &(impl Abort + AllocGlobal), poly: &Poly<i64>, known: Lite
     }
 }
 
-// Asserts that these are the cases once both outcomes are known.
-fn assert_both_settled(
+// Asserts that this was made of cases: a polyvalue of these, or this refusal.
+fn assert_answer(
     rt: &(impl Abort + AllocGlobal),
-    poly: &Poly<i64>,
-    first: Literal,
-    second: Literal,
+    made: Result<Poly<i64>, CaseError>,
     wanted: &str,
 ) {
-    match settle_both(rt, rt.alloc(), poly, first, second) {
-        Ok(settled) => assert_cases(rt, &settled, wanted),
-        Err(error) => panic!(rt; "{error}"),
-    }
-}
-
-// Asserts that a polyvalue has been made, of these cases.
-fn assert_made(rt: &(impl Abort + AllocGlobal), made: Result<Poly<i64>, CaseError>, wanted: &str) {
     match made {
         Ok(poly) => assert_cases(rt, &poly, wanted),
-        Err(error) => panic!(rt; "{error}"),
+        Err(error) => match format!(in rt.alloc(); "{error:?}") {
+            Ok(printed) => assert_eq!(rt; printed.as_str(), wanted),
+            Err(_) => panic!(rt; "no memory"),
+        },
     }
-}
-
-// Asserts that what was made of these cases is a refusal, for the cause that prints so.
-fn assert_refused(
-    rt: &(impl Abort + AllocGlobal),
-    made: Result<Poly<i64>, CaseError>,
-    cases: &str,
-    wanted: &str,
-) {
-    let Err(error) = made else {
-        panic!(rt; "not refused: {cases}");
-    };
-    match format!(in rt.alloc(); "{error}") {
-        Ok(printed) => assert_eq!(rt; printed.as_str(), wanted, "{cases}"),
-        Err(_) => panic!(rt; "no memory"),
-    }
-}
-
-// Asserts that no case is met where exactly these transactions commit, and that this is reported.
-fn assert_incomplete(
-    rt: &(impl Abort + AllocGlobal),
-    made: Result<Poly<i64>, CaseError>,
-    wanted: &[TxnId],
-) {
-    match made {
-        Err(CaseError::NotComplete(yes)) => assert_eq!(rt; yes.as_slice(), wanted),
-        _ => panic!(rt; "not refused as incomplete"),
-    }
-}
-
-// Asserts that the cases aren't canonical, for the cause that prints so, and are joined to these.
-fn assert_joined_alone(rt: &(impl Abort + AllocGlobal), cases: &str, cause: &str, wanted: &str) {
-    assert_refused(rt, from_cases(rt, cases), cases, cause);
-    assert_made(rt, join(rt, cases), wanted);
 }
 
 #[test]
@@ -198,8 +157,7 @@ fn a_choice_has_the_old_case_first(rt: HostRuntime) -> Result<(), Fail> {
     assert_eq!(rt; poly.at(&[txn(1), txn(0)]), 60);
     let same = Poly::choose(rt.alloc(), txn(0), &poly, &poly)?;
     assert_cases(&rt, &same, "0- 50; 0+ 60;");
-    let copy = poly.copy(rt.alloc())?;
-    assert_cases(&rt, &copy, "0- 50; 0+ 60;");
+    assert!(rt; poly.copy(rt.alloc())? == poly);
     Ok(())
 }
 
@@ -220,32 +178,8 @@ fn a_choice_by_a_later_transaction_goes_below(rt: HostRuntime) -> Result<(), Fai
 fn two_outcomes_are_put_in_at_once(rt: HostRuntime) -> Result<(), Fail> {
     let old = fifty_or_sixty(rt.alloc())?;
     let poly = chosen(rt.alloc(), 1, 70, &old)?;
-    assert_both_settled(&rt, &poly, aborts(0), aborts(1), "50;");
-    assert_both_settled(&rt, &poly, commits(1), commits(2), "70;");
-    assert_both_settled(&rt, &poly, commits(0), aborts(2), "1- 60; 1+ 70;");
-    Ok(())
-}
-
-#[test]
-fn equal_polyvalues_are_equal(rt: HostRuntime) -> Result<(), Fail> {
-    let poly = fifty_or_sixty(rt.alloc())?;
-    assert!(rt; poly.copy(rt.alloc())? == poly);
-    assert!(rt; poly.settle(rt.alloc(), txn(0), true)? != poly);
-    Ok(())
-}
-
-#[test]
-fn equal_cases_are_equal(rt: HostRuntime) -> Result<(), Fail> {
-    let poly = fifty_or_sixty(rt.alloc())?;
-    let settled = poly.settle(rt.alloc(), txn(0), true)?;
-    let [case] = settled.cases() else {
-        rt.abort();
-    };
-    let copy = case.copy(rt.alloc())?;
-    assert!(rt; copy == *case);
-    for other in poly.cases() {
-        assert!(rt; copy != *other);
-    }
+    let settled = settle_both(&rt, rt.alloc(), &poly, commits(0), aborts(2))?;
+    assert_cases(&rt, &settled, "1- 60; 1+ 70;");
     Ok(())
 }
 
@@ -258,67 +192,34 @@ fn a_ninth_name_is_refused(rt: HostRuntime) -> Result<(), Fail> {
     assert_eq!(rt; poly.names(rt.alloc())?.len(), 8);
     let refused = chosen(rt.alloc(), 8, 9, &poly);
     assert!(rt; matches!(refused, Err(NameError::TooManyOutcomes(9))));
-
-    // The new value has lost every name that the old one had, where the eighth commits.
-    assert_settled(&rt, &poly, commits(7), "8;");
     Ok(())
 }
 
-#[test]
-fn canonical_cases_are_taken_as_they_are(rt: HostRuntime) {
-    assert_made(&rt, from_cases(&rt, "0- 50; 0+ 60;"), "0- 50; 0+ 60;");
-}
-
-// Cases that are no canonical ones of a polyvalue, and why.
-const REFUSED: &[(&str, &str)] = &[
-    ("0- 1; 0- 2;", "cases 0 and 1 overlap"),
-    // Cases 1 and 2 overlap, and 0 with 3 and with 4: the least first place is reported, and then the least second one.
+// Cases, each with what is made of them where they are to be canonical, and where they are joined.
+const MADE: &[(&str, &str, &str)] = &[
+    ("0- 50; 0+ 60;", "0- 50; 0+ 60;", "0- 50; 0+ 60;"),
+    ("", "NotComplete([])", "NotComplete([])"),
     (
-        "0- 1; 0+ 2; 0+ 1+ 3; 0- 1- 4; 0- 5;",
-        "cases 0 and 3 overlap",
+        "0- 1;",
+        "NotComplete([TxnId { site: SiteId(0), epoch: 1, number: 0 }])",
+        "NotComplete([TxnId { site: SiteId(0), epoch: 1, number: 0 }])",
     ),
-    // Overlaps are reported before gaps, and too many names before both.
-    ("0- 1; 0- 1- 2;", "cases 0 and 1 overlap"),
+    ("0- 1; 0- 2;", "NotDisjoint(0, 1)", "NotDisjoint(0, 1)"),
+    ("0- 1; 0+ 1;", "NotReduced(0)", "1;"),
+    ("0+ 60; 0- 50;", "NotReduced(0)", "0- 50; 0+ 60;"),
     (
-        "0- 1- 2- 3- 4- 5- 6- 7- 8- 1; 0- 1- 2- 3- 4- 5- 6- 7- 8- 2;",
-        "the cases name 9 outcomes",
+        "0- 1- 2- 3- 4- 5- 6- 7- 8- 1;",
+        "TooManyOutcomes(9)",
+        "TooManyOutcomes(9)",
     ),
 ];
 
-// Cases that can't be joined, and why.
-const NOT_JOINED: &[(&str, &str)] = &[
-    ("0- 1- 2- 3- 4- 5- 6- 7- 8- 1;", "the cases name 9 outcomes"),
-    ("1; 3+ 1;", "cases 0 and 1 overlap"),
-];
-
 #[test]
-fn cases_that_are_no_polyvalue_are_refused(rt: HostRuntime) {
-    for (cases, wanted) in REFUSED {
-        assert_refused(&rt, from_cases(&rt, cases), cases, wanted);
+fn cases_are_kept_or_joined_or_refused(rt: HostRuntime) {
+    for (cases, kept, joined) in MADE {
+        assert_answer(&rt, from_cases(&rt, cases), kept);
+        assert_answer(&rt, join(&rt, cases), joined);
     }
-    for (cases, wanted) in NOT_JOINED {
-        assert_refused(&rt, join(&rt, cases), cases, wanted);
-    }
-}
-
-#[test]
-fn cases_that_leave_a_gap_are_refused(rt: HostRuntime) {
-    assert_incomplete(&rt, from_cases(&rt, ""), &[]);
-    assert_incomplete(&rt, from_cases(&rt, "0- 1;"), &[txn(0)]);
-
-    // The least transaction is the most significant: where the second commits alone comes before where the first does.
-    assert_incomplete(&rt, join(&rt, "1- 0- 1;"), &[txn(1)]);
-}
-
-#[test]
-fn cases_that_are_not_canonical_are_joined_alone(rt: HostRuntime) {
-    let first = "case 0 isn't canonical";
-    assert_joined_alone(&rt, "0- 1; 0+ 1;", first, "1;");
-    assert_joined_alone(&rt, "0+ 60; 0- 50;", first, "0- 50; 0+ 60;");
-
-    // A case that no assignment meets does no harm, but canonical cases have none.
-    let third = "case 2 isn't canonical";
-    assert_joined_alone(&rt, "0- 50; 0+ 60; 0+ 0- 70;", third, "0- 50; 0+ 60;");
 }
 
 // The first transactions of these sites.
@@ -360,8 +261,5 @@ fn a_table_is_read_back(rt: HostRuntime) -> Result<(), Fail> {
     let poly = from_table(&rt, &[0, 2, 4], &[5, 5, 7, 7, 1, 2, 7, 7])?;
     let cases = "0- 2- 5; 0- 2+ 7; 0+ 2- 4- 1; 0+ 2- 4+ 2; 0+ 2+ 7;";
     assert_cases(&rt, &poly, cases);
-    assert_table(&rt, &poly, &[0, 2, 4], &[5, 5, 7, 7, 1, 2, 7, 7])?;
-
-    // A transaction that isn't named changes nothing, and one that is left out doesn't commit.
-    assert_table(&rt, &poly, &[1, 4, 0], &[5, 5, 5, 5, 1, 2, 1, 2])
+    assert_table(&rt, &poly, &[0, 2, 4], &[5, 5, 7, 7, 1, 2, 7, 7])
 }

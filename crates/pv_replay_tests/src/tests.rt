@@ -1,9 +1,9 @@
-// Worked records and polyvalues, byte for byte; each with every beginning and many changed bytes; and many cases that overlap.
+// Worked records and polyvalues, byte for byte; and many cases that overlap.
 ghost use Rattle.std.specs.Prelude.{IfOk, IfSome};
 ghost use Rattle.pv_format.specs.RecordSpelling.{SpellsRecord};
 ghost use Rattle.pv_replay.specs.Values.{record_of};
 
-use pv_base::{NoMemory, TxnId};
+use pv_base::NoMemory;
 use pv_bytes::{Put, Take};
 use pv_replay::*;
 use pv_tree::Poly;
@@ -30,6 +30,9 @@ const RECORDS: [(&str, &str); 5] = [
         "Outcome { txn: TxnId { site: SiteId(0), epoch: 1, number: 0 }, commits: true }",
     ),
 ];
+
+// The second of them.
+const PROMISE: &str = "02 00 00000001 00000000 01 00000000 0001 00 0000000000000065";
 
 // The value of a hexadecimal digit.
 fn digit(text: u8) -> Option<u8> {
@@ -95,44 +98,11 @@ fn each_kind_of_record_is_read_and_written(rt: HostRuntime) -> Result<(), Fail> 
 }
 
 #[test]
-fn no_beginning_of_a_record_is_one(rt: HostRuntime) -> Result<(), Fail> {
-    let alloc = rt.alloc();
-    for (hex, _) in RECORDS {
-        let bytes = bytes_of(alloc, hex)?;
-        for length in 0..bytes.len() {
-            assert!(rt; again(alloc, &bytes[..length])?.is_none());
-        }
-    }
-    Ok(())
-}
-
-#[test]
-fn a_changed_byte_makes_another_record_or_none(rt: HostRuntime) -> Result<(), Fail> {
-    let alloc = rt.alloc();
-    for (hex, _) in RECORDS {
-        let bytes = bytes_of(alloc, hex)?;
-        for place in 0..bytes.len() {
-            for byte in [0, 1, 255] {
-                let mut changed = bytes.to_vec(alloc)?;
-                changed[place] = byte;
-                if let Some(written) = again(alloc, &changed)? {
-                    assert!(rt; written.as_slice() == changed.as_slice());
-                }
-            }
-        }
-    }
-    Ok(())
-}
-
-#[test]
 fn a_journal_is_replayed(rt: HostRuntime) -> Result<(), Fail> {
     let alloc = rt.alloc();
     let mut contents = Vec::new(alloc);
     contents.push(bytes_of(alloc, "01 00000001")?)?;
-    contents.push(bytes_of(
-        alloc,
-        "02 00 00000001 00000000 01 00000000 0001 00 0000000000000065",
-    )?)?;
+    contents.push(bytes_of(alloc, PROMISE)?)?;
     let past = replay(alloc, &contents)?;
     assert_eq!(rt; past.epoch, 1);
     assert_eq!(rt; past.records.len(), 2);
@@ -142,34 +112,6 @@ fn a_journal_is_replayed(rt: HostRuntime) -> Result<(), Fail> {
     assert_eq!(rt;
         replay(alloc, &other).err(),
         Some(ReplayError::BadRecord(0))
-    );
-
-    let none = Vec::new(alloc);
-    assert_eq!(rt; replay(alloc, &none)?.epoch, 0);
-
-    contents.push(bytes_of(alloc, "04")?)?;
-    assert_eq!(rt;
-        replay(alloc, &contents).err(),
-        Some(ReplayError::BadRecord(2))
-    );
-    Ok(())
-}
-
-#[test]
-fn a_sure_value_is_read_and_written(rt: HostRuntime) -> Result<(), Fail> {
-    let alloc = rt.alloc();
-    let bytes = bytes_of(alloc, "0001 00 0000000000000065")?;
-    let mut take = Take::new(&bytes);
-    let value = take_poly(alloc, &mut take)?;
-    let nobody: [TxnId; 0] = [];
-    assert_eq!(rt; value.at(&nobody), 101);
-    assert_eq!(rt; value.cases().len(), 1);
-    let sure = Poly::sure(alloc, 101i64)?;
-    assert!(rt;
-        format!(in alloc; "{sure:?}")?.as_str() == format!(in alloc; "{value:?}")?.as_str()
-    );
-    assert!(rt;
-        poly_again(alloc, &bytes)?.is_some_and(|written| written.as_slice() == bytes.as_slice())
     );
     Ok(())
 }
@@ -188,20 +130,10 @@ fn poly_again(alloc: Global, bytes: &[u8]) -> Result<Option<Vec<u8>>, NoMemory> 
     }
 }
 
-// The refusal of bytes that begin with no polyvalue.
-fn refusal(alloc: Global, hex: &str) -> Result<Option<PolyError>, AllocFailed<u8>> {
-    let bytes = bytes_of(alloc, hex)?;
-    let mut take = Take::new(&bytes);
-    Ok(take_poly(alloc, &mut take).err())
-}
-
 #[test]
 fn a_sure_value_is_the_end_of_its_promise(rt: HostRuntime) -> Result<(), Fail> {
     let alloc = rt.alloc();
-    let promise = bytes_of(
-        alloc,
-        "02 00 00000001 00000000 01 00000000 0001 00 0000000000000065",
-    )?;
+    let promise = bytes_of(alloc, PROMISE)?;
     assert_eq!(rt; promise.len(), 26);
     let last = &promise[15..];
     let mut take = Take::new(last);
@@ -214,44 +146,27 @@ fn a_sure_value_is_the_end_of_its_promise(rt: HostRuntime) -> Result<(), Fail> {
     Ok(())
 }
 
+// Bytes that begin with no polyvalue, and their first fault.
+const FAULTS: &[(&str, PolyError)] = &[
+    ("", PolyError::Short(0)),
+    // No case.
+    ("0000", PolyError::BadPoly(0)),
+    // A truth value of 2, and then a site of 16.
+    ("0001 01 02 10", PolyError::BadField(3)),
+    // Both outcomes in the other order.
+    (
+        "0002 01 01 00 00000001 00000000 000000000000003c 01 00 00 00000001 00000000 0000000000000032",
+        PolyError::BadPoly(0),
+    ),
+];
+
 #[test]
 fn the_first_fault_is_answered(rt: HostRuntime) -> Result<(), Fail> {
     let alloc = rt.alloc();
-    for (hex, error) in [
-        ("", PolyError::Short(0)),
-        ("00", PolyError::Short(0)),
-        // No case.
-        ("0000", PolyError::BadPoly(0)),
-        ("0001 00 00000000000000", PolyError::Short(3)),
-        // A truth value of 2, and then a site of 16.
-        ("0001 01 02 10", PolyError::BadField(3)),
-        ("0001 01 01 10", PolyError::BadField(4)),
-        ("0001 01 01 00 0000", PolyError::Short(5)),
-        // A count of 65,535 over fewer bytes takes no more than they do.
-        (
-            "ffff 01 01 00 00000001 00000000 00000000000000",
-            PolyError::Short(13),
-        ),
-        // Nine transactions, of which no polyvalue may name more than eight.
-        (
-            "0001 09 00 00 00000001 00000000 00 00 00000001 00000001 00 00 00000001 00000002 00 00 00000001 00000003 00 00 00000001 00000004 00 00 00000001 00000005 00 00 00000001 00000006 00 00 00000001 00000007 00 00 00000001 00000008 0000000000000000",
-            PolyError::BadPoly(0),
-        ),
-        // One of two outcomes; both in the other order; both with one value.
-        (
-            "0001 01 00 00 00000001 00000000 0000000000000032",
-            PolyError::BadPoly(0),
-        ),
-        (
-            "0002 01 01 00 00000001 00000000 000000000000003c 01 00 00 00000001 00000000 0000000000000032",
-            PolyError::BadPoly(0),
-        ),
-        (
-            "0002 01 00 00 00000001 00000000 0000000000000032 01 01 00 00000001 00000000 0000000000000032",
-            PolyError::BadPoly(0),
-        ),
-    ] {
-        assert_eq!(rt; refusal(alloc, hex)?, Some(error));
+    for (hex, error) in FAULTS {
+        let bytes = bytes_of(alloc, hex)?;
+        let mut take = Take::new(&bytes);
+        assert!(rt; take_poly(alloc, &mut take).err() == Some(*error));
     }
     Ok(())
 }

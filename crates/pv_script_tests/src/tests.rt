@@ -7,16 +7,12 @@ use std::process::Abort;
 use std::test::Fail;
 
 // Texts that are refused, with the line at fault and its first cause, as they are printed.
-
-// Lines, and what they may hold.
-const BAD_LINES: &[(&str, &str)] = &[
+const REFUSED: &[(&str, &str)] = &[
+    // Lines, and what they may hold.
     ("\n# one\nsites 1\n\n\nitem a 1 5\n", "line 6: bad number"),
     ("sites 1\n\r\n\r \nreport", "line 3: not text"),
     ("sites 1\nreport \x7f", "line 2: not text"),
-];
-
-// What stands before `sites`, or in its place.
-const NO_SITES: &[(&str, &str)] = &[
+    // What stands before `sites`, or in its place.
     ("", "line 1: sites expected"),
     ("# one\n\n", "line 3: sites expected"),
     ("item a 0 1", "line 1: sites expected"),
@@ -26,10 +22,7 @@ const NO_SITES: &[(&str, &str)] = &[
     ("sites 0", "line 1: bad number"),
     ("sites 18446744073709551617", "line 1: bad number"),
     ("sites 1\nsites", "line 2: twice"),
-];
-
-// Declarations.
-const BAD_DECLARATIONS: &[(&str, &str)] = &[
+    // Declarations.
     ("sites 1\njournal 31", "line 2: bad number"),
     ("sites 1\njournal 4294967297", "line 2: bad number"),
     ("sites 1\njournal 32\njournal", "line 3: twice"),
@@ -49,10 +42,7 @@ const BAD_DECLARATIONS: &[(&str, &str)] = &[
     ("sites 1\nitem min 0 1", "line 2: bad name"),
     ("sites 1\nitem abcdefghijklmnopq 0 1", "line 2: bad name"),
     ("sites 1\nitem a 0 1\nitem a 0 2", "line 3: name taken"),
-];
-
-// Commands but requests.
-const BAD_COMMANDS: &[(&str, &str)] = &[
+    // Commands but requests.
     ("sites 2\nwhat", "line 2: unknown word"),
     ("sites 2\npump 0", "line 2: bad number"),
     ("sites 2\npump 1000001", "line 2: bad number"),
@@ -66,22 +56,47 @@ const BAD_COMMANDS: &[(&str, &str)] = &[
     ("sites 2\ncut 0 1001 gone", "line 2: bad number"),
     ("sites 2\nfail 2 1 lost", "line 2: bad number"),
     ("sites 2\nfail 1 1", "line 2: wrong count"),
-];
-
-// Requests, each after the three lines of a site with two items.
-const BAD_REQUESTS: &[(&str, &str)] = &[
-    ("submit 0", "line 4: wrong count"),
-    ("query", "line 4: wrong count"),
-    ("submit 1 a := ", "line 4: bad number"),
-    ("submit 0 a := ", "line 4: program column 5"),
-    ("submit 0  c := 1", "line 4: unknown name column 1"),
+    // Requests.
     (
-        "query 0 return (((((((((((((((((((((((((((((((((( a",
+        "sites 1\nitem a 0 1\nitem b 0 1\nsubmit 0",
+        "line 4: wrong count",
+    ),
+    (
+        "sites 1\nitem a 0 1\nitem b 0 1\nquery",
+        "line 4: wrong count",
+    ),
+    (
+        "sites 1\nitem a 0 1\nitem b 0 1\nsubmit 1 a := ",
+        "line 4: bad number",
+    ),
+    (
+        "sites 1\nitem a 0 1\nitem b 0 1\nsubmit 0 a := ",
+        "line 4: program column 5",
+    ),
+    (
+        "sites 1\nitem a 0 1\nitem b 0 1\nsubmit 0  c := 1",
+        "line 4: unknown name column 1",
+    ),
+    (
+        "sites 1\nitem a 0 1\nitem b 0 1\nquery 0 return (((((((((((((((((((((((((((((((((( a",
         "line 4: too deep column 41",
     ),
-    ("submit 0 return 1", "line 4: names no item"),
-    ("query 0 a := 1 ; return a", "line 4: query assigns"),
-    ("query 0 require a", "line 4: no return"),
+    (
+        "sites 1\nitem a 0 1\nitem b 0 1\nsubmit 0 return 1",
+        "line 4: names no item",
+    ),
+    (
+        "sites 1\nitem a 0 1\nitem b 0 1\nquery 0 a := 1 ; return a",
+        "line 4: query assigns",
+    ),
+    (
+        "sites 1\nitem a 0 1\nitem b 0 1\nquery 0 require a",
+        "line 4: no return",
+    ),
+    (
+        "sites 1\nitem a 0 1\nitem b 0 1\nitem c 0 1\nitem d 0 1\nitem e 0 1\nitem f 0 1\nitem g 0 1\nitem h 0 1\nitem i 0 1\nitem j 0 1\nitem k 0 1\nitem l 0 1\nitem m 0 1\nitem n 0 1\nitem o 0 1\nitem p 0 1\nitem q 0 1\nquery 0 a := a + b + c + d + e + f + g + h + i + j + k + l + m + n + o + p + q",
+        "line 19: too many names 17",
+    ),
 ];
 
 // The answer to a text.
@@ -202,78 +217,13 @@ fn lines_and_blanks_are_read(rt: HostRuntime) {
     let text = "\tsites\t 01\r\nitem a 00 -007\r\nsubmit 0   a :=\ta  + 007 \r\npump\r\nreport\r";
     assert_read(&rt, text.as_bytes(), 1, 3);
     assert_read(&rt, "sites 16".as_bytes(), 0, 0);
-    for (text, wanted) in BAD_LINES {
+}
+
+#[test]
+fn texts_are_refused(rt: HostRuntime) {
+    for (text, wanted) in REFUSED {
         assert_refused(&rt, text.as_bytes(), wanted);
     }
-}
-
-#[test]
-fn sites_come_first(rt: HostRuntime) {
-    for (text, wanted) in NO_SITES {
-        assert_refused(&rt, text.as_bytes(), wanted);
-    }
-}
-
-#[test]
-fn declarations_are_tested(rt: HostRuntime) {
-    for (text, wanted) in BAD_DECLARATIONS {
-        assert_refused(&rt, text.as_bytes(), wanted);
-    }
-    assert_read(&rt, "sites 1\nitem abcdefghijklmnop 0 1".as_bytes(), 1, 0);
-}
-
-// Asserts that the text with one more line is refused, for what prints so.
-fn assert_refused_with(
-    rt: &(impl Abort + AllocGlobal),
-    text: &[u8],
-    line: &str,
-    wanted: &str,
-) -> Result<(), Fail> {
-    let mut whole = Vec::from_slice(rt.alloc(), text)?;
-    whole.extend_from_slice(line.as_bytes())?;
-    assert_refused(rt, &whole, wanted);
-    Ok(())
-}
-
-#[test]
-fn a_catalog_may_be_full(rt: HostRuntime) -> Result<(), Fail> {
-    let mut text = Vec::from_slice(rt.alloc(), "sites 1\n".as_bytes())?;
-    for i in 0..1024u32 {
-        let line = format!(in rt.alloc(); "item i{i} 0 1\n")?;
-        text.extend_from_slice(line.as_bytes())?;
-    }
-    assert_read(&rt, &text, 1024, 0);
-    assert_refused_with(&rt, &text, "item i0 0 1", "line 1026: name taken")?;
-    assert_refused_with(&rt, &text, "item one_more 0 1", "line 1026: too many items")
-}
-
-#[test]
-fn commands_are_tested(rt: HostRuntime) {
-    for (text, wanted) in BAD_COMMANDS {
-        assert_refused(&rt, text.as_bytes(), wanted);
-    }
-}
-
-#[test]
-fn requests_are_tested(rt: HostRuntime) -> Result<(), Fail> {
-    let head = "sites 1\nitem a 0 1\nitem b 0 1\n".as_bytes();
-    for (line, wanted) in BAD_REQUESTS {
-        assert_refused_with(&rt, head, line, wanted)?;
-    }
-    let names =
-        "sites 1\nitem a 0 1\nitem b 0 1\nitem c 0 1\nitem d 0 1\nitem e 0 1\nitem f 0 1\nitem g 0 1\nitem h 0 1\nitem i 0 1\nitem j 0 1\nitem k 0 1\nitem l 0 1\nitem m 0 1\nitem n 0 1\nitem o 0 1\nitem p 0 1\nitem q 0 1\nquery 0 a := a + b + c + d + e + f + g + h + i + j + k + l + m + n + o + p + q";
-    assert_refused(&rt, names.as_bytes(), "line 19: too many names 17");
-    Ok(())
-}
-
-#[test]
-fn a_line_has_at_most_1000_bytes(rt: HostRuntime) -> Result<(), Fail> {
-    let mut text = Vec::from_slice(rt.alloc(), "sites 1\nitem a 0 1".as_bytes())?;
-    for _ in 0..990 {
-        text.push(b' ')?;
-    }
-    assert_read(&rt, &text, 1, 0);
-    assert_refused_with(&rt, &text, " ", "line 2: too long")
 }
 
 #[test]

@@ -8,6 +8,4 @@ mod play_tests;
 #[cfg(test)]
 mod step_tests;
 #[cfg(test)]
-mod stray_tests;
-#[cfg(test)]
 mod tests;

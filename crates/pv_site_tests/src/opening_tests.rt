@@ -1,18 +1,18 @@
 // A site opened on logs with worked contents: in which epoch, or why not.
 ghost use Rattle.std.specs.Prelude.{◌≡◌, ◌<◌, ◌≤◌, ◌^◌, false, length, IfOk, OnOk};
-ghost use Rattle.pv_base.specs.declared.limits.TheConstants.{MAX_JOURNAL, MAX_LENGTH, MIN_JOURNAL};
+ghost use Rattle.pv_base.specs.declared.limits.TheConstants.{MAX_JOURNAL, MAX_LENGTH};
 ghost use Rattle.pv_disk_model.specs.Size.{size_of};
 
 use crate::tests::{HERE, bytes_of, catalog};
 use pv_base::MAX_JOURNAL;
-use pv_disk::{AppendFail, ListLog, Log, LogError};
+use pv_disk::{ListLog, Log, LogError};
 use pv_site::{OpenError, Site};
 use std::alloc::Global;
 use std::test::Fail;
 
 /// Why a site isn't opened: its error, without the log that comes back.
 #[derive(Clone, Copy, Debug, PartialEq, Eq)]
-pub(crate) enum Refusal {
+enum Refusal {
     /// The log failed.
     Failed,
     /// The log would have this length.
@@ -58,26 +58,19 @@ fn add_all(alloc: Global, log: &mut ListLog, contents: &[&str]) -> Result<(), Fa
     Ok(())
 }
 
-// The log with these contents, in hexadecimal, that fails at the appends planned.
-pub(crate) fn log_of(
-    alloc: Global,
-    journal: u64,
-    fails: Vec<AppendFail>,
-    contents: &[&str],
-) -> Result<ListLog, Fail>
-    requires least { MIN_JOURNAL ≤ journal }
-    requires most { journal ≤ MAX_JOURNAL }
+// The log with these contents, in hexadecimal.
+fn log_of(alloc: Global, contents: &[&str]) -> Result<ListLog, Fail>
     ensures intact { IfOk result (λ log. size_of log.contents ≤ MAX_LENGTH) }
     ensures up { IfOk result (λ log. log.is_down ≡ false) }
-    ensures limit { IfOk result (λ log. log.limit ≡ journal) }
+    ensures limit { IfOk result (λ log. log.limit ≡ MAX_JOURNAL) }
 {
-    let mut log = ListLog::new(alloc, journal, fails);
+    let mut log = ListLog::new(alloc, MAX_JOURNAL, Vec::new(alloc));
     add_all(alloc, &mut log, contents)?;
     Ok(log)
 }
 
 // why a site wasn't opened
-pub(crate) fn refusal_of(error: &OpenError<ListLog>) -> Refusal {
+fn refusal_of(error: &OpenError<ListLog>) -> Refusal {
     match error {
         OpenError::Failed(_) => Refusal::Failed,
         OpenError::Full(_, length) => Refusal::Full(*length),
@@ -90,31 +83,27 @@ pub(crate) fn refusal_of(error: &OpenError<ListLog>) -> Refusal {
 }
 
 // In which epoch a site is opened on a log with these contents, or why not.
-fn opening(
-    alloc: Global,
-    journal: u64,
-    fails: &[AppendFail],
-    contents: &[&str],
-) -> Result<Result<u32, Refusal>, Fail>
-    requires least { MIN_JOURNAL ≤ journal }
-    requires most { journal ≤ MAX_JOURNAL }
-{
-    let catalog = catalog(alloc, journal)?;
-    let log = log_of(alloc, journal, fails.to_vec(alloc)?, contents)?;
+fn opening(alloc: Global, contents: &[&str]) -> Result<Result<u32, Refusal>, Fail> {
+    let catalog = catalog(alloc, MAX_JOURNAL)?;
+    let log = log_of(alloc, contents)?;
     match Site::open(alloc, log, HERE, &catalog) {
         Ok(site) => Ok(Ok(site.epoch())),
         Err(error) => Ok(Err(refusal_of(&error))),
     }
 }
 
-// Contents of a log that may have any length, and what comes of opening a site on it.
-const OPENINGS: [(&[&str], Result<u32, Refusal>); 7] = [
+// Contents of a log, and what comes of opening a site on it.
+const OPENINGS: &[(&[&str], Result<u32, Refusal>)] = &[
     (&[], Ok(1)),
-    (&["01 00000001"], Ok(2)),
-    (&["01 00000003", "01 00000002"], Ok(4)),
-    (&["01 fffffffd"], Ok(4_294_967_294)),
+    (
+        &[
+            "01 00000001",
+            "02 00 00000001 00000000 01 00000000 0001 00 0000000000000005",
+            "03 00 00000001 00000000 01",
+        ],
+        Ok(2),
+    ),
     (&["01 fffffffe"], Err(Refusal::EpochsSpent)),
-    (&["01 ffffffff"], Err(Refusal::EpochsSpent)),
     (&["01 00000001", "04"], Err(Refusal::BadRecord(1))),
 ];
 
@@ -122,44 +111,7 @@ const OPENINGS: [(&[&str], Result<u32, Refusal>); 7] = [
 fn a_site_is_opened_in_the_next_epoch(rt: HostRuntime) -> Result<(), Fail> {
     let alloc = rt.alloc();
     for (contents, expected) in OPENINGS {
-        assert_eq!(rt; opening(alloc, MAX_JOURNAL, &[], contents)?, expected);
+        assert_eq!(rt; opening(alloc, contents)?, *expected);
     }
-    Ok(())
-}
-
-#[test]
-fn no_site_is_opened_without_its_epoch(rt: HostRuntime) -> Result<(), Fail> {
-    let alloc = rt.alloc();
-    let full = opening(alloc, 32, &[], &["01 00000001", "01 00000002"])?;
-    assert_eq!(rt; full, Err(Refusal::Full(39)));
-    let fails = [AppendFail {
-        number: 0,
-        kept: true,
-    }];
-    let failed = opening(alloc, MAX_JOURNAL, &fails, &[])?;
-    assert_eq!(rt; failed, Err(Refusal::Failed));
-    Ok(())
-}
-
-// Promises of nine transactions, each of which assigns a.
-const PROMISES: [&str; 9] = [
-    "02 00 00000001 00000000 01 00000000 0001 00 0000000000000005",
-    "02 00 00000001 00000001 01 00000000 0001 00 0000000000000006",
-    "02 00 00000001 00000002 01 00000000 0001 00 0000000000000007",
-    "02 00 00000001 00000003 01 00000000 0001 00 0000000000000008",
-    "02 00 00000001 00000004 01 00000000 0001 00 0000000000000009",
-    "02 00 00000001 00000005 01 00000000 0001 00 000000000000000a",
-    "02 00 00000001 00000006 01 00000000 0001 00 000000000000000b",
-    "02 00 00000001 00000007 01 00000000 0001 00 000000000000000c",
-    "02 00 00000001 00000008 01 00000000 0001 00 000000000000000d",
-];
-
-#[test]
-fn no_site_is_opened_on_nine_promises(rt: HostRuntime) -> Result<(), Fail> {
-    let alloc = rt.alloc();
-    let eight = opening(alloc, MAX_JOURNAL, &[], &PROMISES[..8])?;
-    assert_eq!(rt; eight, Ok(1));
-    let nine = opening(alloc, MAX_JOURNAL, &[], &PROMISES)?;
-    assert_eq!(rt; nine, Err(Refusal::TooManyOutcomes(9)));
     Ok(())
 }

@@ -1,5 +1,4 @@
-// A site's part of a story over a log in memory: what it is given and answers, what it then knows and shows, what its log holds, and how it goes
-// on once it is opened again.
+// A site's part of a story over a log in memory: what it is given and answers, and what its log then holds.
 ghost use Rattle.std.specs.Prelude.{◌≡◌, ◌<◌, ◌≤◌, ℕ, false, length, All, IfOk, IfSome, IsTrue};
 ghost use Rattle.pv_ast.specs.ExprView.{expr_of};
 ghost use Rattle.pv_ast.specs.ProgramView.{followed_by};
@@ -8,20 +7,15 @@ ghost use Rattle.pv_disk.specs.ListLaws.{list_model};
 ghost use Rattle.pv_disk_model.specs.Size.{size_of};
 ghost use Rattle.pv_model.specs.Check.{names_item, reads};
 ghost use Rattle.pv_model.specs.Syntax.{end};
-ghost use Rattle.pv_protocol.specs.Lock.{is_home};
 ghost use Rattle.pv_site.specs.Inputs.{IsInputFor, IsSpelledFrom};
 ghost use Rattle.pv_site.specs.Steps.{IsReady};
 
-use crate::opening_tests::{Refusal, log_of, refusal_of};
 use crate::tests::{bytes_of, catalog};
 use pv_ast::{Expr, Op, Operand, Program, Stmt};
-use pv_base::{
-    Case, Catalog, GrantId, ItemId, Literal, MAX_JOURNAL, MIN_JOURNAL, NoMemory, Reply, SiteId,
-    TxnId,
-};
+use pv_base::{Catalog, ItemId, MAX_JOURNAL, NoMemory, Reply, SiteId, TxnId};
 use pv_check::check;
 use pv_disk::{AppendFail, ListLog, Log};
-use pv_site::{Cause, Input, Note, OpenError, Outgoing, Shown, Site, Step, StepError};
+use pv_site::{Cause, Input, Note, OpenError, Outgoing, Site, Step, StepError};
 use pv_wire::{Envelope, decode, encode};
 use std::alloc::Global;
 use std::process::Abort;
@@ -34,8 +28,6 @@ pub(crate) enum Task {
     Set,
     /// `a := a - 2 ; b := b + 2`
     Move,
-    /// `b := a ; return a`
-    Copy,
 }
 
 /// A note, as it is expected.
@@ -47,8 +39,6 @@ pub(crate) enum Noted {
     Commit(TxnId, &'static [Reply]),
     /// The transaction is refused.
     Refuse(TxnId, Cause),
-    /// The journal would have this length with an outcome.
-    Full(u64),
 }
 
 /// What a site answers, as it is expected. Messages are written in hexadecimal.
@@ -68,44 +58,6 @@ pub(crate) enum Answer {
     Fails(StepError),
 }
 
-/// What a site shows of its item.
-#[derive(Clone, Copy, PartialEq, Eq)]
-pub(crate) enum Value {
-    /// Nothing: it is down.
-    Down,
-    /// Nothing: the transaction holds the item.
-    Locked(TxnId),
-    /// This value.
-    Sure(i64),
-    /// The first value where the transaction doesn't commit, and the second one where it does.
-    Either(TxnId, i64, i64),
-    /// Another one.
-    Other,
-}
-
-/// What a site says when it is asked, as it is expected.
-#[derive(Clone, Copy)]
-pub(crate) enum Look {
-    /// The epoch in which it was opened.
-    Epoch(u32),
-    /// Whether its log was empty then.
-    First(bool),
-    /// Whether it waits for something.
-    Waits(bool),
-    /// Whether it works on the transaction.
-    Works(TxnId, bool),
-    /// Under which grant of this site it asks for a vote.
-    VotesOn(TxnId, SiteId, Option<GrantId>),
-    /// Which grant the transaction holds.
-    Holds(TxnId, Option<GrantId>),
-    /// Whether the transaction is prepared.
-    Prepared(TxnId, bool),
-    /// Which outcome of the transaction is known.
-    Known(TxnId, Option<bool>),
-    /// What it shows of its item.
-    Shows(Value),
-}
-
 /// What happens in a story.
 #[derive(Clone, Copy)]
 pub(crate) enum Act {
@@ -115,8 +67,6 @@ pub(crate) enum Act {
     Take(&'static str, Answer),
     /// Time passes at the site.
     Tick(SiteId, Answer),
-    /// The site is asked.
-    Ask(SiteId, Look),
 }
 
 /// A site's part of a story. Records are written in hexadecimal.
@@ -124,18 +74,12 @@ pub(crate) enum Act {
 pub(crate) struct Role {
     /// The site. What others do in the story is passed over.
     pub(crate) site: SiteId,
-    /// How long its log may become, in bytes.
-    pub(crate) journal: u64,
-    /// What the log holds before the site is opened.
-    pub(crate) before: &'static [&'static str],
     /// Which appends to the log fail.
     pub(crate) fails: &'static [AppendFail],
     /// What happens then.
     pub(crate) acts: &'static [Act],
     /// What the log then holds.
     pub(crate) after: &'static [&'static str],
-    /// What happens once the site is opened again, or why it isn't.
-    pub(crate) later: Result<&'static [Act], Refusal>,
 }
 
 /// Where a site doesn't play its part as it is told.
@@ -145,10 +89,6 @@ pub(crate) enum Wrong {
     Act(usize),
     /// In what its log holds.
     Log,
-    /// In whether it is opened again.
-    Opening(Option<Refusal>),
-    /// In this act after that.
-    Later(usize),
 }
 
 // the item's value and this number
@@ -211,17 +151,6 @@ fn moving(alloc: Global) -> Result<Program, NoMemory>
     both(alloc, less, more)
 }
 
-// `b := a ; return a`
-fn copying(alloc: Global) -> Result<Program, NoMemory>
-    ensures { IfOk result (λ program. (n : ℕ) → IsTrue (names_item program n) → n < 2) }
-{
-    let copy = Stmt::Assign {
-        item: ItemId(1),
-        value: Expr::Item(ItemId(0)),
-    };
-    both(alloc, copy, Stmt::Return(Expr::Item(ItemId(0))))
-}
-
 // the program of the task
 pub(crate) fn program_of(alloc: Global, task: Task) -> Result<Program, NoMemory>
     ensures { IfOk result (λ program. (n : ℕ) → IsTrue (names_item program n) → n < 2) }
@@ -229,7 +158,6 @@ pub(crate) fn program_of(alloc: Global, task: Task) -> Result<Program, NoMemory>
     match task {
         Task::Set => setting(alloc),
         Task::Move => moving(alloc),
-        Task::Copy => copying(alloc),
     }
 }
 
@@ -283,7 +211,7 @@ fn given(
         Act::Submit(to, task, _) if *to == me => Ok(Some(request(alloc, site, catalog, *task)?)),
         Act::Take(text, _) => mail(alloc, me, catalog, text),
         Act::Tick(to, _) if *to == me => Ok(Some(Input::Tick)),
-        Act::Submit(..) | Act::Tick(..) | Act::Ask(..) => Ok(None),
+        Act::Submit(..) | Act::Tick(..) => Ok(None),
     }
 }
 
@@ -347,7 +275,6 @@ fn is_noted(note: &Note, noted: &Noted) -> bool {
             txn == told && replies.as_slice() == *all
         }
         (Note::Refuse { txn, cause }, Noted::Refuse(told, why)) => txn == told && cause == why,
-        (Note::Full(length), Noted::Full(told)) => length == told,
         _ => false,
     }
 }
@@ -406,76 +333,10 @@ fn is_made(
     }
 }
 
-// the transaction that the two conditions are about, if the first is that it doesn't commit and the second that it does
-fn open_in(no: &[Literal], yes: &[Literal]) -> Option<TxnId> {
-    match (no, yes) {
-        ([no], [yes]) if !no.commits && yes.commits && no.txn == yes.txn => Some(no.txn),
-        _ => None,
-    }
-}
-
-// the value of these cases
-fn value_of(cases: &[Case<i64>]) -> Value {
-    match cases {
-        [only] => Value::Sure(only.value),
-        [old, new] => match open_in(&old.when, &new.when) {
-            Some(txn) => Value::Either(txn, old.value, new.value),
-            None => Value::Other,
-        },
-        _ => Value::Other,
-    }
-}
-
-// the item of the site
-fn item_of(me: SiteId) -> ItemId
-    ensures { result.0 ≡ me.0 }
-{
-    ItemId(u32::from(me.0))
-}
-
-// what the site shows of its item
-fn value_at(site: &Site<ListLog>, me: SiteId) -> Value
-    requires { IsTrue (is_home site.now.catalog site.now.me me.0) }
-{
-    match site.read(item_of(me)) {
-        Shown::Down => Value::Down,
-        Shown::Locked(txn) => Value::Locked(txn),
-        Shown::Cases(value) => value_of(value.cases()),
-    }
-}
-
-// whether the site says this
-fn says(site: &Site<ListLog>, me: SiteId, look: Look) -> bool
-    requires { IsTrue (is_home site.now.catalog site.now.me me.0) }
-{
-    match look {
-        Look::Epoch(epoch) => site.epoch() == epoch,
-        Look::First(first) => site.first() == first,
-        Look::Waits(waits) => site.waits() == waits,
-        Look::Works(txn, works) => site.works(txn) == works,
-        Look::VotesOn(txn, of, grant) => site.votes_on(txn, of) == grant,
-        Look::Holds(txn, grant) => site.holds(txn) == grant,
-        Look::Prepared(txn, prepared) => site.prepared(txn) == prepared,
-        Look::Known(txn, known) => site.known(txn) == known,
-        Look::Shows(value) => value_at(site, me) == value,
-    }
-}
-
-// whether the site says what it is asked in the act, if it is asked anything
-fn has_said(site: &Site<ListLog>, me: SiteId, act: &Act) -> bool
-    requires { IsTrue (is_home site.now.catalog site.now.me me.0) }
-{
-    match act {
-        Act::Ask(of, look) if *of == me => says(site, me, *look),
-        _ => true,
-    }
-}
-
 // what is answered in the act
 fn answer_in(act: &Act) -> Answer {
     match act {
         Act::Submit(_, _, answer) | Act::Take(_, answer) | Act::Tick(_, answer) => *answer,
-        Act::Ask(..) => Answer::Nothing,
     }
 }
 
@@ -503,13 +364,12 @@ fn acts(
     requires me { site.old.me ≡ me.0 }
     requires catalog { site.old.catalog ≡ catalog.now }
     requires items { length catalog.now.items ≡ 2 }
-    requires home { IsTrue (is_home catalog.now me.0 me.0) }
     ensures ready { IsReady list_model site.new }
     ensures me { site.new.me ≡ me.0 }
     ensures catalog { site.new.catalog ≡ catalog.now }
 {
     let Some(input) = given(alloc, site, me, catalog, act)? else {
-        return Ok(has_said(site, me, act));
+        return Ok(true);
     };
     let made = step(site, &input);
     Ok(is_made(alloc, me, made, answer_in(act))?)
@@ -527,7 +387,6 @@ fn first_wrong(
     requires me { site.old.me ≡ me.0 }
     requires catalog { site.old.catalog ≡ catalog.now }
     requires items { length catalog.now.items ≡ 2 }
-    requires home { IsTrue (is_home catalog.now me.0 me.0) }
     ensures ready { IsReady list_model site.new }
     ensures catalog { site.new.catalog ≡ catalog.now }
 {
@@ -576,55 +435,6 @@ pub(crate) fn open(
     Site::open(alloc, log, me, catalog)
 }
 
-// where the part goes wrong once the site is opened again
-fn wrong_on(
-    alloc: Global,
-    site: Site<ListLog>,
-    catalog: &Catalog,
-    part: &Role,
-) -> Result<Option<Wrong>, Fail>
-    requires ready { IsReady list_model site }
-    requires me { site.me ≡ part.now.site.0 }
-    requires catalog { site.catalog ≡ catalog.now }
-    requires items { length catalog.now.items ≡ 2 }
-    requires home { IsTrue (is_home catalog.now part.now.site.0 part.now.site.0) }
-{
-    let Ok(later) = part.later else {
-        return Ok(Some(Wrong::Opening(None)));
-    };
-    let mut site = site;
-    let wrong = first_wrong(alloc, &mut site, part.site, catalog, later)?;
-    Ok(wrong.map(Wrong::Later))
-}
-
-// where the part goes wrong that ends with this refusal
-fn wrong_by(part: &Role, refusal: Refusal) -> Option<Wrong> {
-    match part.later {
-        Err(told) if told == refusal => None,
-        _ => Some(Wrong::Opening(Some(refusal))),
-    }
-}
-
-// where the part goes wrong when the site is opened again, and after that
-fn wrong_later(
-    alloc: Global,
-    log: ListLog,
-    catalog: &Catalog,
-    part: &Role,
-) -> Result<Option<Wrong>, Fail>
-    requires intact { size_of log.contents ≤ MAX_LENGTH }
-    requires up { log.is_down ≡ false }
-    requires limit { log.limit ≡ catalog.now.journal }
-    requires site { part.now.site.0 < catalog.now.sites }
-    requires items { length catalog.now.items ≡ 2 }
-    requires home { IsTrue (is_home catalog.now part.now.site.0 part.now.site.0) }
-{
-    match open(alloc, log, part.site, catalog) {
-        Ok(site) => wrong_on(alloc, site, catalog, part),
-        Err(error) => Ok(wrong_by(part, refusal_of(&error))),
-    }
-}
-
 // the site at the beginning of its part
 fn beginning(alloc: Global, catalog: &Catalog, part: &Role) -> Result<Site<ListLog>, Fail>
     requires site { part.now.site.0 < catalog.now.sites }
@@ -633,7 +443,7 @@ fn beginning(alloc: Global, catalog: &Catalog, part: &Role) -> Result<Site<ListL
     ensures catalog { IfOk result (λ site. site.catalog ≡ catalog.now) }
 {
     let fails = part.fails.to_vec(alloc)?;
-    let log = log_of(alloc, catalog.journal(), fails, part.before)?;
+    let log = ListLog::new(alloc, catalog.journal(), fails);
     match open(alloc, log, part.site, catalog) {
         Ok(site) => Ok(site),
         Err(_) => Err("the site isn't opened".into()),
@@ -644,34 +454,23 @@ fn beginning(alloc: Global, catalog: &Catalog, part: &Role) -> Result<Site<ListL
 fn wrong_at(alloc: Global, catalog: &Catalog, part: &Role) -> Result<Option<Wrong>, Fail>
     requires site { part.now.site.0 < catalog.now.sites }
     requires items { length catalog.now.items ≡ 2 }
-    requires home { IsTrue (is_home catalog.now part.now.site.0 part.now.site.0) }
 {
     let mut site = beginning(alloc, catalog, part)?;
     if let Some(act) = first_wrong(alloc, &mut site, part.site, catalog, part.acts)? {
         return Ok(Some(Wrong::Act(act)));
     }
     let mut log = site.close().reopen();
-    if !holds(alloc, &mut log, part.after)? {
-        return Ok(Some(Wrong::Log));
+    if holds(alloc, &mut log, part.after)? {
+        Ok(None)
+    } else {
+        Ok(Some(Wrong::Log))
     }
-    wrong_later(alloc, log, catalog, part)
-}
-
-// whether the item of the site is there
-fn has_home(catalog: &Catalog, site: SiteId) -> bool
-    ensures { result ≡ is_home catalog.now site.0 site.0 }
-{
-    let item = item_of(site);
-    item.0 < catalog.len() && catalog.site_of(item) == site
 }
 
 // Where the site doesn't play its part as it is told, if there is such a place.
 fn wrong_in(alloc: Global, part: &Role) -> Result<Option<Wrong>, Fail> {
-    if part.journal < MIN_JOURNAL || part.journal > MAX_JOURNAL {
-        return Err("no journal is as long".into());
-    }
-    let catalog = catalog(alloc, part.journal)?;
-    if part.site.0 >= catalog.sites() || !has_home(&catalog, part.site) {
+    let catalog = catalog(alloc, MAX_JOURNAL)?;
+    if part.site.0 >= catalog.sites() {
         return Err("there is no such site".into());
     }
     wrong_at(alloc, &catalog, part)

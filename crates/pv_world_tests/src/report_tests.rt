@@ -1,4 +1,4 @@
-// Reports and totals of schedules: at a lock point, after the commit, and where a site is left in doubt and then stops; and the limit on messages.
+// Reports and totals of a schedule that leaves a site in doubt, which then stops; and the limit on messages.
 ghost use Rattle.std.specs.Prelude.{◌≡◌, ◌≤◌, None, length, IfOk};
 ghost use Rattle.pv_protocol.specs.WellFormed.{IsWellFormed};
 ghost use Rattle.pv_script.specs.ScheduleView.{event_of, HasPlan};
@@ -65,26 +65,6 @@ fn printed(alloc: Global, text: &[u8]) -> Result<String, Fail>
         printed.push_str(&format!(in alloc; "{line:?}\n")?)?;
     }
     Ok(printed)
-}
-
-#[test]
-fn what_a_transaction_holds_has_no_value(rt: HostRuntime) -> Result<(), Fail> {
-    let text =
-        b"sites 2\nitem a 0 100\nitem b 1 50\nsubmit 0 a := a - 10 ; b := b + 10\npump 4\nreport\ntotal\n";
-    let printed = printed(rt.alloc(), text)?;
-    assert_eq!(rt;
-        printed.as_str(),
-        "Txn(TxnId { site: SiteId(0), epoch: 1, number: 0 })
-Order([TxnId { site: SiteId(0), epoch: 1, number: 0 }])
-Committed([])
-OpenOnes([TxnId { site: SiteId(0), epoch: 1, number: 0 }])
-ItemLocked { item: ItemId(0), txn: TxnId { site: SiteId(0), epoch: 1, number: 0 } }
-ItemLocked { item: ItemId(1), txn: TxnId { site: SiteId(0), epoch: 1, number: 0 } }
-End
-TotalLocked(ItemId(0))
-"
-    );
-    Ok(())
 }
 
 #[test]
