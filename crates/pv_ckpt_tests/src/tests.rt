@@ -58,7 +58,10 @@ fn opened_as(alloc: Global, disk: MemDisk) -> Result<Answer, LogError> {
 fn closed_roots_show_at_the_first(rt: HostRuntime) -> Result<(), Fail> {
     let alloc = rt.alloc();
     assert_eq!(rt; answer_of(alloc, Vec::new(alloc))?, Some(NotOurs(0)));
-    assert_eq!(rt; answer_of(alloc, PACKED_ONCE.to_vec(alloc)?)?, Some(Holds(3)));
+    assert_eq!(rt;
+        answer_of(alloc, PACKED_ONCE.to_vec(alloc)?)?,
+        Some(Holds(3))
+    );
     let mut bytes = PACKED_ONCE.to_vec(alloc)?;
     bytes[8] = 0;
     bytes[33] = 0;

@@ -156,18 +156,12 @@ const REFUSED: &[(&str, &str)] = &[
     ("a := 1\r", "Malformed(7)"),
     ("a := \0", "Malformed(6)"),
     // Tokens stand below at most 32 brackets, calls, signs, nots and branches.
-    (
-        "a := (((((((((((((((((((((((((((((((((1",
-        "TooDeep(39)",
-    ),
+    ("a := (((((((((((((((((((((((((((((((((1", "TooDeep(39)"),
     (
         "return max(max(max(max(max(max(max(max(max(max(max(max(max(max(max(max(max(max(max(max(max(max(max(max(max(max(max(max(max(max(max(max(max(a,1)",
         "TooDeep(140)",
     ),
-    (
-        "a := ---------------------------------a",
-        "TooDeep(39)",
-    ),
+    ("a := ---------------------------------a", "TooDeep(39)"),
     (
         "a := not not not not not not not not not not not not not not not not not not not not not not not not not not not not not not not not not a",
         "TooDeep(138)",
@@ -176,14 +170,8 @@ const REFUSED: &[(&str, &str)] = &[
         "if 1{if 1{if 1{if 1{if 1{if 1{if 1{if 1{if 1{if 1{if 1{if 1{if 1{if 1{if 1{if 1{if 1{if 1{if 1{if 1{if 1{if 1{if 1{if 1{if 1{if 1{if 1{if 1{if 1{if 1{if 1{if 1{if 1{a:=1",
         "TooDeep(166)",
     ),
-    (
-        "a := (((((((((((((((((((((((((((((((((c",
-        "UnknownName(39)",
-    ),
-    (
-        "a := ((((((((((((((((((((((((((((((((()",
-        "Malformed(39)",
-    ),
+    ("a := (((((((((((((((((((((((((((((((((c", "UnknownName(39)"),
+    ("a := ((((((((((((((((((((((((((((((((()", "Malformed(39)"),
     (
         "a := c (((((((((((((((((((((((((((((((((a",
         "UnknownName(6)",
