@@ -8,7 +8,7 @@ use std::process::Abort;
 use std::test::Fail;
 
 // The items that the programs may name, in order. Most begin with a keyword, and the last is as long as may be.
-const NAMES: [&str; 13] = [
+const NAMES: &[&str] = &[
     "a",
     "b",
     "android",
