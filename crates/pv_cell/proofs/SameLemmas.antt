@@ -1,10 +1,11 @@
 -- A box stays the box that it was.
 use Rattle.std.proofs.Common.{◌≡◌, ◌≢◌, ◌⊎◌, ℕ, ◌==◌, Bool, true, false, List, [], ◌∷◌, ◌++◌, length, refl, sym, ap, ◌∙◌, subst, inl, inr, ⊎_elim, append-nil, eqb-true, Vec, Global}
 use Rattle.std.proofs.lemmas.Bool.{eqb-false}
-use Rattle.std.specs.Prelude.{Option, Some, None}
+use Rattle.std.specs.Prelude.{Option, Some, None, Result, Ok, Err, is_some}
 use base.Growing.{prefix_trans}
 use mathlib.Core.List.{IsPrefix}
 use Rattle.pv_disk_model.specs.LogModel.{LogModel}
+use Rattle.pv_format.specs.Record.{Record}
 use Rattle.pv_history.specs.Entries.{stamped_of}
 use Rattle.pv_history.specs.declared.entry.Entry.{Entry}
 use Rattle.pv_law_histories.specs.History.{Came, Intake, done, fault, down, tick}
@@ -22,12 +23,17 @@ use Rattle.pv_mail.specs.declared.ends.Parcel.{Parcel}
 use Rattle.pv_post.specs.Ends.{SameIn, SameOut}
 use Rattle.pv_post.specs.declared.inlet.In.{In}
 use Rattle.pv_post.specs.declared.outlet.Out.{Out}
-use Rattle.pv_protocol.specs.State.{Outgoing}
+use Rattle.pv_protocol.specs.State.{Input, Outgoing, Running}
 use Rattle.pv_rings.proofs.EachLemmas.{each-self, each-trans, each-weaker}
 use Rattle.pv_rings.proofs.RingLemmas.{hands-nothing, rests-self}
 use Rattle.pv_rings.specs.Rings.{Each, Gives, GivesOne, Hands, HandsEach, IsFoundEmpty, Rests}
 use Rattle.pv_script.specs.declared.live.Request.{Request}
+use Rattle.pv_site.specs.OnLog.{Logs}
 use Rattle.pv_site.specs.SiteState.{SiteState}
+use Rattle.pv_site.specs.Steps.{Steps}
+use Rattle.pv_site.specs.declared.error.StepError.{StepError}
+use Rattle.pv_site.specs.declared.error.StepError.TheVariants.{Fault, Down, NoMemory}
+use Rattle.pv_site.specs.declared.input.Step.{Step}
 use Rattle.pv_cell.proofs.CourseLemmas.{AreOneSite, one-site}
 use Rattle.pv_cell.specs.Box.{IsTickDue}
 use Rattle.pv_cell.specs.Changes.{Enters, Kept, Loses, Posts, TellsOf, kept_of}
@@ -134,11 +140,29 @@ comes-in old new (arrival.Request client request) count comes =
 comes-in old new (arrival.Parcel from parcel) count comes =
     (ins-give from.0 parcel count old.sites_in.items new.sites_in.items comes.0, ins-rest old.clients_in.items new.clients_in.items comes.1)
 
+-- ## Logs
+-- Whether the log tells what it holds is as it was.
+abbrev IsKnownAlike : {W : Type 0} → LogModel W → W → W → Type 0
+IsKnownAlike M old new = is_some (M.contents new) ≡ is_some (M.contents old)
+
+logs-known : {W : Type 0} (M : LogModel W) (old new : W) (appended : Option Record) → Logs M old new appended → IsKnownAlike M old new
+logs-known {W} M old new None same = ap (λ (log : W). is_some (M.contents log)) same
+logs-known {W} M old new (Some record_appended) logs = logs.1.2.known
+
+step-known : {W : Type 0} (M : LogModel W) (old new : SiteState W) (running : Option Running) (input : Input) (answer : Result Step StepError)
+    → Steps M old new running input answer → IsKnownAlike M old.log new.log
+step-known {W} M old new None input answer is = ap (λ (s : SiteState W). is_some (M.contents s.log)) is.1
+step-known {W} M old new (Some running) input (Ok step) made = logs-known M old.log new.log _ made.log
+step-known {W} M old new (Some running) input (Err Fault) breaks = breaks.log.log.known
+step-known {W} M old new (Some running) input (Err Down) steps = absurd steps
+step-known {W} M old new (Some running) input (Err NoMemory) stays = ap is_some stays.log.contents
+
 -- ## Boxes
 module _ {W : Type 0} where
-  pub became-trans : (old mid new : SiteBox W) → Became old mid → Became mid new → Became old new
-  became-trans old mid new one other = record {
+  pub became-trans : (M : LogModel W) (old mid new : SiteBox W) → Became M old mid → Became M mid new → Became M old new
+  became-trans M old mid new one other = record {
     site = (other.site.0 ∙ one.site.0, other.site.1 ∙ one.site.1);
+    known = other.known ∙ one.known;
     ends = (
       ins-trans old.ends.sites_in.items mid.ends.sites_in.items new.ends.sites_in.items one.ends.0 other.ends.0,
       outs-trans old.ends.sites_out.items mid.ends.sites_out.items new.ends.sites_out.items one.ends.1 other.ends.1,
@@ -148,9 +172,10 @@ module _ {W : Type 0} where
     history = prefix_trans old.history.items mid.history.items new.history.items one.history other.history;
   }
 
-  pub became-self : (box : SiteBox W) → Became box box
-  became-self box = record {
+  pub became-self : (M : LogModel W) (box : SiteBox W) → Became M box box
+  became-self M box = record {
     site = (refl, refl);
+    known = refl;
     ends = (
       ins-equal box.ends.sites_in.items box.ends.sites_in.items refl,
       outs-equal box.ends.sites_out.items box.ends.sites_out.items refl,
@@ -165,9 +190,10 @@ module _ {W : Type 0} where
   next-in old new came count (inr next) = comes-in old.ends new.ends came count next.1
 
   module _ (M : LogModel W) (old new : SiteBox W) (ways : SameWaysIn old.ends new.ends) where
-    enters-became : (intake : Intake) → Enters M (kept_of old) (kept_of new) intake → Became old new
+    enters-became : (intake : Intake) → Enters M (kept_of old) (kept_of new) intake → Became M old new
     enters-became intake e = record {
       site = one-site M old.site new.site old.site.running _ e.answer e.made;
+      known = step-known M old.site new.site old.site.running _ e.answer e.made;
       ends = (
         ways.0,
         posts-same old.site.me e.entry.stamp (stamped_of e.entry).came _ old.ends.sites_out.items new.ends.sites_out.items e.posts,
@@ -177,10 +203,11 @@ module _ {W : Type 0} where
       history = (e.entry ∷ [], sym e.history);
     }
 
-    loses-became : (asker : Option Asker) → Loses M (kept_of old) (kept_of new) asker → Became old new
+    loses-became : (asker : Option Asker) → Loses M (kept_of old) (kept_of new) asker → Became M old new
     loses-became asker loses = record {
       site = ⊎_elim (λ same. (ap (λ (s : SiteState W). s.me) same, ap (λ (s : SiteState W). s.catalog) same))
           (λ stays. (ap (λ (s : SiteState W). s.me) stays.site, ap (λ (s : SiteState W). s.catalog) stays.site)) loses.site;
+      known = ⊎_elim (λ same. ap (λ (s : SiteState W). is_some (M.contents s.log)) same) (λ stays. ap is_some stays.log.contents) loses.site;
       ends = (
         ways.0,
         outs-equal old.ends.sites_out.items new.ends.sites_out.items (ap (λ (k : Kept W). k.sites_out) loses.changed),
@@ -190,9 +217,10 @@ module _ {W : Type 0} where
       history = ([], append-nil old.history.items ∙ sym (ap (λ (k : Kept W). k.history) loses.changed));
     }
 
-    same-became : kept_of new ≡ kept_of old → Became old new
+    same-became : kept_of new ≡ kept_of old → Became M old new
     same-became same = record {
       site = (ap (λ (k : Kept W). k.site.me) same, ap (λ (k : Kept W). k.site.catalog) same);
+      known = ap (λ (k : Kept W). is_some (M.contents k.site.log)) same;
       ends = (
         ways.0,
         outs-equal old.ends.sites_out.items new.ends.sites_out.items (ap (λ (k : Kept W). k.sites_out) same),
@@ -203,14 +231,14 @@ module _ {W : Type 0} where
     }
 
   module _ (M : LogModel W) (old new : SiteBox W) where
-    pub tick-became : (visit : Visit) → TakesTick M old new visit → Became old new
+    pub tick-became : (visit : Visit) → TakesTick M old new visit → Became M old new
     tick-became Took takes = enters-became M old new (same-in old.ends new.ends takes.1.2) tick takes.2
-    tick-became Worn takes = subst (λ (box : SiteBox W). Became old box) (sym takes.1) (became-self old)
+    tick-became Worn takes = subst (λ (box : SiteBox W). Became M old box) (sym takes.1) (became-self M old)
     tick-became Lost takes = loses-became M old new (same-in old.ends new.ends takes.1.2) None takes.2
     tick-became Idle takes = absurd takes
     tick-became Stray takes = absurd takes
 
-    arrival-became : (came : Arrival) → Arrives old new came → (visit : Visit) → TakesArrival M old new came visit → Became old new
+    arrival-became : (came : Arrival) → Arrives old new came → (visit : Visit) → TakesArrival M old new came visit → Became M old new
     arrival-became came arrives Took takes = enters-became M old new (next-in old new came arrives.0 arrives.1) takes.1.0 takes.1.2
     arrival-became came arrives Lost takes = loses-became M old new (next-in old new came arrives.0 arrives.1) _ takes
     arrival-became came arrives Stray takes = same-became M old new (next-in old new came arrives.0 arrives.1) takes.1
@@ -219,12 +247,12 @@ module _ {W : Type 0} where
 
     taking-became : (visit : Visit)
         → (IsTickDue old × TakesTick M old new visit)
-        ⊎ ((IsTickDue old → ⊥) × (new.idle ≡ 0) × ((came : Arrival) × Arrives old new came × TakesArrival M old new came visit)) → Became old new
+        ⊎ ((IsTickDue old → ⊥) × (new.idle ≡ 0) × ((came : Arrival) × Arrives old new came × TakesArrival M old new came visit)) → Became M old new
     taking-became visit (inl due) = tick-became visit due.1
     taking-became visit (inr came) = arrival-became came.2.0 came.2.1 visit came.2.2
 
-    pub visit-became : (visit : Visit) → Visits M old new visit → Became old new
-    visit-became Worn visits = subst (λ (box : SiteBox W). Became old box) (sym visits.1) (became-self old)
+    pub visit-became : (visit : Visit) → Visits M old new visit → Became M old new
+    visit-became Worn visits = subst (λ (box : SiteBox W). Became M old box) (sym visits.1) (became-self M old)
     visit-became Idle visits =
         same-became M old new
         (ins-empty old.ends.sites_in.items new.ends.sites_in.items visits.2.rings.0, ins-empty old.ends.clients_in.items new.ends.clients_in.items visits.2.rings.1)

@@ -1,6 +1,7 @@
 -- The whole course of a box: how its history, its site and its rings stand to each other at any time.
-use Rattle.std.specs.Prelude.{◌≡◌, ℕ, ◌==◌, ◌<◌, Option, Some, None, List, [], ◌∷◌, ◌++◌, Contains, get_or, if◌then◌else◌, ⊤}
+use Rattle.std.specs.Prelude.{◌≡◌, ℕ, ◌==◌, ◌<◌, Option, Some, None, List, [], ◌∷◌, ◌++◌, Contains, get_or, is_some, if◌then◌else◌, ⊤}
 use mathlib.Core.List.{IsPrefix, Sublist}
+use Rattle.pv_disk_model.specs.LogModel.{LogModel}
 use Rattle.pv_history.specs.Entries.{stamps_of}
 use Rattle.pv_law_histories.specs.Course.{course}
 use Rattle.pv_law_histories.specs.History.{Stamped}
@@ -61,14 +62,16 @@ module _ {W : Type 0} where
       IsCourse (setup_of box.site.catalog) box.site.me (course_site box.site) (stamps_of box.history.items) box.stamp box.again (traffic_of box.ends)
       (requests_of box.ends)
 
-  -- Nothing was taken in yet, nothing went through the rings, and the site was just opened on a log without contents.
+  -- Nothing was taken in yet, nothing went through the rings, and the site was just opened on a log in which nothing was found.
   pub record IsNew (box : SiteBox W) : Type 0 where
     pub site : course_site box.site ≡ first_site
     pub history : (box.history.items ≡ []) × (box.stamp ≡ 0) × (box.again ≡ None) × (box.begun.items ≡ [])
     pub fresh : AreFresh box.ends
 
-  -- The one box became the other: the same site, with the same rings, whose history only grew.
-  pub record Became (old new : SiteBox W) : Type 0 where
+  -- The one box became the other: the same site, with the same rings, whose history only grew. A log that told what it holds still does, and one that didn't
+  -- still doesn't.
+  pub record Became (M : LogModel W) (old new : SiteBox W) : Type 0 where
     pub site : (new.site.me ≡ old.site.me) × (new.site.catalog ≡ old.site.catalog)
+    pub known : is_some (M.contents new.site.log) ≡ is_some (M.contents old.site.log)
     pub ends : AreSameEnds old.ends new.ends
     pub history : IsPrefix old.history.items new.history.items

@@ -42,11 +42,11 @@ pub fn boxes_fit_together<L: Log>()
     sites_go_by_rings();
 }
 
-/// A box stays the box that it was: the same site with the same rings, whose history only grows, through any visits and ticks. The function does nothing: it states
-/// a law, of each call and of several in a row.
+/// A box stays the box that it was: the same site with the same rings, whose history only grows, through any visits and ticks; and whether its log tells what it
+/// holds stays as it was. The function does nothing: it states a law, of each call and of several in a row.
 pub fn boxes_stay_the_same<L: Log>()
-    ensures none { (box : SiteBox L) → Became box box }
-    ensures visit { (old new : SiteBox L) (visit : Visit) → Visits L.model old new visit → Became old new }
-    ensures tick { (old new : SiteBox L) (visit : Visit) → TakesTick L.model old new visit → Became old new }
-    ensures both { (old mid new : SiteBox L) → Became old mid → Became mid new → Became old new }
+    ensures none { (box : SiteBox L) → Became L.model box box }
+    ensures visit { (old new : SiteBox L) (visit : Visit) → Visits L.model old new visit → Became L.model old new }
+    ensures tick { (old new : SiteBox L) (visit : Visit) → TakesTick L.model old new visit → Became L.model old new }
+    ensures both { (old mid new : SiteBox L) → Became L.model old mid → Became L.model mid new → Became L.model old new }
 {}

@@ -1,5 +1,5 @@
-// What is so of a site that was opened on a log without contents.
-ghost use Rattle.std.specs.Prelude.{◌≡◌, ℕ, [], Some};
+// What is so of a site that was opened on a log in which nothing was found.
+ghost use Rattle.std.specs.Prelude.{◌≡◌, ℕ, true};
 ghost use Rattle.pv_base.specs.Catalog.{Declared};
 ghost use Rattle.pv_cell.specs.Box.{course_site};
 ghost use Rattle.pv_cell.specs.Opens.{IsOpened};
@@ -9,10 +9,11 @@ ghost use Rattle.pv_site.specs.SiteState.{SiteState};
 
 use pv_disk::Log;
 
-/// A site that was opened on a log without contents fits into a box, and stands where histories begin. The function does nothing: it states a law.
+/// A site whose opening read nothing from its log fits into a box, and stands where histories begin. The log needn't tell what it holds. The function does nothing:
+/// it states a law.
 pub fn new_sites_fit_boxes<L: Log>()
-    ensures opened { (log : L) (me : ℕ) (catalog : Declared) (site : SiteState L) → L.model.contents log ≡ Some [] →
+    ensures opened { (log : L) (me : ℕ) (catalog : Declared) (site : SiteState L) → site.first ≡ true →
         HasOpened L.model log me catalog site → IsOpened site }
-    ensures first { (log : L) (me : ℕ) (catalog : Declared) (site : SiteState L) → L.model.contents log ≡ Some [] →
+    ensures first { (log : L) (me : ℕ) (catalog : Declared) (site : SiteState L) → site.first ≡ true →
         HasOpened L.model log me catalog site → course_site site ≡ first_site }
 {}

@@ -67,7 +67,7 @@ impl<L: Log> SiteBox<L> {
     ghost use Rattle.pv_cell.specs.contracts.site_box.SiteBox.{the_row};
     ghost use Rattle.pv_mail.specs.contracts.ends.Ends as lent;
 
-    /// A box of the site of this number, whose history is empty. The site is one as [`Site::open`] gives it on a log without contents, and nothing was posted
+    /// A box of the site of this number, whose history is empty. The site is one as [`Site::open`] gives it on a log in which it finds nothing, and nothing was posted
     /// on the ends. There is one end of each kind for each site of the catalog, and there are as many ends to clients as from them.
     pub fn new(alloc: Global, me: SiteId, site: Site<L>, ends: Ends) -> Result<SiteBox<L>, NoMemory>
         requires me { (me.0 ≡ site.me) × (site.me < site.catalog.sites) }
@@ -171,8 +171,8 @@ impl<L: Log> SiteBox<L> {
         (self.site, self.history)
     }
 
-    // Whether nothing can be taken any more.
-    fn is_worn(&self) -> bool
+    /// Whether nothing can be taken any more.
+    pub fn is_worn(&self) -> bool
         ensures { (result ≡ true) ↔ IsWorn self.now }
     {
         self.history.len() == MAX_ENTRIES || self.stamp == u64::MAX
