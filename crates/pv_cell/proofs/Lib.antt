@@ -2,6 +2,7 @@ pub mod ArrivalLemmas
 pub mod BoxLemmas
 pub mod CourseLemmas
 pub mod HistoryLemmas
+pub mod LendingLemmas
 pub mod OpenLemmas
 pub mod SameLemmas
 pub mod SendLemmas

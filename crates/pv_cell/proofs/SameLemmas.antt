@@ -55,7 +55,7 @@ module _ {M : Type 0} where
   ins-equal old new is =
       subst (λ (rings : List (In M)). SameIns old rings) (sym is) (each-self (λ (k : ℕ) (one other : In M). SameIn one other) old (λ k ring within. (rests-self ring).0))
 
-  outs-equal : (old new : List (Out M)) → new ≡ old → SameOuts old new
+  pub outs-equal : (old new : List (Out M)) → new ≡ old → SameOuts old new
   outs-equal old new is =
       subst (λ (rings : List (Out M)). SameOuts old rings) (sym is)
       (each-self (λ (k : ℕ) (one other : Out M). SameOut one other) old (λ k ring within. (hands-nothing ring).0))

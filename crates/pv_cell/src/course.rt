@@ -3,10 +3,12 @@ ghost use Rattle.std.specs.Prelude.{List};
 ghost use Rattle.pv_base.specs.Catalog.{Declared};
 ghost use Rattle.pv_cell.specs.Box.{IsBox};
 ghost use Rattle.pv_cell.specs.Course.{Became, HasCourse, IsNew};
+ghost use Rattle.pv_cell.specs.Lending.{AreStill, with_ends};
 ghost use Rattle.pv_cell.specs.Together.{AreAllBoxes, histories_of};
 ghost use Rattle.pv_cell.specs.Told.{TellsItsHistory};
 ghost use Rattle.pv_cell.specs.Visits.{TakesTick, Visits};
 ghost use Rattle.pv_law_histories.specs.Fitting.{FitTogether};
+ghost use Rattle.pv_mail.specs.declared.ends.Ends.{Ends};
 ghost use Rattle.pv_site.specs.SiteState.{setup_of};
 
 use crate::{SiteBox, Visit};
@@ -49,4 +51,13 @@ pub fn boxes_stay_the_same<L: Log>()
     ensures visit { (old new : SiteBox L) (visit : Visit) → Visits L.model old new visit → Became L.model old new }
     ensures tick { (old new : SiteBox L) (visit : Visit) → TakesTick L.model old new visit → Became L.model old new }
     ensures both { (old mid new : SiteBox L) → Became L.model old mid → Became L.model mid new → Became L.model old new }
+{}
+
+/// A box whose ends were lent and came back with nothing posted on them and nothing taken from them (`AreStill`) can be called as before, and all that is so of a box at any
+/// time is so of it. The function does nothing: it states a law.
+pub fn boxes_lend_their_ends<L: Log>()
+    ensures is_box { (box : SiteBox L) (ends : Ends) → AreStill box.ends ends → IsBox L.model box → IsBox L.model (with_ends box ends) }
+    ensures course { (box : SiteBox L) (ends : Ends) → AreStill box.ends ends → HasCourse box → HasCourse (with_ends box ends) }
+    ensures told { (box : SiteBox L) (ends : Ends) → AreStill box.ends ends → TellsItsHistory box → TellsItsHistory (with_ends box ends) }
+    ensures same { (box : SiteBox L) (ends : Ends) → AreStill box.ends ends → Became L.model box (with_ends box ends) }
 {}
