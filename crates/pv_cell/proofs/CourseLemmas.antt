@@ -15,8 +15,10 @@ use Rattle.pv_law_histories.specs.Course.{IsStep, course, left_by}
 use Rattle.pv_law_histories.specs.History as law
 use Rattle.pv_law_histories.specs.History.{Intake, Stamped, tick}
 use Rattle.pv_law_histories.specs.Posting.{kept_by, last_stamp, parcels_to, stamp_with}
+use Rattle.pv_law_passing.proofs.ComingLemmas.{come-more, come-none}
 use Rattle.pv_law_passing.proofs.RingLemmas.{asked-push}
 use Rattle.pv_law_passing.specs.Asking.{asked_by, with_asked}
+use Rattle.pv_law_passing.specs.Coming.{ComesInOrder, counted, with_parcel}
 use Rattle.pv_law_passing.specs.Rings.{Sealed, Seals, WasTaken}
 use Rattle.pv_law_passing.specs.Traffic.{GivesMore, GoesByItsRings, OffersMore, TakesOneMore, Traffic, offered_at, taken_at}
 use Rattle.pv_mail.specs.Arrivals.{Comes, IsIntakeOf}
@@ -42,12 +44,13 @@ use Rattle.pv_site.specs.Steps.{Stays, Steps}
 use Rattle.pv_site.specs.declared.error.StepError.{StepError}
 use Rattle.pv_site.specs.declared.error.StepError.TheVariants.{Fault, Down, NoMemory}
 use Rattle.pv_site.specs.declared.input.Step.{Step}
+use Rattle.pv_cell.proofs.ComingLemmas.{BringsMessages, fresh-plan, messages-again, messages-none, messages-parcel, messages-request, posts-plans, sealed-came}
 use Rattle.pv_cell.proofs.TrafficLemmas.{gave-count, gave-it, given_of, gives-more, gives-requests, posts-more, rests-gives, rests-requests}
 use Rattle.pv_cell.specs.Box.{IsBox, IsTickDue, course_site}
 use Rattle.pv_cell.specs.Changes.{Enters, Kept, Loses, kept_of}
-use Rattle.pv_cell.specs.Course.{HasCourse, IsCourse, IsNew, WasTakenOnce, asked_again}
+use Rattle.pv_cell.specs.Course.{HasCourse, IsCourse, IsNew, WasTakenOnce, asked_again, sealed_again}
 use Rattle.pv_cell.specs.Opens.{IsFreshOut}
-use Rattle.pv_cell.specs.Traffic.{requests_of, sealed_count, sealed_of, sealed_offered, sealed_posted, sealed_taken, traffic_of}
+use Rattle.pv_cell.specs.Traffic.{KeepsItsPlan, requests_of, sealed_count, sealed_of, sealed_offered, sealed_posted, sealed_taken, traffic_of}
 use Rattle.pv_cell.specs.Visits.{Arrives, FindsNothing, IsNext, TakesArrival, TakesTick, Ticks, Visits}
 use Rattle.pv_cell.specs.declared.site_box.SiteBox.{SiteBox}
 use Rattle.pv_cell.specs.declared.visit.Visit.{Visit}
@@ -89,21 +92,25 @@ asked-few catalog me (arrival.Parcel from parcel) intake is client =
 nothing-few : (came : Arrival) (client : ℕ) → Sublist {A = Request} [] (asked_again client (Some came))
 nothing-few came client = sublist-append_left [] (asked_again client (Some came))
 
+nothing-held : (came : Arrival) (from : ℕ) → Sublist {A = Sealed} [] (sealed_again from (Some came))
+nothing-held came from = sublist-append_left [] (sealed_again from (Some came))
+
 module _ {W : Type 0} where
-  -- The rings in gave what they gave, some of which counts once more, where so much of each client's is added to the history.
-  pub record BringsIn (old new : SiteBox W) (added : ℕ → List Request) : Type 0 where
+  -- The rings in gave what they gave, some of which counts once more, where so much of each client's and of each site's is added to the history.
+  pub record BringsIn (old new : SiteBox W) (added : ℕ → List Request) (held : ℕ → List Sealed) : Type 0 where
     pub gives : GivesMore old.site.catalog.sites (traffic_of old.ends) (traffic_of new.ends)
     pub again : WasTakenOnce old.site.catalog.sites (traffic_of new.ends) new.again
     pub asked : (client : ℕ)
         → (given : List Request)
         × (get_or (requests_of new.ends) client [] ≡ get_or (requests_of old.ends) client [] ++ given)
         × Sublist (added client ++ asked_again client new.again) (asked_again client old.again ++ given)
+    pub messages : BringsMessages old new held
 
   -- ## Nothing comes
   module _ (old new : SiteBox W) where
     pub brings-none : Each (λ k one other. Rests one other) old.ends.sites_in.items new.ends.sites_in.items
         → Each (λ k one other. Rests one other) old.ends.clients_in.items new.ends.clients_in.items → new.again ≡ old.again
-        → WasTakenOnce old.site.catalog.sites (traffic_of new.ends) new.again → BringsIn old new (λ client. [])
+        → WasTakenOnce old.site.catalog.sites (traffic_of new.ends) new.again → BringsIn old new (λ client. []) (λ from. [])
     brings-none sites clients same once = record {
       gives = rests-gives old.site.catalog.sites old.ends new.ends sites;
       again = once;
@@ -113,6 +120,7 @@ module _ {W : Type 0} where
         subst (λ (left : Option Arrival). Sublist (asked_again client left) (asked_again client old.again ++ [])) (sym same)
             (sublist-append_left (asked_again client old.again) []),
       );
+      messages = messages-none old new sites same;
     }
 
     same-once : WasTakenOnce old.site.catalog.sites (traffic_of old.ends) old.again → new.again ≡ old.again → SameInRings old.ends new.ends
@@ -132,7 +140,7 @@ module _ {W : Type 0} where
 
     -- A tick, or what is lost before it comes to rings.
     pub brings-same : WasTakenOnce old.site.catalog.sites (traffic_of old.ends) old.again → new.again ≡ old.again → SameInRings old.ends new.ends
-        → BringsIn old new (λ client. [])
+        → BringsIn old new (λ client. []) (λ from. [])
     brings-same once same rings =
         brings-none
         (all-rest old.ends.sites_in.items new.ends.sites_in.items (ap (λ (all : Vec (In Parcel) Global). all.items) rings.0))
@@ -144,17 +152,21 @@ module _ {W : Type 0} where
     abbrev Sites : ℕ
     Sites = old.site.catalog.sites
 
+    sites-rest : SameInRings old.ends new.ends → Each (λ k one other. Rests one other) old.ends.sites_in.items new.ends.sites_in.items
+    sites-rest rings = all-rest old.ends.sites_in.items new.ends.sites_in.items (ap (λ (all : Vec (In Parcel) Global). all.items) rings.0)
+
     -- No more is added than comes.
     module _ (came : Arrival) (count : ℕ) (added : ℕ → List Request) (few : (client : ℕ) → Sublist (added client) (asked_again client (Some came)))
+        (held : ℕ → List Sealed) (few_held : (from : ℕ) → Sublist (held from) (sealed_again from (Some came)))
         (again : new.again ≡ (if count == 2 then Some came else None)) where
       none-left : count ≡ 1 → new.again ≡ None
       none-left one = again ∙ ap (λ (n : ℕ). if n == 2 then Some came else None) one
 
       -- for the second time
-      comes-again : old.again ≡ Some came → count ≡ 1 → SameInRings old.ends new.ends → BringsIn old new added
+      comes-again : old.again ≡ Some came → count ≡ 1 → SameInRings old.ends new.ends → BringsIn old new added held
       comes-again was one rings = record {
-        gives = rests-gives Sites old.ends new.ends
-            (all-rest old.ends.sites_in.items new.ends.sites_in.items (ap (λ (all : Vec (In Parcel) Global). all.items) rings.0));
+        gives = rests-gives Sites old.ends new.ends (sites-rest rings);
+        messages = messages-again old new came held few_held (sites-rest rings) was (none-left one);
         again = subst (λ (left : Option Arrival). WasTakenOnce Sites (traffic_of new.ends) left) (sym (none-left one)) tt;
         asked = λ client. (
           [],
@@ -167,9 +179,10 @@ module _ {W : Type 0} where
       }
 
     parcel-comes : (from : SiteId) (parcel : Parcel) (count : ℕ) (added : ℕ → List Request) → ((client : ℕ) → Sublist (added client) [])
+        → (held : ℕ → List Sealed) → ((sender : ℕ) → Sublist (held sender) (sealed_again sender (Some (arrival.Parcel from parcel))))
         → new.again ≡ (if count == 2 then Some (arrival.Parcel from parcel) else None) → old.again ≡ None
-        → Comes old.ends new.ends (arrival.Parcel from parcel) count → BringsIn old new added
-    parcel-comes from parcel count added few again was comes = record {
+        → Comes old.ends new.ends (arrival.Parcel from parcel) count → BringsIn old new added held
+    parcel-comes from parcel count added few held few_held again was comes = record {
       gives = gives-more old.ends new.ends from.0 parcel count comes.0 Sites;
       again = subst (λ (left : Option Arrival). WasTakenOnce Sites (traffic_of new.ends) left) (sym again) (left-of (count == 2) refl);
       asked = λ client. (
@@ -179,6 +192,8 @@ module _ {W : Type 0} where
             (subst (λ (left : Option Arrival). Sublist (added client ++ asked_again client (if count == 2 then Some (arrival.Parcel from parcel) else None)) (asked_again client left ++ []))
             (sym was) (sublist-append (few client) (no-request client (count == 2)))),
       );
+      messages = messages-parcel old new held was from parcel count few_held again
+          (gave-count from.0 parcel count old.ends.sites_in.items new.ends.sites_in.items comes.0) comes.0;
     }
       where
         left-of : (test : Bool) → (count == 2) ≡ test → WasTakenOnce Sites (traffic_of new.ends) (if test then Some (arrival.Parcel from parcel) else None)
@@ -195,9 +210,10 @@ module _ {W : Type 0} where
 
     request-comes : (asker : ℕ) (request : script.Request) (count : ℕ) (added : ℕ → List Request)
         → ((client : ℕ) → Sublist (added client) (asked_again client (Some (arrival.Request asker request))))
+        → (held : ℕ → List Sealed) → ((sender : ℕ) → Sublist (held sender) (sealed_again sender (Some (arrival.Request asker request))))
         → new.again ≡ (if count == 2 then Some (arrival.Request asker request) else None) → old.again ≡ None
-        → Comes old.ends new.ends (arrival.Request asker request) count → BringsIn old new added
-    request-comes asker request count added few again was comes = record {
+        → Comes old.ends new.ends (arrival.Request asker request) count → BringsIn old new added held
+    request-comes asker request count added few held few_held again was comes = record {
       gives = rests-gives Sites old.ends new.ends comes.1;
       again = subst (λ (left : Option Arrival). WasTakenOnce Sites (traffic_of new.ends) left) (sym again) (left-of (count == 2));
       asked = λ client. (
@@ -208,6 +224,7 @@ module _ {W : Type 0} where
             Sublist (added client ++ asked_again client (if count == 2 then Some (arrival.Request asker request) else None)) (asked_again client left ++ given_of client asker request count))
             (sym was) (copies client (gave-count asker request count old.ends.clients_in.items new.ends.clients_in.items comes.0))),
       );
+      messages = messages-request old new held was asker request (count == 2) few_held again comes.1;
     }
       where
         left-of : (test : Bool) → WasTakenOnce Sites (traffic_of new.ends) (if test then Some (arrival.Request asker request) else None)
@@ -226,14 +243,17 @@ module _ {W : Type 0} where
             (sublist-append (few client) (sublist-refl (asked_again client (Some (arrival.Request asker request))))))
 
     brings-next : (came : Arrival) (count : ℕ) (added : ℕ → List Request) → ((client : ℕ) → Sublist (added client) (asked_again client (Some came)))
-        → new.again ≡ (if count == 2 then Some came else None) → IsNext old new came count → BringsIn old new added
-    brings-next came count added few again (inl left) = comes-again came count added few again left.0 left.1 left.3
-    brings-next (arrival.Parcel from parcel) count added few again (inr next) = parcel-comes from parcel count added few again next.0 next.1
-    brings-next (arrival.Request asker request) count added few again (inr next) = request-comes asker request count added few again next.0 next.1
+        → (held : ℕ → List Sealed) → ((from : ℕ) → Sublist (held from) (sealed_again from (Some came)))
+        → new.again ≡ (if count == 2 then Some came else None) → IsNext old new came count → BringsIn old new added held
+    brings-next came count added few held few_held again (inl left) = comes-again came count added few held few_held again left.0 left.1 left.3
+    brings-next (arrival.Parcel from parcel) count added few held few_held again (inr next) =
+        parcel-comes from parcel count added few held few_held again next.0 next.1
+    brings-next (arrival.Request asker request) count added few held few_held again (inr next) =
+        request-comes asker request count added few held few_held again next.0 next.1
 
     pub brings-came : (came : Arrival) (added : ℕ → List Request) → ((client : ℕ) → Sublist (added client) (asked_again client (Some came)))
-        → Arrives old new came → BringsIn old new added
-    brings-came came added few arrives = brings-next came arrives.0 added few arrives.2 arrives.1
+        → (held : ℕ → List Sealed) → ((from : ℕ) → Sublist (held from) (sealed_again from (Some came))) → Arrives old new came → BringsIn old new added held
+    brings-came came added few held few_held arrives = brings-next came arrives.0 added few held few_held arrives.2 arrives.1
 
     -- A parcel that comes was given by its ring.
     was-given : (from : SiteId) (parcel : Parcel) (count : ℕ) → IsNext old new (arrival.Parcel from parcel) count
@@ -272,14 +292,14 @@ module _ {W : Type 0} (M : LogModel W)
     (old new : SiteBox W) (is_box : IsBox M old) (has : HasCourse old) where
   abbrev Here : ℕ → Declared → Type 0
   Here me catalog =
-      IsCourse (setup_of catalog) me (course_site new.site) (stamps_of new.history.items) new.stamp new.again (traffic_of new.ends) (requests_of new.ends)
+      IsCourse (setup_of catalog) me (course_site new.site) (stamps_of new.history.items) new.stamp new.again new.ends
 
   in-place : AreOneSite old.site new.site → Here old.site.me old.site.catalog → HasCourse new
   in-place one here = subst (λ (me : ℕ). Here me new.site.catalog) (sym one.0) (subst (λ (catalog : Declared). Here old.site.me catalog) (sym one.1) here)
 
-  asked-more : (added : ℕ → List Request) → BringsIn old new added → (client : ℕ)
+  asked-more : (added : ℕ → List Request) (held : ℕ → List Sealed) → BringsIn old new added held → (client : ℕ)
       → Sublist ((asked_by client (stamps_of old.history.items) ++ added client) ++ asked_again client new.again) (get_or (requests_of new.ends) client [])
-  asked-more added brings client =
+  asked-more added held brings client =
       let asked = asked_by client (stamps_of old.history.items) in
       let left = asked_again client old.again in
       let now = asked_again client new.again in
@@ -292,9 +312,11 @@ module _ {W : Type 0} (M : LogModel W)
       (sublist-trans (sublist-append (sublist-refl asked) (brings.asked client).2) front))
 
   -- An entry comes.
-  enters-course : (intake : Intake) → Enters M (kept_of old) (kept_of new) intake → BringsIn old new (λ client. with_asked client intake [])
-      → WasTaken (taken_at (traffic_of new.ends)) old.site.catalog.sites old.site.me intake → HasCourse new
-  enters-course intake e brings taken =
+  enters-course : (intake : Intake) (held : ℕ → List Sealed) → Enters M (kept_of old) (kept_of new) intake
+      → BringsIn old new (λ client. with_asked client intake []) held
+      → WasTaken (taken_at (traffic_of new.ends)) old.site.catalog.sites old.site.me intake
+      → ((from : ℕ) → AllZip (Seals from old.site.me) (held from) (with_parcel from intake [])) → HasCourse new
+  enters-course intake held e brings taken seals =
       let setup = setup_of old.site.catalog in
       let me = old.site.me in
       let entry = stamped_of e.entry in
@@ -321,30 +343,42 @@ module _ {W : Type 0} (M : LogModel W)
             subst (λ (all : List Request). Sublist (all ++ asked_again client new.again) (get_or (requests_of new.ends) client []))
             (ap (λ (it : Intake). asked_by client history ++ with_asked client it []) (sym e.intake_is) ∙ sym (asked-push client history entry)
             ∙ ap (asked_by client) (sym grown))
-            (asked-more (λ who. with_asked who intake []) brings client);
+            (asked-more (λ who. with_asked who intake []) held brings client);
         again = brings.again;
+        came = λ from.
+            let next = brings.messages from in
+            subst (λ (all : List Stamped). ComesInOrder from me all (sealed_again from new.again) (taken_at after from)) (sym grown)
+            (come-more from me history (sealed_again from old.again) (sealed_again from new.again) next.0 (taken_at before from) (taken_at after from) (has.came from) next.1
+            entry (held from)
+            (subst (λ (it : Intake). AllZip (Seals from me) (held from) (with_parcel from it [])) (sym e.intake_is) (seals from)) next.2);
+        plans = posts-plans me e.entry.stamp entry.came _ old.ends.sites_out.items new.ends.sites_out.items e.posts has.plans;
       }
 
   -- None comes, and the site is as it was.
   stays-course : AreOneSite old.site new.site → course_site new.site ≡ course_site old.site → new.history.items ≡ old.history.items → new.stamp ≡ old.stamp
-      → new.ends.sites_out.items ≡ old.ends.sites_out.items → BringsIn old new (λ client. []) → HasCourse new
+      → new.ends.sites_out.items ≡ old.ends.sites_out.items → BringsIn old new (λ client. []) (λ from. []) → HasCourse new
   stays-course one site history stamp outs brings =
       let setup = setup_of old.site.catalog in
       let me = old.site.me in
       let same : stamps_of old.history.items ≡ stamps_of new.history.items = ap stamps_of (sym history) in
       in-place one (subst (λ (all : List Stamped).
-      IsCourse setup me (course_site new.site) all new.stamp new.again (traffic_of new.ends) (requests_of new.ends)) same record {
+      IsCourse setup me (course_site new.site) all new.stamp new.again new.ends) same record {
         goes = none setup me (stamps_of old.history.items) (traffic_of old.ends) (traffic_of new.ends) has.goes (ap (map sealed_offered) outs) (ap (map sealed_posted) outs)
             brings.gives;
         site = site ∙ has.site;
         last = stamp ∙ has.last;
         asked = λ client.
             subst (λ (all : List Request). Sublist (all ++ asked_again client new.again) (get_or (requests_of new.ends) client []))
-            (append-nil (asked_by client (stamps_of old.history.items))) (asked-more (λ who. []) brings client);
+            (append-nil (asked_by client (stamps_of old.history.items))) (asked-more (λ who. []) (λ from. []) brings client);
         again = brings.again;
+        came = λ from.
+            let next = brings.messages from in
+            come-none from me (stamps_of old.history.items) (sealed_again from old.again) (sealed_again from new.again) next.0 (taken_at (traffic_of old.ends) from)
+            (taken_at (traffic_of new.ends) from) (has.came from) next.1 next.2;
+        plans = subst (λ (rings : List (Out Parcel)). All KeepsItsPlan rings) (sym outs) has.plans;
       })
 
-  loses-course : (asker : Option Asker) → Loses M (kept_of old) (kept_of new) asker → BringsIn old new (λ client. []) → HasCourse new
+  loses-course : (asker : Option Asker) → Loses M (kept_of old) (kept_of new) asker → BringsIn old new (λ client. []) (λ from. []) → HasCourse new
   loses-course asker loses brings =
       let is : AreOneSite old.site new.site × (course_site new.site ≡ course_site old.site) =
       ⊎_elim (λ same. ((ap (λ (s : SiteState W). s.me) same, ap (λ (s : SiteState W). s.catalog) same), ap (λ (s : SiteState W). course_site s) same))
@@ -353,14 +387,14 @@ module _ {W : Type 0} (M : LogModel W)
       stays-course is.0 is.1 (ap (λ (k : Kept W). k.history) loses.changed) (ap (λ (k : Kept W). k.stamp) loses.changed)
       (ap (λ (k : Kept W). k.sites_out) loses.changed) brings
 
-  same-course : kept_of new ≡ kept_of old → BringsIn old new (λ client. []) → HasCourse new
+  same-course : kept_of new ≡ kept_of old → BringsIn old new (λ client. []) (λ from. []) → HasCourse new
   same-course same brings =
       stays-course (ap (λ (k : Kept W). k.site.me) same, ap (λ (k : Kept W). k.site.catalog) same) (ap (λ (k : Kept W). course_site k.site) same)
       (ap (λ (k : Kept W). k.history) same) (ap (λ (k : Kept W). k.stamp) same) (ap (λ (k : Kept W). k.sites_out) same) brings
 
   -- ## By the answer
   pub tick-course : (visit : Visit) → TakesTick M old new visit → HasCourse new
-  tick-course Took takes = enters-course tick takes.2 (brings-same old new has.again takes.1.0 takes.1.2) tt
+  tick-course Took takes = enters-course tick (λ from. []) takes.2 (brings-same old new has.again takes.1.0 takes.1.2) tt (λ from. tt)
   tick-course Worn takes = subst (λ (box : SiteBox W). HasCourse box) (sym takes.1) has
   tick-course Lost takes = loses-course None takes.2 (brings-same old new has.again takes.1.0 takes.1.2)
   tick-course Idle takes = absurd takes
@@ -370,13 +404,16 @@ module _ {W : Type 0} (M : LogModel W)
   arrival-course came arrives Took takes =
       let intake = takes.1.0 in
       let is = takes.1.1 in
-      enters-course intake takes.1.2
-      (brings-came M old new is_box has.again came (λ client. with_asked client intake []) (asked-few old.site.catalog old.site.me came intake is) arrives)
+      let held : ℕ → List Sealed = λ from. sealed_again from (Some came) in
+      enters-course intake held takes.1.2
+      (brings-came M old new is_box has.again came (λ client. with_asked client intake []) (asked-few old.site.catalog old.site.me came intake is) held
+      (λ from. sublist-refl (held from)) arrives)
       (was-taken M old new is_box has.again came intake arrives is)
+      (sealed-came old.site.catalog old.site.me came intake is)
   arrival-course came arrives Lost takes =
-      loses-course _ takes (brings-came M old new is_box has.again came (λ client. []) (nothing-few came) arrives)
+      loses-course _ takes (brings-came M old new is_box has.again came (λ client. []) (nothing-few came) (λ from. []) (nothing-held came) arrives)
   arrival-course came arrives Stray takes =
-      same-course takes.1 (brings-came M old new is_box has.again came (λ client. []) (nothing-few came) arrives)
+      same-course takes.1 (brings-came M old new is_box has.again came (λ client. []) (nothing-few came) (λ from. []) (nothing-held came) arrives)
   arrival-course came arrives Idle takes = absurd takes
   arrival-course came arrives Worn takes = absurd takes
 
@@ -415,7 +452,7 @@ module _ {W : Type 0} (box : SiteBox W) (is : IsNew box) where
   new-course =
       let ends = box.ends in
       let no_history : [] ≡ stamps_of box.history.items = ap stamps_of (sym is.history.0) in
-      subst (λ (all : List Stamped). IsCourse (setup_of box.site.catalog) box.site.me (course_site box.site) all box.stamp box.again (traffic_of ends) (requests_of ends)) no_history
+      subst (λ (all : List Stamped). IsCourse (setup_of box.site.catalog) box.site.me (course_site box.site) all box.stamp box.again ends) no_history
       record {
         goes = record {
           stamps = tt;
@@ -435,4 +472,12 @@ module _ {W : Type 0} (box : SiteBox W) (is : IsNew box) where
             subst (λ (left : Option Arrival). Sublist (asked_again client left) (get_or (requests_of ends) client [])) (sym is.history.2)
             (sublist-append_left [] (get_or (requests_of ends) client []));
         again = subst (λ (left : Option Arrival). WasTakenOnce box.site.catalog.sites (traffic_of ends) left) (sym is.history.2) tt;
+        came = λ from. record {
+          held = [];
+          seals = tt;
+          in_order = subst (λ (left : Option Arrival). Sublist (sealed_again from left) (counted (taken_at (traffic_of ends) from))) (sym is.history.2)
+              (sublist-append_left [] (counted (taken_at (traffic_of ends) from)));
+        };
+        plans = All-weaker (λ (out : Out Parcel). IsFreshOut out) (λ (out : Out Parcel). KeepsItsPlan out) (λ out fresh. fresh-plan out fresh.0 fresh.1)
+            ends.sites_out.items is.fresh.1;
       }

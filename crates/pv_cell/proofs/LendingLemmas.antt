@@ -5,8 +5,9 @@ use mathlib.Core.List.{Sublist}
 use Rattle.pv_disk_model.specs.LogModel.{LogModel}
 use Rattle.pv_history.specs.Entries.{stamps_of}
 use Rattle.pv_law_passing.specs.Asking.{asked_by}
+use Rattle.pv_law_passing.specs.Coming.{ComesInOrder}
 use Rattle.pv_law_passing.specs.Rings.{Sealed}
-use Rattle.pv_law_passing.specs.Traffic.{GoesByItsRings, Traffic}
+use Rattle.pv_law_passing.specs.Traffic.{GoesByItsRings, Traffic, taken_at}
 use Rattle.pv_mail.specs.declared.answer.Answer.{Answer}
 use Rattle.pv_mail.specs.declared.ends.Ends.{Ends}
 use Rattle.pv_mail.specs.declared.ends.Parcel.{Parcel}
@@ -19,9 +20,10 @@ use Rattle.pv_rings.specs.Rings.{Each, Rests}
 use Rattle.pv_script.specs.LiveView.{request_of}
 use Rattle.pv_script.specs.declared.live.Request.{Request}
 use Rattle.pv_site.specs.SiteState.{setup_of}
+use Rattle.pv_cell.proofs.ComingLemmas.{still-plans}
 use Rattle.pv_cell.proofs.SameLemmas.{outs-equal}
 use Rattle.pv_cell.specs.Box.{IsBox}
-use Rattle.pv_cell.specs.Course.{AreSameEnds, Became, HasCourse, WasTakenOnce, asked_again}
+use Rattle.pv_cell.specs.Course.{AreSameEnds, Became, HasCourse, WasTakenOnce, asked_again, sealed_again}
 use Rattle.pv_cell.specs.Lending.{AreStill, PostsNothing, with_ends}
 use Rattle.pv_cell.specs.Told.{IsTold, TellsItsHistory}
 use Rattle.pv_cell.specs.Traffic.{counted, requests_of, requests_taken, sealed_count, sealed_of, sealed_offered, sealed_posted, sealed_taken, traffic_of}
@@ -100,6 +102,9 @@ module _ {W : Type 0} (box : SiteBox W) (ends : Ends) (still : AreStill box.ends
             subst (λ (all : List (List model.Request)). Sublist (asked_by client (stamps_of box.history.items) ++ asked_again client box.again) (get_or all client []))
             (sym (still-requests box.ends ends still)) (has.asked client);
         again = subst (λ (t : Traffic). WasTakenOnce box.site.catalog.sites t box.again) (sym same) has.again;
+        came = λ from.
+            subst (λ (t : Traffic). ComesInOrder from box.site.me (stamps_of box.history.items) (sealed_again from box.again) (taken_at t from)) (sym same) (has.came from);
+        plans = still-plans box.ends.sites_out.items ends.sites_out.items still.1 has.plans;
       }
 
   pub lent-told : TellsItsHistory box → TellsItsHistory (with_ends box ends)

@@ -1,9 +1,11 @@
 pub mod ArrivalLemmas
 pub mod BoxLemmas
+pub mod ComingLemmas
 pub mod CourseLemmas
 pub mod HistoryLemmas
 pub mod LendingLemmas
 pub mod OpenLemmas
+pub mod PassingLemmas
 pub mod SameLemmas
 pub mod SendLemmas
 pub mod SiteLemmas

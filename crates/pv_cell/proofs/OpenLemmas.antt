@@ -1,6 +1,6 @@
 -- A site that was opened on a log in which nothing was found.
-use Rattle.std.proofs.Common.{◌≡◌, ℕ, ◌+◌, ◌==◌, true, List, [], ◌∷◌, ◌++◌, length, Some, refl, sym, ap, ◌∙◌, subst}
-use Rattle.std.proofs.lemmas.Bool.{false≢true}
+use Rattle.std.proofs.Common.{◌≡◌, ℕ, ◌+◌, ◌==◌, true, List, [], ◌∷◌, ◌++◌, length, Some, refl, sym, ap, ◌∙◌, subst, eqb-true}
+use Rattle.std.proofs.lemmas.List.{nil_from_length}
 use Rattle.std.specs.Prelude.{⊤}
 use Rattle.pv_base.specs.Catalog.{Declared}
 use Rattle.pv_base.specs.declared.limits.TheConstants.{HELD_NAMES}
@@ -43,10 +43,6 @@ starts-are setup records started (no_epoch_left is) running epoch same = absurd 
 starts-are setup records started (no_room is full) running epoch same = absurd (subst HasBegun (sym same) tt)
 starts-are setup records started (begins is room) running epoch same = (sym (ap running_in same), sym (ap epoch_in same))
 
-no-length : (contents : Contents) → (length contents == 0) ≡ true → contents ≡ []
-no-length [] is = refl
-no-length (first ∷ contents) is = absurd (false≢true is)
-
 nothing-spelled : (records : List Record) (contents : Contents) → contents ≡ [] → SpellRecords records contents → records ≡ []
 nothing-spelled [] contents is spelled = refl
 nothing-spelled (first ∷ records) contents is spelled = absurd (subst (λ (all : Contents). SpellRecords (first ∷ records) all) is spelled)
@@ -60,7 +56,9 @@ new-narrow catalog me epoch records none =
 module _ {W : Type 0} (M : LogModel W) (log : W) (me : ℕ) (catalog : Declared) (site : SiteState W)
     (first : site.first ≡ true) (opened : HasOpened M log me catalog site) where
   none : opened.records ≡ []
-  none = nothing-spelled opened.records opened.contents (no-length opened.contents (sym (ap (λ (s : SiteState W). s.first) opened.site) ∙ first)) opened.spelled
+  none =
+      nothing-spelled opened.records opened.contents
+      (nil_from_length opened.contents (eqb-true (length opened.contents) 0 (sym (ap (λ (s : SiteState W). s.first) opened.site) ∙ first))) opened.spelled
 
   begun : (opened.running ≡ just_started 1) × (opened.epoch ≡ 1)
   begun =

@@ -19,7 +19,7 @@ use Rattle.pv_cell.specs.Traffic.{sealed_count, sealed_posted, sealed_taken, tra
 use Rattle.pv_cell.specs.declared.site_box.SiteBox.{SiteBox}
 
 -- A list that has a place has an element, which stands for none.
-at-place : {A : Type 0} {P : Type 0} (xs : List A) (k : ℕ) → k < length xs → ((any : A) → P) → P
+pub at-place : {A : Type 0} {P : Type 0} (xs : List A) (k : ℕ) → k < length xs → ((any : A) → P) → P
 at-place xs k within thus = ⊎_elim (λ found. thus found.0) (λ out. let past = out.0 in absurd (omega arith)) ((slice_get_cases xs k).1)
 
 mapped-prefix : {A B : Type 0} (show : A → B) (xs ys : List A) → IsPrefix xs ys → IsPrefix (map show xs) (map show ys)
@@ -44,7 +44,7 @@ module _ {W : Type 0} (catalog : Declared) (boxes : List (SiteBox W)) (are : Are
       GoesByItsRings (setup_of declared) (get_or boxes n any).site.me (stamps_of (get_or boxes n any).history.items) (traffic_of (get_or boxes n any).ends)) is.catalog_is
       is.course.goes)))
 
-  within-sites : (n of : ℕ) (any : SiteBox W) → n < length boxes → of < length boxes → n < (get_or boxes of any).site.catalog.sites
+  pub within-sites : (n of : ℕ) (any : SiteBox W) → n < length boxes → of < length boxes → n < (get_or boxes of any).site.catalog.sites
   within-sites n of any within there =
       subst (λ (sites : ℕ). n < sites) (are.count ∙ ap (λ (declared : Declared). declared.sites) (sym (are.boxes_are of any there).catalog_is)) within
 

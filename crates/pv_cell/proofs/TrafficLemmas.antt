@@ -134,7 +134,7 @@ module _ {A X : Type 0} (R : ℕ → A → A → Type 0) (show : A → X) (none 
       ((slice_get_cases old k).1)
 
 -- Rings from which nothing was taken show the same.
-rests-show : {M X : Type 0} (show : List (M × ℕ) → X) (none : X) (old new : List (In M)) → Each (λ k one other. Rests one other) old new
+pub rests-show : {M X : Type 0} (show : List (M × ℕ) → X) (none : X) (old new : List (In M)) → Each (λ k one other. Rests one other) old new
     → (k : ℕ) → get_or (map (λ ring. show (taken ring)) new) k none ≡ get_or (map (λ ring. show (taken ring)) old) k none
 rests-show {M} {X} show none old new each =
     each-shows (λ (k : ℕ) (one other : In M). Rests one other) (λ (ring : In M). show (taken ring)) none (λ (k : ℕ) (one other : X). other ≡ one) old new each

@@ -1,5 +1,5 @@
 -- The whole course of a box: how its history, its site and its rings stand to each other at any time.
-use Rattle.std.specs.Prelude.{◌≡◌, ℕ, ◌==◌, ◌<◌, Option, Some, None, List, [], ◌∷◌, ◌++◌, Contains, get_or, is_some, if◌then◌else◌, ⊤}
+use Rattle.std.specs.Prelude.{◌≡◌, ℕ, ◌==◌, ◌<◌, Option, Some, None, List, [], ◌∷◌, ◌++◌, Contains, All, get_or, is_some, if◌then◌else◌, ⊤}
 use mathlib.Core.List.{IsPrefix, Sublist}
 use Rattle.pv_disk_model.specs.LogModel.{LogModel}
 use Rattle.pv_history.specs.Entries.{stamps_of}
@@ -7,6 +7,8 @@ use Rattle.pv_law_histories.specs.Course.{course}
 use Rattle.pv_law_histories.specs.History.{Stamped}
 use Rattle.pv_law_histories.specs.Posting.{last_stamp}
 use Rattle.pv_law_passing.specs.Asking.{asked_by}
+use Rattle.pv_law_passing.specs.Coming.{ComesInOrder}
+use Rattle.pv_law_passing.specs.Rings.{Sealed}
 use Rattle.pv_law_passing.specs.Traffic.{GoesByItsRings, Traffic, taken_at}
 use Rattle.pv_mail.specs.declared.arrival.Arrival.{Arrival}
 use Rattle.pv_mail.specs.declared.arrival.Arrival.TheVariants as arrival
@@ -21,7 +23,7 @@ use Rattle.pv_script.specs.LiveView.{request_of}
 use Rattle.pv_site.specs.SiteState.{setup_of}
 use Rattle.pv_cell.specs.Box.{course_site}
 use Rattle.pv_cell.specs.Opens.{AreFresh}
-use Rattle.pv_cell.specs.Traffic.{requests_of, sealed_of, traffic_of}
+use Rattle.pv_cell.specs.Traffic.{KeepsItsPlan, requests_of, sealed_of, traffic_of}
 use Rattle.pv_cell.specs.declared.site_box.SiteBox.{SiteBox}
 
 -- A message that was taken and counts once more was taken from the ring of a site, where it counts twice.
@@ -34,18 +36,25 @@ abbrev pub asked_again : ℕ → Option Arrival → List Request
 asked_again client (Some (arrival.Request asker request)) = if asker == client then request_of request ∷ [] else []
 asked_again client other = []
 
--- The course of a site of this setup and number, with its history, its last stamp, what counts once more, what went through the rings of sites, and what was taken
--- from each client's ring.
-pub record IsCourse (setup : Setup) (me : ℕ) (now : state.Site) (history : List Stamped) (stamp : ℕ) (left : Option Arrival) (traffic : Traffic)
-    (requests : List (List Request)) : Type 0 where
+-- what was taken from this site's ring and counts once more
+abbrev pub sealed_again : ℕ → Option Arrival → List Sealed
+sealed_again from (Some (arrival.Parcel sender parcel)) = if sender.0 == from then sealed_of parcel ∷ [] else []
+sealed_again from other = []
+
+-- The course of a site of this setup and number, with its history, its last stamp, what counts once more, and its ends of rings.
+pub record IsCourse (setup : Setup) (me : ℕ) (now : state.Site) (history : List Stamped) (stamp : ℕ) (left : Option Arrival) (ends : Ends) : Type 0 where
   -- The history is the site's own steps from the start on, stamped; what it posts was offered to the rings, and its messages were taken from them.
-  pub goes : GoesByItsRings setup me history traffic
+  pub goes : GoesByItsRings setup me history (traffic_of ends)
   -- The site stands where the history leaves it.
   pub site : now ≡ course setup me first_site history
   pub last : stamp ≡ last_stamp 0 history
   -- What the history has of a client was taken from that client's ring, in order, and so was what counts once more.
-  pub asked : (client : ℕ) → Sublist (asked_by client history ++ asked_again client left) (get_or requests client [])
-  pub again : WasTakenOnce setup.catalog.sites traffic left
+  pub asked : (client : ℕ) → Sublist (asked_by client history ++ asked_again client left) (get_or (requests_of ends) client [])
+  pub again : WasTakenOnce setup.catalog.sites (traffic_of ends) left
+  -- What the history has of a site was taken from that site's ring, in order, each message at most as often as it counts.
+  pub came : (from : ℕ) → ComesInOrder from me history (sealed_again from left) (taken_at (traffic_of ends) from)
+  -- Of what was offered to a ring to a site it took in what its plan lets through and it had a place for, in order.
+  pub plans : All KeepsItsPlan ends.sites_out.items
 
 -- They are the ends of the same rings.
 abbrev pub AreSameEnds : Ends → Ends → Type 0
@@ -59,8 +68,7 @@ module _ {W : Type 0} where
   -- The box has such a course.
   abbrev pub HasCourse : SiteBox W → Type 0
   HasCourse box =
-      IsCourse (setup_of box.site.catalog) box.site.me (course_site box.site) (stamps_of box.history.items) box.stamp box.again (traffic_of box.ends)
-      (requests_of box.ends)
+      IsCourse (setup_of box.site.catalog) box.site.me (course_site box.site) (stamps_of box.history.items) box.stamp box.again box.ends
 
   -- Nothing was taken in yet, nothing went through the rings, and the site was just opened on a log in which nothing was found.
   pub record IsNew (box : SiteBox W) : Type 0 where

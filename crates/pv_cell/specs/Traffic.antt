@@ -1,13 +1,15 @@
 -- What went through the rings of a box, as plain data.
-use Rattle.std.specs.Prelude.{ℕ, List, map, flat_map, replicate}
+use Rattle.std.specs.Prelude.{ℕ, List, map}
+pub use Rattle.pv_law_passing.specs.Coming.{counted}
 use Rattle.pv_law_passing.specs.Rings.{Sealed}
 use Rattle.pv_law_passing.specs.Traffic.{Traffic}
 use Rattle.pv_mail.specs.declared.ends.Ends.{Ends}
 use Rattle.pv_mail.specs.declared.ends.Parcel.{Parcel}
 use Rattle.pv_model.specs.LiveScript as model
-use Rattle.pv_post.specs.Ends.{offered, posted, taken}
+use Rattle.pv_post.specs.Ends.{offered, plan_of, posted, taken}
 use Rattle.pv_post.specs.declared.inlet.In.{In}
 use Rattle.pv_post.specs.declared.outlet.Out.{Out}
+use Rattle.pv_rings.specs.Rings.{Keeps}
 use Rattle.pv_script.specs.LiveView.{request_of}
 use Rattle.pv_script.specs.declared.live.Request.{Request}
 
@@ -19,10 +21,6 @@ sealed_of parcel = record { stamp = parcel.stamp; place = parcel.place; bytes = 
 abbrev pub sealed_count : Parcel × ℕ → Sealed × ℕ
 sealed_count one = (sealed_of one.0, one.1)
 
--- messages, each as often as it counts
-abbrev pub counted : {A : Type 0} → List (A × ℕ) → List A
-counted all = flat_map (λ one. replicate one.1 one.0) all
-
 -- what was offered to a ring to a site, what that took, and what was taken from a ring from one
 abbrev pub sealed_offered : Out Parcel → List Sealed
 sealed_offered out = map sealed_of (offered out)
@@ -32,6 +30,10 @@ sealed_posted out = map sealed_count (posted out)
 
 abbrev pub sealed_taken : In Parcel → List (Sealed × ℕ)
 sealed_taken inlet = map sealed_count (taken inlet)
+
+-- Of all that was offered to the ring it took in what its plan lets through and it had a place for, in order, each as often as the plan says.
+abbrev pub KeepsItsPlan : {M : Type 0} → Out M → Type 0
+KeepsItsPlan out = Keeps (plan_of out) 1 (offered out) (posted out)
 
 -- what was taken from a client's ring, each request as often as it counts
 abbrev pub requests_taken : In Request → List model.Request

@@ -9,8 +9,8 @@ mod site_box;
 mod visit;
 
 pub use course::{
-    boxes_fit_together, boxes_keep_their_course, boxes_lend_their_ends, boxes_stay_the_same,
-    boxes_tell_their_history,
+    boxes_fit_together, boxes_keep_their_course, boxes_lend_their_ends,
+    boxes_pass_messages_in_order, boxes_stay_the_same, boxes_tell_their_history,
 };
 pub use crossing::boxes_cross_threads;
 pub use opened::new_sites_fit_boxes;

@@ -1,2 +1,3 @@
+pub mod ComingLemmas
 pub mod RingLemmas
 pub mod TrafficLemmas

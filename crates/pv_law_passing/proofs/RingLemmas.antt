@@ -32,7 +32,7 @@ partners {A} {B} R (x ∷ xs) (y ∷ ys) zip =
     (λ a found. (found.0, Contains-append_right (y ∷ []) ys found.0 found.1, found.2)) xs (partners R xs ys zip.1))
 
 -- Bytes seal one parcel.
-one-parcel : (from to : ℕ) (sealed : Sealed) (one other : Parcel) → Seals from to sealed one → Seals from to sealed other → one ≡ other
+pub one-parcel : (from to : ℕ) (sealed : Sealed) (one other : Parcel) → Seals from to sealed one → Seals from to sealed other → one ≡ other
 one-parcel from to sealed one other is too =
     let stamp = sym is.0 ∙ too.0 in
     let place = sym is.1 ∙ too.1 in

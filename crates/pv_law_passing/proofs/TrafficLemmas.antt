@@ -30,7 +30,7 @@ module _ (setup : Setup) (histories : List (List Stamped)) (all : List Traffic) 
   }
 
 -- ## One site goes on
-all-zip-append : {A B : Type 0} (R : A → B → Type 0) (xs more : List A) (ys others : List B) → AllZip R xs ys → AllZip R more others
+pub all-zip-append : {A B : Type 0} (R : A → B → Type 0) (xs more : List A) (ys others : List B) → AllZip R xs ys → AllZip R more others
     → AllZip R (xs ++ more) (ys ++ others)
 all-zip-append R [] more [] others zip rest = rest
 all-zip-append R [] more (y ∷ ys) others zip rest = absurd zip

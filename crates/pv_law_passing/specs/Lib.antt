@@ -1,3 +1,4 @@
 pub mod Asking
+pub mod Coming
 pub mod Rings
 pub mod Traffic

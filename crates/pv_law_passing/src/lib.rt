@@ -1,13 +1,15 @@
-//! The law of rings: where rings bring messages from site to site, in bytes and in order, the sites' histories are those of sites that pass messages on; and a client's requests stand in its site's history each
-//! once and in order. The functions do nothing: each states a law.
+//! The law of rings: where rings bring messages from site to site, in bytes and in order, the sites' histories are those of sites that pass messages on, and what a site took in of another's messages stands
+//! in its history in order; and a client's requests stand in its site's history each once and in order. The functions do nothing: each states a law.
 #![tactic(auto)]
 
 ghost use Rattle.std.specs.Prelude.{◌≡◌, ℕ, ◌<◌, List, [], ◌∷◌, ◌++◌};
+ghost use Rattle.std.specs.List.{AllZip};
 ghost use mathlib.Core.List.{IsPrefix, Sublist};
 ghost use Rattle.pv_law_histories.specs.Fitting.{FitTogether};
 ghost use Rattle.pv_law_histories.specs.History.{Intake, request, Stamped};
-ghost use Rattle.pv_law_histories.specs.Posting.{PassMessages};
+ghost use Rattle.pv_law_histories.specs.Posting.{Parcel, PassMessages};
 ghost use Rattle.pv_law_passing.specs.Asking.{AsksInOrder, asked_by, with_asked};
+ghost use Rattle.pv_law_passing.specs.Coming.{ComesInOrder, SealsAlike, counted, parcels_from};
 ghost use Rattle.pv_law_passing.specs.Rings.{Brings, GoByRings, Ring, Sealed, WasTaken};
 ghost use Rattle.pv_law_passing.specs.Traffic.{GivesMore, GoTogether, GoesByItsRings, TakesOneMore, Traffic, rings_of};
 ghost use Rattle.pv_model.specs.LiveScript.{Request};
@@ -46,6 +48,12 @@ pub fn sites_go_on()
 pub fn requests_stand_once()
     ensures { (client : ℕ) (script posted taken : List Request) (history : List Stamped) → AsksInOrder client script posted taken history →
         Sublist (asked_by client history) script }
+{}
+
+/// Of what a ring gave a site, what stands in the site's history stands there in the order in which it was posted, each message at most as often as it counts.
+pub fn messages_stand_in_order()
+    ensures { (from me : ℕ) (history : List Stamped) (left : List Sealed) (taken : List (Sealed × ℕ)) (sent : List (Parcel × ℕ)) →
+        ComesInOrder from me history left taken → AllZip (SealsAlike from me) taken sent → Sublist (parcels_from from history) (counted sent) }
 {}
 
 /// How a ring goes on: it loses what it is offered, or takes it, however often it counts.
