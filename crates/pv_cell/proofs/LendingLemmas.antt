@@ -6,7 +6,6 @@ use Rattle.pv_disk_model.specs.LogModel.{LogModel}
 use Rattle.pv_history.specs.Entries.{stamps_of}
 use Rattle.pv_law_passing.specs.Asking.{asked_by}
 use Rattle.pv_law_passing.specs.Coming.{ComesInOrder}
-use Rattle.pv_law_passing.specs.Rings.{Sealed}
 use Rattle.pv_law_passing.specs.Traffic.{GoesByItsRings, Traffic, taken_at}
 use Rattle.pv_mail.specs.declared.answer.Answer.{Answer}
 use Rattle.pv_mail.specs.declared.ends.Ends.{Ends}
