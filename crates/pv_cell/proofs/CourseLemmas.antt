@@ -1,18 +1,16 @@
 -- The course of a box goes on by any visit and any tick.
-use Rattle.std.proofs.Common.{◌≡◌, ◌⊎◌, ℕ, zero, suc, ◌+◌, ◌<◌, ◌==◌, Bool, true, false, if◌then◌else◌, max, List, [], ◌∷◌, ◌++◌, length, get_or, map, refl, sym, ap, ◌∙◌, subst, inl, inr, ⊎_elim, append-nil, append_assoc, eqb-true, All, Vec, Global}
+use Rattle.std.proofs.Common.{◌≡◌, ◌⊎◌, ℕ, zero, suc, ◌+◌, ◌<◌, ◌==◌, Bool, true, false, if◌then◌else◌, max, List, [], ◌∷◌, ◌++◌, get_or, map, refl, sym, ap, ◌∙◌, subst, inl, inr, ⊎_elim, append-nil, append_assoc, eqb-true, All, Vec, Global}
 use Rattle.std.proofs.lemmas.List.Elements.{All-head, All-nil, All-tail, All-weaker}
 use Rattle.std.proofs.lemmas.List.{map-append}
 use Rattle.std.specs.List.{AllZip}
 use Rattle.std.specs.Prelude.{Contains, Option, Some, None, Result, Ok, Err}
-use mathlib.Core.List.{IsPrefix, Sublist, sublist-append_left}
+use mathlib.Core.List.{Sublist, sublist-append_left}
 use mathlib.Core.List.Sublist.{trans as sublist-trans, append as sublist-append, refl as sublist-refl}
 use Rattle.pv_base.specs.Catalog.{Declared}
 use Rattle.pv_base.specs.declared.txn.SiteId.{SiteId}
 use Rattle.pv_disk_model.specs.LogModel.{LogModel}
-use Rattle.pv_format.specs.MessageSpelling.{SpellsEnvelope}
 use Rattle.pv_history.specs.Entries.{stamped_of, stamps_of}
 use Rattle.pv_law_histories.specs.Course.{IsStep, course, left_by}
-use Rattle.pv_law_histories.specs.History as law
 use Rattle.pv_law_histories.specs.History.{Intake, Stamped, tick}
 use Rattle.pv_law_histories.specs.Posting.{kept_by, last_stamp, parcels_to, stamp_with}
 use Rattle.pv_law_passing.proofs.ComingLemmas.{come-more, come-none}
@@ -40,7 +38,7 @@ use Rattle.pv_rings.specs.Rings.{Each, IsFoundEmpty, Rests}
 use Rattle.pv_script.specs.LiveView.{request_of}
 use Rattle.pv_script.specs.declared.live.Request as script
 use Rattle.pv_site.specs.SiteState.{SiteState, setup_of}
-use Rattle.pv_site.specs.Steps.{Stays, Steps}
+use Rattle.pv_site.specs.Steps.{Steps}
 use Rattle.pv_site.specs.declared.error.StepError.{StepError}
 use Rattle.pv_site.specs.declared.error.StepError.TheVariants.{Fault, Down, NoMemory}
 use Rattle.pv_site.specs.declared.input.Step.{Step}
@@ -51,7 +49,7 @@ use Rattle.pv_cell.specs.Changes.{Enters, Kept, Loses, kept_of}
 use Rattle.pv_cell.specs.Course.{HasCourse, IsCourse, IsNew, WasTakenOnce, asked_again, sealed_again}
 use Rattle.pv_cell.specs.Opens.{IsFreshOut}
 use Rattle.pv_cell.specs.Traffic.{KeepsItsPlan, requests_of, sealed_count, sealed_of, sealed_offered, sealed_posted, sealed_taken, traffic_of}
-use Rattle.pv_cell.specs.Visits.{Arrives, FindsNothing, IsNext, TakesArrival, TakesTick, Ticks, Visits}
+use Rattle.pv_cell.specs.Visits.{Arrives, FindsNothing, IsNext, TakesArrival, TakesTick, Visits}
 use Rattle.pv_cell.specs.declared.site_box.SiteBox.{SiteBox}
 use Rattle.pv_cell.specs.declared.visit.Visit.{Visit}
 use Rattle.pv_cell.specs.declared.visit.Visit.TheVariants.{Took, Idle, Worn, Lost, Stray}

@@ -1,13 +1,11 @@
 -- A box stays the box that it was.
-use Rattle.std.proofs.Common.{◌≡◌, ◌≢◌, ◌⊎◌, ℕ, ◌==◌, Bool, true, false, List, [], ◌∷◌, ◌++◌, length, refl, sym, ap, ◌∙◌, subst, inl, inr, ⊎_elim, append-nil, eqb-true, Vec, Global}
+use Rattle.std.proofs.Common.{◌≡◌, ◌≢◌, ◌⊎◌, ℕ, ◌==◌, Bool, true, false, List, [], ◌∷◌, length, refl, sym, ap, ◌∙◌, subst, inl, inr, ⊎_elim, append-nil, eqb-true, Vec, Global}
 use Rattle.std.proofs.lemmas.Bool.{eqb-false}
 use Rattle.std.specs.Prelude.{Option, Some, None, Result, Ok, Err, is_some}
 use base.Growing.{prefix_trans}
-use mathlib.Core.List.{IsPrefix}
 use Rattle.pv_disk_model.specs.LogModel.{LogModel}
 use Rattle.pv_format.specs.Record.{Record}
 use Rattle.pv_history.specs.Entries.{stamped_of}
-use Rattle.pv_history.specs.declared.entry.Entry.{Entry}
 use Rattle.pv_law_histories.specs.History.{Came, Intake, done, fault, down, tick}
 use Rattle.pv_mail.specs.Answers.{asker_of}
 use Rattle.pv_mail.specs.Arrivals.{Comes}
@@ -34,11 +32,11 @@ use Rattle.pv_site.specs.Steps.{Steps}
 use Rattle.pv_site.specs.declared.error.StepError.{StepError}
 use Rattle.pv_site.specs.declared.error.StepError.TheVariants.{Fault, Down, NoMemory}
 use Rattle.pv_site.specs.declared.input.Step.{Step}
-use Rattle.pv_cell.proofs.CourseLemmas.{AreOneSite, one-site}
+use Rattle.pv_cell.proofs.CourseLemmas.{one-site}
 use Rattle.pv_cell.specs.Box.{IsTickDue}
 use Rattle.pv_cell.specs.Changes.{Enters, Kept, Loses, Posts, TellsOf, kept_of}
-use Rattle.pv_cell.specs.Course.{AreSameEnds, Became}
-use Rattle.pv_cell.specs.Visits.{Arrives, FindsNothing, IsNext, TakesArrival, TakesTick, Visits}
+use Rattle.pv_cell.specs.Course.{Became}
+use Rattle.pv_cell.specs.Visits.{Arrives, IsNext, TakesArrival, TakesTick, Visits}
 use Rattle.pv_cell.specs.declared.site_box.SiteBox.{SiteBox}
 use Rattle.pv_cell.specs.declared.visit.Visit.{Visit}
 use Rattle.pv_cell.specs.declared.visit.Visit.TheVariants.{Took, Idle, Worn, Lost, Stray}

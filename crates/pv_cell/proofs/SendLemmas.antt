@@ -2,7 +2,6 @@
 use denote.RattleType.{RattleType}
 use denote.Param.Send.{IsSend}
 use denote.Param.SendFields.{FieldsHave, declared_send}
-use denote.Struct.Declared.{Declared}
 use Rattle.pv_disk.specs.declared.log.Log.{Ghosts}
 use Rattle.pv_cell.specs.contracts.site_box.SiteBox as box
 

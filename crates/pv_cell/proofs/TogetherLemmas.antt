@@ -1,5 +1,5 @@
 -- The boxes of all sites go together by the rings between them.
-use Rattle.std.proofs.Common.{◌≡◌, ℕ, ◌<◌, List, [], ◌++◌, length, get_or, map, sym, ap, ◌∙◌, subst, ⊎_elim, arith}
+use Rattle.std.proofs.Common.{◌≡◌, ℕ, ◌<◌, List, [], length, get_or, map, sym, ap, ◌∙◌, subst, ⊎_elim, arith}
 use Rattle.std.proofs.lemmas.List.{get_or-map, length-map, map-append}
 use Rattle.std.proofs.lemmas.Option.{slice_get_cases}
 use mathlib.Core.List.{IsPrefix}
@@ -14,7 +14,7 @@ use Rattle.pv_mail.specs.declared.ends.Parcel.{Parcel}
 use Rattle.pv_post.specs.declared.inlet.In.{In}
 use Rattle.pv_post.specs.declared.outlet.Out.{Out}
 use Rattle.pv_site.specs.SiteState.{setup_of}
-use Rattle.pv_cell.specs.Together.{AreAllBoxes, Brought, IsSitesBox, histories_of, traffics_of}
+use Rattle.pv_cell.specs.Together.{AreAllBoxes, histories_of, traffics_of}
 use Rattle.pv_cell.specs.Traffic.{sealed_count, sealed_posted, sealed_taken, traffic_of}
 use Rattle.pv_cell.specs.declared.site_box.SiteBox.{SiteBox}
 

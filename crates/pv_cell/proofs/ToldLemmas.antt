@@ -1,13 +1,13 @@
 -- What clients were told is by the history.
-use Rattle.std.proofs.Common.{◌≡◌, ◌⊎◌, ℕ, zero, suc, ◌+◌, ◌<◌, ◌≤◌, ◌==◌, Bool, true, false, if◌then◌else◌, List, [], ◌∷◌, ◌++◌, length, get_or, map, refl, sym, ap, ◌∙◌, subst, inl, inr, ⊎_elim, append-nil, append_assoc, eqb-true, eq-eqb, length-append, arith, All}
+use Rattle.std.proofs.Common.{◌≡◌, ◌⊎◌, ℕ, zero, suc, ◌+◌, ◌==◌, Bool, true, false, if◌then◌else◌, List, [], ◌∷◌, ◌++◌, length, get_or, map, refl, sym, ap, ◌∙◌, subst, inl, inr, ⊎_elim, append-nil, append_assoc, eqb-true, eq-eqb, length-append, arith, All}
 use Rattle.std.proofs.lemmas.List.{length-map, map-append, map-id}
-use Rattle.std.proofs.lemmas.List.Elements.{All-append, All-cons, All-head, All-nil, All-tail, All-weaker, Contains-append_left, Contains-append_right, Contains-push}
+use Rattle.std.proofs.lemmas.List.Elements.{All-append, All-cons, All-nil, All-weaker, Contains-append_left, Contains-append_right, Contains-push}
 use Rattle.std.specs.Prelude.{Contains, Option, Some, None}
 use Rattle.pv_disk_model.specs.LogModel.{LogModel}
 use Rattle.pv_history.specs.Entries.{stamped_of, stamps_of}
 use Rattle.pv_history.specs.declared.entry.Entry.{Entry}
 use Rattle.pv_law_histories.specs.History.{Came, Intake, Stamped, done, fault, down, tick}
-use Rattle.pv_mail.specs.Answers.{AllTell, Says, Tells, Told, asker_of, begun_by, told, told_by, told_to}
+use Rattle.pv_mail.specs.Answers.{AllTell, Says, Told, asker_of, begun_by, told, told_by, told_to}
 use Rattle.pv_mail.specs.Telling.{TellsAll, TellsDownTo, TellsLossTo, TellsOne}
 use Rattle.pv_mail.specs.declared.answer.Answer.{Answer}
 use Rattle.pv_mail.specs.declared.answer.What.{What}

@@ -1,5 +1,5 @@
 -- What a visit makes of what went through the rings of a box.
-use Rattle.std.proofs.Common.{◌≡◌, ◌≢◌, ◌⊎◌, ℕ, zero, suc, ◌+◌, ◌-◌, ◌<◌, ◌≤◌, ◌==◌, Bool, true, false, if◌then◌else◌, List, [], ◌∷◌, ◌++◌, length, get_or, map, take, flat_map, replicate, refl, sym, ap, ◌∙◌, subst, inl, inr, ⊎_elim, arith, append-nil, eqb-true, All}
+use Rattle.std.proofs.Common.{◌≡◌, ◌≢◌, ℕ, zero, suc, ◌+◌, ◌-◌, ◌<◌, ◌≤◌, ◌==◌, Bool, true, false, if◌then◌else◌, List, [], ◌∷◌, ◌++◌, length, get_or, map, take, replicate, refl, sym, ap, ◌∙◌, subst, inl, inr, ⊎_elim, arith, append-nil, eqb-true, All}
 use Rattle.std.proofs.lemmas.Bool.{eqb-false}
 use Rattle.std.proofs.lemmas.Grind.{flat_map-append}
 use Rattle.std.proofs.lemmas.List.{get_or-map, get_or_past, length-map, map-append}
@@ -25,7 +25,7 @@ use Rattle.pv_post.specs.declared.fault_plan.FaultPlan.{FaultPlan}
 use Rattle.pv_post.specs.declared.inlet.In.{In}
 use Rattle.pv_post.specs.declared.outlet.Out.{Out}
 use Rattle.pv_protocol.specs.State.{Outgoing, Running, Setup, Site}
-use Rattle.pv_rings.specs.Rings.{Each, Gives, GivesOne, Hands, Keeps, Rests}
+use Rattle.pv_rings.specs.Rings.{Each, Gives, GivesOne, Keeps, Rests}
 use Rattle.pv_script.specs.LiveView.{request_of}
 use Rattle.pv_script.specs.declared.live.Request.{Request}
 use Rattle.pv_cell.specs.Changes.{Posts}
