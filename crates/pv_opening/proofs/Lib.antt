@@ -1,0 +1,5 @@
+mod BoxLemmas
+mod MeetLemmas
+mod OpenLemmas
+mod PlaceLemmas
+pub mod ScriptLemmas
