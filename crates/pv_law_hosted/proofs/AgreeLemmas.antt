@@ -31,7 +31,7 @@ use Rattle.pv_law_hosted.specs.Mirrored.{IsMirrored, plain_site, world_of}
 
 -- ## Lines
 -- The line was printed, where it is one.
-abbrev IsPrinted : List Line → Made → Type 0
+abbrev pub IsPrinted : List Line → Made → Type 0
 IsPrinted lines (sends envelope) = ⊤
 IsPrinted lines (prints line) = Contains lines line
 
@@ -52,7 +52,7 @@ if-printed : (lines : List Line) (test : Bool) (made : List Made) → All (IsPri
 if-printed lines true made all = all
 if-printed lines false made all = All-nil (IsPrinted lines)
 
-from-printed : (n : ℕ) (world : World) (transitions : List Transition) → All (IsPrinted (lines_of_transitions transitions)) (made_from n world transitions)
+pub from-printed : (n : ℕ) (world : World) (transitions : List Transition) → All (IsPrinted (lines_of_transitions transitions)) (made_from n world transitions)
 from-printed n world [] = All-nil (IsPrinted [])
 from-printed n world (transition ∷ transitions) =
     let rest = lines_of_transitions transitions in

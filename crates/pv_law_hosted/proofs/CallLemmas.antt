@@ -1,17 +1,23 @@
 -- What the calls of a site make of it is something that may happen in the deployment.
-use Rattle.std.proofs.Common.{arith, ◌≡◌, ℕ, zero, suc, ◌<◌, ◌≤◌, Bool, true, false, Option, Some, None, Result, Ok, Err, List, ◌++◌, length, refl, sym, ap, ◌∙◌, subst}
+use Rattle.std.proofs.Common.{arith, ◌≡◌, ℕ, zero, suc, ◌<◌, ◌≤◌, Bool, true, false, Option, Some, None, Result, Ok, Err, List, [], ◌∷◌, ◌++◌, append-nil, length, refl, sym, ap, ◌∙◌, subst}
 use Rattle.std.specs.Prelude.{get_or, IsTrue, nat_lt, option_to_list, ⊤}
 use Rattle.std.specs.Option.{option_map}
 use Rattle.std.proofs.lemmas.Bool.{ltb-false}
 use Rattle.std.proofs.lemmas.List.Elements.{All-get_or}
 use Rattle.pv_base.specs.Catalog.{Declared}
 use Rattle.pv_base.specs.declared.limits.TheConstants.{MAX_PROGRAM_ITEMS}
+use Rattle.pv_base.specs.declared.txn.TxnId.{TxnId}
 use Rattle.pv_check.specs.CheckRefusal.{check_refusal}
 use Rattle.pv_disk_model.specs.Disk.{overlaid}
-use Rattle.pv_embed.specs.Hosted.{AsksForGroup, Gives, HostedState, Stays, TakesNext, Writes}
+use Rattle.pv_embed.specs.Held.{Held, Out}
+use Rattle.pv_embed.specs.Hosted.{AsksForGroup, Gives, HostedState, Stays, TakesNext, Writes, stored_length}
 use Rattle.pv_embed.specs.Opening.{HasOpenedOn}
-use Rattle.pv_embed.specs.Outputs.{out_of}
+use Rattle.pv_embed.specs.Outcomes.{TellsOutcome}
+use Rattle.pv_embed.specs.Outputs.{TakesFrom, out_of}
 use Rattle.pv_embed.specs.Requests.{ReceivesBy, SubmitsBy}
+use Rattle.pv_embed.specs.declared.asked.Outcome.{Outcome}
+use Rattle.pv_embed.specs.declared.asked.OutcomeFault.{OutcomeFault}
+use Rattle.pv_embed.specs.declared.asked.OutcomeFault.TheVariants as asking
 use Rattle.pv_embed.specs.declared.fault.ReceiveFault.{ReceiveFault}
 use Rattle.pv_embed.specs.declared.fault.ReceiveFault.TheVariants as receiving
 use Rattle.pv_embed.specs.declared.fault.SubmitFault.{SubmitFault}
@@ -95,7 +101,7 @@ module _ (config : List ℕ) (catalog : Declared) (d : Deployment) (n : ℕ) (si
   next-happens next stands happens =
       here-happens (record old { hosted = Some next }) happens (λ s is. subst Stands (some-same is) stands)
 
-  submits-to : (items_of : (program : Program) → (items : List ℕ) × AreItems program items) (next : HostedState) (text : List ℕ) (query : Bool) (result : Result ⊤ SubmitFault)
+  submits-to : {X : Type 0} (items_of : (program : Program) → (items : List ℕ) × AreItems program items) (next : HostedState) (text : List ℕ) (query : Bool) (result : Result X SubmitFault)
       → SubmitsBy site next text query result → HappensTo catalog d n site old (record old { hosted = Some next })
   submits-to items_of next text query (Ok done) by =
       let items = items_of by.0 in
@@ -106,7 +112,7 @@ module _ (config : List ℕ) (catalog : Declared) (d : Deployment) (n : ℕ) (si
   submits-to items_of next text query (Err (submitting.Program error)) by = stays next (as-it-was site next by.0)
   submits-to items_of next text query (Err submitting.NoMemory) by = stays next by
 
-  pub submit-happens : (items_of : (program : Program) → (items : List ℕ) × AreItems program items) (next : HostedState) (text : List ℕ) (query : Bool) (result : Result ⊤ SubmitFault)
+  pub submit-happens : {X : Type 0} (items_of : (program : Program) → (items : List ℕ) × AreItems program items) (next : HostedState) (text : List ℕ) (query : Bool) (result : Result X SubmitFault)
       → Stands next → SubmitsBy site next text query result → Happens config catalog d (with_station d n (record old { hosted = Some next }))
   submit-happens items_of next text query result stands by = next-happens next stands (submits-to items_of next text query result by)
 
@@ -143,11 +149,44 @@ module _ (config : List ℕ) (catalog : Declared) (d : Deployment) (n : ℕ) (si
       → Happens config catalog d (with_station d n (record old { hosted = Some next }))
   idle-happens next stands is by = next-happens next stands (idles next is by)
 
+  pub give-happens : (next : HostedState) (first : Held) (later : List Held) → Stands next → site.held ≡ first ∷ later → first.length ≤ stored_length site
+      → next ≡ record site { held = later } → Happens config catalog d (with_station d n (record old { hosted = Some next; let_out = old.let_out ++ first.out ∷ [] }))
+  give-happens next first later stands held within is =
+      here-happens (record old { hosted = Some next; let_out = old.let_out ++ first.out ∷ [] }) (lets_out next first later held within is)
+      (λ s is. subst Stands (some-same is) stands)
+
+  -- Nothing is let out.
+  none-happens : (next : HostedState) → Stands next → next ≡ record site { held = next.held } → next.held ≡ site.held
+      → Happens config catalog d (with_station d n (record old { hosted = Some next; let_out = old.let_out ++ [] }))
+  none-happens next stands is held =
+      let same : next ≡ site = is ∙ ap (λ (l : List Held). record site { held = l }) held in
+      subst (λ (out : List Out). Happens config catalog d (with_station d n (record old { hosted = Some next; let_out = out }))) (sym (append-nil old.let_out))
+      (next-happens next stands (stays next (as-it-was site next same)))
+
+  takes-from : (next : HostedState) (result : Option Output) (held : List Held) → Stands next → site.held ≡ held → TakesFrom (stored_length site) held next.held result
+      → next ≡ record site { held = next.held }
+      → Happens config catalog d (with_station d n (record old { hosted = Some next; let_out = old.let_out ++ option_to_list (option_map out_of result) }))
+  takes-from next None [] stands here t is = none-happens next stands is (t.1 ∙ sym here)
+  takes-from next None (first ∷ later) stands here t is = none-happens next stands is (t.1 ∙ sym here)
+  takes-from next (Some output) [] stands here t is = let wrong = t.0 in absurd cc
+  takes-from next (Some output) (first ∷ later) stands here t is =
+      subst (λ (out : Out). Happens config catalog d (with_station d n (record old { hosted = Some next; let_out = old.let_out ++ out ∷ [] }))) (sym t.1)
+      (give-happens next first later stands here t.0 (is ∙ ap (λ (l : List Held). record site { held = l }) t.2))
+
   pub take-happens : (next : HostedState) (result : Option Output) → Stands next → TakesNext site next result
       → Happens config catalog d (with_station d n (record old { hosted = Some next; let_out = old.let_out ++ option_to_list (option_map out_of result) }))
-  take-happens next result stands by =
-      here-happens (record old { hosted = Some next; let_out = old.let_out ++ option_to_list (option_map out_of result) }) (lets_out next result by)
-      (λ s is. subst Stands (some-same is) stands)
+  take-happens next result stands by = takes-from next result site.held stands refl by.0 by.1
+
+  tells-to : (next : HostedState) (txn : TxnId) (result : Result Outcome OutcomeFault) → TellsOutcome site next txn result → Stays site next
+  tells-to next txn (Ok outcome) told = as-it-was site next told.0
+  tells-to next txn (Err asking.NotHere) told = as-it-was site next told.0
+  tells-to next txn (Err asking.Unwritten) told = as-it-was site next told.0
+  tells-to next txn (Err asking.NotBegun) told = as-it-was site next told.0
+  tells-to next txn (Err asking.NoMemory) told = told
+
+  pub tell-happens : (next : HostedState) (txn : TxnId) (result : Result Outcome OutcomeFault) → Stands next → TellsOutcome site next txn result
+      → Happens config catalog d (with_station d n (record old { hosted = Some next }))
+  tell-happens next txn result stands told = next-happens next stands (stays next (tells-to next txn result told))
 
   pub writing-happens : (left : List ℕ) → Stands site → MayLeave site.site.log old.file left → Happens config catalog d (with_station d n (record old { file = left }))
   writing-happens left stands may =

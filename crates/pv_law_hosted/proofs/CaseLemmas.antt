@@ -10,8 +10,6 @@ use Rattle.pv_site.specs.SiteState.{setup_of}
 use Rattle.pv_host.specs.HostFile.{IsFile}
 use Rattle.pv_embed.specs.Held.{Held, Out}
 use Rattle.pv_embed.specs.Hosted.{HostedState, stored_length}
-use Rattle.pv_embed.specs.Outputs.{out_of}
-use Rattle.pv_embed.specs.declared.made.Output.{Output}
 use Rattle.pv_law_hosted.proofs.GivenLemmas.{held-waits}
 use Rattle.pv_law_hosted.proofs.MirroredLemmas.{Becomes}
 use Rattle.pv_law_hosted.specs.Deployment.{Deployment, Station, station_at}
@@ -97,25 +95,22 @@ module _ (setup : Setup) (d : Deployment) (n : ℕ) where
     }
 
     pub becomes-some : (old : Station) (site next : HostedState) (content : Content) (rest : List Out) (f : FollowsHosted setup d n old.file site content rest)
-        (output : Output) (first : Held) (later : List Held) → old ≡ station_at d n → site.held ≡ first ∷ later → first.length ≤ stored_length site → out_of output ≡ first.out
-        → next ≡ record site { held = next.held } → next.held ≡ later → IsFile next.site.log old.file → Stands next
-        → Becomes setup d n content rest (record old { hosted = Some next; let_out = old.let_out ++ out_of output ∷ [] })
-    becomes-some old site next content rest f output first later here is le out same_site after is_file stands =
+        (first : Held) (later : List Held) → old ≡ station_at d n → site.held ≡ first ∷ later → first.length ≤ stored_length site
+        → next ≡ record site { held = later } → IsFile next.site.log old.file → Stands next
+        → Becomes setup d n content rest (record old { hosted = Some next; let_out = old.let_out ++ first.out ∷ [] })
+    becomes-some old site next content rest f first later here is le left is_file stands =
         let found = first-ready old.file site content rest f first later is le f.ready refl in
         let more = found.0 in
         let ready = map (λ (one : Held). one.out) more in
-        let said = old.let_out ++ out_of output ∷ [] in
         record {
           done = [];
           may = All-nil (MayBeGiven setup.catalog d n);
           ready = ready;
-          grows = (out_of output ∷ [], ap (λ (s : Station). s.let_out ++ out_of output ∷ []) here);
-          out = append_assoc old.let_out (out_of output ∷ []) ready
-              ∙ ap (λ (it : Out). old.let_out ++ it ∷ ready) out
+          grows = (first.out ∷ [], ap (λ (s : Station). s.let_out ++ first.out ∷ []) here);
+          out = append_assoc old.let_out (first.out ∷ []) ready
               ∙ ap (λ (l : List Held). old.let_out ++ map (λ (one : Held). one.out) l) (sym found.1)
               ∙ ap (λ (l : List Out). old.let_out ++ l) (sym f.rest_is)
               ∙ ap (λ (s : Station). s.let_out ++ rest) here
               ∙ sym (append-nil ((station_at d n).let_out ++ rest));
-          process = out-follows old.file site next content rest f first later more is_file stands
-              (same_site ∙ ap (λ (l : List Held). record site { held = l }) after) found.1 found.2;
+          process = out-follows old.file site next content rest f first later more is_file stands left found.1 found.2;
         }

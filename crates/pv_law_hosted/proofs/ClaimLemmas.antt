@@ -4,9 +4,10 @@ use Rattle.std.proofs.lemmas.List.{get_or-replicate, length-replicate, map-appen
 use Rattle.std.proofs.lemmas.List.Elements.{All-nil, All-get_or}
 use Rattle.pv_base.specs.Catalog.{Declared}
 use Rattle.pv_disk_model.specs.Size.{Contents, size_of}
-use Rattle.pv_format.specs.Contents.{SpellRecords}
+use Rattle.pv_format.specs.Contents.{IsFirstBadContent, SpellRecords}
 use Rattle.pv_format.specs.Journal.{IsJournal}
 use Rattle.pv_format.specs.Record.{Record}
+use Rattle.pv_law_format.proofs.ReplayLemmas.{no-bad}
 use Rattle.pv_model.specs.Events.{Event}
 use Rattle.pv_protocol.specs.Records.{journal_bytes}
 use Rattle.pv_protocol.specs.State.{Setup, Running, Site}
@@ -41,6 +42,15 @@ seen-gone : (file : List ℕ) (content : Content) (site : Site) (rest : List Out
 seen-gone file content site rest (mirrored.same records present) gone = inl (gone.contents, gone.journal, gone.spelled, gone.down)
 seen-gone file content site rest unborn gone =
     inr (subst (λ (contents : Contents). IsJournal contents file) (no-contents gone.contents gone.spelled) gone.journal, refl)
+
+-- The file is a journal of records.
+pub journal-left : (file : List ℕ) (site : Site) → HoldsSite file site → (contents : Contents) × (records : List Record) × IsJournal contents file × SpellRecords records contents
+journal-left file site (inl left) = (left.0, site.records, left.1, left.2)
+journal-left file site (inr left) = ([], [], left.0, tt)
+
+-- None of its contents is bad.
+pub bad-left : (contents others : Contents) (records : List Record) (index : ℕ) → contents ≡ others → SpellRecords records contents → IsFirstBadContent others index → ⊥
+bad-left contents others records index same spelled bad = no-bad others records index (subst (SpellRecords records) same spelled) bad
 
 module _ (tells : (records : List Record) (contents : Contents) → SpellRecords records contents → size_of contents ≡ journal_bytes records) where
   -- Where all of its log is said to be in the file nothing waits.

@@ -1,7 +1,5 @@
 -- Whatever happens in a deployment, the run that mirrors it goes on, and mirrors it then.
-use Rattle.std.proofs.Common.{◌≡◌, ⊎_elim, ℕ, ◌<◌, Option, Some, None, List, [], ◌∷◌, ◌++◌, map, append-nil, refl, sym, ap, ◌∙◌, subst}
-use Rattle.std.specs.Prelude.{option_to_list}
-use Rattle.std.specs.Option.{option_map}
+use Rattle.std.proofs.Common.{◌≡◌, ⊎_elim, ℕ, ◌<◌, ◌≤◌, Option, Some, None, List, [], ◌∷◌, ◌++◌, map, append-nil, refl, sym, ap, ◌∙◌, subst}
 use Rattle.std.proofs.lemmas.List.Elements.{All-nil}
 use Rattle.pv_disk_model.specs.Disk.{overlaid}
 use Rattle.pv_disk_model.specs.Size.{Contents, size_of}
@@ -19,10 +17,8 @@ use Rattle.pv_host.specs.HostFile.{IsFile, IsStored, MayLeave}
 use Rattle.pv_host.specs.HostLog.{HostState, HostWrite, next_write}
 use Rattle.pv_embed.proofs.HostedLemmas.{stored_asked}
 use Rattle.pv_embed.specs.Held.{Held, Out}
-use Rattle.pv_embed.specs.Hosted.{AsksForGroup, HasStepped, HostedState, Stays, TakesNext, Writes, stored_length}
+use Rattle.pv_embed.specs.Hosted.{AsksForGroup, HasStepped, HostedState, Stays, Writes, stored_length}
 use Rattle.pv_embed.specs.Opening.{Configures, HasOpenedOn}
-use Rattle.pv_embed.specs.Outputs.{TakesFrom, out_of}
-use Rattle.pv_embed.specs.declared.made.Output.{Output}
 use Rattle.pv_law_hosted.proofs.CaseLemmas.{becomes-some, becomes-still, follows-still}
 use Rattle.pv_law_hosted.proofs.GivesLemmas.{becomes-given}
 use Rattle.pv_law_hosted.proofs.GoesLemmas.{goes-up}
@@ -49,7 +45,6 @@ pub record Laws : Type 0 where
   pub written : (old new : HostedState) (write : HostWrite) (file : List ℕ) → Writes old new → next_write old.site.log ≡ Some write → IsFile old.site.log file
       → IsFile new.site.log (overlaid file write.place write.bytes)
   pub idle : (old new : HostedState) (file : List ℕ) → Writes old new → next_write old.site.log ≡ None → IsFile old.site.log file → IsFile new.site.log file
-  pub taken : (old new : HostedState) (result : Option Output) (file : List ℕ) → TakesNext old new result → IsFile old.site.log file → IsFile new.site.log file
   pub crashed : (hosted : HostedState) (file left : List ℕ) → IsFile hosted.site.log file → MayLeave hosted.site.log file left → IsFile hosted.site.log left
 
 module _ (laws : Laws) (config : List ℕ) (schedule : Schedule) (configures : Configures config schedule) (d : Deployment) (events : List Event)
@@ -98,25 +93,13 @@ module _ (laws : Laws) (config : List ℕ) (schedule : Schedule) (configures : C
         let cut = cut-group setup d n laws.tells old.file site content rest f one others some in
         goes-up setup n d events m known left cut.done cut.may cut.up.0 cut.up.1 (site.site.log.stored ++ one ∷ others) journal cut.spelled
 
-    -- ## Something is let out, or nothing is
-    still-there : (next : HostedState) → next ≡ record site { held = next.held } → next.held ≡ site.held → next ≡ site
-    still-there next is held = is ∙ ap (λ (l : List Held). record site { held = l }) held
-
-    nothing-out : (next : HostedState) → next ≡ site → GoesOn (record old { hosted = Some next; let_out = old.let_out ++ [] })
-    nothing-out next is =
-        by (record old { hosted = Some next; let_out = old.let_out ++ [] })
-        (becomes-still setup d n content rest (record old { hosted = Some next; let_out = old.let_out ++ [] }) (append-nil old.let_out)
-        (subst (λ (s : HostedState). FollowsHosted setup d n old.file s content rest) (sym is) f))
-
-    next-out : (next : HostedState) (result : Option Output) (held : List Held) → site.held ≡ held → TakesFrom (stored_length site) held next.held result
-        → next ≡ record site { held = next.held } → IsFile next.site.log old.file → Stands next
-        → GoesOn (record old { hosted = Some next; let_out = old.let_out ++ option_to_list (option_map out_of result) })
-    next-out next None [] held t is is_file stands = nothing-out next (still-there next is (t.1 ∙ sym held))
-    next-out next None (first ∷ later) held t is is_file stands = nothing-out next (still-there next is (t.1 ∙ sym held))
-    next-out next (Some output) [] held t is is_file stands = let wrong = t.0 in absurd cc
-    next-out next (Some output) (first ∷ later) held t is is_file stands =
-        by (record old { hosted = Some next; let_out = old.let_out ++ out_of output ∷ [] })
-        (becomes-some setup d n laws.tells old site next content rest f output first later refl held t.0 t.1 is t.2 is_file stands)
+    -- ## Something is let out
+    next-out : (next : HostedState) (first : Held) (later : List Held) → site.held ≡ first ∷ later → first.length ≤ stored_length site → next ≡ record site { held = later }
+        → Stands next → GoesOn (record old { hosted = Some next; let_out = old.let_out ++ first.out ∷ [] })
+    next-out next first later held within is stands =
+        by (record old { hosted = Some next; let_out = old.let_out ++ first.out ∷ [] })
+        (becomes-some setup d n laws.tells old site next content rest f first later refl held within is
+        (subst (λ (h : HostedState). IsFile h.site.log old.file) (sym is) f.is_file) stands)
 
     -- ## Each thing that may happen
     happens : (new : Station) → old.hosted ≡ Some site → HappensTo schedule.catalog d n site old new → ((s : HostedState) → new.hosted ≡ Some s → Stands s) → GoesOn new
@@ -155,8 +138,7 @@ module _ (laws : Laws) (config : List ℕ) (schedule : Schedule) (configures : C
         (becomes-still setup d n content rest (record old { hosted = Some next }) refl
         (follows-still setup d n old.file old.file site next content rest f (laws.idle site next old.file wrote none f.is_file) (stands next refl)
         (idle-stored site.site.log next.site.log none wrote.log) wrote.same))
-    happens new here (lets_out next result t) stands =
-        next-out next result site.held refl t.0 t.1 (laws.taken site next result old.file t f.is_file) (stands next refl)
+    happens new here (lets_out next first later held within is) stands = next-out next first later held within is (stands next refl)
     happens new here (goes left may) stands =
         ⊎_elim (λ journal. gone-stored left content.running refl journal) (λ journal. gone-more left site.site.log.asked refl journal)
         (laws.journals site.site.log left (laws.crashed site old.file left f.is_file may))

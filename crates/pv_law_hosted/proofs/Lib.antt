@@ -9,11 +9,13 @@ mod HappensLemmas
 mod MirroredLemmas
 mod OneByOneLemmas
 mod OpensLemmas
+mod OutcomeLemmas
 mod ReportLemmas
 mod RunLemmas
 mod SettleLemmas
 mod SplitLemmas
 mod StoreLemmas
 mod TakesLemmas
+mod TimeLemmas
 mod WithinLemmas
 mod WorkedLemmas

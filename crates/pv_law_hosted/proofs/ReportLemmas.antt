@@ -20,9 +20,9 @@ use Rattle.pv_law_hosted.proofs.AgreeLemmas.{last-world}
 use Rattle.pv_law_hosted.specs.Claims.{IsAnswered, IsRefused}
 
 -- A transition among these prints the line.
-record PrintedAt (transitions : List Transition) (line : Line) : Type 0 where
-  place : Place transitions
-  there : Contains place.transition.lines line
+pub record PrintedAt (transitions : List Transition) (line : Line) : Type 0 where
+  pub place : Place transitions
+  pub there : Contains place.transition.lines line
 
 printed-later : (first : Transition) (transitions : List Transition) (line : Line) → PrintedAt transitions line → PrintedAt (first ∷ transitions) line
 printed-later first transitions line at = record {
@@ -35,14 +35,14 @@ printed-later first transitions line at = record {
   there = at.there;
 }
 
-printed-at : (transitions : List Transition) (line : Line) → Contains (lines_of_transitions transitions) line → PrintedAt transitions line
+pub printed-at : (transitions : List Transition) (line : Line) → Contains (lines_of_transitions transitions) line → PrintedAt transitions line
 printed-at [] line is = absurd (Contains-nil line is)
 printed-at (first ∷ transitions) line is = elim (Contains-append_cases first.lines (lines_of_transitions transitions) line is) [
   | inl now ↦ record { place = record { earlier = []; transition = first; later = transitions; split = refl }; there = now }
   | inr later ↦ printed-later first transitions line (printed-at transitions line later)
 ]
 
-in-run : (setup : Setup) (events : List Event) (line : Line) → Contains (printed setup events) line → PrintedAt (run setup (opening setup) events) line
+pub in-run : (setup : Setup) (events : List Event) (line : Line) → Contains (printed setup events) line → PrintedAt (run setup (opening setup) events) line
 unfolding printed
 in-run setup events line is = printed-at (run setup (opening setup) events) line is
 

@@ -1,6 +1,5 @@
 -- What may happen in a deployment.
-use Rattle.std.specs.Prelude.{◌≡◌, ℕ, ◌<◌, Option, Some, None, List, ◌++◌, option_to_list}
-use Rattle.std.specs.Option.{option_map}
+use Rattle.std.specs.Prelude.{◌≡◌, ℕ, ◌<◌, ◌≤◌, Option, Some, None, List, [], ◌∷◌, ◌++◌}
 use Rattle.pv_base.specs.Catalog.{Declared}
 use Rattle.pv_disk_model.specs.Disk.{overlaid}
 use Rattle.pv_format.specs.Message.{Envelope}
@@ -12,10 +11,9 @@ use Rattle.pv_site.specs.Steps.{IsReady}
 use Rattle.pv_host.specs.HostFile.{MayLeave}
 use Rattle.pv_host.specs.HostLaws.{host_model}
 use Rattle.pv_host.specs.HostLog.{HostWrite, next_write}
-use Rattle.pv_embed.specs.Hosted.{AsksForGroup, HostedState, HasStepped, Stays, TakesNext, Writes}
+use Rattle.pv_embed.specs.Held.{Held}
+use Rattle.pv_embed.specs.Hosted.{AsksForGroup, HostedState, HasStepped, Stays, Writes, stored_length}
 use Rattle.pv_embed.specs.Opening.{HasOpenedOn}
-use Rattle.pv_embed.specs.Outputs.{out_of}
-use Rattle.pv_embed.specs.declared.made.Output.{Output}
 use Rattle.pv_law_hosted.specs.Deployment.{Deployment, Station, IsCarried, station_at, with_station}
 
 -- What the site of this number may be given: a request for a program that can run, a message that was let out and goes to it, and time.
@@ -47,9 +45,9 @@ pub data HappensTo (catalog : Declared) (d : Deployment) (n : ℕ) (site : Hoste
       → HappensTo catalog d n site old (record old { file = overlaid old.file write.place write.bytes; hosted = Some next })
   idles : (next : HostedState) → next_write site.site.log ≡ None → Writes site next
       → HappensTo catalog d n site old (record old { hosted = Some next })
-  -- the next thing is let out, or nothing is
-  lets_out : (next : HostedState) (result : Option Output) → TakesNext site next result
-      → HappensTo catalog d n site old (record old { hosted = Some next; let_out = old.let_out ++ option_to_list (option_map out_of result) })
+  -- the next thing is let out: as much of the log is in the file as there was when it was made
+  lets_out : (next : HostedState) (first : Held) (later : List Held) → site.held ≡ first ∷ later → first.length ≤ stored_length site
+      → next ≡ record site { held = later } → HappensTo catalog d n site old (record old { hosted = Some next; let_out = old.let_out ++ first.out ∷ [] })
   -- the process goes: by a crash, by a kill, or closed; and the file is one that this may leave
   goes : (left : List ℕ) → MayLeave site.site.log old.file left → HappensTo catalog d n site old (record old { file = left; hosted = None })
 

@@ -2,51 +2,63 @@
 //! happens to them there is a schedule whose run mirrors it. The functions do nothing: each states a law.
 #![tactic(auto)]
 
-ghost use Rattle.std.specs.Prelude.{◌≡◌, ℕ, ◌<◌, ◌≤◌, Bool, Option, Some, None, Result, List, [], ◌++◌, map, option_to_list, slice_get, All, IsTrue, ⊤};
+ghost use Rattle.std.specs.Prelude.{◌≡◌, ℕ, ◌<◌, ◌≤◌, Bool, false, Option, Some, None, Result, Ok, Err, List, [], ◌∷◌, ◌++◌, drop, length, map, option_to_list, slice_get, All, IsTrue, ⊤};
 ghost use Rattle.std.specs.Option.{option_map};
 ghost use Rattle.std.specs.List.{Contains};
 ghost use Rattle.pv_base.specs.Catalog.{Declared, Item};
 ghost use Rattle.pv_base.specs.declared.failure.NoMemory.{NoMemory};
 ghost use Rattle.pv_base.specs.declared.reply.Reply.{Reply};
 ghost use Rattle.pv_base.specs.declared.txn.TxnId.{TxnId};
-ghost use Rattle.pv_embed.specs.Held.{message, note};
+ghost use Rattle.pv_embed.specs.Held.{Held, message, note};
 ghost use Rattle.pv_disk_model.specs.Disk.{overlaid};
-ghost use Rattle.pv_embed.specs.Hosted.{AsksForGroup, Gives, HostedState, TakesNext, Writes, log_length, stored_length};
-ghost use Rattle.pv_embed.specs.Opening.{Configures, HasOpenedOn};
+ghost use Rattle.pv_embed.specs.Hosted.{AsksForGroup, Gives, HasStepped, HostedState, TakesNext, Writes, log_length, stored_length};
+ghost use Rattle.pv_embed.specs.Opening.{Configures, HasOpenedOn, OpensHosted};
+ghost use Rattle.pv_embed.specs.Outcomes.{TellsOutcome};
 ghost use Rattle.pv_embed.specs.Outputs.{out_of};
 ghost use Rattle.pv_embed.specs.Requests.{ReceivesBy, SubmitsBy};
+ghost use Rattle.pv_embed.specs.declared.asked.Outcome.{Outcome};
+ghost use Rattle.pv_embed.specs.declared.asked.Outcome.TheVariants.{Committed, NotCommitted, AtWork};
+ghost use Rattle.pv_embed.specs.declared.asked.OutcomeFault.{OutcomeFault};
+ghost use Rattle.pv_embed.specs.declared.fault.OpenFault.TheVariants.{BadRecord, NotOurs};
 ghost use Rattle.pv_embed.specs.declared.fault.ReceiveFault.{ReceiveFault};
 ghost use Rattle.pv_embed.specs.declared.fault.SubmitFault.{SubmitFault};
 ghost use Rattle.pv_embed.specs.declared.made.Output.{Output};
-ghost use Rattle.pv_format.specs.Message.{Envelope};
+ghost use Rattle.pv_format.specs.Message.{Envelope, outcome_reported};
 ghost use Rattle.pv_host.specs.HostFile.{MayLeave};
 ghost use Rattle.pv_host.specs.HostLog.{HostWrite, next_write};
 ghost use Rattle.pv_law_hosted.specs.Calls.{HasSite, IsFromASite};
 ghost use Rattle.pv_law_hosted.specs.Claims.{HoldsSite, IsAnswered, IsRefused};
 ghost use Rattle.pv_law_hosted.specs.Deployment.{Deployment, IsNew, station_at, with_station};
-ghost use Rattle.pv_law_hosted.specs.DeploymentEvents.{Happens, Stands};
+ghost use Rattle.pv_law_hosted.specs.DeploymentEvents.{Happens, MayTake, Stands};
 ghost use Rattle.pv_law_hosted.specs.Made.{IsLetOutOf, made_as, made_by};
 ghost use Rattle.pv_law_hosted.specs.Mirrored.{IsMirrored, plain_site, world_of};
 ghost use Rattle.pv_law_hosted.specs.Worked as worked;
+ghost use Rattle.pv_law_outcomes.specs.Decided.{IsCutTo};
 ghost use Rattle.pv_model.specs.Events.{Event, Schedule};
 ghost use Rattle.pv_model.specs.Meaning.{value_in};
-ghost use Rattle.pv_protocol.specs.Committed.{Fits, is_readable, serial_rows};
+ghost use Rattle.pv_protocol.specs.Committed.{Fits, entry_of, is_committed, is_readable, serial_rows};
 ghost use Rattle.pv_protocol.specs.Lines.{line_of};
+ghost use Rattle.pv_protocol.specs.Outcomes.{IsOut};
 ghost use Rattle.pv_protocol.specs.Run.{printed};
 ghost use Rattle.pv_protocol.specs.Shown.{item_value};
-ghost use Rattle.pv_protocol.specs.State.{Cause, Note, Setup, committed, refused, tick};
+ghost use Rattle.pv_protocol.specs.State.{Cause, Entry, Input, Note, Setup, began, committed, refused, tick};
 ghost use Rattle.pv_protocol.specs.WellFormed.{IsWellFormed};
 ghost use Rattle.pv_protocol.specs.World.{site_at};
 ghost use Rattle.pv_site.specs.SiteState.{setup_of};
 
 use pv_embed::files_hold_what_was_let_out;
 use pv_host::files_are_journals;
-use pv_law_answers::{commits_answer, worlds_agree};
+use pv_law_answers::{commits_answer, no_txn_is_begun_twice, worlds_agree};
+use pv_law_events::runs_are_reached;
 use pv_law_format::one_record;
 use pv_law_journal::one_journal;
+use pv_law_outcomes::{
+    no_two_outcomes, outcomes_are_decided, outcomes_are_for_ever, what_is_open_was_open,
+};
 use pv_law_programs::some_items;
 use pv_law_refusals::refusals_hold;
 use pv_law_schedules::one_schedule;
+use pv_law_world::{epochs_are_recorded, memories_are_in_order};
 use pv_site::logs_tell_of_records;
 
 /// A deployment is mirrored by the run of a schedule, from its beginning on, whatever happens in it; and the run only goes on.
@@ -73,7 +85,8 @@ pub fn deployments_are_runs()
 /// - It opens a site on the file that the last process of that number has left (`opened`).
 ///
 /// [`HostedSite::stands_ready`](pv_embed::HostedSite::stands_ready) shows that the site stands after a call. Before it, it has its number, its catalog and what
-/// stands ready, since the deployment is mirrored (`has`). A reading changes nothing, nor does a question what is to be written of what was asked for.
+/// stands ready, since the deployment is mirrored (`has`). A reading changes nothing, nor does a question what is to be written of what was asked for. `gave` is `took` for who
+/// gives as bytes what is let out.
 pub fn calls_happen()
     ensures has { (catalog : Declared) (d : Deployment) (events : List Event) (n : ℕ) (site : HostedState) → IsMirrored (setup_of catalog) d events → n < catalog.sites →
         (station_at d n).hosted ≡ Some site → HasSite catalog d n site × Stands site }
@@ -99,6 +112,12 @@ pub fn calls_happen()
         HasSite catalog d n site → Stands next → TakesNext site next result →
         Happens config catalog d
         (with_station d n (record (station_at d n) { hosted = Some next; let_out = (station_at d n).let_out ++ option_to_list (option_map out_of result) })) }
+    ensures gave { (config : List ℕ) (catalog : Declared) (d : Deployment) (n : ℕ) (site next : HostedState) (first : Held) (later : List Held) →
+        HasSite catalog d n site → Stands next → site.held ≡ first ∷ later → first.length ≤ stored_length site → next ≡ record site { held = later } →
+        Happens config catalog d (with_station d n (record (station_at d n) { hosted = Some next; let_out = (station_at d n).let_out ++ first.out ∷ [] })) }
+    ensures told { (config : List ℕ) (catalog : Declared) (d : Deployment) (n : ℕ) (site next : HostedState) (txn : TxnId) (result : Result Outcome OutcomeFault) →
+        HasSite catalog d n site → Stands next → TellsOutcome site next txn result →
+        Happens config catalog d (with_station d n (record (station_at d n) { hosted = Some next })) }
     ensures is_writing { (config : List ℕ) (catalog : Declared) (d : Deployment) (n : ℕ) (site : HostedState) (left : List ℕ) →
         HasSite catalog d n site → Stands site → MayLeave site.site.log (station_at d n).file left →
         Happens config catalog d (with_station d n (record (station_at d n) { file = left })) }
@@ -165,6 +184,74 @@ pub fn hosted_reports_hold()
     hosted_sites_agree();
     commits_answer();
     refusals_hold();
+}
+
+/// What was let out before a request was given stands before it in the run: what stations have let out is in the run that mirrors the deployment now
+/// (`mirrored_deployments_agree`), and no transaction that a site begins from now on is begun in that run. It is begun in what the run goes on with.
+pub fn hosted_time_is_kept()
+    ensures { (setup : Setup) (d : Deployment) (events : List Event) (n : ℕ) (site next : HostedState) (input : Input) (held : Held) (txn : TxnId) →
+        IsMirrored setup d events → n < setup.catalog.sites → (station_at d n).hosted ≡ Some site → MayTake setup.catalog d n input → HasStepped site next input →
+        Contains (drop (length site.held) next.held) held → held.out ≡ note (began txn) → Contains (printed setup events) (line_of n (began txn)) → ⊥ }
+{
+    no_txn_is_begun_twice();
+}
+
+/// What a site has shown stays right, whatever happens later. An assignment that fits a later world, cut to the transactions that were in the order when the item was shown, is
+/// one at which it was shown the value that the serial run of that order leaves: none that couldn't commit any more does later.
+pub fn hosted_readings_last()
+    ensures { (setup : Setup) (d : Deployment) (events more : List Event) (hosted : HostedState) (assignment part : List TxnId) (i : ℕ) (item : Item) →
+        IsMirrored setup d events → slice_get setup.catalog.items i ≡ Some item → (station_at d item.site).hosted ≡ Some hosted →
+        log_length hosted ≤ stored_length hosted → IsTrue (is_readable hosted.site.running i) → All (IsWellFormed setup.catalog) (events ++ more) →
+        Fits (world_of setup (events ++ more)) assignment → IsCutTo (world_of setup events) assignment part →
+        item_value setup.catalog hosted.site.records i part ≡ value_in (serial_rows setup (world_of setup events) part) i }
+{
+    hosted_sites_agree();
+    runs_are_reached();
+    what_is_open_was_open();
+}
+
+/// The file that a process has left is read by the next one: whatever the configuration is, an opening on it isn't refused since it were no journal, or held what is no
+/// record.
+pub fn left_files_are_read()
+    ensures ours { (config : List ℕ) (setup : Setup) (d : Deployment) (events : List Event) (n place : ℕ) → IsMirrored setup d events → n < setup.catalog.sites →
+        (station_at d n).hosted ≡ None → OpensHosted config n (station_at d n).file (Err (NotOurs place)) → ⊥ }
+    ensures records { (config : List ℕ) (setup : Setup) (d : Deployment) (events : List Event) (n index : ℕ) → IsMirrored setup d events → n < setup.catalog.sites →
+        (station_at d n).hosted ≡ None → OpensHosted config n (station_at d n).file (Err (BadRecord index)) → ⊥ }
+{
+    mirrored_deployments_agree();
+    one_journal();
+}
+
+/// What a site tells of a transaction that it coordinates is so in the run, and stays so whatever happens later, since the run only goes on:
+///
+/// - Of one that has committed, that it is committed there.
+/// - Of one that hasn't and never will, that it is neither committed nor open there.
+/// - Of one that is at work, that its site works on it there, and it isn't committed yet.
+///
+/// And the outcomes of a transaction that sites report to one another in messages that were let out are one outcome.
+pub fn hosted_outcomes_hold()
+    ensures commits { (setup : Setup) (d : Deployment) (events more : List Event) (n : ℕ) (hosted new : HostedState) (txn : TxnId) → IsMirrored setup d events →
+        n < setup.catalog.sites → (station_at d n).hosted ≡ Some hosted → TellsOutcome hosted new txn (Ok Committed) →
+        All (IsWellFormed setup.catalog) (events ++ more) → IsTrue (is_committed (world_of setup (events ++ more)) txn) }
+    ensures never { (setup : Setup) (d : Deployment) (events more : List Event) (n : ℕ) (hosted new : HostedState) (txn : TxnId) → IsMirrored setup d events →
+        n < setup.catalog.sites → (station_at d n).hosted ≡ Some hosted → TellsOutcome hosted new txn (Ok NotCommitted) →
+        All (IsWellFormed setup.catalog) (events ++ more) → IsOut txn (world_of setup (events ++ more)) }
+    ensures at_work { (setup : Setup) (d : Deployment) (events : List Event) (n : ℕ) (hosted new : HostedState) (txn : TxnId) → IsMirrored setup d events →
+        n < setup.catalog.sites → (station_at d n).hosted ≡ Some hosted → TellsOutcome hosted new txn (Ok AtWork) →
+        (entry : Entry) × (entry_of (world_of setup events) txn ≡ Some entry) × (is_committed (world_of setup events) txn ≡ false) }
+    ensures one { (setup : Setup) (d : Deployment) (events : List Event) (n m : ℕ) (envelope other : Envelope) (txn : TxnId) (commits reported : Bool) →
+        IsMirrored setup d events → n < setup.catalog.sites → m < setup.catalog.sites → Contains (station_at d n).let_out (message envelope) →
+        Contains (station_at d m).let_out (message other) → envelope.message ≡ outcome_reported txn commits → other.message ≡ outcome_reported txn reported →
+        commits ≡ reported }
+{
+    mirrored_deployments_agree();
+    hosted_sites_agree();
+    runs_are_reached();
+    epochs_are_recorded();
+    memories_are_in_order();
+    outcomes_are_decided();
+    outcomes_are_for_ever();
+    no_two_outcomes();
 }
 
 /// A deployment of one site, computed, so that the laws above don't speak of nothing. The site is opened on a new file, and its process goes before anything is written

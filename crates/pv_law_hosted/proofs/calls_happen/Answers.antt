@@ -1,4 +1,4 @@
-use Rattle.pv_law_hosted.proofs.CallLemmas.{ask-happens, going-happens, idle-happens, mirrored-has, opening-happens, receive-happens, submit-happens, take-happens, tick-happens, write-happens, writing-happens}
+use Rattle.pv_law_hosted.proofs.CallLemmas.{ask-happens, give-happens, going-happens, idle-happens, mirrored-has, opening-happens, receive-happens, submit-happens, take-happens, tell-happens, tick-happens, write-happens, writing-happens}
 use Rattle.pv_law_hosted.proofs.calls_happen.Goals as goal
 
 pub returns-clause-has : goal.returns-clause-has
@@ -25,6 +25,12 @@ returns-clause-idled c config catalog d n site next has stands is by = idle-happ
 
 pub returns-clause-took : goal.returns-clause-took
 returns-clause-took c config catalog d n site next result has stands by = take-happens config catalog d n site has next result stands by
+
+pub returns-clause-gave : goal.returns-clause-gave
+returns-clause-gave c config catalog d n site next first later has stands held within is = give-happens config catalog d n site has next first later stands held within is
+
+pub returns-clause-told : goal.returns-clause-told
+returns-clause-told c config catalog d n site next txn result has stands told = tell-happens config catalog d n site has next txn result stands told
 
 pub returns-clause-is_writing : goal.returns-clause-is_writing
 returns-clause-is_writing c config catalog d n site left has stands may = writing-happens config catalog d n site has left stands may

@@ -20,6 +20,5 @@ returns-clause-event c =
       asked = c.files_hold_what_was_let_out.ensures.asked;
       written = c.files_hold_what_was_let_out.ensures.written;
       idle = c.files_hold_what_was_let_out.ensures.idle;
-      taken = c.files_hold_what_was_let_out.ensures.taken;
       crashed = c.files_hold_what_was_let_out.ensures.crashed;
     }
