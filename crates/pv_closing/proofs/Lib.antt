@@ -1,0 +1,4 @@
+pub mod AskedLemmas
+pub mod ClosingLemmas
+pub mod LineLemmas
+pub mod StandLemmas
