@@ -4,7 +4,7 @@ use Rattle.std.specs.Prelude.{◌==◌, ◌||◌, not, cond, map, filter, codes}
 use Rattle.std.specs.List.{list_all, Contains}
 use Rattle.std.specs.Cmp.Derive.{both_true}
 use Rattle.std.specs.Str.{bytes_eq}
-use Rattle.std.proofs.lemmas.Bool.{false≢true, eqb-true}
+use Rattle.std.proofs.lemmas.Bool.{and_parts, false≢true, eqb-true, or_cases}
 use Rattle.std.proofs.lemmas.Slice.Eq.{bytes_eq-Decides}
 use Rattle.pv_base.specs.declared.limits.TheConstants.{MAX_ITEMS, MAX_LINE, MAX_PROGRAM_ITEMS}
 use Rattle.pv_base.specs.Catalog.{place_of}
@@ -89,80 +89,30 @@ forms-pass q word (entry ∷ entries) each = go (forms-pass q word entries each.
 abbrev programless : List Field → Bool
 programless form = list_all (λ field. not (is_program field)) form
 
-either-first : (a b : Bool) → (a || b) ≡ false → a ≡ true → ⊥
-either-first true b e h = false≢true (sym e)
-either-first false b e h = false≢true h
+-- it is a form of requests, or no program stands in it
+abbrev is_request_or_programless : List ℕ × List Field → Bool
+is_request_or_programless entry = takes_program entry.0 || programless entry.1
 
-either-second : (a b : Bool) → (a || b) ≡ false → b ≡ true → ⊥
-either-second true b e h = false≢true (sym e)
-either-second false b e h = false≢true (sym e ∙ h)
+each-request-or-programless : (script : Script) → list_all is_request_or_programless (line_forms script) ≡ true
+unfolding line_forms takes_program is_program
+each-request-or-programless scheduled = refl
+each-request-or-programless live = refl
+
+-- so no form with another word has one
+each-programless : (word : List ℕ) → takes_program word ≡ false → (entries : List (List ℕ × List Field)) → list_all is_request_or_programless entries ≡ true
+    → Each (λ entry. bytes_eq word entry.0 ≡ true → programless entry.1 ≡ true) entries
+each-programless word plain [] all = tt
+each-programless word plain (entry ∷ entries) all =
+    let parts = and_parts (is_request_or_programless entry) (list_all is_request_or_programless entries) all in (
+      (λ same. ⊎_elim
+          (λ takes. absurd (false≢true (sym plain ∙ ap takes_program ((bytes_eq-Decides word entry.0).0 same) ∙ takes)))
+          (λ none. none)
+          (or_cases (takes_program entry.0) (programless entry.1) parts.0)),
+      each-programless word plain entries parts.1,
+    )
 
 programless-forms : (script : Script) (word : List ℕ) → takes_program word ≡ false → list_all programless (forms_of script word) ≡ true
-unfolding line_forms takes_program is_program
-programless-forms live word plain =
-    forms-pass programless word (line_forms live) (
-      (λ e. refl),
-      (
-        (λ e. refl),
-        (
-          (λ e. refl),
-          (
-            (λ e. refl),
-            (
-              (λ e. refl),
-              (
-                (λ e. absurd (either-first (bytes_eq word (codes "submit")) (bytes_eq word (codes "query")) plain e)),
-                ((λ e. absurd (either-second (bytes_eq word (codes "submit")) (bytes_eq word (codes "query")) plain e)), tt),
-              ),
-            ),
-          ),
-        ),
-      ),
-    )
-programless-forms scheduled word plain =
-    forms-pass programless word (line_forms scheduled) (
-      (λ e. refl),
-      (
-        (λ e. refl),
-        (
-          (λ e. refl),
-          (
-            (λ e. absurd (either-first (bytes_eq word (codes "submit")) (bytes_eq word (codes "query")) plain e)),
-            (
-              (λ e. absurd (either-second (bytes_eq word (codes "submit")) (bytes_eq word (codes "query")) plain e)),
-              (
-                (λ e. refl),
-                (
-                  (λ e. refl),
-                  (
-                    (λ e. refl),
-                    (
-                      (λ e. refl),
-                      (
-                        (λ e. refl),
-                        (
-                          (λ e. refl),
-                          (
-                            (λ e. refl),
-                            (
-                              (λ e. refl),
-                              (
-                                (λ e. refl),
-                                ((λ e. refl), ((λ e. refl), ((λ e. refl), ((λ e. refl), ((λ e. refl), ((λ e. refl), tt)))))),
-                              ),
-                            ),
-                          ),
-                        ),
-                      ),
-                    ),
-                  ),
-                ),
-              ),
-            ),
-          ),
-        ),
-      ),
-    )
+programless-forms script word plain = forms-pass programless word (line_forms script) (each-programless word plain (line_forms script) (each-request-or-programless script))
 
 -- a line whose first word takes no program has none
 no-program : (form : Option (List Field)) (given : List (List ℕ)) (text : List ℕ) → ((fields : List Field) → form ≡ Some fields → programless fields ≡ true)
