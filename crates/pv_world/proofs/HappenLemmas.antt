@@ -4,7 +4,7 @@ use Rattle.std.specs.Prelude.{Result, Ok, Err, IsErrAnd, get_or, slice_get}
 use Rattle.std.specs.Global.{Vec}
 use Rattle.std.proofs.lemmas.List.{append-nil}
 use Rattle.pv_base.specs.declared.mode.Mode.{Mode}
-use Rattle.pv_model.specs.Events.{Event, pump}
+use Rattle.pv_model.specs.Events.{Event}
 use Rattle.pv_model.specs.Syntax.{Program}
 use Rattle.pv_protocol.specs.Attempt.{at_once, begun, delivered, given, halted, lost, opened, packed, with_arm, without_site}
 use Rattle.pv_protocol.specs.Lines as protocol
@@ -99,11 +99,10 @@ module _ {X : Type 0} (old : World) (lines : List Line) (is : model.World) (stan
       at-once old new lines lines is event x [] (record is { fresh = without_site n is.sent is.fresh }) (ap (begun (setup_of old.catalog) is) same)
       (stands-dropped old is stands new catalog cells order n mail) (record { catalog = catalog; limit = ap (λ m. m.limit) mail }) (sym (append-nil (lines_of lines)))
 
-  pub comes-pumped : (most : Option ℕ) → event ≡ pump most → Comes {X = X} old old lines lines (begun (setup_of old.catalog) is event) (Ok x)
-  unfolding begun
-  comes-pumped most same =
-      at-once old old lines lines is event x [] is (ap (begun (setup_of old.catalog) is) same) stands (record { catalog = refl; limit = refl })
-      (sym (append-nil (lines_of lines)))
+  -- The event does nothing.
+  pub comes-to-nothing : begun (setup_of old.catalog) is event ≡ at_once [] is → Comes {X = X} old old lines lines (begun (setup_of old.catalog) is event) (Ok x)
+  comes-to-nothing begins =
+      at-once old old lines lines is event x [] is begins stands (record { catalog = refl; limit = refl }) (sym (append-nil (lines_of lines)))
 
   -- Another fault is armed at a site's disk, or none.
   pub comes-rearmed : (n : ℕ) → n < old.catalog.sites → (cell : Cell) → cell ≡ get_or old.cells.items n cell → (new : Cell) (armed : Option Arm)

@@ -1,10 +1,11 @@
 use Rattle.std.proofs.Common.{arith, refl, ap, subst}
+use Rattle.pv_protocol.specs.Attempt.{begun}
 use Rattle.pv_protocol.specs.WellFormed.{IsWellFormed}
 use Rattle.pv_script.specs.ScheduleView.{event_of}
 use Rattle.pv_site.specs.SiteState.{setup_of}
 use Rattle.pv_world.proofs.DeliverLemmas.{orderly}
 use Rattle.pv_world.proofs.EventLemmas.{reached-ticked}
-use Rattle.pv_world.proofs.HappenLemmas.{begun-armed, begun-mended, comes-delivered, comes-dropped, comes-lost, comes-packed, comes-pumped, comes-rearmed, comes-reported, comes-sent, comes-started, comes-stopped, comes-submitted, comes-ticked, comes-totalled}
+use Rattle.pv_world.proofs.HappenLemmas.{begun-armed, begun-mended, comes-delivered, comes-dropped, comes-lost, comes-packed, comes-rearmed, comes-reported, comes-sent, comes-started, comes-stopped, comes-submitted, comes-ticked, comes-to-nothing, comes-totalled}
 use Rattle.pv_world.proofs.StandLemmas.{cells-count}
 use Rattle.pv_world.proofs.world.World.happen_once.Goals as goal
 
@@ -121,5 +122,8 @@ returns-in-Mend c is stands =
     (begun-mended (setup_of world.catalog) is (event_of c.args.event.now) c.in-Mend.site.0 (ap event_of c.in-Mend.is))
 
 pub returns-in-Pump : goal.returns-in-Pump
+unfolding begun
 returns-in-Pump c is stands =
-    comes-pumped c.args.self.now c.args.lines.now.items is stands.stands (event_of c.args.event.now) (tt {0}) _ (ap event_of c.in-Pump.is)
+    let world = c.args.self.now in
+    comes-to-nothing world c.args.lines.now.items is stands.stands (event_of c.args.event.now) (tt {0})
+    (ap (λ event. begun (setup_of world.catalog) is (event_of event)) c.in-Pump.is)
