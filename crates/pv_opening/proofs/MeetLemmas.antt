@@ -119,70 +119,83 @@ met-first met asked told none quiet silent = record {
 }
 
 module _ {A : Type 0} (P : A → Type 0) (client : script.Client) (clients : List script.Client) (one : A) (old new : List (Vec A Global))
-    (adds : AddsTo client.site.0 one old new) (fresh : P one)
+    (adds : AddsTo client.site.0 one old new)
     (are : (n : ℕ) (row : Vec A Global) → slice_get old n ≡ Some row → (length row.items ≡ count_at n clients) × All P row.items) where
-  -- Each site has one end for each of its clients.
-  rows-more : (n : ℕ) (row : Vec A Global) → slice_get new n ≡ Some row → (length row.items ≡ count_at n (clients ++ client ∷ [])) × All P row.items
-  rows-more n row there =
-      let was = row-now client.site.0 one old new adds n row there in
-      let before = was.0 in
-      let had = are n before was.1 in
-      dite (ℕ_discrete n client.site.0)
-      (λ is. let items = was.2 is in (
-        ap (λ l. length l) items ∙ length_push before.items one ∙ ap (λ (m : ℕ). m + 1) had.0 ∙ sym (count-here n clients client (sym is)),
-        subst (λ l. All P l) (sym items) (All-push P before.items one had.1 fresh),
-      ))
-      (λ isnt. let items = was.3 isnt in (
-        ap (λ l. length l) items ∙ had.0 ∙ sym (count-elsewhere n clients client isnt),
-        subst (λ l. All P l) (sym items) had.1,
-      ))
+  -- The new one stands behind those of its site that came before.
+  stands-behind : client.site.0 < length old → StandsAt new client.site.0 (count_at client.site.0 clients) one
+  stands-behind within = ⊎_elim
+      (λ found.
+      subst (λ n. StandsAt new client.site.0 n one) (are client.site.0 found.0 found.2).0 (stands-last client.site.0 one old new adds found.0 found.2))
+      (λ past. let over = past.0 in absurd (omega (arith, within)))
+      ((slice_get_cases old client.site.0).1)
+
+  module _ (fresh : P one) where
+    -- Each site has one end for each of its clients.
+    rows-more : (n : ℕ) (row : Vec A Global) → slice_get new n ≡ Some row → (length row.items ≡ count_at n (clients ++ client ∷ [])) × All P row.items
+    rows-more n row there =
+        let was = row-now client.site.0 one old new adds n row there in
+        let before = was.0 in
+        let had = are n before was.1 in
+        dite (ℕ_discrete n client.site.0)
+        (λ is. let items = was.2 is in (
+          ap (λ l. length l) items ∙ length_push before.items one ∙ ap (λ (m : ℕ). m + 1) had.0 ∙ sym (count-here n clients client (sym is)),
+          subst (λ l. All P l) (sym items) (All-push P before.items one had.1 fresh),
+        ))
+        (λ isnt. let items = was.3 isnt in (
+          ap (λ l. length l) items ∙ had.0 ∙ sym (count-elsewhere n clients client isnt),
+          subst (λ l. All P l) (sym items) had.1,
+        ))
 
 module _ (clients : List script.Client) (client : script.Client) (met : List (Client Request Answer)) (one : Client Request Answer)
     (asked asked' : List (Vec (In Request) Global)) (told told' : List (Vec (Out Answer) Global)) (are : AreMet clients met asked told)
-    (asking : IsAsking client one asked asked') (telling : IsTelling client told told') (within : client.site.0 < length asked) where
-  -- The client itself stands behind those of its site that came before.
-  met-here : IsMet (count_at client.site.0 clients) client one asked'
-  met-here = ⊎_elim
-      (λ found.
-      let row = found.0 in (
-        asking.0,
-        (
-          asking.1.0,
-          subst (λ n. StandsAt asked' client.site.0 n asking.1.0) (are.asked_are client.site.0 row found.2).0
-              (stands-last client.site.0 asking.1.0 asked asked' asking.1.1 row found.2),
-          asking.1.2,
-        ),
-      ))
-      (λ past. let over = past.0 in absurd (omega (arith, within)))
-      ((slice_get_cases asked client.site.0).1)
+    (asking : IsAsking client one asked asked') (telling : IsTelling client one told told') (within : client.site.0 < length asked) (same : length told ≡ length asked)
+  where
+    -- The client itself stands behind those of its site that came before.
+    met-here : IsMet (count_at client.site.0 clients) client one asked' told'
+    met-here = (
+      asking.0,
+      (
+        asking.1.0,
+        stands-behind IsUnusedIn client clients asking.1.0 asked asked' asking.1.1 are.asked_are within,
+        asking.1.2,
+      ),
+      (
+        telling.0,
+        stands-behind (IsUnusedOut no_faults) client clients telling.0 told told' telling.1 are.told_are (subst (λ n. client.site.0 < n) (sym same) within),
+        telling.2,
+      ),
+    )
 
-  met-still : (place : ℕ) (other : script.Client) (its : Client Request Answer) → IsMet place other its asked → IsMet place other its asked'
-  met-still place other its is =
-      (is.0, (is.1.0, still-stands client.site.0 asking.1.0 asked asked' asking.1.1 other.site.0 place is.1.0 is.1.1, is.1.2))
+    met-still : (place : ℕ) (other : script.Client) (its : Client Request Answer) → IsMet place other its asked told → IsMet place other its asked' told'
+    met-still place other its is = (
+      is.0,
+      (is.1.0, still-stands client.site.0 asking.1.0 asked asked' asking.1.1 other.site.0 place is.1.0 is.1.1, is.1.2),
+      (is.2.0, still-stands client.site.0 telling.0 told told' telling.1 other.site.0 place is.2.0 is.2.1, is.2.2),
+    )
 
-  pub met-more : AreMet (clients ++ client ∷ []) (met ++ one ∷ []) asked' told'
-  met-more = record {
-    each = (
-      length_push clients client ∙ ap (λ (n : ℕ). n + 1) are.each.0 ∙ sym (length_push met one),
-      λ k d e less. dite (ℕ_discrete k (length clients))
-          (λ is.
-          let front : take k (clients ++ client ∷ []) ≡ clients = ap (λ n. take n (clients ++ client ∷ [])) is ∙ take-append_seam clients (client ∷ []) in
-          subst (λ (c : script.Client). IsMet (count_at c.site.0 (take k (clients ++ client ∷ []))) c (get_or (met ++ one ∷ []) k e) asked')
-          (sym (get_or_push clients client d k (sym is)))
-          (subst (λ (m : Client Request Answer). IsMet (count_at client.site.0 (take k (clients ++ client ∷ []))) client m asked')
-          (sym (get_or_push met one e k (sym (is ∙ are.each.0))))
-          (subst (λ l. IsMet (count_at client.site.0 l) client one asked') (sym front) met-here)))
-          (λ isnt.
-          let long = length_push clients client in
-          let before : k < length clients = omega (arith, less, long, isnt) in
-          let front : take k (clients ++ client ∷ []) ≡ take k clients = take-append-le k clients (client ∷ []) (omega (arith, before)) in
-          subst (λ (c : script.Client). IsMet (count_at c.site.0 (take k (clients ++ client ∷ []))) c (get_or (met ++ one ∷ []) k e) asked')
-          (sym (get_or_append_left clients (client ∷ []) d k before))
-          (subst (λ (m : Client Request Answer). IsMet (count_at (get_or clients k d).site.0 (take k (clients ++ client ∷ []))) (get_or clients k d) m asked')
-          (sym (get_or_append_left met (one ∷ []) e k (subst (λ n. k < n) are.each.0 before)))
-          (subst (λ l. IsMet (count_at (get_or clients k d).site.0 l) (get_or clients k d) (get_or met k e) asked') (sym front)
-          (met-still (count_at (get_or clients k d).site.0 (take k clients)) (get_or clients k d) (get_or met k e) (are.each.1 k d e before))))),
-    );
-    asked_are = rows-more IsUnusedIn client clients asking.1.0 asked asked' asking.1.1 asking.1.3 are.asked_are;
-    told_are = rows-more (IsUnusedOut no_faults) client clients telling.0 told told' telling.1 telling.2 are.told_are;
-  }
+    pub met-more : AreMet (clients ++ client ∷ []) (met ++ one ∷ []) asked' told'
+    met-more = record {
+      each = (
+        length_push clients client ∙ ap (λ (n : ℕ). n + 1) are.each.0 ∙ sym (length_push met one),
+        λ k d e less. dite (ℕ_discrete k (length clients))
+            (λ is.
+            let front : take k (clients ++ client ∷ []) ≡ clients = ap (λ n. take n (clients ++ client ∷ [])) is ∙ take-append_seam clients (client ∷ []) in
+            subst (λ (c : script.Client). IsMet (count_at c.site.0 (take k (clients ++ client ∷ []))) c (get_or (met ++ one ∷ []) k e) asked' told')
+            (sym (get_or_push clients client d k (sym is)))
+            (subst (λ (m : Client Request Answer). IsMet (count_at client.site.0 (take k (clients ++ client ∷ []))) client m asked' told')
+            (sym (get_or_push met one e k (sym (is ∙ are.each.0))))
+            (subst (λ l. IsMet (count_at client.site.0 l) client one asked' told') (sym front) met-here)))
+            (λ isnt.
+            let long = length_push clients client in
+            let before : k < length clients = omega (arith, less, long, isnt) in
+            let front : take k (clients ++ client ∷ []) ≡ take k clients = take-append-le k clients (client ∷ []) (omega (arith, before)) in
+            subst (λ (c : script.Client). IsMet (count_at c.site.0 (take k (clients ++ client ∷ []))) c (get_or (met ++ one ∷ []) k e) asked' told')
+            (sym (get_or_append_left clients (client ∷ []) d k before))
+            (subst (λ (m : Client Request Answer). IsMet (count_at (get_or clients k d).site.0 (take k (clients ++ client ∷ []))) (get_or clients k d) m asked' told')
+            (sym (get_or_append_left met (one ∷ []) e k (subst (λ n. k < n) are.each.0 before)))
+            (subst (λ l. IsMet (count_at (get_or clients k d).site.0 l) (get_or clients k d) (get_or met k e) asked' told') (sym front)
+            (met-still (count_at (get_or clients k d).site.0 (take k clients)) (get_or clients k d) (get_or met k e) (are.each.1 k d e before))))),
+      );
+      asked_are = rows-more IsUnusedIn client clients asking.1.0 asked asked' asking.1.1 are.asked_are asking.1.3;
+      told_are = rows-more (IsUnusedOut no_faults) client clients telling.0 told told' telling.1 are.told_are telling.3;
+    }

@@ -24,16 +24,18 @@ abbrev pub IsAsking : script.Client → Client Request Answer → List (Vec (In 
 IsAsking client met old new =
     IsToAsk client met × ((inlet : In Request) × AddsTo client.site.0 inlet old new × IsPair met.asks inlet × IsUnusedIn inlet)
 
--- Its site has one more new end by which it tells it something.
-abbrev pub IsTelling : script.Client → List (Vec (Out Answer) Global) → List (Vec (Out Answer) Global) → Type 0
-IsTelling client old new = (out : Out Answer) × AddsTo client.site.0 out old new × IsUnusedOut no_faults out
+-- It hears by a new ring, whose other end is one more in the row of its site.
+abbrev pub IsTelling : script.Client → Client Request Answer → List (Vec (Out Answer) Global) → List (Vec (Out Answer) Global) → Type 0
+IsTelling client met old new = (out : Out Answer) × AddsTo client.site.0 out old new × IsPair out met.hears × IsUnusedOut no_faults out
 
--- It is to ask by the ring whose other end stands at this place in the row of its site.
-abbrev pub IsMet : ℕ → script.Client → Client Request Answer → List (Vec (In Request) Global) → Type 0
-IsMet place client met asked = IsToAsk client met × ((inlet : In Request) × StandsAt asked client.site.0 place inlet × IsPair met.asks inlet)
+-- It is to ask, and to hear, by the rings whose other ends stand at this place in the rows of its site.
+abbrev pub IsMet : ℕ → script.Client → Client Request Answer → List (Vec (In Request) Global) → List (Vec (Out Answer) Global) → Type 0
+IsMet place client met asked told =
+    IsToAsk client met × ((inlet : In Request) × StandsAt asked client.site.0 place inlet × IsPair met.asks inlet)
+    × ((out : Out Answer) × StandsAt told client.site.0 place out × IsPair out met.hears)
 
 -- Each client has its rings, and each site has in its rows one new end of each kind for each of its clients, in order.
 pub record AreMet (clients : List script.Client) (met : List (Client Request Answer)) (asked : List (Vec (In Request) Global)) (told : List (Vec (Out Answer) Global)) : Type 0 where
-  pub each : Each (λ k client one. IsMet (count_at client.site.0 (take k clients)) client one asked) clients met
+  pub each : Each (λ k client one. IsMet (count_at client.site.0 (take k clients)) client one asked told) clients met
   pub asked_are : (n : ℕ) (row : Vec (In Request) Global) → slice_get asked n ≡ Some row → (length row.items ≡ count_at n clients) × All IsUnusedIn row.items
   pub told_are : (n : ℕ) (row : Vec (Out Answer) Global) → slice_get told n ≡ Some row → (length row.items ≡ count_at n clients) × All (IsUnusedOut no_faults) row.items

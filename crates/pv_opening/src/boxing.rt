@@ -13,7 +13,8 @@ use pv_script::Request;
 use pv_site::{Site, setup_is_in_range};
 use std::alloc::Global;
 
-/// The ends of the rings of several boxes: of each kind a row for each box, in order.
+/// The ends of the rings of several boxes: of each kind a row for each box, in order. What stands at a place of a row is of the site of that number, or, in the rows of
+/// clients, of the client at that place among the box's own.
 #[derive(Drop)]
 pub(crate) struct EndRows {
     /// What each box takes from the sites.
@@ -53,6 +54,7 @@ pub(crate) fn box_all<L: Log>(
     ensures { IfOk result (λ boxes. AreBoxed L.model catalog.now sites.items rows boxes.items) }
 {
     setup_is_in_range(catalog);
+    // Sites and rows are taken from the end, where nothing has to move; so the last box is made first.
     let mut sites = sites;
     let mut rows = rows;
     let mut boxes = Vec::new(alloc);

@@ -49,7 +49,7 @@ fn meet(
 ) -> Result<Client<Request, Answer>, NoMemory>
     requires { (client.now.site.0 < length asked.old.items) × (client.now.site.0 < length told.old.items) }
     ensures asking { IfOk result (λ met. IsAsking client.now met asked.old.items asked.new.items) }
-    ensures telling { OnOk result (IsTelling client.now told.old.items told.new.items) }
+    ensures telling { IfOk result (λ met. IsTelling client.now met told.old.items told.new.items) }
 {
     let site = client.site.0 as usize;
     let (asks, inlet) = pair(alloc, NO_FAULTS)?;

@@ -27,7 +27,7 @@ pub struct Opened<L: Log> {
 
 /// The boxes and the clients of a live script, which was read from a text, over these sites: the sites of its catalog, in order, each opened on a log in which nothing
 /// was found. A ring goes from each site to each, one's own among them, on which messages fail as the script says, and from each client to its site and back, on which
-/// none fails.
+/// none fails. Without memory the sites are gone, with their logs.
 pub fn open_all<L: Log>(
     alloc: Global,
     script: &LiveScript,

@@ -17,5 +17,6 @@ returns-clause-asking c =
 
 pub returns-clause-telling : goal.returns-clause-telling
 returns-clause-telling c =
-    let ends = c.in_ok-out.ensures.out in
-    (c.in_ok-out.out, c.in_ok-push_to-2.ensures, (ends.0, ends.1, ends.2, ends.3))
+    let ends = c.in_ok-out.ensures in
+    let rings = c.in_ok-met.ensures.rings in
+    (c.in_ok-out.out, c.in_ok-push_to-2.ensures, subst (λ inlet. IsPair c.in_ok-out.out inlet) (sym rings.1) ends.pair, (ends.out.0, ends.out.1, ends.out.2, ends.out.3))

@@ -52,7 +52,7 @@ loop-k-preserved c =
       sym telling.1.0 ∙ kept.2,
       subst (λ l. AreMet l c.push.new.self.items asked' told') (sym whole)
           (subst (λ l. AreMet (take k clients ++ client ∷ []) l asked' told') (sym c.in_ok-push.ensures.items)
-          (met-more (take k clients) client c.loop-k.met.items one asked asked' told told' kept.3 asking telling within)),
+          (met-more (take k clients) client c.loop-k.met.items one asked asked' told told' kept.3 asking telling within (kept.2 ∙ (c.requires.rows ∙ sym kept.1)))),
     )
 
 pub returns-clause-rows : goal.returns-clause-rows

@@ -58,4 +58,4 @@ returns g c =
     (linked.ends.count, linked.count, lengths.0 ∙ c.in_ok-clients_in.ensures.count, lengths.1 ∙ c.in_ok-clients_out.ensures.count) in
     all-opened plan c.len-count.result script.clients.items c.in_ok-clients.clients.items rows have linked.ends met
     (few-clients script c.requires.script) g.L.Log.model script.catalog c.args.sites.items c.in_ok-boxes.boxes.items (sym (c.len-count.ensures ∙ c.args.sites.ok.0))
-    c.in_ok-boxes.ensures script refl refl
+    c.in_ok-boxes.ensures script refl refl refl
