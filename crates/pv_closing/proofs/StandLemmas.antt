@@ -19,7 +19,7 @@ use Rattle.pv_cell.specs.declared.site_box.SiteBox.{SiteBox}
 use Rattle.pv_closing.specs.Boxes.{IsClosedBox, history_in}
 use Rattle.pv_closing.specs.Closing.{GoOn, IsWhole}
 use Rattle.pv_closing.specs.Ended.{AsksOn}
-use Rattle.pv_opening.specs.Opened.{AsksBox}
+use Rattle.pv_opening.specs.Opened.{AnswersSurely, AsksBox, FailsBy, plan_in}
 use Rattle.pv_closing.specs.Standing.{HasAsked, IsBoxOf, StandTogether}
 use Rattle.pv_closing.specs.declared.ended.Ended.{Ended}
 
@@ -126,6 +126,19 @@ module _ {W : Type 0} (M : LogModel W) (script : LiveScript) where
               (get_or (get_or later k any).ends.clients_in.items place inlet) (is.1 inlet) ask.1 (ends.1 place inlet inlet is.0),
         )
 
+    -- The rings have the plans that they had.
+    plans-later : All (FailsBy (plan_in script)) later
+    plans-later n any less k out within =
+        let outs = (on.1 n any any (was n less)).1.ends.1 in
+        let before = subst (λ (m : ℕ). k < m) (sym outs.0) within in
+        (outs.1 k out out before).1 ∙ stand.plans n any (was n less) k out before
+
+    answers-later : All AnswersSurely later
+    answers-later n any less k out within =
+        let outs = (on.1 n any any (was n less)).1.ends.3 in
+        let before = subst (λ (m : ℕ). k < m) (sym outs.0) within in
+        (outs.1 k out out before).1 ∙ stand.answers n any (was n less) k out before
+
     pub stand-on : ((k : ℕ) (any : Client) → k < length script.clients.items → (get_or script.clients.items k any).site.0 < length boxes)
         → StandTogether M script later ended
     stand-on there = record {
@@ -141,6 +154,9 @@ module _ {W : Type 0} (M : LogModel W) (script : LiveScript) where
           (stand.rings from to any f s out inlet)
           (outs.1 to out out (subst (λ (n : ℕ). to < n) (sym (rings-out from any f)) s))
           (ins.1 from inlet inlet (subst (λ (n : ℕ). from < n) (sym (rings-in to any s)) f));
+      places = λ n any less. sym (on.1 n any any (was n less)).1.ends.2.0 ∙ stand.places n any (was n less);
+      plans = plans-later;
+      answers = answers-later;
       clients_are = (
         stand.clients_are.0 ∙ asks.0,
         λ k client one less.
