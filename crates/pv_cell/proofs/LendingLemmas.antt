@@ -20,7 +20,7 @@ use Rattle.pv_script.specs.LiveView.{request_of}
 use Rattle.pv_script.specs.declared.live.Request.{Request}
 use Rattle.pv_site.specs.SiteState.{setup_of}
 use Rattle.pv_cell.proofs.ComingLemmas.{still-plans}
-use Rattle.pv_cell.proofs.SameLemmas.{outs-equal}
+use Rattle.pv_cell.proofs.SameLemmas.{outs-equal, same-counts}
 use Rattle.pv_cell.specs.Box.{IsBox}
 use Rattle.pv_cell.specs.Course.{AreSameEnds, Became, HasCourse, WasTakenOnce, asked_again, sealed_again}
 use Rattle.pv_cell.specs.Lending.{AreStill, PostsNothing, with_ends}
@@ -111,4 +111,11 @@ module _ {W : Type 0} (box : SiteBox W) (ends : Ends) (still : AreStill box.ends
       subst (λ (outs : List (Out Answer)). IsTold box.site.me (stamps_of box.history.items) box.begun.items outs) (sym (still-clients box.ends ends still)) tells
 
   pub lent-same : (M : LogModel W) → Became M box (with_ends box ends)
-  lent-same M = record { site = (refl, refl); known = refl; ends = still-ends box.ends ends still; history = ([], append-nil box.history.items) }
+  lent-same M = record {
+    site = (refl, refl);
+    known = refl;
+    faults = (same-counts M box.site box.site refl).0;
+    down = (same-counts M box.site box.site refl).1;
+    ends = still-ends box.ends ends still;
+    history = ([], append-nil box.history.items);
+  }

@@ -1,8 +1,9 @@
 -- A box stays the box that it was.
-use Rattle.std.proofs.Common.{◌≡◌, ◌≢◌, ◌⊎◌, ℕ, ◌==◌, Bool, true, false, List, [], ◌∷◌, length, refl, sym, ap, ◌∙◌, subst, inl, inr, ⊎_elim, append-nil, eqb-true, Vec, Global}
+use Rattle.std.proofs.Common.{◌≡◌, ◌≢◌, ◌⊎◌, ℕ, ◌==◌, ◌≤◌, Bool, true, false, List, [], ◌∷◌, length, refl, sym, ap, ◌∙◌, subst, inl, inr, ⊎_elim, append-nil, eqb-true, arith, Vec, Global}
 use Rattle.std.proofs.lemmas.Bool.{eqb-false}
 use Rattle.std.specs.Prelude.{Option, Some, None, Result, Ok, Err, is_some}
 use base.Growing.{prefix_trans}
+use Rattle.pv_base.specs.Fault.{Rose}
 use Rattle.pv_disk_model.specs.LogModel.{LogModel}
 use Rattle.pv_format.specs.Record.{Record}
 use Rattle.pv_history.specs.Entries.{stamped_of}
@@ -28,7 +29,7 @@ use Rattle.pv_rings.specs.Rings.{Each, Gives, GivesOne, Hands, HandsEach, IsFoun
 use Rattle.pv_script.specs.declared.live.Request.{Request}
 use Rattle.pv_site.specs.OnLog.{Logs}
 use Rattle.pv_site.specs.SiteState.{SiteState}
-use Rattle.pv_site.specs.Steps.{Steps}
+use Rattle.pv_site.specs.Steps.{Stays, Steps}
 use Rattle.pv_site.specs.declared.error.StepError.{StepError}
 use Rattle.pv_site.specs.declared.error.StepError.TheVariants.{Fault, Down, NoMemory}
 use Rattle.pv_site.specs.declared.input.Step.{Step}
@@ -155,12 +156,59 @@ step-known {W} M old new (Some running) input (Err Fault) breaks = breaks.log.lo
 step-known {W} M old new (Some running) input (Err Down) steps = absurd steps
 step-known {W} M old new (Some running) input (Err NoMemory) stays = ap is_some stays.log.contents
 
+-- ## Faults
+-- The log's count of faults didn't fall, and it rose where the site was up and is down.
+abbrev CountsFaults : {W : Type 0} → LogModel W → SiteState W → SiteState W → Type 0
+CountsFaults M old new =
+    (M.faults old.log ≤ M.faults new.log) × (is_some old.running ≡ true → is_some new.running ≡ false → Rose (M.faults old.log) (M.faults new.log))
+
+-- The site stays up, and nothing was counted.
+counts-none : {W : Type 0} (M : LogModel W) (old new : SiteState W) → M.faults new.log ≡ M.faults old.log → (is_some old.running ≡ true → is_some new.running ≡ true)
+    → CountsFaults M old new
+counts-none M old new same up = (omega (arith, same), λ was isnt. absurd (both-ways (is_some new.running) (up was) isnt))
+  where
+    both-ways : (test : Bool) → test ≡ true → test ≡ false → ⊥
+    both-ways true is isnt = cc
+    both-ways false is isnt = cc
+
+pub same-counts : {W : Type 0} (M : LogModel W) (old new : SiteState W) → new ≡ old → CountsFaults M old new
+same-counts {W} M old new same =
+    counts-none M old new (ap (λ (s : SiteState W). M.faults s.log) same) (λ was. ap (λ (s : SiteState W). is_some s.running) same ∙ was)
+
+stays-counts : {W : Type 0} (M : LogModel W) (old new : SiteState W) → Stays M old new → CountsFaults M old new
+stays-counts {W} M old new stays = counts-none M old new stays.up.faults (λ was. ap (λ (s : SiteState W). is_some s.running) stays.site ∙ was)
+
+logs-counts : {W : Type 0} (M : LogModel W) (old new : W) (appended : Option Record) → Logs M old new appended → M.faults new ≡ M.faults old
+logs-counts M old new None same = ap M.faults same
+logs-counts M old new (Some record_appended) logs = logs.0.faults
+
+step-counts : {W : Type 0} (M : LogModel W) (old new : SiteState W) (running : Option Running) (input : Input) (answer : Result Step StepError)
+    → Steps M old new running input answer → CountsFaults M old new
+step-counts {W} M old new None input answer is = same-counts M old new is.1
+step-counts {W} M old new (Some running) input (Ok step) made =
+    counts-none M old new (logs-counts M old.log new.log _ made.log) (λ was. ap (λ (s : SiteState W). is_some s.running) made.site)
+step-counts {W} M old new (Some running) input (Err Fault) breaks = (breaks.log.down.faults, λ was isnt. breaks.log.down.fault)
+step-counts {W} M old new (Some running) input (Err Down) steps = absurd steps
+step-counts {W} M old new (Some running) input (Err NoMemory) stays = stays-counts M old new stays
+
+-- A count that rose from a later one on rose from the earlier one on.
+rose-later : (old mid new : ℕ) → old ≤ mid → Rose mid new → Rose old new
+rose-later old mid new later rose = omega (arith, later, rose)
+
 -- ## Boxes
 module _ {W : Type 0} where
+  down-both : (M : LogModel W) (old mid new : SiteBox W) → Became M old mid → Became M mid new → (up : Bool) → is_some mid.site.running ≡ up
+      → is_some old.site.running ≡ true → is_some new.site.running ≡ false → Rose (M.faults old.site.log) (M.faults new.site.log)
+  down-both M old mid new one other true up was isnt =
+      rose-later (M.faults old.site.log) (M.faults mid.site.log) (M.faults new.site.log) one.faults (other.down up isnt)
+  down-both M old mid new one other false fell was isnt = omega (arith, one.down was fell, other.faults)
+
   pub became-trans : (M : LogModel W) (old mid new : SiteBox W) → Became M old mid → Became M mid new → Became M old new
   became-trans M old mid new one other = record {
     site = (other.site.0 ∙ one.site.0, other.site.1 ∙ one.site.1);
     known = other.known ∙ one.known;
+    faults = omega (arith, one.faults, other.faults);
+    down = down-both M old mid new one other (is_some mid.site.running) refl;
     ends = (
       ins-trans old.ends.sites_in.items mid.ends.sites_in.items new.ends.sites_in.items one.ends.0 other.ends.0,
       outs-trans old.ends.sites_out.items mid.ends.sites_out.items new.ends.sites_out.items one.ends.1 other.ends.1,
@@ -174,6 +222,8 @@ module _ {W : Type 0} where
   became-self M box = record {
     site = (refl, refl);
     known = refl;
+    faults = (same-counts M box.site box.site refl).0;
+    down = (same-counts M box.site box.site refl).1;
     ends = (
       ins-equal box.ends.sites_in.items box.ends.sites_in.items refl,
       outs-equal box.ends.sites_out.items box.ends.sites_out.items refl,
@@ -192,6 +242,8 @@ module _ {W : Type 0} where
     enters-became intake e = record {
       site = one-site M old.site new.site old.site.running _ e.answer e.made;
       known = step-known M old.site new.site old.site.running _ e.answer e.made;
+      faults = (step-counts M old.site new.site old.site.running _ e.answer e.made).0;
+      down = (step-counts M old.site new.site old.site.running _ e.answer e.made).1;
       ends = (
         ways.0,
         posts-same old.site.me e.entry.stamp (stamped_of e.entry).came _ old.ends.sites_out.items new.ends.sites_out.items e.posts,
@@ -206,6 +258,8 @@ module _ {W : Type 0} where
       site = ⊎_elim (λ same. (ap (λ (s : SiteState W). s.me) same, ap (λ (s : SiteState W). s.catalog) same))
           (λ stays. (ap (λ (s : SiteState W). s.me) stays.site, ap (λ (s : SiteState W). s.catalog) stays.site)) loses.site;
       known = ⊎_elim (λ same. ap (λ (s : SiteState W). is_some (M.contents s.log)) same) (λ stays. ap is_some stays.log.contents) loses.site;
+      faults = (⊎_elim (same-counts M old.site new.site) (stays-counts M old.site new.site) loses.site).0;
+      down = (⊎_elim (same-counts M old.site new.site) (stays-counts M old.site new.site) loses.site).1;
       ends = (
         ways.0,
         outs-equal old.ends.sites_out.items new.ends.sites_out.items (ap (λ (k : Kept W). k.sites_out) loses.changed),
@@ -219,6 +273,8 @@ module _ {W : Type 0} where
     same-became same = record {
       site = (ap (λ (k : Kept W). k.site.me) same, ap (λ (k : Kept W). k.site.catalog) same);
       known = ap (λ (k : Kept W). is_some (M.contents k.site.log)) same;
+      faults = (same-counts M old.site new.site (ap (λ (k : Kept W). k.site) same)).0;
+      down = (same-counts M old.site new.site (ap (λ (k : Kept W). k.site) same)).1;
       ends = (
         ways.0,
         outs-equal old.ends.sites_out.items new.ends.sites_out.items (ap (λ (k : Kept W). k.sites_out) same),

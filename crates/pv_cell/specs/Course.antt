@@ -1,6 +1,7 @@
 -- The whole course of a box: how its history, its site and its rings stand to each other at any time.
-use Rattle.std.specs.Prelude.{◌≡◌, ℕ, ◌==◌, ◌<◌, Option, Some, None, List, [], ◌∷◌, ◌++◌, Contains, All, get_or, is_some, if◌then◌else◌, ⊤}
+use Rattle.std.specs.Prelude.{◌≡◌, ℕ, ◌==◌, ◌<◌, ◌≤◌, true, false, Option, Some, None, List, [], ◌∷◌, ◌++◌, Contains, All, get_or, is_some, if◌then◌else◌, ⊤}
 use mathlib.Core.List.{IsPrefix, Sublist}
+use Rattle.pv_base.specs.Fault.{Rose}
 use Rattle.pv_disk_model.specs.LogModel.{LogModel}
 use Rattle.pv_history.specs.Entries.{stamps_of}
 use Rattle.pv_law_histories.specs.Course.{course}
@@ -26,7 +27,7 @@ use Rattle.pv_cell.specs.Opens.{AreFresh}
 use Rattle.pv_cell.specs.Traffic.{KeepsItsPlan, requests_of, sealed_of, traffic_of}
 use Rattle.pv_cell.specs.declared.site_box.SiteBox.{SiteBox}
 
--- A message that was taken and counts once more was taken from the ring of a site, where it counts twice.
+-- What is left to count again is a message that was taken from a site's ring, where it counts twice, or a client's request, or nothing.
 abbrev pub WasTakenOnce : (sites : ℕ) → Traffic → Option Arrival → Type 0
 WasTakenOnce sites traffic (Some (arrival.Parcel from parcel)) = (from.0 < sites) × Contains (taken_at traffic from.0) (sealed_of parcel, 2)
 WasTakenOnce sites traffic other = ⊤
@@ -77,9 +78,11 @@ module _ {W : Type 0} where
     pub fresh : AreFresh box.ends
 
   -- The one box became the other: the same site, with the same rings, whose history only grew. A log that told what it holds still does, and one that didn't
-  -- still doesn't.
+  -- still doesn't. Its count of faults didn't fall, and it rose where the site was up and is down.
   pub record Became (M : LogModel W) (old new : SiteBox W) : Type 0 where
     pub site : (new.site.me ≡ old.site.me) × (new.site.catalog ≡ old.site.catalog)
     pub known : is_some (M.contents new.site.log) ≡ is_some (M.contents old.site.log)
+    pub faults : M.faults old.site.log ≤ M.faults new.site.log
+    pub down : is_some old.site.running ≡ true → is_some new.site.running ≡ false → Rose (M.faults old.site.log) (M.faults new.site.log)
     pub ends : AreSameEnds old.ends new.ends
     pub history : IsPrefix old.history.items new.history.items

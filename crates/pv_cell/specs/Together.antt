@@ -30,7 +30,7 @@ module _ {W : Type 0} where
   abbrev pub traffics_of : List (SiteBox W) → List Traffic
   traffics_of boxes = map (λ box. traffic_of box.ends) boxes
 
-  -- It is the box of the site of this number, with its whole course.
+  -- It is the box of the site of this number, with its whole course. Of a box that can be called (`IsBox`) too, the records of the crates above say it.
   pub record IsSitesBox (catalog : Declared) (n : ℕ) (box : SiteBox W) : Type 0 where
     pub number : box.site.me ≡ n
     pub catalog_is : box.site.catalog ≡ catalog

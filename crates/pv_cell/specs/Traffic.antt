@@ -31,7 +31,8 @@ sealed_posted out = map sealed_count (posted out)
 abbrev pub sealed_taken : In Parcel → List (Sealed × ℕ)
 sealed_taken inlet = map sealed_count (taken inlet)
 
--- Of all that was offered to the ring it took in what its plan lets through and it had a place for, in order, each as often as the plan says.
+-- Of all that was offered to the ring it took in, in order and each as often as the plan says, nothing that the plan loses, and of the rest what it had a place for; which
+-- that is isn't said.
 abbrev pub KeepsItsPlan : {M : Type 0} → Out M → Type 0
 KeepsItsPlan out = Keeps (plan_of out) 1 (offered out) (posted out)
 

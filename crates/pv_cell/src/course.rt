@@ -54,7 +54,8 @@ pub fn boxes_pass_messages_in_order<L: Log>()
 {}
 
 /// A box stays the box that it was: the same site with the same rings, whose history only grows, through any visits and ticks; and whether its log tells what it
-/// holds stays as it was. The function does nothing: it states a law, of each call and of several in a row.
+/// holds stays as it was. Where the site was up and is down its log's count of faults rose, which never falls. The function does nothing: it states a law, of each call
+/// and of several in a row.
 pub fn boxes_stay_the_same<L: Log>()
     ensures none { (box : SiteBox L) → Became L.model box box }
     ensures visit { (old new : SiteBox L) (visit : Visit) → Visits L.model old new visit → Became L.model old new }

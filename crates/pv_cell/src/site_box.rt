@@ -155,8 +155,8 @@ impl<L: Log> SiteBox<L> {
         &self.site
     }
 
-    /// The ring ends, lent, so that a thread that has the other ends too can see what the rings hold. The other calls then need the same ends, with nothing
-    /// posted on them and nothing taken from them.
+    /// The ring ends, lent, so that a thread that has the other ends too can see what the rings hold. Where they come back with nothing posted on them and nothing
+    /// taken from them (`AreStill`), all laws on boxes hold on (`boxes_lend_their_ends`).
     pub fn ends(&mut self) -> &mut Ends
         ensures* lends { sem 𝓛 (Lends (the_row L.row L.Log) lent.the_row self.entry result (with_ends self.old)) }
         ensures value { result.now ≡ self.old.ends }
