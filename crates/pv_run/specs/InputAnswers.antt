@@ -5,7 +5,7 @@ use Rattle.pv_base.specs.declared.limits.TheConstants.{MAX_INPUT, MAX_SENT}
 use Rattle.pv_io.specs.SinkEffects.{WritesPrefix}
 use Rattle.pv_io.specs.declared.sink.Sink.{Ghosts}
 use Rattle.pv_run.specs.declared.status.Status.{Status}
-use Rattle.pv_run.specs.declared.status.Status.TheVariants.{Done, Usage, Malformed, ReadFault, WriteFault, TooLong, NoMemory, SentLimit, BayFault}
+use Rattle.pv_run.specs.declared.status.Status.TheVariants.{Done, Usage, Malformed, ReadFault, WriteFault, TooLong, NoMemory, SentLimit, BayFault, NotEmpty}
 use Rattle.pv_model.specs.LineCauses.{LineCause}
 use Rattle.pv_model.specs.Events.{Schedule}
 use Rattle.pv_script.specs.CauseTexts.{refused_text}
@@ -88,3 +88,4 @@ exit_code TooLong = 6
 exit_code NoMemory = 7
 exit_code SentLimit = 8
 exit_code BayFault = 9
+exit_code NotEmpty = 10

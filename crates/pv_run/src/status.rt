@@ -23,6 +23,8 @@ pub enum Status {
     SentLimit = 8,
     /// The bay failed to hand out a disk that was to be shown. Nothing was written.
     BayFault = 9,
+    /// A disk on which a site was to start isn't empty. Nothing was written.
+    NotEmpty = 10,
 }
 
 impl Status {
