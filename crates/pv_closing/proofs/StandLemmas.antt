@@ -2,24 +2,29 @@
 use Rattle.std.proofs.Common.{◌≡◌, ℕ, ◌<◌, ◌+◌, List, All, length, get_or, map, set, refl, sym, ap, subst, ◌∙◌, ⊎_elim, inl, inr, arith, get_or-set_same, get_or-set_other}
 use mathlib.Core.Logic.{dite}
 use native.Mathlib.Decide.{ℕ_discrete}
+use Rattle.std.proofs.Math.Decide.{dec_lt}
+use Rattle.std.proofs.lemmas.List.{get_or_past}
 use Rattle.pv_base.specs.Catalog.{Declared}
 use Rattle.pv_disk_model.specs.LogModel.{LogModel}
 use Rattle.pv_law_histories.specs.Course.{course}
 use Rattle.pv_protocol.specs.World.{first_site}
 use Rattle.pv_site.specs.SiteState.{setup_of}
-use Rattle.pv_post.specs.Ends.{IsPair, SameIn, SameOut}
+use Rattle.pv_crew.specs.Messages.{no_faults}
+use Rattle.pv_post.specs.Ends.{IsPair, SameIn, SameOut, plan_of}
+use Rattle.pv_post.specs.declared.fault_plan.FaultPlan.{FaultPlan}
 use Rattle.pv_post.specs.declared.inlet.In.{In}
 use Rattle.pv_post.specs.declared.outlet.Out.{Out}
 use Rattle.pv_rings.specs.Rings.{Each}
 use Rattle.pv_rings.proofs.EachLemmas.{get_or-any, each-self, each-set}
+use Rattle.pv_rings.proofs.RingLemmas.{rests-self}
 use Rattle.pv_script.specs.LiveView.{request_of}
 use Rattle.pv_script.specs.declared.live.Client.{Client}
 use Rattle.pv_script.specs.declared.live.LiveScript.{LiveScript}
 use Rattle.pv_cell.specs.declared.site_box.SiteBox.{SiteBox}
 use Rattle.pv_closing.specs.Boxes.{IsClosedBox, history_in}
 use Rattle.pv_closing.specs.Closing.{GoOn, IsWhole}
-use Rattle.pv_closing.specs.Ended.{AsksOn}
-use Rattle.pv_opening.specs.Opened.{AnswersSurely, AsksBox, FailsBy, plan_in}
+use Rattle.pv_closing.specs.Ended.{AskOn, AsksOn}
+use Rattle.pv_opening.specs.Opened.{AnswersSurely, AsksBox, FailsBy, HasPlaces, plan_in}
 use Rattle.pv_closing.specs.Standing.{HasAsked, IsBoxOf, StandTogether}
 use Rattle.pv_closing.specs.declared.ended.Ended.{Ended}
 
@@ -32,10 +37,14 @@ pair-on out out' inlet inlet' pair outs ins = (
   ins.0.3 ∙ (pair.3 ∙ sym outs.0.0.3),
 )
 
--- ## Clients
-abbrev pub AskOn : List Ended → List Ended → Type 0
-AskOn old new = Each (λ k one other. AsksOn one other) old new
+-- Rings keep their plans.
+plan-stays : {M : Type 0} (plan : FaultPlan) (old new : List (Out M)) → Each (λ k one other. SameOut one other) old new → All (λ out. plan_of out ≡ plan) old
+    → All (λ out. plan_of out ≡ plan) new
+plan-stays plan old new same all k any within =
+    let less = subst (λ (n : ℕ). k < n) (sym same.0) within in
+    (same.1 k any any less).1 ∙ all k any less
 
+-- ## Clients
 pub asks-self : (client : Ended) → AsksOn client client
 asks-self client = (refl, (((refl, refl, refl, refl), refl), refl))
 
@@ -92,6 +101,25 @@ closed-box M catalog n box is = record {
       ∙ ap (λ (me : ℕ). course (setup_of catalog) me first_site (history_in box)) is.number;
 }
 
+-- Their rings are as many, and keep their plans.
+module _ {W : Type 0} (M : LogModel W) where
+  pub places-on : (clients : List Client) (boxes later : List (SiteBox W)) → GoOn M boxes later
+      → ((n : ℕ) (any : SiteBox W) → n < length boxes → HasPlaces clients n (get_or boxes n any))
+      → (n : ℕ) (any : SiteBox W) → n < length later → HasPlaces clients n (get_or later n any)
+  places-on clients boxes later on places n any less =
+      let was = subst (λ (m : ℕ). n < m) (sym on.0) less in
+      sym (on.1 n any any was).1.ends.2.0 ∙ places n any was
+
+  pub plans-on : (plan : FaultPlan) (boxes later : List (SiteBox W)) → GoOn M boxes later → All (FailsBy plan) boxes → All (FailsBy plan) later
+  plans-on plan boxes later on plans n any less =
+      let was = subst (λ (m : ℕ). n < m) (sym on.0) less in
+      plan-stays plan (get_or boxes n any).ends.sites_out.items (get_or later n any).ends.sites_out.items (on.1 n any any was).1.ends.1 (plans n any was)
+
+  pub answers-on : (boxes later : List (SiteBox W)) → GoOn M boxes later → All AnswersSurely boxes → All AnswersSurely later
+  answers-on boxes later on answers n any less =
+      let was = subst (λ (m : ℕ). n < m) (sym on.0) less in
+      plan-stays no_faults (get_or boxes n any).ends.clients_out.items (get_or later n any).ends.clients_out.items (on.1 n any any was).1.ends.3 (answers n any was)
+
 -- ## Both
 module _ {W : Type 0} (M : LogModel W) (script : LiveScript) where
   pub all-whole : (boxes : List (SiteBox W)) (clients : List Ended) → StandTogether M script boxes clients → All (IsWhole M) boxes
@@ -126,22 +154,21 @@ module _ {W : Type 0} (M : LogModel W) (script : LiveScript) where
               (get_or (get_or later k any).ends.clients_in.items place inlet) (is.1 inlet) ask.1 (ends.1 place inlet inlet is.0),
         )
 
-    -- The rings have the plans that they had.
-    plans-later : All (FailsBy (plan_in script)) later
-    plans-later n any less k out within =
-        let outs = (on.1 n any any (was n less)).1.ends.1 in
-        let before = subst (λ (m : ℕ). k < m) (sym outs.0) within in
-        (outs.1 k out out before).1 ∙ stand.plans n any (was n less) k out before
+    -- Where there is no such box nothing is said of any.
+    asks-any : (place : ℕ) (one other : Ended) (k : ℕ) (any : SiteBox W) → AsksOn one other → AsksBox place one.asks (get_or boxes k any)
+        → AsksBox place other.asks (get_or later k any)
+    asks-any place one other k any ask is =
+        dite (dec_lt k (length boxes)) (λ less. asks-box place one other k any less ask is)
+        (λ beyond.
+        let here : AsksBox place one.asks any = subst (AsksBox place one.asks) (get_or_past boxes k any (omega (arith, beyond))) is in
+        subst (AsksBox place other.asks) (sym (get_or_past later k any (omega (arith, beyond, on.0)))) (
+          here.0,
+          λ inlet. pair-on one.asks other.asks (get_or any.ends.clients_in.items place inlet) (get_or any.ends.clients_in.items place inlet) (here.1 inlet) ask.1
+              (rests-self (get_or any.ends.clients_in.items place inlet)).0,
+        ))
 
-    answers-later : All AnswersSurely later
-    answers-later n any less k out within =
-        let outs = (on.1 n any any (was n less)).1.ends.3 in
-        let before = subst (λ (m : ℕ). k < m) (sym outs.0) within in
-        (outs.1 k out out before).1 ∙ stand.answers n any (was n less) k out before
-
-    pub stand-on : ((k : ℕ) (any : Client) → k < length script.clients.items → (get_or script.clients.items k any).site.0 < length boxes)
-        → StandTogether M script later ended
-    stand-on there = record {
+    pub stand-on : StandTogether M script later ended
+    stand-on = record {
       count = sym on.0 ∙ stand.count;
       boxes_are = box-later;
       rings = λ from to any first second out inlet.
@@ -154,9 +181,9 @@ module _ {W : Type 0} (M : LogModel W) (script : LiveScript) where
           (stand.rings from to any f s out inlet)
           (outs.1 to out out (subst (λ (n : ℕ). to < n) (sym (rings-out from any f)) s))
           (ins.1 from inlet inlet (subst (λ (n : ℕ). from < n) (sym (rings-in to any s)) f));
-      places = λ n any less. sym (on.1 n any any (was n less)).1.ends.2.0 ∙ stand.places n any (was n less);
-      plans = plans-later;
-      answers = answers-later;
+      places = places-on M script.clients.items boxes later on stand.places;
+      plans = plans-on M (plan_in script) boxes later on stand.plans;
+      answers = answers-on M boxes later on stand.answers;
       clients_are = (
         stand.clients_are.0 ∙ asks.0,
         λ k client one less.
@@ -164,7 +191,7 @@ module _ {W : Type 0} (M : LogModel W) (script : LiveScript) where
             let is = stand.clients_are.1 k client one less in
             let ask = asks.1 k one one (subst (λ (n : ℕ). k < n) stand.clients_are.0 less) in (
               subst (λ s. map request_of s.items ≡ map request_of (get_or script.clients.items k client).requests.items) (sym ask.0) is.0,
-              λ any. asks-box _ c (get_or ended k one) _ any (there k client less) ask (is.1 any),
+              λ any. asks-any _ c (get_or ended k one) _ any ask (is.1 any),
             ),
       );
     }

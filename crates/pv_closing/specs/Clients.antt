@@ -18,7 +18,7 @@ module _ {W : Type 0} (box : SiteBox W) (place : ℕ) where
   -- What the client at this place among its site's own hears of its request of this number, where this is the site's box. Where the history has no such request of
   -- it, it hears no line of the history.
   abbrev pub IsTold : ℕ → Request → ClientLine → Type 0
-  IsTold n request line =
+  IsTold n _ line =
       (line.request ≡ n) × IsHeard box (record { client = place; number = n }) line.what
       × (((asked : model.Request) → Contains (asked_by place (history_in box)) asked → asked.number ≡ n → ⊥) → IsUntold line.what)
 

@@ -21,6 +21,6 @@ module _ {W : Type 0} (M : LogModel W) where
   abbrev pub GoOn : List (SiteBox W) → List (SiteBox W) → Type 0
   GoOn old new = Each (λ k one other. GoesOn one other) old new
 
-  -- The last visit found nothing, or that the box is worn.
+  -- It is as a visit leaves a box in which it finds nothing, or which is worn.
   abbrev pub IsQuiet : SiteBox W → Type 0
   IsQuiet box = (before : SiteBox W) × (Visits M before box Idle ⊎ Visits M before box Worn)

@@ -20,7 +20,7 @@ pub(crate) fn ask_all<R: Wait, L: Log>(
     alloc: Global,
     boxes: &mut Vec<SiteBox<L>>,
     site: usize,
-    client: u32,
+    place: u32,
     ended: &mut Ended,
 ) -> Result<(), NoMemory>
     requires whole { All (IsWhole L.model) boxes.old.items }
@@ -42,7 +42,7 @@ pub(crate) fn ask_all<R: Wait, L: Log>(
         let from = boxes[site].history().len();
         let posted = ended.post();
         empty(rt, boxes);
-        tick_for(rt, alloc, boxes, site, from, client, posted)?;
+        tick_for(rt, alloc, boxes, site, from, place, posted)?;
     }
     unreachable!()
 }
@@ -54,7 +54,7 @@ fn tick_for<R: Wait, L: Log>(
     boxes: &mut Vec<SiteBox<L>>,
     site: usize,
     from: usize,
-    client: u32,
+    place: u32,
     posted: Option<u32>,
 ) -> Result<(), NoMemory>
     requires whole { All (IsWhole L.model) boxes.old.items }
@@ -67,22 +67,23 @@ fn tick_for<R: Wait, L: Log>(
     let Some(number) = posted else {
         return Ok(());
     };
-    if is_told(alloc, &boxes[site], from, client, number)? {
+    if is_told(alloc, &boxes[site], from, place, number)? {
         return Ok(());
     }
     tick_and_empty(rt, boxes);
     Ok(())
 }
 
-// Whether the entries from this one on have a line for the request of this number of the client.
+// Whether the entries from this one on have a line for the request of this number of the client at this place. Only entries since it was posted can have one, so the
+// whole history needn't be read each time.
 fn is_told<L: Log>(
     alloc: Global,
     of: &SiteBox<L>,
     from: usize,
-    client: u32,
+    place: u32,
     number: u32,
 ) -> Result<bool, NoMemory> {
     let history = of.history();
     let (_, later) = history.split_at(from.min(history.len()));
-    has_line(alloc, later, client, number)
+    has_line(alloc, later, place, number)
 }

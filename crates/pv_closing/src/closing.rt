@@ -2,7 +2,8 @@
 ghost use Rattle.std.specs.Prelude.{ℕ, ◌<◌, All, OnOk, get_or, length};
 ghost use Rattle.pv_opening.specs.Opening.{IsRead};
 ghost use Rattle.pv_closing.specs.Boxes.{IsClosedBox};
-ghost use Rattle.pv_closing.specs.Closing.{IsQuiet};
+ghost use Rattle.pv_closing.specs.Closing.{GoOn, IsQuiet};
+ghost use Rattle.pv_closing.specs.Ended.{AskOn};
 ghost use Rattle.pv_closing.specs.Standing.{HaveAsked, StandTogether};
 
 use crate::asking::ask_all;
@@ -22,6 +23,8 @@ use std::sync::Wait;
 /// All rings are emptied by visits in the order of sites, until each visit of a round is idle or worn. Then, three times, each site ticks once, in order, and the rings are
 /// emptied again. Last, for each client in order, each of its requests that wasn't asked for is asked for, where the box of its site isn't worn, the rings are emptied, and
 /// where the history then has no line for it, the three ticks are made again.
+///
+/// Where there is no memory this ends on the way: the boxes and the clients have gone on, and more may be left to do.
 pub fn close_round<R: Wait, L: Log>(
     rt: &R,
     alloc: Global,
@@ -31,6 +34,8 @@ pub fn close_round<R: Wait, L: Log>(
 ) -> Result<(), NoMemory>
     requires script { IsRead script.now }
     requires standing { StandTogether L.model script.now boxes.old.items clients.old.items }
+    ensures on { GoOn L.model boxes.old.items boxes.new.items }
+    ensures asks { AskOn clients.old.items clients.new.items }
     ensures standing { OnOk result (StandTogether L.model script.now boxes.new.items clients.new.items) }
     ensures closed { OnOk result ((n : ℕ) (any : SiteBox L) → n < length boxes.new.items → IsClosedBox L.model script.now.catalog n (get_or boxes.new.items n any)) }
     ensures quiet { OnOk result (All (IsQuiet L.model) boxes.new.items) }

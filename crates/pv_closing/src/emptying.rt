@@ -7,7 +7,7 @@ use pv_cell::{SiteBox, Visit, boxes_keep_their_course, boxes_stay_the_same};
 use pv_disk::Log;
 use std::sync::Wait;
 
-/// So often each site ticks when the rings were emptied.
+/// So often each site ticks when the rings were emptied: at the third tick a request is refused that waits for an answer which was lost.
 const TICKS: u32 = 3;
 
 /// [`TICKS`] times, each site ticks once, in order, and the rings are emptied.

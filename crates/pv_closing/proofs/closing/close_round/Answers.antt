@@ -62,14 +62,25 @@ loop-at-preserved g c =
           count there c.index.ensures before.asked c.in_ok-ask_all.ensures.asked;
     }
 
+pub returns-in_err-ask_all-clause-on : goal.returns-in_err-ask_all-clause-on
+returns-in_err-ask_all-clause-on g c =
+    go-further g.L.Log.model c.boxes_stay_the_same.ensures.both c.args.boxes.now.items c.loop-at.boxes.items c.ask_all.new.boxes.items c.loop-at.invariant.on
+    c.ask_all.ensures.on
+
+pub returns-in_err-ask_all-clause-asks : goal.returns-in_err-ask_all-clause-asks
+returns-in_err-ask_all-clause-asks g c =
+    let clients = c.args.script.now.clients in
+    let at = c.loop-at.at in
+    let asking = c.loop-at.clients.items in
+    let before = c.loop-at.invariant in
+    let there : at < length clients.items = omega (arith, c.loop-at-test.true, c.len-at-end.ensures, clients.ok.0) in
+    one-asks c.args.clients.now.items asking at c.index_mut.result.now c.ask_all.new.ended before.asks
+    (omega (arith, there, before.asks.0, c.requires.standing.clients_are.0)) c.index_mut.ensures.value c.ask_all.ensures.asks
+
 pub returns-clause-standing : goal.returns-clause-standing
 returns-clause-standing g c =
-    let script = c.args.script.now in
-    let clients = script.clients.items in
-    let stand = c.requires.standing in
-    stand-on g.L.Log.model script c.args.boxes.now.items c.loop-at.boxes.items c.args.clients.now.items c.loop-at.clients.items stand c.loop-at.invariant.on
-    c.loop-at.invariant.asks
-    (λ (k : ℕ) (any : Client) less. omega (arith, (c.live_scripts_are_small.ensures.fit script k any c.requires.script less).0, stand.count))
+    stand-on g.L.Log.model c.args.script.now c.args.boxes.now.items c.loop-at.boxes.items c.args.clients.now.items c.loop-at.clients.items c.requires.standing
+    c.loop-at.invariant.on c.loop-at.invariant.asks
 
 pub returns-clause-asked : goal.returns-clause-asked
 returns-clause-asked g c = (
@@ -83,9 +94,7 @@ pub returns-clause-closed : goal.returns-clause-closed
 returns-clause-closed g c n any less =
     let M = g.L.Log.model in
     let script = c.args.script.now in
-    let stand = c.requires.standing in
     let later =
-    stand-on M script c.args.boxes.now.items c.loop-at.boxes.items c.args.clients.now.items c.loop-at.clients.items stand c.loop-at.invariant.on
-    c.loop-at.invariant.asks
-    (λ (k : ℕ) (any : Client) less. omega (arith, (c.live_scripts_are_small.ensures.fit script k any c.requires.script less).0, stand.count)) in
+    stand-on M script c.args.boxes.now.items c.loop-at.boxes.items c.args.clients.now.items c.loop-at.clients.items c.requires.standing c.loop-at.invariant.on
+    c.loop-at.invariant.asks in
     closed-box M script.catalog n (get_or c.loop-at.boxes.items n any) (later.boxes_are n any less)
