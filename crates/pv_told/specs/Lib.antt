@@ -1,3 +1,4 @@
 pub mod Along
 pub mod Lines
+pub mod Standing
 pub mod Words
