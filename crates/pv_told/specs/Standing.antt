@@ -1,7 +1,7 @@
 -- Where what clients are told stands in the history of their site.
 use Rattle.std.specs.Prelude.{◌≡◌, ◌⊎◌, ℕ, Option, Some, None, List, [], ◌∷◌, Contains, flat_map, ⊤}
 use Rattle.pv_base.specs.declared.txn.TxnId.{TxnId}
-use Rattle.pv_law_histories.specs.History.{Came, done, fault, down, Stamped, lines_of_came}
+use Rattle.pv_law_histories.specs.History.{Came, done, Stamped, lines_of_came}
 use Rattle.pv_mail.specs.Answers.{asker_of}
 use Rattle.pv_mail.specs.declared.asked.Asker.{Asker}
 use Rattle.pv_protocol.specs.Lines.{Line}
