@@ -1,0 +1,9 @@
+pub mod LineLemmas
+pub mod WordLemmas
+pub mod NumberLemmas
+pub mod EventLemmas
+pub mod CatalogLemmas
+pub mod ReadLemmas
+pub mod RequestLemmas
+pub mod LiveLemmas
+pub mod MergedLemmas
