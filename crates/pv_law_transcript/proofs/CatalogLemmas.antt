@@ -13,7 +13,7 @@ use Rattle.pv_model.specs.Schedule.{AreLines, declaration}
 use Rattle.pv_model.specs.Text.{TextLine, is_significant, words}
 use Rattle.pv_protocol.specs.LineText.{numbered_text}
 use Rattle.pv_transcript.specs.ScheduleText.{item_line}
-use Rattle.pv_law_transcript.specs.Written.{IsNew, AreNew, IsWritten}
+use Rattle.pv_law_transcript.specs.Written.{IsNewItem, AreNewItems, IsWritten}
 use Rattle.pv_law_transcript.proofs.LineLemmas.{AreTexts, with_feeds}
 use Rattle.pv_law_transcript.proofs.WordLemmas.{words-cons, words-last, text-cons, text-last, length-cons}
 use Rattle.pv_law_transcript.proofs.NumberLemmas.{decimal-word, decimal-reads, decimal-short, signed-word, signed-reads, signed-short, name-word, name-short}
@@ -35,7 +35,7 @@ pub items-text : (items : List Item) → flat_map item_line items ≡ with_feeds
 items-text [] = refl
 items-text (item ∷ items) = ap (λ (t : List ℕ). t ++ flat_map item_line items) (item-text item) ∙ ap (λ (t : List ℕ). (item_words item ++ line_feed) ++ t) (items-text items)
 
-module _ (sites : ℕ) (few : sites ≤ MAX_SITES) (earlier : List Item) (item : Item) (is : IsNew sites earlier item) where
+module _ (sites : ℕ) (few : sites ≤ MAX_SITES) (earlier : List Item) (item : Item) (is : IsNewItem sites earlier item) where
   site-small : item.site < 2 ^ 64
   site-small = let below = is.place in omega (arith, few, below)
 
@@ -67,7 +67,7 @@ module _ (sites : ℕ) (few : sites ≤ MAX_SITES) (earlier : List Item) (item :
 abbrev pub saying : (sites journal : ℕ) → List Item → Before
 saying sites journal items = record { script = scheduled; sites = Some sites; journal = Some journal; items = items; begun = false; fault_plan = None; clients = [] }
 
-pub items-lines : (sites journal : ℕ) (earlier items : List Item) (rest : List TextLine) (es : List Event) (last : Before) → sites ≤ MAX_SITES → AreNew sites earlier items
+pub items-lines : (sites journal : ℕ) (earlier items : List Item) (rest : List TextLine) (es : List Event) (last : Before) → sites ≤ MAX_SITES → AreNewItems sites earlier items
     → AreLines (saying sites journal (earlier ++ items)) rest es last → AreLines (saying sites journal earlier) (map item_words items ++ rest) es last
 items-lines sites journal earlier [] rest es last few new are = subst (λ (all : List Item). AreLines (saying sites journal all) rest es last) (append-nil earlier) are
 items-lines sites journal earlier (item ∷ items) rest es last few new are =
@@ -93,7 +93,7 @@ items-lines sites journal earlier (item ∷ items) rest es last few new are =
     (items-lines sites journal (earlier ++ item ∷ []) items rest es last few new.1
     (subst (λ (all : List Item). AreLines (saying sites journal all) rest es last) (sym (append_assoc earlier (item ∷ []) items)) are))
 
-pub items-texts : (sites : ℕ) (earlier items : List Item) (rest : List TextLine) → sites ≤ MAX_SITES → AreNew sites earlier items → AreTexts rest → AreTexts (map item_words items ++ rest)
+pub items-texts : (sites : ℕ) (earlier items : List Item) (rest : List TextLine) → sites ≤ MAX_SITES → AreNewItems sites earlier items → AreTexts rest → AreTexts (map item_words items ++ rest)
 items-texts sites earlier [] rest few new are = are
 items-texts sites earlier (item ∷ items) rest few new are =
     let line = item-is-line sites few earlier item new.0 in

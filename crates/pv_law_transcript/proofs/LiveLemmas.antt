@@ -10,7 +10,7 @@ use Rattle.pv_model.specs.LineForms.{live}
 use Rattle.pv_model.specs.LiveScript.{Client, LiveScript, Request}
 use Rattle.pv_model.specs.Schedule.{AreLines, none, declaration, event, Declares, DeclaresClient, DeclaresItem, DeclaresJournal, DeclaresPlan, DeclaresRequest, DeclaresSites, IsLiveScript, new_client, significant, with_event, with_one_more, with_request}
 use Rattle.pv_model.specs.Text.{TextLine}
-use Rattle.pv_law_transcript.specs.Written.{AreNew, IsNew, IsWritten, IsWrittenRequest}
+use Rattle.pv_law_transcript.specs.Written.{AreNewItems, IsNewItem, IsWritten, IsWrittenRequest}
 use Rattle.pv_law_transcript.proofs.RequestLemmas.{request-text}
 
 -- Lines of a schedule of this catalog may say the request, and each of the client's.
@@ -31,15 +31,15 @@ record Sound (before : Before) : Type 0 where
   few : IsFew before.sites
   range : IsLimit before.journal
   first : before.sites ≡ None → (before.items ≡ []) × (before.clients ≡ [])
-  items : AreNew (or_default 0 before.sites) [] before.items
+  items : AreNewItems (or_default 0 before.sites) [] before.items
   waits : before.begun ≡ false → before.clients ≡ []
   requests : All (OfClient (declared_by before)) before.clients
 
 -- ## One more
-one-new : (sites : ℕ) (earlier items : List Item) (item : Item) → AreNew sites earlier items → IsNew sites (earlier ++ items) item → AreNew sites earlier (items ++ item ∷ [])
-one-new sites earlier [] item are is = (subst (λ (all : List Item). IsNew sites all item) (append-nil earlier) is, tt)
+one-new : (sites : ℕ) (earlier items : List Item) (item : Item) → AreNewItems sites earlier items → IsNewItem sites (earlier ++ items) item → AreNewItems sites earlier (items ++ item ∷ [])
+one-new sites earlier [] item are is = (subst (λ (all : List Item). IsNewItem sites all item) (append-nil earlier) is, tt)
 one-new sites earlier (first ∷ items) item are is =
-    (are.0, one-new sites (earlier ++ first ∷ []) items item are.1 (subst (λ (all : List Item). IsNew sites all item) (sym (append_assoc earlier (first ∷ []) items)) is))
+    (are.0, one-new sites (earlier ++ first ∷ []) items item are.1 (subst (λ (all : List Item). IsNewItem sites all item) (sym (append_assoc earlier (first ∷ []) items)) is))
 
 none-asks : (catalog : Declared) (clients : List Client) → clients ≡ [] → All (OfClient catalog) clients
 none-asks catalog clients bare = subst (All (OfClient catalog)) (sym bare) (All-nil (OfClient catalog))
@@ -69,7 +69,7 @@ module _ (before after : Before) (line : TextLine) (sound : Sound before) where
         few = λ n is. subst (λ (m : ℕ). (1 ≤ m) × (m ≤ MAX_SITES)) (Some_inj is) (d.is.2.1, d.is.2.2);
         range = sound.range;
         first = λ is. unsaid (Some d.count) d.count refl is;
-        items = subst (λ (items : List Item). AreNew d.count [] items) (sym bare.0) tt;
+        items = subst (λ (items : List Item). AreNewItems d.count [] items) (sym bare.0) tt;
         waits = sound.waits;
         requests = none-asks (declared_by (record before { sites = Some d.count })) before.clients bare.1;
       } in
@@ -90,7 +90,7 @@ module _ (before after : Before) (line : TextLine) (sound : Sound before) where
 
   item-sound : DeclaresItem before line after → Sound after
   item-sound d =
-      let new : IsNew (or_default 0 before.sites) before.items d.item = record { place = d.place.1; fits = d.fits; name = d.name; free = d.free; room = d.room } in
+      let new : IsNewItem (or_default 0 before.sites) before.items d.item = record { place = d.place.1; fits = d.fits; name = d.name; free = d.free; room = d.room } in
       let next : Sound (record before { items = before.items ++ d.item ∷ [] }) =
       record {
         few = sound.few;

@@ -1,5 +1,5 @@
 -- The lines of a schedule may say the events of a merge, moment by moment.
-use Rattle.std.proofs.Common.{◌≡◌, ℕ, ◌<◌, false, List, [], ◌∷◌, ◌++◌, All, length, flat_map, sym, subst, arith}
+use Rattle.std.proofs.Common.{◌≡◌, ℕ, ◌<◌, ◌==◌, Bool, true, false, if◌then◌else◌, List, [], ◌∷◌, ◌++◌, All, length, flat_map, eq-eqb, refl, sym, ap, subst, arith}
 use Rattle.std.proofs.lemmas.List.Elements.{All-cons, All-head, All-nil, All-tail}
 use Rattle.pv_base.specs.Catalog.{Declared}
 use Rattle.pv_base.specs.declared.mode.Mode.TheVariants.{Lost}
@@ -7,11 +7,13 @@ use Rattle.pv_law_histories.proofs.WellFormedLemmas.{of-entries}
 use Rattle.pv_law_histories.specs.Fitting.{history_of}
 use Rattle.pv_law_histories.specs.History.{Intake, request, parcel, tick, Came, done, fault, down, Stamped}
 use Rattle.pv_law_histories.specs.Merge.{Moment, IsMerge, number_of, event_of, with_fault, events_at, events_of_merge}
+use Rattle.pv_law_passing.specs.Asking.{asked_by, with_asked}
 use Rattle.pv_model.specs.Events as events
 use Rattle.pv_model.specs.Events.{Event}
+use Rattle.pv_model.specs.LiveScript.{Request}
 use Rattle.pv_transcript.specs.Transcript.{with_reports}
 use Rattle.pv_law_transcript.specs.Merged.{HasWrittenNumber, IsWrittenIntake}
-use Rattle.pv_law_transcript.specs.Written.{AreWritten, IsWrittenEvent, of_arm, of_deliver, of_report, of_submit, of_tick, of_total}
+use Rattle.pv_law_transcript.specs.Written.{AreWritten, IsWrittenEvent, IsWrittenRequest, of_arm, of_deliver, of_report, of_submit, of_tick, of_total}
 
 module _ {X : Type 0} (P : X → Type 0) where
   all-front : (xs ys : List X) → All P (xs ++ ys) → All P xs
@@ -22,6 +24,39 @@ module _ {X : Type 0} (P : X → Type 0) where
   all-back [] ys all = all
   all-back (x ∷ xs) ys all = all-back xs ys (All-tail P x (xs ++ ys) all)
 
+-- ## What clients asked for
+abbrev OfRequest : Declared → Request → Type 0
+OfRequest catalog asked = IsWrittenRequest catalog asked.query asked.text asked.program
+
+first-written : (catalog : Declared) (intake : Intake) (later : ℕ → List Request) → ((client : ℕ) → All (OfRequest catalog) (with_asked client intake (later client)))
+    → IsWrittenIntake catalog intake
+first-written catalog (request client asked) later every =
+    let here : (if client == client then asked ∷ later client else later client) ≡ asked ∷ later client =
+    ap (λ (same : Bool). if same then asked ∷ later client else later client) (eq-eqb client client refl) in
+    All-head (OfRequest catalog) asked (later client) (subst (All (OfRequest catalog)) here (every client))
+first-written catalog (parcel from stamp place message) later every = tt
+first-written catalog tick later every = tt
+
+if-rest : (catalog : Declared) (test : Bool) (asked : Request) (later : List Request) → All (OfRequest catalog) (if test then asked ∷ later else later)
+    → All (OfRequest catalog) later
+if-rest catalog true asked later all = All-tail (OfRequest catalog) asked later all
+if-rest catalog false asked later all = all
+
+rest-written : (catalog : Declared) (client : ℕ) (intake : Intake) (later : List Request) → All (OfRequest catalog) (with_asked client intake later)
+    → All (OfRequest catalog) later
+rest-written catalog client (request asker asked) later all = if-rest catalog (asker == client) asked later all
+rest-written catalog client (parcel from stamp place message) later all = all
+rest-written catalog client tick later all = all
+
+pub asked-written : (catalog : Declared) (history : List Stamped) → ((client : ℕ) → All (OfRequest catalog) (asked_by client history))
+    → All (λ entry. IsWrittenIntake catalog entry.intake) history
+asked-written catalog [] every = All-nil (λ (entry : Stamped). IsWrittenIntake catalog entry.intake)
+asked-written catalog (entry ∷ entries) every =
+    All-cons (λ (e : Stamped). IsWrittenIntake catalog e.intake) entry entries
+    (first-written catalog entry.intake (λ client. asked_by client entries) every)
+    (asked-written catalog entries (λ client. rest-written catalog client entry.intake (asked_by client entries) (every client)))
+
+-- ## The events
 module _ (catalog : Declared) where
   written-append : (es more : List Event) → AreWritten catalog es → AreWritten catalog more → AreWritten catalog (es ++ more)
   written-append [] more are rest = rest

@@ -14,7 +14,7 @@ use Rattle.pv_model.specs.Syntax.{Program}
 use Rattle.pv_model.specs.Text.{is_text_byte}
 
 -- An item may be declared after these, where there are so many sites.
-pub record IsNew (sites : ℕ) (earlier : List Item) (item : Item) : Type 0 where
+pub record IsNewItem (sites : ℕ) (earlier : List Item) (item : Item) : Type 0 where
   pub place : item.site < sites
   pub fits : IsTrue (fits_i64 item.value)
   pub name : IsTrue (is_name item.name)
@@ -22,9 +22,9 @@ pub record IsNew (sites : ℕ) (earlier : List Item) (item : Item) : Type 0 wher
   pub room : length earlier < MAX_ITEMS
 
 -- Items may be declared after these, one by one.
-abbrev pub AreNew : ℕ → List Item → List Item → Type 0
-AreNew sites earlier [] = ⊤
-AreNew sites earlier (item ∷ items) = IsNew sites earlier item × AreNew sites (earlier ++ item ∷ []) items
+abbrev pub AreNewItems : ℕ → List Item → List Item → Type 0
+AreNewItems sites earlier [] = ⊤
+AreNewItems sites earlier (item ∷ items) = IsNewItem sites earlier item × AreNewItems sites (earlier ++ item ∷ []) items
 
 -- A catalog that the lines of a schedule may declare.
 pub record IsWritten (catalog : Declared) : Type 0 where
@@ -32,7 +32,7 @@ pub record IsWritten (catalog : Declared) : Type 0 where
   pub few : catalog.sites ≤ MAX_SITES
   pub least : MIN_JOURNAL ≤ catalog.journal
   pub most : catalog.journal ≤ MAX_JOURNAL
-  pub items : AreNew catalog.sites [] catalog.items
+  pub items : AreNewItems catalog.sites [] catalog.items
 
 -- The text of a request as a line has it: no longer than the line of a live script, of bytes of text alone, and without blanks before it and behind it.
 pub record IsLineText (text : List ℕ) : Type 0 where

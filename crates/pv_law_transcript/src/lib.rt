@@ -7,6 +7,7 @@ ghost use Rattle.pv_base.specs.Catalog.{Declared};
 ghost use Rattle.pv_law_histories.specs.Fitting.{history_of};
 ghost use Rattle.pv_law_histories.specs.History.{Stamped};
 ghost use Rattle.pv_law_histories.specs.Merge.{Moment, IsMerge, events_of_merge};
+ghost use Rattle.pv_law_passing.specs.Asking.{asked_by};
 ghost use Rattle.pv_model.specs.Events.{Event, Schedule};
 ghost use Rattle.pv_model.specs.LiveScript.{LiveScript};
 ghost use Rattle.pv_model.specs.Schedule.{IsLiveScript, IsSchedule};
@@ -25,6 +26,12 @@ pub fn live_scripts_can_be_written()
     ensures catalog { (text : List ℕ) (script : LiveScript) → IsLiveScript text script → IsWritten script.catalog }
     ensures requests { (text : List ℕ) (script : LiveScript) → IsLiveScript text script →
         All (λ client. All (λ asked. IsWrittenRequest script.catalog asked.query asked.text asked.program) client.requests) script.clients }
+{}
+
+/// The lines of a schedule may say what clients asked for in a history, where they may say what stands there of each client.
+pub fn standing_requests_can_be_written()
+    ensures { (catalog : Declared) (history : List Stamped) → ((client : ℕ) → All (λ asked. IsWrittenRequest catalog asked.query asked.text asked.program) (asked_by client history)) →
+        All (λ entry. IsWrittenIntake catalog entry.intake) history }
 {}
 
 /// The lines of a schedule may say each event of the merge of histories, and the reports behind them, where they may say what clients asked for, and the numbers of
