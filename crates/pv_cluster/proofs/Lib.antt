@@ -1,0 +1,8 @@
+mod ClientLemmas
+mod EndLemmas
+mod ListLemmas
+mod LookLemmas
+mod NumberLemmas
+mod OnceLemmas
+mod ServeLemmas
+mod StillLemmas

@@ -1,0 +1,14 @@
+//! Sites on threads: a live script is run by workers that visit the sites' boxes and by clients that ask, and closed, so that what each site took in and what each client
+//! heard is known.
+#![tactic(auto)]
+
+mod closed;
+mod ending;
+mod looking;
+mod running;
+mod serving;
+
+pub use closed::Closed;
+pub use pv_closing::{ClientLine, ClientWhat};
+pub use pv_crew::{Gate, IdleGate};
+pub use running::{MAX_WORKERS, run};
