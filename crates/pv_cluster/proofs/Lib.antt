@@ -2,6 +2,7 @@ mod ClientLemmas
 mod EndLemmas
 mod ListLemmas
 mod LookLemmas
+mod LookedLemmas
 mod NumberLemmas
 mod OnceLemmas
 mod ServeLemmas

@@ -1,5 +1,6 @@
 -- One pair of boxes after another is looked at.
-use Rattle.std.proofs.Common.{◌≡◌, ◌≢◌, ℕ, ◌+◌, ◌<◌, ◌≤◌, List, ◌++◌, length, get_or, set, refl, sym, ap, ◌∙◌, subst, arith}
+use Rattle.std.proofs.Common.{◌≡◌, ℕ, ◌+◌, ◌<◌, List, ◌++◌, length, get_or, sym, ap, ◌∙◌, subst, append-nil, arith}
+use Rattle.std.proofs.lemmas.List.{nil_from_length}
 use mathlib.Core.List.{IsPrefix}
 use mathlib.Core.Logic.{dite}
 use native.Mathlib.Decide.{ℕ_discrete}
@@ -23,6 +24,13 @@ pub begins : {M : Type 0} (out out' : Out M) (inlet inlet' : In M) → taken inl
     → taken inlet' ++ known inlet' ≡ posted out' → IsPrefix (taken inlet) (posted out)
 begins {M} out out' inlet inlet' same_taken same_posted all =
     (known inlet', ap (λ (front : List (M × ℕ)). front ++ known inlet') (sym same_taken) ∙ all ∙ same_posted)
+
+-- Where nothing is known to be left, all was taken.
+pub emptied : {M : Type 0} (out out' : Out M) (inlet inlet' : In M) (held : ℕ) → taken inlet' ≡ taken inlet → posted out' ≡ posted out
+    → taken inlet' ++ known inlet' ≡ posted out' → held ≡ length (known inlet') → held ≡ 0 → taken inlet ≡ posted out
+emptied {M} out out' inlet inlet' held same_taken same_posted all long none =
+    sym same_taken ∙ sym (append-nil (taken inlet'))
+    ∙ ap (λ (rest : List (M × ℕ)). taken inlet' ++ rest) (sym (nil_from_length (known inlet') (sym long ∙ none))) ∙ all ∙ same_posted
 
 -- What the look at a ring shows of two boxes that have its ends.
 pub brought-by : {W : Type 0} (from to : ℕ) (one other : SiteBox W) (out : Out Parcel) (inlet : In Parcel) → ((any : Out Parcel) → out ≡ get_or one.ends.sites_out.items to any)

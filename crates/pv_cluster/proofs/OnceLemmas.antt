@@ -1,11 +1,11 @@
 -- Of a client's requests those that stand in the history stand there each once and in order.
-use Rattle.std.proofs.Common.{◌≡◌, ◌⊎◌, ℕ, suc, ◌+◌, ◌<◌, List, [], ◌∷◌, ◌++◌, length, get_or, map, drop, reverse, replicate, refl, sym, ap, ◌∙◌, subst, ⊎_elim, arith, append_assoc}
+use Rattle.std.proofs.Common.{◌≡◌, ℕ, ◌<◌, List, [], ◌∷◌, ◌++◌, length, get_or, map, drop, reverse, replicate, refl, sym, ap, ◌∙◌, subst, ⊎_elim, arith, append_assoc}
 use Rattle.std.proofs.lemmas.Grind.{not_there}
 use Rattle.std.proofs.lemmas.List.{get_or-map, length-map, map-append}
 use Rattle.std.proofs.lemmas.Option.{slice_get_cases}
 use Rattle.std.specs.Prelude.{Contains}
-use mathlib.Core.List.{IsPrefix, Sublist, sublist-append_left}
-use mathlib.Core.List.Sublistᴰ as Sublistᴰ
+use mathlib.Core.List.{IsPrefix, Sublist, Sublistᴰ, sublist-append_left}
+use mathlib.Core.List.Sublistᴰ as derived
 use mathlib.Core.List.Sublist.{trans as sublist-trans}
 use Rattle.pv_base.proofs.ContainsLemmas.{Contains-behind, Contains-cases, Contains-first}
 use Rattle.pv_cell.specs.Course.{HasCourse, asked_again}
@@ -38,7 +38,7 @@ once-begins {M} (one ∷ front) rest (first ∷ all) is =
     )
 
 -- what was asked by a ring
-abbrev requests_taken : In Request → List model.Request
+abbrev pub requests_taken : In Request → List model.Request
 requests_taken inlet = map request_of (counted (taken inlet))
 
 module _ {W : Type 0} (box : SiteBox W) (place : ℕ) (ended : Ended) (client : Client) where
@@ -67,9 +67,9 @@ module _ {W : Type 0} (box : SiteBox W) (place : ℕ) (ended : Ended) (client : 
 
 -- What is left in stands in the whole.
 kept-in : {A : Type 0} (xs ys : List A) (x : A) → Sublistᴰ xs ys → Contains xs x → Contains ys x
-kept-in xs ys x Sublistᴰ.slnil there = there
-kept-in xs (y ∷ ys) x (Sublistᴰ.cons more) there = Contains-behind y ys x (kept-in xs ys x more there)
-kept-in {A} (z ∷ xs) (y ∷ ys) x (Sublistᴰ.cons-cons same more) there =
+kept-in xs ys x derived.slnil there = there
+kept-in xs (y ∷ ys) x (derived.cons more) there = Contains-behind y ys x (kept-in xs ys x more there)
+kept-in {A} (z ∷ xs) (y ∷ ys) x (derived.cons-cons same more) there =
     ⊎_elim (λ is. subst (λ (v : A). Contains (y ∷ ys) v) (sym same ∙ is) (Contains-first y ys)) (λ behind. Contains-behind y ys x (kept-in xs ys x more behind))
     (Contains-cases z xs x there)
 

@@ -1,5 +1,6 @@
 -- From the opening to the end of workers and clients.
-use Rattle.std.proofs.Common.{◌≡◌, ℕ, ◌<◌, [], ◌∷◌, ◌++◌, List, All, length, get_or, map, take, sym, ap, ◌∙◌, subst, inl, inr, ⊎_elim, arith}
+use Rattle.std.proofs.Common.{◌≡◌, ℕ, ◌<◌, [], ◌∷◌, List, All, length, get_or, map, take, sym, ap, ◌∙◌, subst, inl, inr, arith}
+use Rattle.std.specs.Prelude.{Option, is_some}
 use mathlib.Core.List.{IsPrefix}
 use Rattle.pv_cell.specs.Box.{IsWorn}
 use Rattle.pv_cell.specs.Course.{Became, HasCourse, IsNew}
@@ -27,10 +28,14 @@ use Rattle.pv_script.specs.declared.live.Request.{Request}
 use Rattle.pv_shown.specs.Sights.{sights_of}
 use Rattle.pv_shown.specs.declared.shown.Sight.{Sight}
 use Rattle.pv_shown.specs.declared.shown.Sight.TheVariants.{Opened, Took}
+use Rattle.pv_protocol.specs.State as state
+use Rattle.pv_protocol.specs.State.{Running}
 use Rattle.pv_site.specs.SiteState.{SiteState}
 use Rattle.pv_cluster.proofs.ListLemmas.{at-place}
+use Rattle.pv_cluster.proofs.LookedLemmas.{out-further}
 use Rattle.pv_cluster.proofs.StillLemmas.{pair-on}
-use Rattle.pv_cluster.specs.Serving.{IsLeftOf, WentOn}
+use Rattle.pv_cluster.specs.Endings.{KeptItsLog}
+use Rattle.pv_cluster.specs.Serving.{AllBecame, IsLeftOf, WentOn}
 
 -- A ring by which a client asks stays the one that it was.
 asks-still : {W : Type 0} (place : ℕ) (asks asks' : Out Request) (box : SiteBox W) → SameOut asks asks' → AsksBox place asks box → AsksBox place asks' box
@@ -38,10 +43,6 @@ asks-still place asks asks' box same is = (
   is.0,
   λ inlet. let ring = get_or box.ends.clients_in.items place inlet in pair-on asks asks' ring ring (is.1 inlet) same (rests-self ring).0,
 )
-
-outs-on : {M : Type 0} (a b c : Out M) → SameOut a b → SameOut b c → SameOut a c
-outs-on a b c one other =
-    (((other.0.0.0 ∙ one.0.0.0, other.0.0.1 ∙ one.0.0.1, other.0.0.2 ∙ one.0.0.2, other.0.0.3 ∙ one.0.0.3), other.0.1 ∙ one.0.1), other.1 ∙ one.1)
 
 module _ {W : Type 0} where
   -- what the first of these shows was at first, if it shows that
@@ -74,13 +75,22 @@ new-unworn : {W : Type 0} (box : SiteBox W) → IsNew box → IsWorn box → ⊥
 new-unworn box new (inl full) = let none = ap (λ (all : List Entry). length all) new.history.0 in omega (arith, full, none)
 new-unworn box new (inr last) = let none = new.history.1 in omega (arith, last, none)
 
+-- A site that was opened keeps its log, as its box goes on.
+kept-log : {W : Type 0} (M : LogModel W) (site : SiteState W) (old new : SiteBox W) → old.site ≡ site → IsNew old → Became M old new → KeptItsLog M site new.site
+kept-log {W} M site old new is first goes =
+    subst (λ (s : SiteState W). KeptItsLog M s new.site) is (
+      goes.known,
+      goes.faults,
+      λ none. goes.down (ap (λ (s : state.Site). is_some s.running) first.site) (ap (λ (r : Option Running). is_some r) none),
+    )
+
 -- What is left of clients when they have played.
 pub left-over : (clients played : List (crew.Client Request Answer)) (left : List Ended) → Each (λ k old new. HasPlayed old new) clients played
     → Each (λ k client ended. IsLeftOf client ended) played left → Each (λ k client ended. IsLeftOf client ended) clients left
 left-over clients played left one other =
     each-trans (λ (k : ℕ) (old new : crew.Client Request Answer). HasPlayed old new) (λ (k : ℕ) (client : crew.Client Request Answer) (ended : Ended). IsLeftOf client ended)
     (λ (k : ℕ) (client : crew.Client Request Answer) (ended : Ended). IsLeftOf client ended) clients played left
-    (λ k old new ended less played is. (is.0 ∙ played.0.0, outs-on old.asks new.asks ended.asks played.0.1 is.1)) one other
+    (λ k old new ended less played is. (is.0 ∙ played.0.0, out-further old.asks new.asks ended.asks played.0.1 is.1)) one other
 
 module _ {W : Type 0} (M : LogModel W) (script : LiveScript) (sites : List (SiteState W)) (boxes : List (SiteBox W)) (clients : List (crew.Client Request Answer))
     (opened : AreOpened M script sites boxes clients) where
@@ -125,6 +135,9 @@ module _ {W : Type 0} (M : LogModel W) (script : LiveScript) (sites : List (Site
       boxes_are = λ n any less. at-place sites n (subst (λ (m : ℕ). n < m) (sym opened.boxes_are.0) less)
           (λ site. new-box n any less site (subst (λ (m : ℕ). n < m) (sym opened.boxes_are.0) less));
       rings = opened.rings;
+      places = opened.places;
+      plans = opened.plans;
+      answers = opened.answers;
       clients_are = (
         opened.clients_are.0 ∙ left.0,
         λ k client one less. at-place clients k (subst (λ (m : ℕ). k < m) opened.clients_are.0 less)
@@ -140,3 +153,16 @@ module _ {W : Type 0} (M : LogModel W) (script : LiveScript) (sites : List (Site
           let goes = went.1 k one other less in
           (goes.0, goes.1, λ worn. absurd (new-unworn (get_or boxes k one) (opened-new k one less) worn)),
     )
+
+    -- The logs of the sites are kept, as their boxes go on from the opening to the end.
+    pub logs-kept : ((old mid new : SiteBox W) → Became M old mid → Became M mid new → Became M old new) → (served closed left : List (SiteBox W))
+        → Each (λ k one other. WentOn M one other) boxes served → AllBecame M served closed → AllBecame M closed left → (n : ℕ) (site : SiteState W)
+        (any : SiteBox W) → n < length sites → KeptItsLog M (get_or sites n site) (get_or left n any).site
+    logs-kept both served closed left went on last_on n site any less =
+        let is = opened.boxes_are.1 n site any less in
+        let here : n < length boxes = subst (λ (m : ℕ). n < m) opened.boxes_are.0 less in
+        let there : n < length served = subst (λ (m : ℕ). n < m) went.0 here in
+        let last : n < length closed = subst (λ (m : ℕ). n < m) on.0 there in
+        kept-log M (get_or sites n site) (get_or boxes n any) (get_or left n any) is.site_is is.is_new
+        (both (get_or boxes n any) (get_or closed n any) (get_or left n any)
+        (both (get_or boxes n any) (get_or served n any) (get_or closed n any) (went.1 n any any here).1 (on.1 n any any there)) (last_on.1 n any any last))

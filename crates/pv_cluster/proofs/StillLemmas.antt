@@ -1,5 +1,5 @@
 -- Boxes whose rings were looked at are the boxes that they were.
-use Rattle.std.proofs.Common.{◌≡◌, ℕ, ◌+◌, ◌-◌, ◌<◌, List, ◌++◌, All, length, get_or, set, take, drop, refl, sym, ap, ◌∙◌, subst, arith, Vec, Global}
+use Rattle.std.proofs.Common.{◌≡◌, ℕ, ◌<◌, List, ◌++◌, All, length, get_or, set, take, drop, refl, sym, ap, ◌∙◌, subst, arith, Vec, Global}
 use Rattle.std.proofs.lemmas.List.{get_or-drop, get_or-set_other, get_or-take, length-set, length-take-le, set-append_left, set-append_right, take-append-drop}
 use Rattle.std.specs.Vec.{with_item}
 use mathlib.Core.List.{IsPrefix}
@@ -9,17 +9,23 @@ use Rattle.pv_cell.specs.Lending.{AreStill, PostsNothing, with_ends}
 use Rattle.pv_cell.specs.Together.{Brought}
 use Rattle.pv_cell.specs.declared.site_box.SiteBox.{SiteBox}
 use Rattle.pv_closing.specs.Closing.{GoOn, GoesOn, IsWhole}
+use Rattle.pv_closing.specs.Ended.{AskOn}
+use Rattle.pv_closing.specs.Standing.{StandTogether}
+use Rattle.pv_closing.specs.declared.ended.Ended.{Ended}
 use Rattle.pv_disk_model.specs.LogModel.{LogModel}
 use Rattle.pv_mail.specs.declared.ends.Ends.{Ends}
 use Rattle.pv_mail.specs.declared.ends.Parcel.{Parcel}
 use Rattle.pv_post.specs.Ends.{IsPair, SameIn, SameOut, posted, taken}
 use Rattle.pv_post.specs.declared.inlet.In.{In}
 use Rattle.pv_post.specs.declared.outlet.Out.{Out}
-use Rattle.pv_rings.proofs.EachLemmas.{each-self, each-set, each-trans, get_or-any}
+use Rattle.pv_rings.proofs.EachLemmas.{each-self, each-set, each-trans, each-weaker, get_or-any}
 use Rattle.pv_rings.proofs.RingLemmas.{rests-self, rests-trans}
 use Rattle.pv_rings.specs.Rings.{Each, Rests}
+use Rattle.pv_script.specs.declared.live.LiveScript.{LiveScript}
 use Rattle.pv_script.specs.declared.live.Request.{Request}
+use Rattle.pv_cluster.proofs.LookedLemmas.{all-unlooked, looked-ask, out-further, out-self}
 use Rattle.pv_cluster.specs.Looks.{AllStill, AreLinked, IsStill}
+use Rattle.pv_cluster.specs.Serving.{AllBecame}
 
 -- ## Rings
 -- What stands at a place, where the list is that one.
@@ -43,17 +49,10 @@ module _ {M : Type 0} where
   OutsStill old new = Each (λ (k : ℕ) (one other : Out M). PostsNothing one other) old new
 
   posts-self : (out : Out M) → PostsNothing out out
-  posts-self out = ((((refl, refl, refl, refl), refl), refl), refl, refl)
+  posts-self out = (out-self out, refl, refl)
 
   posts-trans : (a b c : Out M) → PostsNothing a b → PostsNothing b c → PostsNothing a c
-  posts-trans a b c one other = (
-    (
-      ((other.0.0.0.0 ∙ one.0.0.0.0, other.0.0.0.1 ∙ one.0.0.0.1, other.0.0.0.2 ∙ one.0.0.0.2, other.0.0.0.3 ∙ one.0.0.0.3), other.0.0.1 ∙ one.0.0.1),
-      other.0.1 ∙ one.0.1,
-    ),
-    other.1 ∙ one.1,
-    other.2 ∙ one.2,
-  )
+  posts-trans a b c one other = (out-further a b c one.0 other.0, other.1 ∙ one.1, other.2 ∙ one.2)
 
   pub ins-self : (rings : List (In M)) → InsStill rings rings
   ins-self rings = each-self (λ (k : ℕ) (one other : In M). Rests one other) rings (λ k ring less. rests-self ring)
@@ -88,6 +87,10 @@ module _ {M : Type 0} where
 -- the ends with this ring in and this ring out at this place
 abbrev pub ends_with : Ends → ℕ → In Parcel → Out Parcel → Ends
 ends_with ends at inlet out = record ends { sites_in = with_item ends.sites_in at inlet; sites_out = with_item ends.sites_out at out }
+
+-- the ends with this ring of a client at this place
+abbrev pub asked_with : Ends → ℕ → In Request → Ends
+asked_with ends at inlet = record ends { clients_in = with_item ends.clients_in at inlet }
 
 -- One ring in and one ring out are looked at.
 pub both-still : (old new : Ends) (at to : ℕ) (inlet : In Parcel) (out : Out Parcel) → new.sites_in.items ≡ set old.sites_in.items at inlet
@@ -130,6 +133,46 @@ module _ {W : Type 0} where
     pub all-go : (old new : List (SiteBox W)) → All (IsWhole M) old → AllStill old new → GoOn M old new
     all-go old new whole all =
         (all.0, λ k one other less. still-goes (get_or old k one) (get_or new k other) (whole k one less) (all.1 k one other less))
+
+  module _ (M : LogModel W) (both : (old mid new : SiteBox W) → Became M old mid → Became M mid new → Became M old new) where
+    pub became-further : (old mid new : List (SiteBox W)) → AllBecame M old mid → AllBecame M mid new → AllBecame M old new
+    became-further old mid new one other =
+        each-trans (λ (k : ℕ) (x y : SiteBox W). Became M x y) (λ (k : ℕ) (x y : SiteBox W). Became M x y) (λ (k : ℕ) (x y : SiteBox W). Became M x y) old mid new
+        (λ k x y z less. both x y z) one other
+
+    -- Boxes that go on are the boxes that they were.
+    pub became-on : (old mid new : List (SiteBox W)) → AllBecame M old mid → GoOn M mid new → AllBecame M old new
+    became-on old mid new one on =
+        became-further old mid new one
+        (each-weaker (λ (k : ℕ) (x y : SiteBox W). GoesOn M x y) (λ (k : ℕ) (x y : SiteBox W). Became M x y) mid new (λ k x y less goes. goes.1) on)
+
+  -- So are boxes whose rings were looked at.
+  pub still-became : (M : LogModel W) → ((box : SiteBox W) (ends : Ends) → AreStill box.ends ends → Became M box (with_ends box ends))
+      → (old new : List (SiteBox W)) → AllStill old new → AllBecame M old new
+  still-became M lent_same old new still =
+      each-weaker (λ (k : ℕ) (x y : SiteBox W). IsStill x y) (λ (k : ℕ) (x y : SiteBox W). Became M x y) old new
+      (λ k x y less is. subst (λ (box : SiteBox W). Became M x box) (sym is.0) (lent_same x y.ends is.1)) still
+
+  -- At first they are what they are.
+  pub became-self : (M : LogModel W) → ((box : SiteBox W) → Became M box box) → (boxes : List (SiteBox W)) → AllBecame M boxes boxes
+  became-self M none boxes = each-self (λ (k : ℕ) (x y : SiteBox W). Became M x y) boxes (λ k box less. none box)
+
+  -- Boxes that stand together are whole.
+  pub all-whole : (M : LogModel W) (script : LiveScript) (boxes : List (SiteBox W)) (clients : List Ended) → StandTogether M script boxes clients
+      → All (IsWhole M) boxes
+  all-whole M script boxes clients stand k any less = let is = stand.boxes_are k any less in (is.is_box, is.course)
+
+  -- Looked at, they stand together.
+  pub stands-later : (M : LogModel W) (script : LiveScript)
+      → ((box : SiteBox W) (ends : Ends) → AreStill box.ends ends → IsBox M box → IsBox M (with_ends box ends))
+      → ((box : SiteBox W) (ends : Ends) → AreStill box.ends ends → HasCourse box → HasCourse (with_ends box ends))
+      → ((box : SiteBox W) (ends : Ends) → AreStill box.ends ends → Became M box (with_ends box ends))
+      → ((script : LiveScript) (boxes later : List (SiteBox W)) (clients asking : List Ended) → StandTogether M script boxes clients → GoOn M boxes later
+      → AskOn clients asking → StandTogether M script later asking)
+      → (boxes later : List (SiteBox W)) (clients : List Ended) → StandTogether M script boxes clients → AllStill boxes later → StandTogether M script later clients
+  stands-later M script lent_box lent_course lent_same together boxes later clients stand still =
+      together script boxes later clients clients stand (all-go M lent_box lent_course lent_same boxes later (all-whole M script boxes clients stand) still)
+      (looked-ask clients clients (all-unlooked clients))
 
   pub still-self : (box : SiteBox W) → IsStill box box
   still-self box =
@@ -221,14 +264,17 @@ module _ {W : Type 0} where
 
   -- ## Two parts of a list
   -- What stands at a place of the first part, and at the first of the second.
-  pub in-front : (boxes : List (SiteBox W)) (first second : ℕ) (x any : SiteBox W) → first < second → second < length boxes → x ≡ get_or (take second boxes) first x
-      → x ≡ get_or boxes first any
-  in-front boxes first second x any below within is =
-      is ∙ get_or-take second boxes first x below ∙ sym (get_or-any boxes first x any (omega (arith, below, within)))
+  pub in-front : (boxes front : List (SiteBox W)) (first second : ℕ) (x any : SiteBox W) → front ≡ take second boxes → first < second → second < length boxes
+      → get_or front first x ≡ get_or boxes first any
+  in-front boxes front first second x any is below within =
+      ap (λ (all : List (SiteBox W)). get_or all first x) is ∙ get_or-take second boxes first x below
+      ∙ sym (get_or-any boxes first x any (omega (arith, below, within)))
 
-  pub at-seam : (boxes : List (SiteBox W)) (second : ℕ) (x any : SiteBox W) → second < length boxes → x ≡ get_or (drop second boxes) 0 x → x ≡ get_or boxes second any
-  at-seam boxes second x any within is =
-      is ∙ get_or-drop second boxes 0 x ∙ ap (λ (k : ℕ). get_or boxes k x) (omega arith) ∙ sym (get_or-any boxes second x any within)
+  pub at-seam : (boxes behind : List (SiteBox W)) (second : ℕ) (x any : SiteBox W) → behind ≡ drop second boxes → second < length boxes
+      → get_or behind 0 x ≡ get_or boxes second any
+  at-seam boxes behind second x any is within =
+      ap (λ (all : List (SiteBox W)). get_or all 0 x) is ∙ get_or-drop second boxes 0 x ∙ ap (λ (k : ℕ). get_or boxes k x) (omega arith)
+      ∙ sym (get_or-any boxes second x any within)
 
   -- Both are changed.
   two-set : (boxes : List (SiteBox W)) (first second : ℕ) (y z : SiteBox W) → first < second → second < length boxes
@@ -245,11 +291,19 @@ module _ {W : Type 0} where
       ∙ ap (λ (k : ℕ). set front first y ++ set behind k z) (omega arith)
       )
 
-  pub two-still : (boxes : List (SiteBox W)) (first second : ℕ) (x y w z : SiteBox W) → first < second → second < length boxes → x ≡ get_or (take second boxes) first x
-      → IsStill x y → w ≡ get_or (drop second boxes) 0 w → IsStill w z → AllStill boxes (set (take second boxes) first y ++ set (drop second boxes) 0 z)
+  two-still : (boxes : List (SiteBox W)) (first second : ℕ) (x y w z : SiteBox W) → first < second → second < length boxes → x ≡ get_or boxes first x
+      → IsStill x y → w ≡ get_or boxes second w → IsStill w z → AllStill boxes (set (take second boxes) first y ++ set (drop second boxes) 0 z)
   two-still boxes first second x y w z below within is still other still' =
       subst (λ (all : List (SiteBox W)). AllStill boxes all) (sym (two-set boxes first second y z below within))
-      (one-still boxes (set boxes first y) second w z
-      (one-still boxes boxes first x y (all-self boxes) (omega (arith, below, within)) (in-front boxes first second x x below within is) still)
+      (one-still boxes (set boxes first y) second w z (one-still boxes boxes first x y (all-self boxes) (omega (arith, below, within)) is still)
       (subst (λ (n : ℕ). second < n) (sym (length-set boxes first y)) within)
-      (at-seam boxes second w w within other ∙ sym (get_or-set_other boxes first second y w (λ same. absurd (omega (arith, same, below))))) still')
+      (other ∙ sym (get_or-set_other boxes first second y w (λ same. absurd (omega (arith, same, below))))) still')
+
+  pub parts-still : (boxes front behind : List (SiteBox W)) (first second : ℕ) (x y w z : SiteBox W) → front ≡ take second boxes → behind ≡ drop second boxes
+      → first < second → second < length boxes → IsStill (get_or front first x) y → IsStill (get_or behind 0 w) z
+      → AllStill boxes (set front first y ++ set behind 0 z)
+  parts-still boxes front behind first second x y w z fronts behinds below within still still' =
+      subst (λ (f : List (SiteBox W)). AllStill boxes (set f first y ++ set behind 0 z)) (sym fronts)
+      (subst (λ (b : List (SiteBox W)). AllStill boxes (set (take second boxes) first y ++ set b 0 z)) (sym behinds)
+      (two-still boxes first second (get_or front first x) y (get_or behind 0 w) z below within
+      (in-front boxes front first second x (get_or front first x) fronts below within) still (at-seam boxes behind second w (get_or behind 0 w) behinds within) still'))

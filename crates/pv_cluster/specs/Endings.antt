@@ -1,13 +1,20 @@
 -- How a live run ends.
-use Rattle.std.specs.Prelude.{◌≡◌, ℕ, ◌<◌, ◌≤◌, None, [], List, All, is_some, length, get_or}
+use Rattle.std.specs.Prelude.{◌≡◌, ◌⊎◌, ℕ, ◌<◌, ◌≤◌, None, [], List, All, is_some, length, map, take, get_or}
 use Rattle.pv_base.specs.Catalog.{Declared}
 use Rattle.pv_base.specs.Fault.{Rose}
 use Rattle.pv_disk_model.specs.LogModel.{LogModel}
 use Rattle.pv_law_histories.specs.Fitting.{CanAllBeDone, FitTogether}
 use Rattle.pv_law_passing.specs.Asking.{asked_by}
+use Rattle.pv_model.specs.LiveScript as model
+use Rattle.pv_script.specs.LiveView.{request_of}
 use Rattle.pv_script.specs.declared.live.Client.{Client}
 use Rattle.pv_script.specs.declared.live.LiveScript.{LiveScript}
+use Rattle.pv_script.specs.declared.live.Request.{Request}
 use Rattle.pv_site.specs.SiteState.{SiteState, setup_of}
+use Rattle.pv_crew.specs.Messages.{messages_of}
+use Rattle.pv_post.specs.Ends.{taken}
+use Rattle.pv_post.specs.declared.inlet.In.{In}
+use Rattle.pv_cell.specs.Box.{IsWorn}
 use Rattle.pv_cell.specs.Together.{PassesInOrder, histories_of}
 use Rattle.pv_cell.specs.declared.site_box.SiteBox.{SiteBox}
 use Rattle.pv_opening.specs.Counts.{count_at}
@@ -23,11 +30,23 @@ KeptItsLog M old new =
     × (M.faults old.log ≤ M.faults new.log) × (new.running ≡ None → Rose (M.faults old.log) (M.faults new.log))
 
 module _ {W : Type 0} where
+  -- what was taken from the ring of this place among those of the box's clients
+  abbrev pub asked_along : SiteBox W → ℕ → In Request → List model.Request
+  asked_along box place inlet = map request_of (messages_of (taken (get_or box.ends.clients_in.items place inlet)))
+
   -- Messages passed from each site to each in order.
   abbrev pub AllPassInOrder : Declared → List (SiteBox W) → Type 0
   AllPassInOrder catalog boxes =
       (from to : ℕ) (any : SiteBox W) → from < length boxes → to < length boxes
       → PassesInOrder (setup_of catalog) from to (get_or boxes from any) (get_or boxes to any)
+
+  -- All that a client is to ask for was asked, in order: its site's box took all of it from the client's ring, or is worn.
+  abbrev pub AskedForAll : List Client → List (SiteBox W) → Type 0
+  AskedForAll clients boxes =
+      (k : ℕ) (client : Client) (any : SiteBox W) (inlet : In Request) → k < length clients
+      → IsWorn (get_or boxes (get_or clients k client).site.0 any)
+      ⊎ (asked_along (get_or boxes (get_or clients k client).site.0 any) (count_at (get_or clients k client).site.0 (take k clients)) inlet
+      ≡ map request_of (get_or clients k client).requests.items)
 
   -- At no site did anybody ask but these clients.
   abbrev pub NobodyElseAsked : List Client → List (SiteBox W) → Type 0
@@ -42,5 +61,6 @@ module _ {W : Type 0} where
     pub plans : All (FailsBy (plan_in script)) closed.boxes.items
     pub count : length closed.boxes.items ≡ script.catalog.sites
     pub boxes : (n : ℕ) (any : SiteBox W) → n < length closed.boxes.items → IsClosedBox M script.catalog n (get_or closed.boxes.items n any)
+    pub asked : AskedForAll script.clients.items closed.boxes.items
     pub nobody : NobodyElseAsked script.clients.items closed.boxes.items
     pub clients : AreServed closed.boxes.items script.clients.items closed.clients.items

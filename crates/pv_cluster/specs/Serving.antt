@@ -1,5 +1,5 @@
 -- What workers leave of boxes and clients.
-use Rattle.std.specs.Prelude.{◌≡◌}
+use Rattle.std.specs.Prelude.{◌≡◌, List}
 use Rattle.pv_cell.specs.Course.{Became}
 use Rattle.pv_cell.specs.declared.site_box.SiteBox.{SiteBox}
 use Rattle.pv_closing.specs.Closing.{IsWhole}
@@ -8,11 +8,16 @@ use Rattle.pv_crew.specs.declared.client.Client.{Client}
 use Rattle.pv_disk_model.specs.LogModel.{LogModel}
 use Rattle.pv_mail.specs.declared.answer.Answer.{Answer}
 use Rattle.pv_post.specs.Ends.{SameOut}
+use Rattle.pv_rings.specs.Rings.{Each}
 use Rattle.pv_script.specs.declared.live.Request.{Request}
 
 -- It is the box later.
 abbrev pub WentOn : {W : Type 0} → LogModel W → SiteBox W → SiteBox W → Type 0
 WentOn M old new = IsWhole M new × Became M old new
+
+-- All boxes later.
+abbrev pub AllBecame : {W : Type 0} → LogModel W → List (SiteBox W) → List (SiteBox W) → Type 0
+AllBecame M old new = Each (λ _ one other. Became M one other) old new
 
 -- It is what is left of the client: it asks for the same, by the same ring.
 abbrev pub IsLeftOf : Client Request Answer → Ended → Type 0

@@ -1,9 +1,10 @@
-// A look at each ring with both its ends, when all has ended. It shows that what was taken from the ring is a beginning of what was posted on it.
-ghost use Rattle.std.specs.Prelude.{ℕ, ◌<◌, get_or, length};
+// A look at each ring with both its ends, when all has ended. It shows that what was taken from the ring is a beginning of what was posted on it. No number that such a
+// look gives is needed between sites: the calls are made for what they show.
+ghost use Rattle.std.specs.Prelude.{◌≡◌, ◌⊎◌, true, ℕ, ◌<◌, get_or, length};
 ghost use mathlib.Core.List.{IsPrefix};
 ghost use Rattle.pv_cell.specs.Together.{Brought};
 ghost use Rattle.pv_closing.specs.Standing.{StandTogether};
-ghost use Rattle.pv_cluster.specs.Looks.{AllStill, AreBroughtTo, AreLinked, IsStill, StandOnceTo};
+ghost use Rattle.pv_cluster.specs.Looks.{AllLooked, AllStill, AreBroughtTo, AreLinked, IsLooked, IsStill, StandOnceTo, WasTaken, WereTakenTo};
 ghost use Rattle.pv_opening.specs.Opened.{AsksBox, HasRing};
 ghost use Rattle.pv_opening.specs.Opening.{IsRead};
 ghost use Rattle.pv_post.specs.Ends.{posted, taken};
@@ -62,6 +63,7 @@ fn look_between<L: Log>(boxes: &mut Vec<SiteBox<L>>, first: usize, second: usize
     ensures on { (any : SiteBox L) → Brought first second (get_or boxes.old.items first any) (get_or boxes.old.items second any) }
     ensures back { (any : SiteBox L) → Brought second first (get_or boxes.old.items second any) (get_or boxes.old.items first any) }
 {
+    // The two stand in one list, and both are needed at once.
     let (before, behind) = boxes.split_at_mut(second);
     look_at_both(&mut before[first], first, &mut behind[0], second);
 }
@@ -82,36 +84,55 @@ fn look_at_both<L: Log>(one: &mut SiteBox<L>, at: usize, other: &mut SiteBox<L>,
     here.sites_in[to].beside(&mut there.sites_out[at]);
 }
 
-/// Looks at the ring by which each client asks. Of its requests those that stand in its site's history stand there each once and in order.
+/// Looks at the ring by which each client asks, and tells whether each is empty or the box of its site is worn. Of a client's requests those that stand in its site's
+/// history stand there each once and in order.
 pub(crate) fn look_at_clients<L: Log>(
     script: &LiveScript,
     boxes: &mut Vec<SiteBox<L>>,
-    clients: Vec<Ended>,
-)
+    clients: &mut Vec<Ended>,
+) -> bool
     requires script { IsRead script.now }
-    requires standing { StandTogether L.model script.now boxes.old.items clients.items }
+    requires standing { StandTogether L.model script.now boxes.old.items clients.old.items }
     ensures still { AllStill boxes.old.items boxes.new.items }
-    ensures once { StandOnceTo (length clients.items) boxes.old.items script.now.clients.items }
+    ensures looked { AllLooked clients.old.items clients.new.items }
+    ensures once { StandOnceTo (length script.now.clients.items) boxes.old.items script.now.clients.items }
+    ensures taken { result ≡ true → WereTakenTo (length script.now.clients.items) boxes.old.items script.now.clients.items clients.old.items }
 {
     live_scripts_are_small();
     boxes_lend_their_ends::<L>();
     boxes_stand_on::<L>();
-    let mut at = 0;
-    for ended in clients {
-        let client = &script.clients[at];
+    let mut all = true;
+    for at in 0..script.clients.len() {
+        let site = script.clients[at].site.0 as usize;
         let place = place_of(&script.clients, at);
-        look_at_client(&mut boxes[client.site.0 as usize], place as usize, ended);
-        at += 1;
+        all = look_at_client(&mut boxes[site], place as usize, &mut clients[at], all);
     }
+    all
 }
 
-// Looks at the ring by which a client asks, which has this place among its site's own.
-fn look_at_client<L: Log>(one: &mut SiteBox<L>, place: usize, ended: Ended)
-    requires { AsksBox place ended.asks one.old }
+// Looks at the ring by which a client asks, which has this place among its site's own, and tells whether it is empty or the box is worn, and so it was before.
+fn look_at_client<L: Log>(
+    one: &mut SiteBox<L>,
+    place: usize,
+    ended: &mut Ended,
+    before: bool,
+) -> bool
+    requires { AsksBox place ended.old.asks one.old }
     ensures still { IsStill one.old one.new }
-    ensures taken { (inlet : In Request) → IsPrefix (taken (get_or one.old.ends.clients_in.items place inlet)) (posted ended.asks) }
+    ensures looked { IsLooked ended.old ended.new }
+    ensures began { (inlet : In Request) → IsPrefix (taken (get_or one.old.ends.clients_in.items place inlet)) (posted ended.old.asks) }
+    ensures before { result ≡ true → before ≡ true }
+    ensures taken { result ≡ true → WasTaken one.old place ended.old }
 {
-    let mut asks = ended.asks;
+    let worn = one.is_worn();
     let ends = one.ends();
-    ends.clients_in[place].beside(&mut asks);
+    let held = ends.clients_in[place].beside(&mut ended.asks);
+    is_over(before, worn, held)
+}
+
+// Whether nothing is left of a ring that holds so many, and nothing was before.
+fn is_over(before: bool, worn: bool, held: usize) -> bool
+    ensures { result ≡ true → (before ≡ true) × ((worn ≡ true) ⊎ (held ≡ 0)) }
+{
+    before && (worn || held == 0)
 }

@@ -8,15 +8,15 @@ ghost use Rattle.pv_opening.specs.Opened.{FailsBy, plan_in};
 ghost use Rattle.pv_opening.specs.Opening.{AreNew, IsRead};
 ghost use Rattle.pv_closing.specs.Boxes.{IsClosedBox};
 ghost use Rattle.pv_closing.specs.Clients.{AreServed};
-ghost use Rattle.pv_cluster.specs.Endings.{AllPassInOrder, KeptItsLog, NobodyElseAsked};
+ghost use Rattle.pv_cluster.specs.Endings.{AllPassInOrder, AskedForAll, KeptItsLog, NobodyElseAsked};
 ghost use Rattle.pv_cluster.specs.declared.running.TheConstants.{MAX_WORKERS};
 
 use crate::closed::Closed;
-use crate::ending::finish;
+use crate::ending::{close_all, finish};
 use crate::serving::serve_boxes;
 use pv_base::NoMemory;
 use pv_cell::{boxes_keep_their_course, boxes_stay_the_same};
-use pv_closing::{boxes_stand_on, close_round};
+use pv_closing::boxes_stand_on;
 use pv_crew::Gate;
 use pv_disk::Log;
 use pv_opening::open_all;
@@ -60,6 +60,7 @@ pub fn run<T: Threads + Wait + Sync, L: Log + Send, G: Gate + Sync>(
     ensures passed { IfOk result (λ closed. AllPassInOrder script.now.catalog closed.boxes.items) }
     ensures plans { IfOk result (λ closed. All (FailsBy (plan_in script.now)) closed.boxes.items) }
     ensures boxes { IfOk result (λ closed. Each (λ n site box. IsClosedBox L.model script.now.catalog n box × KeptItsLog L.model site box.site) sites.items closed.boxes.items) }
+    ensures asked { IfOk result (λ closed. AskedForAll script.now.clients.items closed.boxes.items) }
     ensures nobody { IfOk result (λ closed. NobodyElseAsked script.now.clients.items closed.boxes.items) }
     ensures clients { IfOk result (λ closed. AreServed closed.boxes.items script.now.clients.items closed.clients.items) }
 {
@@ -72,7 +73,7 @@ pub fn run<T: Threads + Wait + Sync, L: Log + Send, G: Gate + Sync>(
     let (boxes, clients) = serve_boxes(rt, alloc, opened.boxes, workers, opened.clients, gate)?;
     let mut boxes = boxes;
     let mut clients = clients;
-    close_round(rt, alloc, script, &mut boxes, &mut clients)?;
-    let closed = finish(alloc, script, boxes, clients)?;
+    close_all(rt, alloc, script, &mut boxes, &mut clients)?;
+    let closed = finish(alloc, script, boxes)?;
     Ok(closed)
 }

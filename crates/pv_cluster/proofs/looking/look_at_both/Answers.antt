@@ -1,5 +1,5 @@
 -- Looks at two rings with both their ends leave the boxes as they were.
-use Rattle.std.proofs.Common.{get_or, refl, set, ap, subst}
+use Rattle.std.proofs.Common.{refl, set, ap, subst}
 use Rattle.pv_cell.specs.Lending.{PostsNothing}
 use Rattle.pv_mail.specs.declared.ends.Ends.{Ends}
 use Rattle.pv_rings.specs.Rings.{Rests}

@@ -1,9 +1,9 @@
 -- The site's own ring is looked at, and then those between it and one site after another.
-use Rattle.std.proofs.Common.{◌≡◌, ◌<◌, ◌≤◌, get_or, length, set, sym, subst, ◌∙◌, arith}
+use Rattle.std.proofs.Common.{◌<◌, length, sym, subst, ◌∙◌, arith}
 use Rattle.pv_cell.specs.Together.{Brought}
 use Rattle.pv_opening.specs.Opened.{HasRing}
 use Rattle.pv_rings.proofs.EachLemmas.{get_or-any}
-use Rattle.pv_cluster.proofs.LookLemmas.{AreBroughtWith, own-first, with-more}
+use Rattle.pv_cluster.proofs.LookLemmas.{own-first, with-more}
 use Rattle.pv_cluster.proofs.StillLemmas.{all-self, all-trans, one-still, still-linked}
 use Rattle.pv_cluster.proofs.looking.look_at_site.Goals as goal
 

@@ -1,5 +1,5 @@
 -- One site after another is looked at.
-use Rattle.std.proofs.Common.{◌≡◌, ◌<◌, length, sym, subst, ◌∙◌, arith}
+use Rattle.std.proofs.Common.{◌≡◌, ◌<◌, subst, ◌∙◌, arith}
 use Rattle.pv_cluster.proofs.LookLemmas.{brought-more}
 use Rattle.pv_cluster.proofs.StillLemmas.{all-self, all-trans, still-linked}
 use Rattle.pv_cluster.proofs.looking.look_at_sites.Goals as goal

@@ -1,5 +1,5 @@
 -- One client after another has ended.
-use Rattle.std.proofs.Common.{ℕ, [], ◌∷◌, ◌++◌, ◌≡◌, List, sym, ap, subst, ◌∙◌, append_assoc, append-nil}
+use Rattle.std.proofs.Common.{[], ◌∷◌, ◌++◌, ◌≡◌, sym, ap, subst, ◌∙◌, append_assoc, append-nil}
 use Rattle.std.proofs.lemmas.List.{nil_from_length}
 use Rattle.pv_rings.specs.Rings.{Each}
 use Rattle.pv_cluster.proofs.ListLemmas.{each-none, each-push}
@@ -19,7 +19,7 @@ loop-client-preserved c =
     let client = c.in-Some.client in (
       append_assoc done (client ∷ []) c.next.new.self.rest.items ∙ ap (λ l. done ++ l) (sym c.in-Some.ensures.steps.0) ∙ kept.0,
       subst (λ l. Each (λ k client ended. IsLeftOf client ended) (done ++ client ∷ []) l) (sym c.in_ok-push.ensures.items)
-          (each-push IsLeftOf done c.loop-client.left.items client c.left_of-ended.result kept.1 c.end-ended.ensures),
+          (each-push IsLeftOf done c.loop-client.left.items client c.left_of-ended.result kept.1 c.left_of-ended.ensures),
     )
 
 pub returns : goal.returns

@@ -1,5 +1,5 @@
 -- One box after another comes from its turn.
-use Rattle.std.proofs.Common.{ℕ, [], ◌∷◌, ◌++◌, ◌≡◌, List, sym, ap, subst, ◌∙◌, append_assoc, append-nil}
+use Rattle.std.proofs.Common.{[], ◌∷◌, ◌++◌, ◌≡◌, sym, ap, subst, ◌∙◌, append_assoc, append-nil}
 use Rattle.std.proofs.lemmas.List.{nil_from_length}
 use Rattle.pv_rings.specs.Rings.{Each}
 use Rattle.pv_cluster.proofs.ListLemmas.{each-none, each-push}

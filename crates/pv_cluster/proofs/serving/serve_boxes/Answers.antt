@@ -1,6 +1,4 @@
 -- The boxes that come back are later ones of those that went.
-use Rattle.std.proofs.Common.{◌<◌, ◌≤◌, sym, subst, ◌∙◌}
-use Rattle.pv_base.specs.declared.limits.TheConstants.{MAX_SITES}
 use Rattle.pv_cluster.proofs.ServeLemmas.{left-over, went-on}
 use Rattle.pv_cluster.proofs.serving.serve_boxes.Goals as goal
 

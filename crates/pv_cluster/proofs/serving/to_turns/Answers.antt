@@ -1,7 +1,6 @@
 -- One box after another comes to its turn.
-use Rattle.std.proofs.Common.{ℕ, [], ◌∷◌, ◌++◌, ◌≡◌, List, sym, ap, subst, ◌∙◌, append_assoc, append-nil}
+use Rattle.std.proofs.Common.{[], ◌∷◌, ◌++◌, ◌≡◌, sym, ap, subst, ◌∙◌, append_assoc, append-nil}
 use Rattle.std.proofs.lemmas.List.{nil_from_length}
-use Rattle.pv_cell.specs.declared.site_box.SiteBox.{SiteBox}
 use Rattle.pv_closing.specs.Closing.{IsWhole}
 use Rattle.pv_rings.specs.Rings.{Each}
 use Rattle.pv_cluster.proofs.ListLemmas.{all-at, each-none, each-push}
