@@ -1,0 +1,4 @@
+pub mod CertainLemmas
+pub mod ExampleLemmas
+pub mod RunLemmas
+pub mod StateLemmas
