@@ -37,7 +37,7 @@
  * Room. Where a call writes bytes to `out`, they are `room` bytes at most, and too small a room loses nothing: POLYDB_TOO_SMALL says in `*written` how many
  * bytes there are, nothing is written, and the same bytes come again. But polydb_world_take has no such status: it writes a part, and the next call goes on.
  * After every call `out` is as it was beyond the bytes that were written. `*written` is 0 but with POLYDB_DONE and POLYDB_TOO_SMALL, and but for polydb_run,
- * which has a text with other statuses too; `*place`, `*to` and `*at` are 0 but with POLYDB_DONE.
+ * which has a text with other statuses too; `*place`, `*to`, `*tag` and `*at` are 0 but with POLYDB_DONE.
  */
 #ifndef POLYDB_H
 #define POLYDB_H
@@ -335,6 +335,13 @@ uint32_t polydb_site_submit(polydb_site *site, const uint8_t *program, size_t le
 uint32_t polydb_site_submit_at(polydb_site *site, const uint8_t *program, size_t length, bool query, polydb_fault *fault);
 
 /*
+ * The same, with a number of the host's, which polydb_site_take_tagged gives with the report `txn ..` of this request. 0 is that of a request without one. The site keeps the
+ * tag in memory until then, and no file has it: if the site is closed before, it is lost with that report. So a host that keeps beside each tag what it has of the request, and
+ * then the number that came with the tag, can ask for the outcome (polydb_site_outcome) after a crash.
+ */
+uint32_t polydb_site_submit_tagged(polydb_site *site, const uint8_t *program, size_t length, bool query, uint64_t tag, polydb_fault *fault);
+
+/*
  * A message comes: bytes that polydb_site_take_message of some site, or of this one, has given.
  *
  *   POLYDB_DONE         the site has taken it
@@ -390,6 +397,12 @@ uint32_t polydb_site_journal_synced(polydb_site *site, uint64_t place, size_t wr
  *   POLYDB_NO_MEMORY   there was no memory; it comes again
  */
 uint32_t polydb_site_take_message(polydb_site *site, uint8_t *out, size_t room, size_t *written, uint64_t *to);
+
+/*
+ * The same, and gives in `*tag` the tag of the request whose number is reported: of polydb_site_submit_tagged, with its report `txn ..`. With all else, also with a status other than
+ * POLYDB_DONE, it is 0.
+ */
+uint32_t polydb_site_take_tagged(polydb_site *site, uint8_t *out, size_t room, size_t *written, uint64_t *to, uint64_t *tag);
 
 /*
  * What the site shows of its item of this name, as the line with its line feed that a report has for it: `item a 90`,

@@ -301,12 +301,13 @@ _world_step = _declare("polydb_world_step", _handle, c_char_p, c_size_t)
 _world_take = _declare("polydb_world_take", _handle, _out, c_size_t, _size)
 _world_close = _declare("polydb_world_close", _handle, result=None)
 _site_open = _declare("polydb_site_open_at", _handle, c_char_p, c_size_t, c_uint8, c_char_p, c_size_t, _fault)
-_site_submit = _declare("polydb_site_submit_at", _handle, c_char_p, c_size_t, c_bool, _fault)
+_site_submit = _declare("polydb_site_submit_tagged", _handle, c_char_p, c_size_t, c_bool, c_uint64, _fault)
 _site_receive = _declare("polydb_site_receive", _handle, c_char_p, c_size_t)
 _site_tick = _declare("polydb_site_tick", _handle)
 _site_take_journal = _declare("polydb_site_take_journal", _handle, _out, c_size_t, _size, _place)
 _site_journal_synced = _declare("polydb_site_journal_synced", _handle, c_uint64, c_size_t)
 _site_take_message = _declare("polydb_site_take_message", _handle, _out, c_size_t, _size, _place)
+_site_take_tagged = _declare("polydb_site_take_tagged", _handle, _out, c_size_t, _size, _place, _place)
 _site_read = _declare("polydb_site_read", _handle, c_char_p, c_size_t, _out, c_size_t, _size)
 _site_outcome = _declare("polydb_site_outcome", _handle, c_uint8, c_uint32, c_uint32, POINTER(c_uint32))
 _site_info = _declare("polydb_site_info", _handle, POINTER(_Info))
@@ -443,9 +444,10 @@ class Message(NamedTuple):
 
 
 class Report(NamedTuple):
-    """A line for the host, as a run prints it: what became of a request."""
+    """A line for the host, as a run prints it: what became of a request. With the line `txn ..` comes the tag of the request whose number it is."""
 
     line: str
+    tag: int = 0
 
 
 Output = Union[Message, Report]
@@ -490,11 +492,14 @@ class Site(_Open):
         fault = _Fault()
         _check(self._call(_site_open, text, len(text), me, journal, len(journal), byref(fault)), "open", fault)
 
-    def submit(self, program: Text, query: bool = False) -> None:
-        """A request, with this site as its coordinator. A query assigns nothing and has a `return`."""
+    def submit(self, program: Text, query: bool = False, tag: int = 0) -> None:
+        """A request, with this site as its coordinator. A query assigns nothing and has a `return`. The tag, from 0 to 2**64 - 1, comes again with the Report of the request's
+        number, as long as the site isn't closed before."""
+        if not 0 <= tag < 1 << 64:  # in C it has 64 bits, and the rest would be cut off
+            raise ValueError(f"submit: a tag is from 0 to 2**64 - 1 ({tag})")
         text = _bytes(program)
         fault = _Fault()
-        _check(self._call(_site_submit, text, len(text), query, byref(fault)), "submit", fault)
+        _check(self._call(_site_submit, text, len(text), query, tag, byref(fault)), "submit", fault)
 
     def receive(self, message: Bytes) -> None:
         """A message that another site, or this one, has let out."""
@@ -521,12 +526,12 @@ class Site(_Open):
 
     def take(self) -> Optional[Output]:
         """The next Message or Report that is let out, or None for now: nothing comes before the journal has what it rests on."""
-        to = c_uint64(0)
-        status, data = _fill(lambda out, room, written: self._call(_site_take_message, out, room, written, byref(to)))
+        to, tag = c_uint64(0), c_uint64(0)
+        status, data = _fill(lambda out, room, written: self._call(_site_take_tagged, out, room, written, byref(to), byref(tag)))
         if status == _NOTHING:
             return None
         _check(status, "take")
-        return Report(data.decode().rstrip("\n")) if to.value == _REPORT else Message(to.value, data)
+        return Report(data.decode().rstrip("\n"), tag.value) if to.value == _REPORT else Message(to.value, data)
 
     def read(self, name: Text) -> str:
         """What the site shows of its item of this name, once all is written: `90`, `50 if -0.1.0 ; 60 if +0.1.0`, or `locked 0.1.0`."""

@@ -320,9 +320,9 @@ class FileHost:
             raise ValueError("the host is closed")
         return self.site
 
-    def submit(self, program: Text, query: bool = False) -> None:
-        """A request, with this site as its coordinator."""
-        self._open().submit(program, query)
+    def submit(self, program: Text, query: bool = False, tag: int = 0) -> None:
+        """A request, with this site as its coordinator. The Report of its number has its tag."""
+        self._open().submit(program, query, tag)
 
     def receive(self, message: Bytes) -> None:
         """A message of another site comes."""

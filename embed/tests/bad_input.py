@@ -333,6 +333,22 @@ def small_rooms():
             assert bytes(out[:needed]) == wanted()
 
 
+def tags():
+    """A tag comes with the report of its request's number, and with nothing else."""
+    host = Hosted(0)
+    for tag in (7, 0, 2**64 - 1):
+        host.site.submit(TRANSFER, tag=tag)
+    for tag in (-1, 2**64):
+        try:
+            host.site.submit(TRANSFER, tag=tag)
+        except ValueError:
+            continue
+        raise AssertionError(f"not refused: {tag}")
+    reports = [output for output in host.settle() if not isinstance(output, Message)]
+    assert [report.tag for report in reports if report.line.startswith("txn ")] == [7, 0, 2**64 - 1]
+    assert all(report.tag == 0 for report in reports if not report.line.startswith("txn "))
+
+
 def main():
     closed_handles()
     lengths_of_zero()
@@ -345,6 +361,7 @@ def main():
     cut_journals()
     writes_never_asked_for()
     small_rooms()
+    tags()
     print("each is refused, and nothing is lost")
 
 

@@ -468,6 +468,52 @@ static void what_became(void) {
     polydb_site_close(&site);
 }
 
+/* A tag comes with the report of its request's number, and with nothing else; a refused request leaves none. */
+static void tags(void) {
+    static const uint64_t wanted[] = {7, 0, UINT64_MAX};
+    static uint8_t file[4096];
+    size_t length = sizeof POLYDB_EMPTY_JOURNAL;
+    polydb_site site = {0};
+    polydb_fault fault = {9, 9, 9};
+    uint8_t out[4096];
+    size_t written = 99;
+    uint64_t to = 99;
+    uint64_t tag = 99;
+    size_t count = 0;
+    uint32_t status;
+
+    memcpy(file, EMPTY, length);
+    CHECK(polydb_site_submit_tagged(&site, PROGRAM, PROGRAM_LENGTH, false, 7, &fault) == POLYDB_CLOSED && fault.column == 0);
+    CHECK(polydb_site_take_tagged(&site, out, sizeof out, &written, &to, &tag) == POLYDB_CLOSED && written == 0 && to == 0 && tag == 0);
+    RETRY(polydb_site_open(&site, CONFIG, CONFIG_LENGTH, 0, EMPTY, length));
+    RETRY(polydb_site_submit_tagged(&site, PROGRAM, PROGRAM_LENGTH, false, 7, &fault));
+    RETRY(polydb_site_submit_tagged(&site, NULL, 0, false, 8, &fault));
+    CHECK(status == POLYDB_BAD_TEXT && fault.column == 1);
+    RETRY(polydb_site_submit(&site, PROGRAM, PROGRAM_LENGTH, false));
+    RETRY(polydb_site_submit_tagged(&site, PROGRAM, PROGRAM_LENGTH, false, UINT64_MAX, &fault));
+    CHECK(status == POLYDB_DONE && fault.column == 0);
+    tag = 99;
+    CHECK(polydb_site_take_tagged(&site, out, sizeof out, &written, &to, &tag) == POLYDB_NOTHING && tag == 0);
+    write_all(&site, file, sizeof file, &length);
+    for (;;) {
+        RETRY(polydb_site_take_tagged(&site, out, 0, &written, &to, &tag));
+        if (status == POLYDB_NOTHING) {
+            break;
+        }
+        CHECK(status == POLYDB_TOO_SMALL && tag == 0 && to == 0);
+        RETRY(polydb_site_take_tagged(&site, out, sizeof out, &written, &to, &tag));
+        CHECK(status == POLYDB_DONE);
+        if (to == POLYDB_REPORT && memcmp(out, "txn ", 4) == 0) {
+            CHECK(count < 3 && tag == wanted[count]);
+            count++;
+        } else {
+            CHECK(tag == 0);
+        }
+    }
+    CHECK(count == 3);
+    polydb_site_close(&site);
+}
+
 /* ---- a whole run ---- */
 
 static void whole_run(void) {
@@ -504,9 +550,11 @@ int main(void) {
     status_texts();
     faults();
     what_became();
+    tags();
     whole_run();
     with_failing_allocations(retried);
     with_failing_allocations(wait_for_journal);
+    with_failing_allocations(tags);
     puts("handles: as the header says");
     return 0;
 }

@@ -1,10 +1,11 @@
 // What C asks of a site.
-ghost use Rattle.std.specs.Prelude.{◌≡◌, None, slice_get};
+ghost use Rattle.std.specs.Prelude.{◌≡◌, None, IfSome, slice_get};
 ghost use Rattle.pv_base.specs.declared.txn.TxnId.{TxnId};
 ghost use Rattle.pv_embed.specs.Outcomes.{TellsOutcome};
 ghost use Rattle.pv_handle.specs.Asked.{GivesItem, Informs};
 ghost use Rattle.pv_handle.specs.ByteState.{OnSite};
 ghost use Rattle.pv_handle.specs.Slot.{Asks, Calls};
+ghost use Rattle.pv_handle.specs.Standing.{StandsReady};
 ghost use Rattle.pv_c.specs.Answer.{GivenAs};
 ghost use Rattle.pv_c.specs.Asked.{InformedAs, ToldAs, info_of, outcome_number, told_number, untold_number};
 ghost use Rattle.pv_c.specs.Status.{status_of, status_of_asked};
@@ -57,8 +58,9 @@ pub extern "C" fn polydb_site_outcome(
     number: u32,
     outcome: &mut u32,
 ) -> u32
-    ensures { let txn : TxnId = record { site = record { 0 = coordinator }; epoch = epoch; number = number } in
+    ensures tells { let txn : TxnId = record { site = record { 0 = coordinator }; epoch = epoch; number = number } in
         ToldAs result outcome.new (Calls (OnSite (λ old new. TellsOutcome old new txn)) site.old.handle.site site.new.handle.site) }
+    ensures stands { IfSome site.new.handle.site StandsReady }
 {
     let txn = TxnId {
         site: SiteId(coordinator),

@@ -11,5 +11,6 @@ mod run;
 mod site;
 mod status;
 mod status_text;
+mod tags;
 mod version;
 mod world;

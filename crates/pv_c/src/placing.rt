@@ -1,8 +1,9 @@
 // Calls that say where what C gave is at fault.
-ghost use Rattle.std.specs.Prelude.{◌≡◌};
-ghost use Rattle.pv_embed.specs.Requests.{SubmitsBy};
-ghost use Rattle.pv_handle.specs.ByteState.{OnSite, OpensBytes};
+ghost use Rattle.std.specs.Prelude.{◌≡◌, None, IfSome};
+ghost use Rattle.pv_handle.specs.ByteState.{OpensBytes};
 ghost use Rattle.pv_handle.specs.Slot.{Calls, Opens};
+ghost use Rattle.pv_handle.specs.Standing.{StandsReady};
+ghost use Rattle.pv_handle.specs.Tagged.{SubmitsTagged};
 ghost use Rattle.pv_c.specs.Causes.{opening_number, request_number};
 ghost use Rattle.pv_c.specs.Faults.{AnswersAt, at_column, column_of, fault_of, no_fault, opening_fault, program_fault, request_fault, text_fault, with_number};
 
@@ -26,8 +27,9 @@ pub extern "C" fn polydb_site_open_at(
     journal: &[u8],
     fault: &mut Fault,
 ) -> u32
-    ensures { AnswersAt opening_number opening_fault result fault.new
+    ensures opens { AnswersAt opening_number opening_fault result fault.new
         (Opens (OpensBytes config.now me journal.now) site.old.handle.site site.new.handle.site) }
+    ensures stands { site.old.handle.site ≡ None → IfSome site.new.handle.site StandsReady }
 {
     let answer = site.open(alloc, given(config), me, given(journal));
     *fault = opening_fault_of(answer);
@@ -43,10 +45,11 @@ pub extern "C" fn polydb_site_submit_at(
     query: bool,
     fault: &mut Fault,
 ) -> u32
-    ensures { AnswersAt request_number request_fault result fault.new
-        (Calls (OnSite (λ old new. SubmitsBy old new text.now query)) site.old.handle.site site.new.handle.site) }
+    ensures submits { AnswersAt request_number request_fault result fault.new
+        (Calls (SubmitsTagged text.now query 0) site.old.handle.site site.new.handle.site) }
+    ensures stands { IfSome site.new.handle.site StandsReady }
 {
-    let answer = site.submit(alloc, given(text), query);
+    let answer = site.submit(alloc, given(text), query, 0);
     *fault = request_fault_of(answer);
     status_of_request(answer)
 }
@@ -61,8 +64,8 @@ fn opening_fault_of(answer: Result<(), Refused<OpenFault>>) -> Fault
     }
 }
 
-// Where a request is refused.
-fn request_fault_of(answer: Result<(), Refused<SubmitFault>>) -> Fault
+/// Where a request is refused.
+pub fn request_fault_of(answer: Result<(), Refused<SubmitFault>>) -> Fault
     ensures { result ≡ fault_of request_fault answer }
 {
     match answer {

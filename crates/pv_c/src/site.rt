@@ -1,11 +1,13 @@
 // The calls on a slot of a site.
-ghost use Rattle.std.specs.Prelude.{◌≡◌, None};
+ghost use Rattle.std.specs.Prelude.{◌≡◌, ℕ, None, IfSome};
 ghost use Rattle.pv_protocol.specs.State as model;
 ghost use Rattle.pv_embed.specs.Hosted.{Gives};
-ghost use Rattle.pv_embed.specs.Requests.{ReceivesBy, SubmitsBy};
-ghost use Rattle.pv_handle.specs.ByteSite.{AcceptsWrite, ReadsBytes, TakesBytes, TakesWrite};
+ghost use Rattle.pv_embed.specs.Requests.{ReceivesBy};
+ghost use Rattle.pv_handle.specs.ByteSite.{AcceptsWrite, ReadsBytes, TakesWrite};
 ghost use Rattle.pv_handle.specs.ByteState.{OnSite, OpensBytes};
 ghost use Rattle.pv_handle.specs.Slot.{Opens, Calls, Asks};
+ghost use Rattle.pv_handle.specs.Standing.{StandsReady};
+ghost use Rattle.pv_handle.specs.Tagged.{SubmitsTagged, TakesTagged};
 ghost use Rattle.pv_c.specs.Answer.{Answers, GivenAs, ReadAs};
 ghost use Rattle.pv_c.specs.Causes.{memory_number, message_number, opening_number, request_number, value_number, write_number};
 
@@ -26,12 +28,13 @@ pub extern "C" fn polydb_site_open(
     me: u8,
     journal: &[u8],
 ) -> u32
-    ensures { Answers opening_number result (Opens (OpensBytes config.now me journal.now) site.old.handle.site site.new.handle.site) }
+    ensures opens { Answers opening_number result (Opens (OpensBytes config.now me journal.now) site.old.handle.site site.new.handle.site) }
+    ensures stands { site.old.handle.site ≡ None → IfSome site.new.handle.site StandsReady }
 {
     status_of_opening(site.open(alloc, given(config), me, given(journal)))
 }
 
-/// A request.
+/// A request without a tag.
 #[unsafe(no_mangle)]
 pub extern "C" fn polydb_site_submit(
     alloc: Global,
@@ -39,15 +42,17 @@ pub extern "C" fn polydb_site_submit(
     text: &[u8],
     query: bool,
 ) -> u32
-    ensures { Answers request_number result (Calls (OnSite (λ old new. SubmitsBy old new text.now query)) site.old.handle.site site.new.handle.site) }
+    ensures submits { Answers request_number result (Calls (SubmitsTagged text.now query 0) site.old.handle.site site.new.handle.site) }
+    ensures stands { IfSome site.new.handle.site StandsReady }
 {
-    status_of_request(site.submit(alloc, given(text), query))
+    status_of_request(site.submit(alloc, given(text), query, 0))
 }
 
 /// A message comes.
 #[unsafe(no_mangle)]
 pub extern "C" fn polydb_site_receive(alloc: Global, site: &mut SiteSlot, message: &[u8]) -> u32
-    ensures { Answers message_number result (Calls (OnSite (λ old new. ReceivesBy old new message.now)) site.old.handle.site site.new.handle.site) }
+    ensures receives { Answers message_number result (Calls (OnSite (λ old new. ReceivesBy old new message.now)) site.old.handle.site site.new.handle.site) }
+    ensures stands { IfSome site.new.handle.site StandsReady }
 {
     status_of_message(site.receive(alloc, given(message)))
 }
@@ -55,7 +60,8 @@ pub extern "C" fn polydb_site_receive(alloc: Global, site: &mut SiteSlot, messag
 /// Time has passed.
 #[unsafe(no_mangle)]
 pub extern "C" fn polydb_site_tick(alloc: Global, site: &mut SiteSlot) -> u32
-    ensures { Answers memory_number result (Calls (OnSite (λ old new. Gives old new model.tick)) site.old.handle.site site.new.handle.site) }
+    ensures ticks { Answers memory_number result (Calls (OnSite (λ old new. Gives old new model.tick)) site.old.handle.site site.new.handle.site) }
+    ensures stands { IfSome site.new.handle.site StandsReady }
 {
     status_of_tick(site.tick(alloc))
 }
@@ -72,6 +78,7 @@ pub extern "C" fn polydb_site_take_journal(
     ensures given { GivenAs (record { status = result; count = written.new; to = place.new })
         (Asks (TakesWrite out.old out.new) site.old.handle.site site.new.handle.site) }
     ensures unchanged { site.old.handle.site ≡ None → out.new ≡ out.old }
+    ensures stands { IfSome site.new.handle.site StandsReady }
 {
     let answer = site.next_write(alloc, out);
     let numbers = numbers_of_asked(answer);
@@ -88,7 +95,8 @@ pub extern "C" fn polydb_site_journal_synced(
     place: u64,
     written: usize,
 ) -> u32
-    ensures { Answers write_number result (Calls (AcceptsWrite place written) site.old.handle.site site.new.handle.site) }
+    ensures accepts { Answers write_number result (Calls (AcceptsWrite place written) site.old.handle.site site.new.handle.site) }
+    ensures stands { IfSome site.new.handle.site StandsReady }
 {
     status_of_write(site.written(alloc, place, written))
 }
@@ -102,11 +110,13 @@ pub extern "C" fn polydb_site_take_message(
     written: &mut usize,
     to: &mut u64,
 ) -> u32
-    ensures given { ReadAs memory_number (record { status = result; count = written.new; to = to.new })
-        (Calls (OnSite (TakesBytes out.old out.new)) site.old.handle.site site.new.handle.site) }
+    ensures given { (tag : ℕ) × ReadAs memory_number (record { status = result; count = written.new; to = to.new })
+        (Calls (TakesTagged out.old out.new tag) site.old.handle.site site.new.handle.site) }
     ensures unchanged { site.old.handle.site ≡ None → out.new ≡ out.old }
+    ensures stands { IfSome site.new.handle.site StandsReady }
 {
-    let answer = site.take(alloc, out);
+    let mut tag = 0;
+    let answer = site.take(alloc, out, &mut tag);
     let numbers = numbers_of_taken(answer);
     *written = numbers.count;
     *to = numbers.to;

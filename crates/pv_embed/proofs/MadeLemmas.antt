@@ -12,6 +12,7 @@ use Rattle.pv_site.specs.Values.{outgoing_of, note_of}
 use Rattle.pv_site.specs.declared.input.Outgoing.{Outgoing}
 use Rattle.pv_embed.specs.Held.{Held, Out, message, note}
 use Rattle.pv_embed.specs.Outputs.{AreSpelled, IsSpelled, TakesFirst, TakesFrom, held_of, out_of, outputs_of, outs}
+use Rattle.pv_embed.specs.Requests.{begun_first, begun_in}
 use Rattle.pv_embed.specs.declared.made.Made.{Made}
 use Rattle.pv_embed.specs.declared.made.Output.{Output}
 
@@ -147,3 +148,13 @@ made_spelled me length (sent ∷ sends) notes spelled =
     (record { length = length; out = message (record { from = me; to = (outgoing_of sent).to; message = (outgoing_of sent).message }) })
     (map (λ out. record { length = length; out = out }) (outs me (map outgoing_of sends) notes)) (All-head (IsSpelledFrom me) sent sends spelled)
     (made_spelled me length sends notes (All-tail (IsSpelledFrom me) sent sends spelled))
+
+-- What a step sends comes before what it reports: so the first report is the first of the step's.
+begun-notes : (length : ℕ) (notes : List model.Note) → begun_in (map (λ out. record { length = length; out = out }) (map note notes)) ≡ begun_first notes
+begun-notes length [] = refl
+begun-notes length (first ∷ notes) = refl
+
+pub begun-made : (me length : ℕ) (sends : List model.Outgoing) (notes : List model.Note)
+    → begun_in (map (λ out. record { length = length; out = out }) (outs me sends notes)) ≡ begun_first notes
+begun-made me length [] notes = begun-notes length notes
+begun-made me length (sent ∷ sends) notes = begun-made me length sends notes

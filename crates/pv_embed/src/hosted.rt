@@ -1,7 +1,7 @@
 // One site, for a host that carries its messages and writes its journal.
 mod asking;
 
-ghost use Rattle.std.specs.Prelude.{◌≡◌, ◌<◌, ◌≤◌, ℕ, length, slice_get, Some, Err, IfSome};
+ghost use Rattle.std.specs.Prelude.{◌≡◌, ◌<◌, ◌≤◌, ℕ, length, slice_get, Some, Err, IfOk, IfSome};
 ghost use Rattle.std.specs.Option.{option_map};
 ghost use Rattle.pv_base.specs.Catalog.{Declared};
 ghost use Rattle.pv_protocol.specs.State as model;
@@ -16,11 +16,11 @@ ghost use Rattle.pv_embed.specs.Opening.{IsUnread, OpensHosted, RefusesContents}
 ghost use Rattle.pv_embed.specs.Held.{Held};
 ghost use Rattle.pv_embed.specs.Hosted.{AsksForGroup, Gives, TakesNext, Writes, stored_length};
 ghost use Rattle.pv_embed.specs.Outputs.{IsSpelled, out_of};
-ghost use Rattle.pv_embed.specs.Requests.{ReceivesBy, SubmitsBy, ReadsBy};
+ghost use Rattle.pv_embed.specs.Requests.{Begins, ReceivesBy, SubmitsBy, ReadsBy};
 
-use crate::made::{Made, Output, keep, take_first};
+use crate::made::{Made, Output, begun_first, keep, take_first};
 use crate::{OpenFault, ReadFault, ReceiveFault, SubmitFault, hosted_sites_stay_up};
-use pv_base::{Catalog, MAX_INPUT, NoMemory, SiteId};
+use pv_base::{Catalog, MAX_INPUT, NoMemory, SiteId, TxnId};
 use pv_check::{CheckError, check};
 use pv_disk::{Log, LookError};
 use pv_host::{HostLog, HostWrite};
@@ -142,13 +142,17 @@ impl HostedSite {
     /// What comes of it is let out by [`HostedSite::take`]. The first report is [`Note::Txn`](crate::Note::Txn), or
     /// [`Note::Spent`](crate::Note::Spent) where no number is left, and then nothing else comes of it.
     ///
+    /// The host is told of which transaction that report will be, so that it can keep with it what it has of the request. The number itself isn't to be shown before:
+    /// a crash may undo that it was given, and then another request gets it.
+    ///
     /// Each refusal leaves the site as it was, but for room that was made:
     ///
     /// - [`SubmitFault::Text`]: the text is no program.
     /// - [`SubmitFault::Program`]: the program may not run, as a request or as a query.
     /// - [`SubmitFault::NoMemory`]: there was no memory.
-    pub fn submit(&mut self, text: &[u8], query: bool) -> Result<(), SubmitFault>
-        ensures { SubmitsBy self.old self.new text.now query result }
+    pub fn submit(&mut self, text: &[u8], query: bool) -> Result<Option<TxnId>, SubmitFault>
+        ensures submits { SubmitsBy self.old self.new text.now query result }
+        ensures begins { IfOk result (Begins self.old self.new) }
     {
         some_items();
         one_plan();
@@ -188,10 +192,11 @@ impl HostedSite {
         if envelope.from.0 >= self.catalog.sites() {
             return Err(ReceiveFault::NoSender);
         }
-        Ok(self.step(&Input::Take {
+        self.step(&Input::Take {
             from: envelope.from,
             message: envelope.message,
-        })?)
+        })?;
+        Ok(())
     }
 
     /// Time has passed. Takes time in proportion to what stands at the site, and to the outcomes that its values name. Where there was no memory the site is
@@ -199,7 +204,8 @@ impl HostedSite {
     pub fn tick(&mut self) -> Result<(), NoMemory>
         ensures { Gives self.old self.new model.tick result }
     {
-        self.step(&Input::Tick)
+        self.step(&Input::Tick)?;
+        Ok(())
     }
 
     /// The host is to write a group of the records that wait: as many as have so much room, in bytes, and one at least. A group that it was asked to write before
@@ -316,18 +322,20 @@ impl HostedSite {
         let _ = &self.alloc;
     }
 
-    // The site makes a step of the input. The memory for what it makes is taken before: after the step nothing can fail.
-    fn step(&mut self, input: &Input) -> Result<(), NoMemory>
+    // The site makes a step of the input, and it is told which transaction began. The memory for what it makes is taken before: after the step nothing can fail.
+    fn step(&mut self, input: &Input) -> Result<Option<TxnId>, NoMemory>
         requires { IsInputFor self.old.site.me self.old.site.catalog input.now }
-        ensures { Gives self.old self.new (input_of input.now) result }
+        ensures gives { Gives self.old self.new (input_of input.now) result }
+        ensures begins { IfOk result (Begins self.old self.new) }
     {
         hosted_sites_stay_up();
         self.made.reserve(1)?;
         match self.site.step(input) {
             Ok(step) => {
                 let length = self.site.log().length();
+                let begun = begun_first(&step.notes);
                 keep(&mut self.made, Made::of(length, step));
-                Ok(())
+                Ok(begun)
             }
             Err(StepError::NoMemory) => Err(NoMemory),
             // No append fails.

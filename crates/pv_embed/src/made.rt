@@ -4,8 +4,9 @@ ghost use Rattle.std.specs.List.{flat_map};
 ghost use Rattle.std.specs.VecDeque.{deque_capacity, deque_len};
 ghost use Rattle.pv_site.specs.Values.{note_of, outgoing_of};
 ghost use Rattle.pv_embed.specs.Outputs.{TakesFirst, TakesFrom, held_of, outputs_of, outs};
+ghost use Rattle.pv_embed.specs.Requests.{begun_first};
 
-use pv_base::SiteId;
+use pv_base::{SiteId, TxnId};
 use pv_site::{Note, Outgoing, Step};
 use pv_wire::Envelope;
 use std::collections::VecDeque;
@@ -66,6 +67,16 @@ impl Made {
         ensures { (from : ℕ) → (result ≡ true) ↔ (outputs_of from self.now ≡ []) }
     {
         self.sends.len() == 0 && self.notes.len() == 0
+    }
+}
+
+/// The transaction that the first of these reports says has begun, if it is such a one.
+pub(crate) fn begun_first(notes: &[Note]) -> Option<TxnId>
+    ensures { result ≡ begun_first (map note_of notes.now) }
+{
+    match notes.first()? {
+        Note::Txn(txn) => Some(*txn),
+        Note::Commit { .. } | Note::Refuse { .. } | Note::Full(_) | Note::Spent => None,
     }
 }
 

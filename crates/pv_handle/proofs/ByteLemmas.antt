@@ -29,7 +29,7 @@ use Rattle.pv_handle.specs.declared.bytes.Waiting.{Waiting}
 abbrev pub front : Option Waiting → HostedState → HostedState
 front waiting hosted = record hosted { held = waits_before waiting hosted.held }
 
-append-front : (waiting : Option Waiting) (held more : List Held) → waits_before waiting (held ++ more) ≡ waits_before waiting held ++ more
+pub append-front : (waiting : Option Waiting) (held more : List Held) → waits_before waiting (held ++ more) ≡ waits_before waiting held ++ more
 append-front None held more = refl
 append-front (Some waits) held more = refl
 

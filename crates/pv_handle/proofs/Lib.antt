@@ -6,6 +6,7 @@ pub mod ReadLemmas
 pub mod SiteBox
 pub mod StepLemmas
 pub mod StoredLemmas
+pub mod TagLemmas
 pub mod TakeLemmas
 pub mod There
 pub mod WorldBox

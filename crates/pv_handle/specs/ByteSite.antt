@@ -68,7 +68,7 @@ pub record GivesWrite (room out : List ℕ) (old new : HostedState) (count to : 
 -- room for the least that can be written next, and then the host isn't asked to write.
 abbrev pub TakesWrite : List ℕ → List ℕ → ByteState → ByteState → Given → Type 0
 TakesWrite room out old new Nothing = (least_write old.hosted.site.log ≡ None) × (new ≡ old) × (out ≡ room)
-TakesWrite room out old new (Bytes count to) = GivesWrite room out old.hosted new.hosted count to × (new.taken ≡ true)
+TakesWrite room out old new (Bytes count to) = GivesWrite room out old.hosted new.hosted count to × (new.taken ≡ true) × (new.tags ≡ old.tags)
 TakesWrite room out old new (TooSmall needed) = (least_write old.hosted.site.log ≡ Some needed) × (length room < needed) × (new ≡ old) × (out ≡ room)
 
 -- So many bytes at this place are what is to be written next.
@@ -80,7 +80,7 @@ IsNextWrite place count (Some write) = (write.place ≡ place) × (length write.
 -- what comes after it the host was given nothing yet.
 abbrev pub AcceptsWrite : {X E : Type 0} → ℕ → ℕ → ByteState → ByteState → Result X E → Type 0
 AcceptsWrite place count old new (Ok _) =
-    (old.taken ≡ true) × IsNextWrite place count (next_write old.hosted.site.log) × Writes old.hosted new.hosted × (new.taken ≡ false)
+    (old.taken ≡ true) × IsNextWrite place count (next_write old.hosted.site.log) × Writes old.hosted new.hosted × (new.taken ≡ false) × (new.tags ≡ old.tags)
 AcceptsWrite place count old new (Err _) = (old.taken ≡ true → IsNextWrite place count (next_write old.hosted.site.log) → ⊥) × (new ≡ old)
 
 -- the line that a report has for the item of this number, by what the site shows of it

@@ -9,7 +9,7 @@ use Rattle.pv_handle.specs.declared.bytes.ByteSite.TheInside.{Inside}
 
 -- a site with a host, which has yet to let out what waits
 abbrev pub state_of : Inside → ByteState
-state_of inside = record { hosted = record inside.site { held = waits_before inside.waiting inside.site.held }; taken = inside.taken }
+state_of inside = record { hosted = record inside.site { held = waits_before inside.waiting inside.site.held }; taken = inside.taken; tags = inside.tags.items }
 
 -- What waits may have been let out, and all that is to be let out has bytes.
 pub record IsByteSite (inside : Inside) : Type 0 where

@@ -7,6 +7,9 @@ pub mod Given
 pub mod Opening
 pub mod SiteHandle
 pub mod Slot
+pub mod Standing
+pub mod Tagged
+pub mod Tags
 pub mod Waiting
 pub mod World
 pub mod WorldHandle

@@ -4,19 +4,22 @@ mod asking;
 ghost use Rattle.std.specs.Prelude.{◌≡◌, ◌≤◌, IfSome, None};
 ghost use Rattle.pv_protocol.specs.State as model;
 ghost use Rattle.pv_embed.specs.Hosted.{Gives, HostedState, stored_length};
-ghost use Rattle.pv_embed.specs.Requests.{ReceivesBy, SubmitsBy};
-ghost use Rattle.pv_handle.specs.ByteSite.{AcceptsWrite, NothingMayLeave, ReadsBytes, TakesBytes, TakesWrite};
+ghost use Rattle.pv_embed.specs.Requests.{ReceivesBy};
+ghost use Rattle.pv_handle.specs.ByteSite.{AcceptsWrite, NothingMayLeave, ReadsBytes, TakesWrite};
 ghost use Rattle.pv_handle.specs.ByteState.{OnSite, OpensBytes};
-ghost use Rattle.pv_handle.specs.Waiting.{left_after, waits_before};
+ghost use Rattle.pv_handle.specs.Tagged.{SubmitsTagged, TakesTagged};
+ghost use Rattle.pv_handle.specs.Waiting.{waits_before};
 
 use crate::faults::{NotNext, ValueFault};
 use crate::given::{Given, give};
 use crate::opening::open_hosted;
 use crate::outputs::{give_output, shown_text};
+use crate::tags::{Tag, keep_tag, let_go};
 use pv_base::{Catalog, NoMemory};
 use pv_embed::{HostedSite, OpenFault, Output, ReceiveFault, SubmitFault};
 use pv_host::groups_fit_their_room;
 use std::alloc::Global;
+use std::collections::VecDeque;
 use std::marker::Model;
 
 /// A site of the database, as [`HostedSite`] is one, whose host takes bytes: what doesn't fit into the room that the host has stays, and comes again.
@@ -30,6 +33,8 @@ pub struct ByteSite {
     waiting: Option<Waiting>,
     /// Whether the host was given the bytes of what it is to write next.
     taken: bool,
+    /// What the host has given to requests whose numbers weren't reported yet, the oldest first.
+    tags: VecDeque<Tag>,
 }
 
 /// What a site has let out, and how long its log was after the step that made it.
@@ -68,14 +73,24 @@ impl ByteSite {
             site,
             waiting: None,
             taken: false,
+            tags: VecDeque::new(alloc),
         })
     }
 
-    /// A request, as [`HostedSite::submit`] takes it.
-    pub fn submit(&mut self, text: &[u8], query: bool) -> Result<(), SubmitFault>
-        ensures { OnSite (λ old new. SubmitsBy old new text.now query) self.old self.new result }
+    /// A request, as [`HostedSite::submit`] takes it, with a tag of the host's, by which it knows the report of the request's number.
+    pub fn submit(&mut self, text: &[u8], query: bool, tag: u64) -> Result<(), SubmitFault>
+        ensures { SubmitsTagged text.now query tag self.old self.new result }
     {
-        self.site.submit(text, query)
+        if self.tags.reserve(1).is_err() {
+            return Err(SubmitFault::NoMemory);
+        }
+        match self.site.submit(text, query) {
+            Ok(begun) => {
+                keep_tag(&mut self.tags, begun, tag);
+                Ok(())
+            }
+            Err(fault) => Err(fault),
+        }
     }
 
     /// A message comes, as [`HostedSite::receive`] takes it.
@@ -135,10 +150,11 @@ impl ByteSite {
     }
 
     /// The next thing that the site lets out: the bytes of a message, which go to a site, or a report as a line, which goes to [`REPORT`](crate::REPORT).
-    /// It stays until there was room and memory for it.
-    pub fn take(&mut self, out: &mut [u8]) -> Result<Given, NoMemory>
-        ensures { OnSite (TakesBytes out.old out.new) self.old self.new result }
+    /// It stays until there was room and memory for it. With the report of a request's number goes the request's tag, and 0 with all else.
+    pub fn take(&mut self, out: &mut [u8], tag: &mut u64) -> Result<Given, NoMemory>
+        ensures { TakesTagged out.old out.new tag.new self.old self.new result }
     {
+        *tag = 0;
         bring(&mut self.site, &mut self.waiting);
         let Some(waiting) = &self.waiting else {
             return Ok(Given::Nothing);
@@ -150,7 +166,7 @@ impl ByteSite {
             self.site.catalog(),
             out,
         )?;
-        let_go(&mut self.waiting, given);
+        *tag = let_go(&mut self.waiting, &mut self.tags, given);
         Ok(given)
     }
 
@@ -183,14 +199,5 @@ fn bring(site: &mut HostedSite, waiting: &mut Option<Waiting>)
     };
     if let Some(output) = site.take() {
         *waiting = Some(Waiting { length, output });
-    }
-}
-
-// What was written waits no longer.
-fn let_go(waiting: &mut Option<Waiting>, given: Given)
-    ensures { waiting.new ≡ left_after given waiting.old }
-{
-    if let Given::Bytes { .. } = given {
-        *waiting = None;
     }
 }

@@ -10,6 +10,7 @@ mod outputs;
 mod parts;
 mod refused;
 mod site;
+mod tags;
 mod world;
 
 pub use bytes::ByteSite;

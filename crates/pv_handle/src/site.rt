@@ -2,7 +2,7 @@
 mod asking;
 mod handle;
 
-ghost use Rattle.std.specs.Prelude.{◌≡◌, Some, None, IsSome, is_some};
+ghost use Rattle.std.specs.Prelude.{◌≡◌, Some, None, IfSome, IsSome, is_some};
 
 use crate::bytes::ByteSite;
 use crate::faults::{NotNext, ValueFault};
@@ -28,10 +28,12 @@ impl SiteSlot {
     ghost use Rattle.std.specs.Prelude.{IfNone, OnErr};
     ghost use Rattle.pv_protocol.specs.State as model;
     ghost use Rattle.pv_embed.specs.Hosted.{Gives};
-    ghost use Rattle.pv_embed.specs.Requests.{ReceivesBy, SubmitsBy};
-    ghost use Rattle.pv_handle.specs.ByteSite.{AcceptsWrite, ReadsBytes, TakesBytes, TakesWrite};
+    ghost use Rattle.pv_embed.specs.Requests.{ReceivesBy};
+    ghost use Rattle.pv_handle.specs.ByteSite.{AcceptsWrite, ReadsBytes, TakesWrite};
     ghost use Rattle.pv_handle.specs.ByteState.{OnSite, OpensBytes};
     ghost use Rattle.pv_handle.specs.Slot.{Opens, Calls, Asks};
+    ghost use Rattle.pv_handle.specs.Standing.{StandsReady};
+    ghost use Rattle.pv_handle.specs.Tagged.{SubmitsTagged, TakesTagged};
 
     /// A slot with no site.
     pub fn closed(alloc: Global) -> SiteSlot
@@ -51,7 +53,8 @@ impl SiteSlot {
         me: u8,
         journal: &[u8],
     ) -> Result<(), Refused<OpenFault>>
-        ensures { Opens (OpensBytes config.now me journal.now) self.old.handle.site self.new.handle.site result }
+        ensures opens { Opens (OpensBytes config.now me journal.now) self.old.handle.site self.new.handle.site result }
+        ensures stands { self.old.handle.site ≡ None → IfSome self.new.handle.site StandsReady }
     {
         if self.live {
             return Err(Refused::InUse);
@@ -63,24 +66,28 @@ impl SiteSlot {
         let Ok(site) = boxed(alloc, site) else {
             return Err(Refused::Engine(OpenFault::NoMemory));
         };
+        site.stands_ready();
         self.put(site);
         Ok(())
     }
 
-    /// A request.
+    /// A request, with a tag of the host's.
     pub fn submit(
         &mut self,
         alloc: Global,
         text: &[u8],
         query: bool,
+        tag: u64,
     ) -> Result<(), Refused<SubmitFault>>
-        ensures { Calls (OnSite (λ old new. SubmitsBy old new text.now query)) self.old.handle.site self.new.handle.site result }
+        ensures submits { Calls (SubmitsTagged text.now query tag) self.old.handle.site self.new.handle.site result }
+        ensures stands { IfSome self.new.handle.site StandsReady }
     {
         if !self.live {
             return Err(Refused::Closed);
         }
         let mut site = self.take_out(alloc);
-        let done = site.submit(text, query);
+        let done = site.submit(text, query, tag);
+        site.stands_ready();
         self.put(site);
         match done {
             Ok(()) => Ok(()),
@@ -90,13 +97,15 @@ impl SiteSlot {
 
     /// A message comes.
     pub fn receive(&mut self, alloc: Global, bytes: &[u8]) -> Result<(), Refused<ReceiveFault>>
-        ensures { Calls (OnSite (λ old new. ReceivesBy old new bytes.now)) self.old.handle.site self.new.handle.site result }
+        ensures receives { Calls (OnSite (λ old new. ReceivesBy old new bytes.now)) self.old.handle.site self.new.handle.site result }
+        ensures stands { IfSome self.new.handle.site StandsReady }
     {
         if !self.live {
             return Err(Refused::Closed);
         }
         let mut site = self.take_out(alloc);
         let done = site.receive(bytes);
+        site.stands_ready();
         self.put(site);
         match done {
             Ok(()) => Ok(()),
@@ -106,13 +115,15 @@ impl SiteSlot {
 
     /// Time has passed.
     pub fn tick(&mut self, alloc: Global) -> Result<(), Refused<NoMemory>>
-        ensures { Calls (OnSite (λ old new. Gives old new model.tick)) self.old.handle.site self.new.handle.site result }
+        ensures ticks { Calls (OnSite (λ old new. Gives old new model.tick)) self.old.handle.site self.new.handle.site result }
+        ensures stands { IfSome self.new.handle.site StandsReady }
     {
         if !self.live {
             return Err(Refused::Closed);
         }
         let mut site = self.take_out(alloc);
         let done = site.tick();
+        site.stands_ready();
         self.put(site);
         match done {
             Ok(()) => Ok(()),
@@ -123,6 +134,7 @@ impl SiteSlot {
     /// What the host is to write next into its file, as far as there is room. The site stays as it is, but that it was asked for that and knows of what it gave.
     pub fn next_write(&mut self, alloc: Global, out: &mut [u8]) -> Option<Given>
         ensures given { Asks (TakesWrite out.old out.new) self.old.handle.site self.new.handle.site result }
+        ensures stands { IfSome self.new.handle.site StandsReady }
         ensures unchanged { IfNone result (out.new ≡ out.old) }
     {
         if !self.live {
@@ -130,6 +142,7 @@ impl SiteSlot {
         }
         let mut site = self.take_out(alloc);
         let given = site.next_write(out);
+        site.stands_ready();
         self.put(site);
         Some(given)
     }
@@ -141,13 +154,15 @@ impl SiteSlot {
         place: u64,
         count: usize,
     ) -> Result<(), Refused<NotNext>>
-        ensures { Calls (AcceptsWrite place count) self.old.handle.site self.new.handle.site result }
+        ensures accepts { Calls (AcceptsWrite place count) self.old.handle.site self.new.handle.site result }
+        ensures stands { IfSome self.new.handle.site StandsReady }
     {
         if !self.live {
             return Err(Refused::Closed);
         }
         let mut site = self.take_out(alloc);
         let done = site.written(place, count);
+        site.stands_ready();
         self.put(site);
         match done {
             Ok(()) => Ok(()),
@@ -155,16 +170,25 @@ impl SiteSlot {
         }
     }
 
-    /// The next thing that the site lets out.
-    pub fn take(&mut self, alloc: Global, out: &mut [u8]) -> Result<Given, Refused<NoMemory>>
-        ensures given { Calls (OnSite (TakesBytes out.old out.new)) self.old.handle.site self.new.handle.site result }
+    /// The next thing that the site lets out, and the tag of the request whose number is reported by it; or 0.
+    pub fn take(
+        &mut self,
+        alloc: Global,
+        out: &mut [u8],
+        tag: &mut u64,
+    ) -> Result<Given, Refused<NoMemory>>
+        ensures given { Calls (TakesTagged out.old out.new tag.new) self.old.handle.site self.new.handle.site result }
         ensures unchanged { OnErr result (out.new ≡ out.old) }
+        ensures untagged { OnErr result (tag.new ≡ 0) }
+        ensures stands { IfSome self.new.handle.site StandsReady }
     {
+        *tag = 0;
         if !self.live {
             return Err(Refused::Closed);
         }
         let mut site = self.take_out(alloc);
-        let answer = site.take(out);
+        let answer = site.take(out, tag);
+        site.stands_ready();
         self.put(site);
         match answer {
             Ok(given) => Ok(given),

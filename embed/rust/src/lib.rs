@@ -45,11 +45,12 @@ mod calls {
             journal_length: usize,
             fault: *mut Fault,
         ) -> u32;
-        pub fn polydb_site_submit_at(
+        pub fn polydb_site_submit_tagged(
             site: *mut Handle,
             program: *const u8,
             length: usize,
             query: bool,
+            tag: u64,
             fault: *mut Fault,
         ) -> u32;
         pub fn polydb_site_receive(site: *mut Handle, message: *const u8, length: usize) -> u32;
@@ -62,12 +63,13 @@ mod calls {
             place: *mut u64,
         ) -> u32;
         pub fn polydb_site_journal_synced(site: *mut Handle, place: u64, written: usize) -> u32;
-        pub fn polydb_site_take_message(
+        pub fn polydb_site_take_tagged(
             site: *mut Handle,
             out: *mut u8,
             room: usize,
             written: *mut usize,
             to: *mut u64,
+            tag: *mut u64,
         ) -> u32;
         pub fn polydb_site_read(
             site: *mut Handle,
@@ -500,13 +502,24 @@ impl Site {
 
     /// The same; and where it is refused, it is said where the text is at fault.
     pub fn submit_at(&mut self, program: &[u8], query: bool) -> Result<(), (Error, Fault)> {
+        self.submit_tagged(program, query, 0)
+    }
+
+    /// The same, with a tag that [`Site::take_tagged`] gives with the report of the request's number, as long as the site isn't closed before. 0 is no tag.
+    pub fn submit_tagged(
+        &mut self,
+        program: &[u8],
+        query: bool,
+        tag: u64,
+    ) -> Result<(), (Error, Fault)> {
         let mut fault = Fault::default();
         answer(unsafe {
-            calls::polydb_site_submit_at(
+            calls::polydb_site_submit_tagged(
                 &mut self.handle,
                 program.as_ptr(),
                 program.len(),
                 query,
+                tag,
                 &mut fault,
             )
         })
@@ -554,24 +567,32 @@ impl Site {
 
     /// The next thing that is let out, if there is one now: nothing comes before the journal has what it rests on.
     pub fn take(&mut self) -> Result<Option<Output>, Error> {
+        Ok(self.take_tagged()?.map(|(output, _)| output))
+    }
+
+    /// The same, with the tag of the request whose number is reported, and 0 with all else.
+    pub fn take_tagged(&mut self) -> Result<Option<(Output, u64)>, Error> {
         let mut to = 0;
+        let mut tag = 0;
         let (status, bytes) = fill(|out, written| unsafe {
-            calls::polydb_site_take_message(
+            calls::polydb_site_take_tagged(
                 &mut self.handle,
                 out.as_mut_ptr(),
                 out.len(),
                 written,
                 &mut to,
+                &mut tag,
             )
         });
         if status == NOTHING {
             return Ok(None);
         }
         answer(status)?;
-        Ok(Some(match to {
+        let output = match to {
             REPORT => Output::Report(bytes),
             site => Output::Message { to: site, bytes },
-        }))
+        };
+        Ok(Some((output, tag)))
     }
 
     /// What the site shows of its item of this name, as the line that a report has for it, once all is written.
@@ -747,7 +768,8 @@ mod tests {
         assert_eq!(site.item(1), Ok(Some((b"b".to_vec(), 1))));
         assert_eq!(site.item(2), Ok(None));
         assert_eq!(site.info().map(|info| info.epoch), Ok(None));
-        site.submit(b"a := a - 10 ; b := b + 10", false).unwrap();
+        site.submit_tagged(b"a := a - 10 ; b := b + 10", false, 7)
+            .unwrap();
         assert_eq!(site.outcome(0, 1, 0), Err(Error::Unwritten));
         assert_eq!(site.outcome(1, 1, 0), Err(Error::NotHere));
         while let Some(write) = site.next_write().unwrap() {
@@ -756,6 +778,16 @@ mod tests {
         assert_eq!(site.outcome(0, 1, 0), Ok(Some(Outcome::AtWork)));
         assert_eq!(site.outcome(0, 1, 1), Ok(None));
         assert_eq!(site.info().map(|info| info.epoch), Ok(Some(1)));
+
+        // The tag comes with the report of the number.
+        let mut reports = Vec::new();
+        while let Some((output, tag)) = site.take_tagged().unwrap() {
+            match output {
+                Output::Report(line) => reports.push((line, tag)),
+                Output::Message { .. } => assert_eq!(tag, 0),
+            }
+        }
+        assert_eq!(reports, [(b"txn 0.1.0\n".to_vec(), 7)]);
     }
 
     #[test]

@@ -3,6 +3,7 @@ ghost use Rattle.std.specs.Prelude.{slice_get};
 ghost use Rattle.pv_embed.specs.Outcomes.{TellsOutcome};
 ghost use Rattle.pv_handle.specs.Asked.{GivesItem, Informs};
 ghost use Rattle.pv_handle.specs.ByteState.{OnSite};
+ghost use Rattle.pv_handle.specs.Standing.{StandsReady};
 
 use crate::bytes::ByteSite;
 use crate::given::{Given, give};
@@ -46,5 +47,12 @@ impl ByteSite {
         ensures { OnSite (λ old new. TellsOutcome old new txn) self.old self.new result }
     {
         self.site.outcome(txn)
+    }
+
+    /// Shows that the site is up, and its log holds its records, as between any two calls. It does nothing.
+    pub fn stands_ready(&self)
+        ensures { StandsReady self.now }
+    {
+        self.site.stands_ready();
     }
 }

@@ -1,9 +1,10 @@
 // What is asked of the site in a slot.
-ghost use Rattle.std.specs.Prelude.{◌≡◌, IfNone, slice_get};
+ghost use Rattle.std.specs.Prelude.{◌≡◌, IfNone, IfSome, slice_get};
 ghost use Rattle.pv_embed.specs.Outcomes.{TellsOutcome};
 ghost use Rattle.pv_handle.specs.Asked.{GivesItem, Informs};
 ghost use Rattle.pv_handle.specs.ByteState.{OnSite};
 ghost use Rattle.pv_handle.specs.Slot.{Asks, Calls};
+ghost use Rattle.pv_handle.specs.Standing.{StandsReady};
 
 use crate::given::Given;
 use crate::info::SiteInfo;
@@ -44,13 +45,15 @@ impl SiteSlot {
 
     /// What became of a transaction of the site.
     pub fn outcome(&mut self, alloc: Global, txn: TxnId) -> Result<Outcome, Refused<OutcomeFault>>
-        ensures { Calls (OnSite (λ old new. TellsOutcome old new txn)) self.old.handle.site self.new.handle.site result }
+        ensures tells { Calls (OnSite (λ old new. TellsOutcome old new txn)) self.old.handle.site self.new.handle.site result }
+        ensures stands { IfSome self.new.handle.site StandsReady }
     {
         if !self.live {
             return Err(Refused::Closed);
         }
         let mut site = self.take_out(alloc);
         let answer = site.outcome(txn);
+        site.stands_ready();
         self.put(site);
         match answer {
             Ok(outcome) => Ok(outcome),

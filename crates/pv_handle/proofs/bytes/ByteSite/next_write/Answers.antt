@@ -22,6 +22,6 @@ returns c =
     let is : next_write after.site.log ≡ Some (write_of c.in-Some-next_write.write) =
     ap (λ (site : HostedState). next_write site.site.log) same ∙ sym c.next_write.ensures.write ∙ ap (option_map write_of) c.in-Some-next_write.is in
     let le : c.in-Some.needed ≤ length room = search rules in
-    subst (λ (old : ByteState). TakesWrite room c.give-given.new.out old (record { hosted = front inside.waiting after; taken = true }) c.give-given.result) c.self.view_is
-    (next-given inside.waiting inside.taken inside.site after room c.give-given.new.out c.in-Some.needed (write_of c.in-Some-next_write.write) c.give-given.result asks
+    subst (λ (old : ByteState). TakesWrite room c.give-given.new.out old (record { hosted = front inside.waiting after; taken = true; tags = inside.tags.items }) c.give-given.result) c.self.view_is
+    (next-given inside.waiting inside.taken inside.tags.items inside.site after room c.give-given.new.out c.in-Some.needed (write_of c.in-Some-next_write.write) c.give-given.result asks
     (sym c.least_write.ensures.least ∙ c.in-Some.is) le c.groups_fit_their_room.ensures is c.give-given.ensures)

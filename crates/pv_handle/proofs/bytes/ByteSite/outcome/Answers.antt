@@ -11,5 +11,5 @@ invariant_of-self c = tells-keeps c.self.inside c.outcome.new.self c.self.invari
 
 pub returns : goal.returns
 returns c =
-    subst (λ (old : ByteState). TellsOutcome old.hosted (front c.self.inside.waiting c.outcome.new.self) c.args.txn c.outcome.result × (c.self.inside.taken ≡ old.taken)) c.self.view_is
-    (tells-front c.self.inside.waiting c.self.inside.site c.outcome.new.self c.args.txn c.outcome.result c.outcome.ensures, refl)
+    subst (λ (old : ByteState). TellsOutcome old.hosted (front c.self.inside.waiting c.outcome.new.self) c.args.txn c.outcome.result × (c.self.inside.taken ≡ old.taken) × (c.self.inside.tags.items ≡ old.tags)) c.self.view_is
+    (tells-front c.self.inside.waiting c.self.inside.site c.outcome.new.self c.args.txn c.outcome.result c.outcome.ensures, refl, refl)

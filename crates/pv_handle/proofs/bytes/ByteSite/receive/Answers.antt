@@ -11,5 +11,5 @@ invariant_of-self c = receives-keeps c.self.inside c.receive.new.self c.self.inv
 
 pub returns : goal.returns
 returns c =
-    subst (λ (old : ByteState). ReceivesBy old.hosted (front c.self.inside.waiting c.receive.new.self) c.args.bytes.now c.receive.result × (c.self.inside.taken ≡ old.taken)) c.self.view_is
-    (receives-front c.self.inside.waiting c.self.inside.site c.receive.new.self c.args.bytes.now c.receive.result c.receive.ensures, refl)
+    subst (λ (old : ByteState). ReceivesBy old.hosted (front c.self.inside.waiting c.receive.new.self) c.args.bytes.now c.receive.result × (c.self.inside.taken ≡ old.taken) × (c.self.inside.tags.items ≡ old.tags)) c.self.view_is
+    (receives-front c.self.inside.waiting c.self.inside.site c.receive.new.self c.args.bytes.now c.receive.result c.receive.ensures, refl, refl)

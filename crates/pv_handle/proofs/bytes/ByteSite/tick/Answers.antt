@@ -12,5 +12,5 @@ invariant_of-self c = gives-keeps c.self.inside c.tick.new.self c.self.invariant
 
 pub returns : goal.returns
 returns c =
-    subst (λ (old : ByteState). Gives old.hosted (front c.self.inside.waiting c.tick.new.self) model.tick c.tick.result × (c.self.inside.taken ≡ old.taken)) c.self.view_is
-    (gives-front c.self.inside.waiting c.self.inside.site c.tick.new.self model.tick c.tick.result c.tick.ensures, refl)
+    subst (λ (old : ByteState). Gives old.hosted (front c.self.inside.waiting c.tick.new.self) model.tick c.tick.result × (c.self.inside.taken ≡ old.taken) × (c.self.inside.tags.items ≡ old.tags)) c.self.view_is
+    (gives-front c.self.inside.waiting c.self.inside.site c.tick.new.self model.tick c.tick.result c.tick.ensures, refl, refl)
