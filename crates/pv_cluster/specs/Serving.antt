@@ -11,7 +11,7 @@ use Rattle.pv_post.specs.Ends.{SameOut}
 use Rattle.pv_rings.specs.Rings.{Each}
 use Rattle.pv_script.specs.declared.live.Request.{Request}
 
--- It is the box later.
+-- It is the box later, and can be called. (`GoesOn` of pv_closing says besides that a worn box stays worn; `Became` alone that it is the same box.)
 abbrev pub WentOn : {W : Type 0} → LogModel W → SiteBox W → SiteBox W → Type 0
 WentOn M old new = IsWhole M new × Became M old new
 

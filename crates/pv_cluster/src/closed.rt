@@ -3,11 +3,11 @@ use pv_cell::SiteBox;
 use pv_closing::ClientLine;
 use pv_disk::Log;
 
-/// What is left when all have ended: the boxes with their histories, and what clients heard.
+/// What is left when all have ended: the boxes with their histories, and the line of each request.
 #[derive(Drop)]
 pub struct Closed<L: Log> {
     /// The boxes, in the order of sites.
     pub boxes: Vec<SiteBox<L>>,
-    /// Of each client of the script what it hears of each of its requests, in order.
+    /// Of each client of the script the line of each of its requests, in order, as its site's history has it.
     pub clients: Vec<Vec<ClientLine>>,
 }

@@ -20,7 +20,8 @@ use pv_script::LiveScript;
 use std::alloc::Global;
 use std::sync::Wait;
 
-/// The closing round, and a look at the ring of each client with both its ends. Where something is left in one whose box isn't worn, all is done again.
+/// Makes the closing round, and then looks at the ring by which each client asks. Where one of these rings still holds something, and the box of its site isn't worn, both are
+/// done again. (It doesn't come to that, but no clause says so.)
 pub(crate) fn close_all<R: Wait, L: Log>(
     rt: &R,
     alloc: Global,
@@ -45,7 +46,7 @@ pub(crate) fn close_all<R: Wait, L: Log>(
     unreachable!()
 }
 
-/// Looks at the rings between sites, and tells each client its lines.
+/// Looks at the rings between sites, and reads the lines of each client's requests off the histories.
 pub(crate) fn finish<L: Log>(
     alloc: Global,
     script: &LiveScript,

@@ -1,5 +1,5 @@
-//! Sites on threads: a live script is run by workers that visit the sites' boxes and by clients that ask, and closed, so that what each site took in and what each client
-//! heard is known.
+//! Sites on threads: a live script is run by workers that visit the sites' boxes and by clients that ask, and closed, so that what each site took in, and the line of each
+//! request, is known.
 #![tactic(auto)]
 
 mod closed;

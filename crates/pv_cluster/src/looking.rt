@@ -1,5 +1,5 @@
-// A look at each ring with both its ends, when all has ended. It shows that what was taken from the ring is a beginning of what was posted on it. No number that such a
-// look gives is needed between sites: the calls are made for what they show.
+// When all has ended one thread has both ends of each ring. `In::beside` over both changes nothing; its contract says that what was taken from the ring is a beginning of what
+// was posted on it. Between sites it is called for that alone; of a client's ring its answer counts too: 0 where nothing is left.
 ghost use Rattle.std.specs.Prelude.{◌≡◌, ◌⊎◌, true, ℕ, ◌<◌, get_or, length};
 ghost use mathlib.Core.List.{IsPrefix};
 ghost use Rattle.pv_cell.specs.Together.{Brought};
@@ -110,7 +110,8 @@ pub(crate) fn look_at_clients<L: Log>(
     all
 }
 
-// Looks at the ring by which a client asks, which has this place among its site's own, and tells whether it is empty or the box is worn, and so it was before.
+// Looks at the ring by which the client at this place among its site's own asks, and tells whether all rings so far are done with: those before are where `before` says
+// so, and this one is where it is empty or its box is worn.
 fn look_at_client<L: Log>(
     one: &mut SiteBox<L>,
     place: usize,
@@ -130,7 +131,7 @@ fn look_at_client<L: Log>(
     is_over(before, worn, held)
 }
 
-// Whether nothing is left of a ring that holds so many, and nothing was before.
+// Whether a ring that holds so many is done with, and all before it are: nothing is left in it, or its box takes nothing any more.
 fn is_over(before: bool, worn: bool, held: usize) -> bool
     ensures { result ≡ true → (before ≡ true) × ((worn ≡ true) ⊎ (held ≡ 0)) }
 {

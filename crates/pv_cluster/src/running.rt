@@ -38,12 +38,14 @@ pub const MAX_WORKERS: u32 = 16;
 ///
 /// - The histories of the boxes fit together: their merge is one run of the world, whatever the threads did. All that was asked for can run.
 /// - Messages pass between sites in order, each as often as the plan of the script says, less what was lost on the way.
-/// - There is a box for each site, in order. Where its site is up it stands where the box's history leaves it, and else it is down there; then its log's count of faults rose.
-/// - Each client has one line for each request of its script, in order. Of its requests those that stand in its site's history stand there each once and in order, and
-///   nobody else's do.
+/// - There is a box for each site, in order. Where its site is up, the site is as the box's history leaves it; where it is down, the history leaves it down too, and its
+///   log's count of faults rose in this run.
+/// - Each client has one line for each request of its script, in order. Its site's box took all these requests from the client's ring, in order, or is worn. Those that stand
+///   in the site's history stand there each once and in order, and nobody else's do.
 ///
-/// That threads visit and ask before the round that closes the run, that a client waits for its answer, that the gate is told, and that sites tick at the end, no clause
-/// says. Without memory the sites are gone, with their logs. The call waits for threads that it made, and takes as long as they do.
+/// That threads visit and ask before the round that closes the run, that a client waits for its answer, that the gate is told, that all rings are emptied, and that sites
+/// tick at the end, and how often, no clause says. Without memory the sites are gone, with their logs. The call waits for threads that it made, and takes as long as they
+/// do.
 pub fn run<T: Threads + Wait + Sync, L: Log + Send, G: Gate + Sync>(
     rt: &T,
     alloc: Global,

@@ -1,4 +1,5 @@
-// Boxes go to their turns, workers visit them there while clients ask, and boxes and clients come back.
+// Boxes go to their turns, workers visit them there while clients ask, and boxes and clients come back. A turn is a lock that holds a box (pv_turn): a worker takes the box
+// out, visits it and puts it back. Here boxes are put into what a turn holds (`Shown`), served, and taken out again.
 ghost use Rattle.std.specs.Prelude.{◌≡◌, ◌<◌, ◌≤◌, [], All, IfOk, vec_len};
 ghost use Rattle.pv_base.specs.declared.limits.TheConstants.{MAX_SITES};
 ghost use Rattle.pv_closing.specs.Closing.{IsWhole};
@@ -68,7 +69,7 @@ fn from_turns<L: Log>(alloc: Global, turns: Vec<Shown<L>>) -> Result<Vec<SiteBox
     Ok(boxes)
 }
 
-// What is left of each client.
+// What the closing round needs of each client.
 fn all_left(alloc: Global, clients: Vec<Client<Request, Answer>>) -> Result<Vec<Ended>, NoMemory>
     ensures { IfOk result (λ left. Each (λ _ client ended. IsLeftOf client ended) clients.items left.items) }
 {
@@ -80,7 +81,7 @@ fn all_left(alloc: Global, clients: Vec<Client<Request, Answer>>) -> Result<Vec<
     Ok(left)
 }
 
-// What is left of the client.
+// What the closing round needs of a client whose thread has ended: what it hasn't asked for, and the ring by which it asks.
 fn left_of(client: Client<Request, Answer>) -> Ended
     ensures { IsLeftOf client result }
 {

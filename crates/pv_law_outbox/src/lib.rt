@@ -12,8 +12,8 @@ ghost use Rattle.pv_law_outbox.specs.Ready.{IsNext, NoneReady};
 ghost use Rattle.pv_law_outbox.specs.Runs.{Event, holds, learns, releases, has_none, breaks, passes, Run, gone, IsKept};
 ghost use Rattle.pv_law_outbox.specs.State.{Record, held, learnt, taken, state_of, condition_of, outcome_of, is_taken};
 
-/// In a run of calls, stops and openings, in any order, no output is gone twice: none is released twice, and one whose release was written
-/// as the process stopped is never released. What is gone before a run isn't released in it.
+/// An output is gone once it is released, or once its release was written as the process stopped. In a run of calls, stops and openings, in any order, no output is gone
+/// twice; and what was gone before a run isn't released in it.
 pub fn outputs_are_released_once()
     ensures once { (old : List Record) (events : List Event) (new : List Record) → Run old events new → AllPairs (λ output later. output ≢ later) (gone events) }
     ensures never_again { (old : List Record) (events : List Event) (new : List Record) → Run old events new →
@@ -31,7 +31,7 @@ pub fn only_ready_outputs_are_released()
         (when : List (Case ℤ)) → IsCertain (state_of old).outcomes when → IsCertain (state_of new).outcomes when }
 {}
 
-/// What was said before a run is said after it. So an output that a call held, under its condition, and an outcome that a call learnt, are
+/// What the records say before a run they say after it. So an output that a call held, under its condition, and an outcome that a call learnt, are
 /// never lost.
 pub fn what_was_written_stays()
     ensures kept { (old : List Record) (events : List Event) (new : List Record) → Run old events new → IsKept (state_of old) (state_of new) }

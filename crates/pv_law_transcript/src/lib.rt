@@ -16,26 +16,27 @@ ghost use Rattle.pv_transcript.specs.Transcript.{with_reports};
 ghost use Rattle.pv_law_transcript.specs.Merged.{HasWrittenNumber, IsWrittenIntake};
 ghost use Rattle.pv_law_transcript.specs.Written.{AreWritten, IsWritten, IsWrittenRequest};
 
-/// A schedule written out is a schedule, of this catalog and these events.
+/// A schedule that is written out, where its lines can be written, is a schedule of this catalog and these events, and so of no others (a text says one schedule:
+/// pv_law_schedules).
 pub fn written_schedule_reads_back()
     ensures { (schedule : Schedule) → IsWritten schedule.catalog → AreWritten schedule.catalog schedule.events → IsSchedule (schedule_text schedule.catalog schedule.events) schedule }
 {}
 
-/// The lines of a schedule may declare the catalog of a live script, and say each request of its clients.
+/// The catalog of a live script can be written as the first lines of a schedule, and each request of its clients as a line.
 pub fn live_scripts_can_be_written()
     ensures catalog { (text : List ℕ) (script : LiveScript) → IsLiveScript text script → IsWritten script.catalog }
     ensures requests { (text : List ℕ) (script : LiveScript) → IsLiveScript text script →
         All (λ client. All (λ asked. IsWrittenRequest script.catalog asked.query asked.text asked.program) client.requests) script.clients }
 {}
 
-/// The lines of a schedule may say what clients asked for in a history, where they may say what stands there of each client.
+/// If all requests of each client that stand in a history can be written as lines of a schedule, so can all entries of the history that are requests.
 pub fn standing_requests_can_be_written()
     ensures { (catalog : Declared) (history : List Stamped) → ((client : ℕ) → All (λ asked. IsWrittenRequest catalog asked.query asked.text asked.program) (asked_by client history)) →
         All (λ entry. IsWrittenIntake catalog entry.intake) history }
 {}
 
-/// The lines of a schedule may say each event of the merge of histories, and the reports behind them, where they may say what clients asked for, and the numbers of
-/// messages have 64 bits.
+/// Each event of the merge of histories, and the reports behind them, can be written as a line of a schedule, if the requests can, and if the numbers of messages are
+/// below 2^64.
 pub fn merged_events_can_be_written()
     ensures { (catalog : Declared) (histories : List (List Stamped)) (moments : List Moment) → length histories ≡ catalog.sites → IsMerge histories moments →
         ((n : ℕ) → n < length histories → All (λ entry. IsWrittenIntake catalog entry.intake) (history_of histories n)) →
