@@ -234,8 +234,8 @@ void polydb_world_close(polydb_world *world);
  *         give the site what came: a request, a message, a tick
  *
  * A message may be lost, may come late and may come twice: the protocol is made for that. That sites of several hosts agree is a law: whatever happens to them, there is
- * one run of `polydb run` that has let out and shown the same. It asks for what these calls are proved to do (docs/EMBEDDING.md has both side by side); for one thing that
- * is proved of the library below them and not of these calls, that a site stands ready after each; and of hosts for what stands below.
+ * one run of `polydb run` that has let out and shown the same. It asks for what these calls are proved to do (docs/EMBEDDING.md has both side by side), and of hosts for
+ * what stands below.
  * Time is the host's: a site that waits for an answer gives up at its third tick, lets go of
  * its locks at their third, and then asks again at each tick; and never without one.
  *
