@@ -28,7 +28,7 @@ pub record Ring : Type 0 where
   pub posted : List (Sealed × ℕ)
   pub taken : List (Sealed × ℕ)
 
--- It may lose what it is offered, and brings the rest in order.
+-- What it took is of what it was offered, and what was taken from it is a beginning of what it took.
 pub record Brings (ring : Ring) : Type 0 where
   pub posted : All (λ one. Contains ring.offered one.0) ring.posted
   pub taken : IsPrefix ring.taken ring.posted

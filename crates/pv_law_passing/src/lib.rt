@@ -1,5 +1,5 @@
-//! The law of rings: where rings bring messages from site to site, in bytes and in order, the sites' histories are those of sites that pass messages on, and what a site took in of another's messages stands
-//! in its history in order; and a client's requests stand in its site's history each once and in order. The functions do nothing: each states a law.
+//! What rings bring from site to site: histories of sites between which rings stand fit together, what a site has of another's messages stands in its history in the order in
+//! which it was posted, and a client's requests stand there each once and in order. The functions do nothing: each states a law.
 #![tactic(auto)]
 
 ghost use Rattle.std.specs.Prelude.{◌≡◌, ℕ, ◌<◌, List, [], ◌∷◌, ◌++◌};
@@ -56,7 +56,7 @@ pub fn messages_stand_in_order()
         ComesInOrder from me history left taken → AllZip (SealsAlike from me) taken sent → Sublist (parcels_from from history) (counted sent) }
 {}
 
-/// How a ring goes on: it loses what it is offered, or takes it, however often it counts.
+/// How a ring goes on: it loses what it is offered, or takes it, however often it counts; what was taken from it stays so.
 pub fn rings_go_on()
     ensures loses { (ring : Ring) (one : Sealed) → Brings ring → Brings (record ring { offered = ring.offered ++ one ∷ [] }) }
     ensures takes { (ring : Ring) (one : Sealed) (count : ℕ) → Brings ring →

@@ -46,8 +46,8 @@ module _ {M : Type 0} where
       Each (λ k one other. (from ≤ k → k < to → IsFoundEmpty one other) × ((k < from) ⊎ (to ≤ k) → other ≡ one)) old new
 
   -- ## Rings out
-  -- What a ring takes in of these messages, the first of which is its post of this number, with how often each counts: all but those that its plan loses and
-  -- those for which it has no place.
+  -- What a ring takes in of these messages, in order, the first of which is its post of this number, with how often each counts: none that its plan loses, and of the
+  -- others those for which it had a place; which these are isn't said.
   abbrev pub Keeps : FaultPlan → ℕ → List M → List (M × ℕ) → Type 0
   Keeps plan number [] kept = kept ≡ []
   Keeps plan number (message ∷ more) kept =
