@@ -1,4 +1,5 @@
-// The entries of histories in the order of stamps, and at one stamp in the order of sites, as lines of a schedule, with what they print.
+// The entries of histories in the order of stamps, and at one stamp in the order of sites, as lines of a schedule, with what they print. By hand, and not by pv_merge,
+// which asks for a proof that they fit together: that they do is what the tests try.
 use pv_base::SiteId;
 use pv_history::{Entry, Seen, Taken, line_of};
 use pv_script::Line;
@@ -117,6 +118,7 @@ impl Merged {
                 return sent.first;
             }
         }
+        // No message has this number: far fewer are sent.
         1_000_000
     }
 

@@ -46,7 +46,7 @@ use Rattle.pv_cell.proofs.ComingLemmas.{BringsMessages, fresh-plan, messages-aga
 use Rattle.pv_cell.proofs.TrafficLemmas.{gave-count, gave-it, given_of, gives-more, gives-requests, posts-more, rests-gives, rests-requests}
 use Rattle.pv_cell.specs.Box.{IsBox, IsTickDue, course_site}
 use Rattle.pv_cell.specs.Changes.{Enters, Kept, Loses, kept_of}
-use Rattle.pv_cell.specs.Course.{HasCourse, IsCourse, IsNew, WasTakenOnce, asked_again, sealed_again}
+use Rattle.pv_cell.specs.Course.{HasCourse, IsCourse, IsNew, IsToCountAgain, asked_again, sealed_again}
 use Rattle.pv_cell.specs.Opens.{IsFreshOut}
 use Rattle.pv_cell.specs.Traffic.{KeepsItsPlan, requests_of, sealed_count, sealed_of, sealed_offered, sealed_posted, sealed_taken, traffic_of}
 use Rattle.pv_cell.specs.Visits.{Arrives, FindsNothing, IsNext, TakesArrival, TakesTick, Visits}
@@ -97,7 +97,7 @@ module _ {W : Type 0} where
   -- The rings in gave what they gave, some of which counts once more, where so much of each client's and of each site's is added to the history.
   pub record BringsIn (old new : SiteBox W) (added : ℕ → List Request) (held : ℕ → List Sealed) : Type 0 where
     pub gives : GivesMore old.site.catalog.sites (traffic_of old.ends) (traffic_of new.ends)
-    pub again : WasTakenOnce old.site.catalog.sites (traffic_of new.ends) new.again
+    pub again : IsToCountAgain old.site.catalog.sites (traffic_of new.ends) new.again
     pub asked : (client : ℕ)
         → (given : List Request)
         × (get_or (requests_of new.ends) client [] ≡ get_or (requests_of old.ends) client [] ++ given)
@@ -108,7 +108,7 @@ module _ {W : Type 0} where
   module _ (old new : SiteBox W) where
     pub brings-none : Each (λ k one other. Rests one other) old.ends.sites_in.items new.ends.sites_in.items
         → Each (λ k one other. Rests one other) old.ends.clients_in.items new.ends.clients_in.items → new.again ≡ old.again
-        → WasTakenOnce old.site.catalog.sites (traffic_of new.ends) new.again → BringsIn old new (λ client. []) (λ from. [])
+        → IsToCountAgain old.site.catalog.sites (traffic_of new.ends) new.again → BringsIn old new (λ client. []) (λ from. [])
     brings-none sites clients same once = record {
       gives = rests-gives old.site.catalog.sites old.ends new.ends sites;
       again = once;
@@ -121,13 +121,13 @@ module _ {W : Type 0} where
       messages = messages-none old new sites same;
     }
 
-    same-once : WasTakenOnce old.site.catalog.sites (traffic_of old.ends) old.again → new.again ≡ old.again → SameInRings old.ends new.ends
-        → WasTakenOnce old.site.catalog.sites (traffic_of new.ends) new.again
+    same-once : IsToCountAgain old.site.catalog.sites (traffic_of old.ends) old.again → new.again ≡ old.again → SameInRings old.ends new.ends
+        → IsToCountAgain old.site.catalog.sites (traffic_of new.ends) new.again
     same-once once same rings =
-        subst (λ (left : Option Arrival). WasTakenOnce old.site.catalog.sites (traffic_of new.ends) left) (sym same)
+        subst (λ (left : Option Arrival). IsToCountAgain old.site.catalog.sites (traffic_of new.ends) left) (sym same)
         (once-at old.again once)
       where
-        once-at : (left : Option Arrival) → WasTakenOnce old.site.catalog.sites (traffic_of old.ends) left → WasTakenOnce old.site.catalog.sites (traffic_of new.ends) left
+        once-at : (left : Option Arrival) → IsToCountAgain old.site.catalog.sites (traffic_of old.ends) left → IsToCountAgain old.site.catalog.sites (traffic_of new.ends) left
         once-at None was = tt
         once-at (Some (arrival.Request client request)) was = tt
         once-at (Some (arrival.Parcel from parcel)) was = (
@@ -137,7 +137,7 @@ module _ {W : Type 0} where
         )
 
     -- A tick, or what is lost before it comes to rings.
-    pub brings-same : WasTakenOnce old.site.catalog.sites (traffic_of old.ends) old.again → new.again ≡ old.again → SameInRings old.ends new.ends
+    pub brings-same : IsToCountAgain old.site.catalog.sites (traffic_of old.ends) old.again → new.again ≡ old.again → SameInRings old.ends new.ends
         → BringsIn old new (λ client. []) (λ from. [])
     brings-same once same rings =
         brings-none
@@ -146,7 +146,7 @@ module _ {W : Type 0} where
         same (same-once once same rings)
 
   -- ## Something comes
-  module _ (M : LogModel W) (old new : SiteBox W) (is_box : IsBox M old) (once : WasTakenOnce old.site.catalog.sites (traffic_of old.ends) old.again) where
+  module _ (M : LogModel W) (old new : SiteBox W) (is_box : IsBox M old) (once : IsToCountAgain old.site.catalog.sites (traffic_of old.ends) old.again) where
     abbrev Sites : ℕ
     Sites = old.site.catalog.sites
 
@@ -165,7 +165,7 @@ module _ {W : Type 0} where
       comes-again was one rings = record {
         gives = rests-gives Sites old.ends new.ends (sites-rest rings);
         messages = messages-again old new came held few_held (sites-rest rings) was (none-left one);
-        again = subst (λ (left : Option Arrival). WasTakenOnce Sites (traffic_of new.ends) left) (sym (none-left one)) tt;
+        again = subst (λ (left : Option Arrival). IsToCountAgain Sites (traffic_of new.ends) left) (sym (none-left one)) tt;
         asked = λ client. (
           [],
           rests-requests old.ends new.ends
@@ -182,7 +182,7 @@ module _ {W : Type 0} where
         → Comes old.ends new.ends (arrival.Parcel from parcel) count → BringsIn old new added held
     parcel-comes from parcel count added few held few_held again was comes = record {
       gives = gives-more old.ends new.ends from.0 parcel count comes.0 Sites;
-      again = subst (λ (left : Option Arrival). WasTakenOnce Sites (traffic_of new.ends) left) (sym again) (left-of (count == 2) refl);
+      again = subst (λ (left : Option Arrival). IsToCountAgain Sites (traffic_of new.ends) left) (sym again) (left-of (count == 2) refl);
       asked = λ client. (
         [],
         rests-requests old.ends new.ends comes.1 client ∙ sym (append-nil (get_or (requests_of old.ends) client [])),
@@ -194,7 +194,7 @@ module _ {W : Type 0} where
           (gave-count from.0 parcel count old.ends.sites_in.items new.ends.sites_in.items comes.0) comes.0;
     }
       where
-        left-of : (test : Bool) → (count == 2) ≡ test → WasTakenOnce Sites (traffic_of new.ends) (if test then Some (arrival.Parcel from parcel) else None)
+        left-of : (test : Bool) → (count == 2) ≡ test → IsToCountAgain Sites (traffic_of new.ends) (if test then Some (arrival.Parcel from parcel) else None)
         left-of true is = (
           subst (λ (n : ℕ). from.0 < n) is_box.rings.0 comes.0.0,
           subst (λ (n : ℕ). Contains (taken_at (traffic_of new.ends) from.0) (sealed_of parcel, n)) (eqb-true count 2 is)
@@ -213,7 +213,7 @@ module _ {W : Type 0} where
         → Comes old.ends new.ends (arrival.Request asker request) count → BringsIn old new added held
     request-comes asker request count added few held few_held again was comes = record {
       gives = rests-gives Sites old.ends new.ends comes.1;
-      again = subst (λ (left : Option Arrival). WasTakenOnce Sites (traffic_of new.ends) left) (sym again) (left-of (count == 2));
+      again = subst (λ (left : Option Arrival). IsToCountAgain Sites (traffic_of new.ends) left) (sym again) (left-of (count == 2));
       asked = λ client. (
         given_of client asker request count,
         gives-requests old.ends new.ends asker request count comes.0 client,
@@ -225,7 +225,7 @@ module _ {W : Type 0} where
       messages = messages-request old new held was asker request (count == 2) few_held again comes.1;
     }
       where
-        left-of : (test : Bool) → WasTakenOnce Sites (traffic_of new.ends) (if test then Some (arrival.Request asker request) else None)
+        left-of : (test : Bool) → IsToCountAgain Sites (traffic_of new.ends) (if test then Some (arrival.Request asker request) else None)
         left-of true = tt
         left-of false = tt
 
@@ -257,7 +257,7 @@ module _ {W : Type 0} where
     was-given : (from : SiteId) (parcel : Parcel) (count : ℕ) → IsNext old new (arrival.Parcel from parcel) count
         → (from.0 < Sites) × ((n : ℕ) × Contains (taken_at (traffic_of new.ends) from.0) (sealed_of parcel, n))
     was-given from parcel count (inl left) =
-        let was = subst (λ (it : Option Arrival). WasTakenOnce Sites (traffic_of old.ends) it) left.0 once in (
+        let was = subst (λ (it : Option Arrival). IsToCountAgain Sites (traffic_of old.ends) it) left.0 once in (
           was.0,
           (
             2,
@@ -423,7 +423,7 @@ module _ {W : Type 0} (M : LogModel W)
       (each-weaker (λ (k : ℕ) (one other : In Parcel). IsFoundEmpty one other) (λ (k : ℕ) (one other : In Parcel). Rests one other) old.ends.sites_in.items new.ends.sites_in.items (λ k x y within is. is.0) finds.rings.0)
       (each-weaker (λ (k : ℕ) (one other : In script.Request). IsFoundEmpty one other) (λ (k : ℕ) (one other : In script.Request). Rests one other) old.ends.clients_in.items new.ends.clients_in.items (λ k x y within is. is.0) finds.rings.1)
       (none_left ∙ sym finds.none_left.0)
-      (subst (λ (left : Option Arrival). WasTakenOnce old.site.catalog.sites (traffic_of new.ends) left) (sym none_left) tt))
+      (subst (λ (left : Option Arrival). IsToCountAgain old.site.catalog.sites (traffic_of new.ends) left) (sym none_left) tt))
 
   taking-course : (visit : Visit)
       → (IsTickDue old × TakesTick M old new visit)
@@ -469,7 +469,7 @@ module _ {W : Type 0} (box : SiteBox W) (is : IsNew box) where
         asked = λ client.
             subst (λ (left : Option Arrival). Sublist (asked_again client left) (get_or (requests_of ends) client [])) (sym is.history.2)
             (sublist-append_left [] (get_or (requests_of ends) client []));
-        again = subst (λ (left : Option Arrival). WasTakenOnce box.site.catalog.sites (traffic_of ends) left) (sym is.history.2) tt;
+        again = subst (λ (left : Option Arrival). IsToCountAgain box.site.catalog.sites (traffic_of ends) left) (sym is.history.2) tt;
         came = λ from. record {
           held = [];
           seals = tt;

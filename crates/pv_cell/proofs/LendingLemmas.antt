@@ -22,7 +22,7 @@ use Rattle.pv_site.specs.SiteState.{setup_of}
 use Rattle.pv_cell.proofs.ComingLemmas.{still-plans}
 use Rattle.pv_cell.proofs.SameLemmas.{outs-equal, same-counts}
 use Rattle.pv_cell.specs.Box.{IsBox}
-use Rattle.pv_cell.specs.Course.{AreSameEnds, Became, HasCourse, WasTakenOnce, asked_again, sealed_again}
+use Rattle.pv_cell.specs.Course.{AreSameEnds, Became, HasCourse, IsToCountAgain, asked_again, sealed_again}
 use Rattle.pv_cell.specs.Lending.{AreStill, PostsNothing, with_ends}
 use Rattle.pv_cell.specs.Told.{IsTold, TellsItsHistory}
 use Rattle.pv_cell.specs.Traffic.{counted, requests_of, requests_taken, sealed_count, sealed_of, sealed_offered, sealed_posted, sealed_taken, traffic_of}
@@ -100,7 +100,7 @@ module _ {W : Type 0} (box : SiteBox W) (ends : Ends) (still : AreStill box.ends
         asked = λ client.
             subst (λ (all : List (List model.Request)). Sublist (asked_by client (stamps_of box.history.items) ++ asked_again client box.again) (get_or all client []))
             (sym (still-requests box.ends ends still)) (has.asked client);
-        again = subst (λ (t : Traffic). WasTakenOnce box.site.catalog.sites t box.again) (sym same) has.again;
+        again = subst (λ (t : Traffic). IsToCountAgain box.site.catalog.sites t box.again) (sym same) has.again;
         came = λ from.
             subst (λ (t : Traffic). ComesInOrder from box.site.me (stamps_of box.history.items) (sealed_again from box.again) (taken_at t from)) (sym same) (has.came from);
         plans = still-plans box.ends.sites_out.items ends.sites_out.items still.1 has.plans;

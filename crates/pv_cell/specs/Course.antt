@@ -28,9 +28,9 @@ use Rattle.pv_cell.specs.Traffic.{KeepsItsPlan, requests_of, sealed_of, traffic_
 use Rattle.pv_cell.specs.declared.site_box.SiteBox.{SiteBox}
 
 -- What is left to count again is a message that was taken from a site's ring, where it counts twice, or a client's request, or nothing.
-abbrev pub WasTakenOnce : (sites : ℕ) → Traffic → Option Arrival → Type 0
-WasTakenOnce sites traffic (Some (arrival.Parcel from parcel)) = (from.0 < sites) × Contains (taken_at traffic from.0) (sealed_of parcel, 2)
-WasTakenOnce sites traffic other = ⊤
+abbrev pub IsToCountAgain : (sites : ℕ) → Traffic → Option Arrival → Type 0
+IsToCountAgain sites traffic (Some (arrival.Parcel from parcel)) = (from.0 < sites) × Contains (taken_at traffic from.0) (sealed_of parcel, 2)
+IsToCountAgain sites traffic other = ⊤
 
 -- what was taken and counts once more, where this client asks for it
 abbrev pub asked_again : ℕ → Option Arrival → List Request
@@ -51,10 +51,10 @@ pub record IsCourse (setup : Setup) (me : ℕ) (now : state.Site) (history : Lis
   pub last : stamp ≡ last_stamp 0 history
   -- What the history has of a client was taken from that client's ring, in order, and so was what counts once more.
   pub asked : (client : ℕ) → Sublist (asked_by client history ++ asked_again client left) (get_or (requests_of ends) client [])
-  pub again : WasTakenOnce setup.catalog.sites (traffic_of ends) left
+  pub again : IsToCountAgain setup.catalog.sites (traffic_of ends) left
   -- What the history has of a site was taken from that site's ring, in order, each message at most as often as it counts.
   pub came : (from : ℕ) → ComesInOrder from me history (sealed_again from left) (taken_at (traffic_of ends) from)
-  -- Of what was offered to a ring to a site it took in what its plan lets through and it had a place for, in order.
+  -- Of what was offered to a ring to a site it took in some, in order and each as often as its plan says, and nothing that the plan loses.
   pub plans : All KeepsItsPlan ends.sites_out.items
 
 -- They are the ends of the same rings.

@@ -48,8 +48,8 @@ module _ {W : Type 0} where
     pub boxes_are : (n : ℕ) (any : SiteBox W) → n < length boxes → IsSitesBox catalog n (get_or boxes n any)
     pub brought : (from to : ℕ) (any : SiteBox W) → from < length boxes → to < length boxes → Brought from to (get_or boxes from any) (get_or boxes to any)
 
-  -- What came of the messages from the one site to the other. The ring between their boxes took in, of what the one's history posts there, what its plan lets through and
-  -- it had a place for, in order, each as often as the plan says; it gave a beginning of that; and of what it gave the other's history has what wasn't lost or passed
+  -- What came of the messages from the one site to the other. The ring between their boxes took in some of what the one's history posts there, nothing that its plan
+  -- loses, in order, each as often as the plan says; it gave a beginning of that; and of what it gave the other's history has what wasn't lost or passed
   -- over, in order, each at most as often as it counts.
   pub record PassesInOrder (setup : Setup) (from to : ℕ) (one other : SiteBox W) : Type 0 where
     pub held : List (law.Parcel × ℕ)

@@ -17,8 +17,8 @@ use pv_law_histories::histories_grow;
 use pv_law_passing::{sites_go_by_rings, sites_go_on};
 
 /// The history of a box is whole: from its opening on, through any visits and ticks, it is all that its site did (`HasCourse`). Its entries are the site's own
-/// steps, stamped, from the start on; what they post was offered to the rings, in order and in bytes, of which each ring took in what its plan lets through and it had a place
-/// for; and what they took in was taken from the rings, each site's messages and each client's requests in order, each at most as often as it counts. The function does
+/// steps, stamped, from the start on; what they post was offered to the rings, in order and in bytes, of which each ring took in some, in order, and nothing that its plan loses;
+/// and what they took in was taken from the rings, each site's messages and each client's requests in order, each at most as often as it counts. The function does
 /// nothing: it states a law, of a new box and of each call.
 pub fn boxes_keep_their_course<L: Log>()
     ensures new { (box : SiteBox L) → IsNew box → HasCourse box }
@@ -45,8 +45,8 @@ pub fn boxes_fit_together<L: Log>()
     sites_go_by_rings();
 }
 
-/// What the history of a site has of another one's messages is what that one's history posts to it, in order, less what the ring between them loses by its plan, what found no
-/// place in it, and what the site's box lost for want of memory or passed over; and each at most as often as the plan says (`PassesInOrder`). So it is where each ring gave a
+/// What the history of a site has of another one's messages is what that one's history posts to it, in order, less what the ring between them left out, all that its plan
+/// loses among it (why the rest was isn't said), and what the site's box lost for want of memory or passed over; and each at most as often as the plan says (`PassesInOrder`). So it is where each ring gave a
 /// beginning of what it took. The function does nothing: it states a law.
 pub fn boxes_pass_messages_in_order<L: Log>()
     ensures { (catalog : Declared) (boxes : List (SiteBox L)) → AreAllBoxes catalog boxes → (from to : ℕ) (any : SiteBox L) → from < length boxes → to < length boxes →

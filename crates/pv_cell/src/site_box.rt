@@ -98,7 +98,8 @@ impl<L: Log> SiteBox<L> {
     }
 
     /// The site takes at most one input: a tick where one is due, else what was taken before and counts once more, else what the next ring holds. It
-    /// makes its step, and what it sends and has to say is posted. Takes the time of the step and of what it posts, however long the history is.
+    /// makes its step, and what it sends and has to say is posted. Takes the time of the step and of what it posts, on average over visits,
+    /// however long the history is: where its room is full, one visit moves all entries.
     ///
     /// - [`Visit::Took`]: the history has one more entry.
     /// - [`Visit::Idle`]: nothing was there, and nothing changes but the count of such visits, by which a tick comes due.

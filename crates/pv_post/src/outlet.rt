@@ -47,8 +47,9 @@ impl<M: Drop> Out<M> {
         }
     }
 
-    /// Posts a message: it is lost where the plan says so, and else put into the ring, unless the ring has no free place. A place that is
-    /// known to be free is free, and the others stay known.
+    /// Posts a message: it is lost where the plan says so, and else put into the ring, unless this end finds no free place there. A place
+    /// that is known to be free is free, and the others stay known. Contracts don't tell of the look at the ring itself, which a test
+    /// shows: a place that was freed is found without any other call.
     pub fn post(&mut self, message: M) -> Posted<M>
         ensures ring { SameOut self.old self.new }
         ensures offered { offered self.new ≡ offered self.old ++ message ∷ [] }

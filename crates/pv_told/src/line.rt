@@ -6,7 +6,8 @@ use pv_script::Line;
 pub enum ClientWhat {
     /// The history's line for the request, or for the transaction that it began; or that the site has met a fault since.
     Line(Line),
-    /// The history says nothing of the request, and the box isn't worn: it was lost for want of memory, or what would have ended its transaction was.
+    /// The history says nothing of the request, and the box isn't worn. So it is where there was no memory for the request, or for what would have ended its transaction; that it
+    /// comes of nothing else no clause says.
     NoMemory,
     /// The box of the site takes nothing any more.
     Worn,

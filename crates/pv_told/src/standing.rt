@@ -9,9 +9,11 @@ ghost use Rattle.pv_protocol.specs.Lines.{Line};
 ghost use Rattle.pv_told.specs.Along.{line_by};
 ghost use Rattle.pv_told.specs.Standing.{IsOwn, lines_of_history};
 
-/// The line that a history says of a request is printed with the request or after it, so there is none where nobody asked; what is said to have committed or to be
-/// refused is a transaction that the request began; and the line stands among all that the site prints, and among all that is printed of a merge. The function does
-/// nothing: it states a law.
+/// - `own`: the line that a history says of a request is printed with the request's entry or after it; a commit or a refusal is of a transaction that this entry began.
+/// - `none`: of a request that doesn't stand in the history no line is said.
+/// - `stands`, `merged`: the line is among all that the site prints, and among all that the merge prints.
+///
+/// The function does nothing: it states a law.
 pub fn told_lines_stand_in_histories()
     ensures own { (me : ℕ) (asker : Asker) (history : List Stamped) (line : Line) → line_by me asker history ≡ Some line → IsOwn me asker line history }
     ensures none { (me : ℕ) (asker : Asker) (history : List Stamped) → All (λ entry. asker_of entry.intake ≢ Some asker) history → line_by me asker history ≡ None }
