@@ -25,7 +25,7 @@ mod words;
 pub use catalog_text::CatalogText;
 pub use generator::make;
 pub use line::{Line, MessageKind};
-pub use lines::MAX_SCHEDULE;
+pub use lines::{MAX_SCHEDULE, line_after};
 pub use live::{Client, LiveScript, Request};
 pub use read::{read_live, read_schedule};
 pub use schedule::{Event, LineCause, Schedule, ScriptError};

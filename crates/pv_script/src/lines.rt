@@ -102,6 +102,14 @@ impl<'a> Lines<'a> {
     }
 }
 
+/// The number after that of the text's last line.
+pub fn line_after(text: &[u8]) -> u32
+    requires { length text.now ≤ MAX_SCHEDULE }
+    ensures { result ≡ length (lines text.now) + 1 }
+{
+    Lines::new(text).after_last()
+}
+
 // The first line, with the carriage return that may end it, and what stands after its line feed.
 fn first_line(rest: &[u8]) -> (&[u8], &[u8])
     requires { 0 < length rest.now }
