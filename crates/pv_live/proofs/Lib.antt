@@ -1,0 +1,6 @@
+mod EndLemmas
+mod LivedLemmas
+mod NamingLemmas
+mod PrintLemmas
+mod ServedLemmas
+mod TellLemmas
