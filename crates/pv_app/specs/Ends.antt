@@ -4,7 +4,7 @@ use Rattle.std.specs.Prelude.{◌≡◌, ℕ, List, Result, Ok, Err}
 use Rattle.pv_app.specs.Commands.{usage_text}
 use Rattle.pv_app.specs.ShowEnds.{EndsShow, show_status}
 use Rattle.pv_app.specs.declared.command.Command.{Command}
-use Rattle.pv_app.specs.declared.command.Command.TheVariants.{Run, Make, Big, Show}
+use Rattle.pv_app.specs.declared.command.Command.TheVariants.{Run, Make, Big, Live, Show}
 use Rattle.pv_app.specs.declared.show_end.ShowEnd.{ShowEnd}
 use Rattle.pv_base.specs.declared.failure.Failed.{Failed}
 use Rattle.pv_disk.specs.BayModel.{BayModel}
@@ -12,6 +12,8 @@ use Rattle.pv_io.specs.SinkEffects.{WritesAll}
 use Rattle.pv_io.specs.declared.read_end.ReadEnd.{ReadEnd}
 use Rattle.pv_io.specs.declared.sink.Sink as sinks
 use Rattle.pv_io.specs.declared.source.Source as sources
+use Rattle.pv_live.specs.LiveEnds.{EndsLive, live_status}
+use Rattle.pv_live.specs.declared.live_end.LiveEnd.{LiveEnd}
 use Rattle.pv_disk_model.specs.DiskModel.{DiskModel}
 use Rattle.pv_run.specs.Ends.{EndsBig, EndsMake, EndsRun}
 use Rattle.pv_run.specs.Statuses.{big_status, make_status, run_status}
@@ -37,6 +39,7 @@ module _ {R W B V : Type 0} (source : sources.Ghosts R) (sink : sinks.Ghosts W) 
   Ends (Run form) = (ended : Result TextEnd ReadEnd) × (status ≡ run_status ended) × EndsRun source sink M form unread left before after old new ended
   Ends (Make n) = (ended : Result ⊤ WriteEnd) × (status ≡ make_status ended) × EndsMake sink n before after ended × IsUntouched
   Ends (Big n) = (ended : Result TextEnd LongText) × (status ≡ big_status ended) × EndsBig sink n before after ended × IsUntouched
+  Ends (Live workers) = (ended : Result LiveEnd ReadEnd) × (status ≡ live_status ended) × EndsLive source sink M D unread left before after old new ended
   Ends Show = (ended : Result ShowEnd ReadEnd) × (status ≡ show_status ended) × EndsShow source sink M D unread left before after old new ended
 
   -- How words end that are no command: the usage line was written, or a beginning of it.

@@ -1,25 +1,74 @@
-// The top call: from the words and the input's bytes to the output's bytes and a status.
-ghost use Rattle.std.specs.Prelude.{◌≡◌, map};
+// The top call: from the words and the input's bytes to the output's bytes and a status. `polydb` answers all words, and `alone` those for which no
+// thread is made.
+ghost use Rattle.std.specs.Prelude.{◌≡◌, ◌≢◌, ℕ, map};
 ghost use Rattle.std.specs.String.{string_bytes};
 ghost use Rattle.pv_io.specs.SinkEffects.{WritesAll};
 ghost use Rattle.pv_app.specs.Commands.{IsCommand, usage_text};
 ghost use Rattle.pv_app.specs.Ends.{Ends, EndsUsage, usage_status};
 ghost use Rattle.pv_show.specs.Bays.{IsAtRest};
 
-use crate::command::{Command, command_of};
+use crate::command::{Command, command_of, workers_of};
 use crate::showing::{read_and_show, status_of_show};
 use pv_base::Failed;
+use pv_cluster::Gate;
 use pv_disk::Bay;
 use pv_io::{Sink, Source, write_all};
+use pv_live::{read_and_live, status_of_live};
 use pv_run::{
     Status, read_and_run, status_of_big, status_of_make, status_of_run, write_made,
     write_summary_of_number,
 };
 use std::alloc::Global;
+use std::sync::Wait;
+use std::thread::Threads;
 
-const USAGE: &[u8] = b"usage: polydb run | json | make N | big N | show\n";
+const USAGE: &[u8] = b"usage: polydb run | json | make N | big N | live W | show\n";
 
-/// The program, over any input, output and disks. `words` are those after the program's name. For `show` no disk of the bay may be out; none is
+/// The program, over any input, output and disks. `words` are those after the program's name. For `live` and `show` no disk of the bay may be out.
+///
+/// - `live W` reads a live script and runs it with W workers on threads of their own, beside a thread for each client, over disks of the bay, all of
+///   which have to be empty. It writes the schedule that the run came to, what each client heard, and what that schedule prints. It waits for its
+///   threads, and tells the gate of each visit of a worker to a site.
+/// - Other words are answered as by [`alone`].
+///
+/// The status says how it ended. After [`Status::WriteFault`] and [`Status::NoMemory`] the sink has taken a beginning of what was to be written.
+pub fn polydb<T: Threads + Wait + Sync, R: Source, W: Sink, B: Bay, G: Gate + Sync>(
+    rt: &T,
+    alloc: Global,
+    words: &[String],
+    source: &mut R,
+    sink: &mut W,
+    bay: &mut B,
+    gate: &G,
+) -> Status
+where
+    B::D: Send,
+    requires show { IsCommand (map string_bytes words.now) Command.Show → IsAtRest B.model bay.old }
+    requires live { (workers : ℕ) → IsCommand (map string_bytes words.now) (Command.Live workers) → IsAtRest B.model bay.old }
+
+    // Words that are a command end as its relation says, and `Ends` names that of each. The relation of `run` has the headline: whatever schedule the
+    // input is, and in whatever writes and syncs its sites stop or fail, its run keeps the promises. That of `live` says which run, of that same world,
+    // the threads came to.
+    ensures command { (command : Command) → IsCommand (map string_bytes words.now) command →
+        Ends R.Source W.Sink B.model B.D.model source.old source.new sink.old sink.new bay.old bay.new result command }
+
+    // Other words are answered by the usage line, and none that are a command. Nothing is read then.
+    ensures no_command { ((command : Command) → IsCommand (map string_bytes words.now) command → ⊥) →
+        EndsUsage R.Source W.Sink B.model B.D.model source.old source.new sink.old sink.new bay.old bay.new result }
+
+    // Every disk that was handed out has been handed back. Only where there was no memory for a live run it may be gone.
+    ensures handed_back { ((workers : ℕ) → IsCommand (map string_bytes words.now) (Command.Live workers) → result ≢ Status.NoMemory) →
+        IsAtRest B.model bay.old → IsAtRest B.model bay.new }
+{
+    match workers_of(words) {
+        Some(workers) => {
+            status_of_live(read_and_live(rt, alloc, workers, source, sink, bay, gate))
+        }
+        None => alone(alloc, words, source, sink, bay),
+    }
+}
+
+/// The program at words other than `live W`, over any input, output and disks. It waits for nobody. For `show` no disk of the bay may be out; none is
 /// afterwards, where none was before.
 ///
 /// - `run` reads a schedule from the source to its end, runs it, and writes each event's lines when the event is done; `json` does the same with
@@ -31,21 +80,19 @@ const USAGE: &[u8] = b"usage: polydb run | json | make N | big N | show\n";
 ///   the site's items. It changes no disk. Takes time in proportion to the input and the logs, and to the sites times the items.
 ///
 /// The status says how it ended. After [`Status::WriteFault`] and [`Status::NoMemory`] the sink has taken a beginning of what was to be written.
-pub fn polydb<R: Source, W: Sink, B: Bay>(
+pub fn alone<R: Source, W: Sink, B: Bay>(
     alloc: Global,
     words: &[String],
     source: &mut R,
     sink: &mut W,
     bay: &mut B,
 ) -> Status
+    requires not_live { (workers : ℕ) → IsCommand (map string_bytes words.now) (Command.Live workers) → ⊥ }
     requires rest { IsCommand (map string_bytes words.now) Command.Show → IsAtRest B.model bay.old }
 
-    // Words that are a command end as its relation says, and `Ends` names that of each. The relation of `run` has the headline: whatever schedule the
-    // input is, and in whatever writes and syncs its sites stop or fail, its run keeps the promises.
+    // Words that are a command end as its relation says, and other words are answered by the usage line: both as of `polydb`.
     ensures command { (command : Command) → IsCommand (map string_bytes words.now) command →
         Ends R.Source W.Sink B.model B.D.model source.old source.new sink.old sink.new bay.old bay.new result command }
-
-    // Other words are answered by the usage line, and none that are a command. Nothing is read then.
     ensures no_command { ((command : Command) → IsCommand (map string_bytes words.now) command → ⊥) →
         EndsUsage R.Source W.Sink B.model B.D.model source.old source.new sink.old sink.new bay.old bay.new result }
 
@@ -57,6 +104,7 @@ pub fn polydb<R: Source, W: Sink, B: Bay>(
         Some(Command::Show) => status_of_show(read_and_show(alloc, source, sink, bay)),
         Some(Command::Make(number)) => status_of_make(write_made(alloc, number, sink)),
         Some(Command::Big(number)) => status_of_big(write_summary_of_number(alloc, number, sink)),
+        Some(Command::Live(_)) => unreachable!(),
         None => status_of_usage(write_usage(sink)),
     }
 }

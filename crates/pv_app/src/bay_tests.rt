@@ -1,9 +1,10 @@
-// What runs leave on the disks of their sites, and how `show` tells it: the disks of a bay in memory, through the top call.
+// What runs leave on the disks of their sites, and how `show` tells it: the disks of a bay in memory, through the top call for one thread.
 ghost use Rattle.std.specs.Prelude.{◌≡◌, All, IfOk};
 ghost use Rattle.pv_disk.specs.MemBay.{mem_bay};
 ghost use Rattle.pv_show.specs.Bays.{IsAtRest};
 
 use super::*;
+use crate::app::alone;
 use pv_base::SiteId;
 use pv_disk::{Bay, Disk, MemBay, MemDisk};
 use pv_io::{MemSink, MemSource};
@@ -12,15 +13,15 @@ use std::process::Abort;
 use std::test::Fail;
 
 // The journal of one committed transaction, with the record of its site's first epoch.
-const COMMITTED: [u8; 66] = [
+pub(crate) const COMMITTED: [u8; 66] = [
     b'P', b'V', b'J', b'R', b'N', b'L', b'0', b'1', 1, 0, 0, 0, 5, 1, 0, 0, 0, 1, 1, 0, 0, 0, 26,
     2, 0, 0, 0, 0, 1, 0, 0, 0, 0, 1, 0, 0, 0, 0, 0, 1, 0, 0, 0, 0, 0, 0, 0, 0, 101, 1, 0, 0, 0, 11,
     3, 0, 0, 0, 0, 1, 0, 0, 0, 0, 1, 0,
 ];
 
-const ONE_SITE: &str = "sites 1\nitem a 0 100\n";
+pub(crate) const ONE_SITE: &str = "sites 1\nitem a 0 100\n";
 
-const TWO_SITES: &str = "sites 2\nitem a 0 100\nitem b 1 50\n";
+pub(crate) const TWO_SITES: &str = "sites 2\nitem a 0 100\nitem b 1 50\n";
 
 // A transfer whose outcome doesn't reach site 1, which shows both values then.
 const DOUBT: &str = "\
@@ -140,7 +141,7 @@ fn call_over(
     words.push(String::from_str(alloc, word)?)?;
     let mut source = MemSource::new(input.as_bytes().to_vec(alloc)?, Vec::new(alloc));
     let mut sink = MemSink::new(alloc, write_fails.to_vec(alloc)?);
-    let status = polydb(alloc, &words, &mut source, &mut sink, bay);
+    let status = alone(alloc, &words, &mut source, &mut sink, bay);
     Ok((status, sink.bytes().to_vec(alloc)?))
 }
 

@@ -4,6 +4,7 @@ ghost use Rattle.std.specs.String.{string_bytes};
 ghost use Rattle.pv_app.specs.Commands.{IsCommand};
 
 use itoa::Buffer;
+use pv_cluster::MAX_WORKERS;
 use pv_run::Form;
 
 /// The greatest number of a schedule that is made. The generator's states are below the number after it, so a greater one would make nothing new.
@@ -18,6 +19,8 @@ pub enum Command {
     Make(u32),
     /// Make the schedule of this number, at most [`MAX_NUMBER`], run it, and write the summary of what it prints.
     Big(u32),
+    /// Read a live script, and run it with so many workers, at least one and at most [`MAX_WORKERS`].
+    Live(u32),
     /// Read a live script, and write what the disks of its sites hold.
     Show,
 }
@@ -30,6 +33,17 @@ pub fn command_of(words: &[String]) -> Option<Command>
     match words {
         [word] => one_word(word.as_str()),
         [word, number] => word_and_number(word.as_str(), number.as_str()),
+        _ => None,
+    }
+}
+
+/// With how many workers the words ask for a live run, or `None` where they don't.
+pub fn workers_of(words: &[String]) -> Option<u32>
+    ensures some { IfSome result (λ workers. IsCommand (map string_bytes words.now) (Command.Live workers)) }
+    ensures none { result ≡ None → (workers : ℕ) → IsCommand (map string_bytes words.now) (Command.Live workers) → ⊥ }
+{
+    match command_of(words)? {
+        Command::Live(workers) => Some(workers),
         _ => None,
     }
 }
@@ -63,10 +77,13 @@ fn word_and_number(word: &str, text: &str) -> Option<Command>
     if word == "big" {
         return Some(Command::Big(number));
     }
+    if word == "live" && number >= 1 && number <= MAX_WORKERS {
+        return Some(Command::Live(number));
+    }
     None
 }
 
-// The number of a schedule, in decimal without a leading zero.
+// The number of a schedule or of workers, in decimal without a leading zero.
 fn number_of(text: &str) -> Option<u32>
     ensures some { IfSome result (λ n. (text.now ≡ decimal n) × (n ≤ MAX_NUMBER)) }
     ensures none { result ≡ None → (n : ℕ) → n ≤ MAX_NUMBER → text.now ≡ decimal n → ⊥ }

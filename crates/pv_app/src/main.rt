@@ -1,4 +1,4 @@
-//! The program `polydb`: the top call over any input, output and disks, and `main`, which gives it the standard ones and the current folder.
+//! The program `polydb`: the top call over any input, output and disks, and `main`, which gives it the standard ones, the current folder and threads.
 #![tactic(auto)]
 
 mod app;
@@ -7,6 +7,7 @@ mod show_end;
 mod showing;
 
 use crate::app::polydb;
+use pv_cluster::IdleGate;
 use pv_disk::FolderBay;
 use pv_io::{StdSink, StdSource};
 use pv_run::Status;
@@ -15,23 +16,37 @@ use std::env;
 use std::io::{self, ErrorKind};
 use std::process::ExitCode;
 use std::rt::Env;
+use std::sync::Wait;
+use std::thread::Threads;
 
 fn main(rt: HostRuntime) -> ExitCode {
     let status = match words_of(&rt) {
-        Ok(words) => start(&rt, &words),
+        Ok(words) => start(&rt, &rt, &words),
         Err(e) if e.kind() == ErrorKind::OutOfMemory => Ok(Status::NoMemory),
         // Words that aren't text are no command.
-        Err(_) => start(&rt, &[]),
+        Err(_) => start(&rt, &rt, &[]),
     };
     ExitCode::from(status.unwrap_or(Status::NoMemory).code())
 }
 
 // An error is want of memory for the bay's hold on the runtime.
-fn start(rt: &HostRuntime, words: &[String]) -> Result<Status, AllocError> {
+fn start(
+    rt: &HostRuntime,
+    threads: &(impl Threads + Wait + Sync),
+    words: &[String],
+) -> Result<Status, AllocError> {
     let mut source = StdSource::new(rt.stdin());
     let mut sink = StdSink::new(rt.stdout());
     let mut bay = FolderBay::new(rt.alloc(), rt.clone()?);
-    Ok(polydb(rt.alloc(), words, &mut source, &mut sink, &mut bay))
+    Ok(polydb(
+        threads,
+        rt.alloc(),
+        words,
+        &mut source,
+        &mut sink,
+        &mut bay,
+        &IdleGate,
+    ))
 }
 
 // The words after the program's name.
@@ -45,6 +60,8 @@ fn words_of<R: Env + AllocGlobal>(rt: &R) -> io::Result<Vec<String>> {
 
 #[cfg(test)]
 mod bay_tests;
+#[cfg(test)]
+mod live_tests;
 #[cfg(test)]
 mod tests;
 #[cfg(test)]

@@ -7,7 +7,6 @@ use crate::worked_faults::{
 };
 use crate::worked_runs::RUNS;
 use pv_io::{MemSink, MemSource};
-use std::alloc::Global;
 use std::process::Abort;
 use std::test::Fail;
 
@@ -65,7 +64,7 @@ const REPORTS: &str =
 const REPORTS_OUTPUT: &str =
     "order\ncommitted\nopen\nitem a -1\nend\ntxn 0.1.0\ncommit 0.1.0 certain nothing\norder 0.1.0\ncommitted 0.1.0\nopen\nitem a 1\nend\ntxn 0.1.1\ncommit 0.1.1 certain nothing\n";
 
-const USAGE: &str = "usage: polydb run | json | make N | big N | show\n";
+const USAGE: &str = "usage: polydb run | json | make N | big N | live W | show\n";
 
 const FIRST_JSON: &str = "\
 {\"txn\":\"0.1.0\"}
@@ -114,6 +113,11 @@ const OTHER_WORDS: &[&[&str]] = &[
     &["big", "+7"],
     &["make", "2147483648"],
     &["show", "7"],
+    &["live"],
+    &["live", "0"],
+    &["live", "04"],
+    &["live", "17"],
+    &["live", "4", "4"],
 ];
 
 // Which writes fail of a call with these words, and what is written before.
@@ -124,13 +128,14 @@ const WRITE_FAULTS: &[(&[&str], &[u64], &str)] = &[
 ];
 
 // the status, and what was written, of a call over memory
-fn call(
-    alloc: Global,
+pub(crate) fn call(
+    rt: &(impl AllocGlobal + Threads + Wait + Sync),
     words: &[&str],
     input: &[u8],
     read_fails: &[u64],
     write_fails: &[u64],
 ) -> Result<(Status, Vec<u8>), Fail> {
+    let alloc = rt.alloc();
     let mut list = Vec::new(alloc);
     for word in words {
         list.push(String::from_str(alloc, word)?)?;
@@ -138,19 +143,27 @@ fn call(
     let mut source = MemSource::new(input.to_vec(alloc)?, read_fails.to_vec(alloc)?);
     let mut sink = MemSink::new(alloc, write_fails.to_vec(alloc)?);
     let mut bay = bay_of(Vec::new(alloc))?;
-    let status = polydb(alloc, &list, &mut source, &mut sink, &mut bay);
+    let status = polydb(
+        rt,
+        alloc,
+        &list,
+        &mut source,
+        &mut sink,
+        &mut bay,
+        &IdleGate,
+    );
     Ok((status, sink.bytes().to_vec(alloc)?))
 }
 
 // Asserts what is answered and written by a call that no fault ends.
 fn assert_ends(
-    rt: &(impl Abort + AllocGlobal),
+    rt: &(impl Abort + AllocGlobal + Threads + Wait + Sync),
     words: &[&str],
     input: &str,
     status: Status,
     output: &str,
 ) -> Result<(), Fail> {
-    let (answered, written) = call(rt.alloc(), words, input.as_bytes(), &[], &[])?;
+    let (answered, written) = call(rt, words, input.as_bytes(), &[], &[])?;
     assert_eq!(rt; answered, status, "at {input}");
     assert_eq!(rt; written.as_slice(), output.as_bytes(), "at {input}");
     Ok(())
@@ -183,7 +196,7 @@ fn each_run_with_a_stop_or_a_fault_in_a_call_prints_its_lines(rt: HostRuntime) -
 
 // Asserts what each schedule of a group prints, by the line that is its own.
 fn assert_prints(
-    rt: &(impl Abort + AllocGlobal),
+    rt: &(impl Abort + AllocGlobal + Threads + Wait + Sync),
     group: &Group,
     cases: &[(&str, &str)],
 ) -> Result<(), Fail> {
@@ -205,13 +218,12 @@ fn json_writes_each_line_as_an_object(rt: HostRuntime) -> Result<(), Fail> {
 // What the made schedule's run prints is counted by a script of the gate.
 #[test]
 fn a_made_schedule_is_written_and_summarized(rt: HostRuntime) -> Result<(), Fail> {
-    let alloc = rt.alloc();
-    let (status, made) = call(alloc, &["make", "7"], b"", &[0], &[])?;
+    let (status, made) = call(&rt, &["make", "7"], b"", &[0], &[])?;
     assert!(rt; status == Status::Done);
     assert!(rt; made.starts_with(b"sites 16\nitem i0 0 1000\n"));
-    let (status, _) = call(alloc, &["make", "2147483647"], b"", &[0], &[])?;
+    let (status, _) = call(&rt, &["make", "2147483647"], b"", &[0], &[])?;
     assert!(rt; status == Status::Done);
-    let (status, summary) = call(alloc, &["big", "7"], b"", &[0], &[])?;
+    let (status, summary) = call(&rt, &["big", "7"], b"", &[0], &[])?;
     assert!(rt; status == Status::Done);
     assert!(rt; summary.starts_with(b"events "));
     Ok(())
@@ -221,7 +233,7 @@ fn a_made_schedule_is_written_and_summarized(rt: HostRuntime) -> Result<(), Fail
 #[test]
 fn other_words_are_answered_by_the_usage_line(rt: HostRuntime) -> Result<(), Fail> {
     for words in OTHER_WORDS {
-        let (status, written) = call(rt.alloc(), words, FIRST.as_bytes(), &[0], &[])?;
+        let (status, written) = call(&rt, words, FIRST.as_bytes(), &[0], &[])?;
         assert_eq!(rt; status, Status::Usage);
         assert_eq!(rt; written.as_slice(), USAGE.as_bytes());
     }
@@ -230,7 +242,7 @@ fn other_words_are_answered_by_the_usage_line(rt: HostRuntime) -> Result<(), Fai
 
 #[test]
 fn a_fault_of_the_input_leaves_the_output_empty(rt: HostRuntime) -> Result<(), Fail> {
-    let (status, written) = call(rt.alloc(), &["run"], FIRST.as_bytes(), &[0], &[])?;
+    let (status, written) = call(&rt, &["run"], FIRST.as_bytes(), &[0], &[])?;
     assert!(rt; status == Status::ReadFault);
     assert!(rt; written.is_empty());
     Ok(())
@@ -239,7 +251,7 @@ fn a_fault_of_the_input_leaves_the_output_empty(rt: HostRuntime) -> Result<(), F
 #[test]
 fn a_fault_of_the_output_leaves_a_beginning(rt: HostRuntime) -> Result<(), Fail> {
     for (words, fails, output) in WRITE_FAULTS {
-        let (status, written) = call(rt.alloc(), words, FIRST.as_bytes(), &[], fails)?;
+        let (status, written) = call(&rt, words, FIRST.as_bytes(), &[], fails)?;
         assert_eq!(rt; status, Status::WriteFault);
         assert_eq!(rt; written.as_slice(), output.as_bytes());
     }
@@ -250,10 +262,10 @@ fn a_fault_of_the_output_leaves_a_beginning(rt: HostRuntime) -> Result<(), Fail>
 fn an_input_may_be_too_long(rt: HostRuntime) -> Result<(), Fail> {
     let alloc = rt.alloc();
     let input = vec![in alloc; b'#'; 16_777_217]?;
-    let (status, written) = call(alloc, &["run"], &input, &[], &[])?;
+    let (status, written) = call(&rt, &["run"], &input, &[], &[])?;
     assert!(rt; status == Status::TooLong);
     assert!(rt; written.is_empty());
-    let (status, written) = call(alloc, &["run"], &input[1..], &[], &[])?;
+    let (status, written) = call(&rt, &["run"], &input[1..], &[], &[])?;
     assert!(rt; status == Status::Malformed);
     assert!(rt; written.as_slice() == b"line 2: sites expected\n".as_slice());
     Ok(())

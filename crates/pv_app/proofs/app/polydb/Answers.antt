@@ -1,70 +1,28 @@
--- The words are one command, whose relation says how it ends.
-use Rattle.std.proofs.Common.{◌≡◌, ℕ, List, map, Some, Option, IfSome, refl, ap, ◌∙◌, subst}
+-- Words for a live run end as its relation says, and others as without threads.
+use Rattle.std.proofs.Common.{map, ap, ◌∙◌, subst}
 use Rattle.std.specs.String.{string_bytes}
-use Rattle.pv_app.specs.Commands.{IsCommand}
 use Rattle.pv_app.specs.Ends.{Ends}
-use Rattle.pv_app.specs.declared.command.Command.{Command}
-use Rattle.pv_app.specs.declared.command.Command.TheVariants.{Run, Make, Big, Show}
-use Rattle.pv_run.specs.KeptDisks.{last_world}
-use Rattle.pv_run.specs.Statuses.{run_status}
-use Rattle.pv_run.specs.declared.text_end.TextEnd.TheVariants as text
-use Rattle.pv_app.proofs.BayLemmas.{rest-after}
+use Rattle.pv_app.specs.declared.command.Command.TheVariants.{Live}
+use Rattle.pv_live.specs.LiveEnds.{live_status}
 use Rattle.pv_app.proofs.CommandLemmas.{one-command}
 use Rattle.pv_app.proofs.app.polydb.Goals as goal
 
--- The command that was found is the only one.
-found-is : (words : List (List ℕ)) (found : Option Command) (command other : Command) → IfSome found (IsCommand words) → found ≡ Some command
-    → IsCommand words other → command ≡ other
-found-is words found command other some is so =
-    one-command words command other (subst (λ (o : Option Command). IfSome o (IsCommand words)) is some) so
+pub read_and_live-requires-clause-workers : goal.read_and_live-requires-clause-workers
+read_and_live-requires-clause-workers g c κs lives = (c.in-Some.ensures.some.1, c.in-Some.ensures.some.2)
 
-found-command : (words : List (List ℕ)) (found : Option Command) (command : Command) → IfSome found (IsCommand words) → found ≡ Some command → IsCommand words command
-found-command words found command some is = subst (λ (o : Option Command). IfSome o (IsCommand words)) is some
+pub read_and_live-requires-clause-rest : goal.read_and_live-requires-clause-rest
+read_and_live-requires-clause-rest g c κs lives = c.requires.live c.in-Some.workers c.in-Some.ensures.some
 
-pub returns-in-Some-Run-clause-command : goal.returns-in-Some-Run-clause-command
-returns-in-Some-Run-clause-command g c = λ command is.
-    subst (Ends g.R.Source g.W.Sink g.B.Bay.model g.B.D.Disk.model c.args.source.now c.read_and_run.new.source c.args.sink.now c.read_and_run.new.sink c.args.bay.now
-    c.read_and_run.new.bay c.status_of_run.result)
-    (ap Run c.in-Some-Run.form-is ∙ found-is (map string_bytes c.args.words.now) c.command_of.result (Run c.in-Some-Run.form) command c.command_of.ensures.some (c.in-Some-Run.is ∙ ap Some c.in-Some-Run.field-0-is) is)
-    (c.read_and_run.result, c.status_of_run.ensures, c.read_and_run.ensures)
+pub returns-in-Some-clause-command : goal.returns-in-Some-clause-command
+returns-in-Some-clause-command g c = λ command is.
+    subst (Ends g.R.Source g.W.Sink g.B.Bay.model g.B.D.Disk.model c.args.source.now c.read_and_live.new.source c.args.sink.now c.read_and_live.new.sink c.args.bay.now
+    c.read_and_live.new.bay c.status_of_live.result)
+    (one-command (map string_bytes c.args.words.now) (Live c.in-Some.workers) command c.in-Some.ensures.some is)
+    (c.read_and_live.result, c.status_of_live.ensures, c.read_and_live.ensures)
 
-pub returns-in-Some-Run-clause-handed_back : goal.returns-in-Some-Run-clause-handed_back
-returns-in-Some-Run-clause-handed_back g c = λ rest.
-    rest-after g.B.Bay.model c.args.bay.now c.read_and_run.new.bay c.read_and_run.result rest
-    (λ done.
-    let read = c.read_and_run.ensures.given text.Done done in
-    let answered = read.2.done (ap run_status done) in
-    ((last_world answered.0).sites, read.2.kept (ap run_status done) answered.0 answered.1))
-    c.read_and_run.ensures.alone
+pub returns-in-Some-clause-handed_back : goal.returns-in-Some-clause-handed_back
+returns-in-Some-clause-handed_back g c = λ memory rest.
+    c.read_and_live.ensures.handed_back (λ ended. memory c.in-Some.workers c.in-Some.ensures.some (c.status_of_live.ensures ∙ ap live_status ended)) rest
 
-pub returns-in-Some-Make-clause-command : goal.returns-in-Some-Make-clause-command
-returns-in-Some-Make-clause-command g c = λ command is.
-    subst (Ends g.R.Source g.W.Sink g.B.Bay.model g.B.D.Disk.model c.args.source.now c.args.source.now c.args.sink.now c.write_made.new.sink c.args.bay.now
-    c.args.bay.now c.status_of_make.result)
-    (ap Make c.in-Some-Make.number-is ∙ found-is (map string_bytes c.args.words.now) c.command_of.result (Make c.in-Some-Make.number) command c.command_of.ensures.some (c.in-Some-Make.is ∙ ap Some c.in-Some-Make.field-0-is) is)
-    (c.write_made.result, c.status_of_make.ensures, c.write_made.ensures, (refl, refl))
-
-pub returns-in-Some-Big-clause-command : goal.returns-in-Some-Big-clause-command
-returns-in-Some-Big-clause-command g c = λ command is.
-    subst (Ends g.R.Source g.W.Sink g.B.Bay.model g.B.D.Disk.model c.args.source.now c.args.source.now c.args.sink.now c.write_summary_of_number.new.sink c.args.bay.now
-    c.args.bay.now c.status_of_big.result)
-    (ap Big c.in-Some-Big.number-is ∙ found-is (map string_bytes c.args.words.now) c.command_of.result (Big c.in-Some-Big.number) command c.command_of.ensures.some (c.in-Some-Big.is ∙ ap Some c.in-Some-Big.field-0-is) is)
-    (c.write_summary_of_number.result, c.status_of_big.ensures, c.write_summary_of_number.ensures, (refl, refl))
-
-pub returns-in-Some-Show-clause-command : goal.returns-in-Some-Show-clause-command
-returns-in-Some-Show-clause-command g c = λ command is.
-    subst (Ends g.R.Source g.W.Sink g.B.Bay.model g.B.D.Disk.model c.args.source.now c.read_and_show.new.source c.args.sink.now c.read_and_show.new.sink c.args.bay.now
-    c.read_and_show.new.bay c.status_of_show.result)
-    (found-is (map string_bytes c.args.words.now) c.command_of.result Show command c.command_of.ensures.some (c.in-Some-Show.is ∙ ap Some c.in-Some-Show.field-0-is) is)
-    (c.read_and_show.result, c.status_of_show.ensures, c.read_and_show.ensures.ends)
-
-pub read_and_show-requires : goal.read_and_show-requires
-read_and_show-requires g c = record {
-  rest = c.requires.rest (found-command (map string_bytes c.args.words.now) c.command_of.result Show c.command_of.ensures.some (c.in-Some-Show.is ∙ ap Some c.in-Some-Show.field-0-is));
-}
-
-pub returns-in-None-clause-command : goal.returns-in-None-clause-command
-returns-in-None-clause-command g c = λ command is. absurd (c.command_of.ensures.none c.in-None.is command is)
-
-pub returns-in-None-clause-no_command : goal.returns-in-None-clause-no_command
-returns-in-None-clause-no_command g c = λ none. (c.write_usage.result, c.status_of_usage.ensures, c.write_usage.ensures, (refl, refl))
+pub returns-in-Some-clause-no_command : goal.returns-in-Some-clause-no_command
+returns-in-Some-clause-no_command g c = λ none. absurd (none (Live c.in-Some.workers) c.in-Some.ensures.some)

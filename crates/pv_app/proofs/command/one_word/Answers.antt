@@ -5,7 +5,7 @@ use Rattle.std.proofs.lemmas.Bool.Decides.{Decides-eqb}
 use Rattle.std.proofs.lemmas.Slice.Eq.{slice_eq-Decides}
 use Rattle.pv_app.specs.Commands.{IsCommand, word_of}
 use Rattle.pv_app.specs.declared.command.Command.{Command}
-use Rattle.pv_app.specs.declared.command.Command.TheVariants.{Run, Make, Big, Show}
+use Rattle.pv_app.specs.declared.command.Command.TheVariants.{Run, Make, Big, Live, Show}
 use Rattle.pv_run.specs.declared.form.Form.TheVariants.{Text, Json}
 use Rattle.pv_app.proofs.command.one_word.Goals as goal
 
@@ -30,6 +30,7 @@ no-command word no_run no_json no_show (Run Text) is = no_run (let same : word �
 no-command word no_run no_json no_show (Run Json) is = no_json (let same : word ≡ codes "json" = cc in same)
 no-command word no_run no_json no_show (Make n) is = let one = is.0 in let wrong : ⊥ = cc in wrong
 no-command word no_run no_json no_show (Big n) is = let one = is.0 in let wrong : ⊥ = cc in wrong
+no-command word no_run no_json no_show (Live n) is = let one = is.0 in let wrong : ⊥ = cc in wrong
 no-command word no_run no_json no_show Show is = no_show (let same : word ≡ codes "show" = cc in same)
 
 pub returns-clause-none : goal.returns-clause-none

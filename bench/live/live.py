@@ -1,0 +1,59 @@
+"""What the benches of live runs share: scripts, runs in a folder of their own, and the parts of a run's text."""
+
+import os
+import re
+import subprocess
+import tempfile
+from pathlib import Path
+
+TOP = Path(__file__).resolve().parent.parent.parent
+PROGRAM = TOP / "crates" / "pv_app" / "out" / "pv_app"
+
+
+def build():
+    """Builds the program where it has to be built."""
+    subprocess.run([TOP / "build", "--if-changed"], check=True)
+
+
+def folder(where=None):
+    """A folder that is removed in the end: of the memory, or of this one's file system."""
+    return tempfile.TemporaryDirectory(dir=where)
+
+
+def live(workers, script, where):
+    """The status and the text of a live run in this folder."""
+    ran = subprocess.run([PROGRAM, "live", str(workers)], input=script.encode(), stdout=subprocess.PIPE, cwd=where)
+    return ran.returncode, ran.stdout.decode()
+
+
+def output(word, text, where=None):
+    """The status and the text of another command."""
+    ran = subprocess.run([PROGRAM, word], input=text.encode(), stdout=subprocess.PIPE, cwd=where)
+    return ran.returncode, ran.stdout.decode()
+
+
+def parts(text):
+    """The schedule, the clients' lines and the answers of a run's text."""
+    found = re.fullmatch(r"schedule\n(.*\n)clients\n(.*\n)answers\n(.*\n)", text, re.DOTALL)
+    assert found, "other parts"
+    return found.groups()
+
+
+def pairs(requests):
+    """A script of 16 sites and 8 clients, each of which moves 1 so often between two sites of its own."""
+    lines = ["sites 16"]
+    for pair in range(8):
+        lines += [f"item a{pair} {2 * pair} 100000", f"item b{pair} {2 * pair + 1} 0"]
+    for pair in range(8):
+        lines += [f"client {2 * pair}"] + [f"submit a{pair} := a{pair} - 1 ; b{pair} := b{pair} + 1"] * requests
+    return "\n".join(lines) + "\n"
+
+
+def cases(line):
+    """The item of a line of `show`, and the values that it may have."""
+    _, name, rest = line.split(" ", 2)
+    return name, [int(case.split(" ")[0]) for case in rest.split(" ; ")]
+
+
+def processors():
+    return len(os.sched_getaffinity(0))
