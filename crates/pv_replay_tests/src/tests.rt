@@ -1,4 +1,4 @@
-// Worked records and polyvalues, byte for byte; and many cases that overlap.
+// Worked records and polyvalues, byte for byte; each record with every beginning and many changed bytes; and many cases that overlap.
 ghost use Rattle.std.specs.Prelude.{IfOk, IfSome};
 ghost use Rattle.pv_format.specs.RecordSpelling.{SpellsRecord};
 ghost use Rattle.pv_replay.specs.Values.{record_of};
@@ -93,6 +93,36 @@ fn each_kind_of_record_is_read_and_written(rt: HostRuntime) -> Result<(), Fail> 
         assert!(rt;
             again(alloc, &bytes)?.is_some_and(|written| written.as_slice() == bytes.as_slice())
         );
+    }
+    Ok(())
+}
+
+#[test]
+fn no_beginning_of_a_record_is_one(rt: HostRuntime) -> Result<(), Fail> {
+    let alloc = rt.alloc();
+    for (hex, _) in RECORDS {
+        let bytes = bytes_of(alloc, hex)?;
+        for length in 0..bytes.len() {
+            assert!(rt; again(alloc, &bytes[..length])?.is_none());
+        }
+    }
+    Ok(())
+}
+
+#[test]
+fn a_changed_byte_makes_another_record_or_none(rt: HostRuntime) -> Result<(), Fail> {
+    let alloc = rt.alloc();
+    for (hex, _) in RECORDS {
+        let bytes = bytes_of(alloc, hex)?;
+        for place in 0..bytes.len() {
+            for byte in [0, 1, 255] {
+                let mut changed = bytes.to_vec(alloc)?;
+                changed[place] = byte;
+                if let Some(written) = again(alloc, &changed)? {
+                    assert!(rt; written.as_slice() == changed.as_slice());
+                }
+            }
+        }
     }
     Ok(())
 }
