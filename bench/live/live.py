@@ -21,9 +21,20 @@ def folder(where=None):
 
 
 def live(workers, script, where):
-    """The status and the text of a live run in this folder."""
-    ran = subprocess.run([PROGRAM, "live", str(workers)], input=script.encode(), stdout=subprocess.PIPE, cwd=where)
-    return ran.returncode, ran.stdout.decode()
+    """The status, the text, and the most memory in MB of a live run in this folder."""
+    with tempfile.TemporaryFile() as source, tempfile.TemporaryFile() as text:
+        source.write(script.encode())
+        source.seek(0)
+        ran = subprocess.Popen([PROGRAM, "live", str(workers)], stdin=source, stdout=text, cwd=where)
+        _, status, usage = os.wait4(ran.pid, 0)
+        ran.returncode = os.waitstatus_to_exitcode(status)
+        text.seek(0)
+        return ran.returncode, text.read().decode(), usage.ru_maxrss / 1024
+
+
+def memory():
+    """The folder of the memory, where there is one."""
+    return "/dev/shm" if Path("/dev/shm").is_dir() else None
 
 
 def output(word, text, where=None):
