@@ -1,0 +1,16 @@
+pub mod AnsweredLemmas
+pub mod CallLemmas
+pub mod CertainLemmas
+pub mod CoversLemmas
+pub mod FactsLemmas
+pub mod LifeLemmas
+pub mod ListLemmas
+pub mod LogLemmas
+pub mod NextLemmas
+pub mod OneRecordLemmas
+pub mod OpeningLemmas
+pub mod QueueLemmas
+pub mod ReadingLemmas
+pub mod SpellingLemmas
+pub mod StandsLemmas
+pub mod WaitingLemmas

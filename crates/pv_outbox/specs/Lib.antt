@@ -1,0 +1,10 @@
+pub mod Calls
+pub mod Covers
+pub mod Life
+pub mod MemoryView
+pub mod Next
+pub mod Opens
+pub mod OutboxState
+pub mod Spelling
+pub mod Values
+pub mod Writing

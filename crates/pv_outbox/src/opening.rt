@@ -1,0 +1,107 @@
+// What an outbox that is opened reads of its log, and why it isn't opened.
+ghost use Rattle.std.specs.Prelude.{◌≡◌, ◌+◌, ◌-◌, ◌^◌, min, length, false};
+ghost use Rattle.pv_disk_model.specs.Size.{size_of};
+ghost use Rattle.pv_outbox.specs.Opens.{Loads, Reads, refused_with};
+ghost use Rattle.pv_outbox.specs.Values.{contents_of};
+
+use crate::OpenOutbox;
+use crate::facts::Facts;
+use crate::record::decode_record;
+use pv_base::NoMemory;
+use pv_disk::{Log, LogError};
+use std::alloc::Global;
+
+/// Why an outbox isn't opened, as [`OpenOutbox`] says, beside the log that comes back.
+#[derive(Clone, Copy, Debug, PartialEq, Eq)]
+pub(crate) enum Refusal {
+    /// The log failed.
+    Failed,
+    /// The content with this index is no record's.
+    BadRecord(u64),
+    /// What was read isn't the log's.
+    NotOurs(u64),
+    /// There was no memory.
+    NoMemory,
+}
+
+impl From<NoMemory> for Refusal {
+    ghost use Rattle.std.specs.Prelude.{◌≡◌};
+    ghost use Rattle.pv_outbox.specs.declared.opening.Refusal.TheVariants as refusal;
+
+    ghost from_gives = { λ _ e. e ≡ refusal.NoMemory };
+
+    fn from(_: NoMemory) -> Self {
+        Refusal::NoMemory
+    }
+}
+
+impl Refusal {
+    // The refusal, with which the log comes back.
+    pub(crate) fn with<L: Log>(self, log: L) -> OpenOutbox<L>
+        ensures { result ≡ refused_with log self }
+    {
+        match self {
+            Refusal::Failed => OpenOutbox::Failed(log),
+            Refusal::BadRecord(index) => OpenOutbox::BadRecord(log, index),
+            Refusal::NotOurs(place) => OpenOutbox::NotOurs(log, place),
+            Refusal::NoMemory => OpenOutbox::NoMemory(log),
+        }
+    }
+}
+
+/// Reads the records of the log, and what they say.
+pub(crate) fn load<L: Log>(log: &mut L, alloc: Global) -> Result<Facts, Refusal>
+    requires intact { L.model.is_intact log.old }
+    requires up { L.model.is_down log.old ≡ false }
+    ensures loaded { Loads L.model log.old log.new result }
+    ensures intact { L.model.is_intact log.new }
+{
+    let contents = match log.read_all() {
+        Ok(contents) => contents,
+        Err(LogError::Failed) => return Err(Refusal::Failed),
+        Err(LogError::NotOurs(place)) => return Err(Refusal::NotOurs(place)),
+        Err(LogError::NoMemory) => return Err(Refusal::NoMemory),
+        // The log isn't down, and a reading adds nothing.
+        Err(LogError::Down) | Err(LogError::Full(_)) => unreachable!(),
+    };
+    let length = length_of(&contents);
+    if length != log.length() {
+        return Err(Refusal::NotOurs(length));
+    }
+    facts_of(alloc, &contents)
+}
+
+// How long a log with these contents is, or u64's greatest value where it is longer than that.
+fn length_of(contents: &[Vec<u8>]) -> u64
+    ensures { result ≡ min (size_of (contents_of contents.now)) (2 ^ 64 - 1) }
+{
+    let mut length = 9;
+    for content in contents {
+        length = longer(length, content);
+    }
+    length
+}
+
+// The length with one content more.
+fn longer(before: u64, content: &[u8]) -> u64
+    ensures { result ≡ min (before + (5 + length content.now)) (2 ^ 64 - 1) }
+{
+    before.saturating_add(5 + content.len() as u64)
+}
+
+// What the records say that these contents spell.
+fn facts_of(alloc: Global, contents: &[Vec<u8>]) -> Result<Facts, Refusal>
+    ensures { Reads (contents_of contents.now) result }
+{
+    let mut facts = Facts::new(alloc);
+    let mut index = 0;
+    for content in contents {
+        facts.reserve()?;
+        match decode_record(alloc, content)? {
+            Some(record) => facts.note(record),
+            None => return Err(Refusal::BadRecord(index)),
+        }
+        index += 1;
+    }
+    Ok(facts)
+}
