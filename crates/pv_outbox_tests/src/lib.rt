@@ -1,5 +1,0 @@
-//! The tests of pv_outbox.
-#![tactic(auto)]
-
-#[cfg(test)]
-mod tests;
