@@ -32,7 +32,7 @@ enum {
     DIGEST = 16,
     HEAD = 4 + DIGEST,
     MESSAGE_FROM = 1,         /* where in a message the site stands that it comes from */
-    MOST_MESSAGE = 364661,    /* bytes of the longest message, by its format */
+    MOST_MESSAGE = 8454261,   /* bytes of the longest message, by its format */
     QUEUE = 4096,             /* frames that wait for a peer */
     ROUND = 256,              /* frames that are taken before what they make is written */
     ROUNDS = 16,              /* such rounds in one call of polydb_node_work */

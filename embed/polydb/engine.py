@@ -89,7 +89,7 @@ MAX_PROGRAM_ITEMS = 16
 #: Bytes of a configuration, of a schedule, and of a catalog and a line together.
 MAX_INPUT = 16_777_216
 #: Bytes of a message.
-MAX_MESSAGE = 364_661
+MAX_MESSAGE = 8_454_261
 #: Bytes of the limit of journals: the least that may be declared, and the greatest, which is the limit where none is.
 MIN_JOURNAL = 32
 MAX_JOURNAL = 4_294_967_296

@@ -10,8 +10,8 @@ from .polyvalues import Transaction
 from .programs import Program, run_program
 
 TICKS = 3
-READ_NAMES = 7
-HELD_NAMES = 8
+READ_NAMES = 11
+HELD_NAMES = 12
 HEADER_BYTES = 9
 RECORD_BYTES = 5
 EPOCH_BYTES = 5

@@ -239,10 +239,38 @@ item b 50
 end
 ";
 
-// Eight transactions in doubt over one item; a ninth would read eight outcomes, which is one too many.
+// Twelve transactions in doubt over one item; a thirteenth would read twelve outcomes, which is one too many.
 const TOO_MANY_OUTCOMES: &str = "\
 sites 2
 item x 1 0
+submit 0 x := x + 1
+pump 3
+drop 0
+tick 1
+tick 1
+tick 1
+drop 0
+submit 0 x := x + 1
+pump 3
+drop 0
+tick 1
+tick 1
+tick 1
+drop 0
+submit 0 x := x + 1
+pump 3
+drop 0
+tick 1
+tick 1
+tick 1
+drop 0
+submit 0 x := x + 1
+pump 3
+drop 0
+tick 1
+tick 1
+tick 1
+drop 0
 submit 0 x := x + 1
 pump 3
 drop 0
@@ -315,8 +343,12 @@ txn 0.1.5
 txn 0.1.6
 txn 0.1.7
 txn 0.1.8
-refuse 0.1.8 outcome-limit 8
-total possible 0 1 2 3 4 5 6 7 8
+txn 0.1.9
+txn 0.1.10
+txn 0.1.11
+txn 0.1.12
+refuse 0.1.12 outcome-limit 12
+total possible 0 1 2 3 4 5 6 7 8 9 10 11 12
 ";
 
 // A divisor in doubt: one of the possible replies declines.

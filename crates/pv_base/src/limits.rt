@@ -52,12 +52,12 @@ pub const MAX_WRITE_END: u64 = 1_099_511_627_776;
 /// The greatest total of encoded message bytes in a run.
 pub const MAX_SENT: u64 = 268_435_456;
 
-/// How many outcomes the values that one transaction reads may name together. Its program is then computed for at most 128
+/// How many outcomes the values that one transaction reads may name together. Its program is then computed for at most 2,048
 /// alternatives.
-pub const READ_NAMES: u32 = 7;
+pub const READ_NAMES: u32 = 11;
 
-/// How many outcomes one polyvalue may name. It has then at most 256 cases.
-pub const HELD_NAMES: u32 = 8;
+/// How many outcomes one polyvalue may name. It has then at most 4,096 cases.
+pub const HELD_NAMES: u32 = 12;
 
 /// How many ticks a grant stands, and a coordinator waits.
 pub const TICKS: u8 = 3;

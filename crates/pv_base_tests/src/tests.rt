@@ -87,7 +87,7 @@ fn each_refusal_has_its_text(rt: HostRuntime) -> Result<(), Fail> {
 fn what_is_wrong_with_cases_is_printed(rt: HostRuntime) -> Result<(), Fail> {
     let printed = format!(in rt.alloc();
         "{}; {}; {}; {}; {}",
-        CaseError::TooManyOutcomes(9),
+        CaseError::TooManyOutcomes(13),
         CaseError::NotDisjoint(0, 1),
         CaseError::NotComplete(Vec::new(rt.alloc())),
         CaseError::NotReduced(2),
@@ -95,14 +95,14 @@ fn what_is_wrong_with_cases_is_printed(rt: HostRuntime) -> Result<(), Fail> {
     )?;
     assert_eq!(rt;
         printed.as_str(),
-        "the cases name 9 outcomes; cases 0 and 1 overlap; an assignment meets no case; case 2 isn't canonical; no memory"
+        "the cases name 13 outcomes; cases 0 and 1 overlap; an assignment meets no case; case 2 isn't canonical; no memory"
     );
     let printed = format!(in rt.alloc();
         "{}; {}",
-        NameError::TooManyOutcomes(9),
+        NameError::TooManyOutcomes(13),
         NameError::NoMemory
     )?;
-    assert_eq!(rt; printed.as_str(), "the value names 9 outcomes; no memory");
+    assert_eq!(rt; printed.as_str(), "the value names 13 outcomes; no memory");
     Ok(())
 }
 
@@ -187,6 +187,6 @@ fn a_condition_is_met_where_each_literal_is(rt: HostRuntime) {
 
 #[test]
 fn the_limits_are_seven_and_eight_outcomes(rt: HostRuntime) {
-    assert!(rt; READ_NAMES == 7);
-    assert!(rt; HELD_NAMES == 8);
+    assert!(rt; READ_NAMES == 11);
+    assert!(rt; HELD_NAMES == 12);
 }

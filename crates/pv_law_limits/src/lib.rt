@@ -28,8 +28,8 @@ pub fn limits_are_these()
     ensures length { MAX_LENGTH ≡ 2 ^ 62 }
     ensures write_end { MAX_WRITE_END ≡ 2 ^ 40 }
     ensures sent { MAX_SENT ≡ 2 ^ 28 }
-    ensures read_names { READ_NAMES ≡ 7 }
-    ensures held_names { HELD_NAMES ≡ 8 }
+    ensures read_names { READ_NAMES ≡ 11 }
+    ensures held_names { HELD_NAMES ≡ 12 }
     ensures ticks { TICKS ≡ 3 }
     ensures never_given { NEVER_GIVEN ≡ 2 ^ 32 - 1 }
     ensures schedule { MAX_SCHEDULE ≡ 2 ^ 32 - 2 }

@@ -41,12 +41,12 @@ fn either<V: Exact>(alloc: Global, txn: TxnId, values: &[V]) -> Result<Poly<V>, 
 }
 
 // ten values, of which the last one names the outcome that the first one names
-fn ten_of_nine_outcomes(alloc: Global) -> Result<Vec<Poly<i64>>, NoMemory>
-    ensures { IfOk result (λ values. length values.items ≡ 10) }
+fn fourteen_of_thirteen_outcomes(alloc: Global) -> Result<Vec<Poly<i64>>, NoMemory>
+    ensures { IfOk result (λ values. length values.items ≡ 14) }
 {
     let mut values = Vec::new(alloc);
-    for number in 0..10 {
-        values.push(either(alloc, txn(number % 9), &[0, 1])?)?;
+    for number in 0..14 {
+        values.push(either(alloc, txn(number % 13), &[0, 1])?)?;
     }
     Ok(values)
 }
@@ -133,17 +133,17 @@ fn no_values_have_the_sum_0(rt: HostRuntime) -> Result<(), Fail> {
 }
 
 #[test]
-fn nine_outcomes_are_too_many(rt: HostRuntime) -> Result<(), Fail> {
+fn thirteen_outcomes_are_too_many(rt: HostRuntime) -> Result<(), Fail> {
     let alloc = rt.alloc();
-    let values = ten_of_nine_outcomes(alloc)?;
+    let values = fourteen_of_thirteen_outcomes(alloc)?;
     let refused = sums(alloc, &values).err();
-    assert!(rt; refused == Some(SumError::OutcomeLimit(9)));
+    assert!(rt; refused == Some(SumError::OutcomeLimit(13)));
     Ok(())
 }
 
 #[test]
 fn each_refusal_has_its_text(rt: HostRuntime) -> Result<(), Fail> {
-    let printed = format!(in rt.alloc(); "{}, {}", SumError::OutcomeLimit(9), SumError::NoMemory)?;
-    assert_eq!(rt; printed.as_str(), "the values name 9 outcomes, no memory");
+    let printed = format!(in rt.alloc(); "{}, {}", SumError::OutcomeLimit(13), SumError::NoMemory)?;
+    assert_eq!(rt; printed.as_str(), "the values name 13 outcomes, no memory");
     Ok(())
 }

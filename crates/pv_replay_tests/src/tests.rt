@@ -201,13 +201,13 @@ fn the_first_fault_is_answered(rt: HostRuntime) -> Result<(), Fail> {
     Ok(())
 }
 
-// So many cases: eight that ask for the outcome of one transaction each, and then cases that are always met. They name eight transactions, and
+// So many cases: twelve that ask for the outcome of one transaction each, and then cases that are always met. They name twelve transactions, and
 // each overlaps each other one.
 fn many_cases(alloc: Global, count: u16) -> Result<Vec<u8>, NoMemory> {
     let mut put = Put::new(alloc);
     put.u16(count)?;
     for number in 0..u32::from(count) {
-        if number < 8 {
+        if number < 12 {
             put.u8(1)?;
             put.u8(1)?;
             put.u8(0)?;

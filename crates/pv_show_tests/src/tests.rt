@@ -33,8 +33,8 @@ const CUT: [u8; 9] = *b"PVJRNL01\x01";
 // Epoch 1, and a content of a kind that there isn't.
 const BAD: [u8; 25] = *b"PVJRNL01\x01\0\0\0\x05\x01\0\0\0\x01\x01\0\0\0\x01\x04\0";
 
-// Nine transactions prepared, each with another value for item 0.
-const CROWDED: [u8; 288] = *b"PVJRNL01\
+// Thirteen transactions prepared, each with another value for item 0.
+const CROWDED: [u8; 412] = *b"PVJRNL01\
     \x01\0\0\0\x1a\x02\0\0\0\0\x01\0\0\0\x00\x01\0\0\0\0\0\x01\0\0\0\0\0\0\0\0\x01\
     \x01\0\0\0\x1a\x02\0\0\0\0\x01\0\0\0\x01\x01\0\0\0\0\0\x01\0\0\0\0\0\0\0\0\x02\
     \x01\0\0\0\x1a\x02\0\0\0\0\x01\0\0\0\x02\x01\0\0\0\0\0\x01\0\0\0\0\0\0\0\0\x03\
@@ -44,6 +44,10 @@ const CROWDED: [u8; 288] = *b"PVJRNL01\
     \x01\0\0\0\x1a\x02\0\0\0\0\x01\0\0\0\x06\x01\0\0\0\0\0\x01\0\0\0\0\0\0\0\0\x07\
     \x01\0\0\0\x1a\x02\0\0\0\0\x01\0\0\0\x07\x01\0\0\0\0\0\x01\0\0\0\0\0\0\0\0\x08\
     \x01\0\0\0\x1a\x02\0\0\0\0\x01\0\0\0\x08\x01\0\0\0\0\0\x01\0\0\0\0\0\0\0\0\x09\
+    \x01\0\0\0\x1a\x02\0\0\0\0\x01\0\0\0\x09\x01\0\0\0\0\0\x01\0\0\0\0\0\0\0\0\x0a\
+    \x01\0\0\0\x1a\x02\0\0\0\0\x01\0\0\0\x0a\x01\0\0\0\0\0\x01\0\0\0\0\0\0\0\0\x0b\
+    \x01\0\0\0\x1a\x02\0\0\0\0\x01\0\0\0\x0b\x01\0\0\0\0\0\x01\0\0\0\0\0\0\0\0\x0c\
+    \x01\0\0\0\x1a\x02\0\0\0\0\x01\0\0\0\x0c\x01\0\0\0\0\0\x01\0\0\0\0\0\0\0\0\x0d\
     \0";
 
 // A disk with these bytes.
@@ -118,7 +122,7 @@ fn each_kind_of_line_is_told(rt: HostRuntime) -> Result<(), Fail> {
     let text = told(alloc, b"sites 5\nitem a 3 0\n", &mut bay)??;
     assert_eq!(rt;
         text.as_slice(),
-        b"site 0 epoch 0 records 0\nsite 1 not-ours 8\nsite 2 bad-record 1\nsite 3 too-many 9\nsite 4 fault\n".as_slice()
+        b"site 0 epoch 0 records 0\nsite 1 not-ours 8\nsite 2 bad-record 1\nsite 3 too-many 13\nsite 4 fault\n".as_slice()
     );
     Ok(())
 }

@@ -113,13 +113,13 @@ fn returned(rt: &(impl Abort + AllocGlobal), a: Poly<i64>) -> Result<Joined, Spl
 }
 
 #[test]
-fn seven_outcomes_are_computed_and_eight_are_too_many(rt: HostRuntime) -> Result<(), Fail> {
-    let joined = returned(&rt, last_of(rt.alloc(), 7)?)?;
+fn eleven_outcomes_are_computed_and_twelve_are_too_many(rt: HostRuntime) -> Result<(), Fail> {
+    let joined = returned(&rt, last_of(rt.alloc(), 11)?)?;
     assert_eq!(rt; joined.writes.len(), 0);
     // The first outcomes are asked first, and none of them settles which commits last.
-    assert_eq!(rt; joined.reply.cases().len(), 128);
-    let refused = returned(&rt, last_of(rt.alloc(), 8)?);
-    assert!(rt; matches!(refused, Err(SplitError::OutcomeLimit(8))));
+    assert_eq!(rt; joined.reply.cases().len(), 2048);
+    let refused = returned(&rt, last_of(rt.alloc(), 12)?);
+    assert!(rt; matches!(refused, Err(SplitError::OutcomeLimit(12))));
     Ok(())
 }
 
@@ -127,9 +127,9 @@ fn seven_outcomes_are_computed_and_eight_are_too_many(rt: HostRuntime) -> Result
 fn each_refusal_has_its_text(rt: HostRuntime) -> Result<(), Fail> {
     let printed = format!(in rt.alloc();
         "{}, {}",
-        SplitError::OutcomeLimit(8),
+        SplitError::OutcomeLimit(12),
         SplitError::NoMemory
     )?;
-    assert_eq!(rt; printed.as_str(), "the reads name 8 outcomes, no memory");
+    assert_eq!(rt; printed.as_str(), "the reads name 12 outcomes, no memory");
     Ok(())
 }

@@ -168,11 +168,11 @@ fn a_second_promise_is_mentioned_too(rt: HostRuntime) -> Result<(), Fail> {
 }
 
 #[test]
-fn records_that_give_a_ninth_name_are_refused(rt: HostRuntime) -> Result<(), Fail> {
+fn records_that_give_a_thirteenth_name_are_refused(rt: HostRuntime) -> Result<(), Fail> {
     let alloc = rt.alloc();
     let mut store = empty(alloc)?;
-    let past = promises(alloc, 9)?;
-    assert_eq!(rt; store.load(&past), Err(StoreError::TooManyOutcomes(9)));
+    let past = promises(alloc, 13)?;
+    assert_eq!(rt; store.load(&past), Err(StoreError::TooManyOutcomes(13)));
     Ok(())
 }
 
@@ -199,8 +199,8 @@ fn a_commit_leaves_the_new_value(rt: HostRuntime) -> Result<(), Fail> {
 fn each_refusal_has_its_text(rt: HostRuntime) -> Result<(), Fail> {
     let texts = [
         (
-            StoreError::TooManyOutcomes(9),
-            "a value would name 9 outcomes",
+            StoreError::TooManyOutcomes(13),
+            "a value would name 13 outcomes",
         ),
         (StoreError::NoMemory, "no memory"),
     ];

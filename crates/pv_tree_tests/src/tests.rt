@@ -184,14 +184,14 @@ fn two_outcomes_are_put_in_at_once(rt: HostRuntime) -> Result<(), Fail> {
 }
 
 #[test]
-fn a_ninth_name_is_refused(rt: HostRuntime) -> Result<(), Fail> {
+fn a_thirteenth_name_is_refused(rt: HostRuntime) -> Result<(), Fail> {
     let mut poly = Poly::sure(rt.alloc(), 0)?;
-    for site in 0..8 {
+    for site in 0..12 {
         poly = chosen(rt.alloc(), site, site as i64 + 1, &poly)?;
     }
-    assert_eq!(rt; poly.names(rt.alloc())?.len(), 8);
-    let refused = chosen(rt.alloc(), 8, 9, &poly);
-    assert!(rt; matches!(refused, Err(NameError::TooManyOutcomes(9))));
+    assert_eq!(rt; poly.names(rt.alloc())?.len(), 12);
+    let refused = chosen(rt.alloc(), 12, 13, &poly);
+    assert!(rt; matches!(refused, Err(NameError::TooManyOutcomes(13))));
     Ok(())
 }
 
@@ -208,9 +208,9 @@ const MADE: &[(&str, &str, &str)] = &[
     ("0- 1; 0+ 1;", "NotReduced(0)", "1;"),
     ("0+ 60; 0- 50;", "NotReduced(0)", "0- 50; 0+ 60;"),
     (
-        "0- 1- 2- 3- 4- 5- 6- 7- 8- 1;",
-        "TooManyOutcomes(9)",
-        "TooManyOutcomes(9)",
+        "0- 1- 2- 3- 4- 5- 6- 7- 8- 9- 10- 11- 12- 1;",
+        "TooManyOutcomes(13)",
+        "TooManyOutcomes(13)",
     ),
 ];
 

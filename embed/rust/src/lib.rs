@@ -338,7 +338,7 @@ pub const MAX_PROGRAM_ITEMS: usize = 16;
 /// The greatest length of a configuration, of a schedule, and of a catalog and a line together, in bytes.
 pub const MAX_INPUT: usize = 16_777_216;
 /// The greatest length of a message, in bytes.
-pub const MAX_MESSAGE: usize = 364_661;
+pub const MAX_MESSAGE: usize = 8_454_261;
 /// The least limit of journals that may be declared, in bytes.
 pub const MIN_JOURNAL: u64 = 32;
 /// The greatest limit of journals, in bytes, and the limit where none is declared.
