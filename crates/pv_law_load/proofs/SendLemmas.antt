@@ -81,11 +81,11 @@ module _ (catalog : Declared) (records : List Record) where
   abbrev AreFew : ℕ → Type 0
   AreFew item = length (names_of (shown catalog records item)) ≤ HELD_NAMES
 
-  shown-few : (items : List ℕ) → All AreFew items → length (names_shown catalog records items) ≤ 8 * length items
+  shown-few : (items : List ℕ) → All AreFew items → length (names_shown catalog records items) ≤ 60 * length items
   shown-few [] few = omega arith
   shown-few (item ∷ items) few =
-      let one : length (names_of (shown catalog records item)) ≤ 8 = all-head AreFew item items few in
-      let rest : length (names_shown catalog records items) ≤ 8 * length items = shown-few items (all-tail AreFew item items few) in
+      let one : length (names_of (shown catalog records item)) ≤ 60 = let held = all-head AreFew item items few in omega (arith, held) in
+      let rest : length (names_shown catalog records items) ≤ 60 * length items = shown-few items (all-tail AreFew item items few) in
       let both : length (with_txns (names_of (shown catalog records item)) (names_shown catalog records items))
       ≤ length (names_of (shown catalog records item)) + length (names_shown catalog records items) =
       with_txns-few (names_of (shown catalog records item)) (names_shown catalog records items) in omega arith
@@ -102,13 +102,13 @@ plan-length program items = length-map (participants_of program items) (part_of 
 
 module _ (here : Here) (few : HasFewSites here.setup.catalog) (items : length here.setup.catalog.items ≤ MAX_ITEMS)
     (narrow : IsNarrow HELD_NAMES here.setup.catalog here.me here.records) where
-  named-few : length (named_here here) ≤ 8192
+  named-few : length (named_here here) ≤ 61440
   unfolding named_here
   named-few =
       let each : All (AreFew here.setup.catalog here.records) (items_here here) =
       all-from (AreFew here.setup.catalog here.records) (items_here here)
       (λ n within. narrow-now HELD_NAMES here.setup.catalog here.me here.records narrow n (items-home here n within)) in
-      let all : length (names_shown here.setup.catalog here.records (items_here here)) ≤ 8 * length (items_here here) =
+      let all : length (names_shown here.setup.catalog here.records (items_here here)) ≤ 60 * length (items_here here) =
       shown-few here.setup.catalog here.records (items_here here) each in
       let count : length (items_here here) ≤ length here.setup.catalog.items = items-few here.me 0 here.setup.catalog.items in
       let most : length here.setup.catalog.items ≤ 1024 = items in omega arith
@@ -126,7 +126,7 @@ module _ (here : Here) (few : HasFewSites here.setup.catalog) (items : length he
       let both : length (expiry_sends here (entry ∷ entries)) ≡ length (outcome_sends entry.txn false (participants here entry)) + length (expiry_sends here entries) =
       length-append (outcome_sends entry.txn false (participants here entry)) (expiry_sends here entries) in omega arith
 
-  tick-few : length (on_tick here).sends ≤ 16 * length here.running.entries + 8192
+  tick-few : length (on_tick here).sends ≤ 16 * length here.running.entries + 61440
   unfolding on_tick
   tick-few =
       let entries = here.running.entries in
@@ -136,7 +136,7 @@ module _ (here : Here) (few : HasFewSites here.setup.catalog) (items : length he
       let same : length (older_entries entries) ≡ length entries = length-map entries (λ (entry : Entry). record entry { age = entry.age + 1 }) in
       let refused : length (expiry_sends here expired) ≤ 16 * length expired = expiry-few expired in
       let names : length asked ≤ length (named_here here) = filter-few _ (named_here here) in
-      let named : length (named_here here) ≤ 8192 = named-few in
+      let named : length (named_here here) ≤ 61440 = named-few in
       let each : length (ask_sends asked) ≡ length asked = length-map asked (λ txn. record { to = txn.site.0; message = ask txn }) in
       let both : length (expiry_sends here expired ++ ask_sends asked) ≡ length (expiry_sends here expired) + length (ask_sends asked) =
       length-append (expiry_sends here expired) (ask_sends asked) in omega arith
@@ -159,4 +159,4 @@ module _ (here : Here) (few : HasFewSites here.setup.catalog) (items : length he
       let count : length sends ≤ weight_sent sends = weight-counts sends in
       let light : weight_sent sends < weight message = message-light here.setup few here.me here.records here.running from message in
       let bound : weight message ≤ 83521 = weight-bound message in omega arith
-  sends-few tick = let few : length (step_on here tick).sends ≤ 16 * length here.running.entries + 8192 = tick-few in omega arith
+  sends-few tick = let few : length (step_on here tick).sends ≤ 16 * length here.running.entries + 61440 = tick-few in omega arith

@@ -15,7 +15,7 @@ pub fn entries_grow_by_one()
 {}
 
 /// A step sends 16 messages for each entry of the coordinator at most, and a fixed number beside: of a tick they are one for each outcome that a
-/// shown value names. A narrow site has at most 8,192 of those, 8 for each of 1,024 items. The number here is greater than it need be, and rounds up a
+/// shown value names. A narrow site has at most 1,024 times [`pv_base::HELD_NAMES`] of those. The number here is greater than it need be, and rounds up a
 /// bound by weights, 83,521.
 pub fn sends_are_few()
     ensures { (here : Here) (input : Input) → HasFewSites here.setup.catalog → length here.setup.catalog.items ≤ MAX_ITEMS →

@@ -31,23 +31,23 @@ sum-small f most (x ∷ xs) small =
     let first = all-head (λ y. f y ≤ most) x xs small in
     omega (arith, rest, first, sum_by-cons f x xs, mul-suc most (length xs))
 
-case-short : (most : ℕ) (case : Case ℤ) → length case.when ≤ 8 → case_length case ≤ 89
-case-short most case few = omega (arith, few)
+case-short : (case : Case ℤ) → length case.when ≤ HELD_NAMES → case_length case ≤ 2559
+case-short case few = let small : length case.when ≤ 255 = omega (arith, few) in omega (arith, small)
 
-polyvalue-short : (sites : ℕ) (cases : List (Case ℤ)) → IsPolyvalueWithin sites cases → polyvalue_length cases ≤ 30000
+polyvalue-short : (sites : ℕ) (cases : List (Case ℤ)) → IsPolyvalueWithin sites cases → polyvalue_length cases ≤ 200000000
 polyvalue-short sites cases is =
     let few = polyvalue-few HELD_NAMES cases is.polyvalue in
-    let count : length cases ≤ 256 = few.count in
-    let each : All (λ case. case_length case ≤ 89) cases =
-    all-from (λ case. case_length case ≤ 89) cases (λ case h. case-short 0 case (All-contains (λ case. length case.when ≤ HELD_NAMES) cases case few.literals h)) in
-    omega (arith, count, sum-small case_length 89 cases each)
+    let count : length cases ≤ 65535 = omega (arith, few.count) in
+    let each : All (λ case. case_length case ≤ 2559) cases =
+    all-from (λ case. case_length case ≤ 2559) cases (λ case h. case-short case (All-contains (λ case. length case.when ≤ HELD_NAMES) cases case few.literals h)) in
+    omega (arith, count, sum-small case_length 2559 cases each)
 
 module _ (sites : ℕ) (here : Here) (sound : IsHereInRange sites here) where
   pub length-short : (txn : TxnId) (writes : List Read) → AreReadsWithin sites 0 writes → length_with here (prepared txn writes) < 2 ^ 64
   length-short txn writes are =
-      let each : All (λ (read : Read). 4 + polyvalue_length read.cases ≤ 40000) writes =
-      all-from (λ (read : Read). 4 + polyvalue_length read.cases ≤ 40000) writes
+      let each : All (λ (read : Read). 4 + polyvalue_length read.cases ≤ 300000000) writes =
+      all-from (λ (read : Read). 4 + polyvalue_length read.cases ≤ 300000000) writes
       (λ read h. omega (arith, polyvalue-short sites read.cases (All-contains (λ (r : Read). IsPolyvalueWithin sites r.cases) writes read are.values h))) in
       let few : length (map (λ (read : Read). read.item) writes) ≤ 16 = are.items.few in
-      let short = sum-small (λ (read : Read). 4 + polyvalue_length read.cases) 40000 writes each in
+      let short = sum-small (λ (read : Read). 4 + polyvalue_length read.cases) 300000000 writes each in
       omega (arith, short, few, length-map {B = ℕ} writes (λ (read : Read). read.item), sound.room, sound.setup.journal)

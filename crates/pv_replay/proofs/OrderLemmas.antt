@@ -1,7 +1,8 @@
 -- Canonical cases stand in the order of the leaves of a decision tree.
-use Rattle.std.proofs.Common.{◌≡◌, ℕ, zero, suc, ◌+◌, ◌<◌, ◌-◌, ◌==◌, ◌≤◌, ℤ, Bool, true, false, ◌&&◌, ◌||◌, List, [], ◌∷◌, ◌++◌, length, drop, get_or, nat_le, All, eq-eqb, refl, sym, ap, ◌∙◌, arith}
+use Rattle.std.proofs.Common.{◌≡◌, ℕ, zero, suc, ◌+◌, ◌^◌, ◌<◌, ◌-◌, ◌==◌, ◌≤◌, ℤ, Bool, true, false, ◌&&◌, ◌||◌, List, [], ◌∷◌, ◌++◌, length, drop, get_or, nat_le, All, eq-eqb, refl, sym, ap, ◌∙◌, arith}
 use Rattle.std.specs.Bool.{beq}
 use Rattle.std.specs.List.{list_all, list_any}
+use Rattle.std.proofs.lemmas.Bool.{le-leb}
 use Rattle.std.proofs.lemmas.Bool.Decides.{nat_tests}
 use Rattle.std.proofs.lemmas.List.Elements.{All-head, All-tail}
 use Rattle.pv_base.specs.Assignment.{is_same_txn, precedes}
@@ -164,10 +165,9 @@ all_few (case ∷ cases) few =
 pub polyvalue_looks : (cases : List (Case ℤ)) → IsPolyvalue HELD_NAMES cases → looks_canonical cases ≡ true
 polyvalue_looks cases is =
     let few = polyvalue-few HELD_NAMES cases is in
-    let count : length cases ≤ 256 = omega (arith, few.count) in
-    both_true (nat_le (length cases) 256 && list_all (λ (case : Case ℤ). nat_le (length case.when) HELD_NAMES) cases && list_all (λ (case : Case ℤ). ascends case.when) cases)
+    both_true (nat_le (length cases) (2 ^ HELD_NAMES) && list_all (λ (case : Case ℤ). nat_le (length case.when) HELD_NAMES) cases && list_all (λ (case : Case ℤ). ascends case.when) cases)
     (are_in_order cases)
-    (both_true (nat_le (length cases) 256 && list_all (λ (case : Case ℤ). nat_le (length case.when) HELD_NAMES) cases) (list_all (λ (case : Case ℤ). ascends case.when) cases)
-    (both_true (nat_le (length cases) 256) (list_all (λ (case : Case ℤ). nat_le (length case.when) HELD_NAMES) cases) (grind (arith, nat_tests)) (all_few cases few.literals))
+    (both_true (nat_le (length cases) (2 ^ HELD_NAMES) && list_all (λ (case : Case ℤ). nat_le (length case.when) HELD_NAMES) cases) (list_all (λ (case : Case ℤ). ascends case.when) cases)
+    (both_true (nat_le (length cases) (2 ^ HELD_NAMES)) (list_all (λ (case : Case ℤ). nat_le (length case.when) HELD_NAMES) cases) (le-leb (length cases) (2 ^ HELD_NAMES) few.count) (all_few cases few.literals))
     (canonical_ascend cases is.canonical))
     (canonical_order cases is.canonical)
