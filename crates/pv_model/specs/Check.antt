@@ -3,7 +3,7 @@ use Rattle.std.specs.Prelude.{◌≡◌, ℕ, ◌<◌, Bool, true, false, ◌||�
 use Rattle.std.specs.List.{AllPairs, Any, Contains}
 use Rattle.pv_base.specs.Want.{Want}
 use Rattle.pv_base.specs.Catalog.{Item}
-use Rattle.pv_model.specs.Syntax.{Expr, number, item, minus, negation, two, Program, end, assign, require, return, when, when_else}
+use Rattle.pv_model.specs.Syntax.{Expr, number, item, minus, negation, two, Program, end, assign, require, certain, return, when, when_else}
 use Rattle.pv_model.specs.ProgramLaws.{assigns}
 
 -- The expression names the item.
@@ -14,14 +14,25 @@ reads (minus e) n = reads e n
 reads (negation e) n = reads e n
 reads (two op left right) n = reads left n || reads right n
 
--- The program names the item, by an assignment or in an expression.
+-- The program names the item: by an assignment, in an expression, or where it requires that the item be certain.
 abbrev pub names_item : Program → ℕ → Bool
 names_item end n = false
 names_item (assign m e next) n = (m == n) || (reads e n || names_item next n)
 names_item (require e next) n = reads e n || names_item next n
+names_item (certain m next) n = (m == n) || names_item next n
 names_item (return e next) n = reads e n || names_item next n
 names_item (when e body next) n = reads e n || (names_item body n || names_item next n)
 names_item (when_else e body other next) n = reads e n || (names_item body n || (names_item other n || names_item next n))
+
+-- Some statement of the program, wherever it stands, requires that the item be certain.
+abbrev pub requires_certain : Program → ℕ → Bool
+requires_certain end n = false
+requires_certain (assign m e next) n = requires_certain next n
+requires_certain (require e next) n = requires_certain next n
+requires_certain (certain m next) n = (m == n) || requires_certain next n
+requires_certain (return e next) n = requires_certain next n
+requires_certain (when e body next) n = requires_certain body n || requires_certain next n
+requires_certain (when_else e body other next) n = requires_certain body n || (requires_certain other n || requires_certain next n)
 
 -- The list is of the items that the program names, in their order, each once.
 pub record AreItems (program : Program) (items : List ℕ) : Type 0 where
@@ -34,6 +45,7 @@ abbrev pub has_assignment : Program → Bool
 has_assignment end = false
 has_assignment (assign m e next) = true
 has_assignment (require e next) = has_assignment next
+has_assignment (certain m next) = has_assignment next
 has_assignment (return e next) = has_assignment next
 has_assignment (when e body next) = has_assignment body || has_assignment next
 has_assignment (when_else e body other next) = has_assignment body || (has_assignment other || has_assignment next)
@@ -43,6 +55,7 @@ abbrev pub has_return : Program → Bool
 has_return end = false
 has_return (assign m e next) = has_return next
 has_return (require e next) = has_return next
+has_return (certain m next) = has_return next
 has_return (return e next) = true
 has_return (when e body next) = has_return body || has_return next
 has_return (when_else e body other next) = has_return body || (has_return other || has_return next)

@@ -3,7 +3,7 @@ use Rattle.std.specs.Prelude.{◌≡◌, ℕ, suc, ◌^◌, ◌<◌, pos, Bool, 
 use Rattle.pv_model.specs.Syntax.{Op, Expr, Program}
 use Rattle.pv_model.specs.Syntax.Op.{or, and, equal, unequal, less, at_most, greater, at_least, plus, sub, times, over, rest, lesser, larger}
 use Rattle.pv_model.specs.Syntax.Expr.{number, item, minus, negation, two}
-use Rattle.pv_model.specs.Syntax.Program.{end, assign, require, return, when, when_else}
+use Rattle.pv_model.specs.Syntax.Program.{end, assign, require, certain, return, when, when_else}
 use Rattle.pv_model.specs.Tokens.{Token}
 
 -- a token with its nesting, which is the number of `(`, `{`, unary `-` and `not` that are open around it
@@ -105,6 +105,9 @@ module _ (item_of : List ℕ → Option ℕ) where
       -- "require" expr
       requires : (d : ℕ) (ts mid after : List Nested) (e : Expr) (next : Program) → ReadsExpr d ts mid e → ReadsNext d mid after next
           → ReadsProgram d ((d, Token.requires) ∷ ts) after (require e next)
+      -- "require" "certain" name
+      requires_certain : (word : List ℕ) (n d : ℕ) (mid after : List Nested) (next : Program) → item_of word ≡ Some n → ReadsNext d mid after next
+          → ReadsProgram d ((d, Token.requires) ∷ (d, Token.certain) ∷ (d, Token.name word) ∷ mid) after (certain n next)
       -- "return" expr
       returns : (d : ℕ) (ts mid after : List Nested) (e : Expr) (next : Program) → ReadsExpr d ts mid e → ReadsNext d mid after next
           → ReadsProgram d ((d, Token.returns) ∷ ts) after (return e next)

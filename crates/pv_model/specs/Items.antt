@@ -1,6 +1,6 @@
 -- Whether rows have each item of a program once.
 use Rattle.std.specs.Prelude.{ℕ, Bool, true, false, ◌&&◌, ◌==◌, List, [], ◌∷◌, if◌then◌else◌}
-use Rattle.pv_model.specs.Syntax.{Expr, number, item, minus, negation, two, Program, end, assign, require, return, when, when_else}
+use Rattle.pv_model.specs.Syntax.{Expr, number, item, minus, negation, two, Program, end, assign, require, certain, return, when, when_else}
 use Rattle.pv_model.specs.Meaning.{Row}
 
 -- No row has the item.
@@ -26,6 +26,7 @@ abbrev pub has_all_items : List Row → Program → Bool
 has_all_items rows end = true
 has_all_items rows (assign n e next) = has_once rows n && has_items rows e && has_all_items rows next
 has_all_items rows (require e next) = has_items rows e && has_all_items rows next
+has_all_items rows (certain n next) = has_once rows n && has_all_items rows next
 has_all_items rows (return e next) = has_items rows e && has_all_items rows next
 has_all_items rows (when e body next) = has_items rows e && has_all_items rows body && has_all_items rows next
 has_all_items rows (when_else e body other next) =

@@ -6,7 +6,7 @@ use Rattle.pv_base.specs.declared.reply.Decline.{Decline}
 use Rattle.pv_base.specs.declared.reply.Decline.TheVariants.{Require, Overflow, ZeroDivisor}
 use Rattle.pv_base.specs.declared.reply.Reply.{Reply}
 use Rattle.pv_base.specs.declared.reply.Reply.TheVariants.{Value, Nothing, Declined}
-use Rattle.pv_model.specs.Syntax.{Op, or, and, equal, unequal, less, at_most, greater, at_least, plus, sub, times, over, rest, lesser, larger, Expr, number, item, minus, negation, two, Program, end, assign, require, return, when, when_else}
+use Rattle.pv_model.specs.Syntax.{Op, or, and, equal, unequal, less, at_most, greater, at_least, plus, sub, times, over, rest, lesser, larger, Expr, number, item, minus, negation, two, Program, end, assign, require, certain, return, when, when_else}
 
 -- an item and its value
 pub record Row : Type 0 where
@@ -112,11 +112,12 @@ then_run (ended rows) go = go rows
 then_run (returned v rows) go = returned v rows
 then_run (refused d) go = refused d
 
--- Statements run in order, and each sees what was assigned before it.
+-- Statements run in order, and each sees what was assigned before it. To require that an item be certain does nothing here, where each is.
 abbrev pub course_of : Program → List Row → Course
 course_of end rows = ended rows
 course_of (assign n e next) rows = then_with (value_of e rows) (λ v. course_of next (with_row rows n v))
 course_of (require e next) rows = then_with (value_of e rows) (λ v. if holds v then course_of next rows else refused Require)
+course_of (certain n next) rows = course_of next rows
 course_of (return e next) rows = then_with (value_of e rows) (λ v. returned v rows)
 course_of (when e body next) rows =
     then_with (value_of e rows) (λ v. then_run (if holds v then course_of body rows else ended rows) (course_of next))

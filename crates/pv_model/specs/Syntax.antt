@@ -32,6 +32,8 @@ pub data Program : Type 0 where
   end : Program
   assign : (item : ℕ) (value : Expr) (next : Program) → Program
   require : (test : Expr) (next : Program) → Program
+  -- the item's value has to be certain when the program runs: nothing is left that it depends on
+  certain : (item : ℕ) (next : Program) → Program
   return : (value : Expr) (next : Program) → Program
   when : (test : Expr) (body next : Program) → Program
   when_else : (test : Expr) (body other next : Program) → Program

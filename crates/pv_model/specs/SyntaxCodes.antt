@@ -2,7 +2,7 @@
 use Rattle.std.specs.Prelude.{◌≡◌, ℕ, zero, suc, ℤ, List, [], ◌∷◌, ◌⊎◌, get_or, refl}
 use Rattle.std.proofs.Common.{inl, inr, ap, ◌∙◌}
 use Rattle.std.specs.Coded.{Coded, code_by, coded_list, coded_ℕ, coded_ℤ, coded×, coded⊎}
-use Rattle.pv_model.specs.Syntax.{Op, or, and, equal, unequal, less, at_most, greater, at_least, plus, sub, times, over, rest, lesser, larger, Expr, number, item, minus, negation, two, Program, end, assign, require, return, when, when_else}
+use Rattle.pv_model.specs.Syntax.{Op, or, and, equal, unequal, less, at_most, greater, at_least, plus, sub, times, over, rest, lesser, larger, Expr, number, item, minus, negation, two, Program, end, assign, require, certain, return, when, when_else}
 
 abbrev ops : List Op
 ops =
@@ -98,18 +98,20 @@ abbrev signs : Program → List Sign → List Sign
 signs end more = (0, (0, item 0)) ∷ more
 signs (assign n e next) more = signs next ((1, (n, e)) ∷ more)
 signs (require e next) more = signs next ((2, (0, e)) ∷ more)
-signs (return e next) more = signs next ((3, (0, e)) ∷ more)
-signs (when e body next) more = signs body (signs next ((4, (0, e)) ∷ more))
-signs (when_else e body other next) more = signs body (signs other (signs next ((5, (0, e)) ∷ more)))
+signs (certain n next) more = signs next ((3, (n, item 0)) ∷ more)
+signs (return e next) more = signs next ((4, (0, e)) ∷ more)
+signs (when e body next) more = signs body (signs next ((5, (0, e)) ∷ more))
+signs (when_else e body other next) more = signs body (signs other (signs next ((6, (0, e)) ∷ more)))
 
 -- what a sign makes of the programs before it, the last one first
 abbrev signed : ℕ → ℕ → Expr → List Program → List Program
 signed zero n e done = end ∷ done
 signed (suc zero) n e (next ∷ done) = assign n e next ∷ done
 signed (suc (suc zero)) n e (next ∷ done) = require e next ∷ done
-signed (suc (suc (suc zero))) n e (next ∷ done) = return e next ∷ done
-signed (suc (suc (suc (suc zero)))) n e (next ∷ body ∷ done) = when e body next ∷ done
-signed (suc (suc (suc (suc (suc k))))) n e (next ∷ other ∷ body ∷ done) = when_else e body other next ∷ done
+signed (suc (suc (suc zero))) n e (next ∷ done) = certain n next ∷ done
+signed (suc (suc (suc (suc zero)))) n e (next ∷ done) = return e next ∷ done
+signed (suc (suc (suc (suc (suc zero))))) n e (next ∷ body ∷ done) = when e body next ∷ done
+signed (suc (suc (suc (suc (suc (suc k)))))) n e (next ∷ other ∷ body ∷ done) = when_else e body other next ∷ done
 signed k n e done = done
 
 abbrev all_signed : List Sign → List Program → List Program
@@ -120,12 +122,13 @@ pub all_signed-signs : (p : Program) (more : List Sign) (done : List Program) �
 all_signed-signs end more done = refl
 all_signed-signs (assign n e next) more done = all_signed-signs next ((1, (n, e)) ∷ more) done
 all_signed-signs (require e next) more done = all_signed-signs next ((2, (0, e)) ∷ more) done
-all_signed-signs (return e next) more done = all_signed-signs next ((3, (0, e)) ∷ more) done
+all_signed-signs (certain n next) more done = all_signed-signs next ((3, (n, item 0)) ∷ more) done
+all_signed-signs (return e next) more done = all_signed-signs next ((4, (0, e)) ∷ more) done
 all_signed-signs (when e body next) more done =
-    let sign : Sign = (4, (0, e)) in
+    let sign : Sign = (5, (0, e)) in
     all_signed-signs body (signs next (sign ∷ more)) done ∙ all_signed-signs next (sign ∷ more) (body ∷ done)
 all_signed-signs (when_else e body other next) more done =
-    let sign : Sign = (5, (0, e)) in
+    let sign : Sign = (6, (0, e)) in
     all_signed-signs body (signs other (signs next (sign ∷ more))) done
     ∙ all_signed-signs other (signs next (sign ∷ more)) (body ∷ done)
     ∙ all_signed-signs next (sign ∷ more) (other ∷ body ∷ done)

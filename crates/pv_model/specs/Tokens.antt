@@ -9,7 +9,7 @@ use Rattle.pv_model.specs.Syntax.{Op}
 use Rattle.pv_model.specs.Syntax.Op.{or, and, equal, unequal, less, at_most, greater, at_least, plus, sub, times, over, rest, lesser, larger}
 use Rattle.pv_model.specs.Text.{number_of_digits}
 
--- A token. `reserved` is the word `certain`, and `stray` a byte that begins no token; no program has either.
+-- A token. `stray` is a byte that begins no token; no program has it.
 pub data Token : Type 0 where
   name : List ℕ → Token
   number : ℕ → Token
@@ -18,6 +18,7 @@ pub data Token : Type 0 where
   asks : Token
   otherwise : Token
   requires : Token
+  certain : Token
   returns : Token
   becomes : Token
   opens : Token
@@ -26,7 +27,6 @@ pub data Token : Type 0 where
   closes_body : Token
   then_next : Token
   parts : Token
-  reserved : Token
   stray : ℕ → Token
 
 -- the words and symbols that stand for themselves
@@ -35,7 +35,7 @@ words_and_symbols =
     (codes "or", operator or) ∷ (codes "and", operator and) ∷ (codes "not", negates)
     ∷ (codes "min", operator lesser) ∷ (codes "max", operator larger)
     ∷ (codes "if", asks) ∷ (codes "else", otherwise) ∷ (codes "require", requires) ∷ (codes "return", returns)
-    ∷ (codes "certain", reserved)
+    ∷ (codes "certain", certain)
     ∷ (codes "=", operator equal) ∷ (codes "<>", operator unequal) ∷ (codes "<", operator less)
     ∷ (codes "<=", operator at_most) ∷ (codes ">", operator greater) ∷ (codes ">=", operator at_least)
     ∷ (codes "+", operator plus) ∷ (codes "-", operator sub)

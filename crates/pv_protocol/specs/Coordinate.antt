@@ -1,16 +1,18 @@
 -- What a coordinator knows of its transactions, and what it computes for them once the locks are held.
-use Rattle.std.specs.Prelude.{ℕ, ℤ, Bool, true, false, not, ◌&&◌, ◌==◌, nat_lt, nat_eq, List, [], ◌∷◌, map, filter, find, Option, if◌then◌else◌}
+use Rattle.std.specs.Prelude.{ℕ, ◌+◌, ℤ, Bool, true, false, not, ◌&&◌, ◌==◌, nat_lt, nat_eq, List, [], ◌∷◌, length, map, filter, find, Option, Some, None, if◌then◌else◌}
 use Rattle.std.specs.Cmp.Lexicographic.{pointwise}
 use Rattle.std.specs.List.{list_all, list_any, flat_map}
 use Rattle.std.specs.Ordering.{int_eq}
 use Rattle.pv_base.specs.Canonical.{canonical_cases}
+use Rattle.pv_base.specs.Catalog.{Item}
 use Rattle.pv_base.specs.declared.txn.TxnId.{TxnId}
 use Rattle.pv_base.specs.Assignment.{is_same_txn}
 use Rattle.pv_base.specs.Named.{names_of}
 use Rattle.pv_base.specs.Polyvalue.{Case}
 use Rattle.pv_base.specs.Want.{Want}
 use Rattle.pv_format.specs.Record.{Record}
-use Rattle.pv_model.specs.Alternatives.{Read, all_cases, rows_at}
+use Rattle.pv_model.specs.Alternatives.{Read, all_cases, number_at, rows_at}
+use Rattle.pv_model.specs.Check.{requires_certain}
 use Rattle.pv_model.specs.PossibleAnswers.{possible}
 use Rattle.pv_base.specs.declared.reply.Reply.{Reply}
 use Rattle.pv_model.specs.Meaning.{value_in, exec}
@@ -60,6 +62,33 @@ names_taken entry = names_of (all_cases (reads_of entry))
 -- what the values that were taken name together, without the transactions whose outcomes the records tell
 abbrev pub open_names : List Record → Entry → List TxnId
 open_names records entry = undecided records (names_taken entry)
+
+-- a value that was taken, with the outcomes put in that the records tell: the canonical polyvalue
+unfoldable pub settled_value : List Record → List (Case ℤ) → List (Case ℤ)
+settled_value records cases = canonical_cases int_eq (undecided records (names_of cases)) (λ assignment. number_at cases (choice records assignment))
+
+-- what was taken of the item, if anything was
+abbrev pub value_taken : Entry → ℕ → Option Read
+value_taken entry item = find (λ read. read.item == item) (reads_of entry)
+
+-- how many outcomes the value names, with those put in that the records tell
+abbrev pub count_left : List Record → Option Read → ℕ
+count_left records None = 0
+count_left records (Some read) = length (names_of (settled_value records read.cases))
+
+-- how many outcomes the item's value depends on yet
+abbrev pub doubts : List Record → Entry → ℕ → ℕ
+doubts records entry item = count_left records (value_taken entry item)
+
+-- The entry's program requires that the item be certain, and it isn't.
+abbrev pub is_uncertain : List Record → Entry → ℕ → Bool
+is_uncertain records entry item = requires_certain entry.program item && nat_lt 0 (doubts records entry item)
+
+-- the first such item, among items that are numbered from here on
+abbrev pub uncertain_from : List Record → Entry → ℕ → List Item → Option ℕ
+uncertain_from records entry item [] = None
+uncertain_from records entry item (declared ∷ items) =
+    if is_uncertain records entry item then Some item else uncertain_from records entry (item + 1) items
 
 -- what an item is after the program, at an assignment and with what is known by the records
 abbrev pub row_after : List Record → Entry → ℕ → List TxnId → ℤ

@@ -7,9 +7,9 @@ use Rattle.pv_base.specs.Want.{Want}
 use Rattle.pv_format.specs.Message.{prepare}
 use Rattle.pv_model.specs.Alternatives.{Read}
 use Rattle.pv_model.specs.Plan.{wants_of}
-use Rattle.pv_protocol.specs.Coordinate.{locking_entry, has_taken, with_taken, has_all_grants, names_taken, exclusive_items, writes_to, are_values_of}
+use Rattle.pv_protocol.specs.Coordinate.{locking_entry, has_taken, with_taken, has_all_grants, names_taken, doubts, uncertain_from, exclusive_items, writes_to, are_values_of}
 use Rattle.pv_protocol.specs.Here.{Here, remembering, nothing, is_among, with_entry, participants, refusing}
-use Rattle.pv_protocol.specs.State.{Entry, voting, Taken, TakenGrant, conflict, outcome_limit, Outgoing, Step}
+use Rattle.pv_protocol.specs.State.{Entry, voting, Taken, TakenGrant, conflict, outcome_limit, uncertain, Outgoing, Step}
 
 -- what was asked of the site
 abbrev pub asked_of : Here → Entry → ℕ → List Want
@@ -57,12 +57,22 @@ at_lock_point here entry = record {
   placed = Some (record { txn = entry.txn; program = entry.program; grants = grants_taken entry });
 }
 
--- With the last grant the transaction is refused if the values name too many outcomes, and else is at its lock point.
+-- the least item that has to be certain and isn't
+abbrev pub first_uncertain : Here → Entry → Option ℕ
+first_uncertain here entry = uncertain_from here.records entry 0 here.setup.catalog.items
+
+-- The transaction is refused if there is such an item, and else is at its lock point.
+abbrev pub if_certain : Here → Entry → Option ℕ → Step
+if_certain here entry None = at_lock_point here entry
+if_certain here entry (Some item) = refusing here entry (uncertain item (doubts here.records entry item))
+
+-- With the last grant the transaction is refused if the values name too many outcomes, or if an item has to be certain and isn't, and else is at
+-- its lock point.
 abbrev pub with_grants : Here → Entry → Step
 with_grants here entry =
     if not (has_all_grants here entry) then remembering (with_entry here.running entry) else
     (if nat_lt here.setup.read_names (length (names_taken entry)) then refusing here entry (outcome_limit (length (names_taken entry))) else
-    at_lock_point here entry)
+    if_certain here entry (first_uncertain here entry))
 
 -- A grant comes for this entry, if there is one.
 abbrev pub at_granted : Here → ℕ → GrantId → List Read → Option Entry → Step

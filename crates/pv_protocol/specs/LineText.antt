@@ -8,7 +8,7 @@ use Rattle.pv_base.specs.Txn.{txn_text}
 use Rattle.pv_base.specs.declared.literal.Literal.{Literal}
 use Rattle.pv_model.specs.ReplyText.{line_feed, reply_text}
 use Rattle.pv_protocol.specs.Lines.{Line, MessageKind}
-use Rattle.pv_protocol.specs.State.{Cause, conflict, outcome_limit, expired, grant_lost, journal_full}
+use Rattle.pv_protocol.specs.State.{Cause, conflict, outcome_limit, uncertain, expired, grant_lost, journal_full}
 
 -- the name of the item of this number
 abbrev pub name_of : Declared → ℕ → List ℕ
@@ -32,6 +32,7 @@ abbrev pub cause_text : Declared → Cause → List ℕ
 cause_text catalog (conflict site item holder) =
     codes "conflict " ++ (decimal site ++ (codes " " ++ (name_of catalog item ++ (codes " " ++ txn_text holder))))
 cause_text catalog (outcome_limit names) = codes "outcome-limit " ++ decimal names
+cause_text catalog (uncertain item names) = codes "uncertain " ++ (name_of catalog item ++ (codes " " ++ decimal names))
 cause_text catalog (expired site) = codes "expired " ++ decimal site
 cause_text catalog (grant_lost site) = codes "grant-lost " ++ decimal site
 cause_text catalog (journal_full site length) = codes "journal-full " ++ (decimal site ++ (codes " " ++ decimal length))

@@ -84,6 +84,8 @@ pub data Cause : Type 0 where
   conflict : (site item : ℕ) (holder : TxnId) → Cause
   -- the values that were taken name so many outcomes together, which is more than may be
   outcome_limit : (names : ℕ) → Cause
+  -- this item has to be certain, and its value depends on so many outcomes that the coordinator doesn't know
+  uncertain : (item names : ℕ) → Cause
   -- the coordinator had no answer of this site in time
   expired : (site : ℕ) → Cause
   -- at this site the grant doesn't stand any more under which the vote was asked for

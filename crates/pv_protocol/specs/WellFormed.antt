@@ -5,7 +5,7 @@ use Rattle.pv_base.specs.Catalog.{Declared}
 use Rattle.pv_model.specs.Check.{AreItems}
 use Rattle.pv_model.specs.Events.{Event, submit, deliver, pump, lose, drop, tick, stop, start, arm, mend, checkpoint, sent, report, total}
 use Rattle.pv_model.specs.Meaning.{fits_i64}
-use Rattle.pv_model.specs.Syntax.{Expr, number, item, minus, negation, two, Program, end, assign, require, return, when, when_else}
+use Rattle.pv_model.specs.Syntax.{Expr, number, item, minus, negation, two, Program, end, assign, require, certain, return, when, when_else}
 
 -- The program names 1 to 16 items, all of the catalog.
 pub record IsRunnable (catalog : Declared) (program : Program) : Type 0 where
@@ -28,6 +28,7 @@ abbrev pub has_small_numbers : Program → Bool
 has_small_numbers end = true
 has_small_numbers (assign n e next) = is_of_small_numbers e && has_small_numbers next
 has_small_numbers (require e next) = is_of_small_numbers e && has_small_numbers next
+has_small_numbers (certain n next) = has_small_numbers next
 has_small_numbers (return e next) = is_of_small_numbers e && has_small_numbers next
 has_small_numbers (when e body next) = is_of_small_numbers e && (has_small_numbers body && has_small_numbers next)
 has_small_numbers (when_else e body other next) =
