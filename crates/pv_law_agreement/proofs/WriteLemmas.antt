@@ -18,7 +18,7 @@ use Rattle.pv_model.specs.Alternatives.{Read}
 use Rattle.pv_model.specs.Check.{names_item, IsAt, IsWant}
 use Rattle.pv_model.specs.Plan.{want_of, wants_of, participants_of}
 use Rattle.pv_model.specs.ProgramLaws.{assigns}
-use Rattle.pv_model.specs.Syntax.{Program, end, assign, require, return, when, when_else}
+use Rattle.pv_model.specs.Syntax.{Program, end, assign, require, certain, return, when, when_else}
 use Rattle.pv_protocol.specs.Coordinate.{exclusive_items}
 use Rattle.pv_protocol.specs.Shown.{written}
 use Rattle.pv_protocol.specs.State.{Placed}
@@ -32,6 +32,7 @@ pub assigns-names : (program : Program) (n : ℕ) → assigns program n ≡ true
 assigns-names end n is = is
 assigns-names (assign m e next) n is = or-both (m == n) (assigns next n) (m == n) _ (λ h. h) (λ h. or_right _ (names_item next n) (assigns-names next n h)) is
 assigns-names (require e next) n is = or_right _ (names_item next n) (assigns-names next n is)
+assigns-names (certain m next) n is = or_right _ (names_item next n) (assigns-names next n is)
 assigns-names (return e next) n is = or_right _ (names_item next n) (assigns-names next n is)
 assigns-names (when e body next) n is =
     or_right _ (names_item body n || names_item next n) (or-both (assigns body n) (assigns next n) (names_item body n) (names_item next n) (assigns-names body n) (assigns-names next n) is)

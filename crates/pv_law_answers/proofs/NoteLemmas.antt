@@ -62,7 +62,8 @@ module _ (here : Here) (t : TxnId) (replies : List Reply) where
   granted-none from txn grant values step (of_grants.ignored entry h i) = none-noted
   granted-none from txn grant values step (of_grants.waits entry h i) = none-noted
   granted-none from txn grant values step (of_grants.too_wide entry h i) = other-noted _ (λ same. let wrong : ⊥ = cc in wrong)
-  granted-none from txn grant values step (of_grants.reaches_lock_point entry h i) = none-noted
+  granted-none from txn grant values step (of_grants.in_doubt entry least h i doubt) = other-noted _ (λ same. let wrong : ⊥ = cc in wrong)
+  granted-none from txn grant values step (of_grants.reaches_lock_point entry h i certain) = none-noted
 
   denied-none : (from : ℕ) (txn : TxnId) (item : ℕ) (holder : TxnId) (step : Step) → of_grants.DeniedCase here from txn item holder step → Notes step → ⊥
   denied-none from txn item holder step (of_grants.no_entry h) = none-noted

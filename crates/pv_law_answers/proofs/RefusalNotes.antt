@@ -21,13 +21,13 @@ use Rattle.pv_law_step.specs.VoteCases as of_votes
 use Rattle.pv_law_step.specs.VoteCases.{voted, IsVote}
 use Rattle.pv_model.specs.Alternatives.{Read}
 use Rattle.pv_model.specs.Syntax.{Program}
-use Rattle.pv_protocol.specs.Coordinate.{locking_entry, names_taken}
-use Rattle.pv_protocol.specs.Granted.{taking, asked_of, is_unawaited, is_wanted}
+use Rattle.pv_protocol.specs.Coordinate.{locking_entry, names_taken, doubts}
+use Rattle.pv_protocol.specs.Granted.{taking, first_uncertain, asked_of, is_unawaited, is_wanted}
 use Rattle.pv_protocol.specs.Here.{Here, refusing, length_with, is_full}
 use Rattle.pv_protocol.specs.Keyed.{of_txn}
 use Rattle.pv_protocol.specs.Sound.{IsInOrder}
 use Rattle.pv_protocol.specs.State as state
-use Rattle.pv_protocol.specs.State.{Entry, Input, submit, receive, tick, Cause, conflict, outcome_limit, expired, Note, refused, Step}
+use Rattle.pv_protocol.specs.State.{Entry, Input, submit, receive, tick, Cause, conflict, outcome_limit, uncertain, expired, Note, refused, Step}
 use Rattle.pv_protocol.specs.Step.{on_message, step_on}
 use Rattle.pv_protocol.specs.Tick.{on_tick, older, older_entries, expired_entries, awaited}
 use Rattle.pv_protocol.specs.Vote.{cause_of}
@@ -38,6 +38,10 @@ pub data Refuses (here : Here) (t : TxnId) : Input → Cause → Type 0 where
       → nat_lt here.setup.read_names (length (names_taken (taking entry from grant values))) ≡ true
       → step_on here (receive from (granted asked grant values)) ≡ refusing here (taking entry from grant values) (outcome_limit (length (names_taken (taking entry from grant values))))
       → Refuses here t (receive from (granted asked grant values)) (outcome_limit (length (names_taken (taking entry from grant values))))
+  by_doubt : (from : ℕ) (asked : TxnId) (grant : GrantId) (values : List Read) (entry : Entry) (item : ℕ) → IsLastGrant here from asked grant values entry → entry.txn ≡ t
+      → first_uncertain here (taking entry from grant values) ≡ Some item
+      → step_on here (receive from (granted asked grant values)) ≡ refusing here (taking entry from grant values) (uncertain item (doubts here.records (taking entry from grant values) item))
+      → Refuses here t (receive from (granted asked grant values)) (uncertain item (doubts here.records (taking entry from grant values) item))
   by_denial : (from : ℕ) (asked : TxnId) (item : ℕ) (holder : TxnId) (entry : Entry) → locking_entry here.running asked ≡ Some entry → entry.txn ≡ t
       → is_unawaited here entry from || not (is_wanted (asked_of here entry from) item) ≡ false
       → step_on here (receive from (denied asked item holder)) ≡ refusing here entry (conflict from item holder)
@@ -112,7 +116,12 @@ module _ (here : Here) (t : TxnId) (cause : Cause) where
       let same = one-noted (refused entry.txn why) noted in
       subst (Refuses here t (receive from (granted txn grant values))) (same-cause entry.txn why same)
       (by_width from txn grant values entry h (same-txn entry.txn why same) i is)
-  granted-noted from txn grant values step (of_grants.reaches_lock_point entry h i) is noted = absurd (none-noted noted)
+  granted-noted from txn grant values step (of_grants.in_doubt entry least h i doubt) is noted =
+      let why = uncertain least (doubts here.records (taking entry from grant values) least) in
+      let same = one-noted (refused entry.txn why) noted in
+      subst (Refuses here t (receive from (granted txn grant values))) (same-cause entry.txn why same)
+      (by_doubt from txn grant values entry least h (same-txn entry.txn why same) doubt is)
+  granted-noted from txn grant values step (of_grants.reaches_lock_point entry h i certain) is noted = absurd (none-noted noted)
 
   denied-noted : (from : ℕ) (txn : TxnId) (item : ℕ) (holder : TxnId) (step : Step) → of_grants.DeniedCase here from txn item holder step
       → step_on here (receive from (denied txn item holder)) ≡ step → Notes step → Refuses here t (receive from (denied txn item holder)) cause
@@ -193,6 +202,8 @@ module _ (here : Here) (t : TxnId) (ordered : IsInOrder here.running) where
 
   pub refusal-drops : (input : Input) (cause : Cause) → Refuses here t input cause → Drops here t input
   refusal-drops _ _ (by_width from asked grant values entry last own wide is) =
+      refusing-drops _ entry (taking entry from grant values) _ (found-own asked entry (locking-found here.running ordered asked entry last.taken.found).0) refl own is
+  refusal-drops _ _ (by_doubt from asked grant values entry item last own doubt is) =
       refusing-drops _ entry (taking entry from grant values) _ (found-own asked entry (locking-found here.running ordered asked entry last.taken.found).0) refl own is
   refusal-drops _ _ (by_denial from asked item holder entry found own heard is) =
       refusing-drops _ entry entry _ (found-own asked entry (locking-found here.running ordered asked entry found).0) refl own is

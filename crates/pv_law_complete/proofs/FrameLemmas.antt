@@ -172,7 +172,10 @@ module _ (txn : TxnId) where
       granted-frame grant values step (of_grants.too_wide entry last h) =
           let own = apart-from entry.txn (locking-own other entry last.taken.found) in
           entry-left entry.txn (outcome_sends entry.txn false (participants here entry)) own (outcomes-sent entry.txn false (participants here entry) own) step refl refl refl
-      granted-frame grant values step (of_grants.reaches_lock_point entry last h) =
+      granted-frame grant values step (of_grants.in_doubt entry least last h doubt) =
+          let own = apart-from entry.txn (locking-own other entry last.taken.found) in
+          entry-left entry.txn (outcome_sends entry.txn false (participants here entry)) own (outcomes-sent entry.txn false (participants here entry) own) step refl refl refl
+      granted-frame grant values step (of_grants.reaches_lock_point entry last h certain) =
           let own = apart-from entry.txn (locking-own other entry last.taken.found) in
           entry-put (voting_of (taking entry from grant values)) (prepare_sends here (taking entry from grant values)) own
           (votes-sent here (taking entry from grant values) own) step refl refl refl

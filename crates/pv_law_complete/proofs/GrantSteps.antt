@@ -26,6 +26,7 @@ use Rattle.pv_law_events.proofs.FoundLemmas.{locking-found}
 use Rattle.pv_law_outcomes.proofs.EntryLemmas.{two-stages, stage-either}
 use Rattle.pv_law_outcomes.specs.Coherent.{items_of, wanted_items, IsGrantedRight}
 use Rattle.pv_law_step.proofs.Appended.{found-passes}
+use Rattle.pv_law_step.proofs.DoubtLemmas.{none-from}
 use Rattle.pv_law_step.proofs.KeyedLemmas.{of-with}
 use Rattle.pv_law_step.proofs.Kept.{filter-map-all}
 use Rattle.pv_law_step.proofs.Lists.{OfSome}
@@ -230,14 +231,17 @@ module _ (setup : Setup) (txn : TxnId) (program : Program) (w : World) (is_known
         let both = locking-found running ordered txn found last.taken.found in
         let same : found ≡ entry = (entry-home setup txn program w is_known entry going n running up found both.0).1 in
         absurd (wide (subst (λ e. nat_lt setup.read_names (length (names_taken (taking e from id values))) ≡ true) same is)
-        (subst (λ e. length (names_taken (taking e from id values)) ≤ setup.read_names) same (free found last.taken.found last.taken.heard)))
-    grant-leaves step (of_grants.reaches_lock_point found last is) =
+        (subst (λ e. length (names_taken (taking e from id values)) ≤ setup.read_names) same (free found last.taken.found last.taken.heard).0))
+    grant-leaves step (of_grants.in_doubt found least last is doubt) =
+        let certain = (free found last.taken.found last.taken.heard).1 last.whole in
+        absurd (none-some least (sym (none-from (records_at w n) (taking found from id values) 0 setup.catalog.items (λ item up down. certain item (omega (arith, down)))) ∙ doubt))
+    grant-leaves step (of_grants.reaches_lock_point found last is certain) =
         let both = locking-found running ordered txn found last.taken.found in
         let same : found ≡ entry = (entry-home setup txn program w is_known entry going n running up found both.0).1 in
         subst (λ e. GrantLeaves (at_lock_point Here' (taking e from id values))) (sym same)
         (reaches-leaves (subst (λ e. e.stage ≡ locking) same both.1)
         (subst (λ e. list_all (has_taken (taking e from id values)) (participants_of e.program setup.catalog.items) ≡ true) same last.whole)
-        (subst (λ e. length (names_taken (taking e from id values)) ≤ setup.read_names) same (free found last.taken.found last.taken.heard)))
+        (subst (λ e. length (names_taken (taking e from id values)) ≤ setup.read_names) same (free found last.taken.found last.taken.heard).0))
 
   module _ (from item : ℕ) (holder : TxnId) (sent : Sent w from n (denied txn item holder)) where
     pub denied-leaves : (step : Step) → of_grants.DeniedCase Here' from txn item holder step → Local setup txn program w entry going n running up step entry

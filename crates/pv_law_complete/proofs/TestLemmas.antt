@@ -15,7 +15,8 @@ use Rattle.pv_law_acts.specs.Seen.{records_at, memory_at}
 use Rattle.pv_law_complete.proofs.FoundLists.{one-is}
 use Rattle.pv_law_complete.proofs.GoesLemmas.{Goes, stays, halts, opens, steps, follow-goes}
 use Rattle.pv_law_complete.proofs.GoingLemmas.{same-or-not}
-use Rattle.pv_law_complete.specs.Undisturbed.{IsConcerned, here_in, IsFree, IsCalm, AreCalm, IsDelivered, AreDelivered}
+use Rattle.pv_law_step.proofs.DoubtLemmas.{none-are}
+use Rattle.pv_law_complete.specs.Undisturbed.{IsConcerned, here_in, IsFree, AreCertain, IsCalm, AreCalm, IsDelivered, AreDelivered}
 use Rattle.pv_model.specs.Events.{Event}
 use Rattle.pv_model.specs.Plan.{participants_of}
 use Rattle.pv_model.specs.Syntax.{Program}
@@ -23,7 +24,7 @@ use Rattle.pv_protocol.specs.Anywhere as anywhere
 use Rattle.pv_protocol.specs.Anywhere.{IsRunWithFaults}
 use Rattle.pv_protocol.specs.Committed.{home_of}
 use Rattle.pv_protocol.specs.Coordinate.{locking_entry, names_taken}
-use Rattle.pv_protocol.specs.Granted.{taking}
+use Rattle.pv_protocol.specs.Granted.{taking, first_uncertain}
 use Rattle.pv_protocol.specs.Here.{Here, is_full}
 use Rattle.pv_protocol.specs.Lock.{first_conflict}
 use Rattle.pv_protocol.specs.Places.{Place}
@@ -51,9 +52,23 @@ few-of : (most : ℕ) (names : Entry → ℕ) (o : Option Entry) (entry : Entry)
 few-of most names None entry is few = let wrong : ⊥ = cc in absurd wrong
 few-of most names (Some found) entry is few = subst (λ e. names e ≤ most) (Some_inj is) (leb-true (names found) most few)
 
+-- the entry, if there is one, would have to be certain only of what is
+abbrev certain_with : Here → (Entry → Entry) → Option Entry → Bool
+certain_with here with_more None = true
+certain_with here with_more (Some entry) = is_none (first_uncertain here (with_more entry))
+
+certain-of : (here : Here) (with_more : Entry → Entry) (o : Option Entry) (entry : Entry) → o ≡ Some entry → certain_with here with_more o ≡ true
+    → AreCertain here (with_more entry)
+certain-of here with_more None entry is certain = let wrong : ⊥ = cc in absurd wrong
+certain-of here with_more (Some found) entry is certain =
+    subst (λ e. AreCertain here (with_more e)) (Some_inj is)
+    (λ item within. none-are here.records (with_more found) 0 here.setup.catalog.items (is-none (first_uncertain here (with_more found)) certain) item (omega arith) (omega (arith, within)))
+
 abbrev frees : Here → ℕ → Message → Bool
 frees here from (lock txn wants) = is_none (first_conflict here.running.grants wants) && not (here.running.next_grant == NEVER_GIVEN)
-frees here from (granted txn id values) = few_with here.setup.read_names (λ e. length (names_taken (taking e from id values))) (locking_entry here.running txn)
+frees here from (granted txn id values) =
+    few_with here.setup.read_names (λ e. length (names_taken (taking e from id values))) (locking_entry here.running txn)
+    && certain_with here (λ e. taking e from id values) (locking_entry here.running txn)
 frees here from (denied txn item holder) = true
 frees here from (prepare txn id writes) = not (is_full here (prepared txn writes))
 frees here from (vote_yes txn) = not (is_full here (outcome_known txn true))
@@ -66,7 +81,12 @@ free-by here from (lock txn wants) is =
     let both = and_parts (is_none (first_conflict here.running.grants wants)) (not (here.running.next_grant == NEVER_GIVEN)) is in
     λ none. (is-none (first_conflict here.running.grants wants) both.0, unless (here.running.next_grant == NEVER_GIVEN) both.1)
 free-by here from (granted txn id values) is =
-    λ entry found heard. few-of here.setup.read_names (λ e. length (names_taken (taking e from id values))) (locking_entry here.running txn) entry found is
+    let found_in = locking_entry here.running txn in
+    let both = and_parts (few_with here.setup.read_names (λ e. length (names_taken (taking e from id values))) found_in) (certain_with here (λ e. taking e from id values) found_in) is in
+    λ entry found heard. (
+      few-of here.setup.read_names (λ e. length (names_taken (taking e from id values))) found_in entry found both.0,
+      λ whole. certain-of here (λ e. taking e from id values) found_in entry found both.1,
+    )
 free-by here from (denied txn item holder) is = tt
 free-by here from (prepare txn id writes) is = λ unprepared. unless (is_full here (prepared txn writes)) is
 free-by here from (vote_yes txn) is = λ entry found heard. unless (is_full here (outcome_known txn true)) is

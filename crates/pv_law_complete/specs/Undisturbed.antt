@@ -1,5 +1,5 @@
 -- When nothing comes between a transaction and its commit.
-use Rattle.std.specs.Prelude.{◌≡◌, ℕ, ◌≤◌, Bool, true, false, ◌==◌, Some, None, List, [], ◌∷◌, ◌++◌, length, slice_get, ◌⊎◌, ⊤, All, Contains, IsSome, IsTrue}
+use Rattle.std.specs.Prelude.{◌≡◌, ℕ, ◌<◌, ◌≤◌, Bool, true, false, ◌==◌, Some, None, List, [], ◌∷◌, ◌++◌, length, slice_get, ◌⊎◌, ⊤, All, Contains, IsSome, IsTrue}
 use Rattle.pv_base.specs.declared.limits.TheConstants.{NEVER_GIVEN}
 use Rattle.pv_base.specs.declared.txn.TxnId.{TxnId}
 use Rattle.pv_format.specs.Message.{Envelope, Message, lock, granted, denied, prepare, vote_yes, vote_no, outcome_reported, ask, txn_of}
@@ -9,7 +9,7 @@ use Rattle.pv_model.specs.Events.{Event}
 use Rattle.pv_model.specs.Plan.{participants_of}
 use Rattle.pv_model.specs.Syntax.{Program}
 use Rattle.pv_protocol.specs.Committed.{home_of, is_committed}
-use Rattle.pv_protocol.specs.Coordinate.{locking_entry, voting_entry, names_taken}
+use Rattle.pv_protocol.specs.Coordinate.{locking_entry, voting_entry, has_all_grants, names_taken, is_uncertain}
 use Rattle.pv_protocol.specs.Granted.{is_grant_ignored, taking}
 use Rattle.pv_protocol.specs.Here.{Here, grant_of, is_full}
 use Rattle.pv_protocol.specs.Lock.{first_conflict}
@@ -41,13 +41,19 @@ pub record IsSubmitted (setup : Setup) (world : World) (transition : Transition)
   pub number : txn.number ≡ running.next_txn
   pub left : (running.next_txn == NEVER_GIVEN) ≡ false
 
--- The site takes the message without a conflict, a spent number, values that name too much, or a journal at its limit.
+-- Each item that the entry's program requires to be certain is.
+abbrev pub AreCertain : Here → Entry → Type 0
+AreCertain here entry = (item : ℕ) → item < length here.setup.catalog.items → is_uncertain here.records entry item ≡ false
+
+-- The site takes the message without a conflict, a spent number, values that name too much or aren't certain as they have to be, or a journal at its
+-- limit.
 abbrev pub IsFree : Here → ℕ → Message → Type 0
 IsFree here from (lock txn wants) =
     grant_of here.running txn ≡ None → (first_conflict here.running.grants wants ≡ None) × ((here.running.next_grant == NEVER_GIVEN) ≡ false)
 IsFree here from (granted txn id values) =
     (entry : Entry) → locking_entry here.running txn ≡ Some entry → is_grant_ignored here entry from values ≡ false
-    → length (names_taken (taking entry from id values)) ≤ here.setup.read_names
+    → (length (names_taken (taking entry from id values)) ≤ here.setup.read_names)
+    × (has_all_grants here (taking entry from id values) ≡ true → AreCertain here (taking entry from id values))
 IsFree here from (denied txn item holder) = ⊤
 IsFree here from (prepare txn id writes) = is_prepared here.records txn ≡ false → is_full here (prepared txn writes) ≡ false
 IsFree here from (vote_yes txn) =

@@ -13,8 +13,8 @@ ghost use Rattle.pv_protocol.specs.WorldStep.{Transition};
 
 /// Where more outcomes may be named in a value than in what is read, a transaction that is submitted commits if nothing comes between, and
 /// is committed from then on. Nothing comes between where, until it commits, its site and its participants stay up and don't tick, each
-/// message of it that is sent is delivered, no lock that it asks for is in conflict, what was taken for it names few outcomes enough, no
-/// number is spent and no journal is at its limit.
+/// message of it that is sent is delivered, no lock that it asks for is in conflict, what was taken for it names few outcomes enough and
+/// is certain where its program requires that, no number is spent and no journal is at its limit.
 pub fn undisturbed_transactions_commit()
     ensures run { (setup : Setup) → setup.read_names < setup.held_names → (events : List Event) → All (IsWellFormed setup.catalog) events →
         UndisturbedCommit setup (opening setup) (run setup (opening setup) events) }

@@ -352,7 +352,9 @@ module _ (setup : Setup) (w : World) (n : ℕ) (running : Running) (ready : IsRe
   granted-acts from txn grant values reported step (of_grants.waits entry taken h) = take-acts from txn grant values reported entry taken
   granted-acts from txn grant values reported step (of_grants.too_wide entry last h) =
       refusing-acts setup w n running ready txn entry (taking entry from grant values) _ (locking-found running ready.ordered txn entry last.taken.found).0 refl
-  granted-acts from txn grant values reported step (of_grants.reaches_lock_point entry last h) = place-acts from txn grant values reported entry last.taken last.whole
+  granted-acts from txn grant values reported step (of_grants.in_doubt entry least last h doubt) =
+      refusing-acts setup w n running ready txn entry (taking entry from grant values) _ (locking-found running ready.ordered txn entry last.taken.found).0 refl
+  granted-acts from txn grant values reported step (of_grants.reaches_lock_point entry last h certain) = place-acts from txn grant values reported entry last.taken last.whole
 
   pub on-granted-acts : (from : ℕ) (txn : TxnId) (grant : GrantId) (values : List Read) → Sent w from n (granted txn grant values)
       → IsActs setup w n (on_granted (here_at setup w n running) from txn grant values)

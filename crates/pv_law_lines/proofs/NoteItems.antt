@@ -7,11 +7,12 @@ use Rattle.pv_base.specs.Catalog.{Item}
 use Rattle.pv_base.specs.Want.{Want}
 use Rattle.pv_base.specs.declared.txn.TxnId.{TxnId}
 use Rattle.pv_format.specs.Message.{grant_lost, journal_full}
-use Rattle.pv_law_answers.proofs.RefusalNotes.{Refuses, by_width, by_denial, by_room, by_vote, by_time, refusal-noted}
+use Rattle.pv_law_answers.proofs.RefusalNotes.{Refuses, by_width, by_doubt, by_denial, by_room, by_vote, by_time, refusal-noted}
+use Rattle.pv_law_step.proofs.DoubtLemmas.{first-is}
 use Rattle.pv_model.specs.Check.{names_item}
 use Rattle.pv_model.specs.Plan.{want_of, wants_from}
 use Rattle.pv_model.specs.Syntax.{Program}
-use Rattle.pv_protocol.specs.Granted.{asked_of, is_unawaited, is_wanted}
+use Rattle.pv_protocol.specs.Granted.{taking, asked_of, is_unawaited, is_wanted}
 use Rattle.pv_protocol.specs.Here.{Here}
 use Rattle.pv_protocol.specs.Lines.{line_of}
 use Rattle.pv_protocol.specs.State.{Input, Note, began, committed, refused, full, spent, Cause}
@@ -44,6 +45,8 @@ wanted-of-two false false is = let wrong : ⊥ = cc in absurd wrong
 -- A refusal that a step notes names an item of the catalog, if it names one.
 refusal-fine : (here : Here) (t : TxnId) (input : Input) (cause : Cause) → Refuses here t input cause → CauseNamesOnlyItems here.setup.catalog cause
 refusal-fine here t _ _ (by_width from asked grant values entry last own wide is) = tt
+refusal-fine here t _ _ (by_doubt from asked grant values entry item last own doubt is) =
+    let below = (first-is here.records (taking entry from grant values) 0 here.setup.catalog.items item doubt).below in omega (arith, below)
 refusal-fine here t _ _ (by_denial from asked item holder entry found own heard is) =
     let below = wanted-below entry.program from item 0 here.setup.catalog.items (wanted-of-two (is_unawaited here entry from) (is_wanted (asked_of here entry from) item) heard) in
     omega (arith, below)

@@ -61,7 +61,8 @@ module _ (here : Here) where
   granted-few from txn grant values step (of_grants.ignored entry h i) = omega arith
   granted-few from txn grant values step (of_grants.waits entry taken i) = entered _
   granted-few from txn grant values step (of_grants.too_wide entry last i) = left entry.txn
-  granted-few from txn grant values step (of_grants.reaches_lock_point entry last i) = entered _
+  granted-few from txn grant values step (of_grants.in_doubt entry least last i doubt) = left entry.txn
+  granted-few from txn grant values step (of_grants.reaches_lock_point entry last i certain) = entered _
 
   denied-few : (from : ℕ) (txn : TxnId) (item : ℕ) (holder : TxnId) (step : Step) → of_grants.DeniedCase here from txn item holder step → AddsFew step
   denied-few from txn item holder step (of_grants.no_entry h) = omega arith

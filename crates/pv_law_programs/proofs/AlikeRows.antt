@@ -3,7 +3,7 @@ use Rattle.std.proofs.Common.{◌≡◌, ℕ, ℤ, pos, Bool, true, false, cond,
 use Rattle.std.specs.Prelude.{◌==◌, IsTrue, neg_ℤ, not}
 use Rattle.std.proofs.lemmas.Bool.{cases_Bool, eq-eqb, or_left, or_right}
 use Rattle.pv_model.specs.Check.{reads, names_item}
-use Rattle.pv_model.specs.Syntax.{Expr, number, item, minus, negation, two, Program, end, assign, require, return, when, when_else}
+use Rattle.pv_model.specs.Syntax.{Expr, number, item, minus, negation, two, Program, end, assign, require, certain, return, when, when_else}
 use Rattle.pv_base.specs.declared.reply.Decline.{Decline}
 use Rattle.pv_base.specs.declared.reply.Decline.TheVariants.{Require}
 use Rattle.pv_base.specs.declared.reply.Reply.TheVariants.{Value, Declined}
@@ -81,6 +81,7 @@ module _ (set : ℕ → Bool) where
   run-alike (require e next) rows others covers same =
       then_with-alike (value_of e rows) (value_of e others) _ _ (value_of-alike e rows others (λ m r. covers m (or_left (reads e m) (names_item next m) r)) same)
       (λ v. cond-alike (holds v) _ (refused Require) _ (refused Require) (run-alike next rows others (λ m r. covers m (or_right (reads e m) (names_item next m) r)) same) refl)
+  run-alike (certain n next) rows others covers same = run-alike next rows others (λ m r. covers m (or_right (n == m) (names_item next m) r)) same
   run-alike (return e next) rows others covers same =
       then_with-alike (value_of e rows) (value_of e others) _ _ (value_of-alike e rows others (λ m r. covers m (or_left (reads e m) (names_item next m) r)) same)
       (λ v. (refl, same))

@@ -1,12 +1,12 @@
 -- A program over a catalog names only items of the catalog.
 use Rattle.std.proofs.Common.{◌≡◌, ⊎_elim, ℕ, ◌<◌, pos, Bool, Some, List, [], length, subst}
-use Rattle.std.specs.Prelude.{◌||◌, IsTrue}
+use Rattle.std.specs.Prelude.{◌==◌, ◌||◌, IsTrue}
 use Rattle.std.proofs.lemmas.Bool.{eqb-true, or_cases, false≢true}
 use Rattle.std.proofs.lemmas.List.Quantifiers.{position-Some}
 use Rattle.std.specs.Str.{bytes_eq}
 use Rattle.pv_base.specs.Catalog.{Item, Declared, place_of}
 use Rattle.pv_model.specs.Check.{reads, names_item}
-use Rattle.pv_model.specs.Grammar.{Nested, Phrase, Chain, Reads, chained, not, not_negated, compared, not_compared, negative, numeral, named, in_brackets, of_two, GoesOn, no_more, one_more, ReadsProgram, assigns, requires, returns, asks, asks_else, ReadsNext, last, next}
+use Rattle.pv_model.specs.Grammar.{Nested, Phrase, Chain, Reads, chained, not, not_negated, compared, not_compared, negative, numeral, named, in_brackets, of_two, GoesOn, no_more, one_more, ReadsProgram, assigns, requires, requires_certain, returns, asks, asks_else, ReadsNext, last, next}
 use Rattle.pv_model.specs.ProgramText.{item_in, IsProgramText}
 use Rattle.pv_model.specs.Syntax.{Expr, Program}
 
@@ -60,6 +60,8 @@ module _ (catalog : Declared) where
         (either (reads e n) (names_item after n) (IsDeclared n) (reads-declared value n) (next-declared more n)) is
     program-declared (requires d ts mid behind e after test more) n is =
         either (reads e n) (names_item after n) (IsDeclared n) (reads-declared test n) (next-declared more n) is
+    program-declared (requires_certain word m d mid behind after at more) n is =
+        either (m == n) (names_item after n) (IsDeclared n) (λ same. found word m n at (eqb-true m n same)) (next-declared more n) is
     program-declared (returns d ts mid behind e after value more) n is =
         either (reads e n) (names_item after n) (IsDeclared n) (reads-declared value n) (next-declared more n) is
     program-declared (asks d ts inside mid behind test body after asked then more) n is =

@@ -5,9 +5,9 @@ use Rattle.std.proofs.lemmas.Bool.{eq-eqb}
 use Rattle.pv_model.specs.Syntax.{Op, Expr, Program}
 use Rattle.pv_model.specs.Syntax.Op.{or, and, equal, unequal, less, at_most, greater, at_least, plus, sub, times, over, rest, lesser, larger}
 use Rattle.pv_model.specs.Syntax.Expr.{number, item, minus, negation, two}
-use Rattle.pv_model.specs.Syntax.Program.{assign, require, return, when, when_else}
+use Rattle.pv_model.specs.Syntax.Program.{assign, require, certain, return, when, when_else}
 use Rattle.pv_model.specs.Tokens.{Token}
-use Rattle.pv_model.specs.Grammar.{Nested, Chain, disjunction, conjunction, sum, product, Phrase, chain, negated, comparison, unary, joins, compares, is_min_or_max, side, Reads, chained, not, not_negated, compared, not_compared, negative, numeral, named, in_brackets, of_two, GoesOn, no_more, one_more, ReadsProgram, assigns, requires, returns, asks, asks_else, ReadsNext, last, next}
+use Rattle.pv_model.specs.Grammar.{Nested, Chain, disjunction, conjunction, sum, product, Phrase, chain, negated, comparison, unary, joins, compares, is_min_or_max, side, Reads, chained, not, not_negated, compared, not_compared, negative, numeral, named, in_brackets, of_two, GoesOn, no_more, one_more, ReadsProgram, assigns, requires, requires_certain, returns, asks, asks_else, ReadsNext, last, next}
 use Rattle.pv_model.specs.ProgramText.{without_nestings, AreProgram}
 use Rattle.pv_base.proofs.Basics.{never, Some_inj, heads, tails}
 
@@ -73,7 +73,7 @@ tag Token.opens_body = 11
 tag Token.closes_body = 12
 tag Token.then_next = 13
 tag Token.parts = 14
-tag Token.reserved = 15
+tag Token.certain = 15
 tag (Token.stray x) = 16
 
 -- Tokens with other tags are others.
@@ -229,7 +229,7 @@ EndsPhrase-side c (Token.opens_body ∷ ts) h = tt
 EndsPhrase-side c (Token.closes_body ∷ ts) h = tt
 EndsPhrase-side c (Token.then_next ∷ ts) h = tt
 EndsPhrase-side c (Token.parts ∷ ts) h = tt
-EndsPhrase-side c (Token.reserved ∷ ts) h = tt
+EndsPhrase-side c (Token.certain ∷ ts) h = tt
 EndsPhrase-side c (Token.stray x ∷ ts) h = tt
 
 pub EndsPhrase-sum : (ts : List Token) → EndsPhrase comparison ts → EndsPhrase (chain sum) ts
@@ -249,7 +249,7 @@ EndsPhrase-sum (Token.opens_body ∷ ts) h = tt
 EndsPhrase-sum (Token.closes_body ∷ ts) h = tt
 EndsPhrase-sum (Token.then_next ∷ ts) h = tt
 EndsPhrase-sum (Token.parts ∷ ts) h = tt
-EndsPhrase-sum (Token.reserved ∷ ts) h = tt
+EndsPhrase-sum (Token.certain ∷ ts) h = tt
 EndsPhrase-sum (Token.stray x ∷ ts) h = tt
 
 EndsPhrase-expr : (ts : List Token) → EndsProgram ts → EndsPhrase (chain disjunction) ts
@@ -269,7 +269,7 @@ EndsPhrase-expr (Token.opens_body ∷ ts) h = tt
 EndsPhrase-expr (Token.closes_body ∷ ts) h = tt
 EndsPhrase-expr (Token.then_next ∷ ts) h = tt
 EndsPhrase-expr (Token.parts ∷ ts) h = tt
-EndsPhrase-expr (Token.reserved ∷ ts) h = tt
+EndsPhrase-expr (Token.certain ∷ ts) h = tt
 EndsPhrase-expr (Token.stray x ∷ ts) h = tt
 
 pub sub_is_no_prefix : (op : Op) → Token.operator sub ≡ Token.operator op → IsTrue (is_min_or_max op) → ⊥
@@ -300,6 +300,20 @@ module _ (item_of : List ℕ → Option ℕ) where
   begins_with_no_not xs (named word n d r i) h eq = differ eq refl
   begins_with_no_not xs (in_brackets d ts r e p) h eq = differ eq refl
   begins_with_no_not xs (of_two op d ts mid r left right m p q) h eq = differ eq refl
+
+  -- No expression begins with the word `certain`.
+  pub begins_with_no_certain : {phrase : Phrase} {d : ℕ} {ts r : List Nested} {e : Expr} (xs : List Token) → Reads item_of phrase d ts r e
+      → E ts ≡ Token.certain ∷ xs → ⊥
+  begins_with_no_certain xs (chained c d ts mid r left e p g) eq = begins_with_no_certain xs p eq
+  begins_with_no_certain xs (not d ts r e p) eq = differ eq refl
+  begins_with_no_certain xs (not_negated d ts r e p) eq = begins_with_no_certain xs p eq
+  begins_with_no_certain xs (compared op d ts mid r left right c p q) eq = begins_with_no_certain xs p eq
+  begins_with_no_certain xs (not_compared d ts r e p) eq = begins_with_no_certain xs p eq
+  begins_with_no_certain xs (negative d ts r e p) eq = differ eq refl
+  begins_with_no_certain xs (numeral n d r l) eq = differ eq refl
+  begins_with_no_certain xs (named word n d r i) eq = differ eq refl
+  begins_with_no_certain xs (in_brackets d ts r e p) eq = differ eq refl
+  begins_with_no_certain xs (of_two op d ts mid r left right m p q) eq = differ eq refl
 
   -- A side stops where the chain behind it goes on or stops.
   pub goes_on_stops : {c : Chain} {left e : Expr} {d : ℕ} {mid r : List Nested} → GoesOn item_of c left d mid r e → EndsPhrase (chain c) (E r) → EndsPhrase (side c) (E mid)
@@ -406,6 +420,8 @@ module _ (item_of : List ℕ → Option ℕ) where
         let same : word ≡ word2 = name_inj (heads eq) in let n_same : n ≡ n2 = Some_inj (sym i ∙ ap item_of same ∙ i2) in let first = one_expr x x2 (next_stops y h) (next_stops y2 h2) (tails (tails eq)) in let second = one_next y y2 h h2 first.1 in ((λ j. assign (n_same j) (first.0 j) (second.0 j)), second.1)
     one_read (assigns word n d ts mid r e nx i x y) (requires d2 ts2 mid2 r2 e2 nx2 x2 y2) h h2 eq =
         absurd (differ eq refl)
+    one_read (assigns word n d ts mid r e nx i x y) (requires_certain word2 n2 d2 mid2 r2 nx2 i2 y2) h h2 eq =
+        absurd (differ eq refl)
     one_read (assigns word n d ts mid r e nx i x y) (returns d2 ts2 mid2 r2 e2 nx2 x2 y2) h h2 eq =
         absurd (differ eq refl)
     one_read (assigns word n d ts mid r e nx i x y) (asks d2 ts2 inside2 mid2 r2 test2 body2 nx2 x2 b2 y2) h h2 eq =
@@ -416,15 +432,31 @@ module _ (item_of : List ℕ → Option ℕ) where
         absurd (differ eq refl)
     one_read (requires d ts mid r e nx x y) (requires d2 ts2 mid2 r2 e2 nx2 x2 y2) h h2 eq =
         let first = one_expr x x2 (next_stops y h) (next_stops y2 h2) (tails eq) in let second = one_next y y2 h h2 first.1 in ((λ j. require (first.0 j) (second.0 j)), second.1)
+    one_read (requires d ts mid r e nx x y) (requires_certain word2 n2 d2 mid2 r2 nx2 i2 y2) h h2 eq =
+        absurd (begins_with_no_certain _ x (tails eq))
     one_read (requires d ts mid r e nx x y) (returns d2 ts2 mid2 r2 e2 nx2 x2 y2) h h2 eq =
         absurd (differ eq refl)
     one_read (requires d ts mid r e nx x y) (asks d2 ts2 inside2 mid2 r2 test2 body2 nx2 x2 b2 y2) h h2 eq =
         absurd (differ eq refl)
     one_read (requires d ts mid r e nx x y) (asks_else d2 ts2 inside2 second2 mid2 r2 test2 body2 other2 nx2 x2 b2 o2 y2) h h2 eq =
         absurd (differ eq refl)
+    one_read (requires_certain word n d mid r nx i y) (assigns word2 n2 d2 ts2 mid2 r2 e2 nx2 i2 x2 y2) h h2 eq =
+        absurd (differ eq refl)
+    one_read (requires_certain word n d mid r nx i y) (requires d2 ts2 mid2 r2 e2 nx2 x2 y2) h h2 eq =
+        absurd (begins_with_no_certain _ x2 (sym (tails eq)))
+    one_read (requires_certain word n d mid r nx i y) (requires_certain word2 n2 d2 mid2 r2 nx2 i2 y2) h h2 eq =
+        let same : word ≡ word2 = name_inj (heads (tails (tails eq))) in let n_same : n ≡ n2 = Some_inj (sym i ∙ ap item_of same ∙ i2) in let second = one_next y y2 h h2 (tails (tails (tails eq))) in ((λ j. certain (n_same j) (second.0 j)), second.1)
+    one_read (requires_certain word n d mid r nx i y) (returns d2 ts2 mid2 r2 e2 nx2 x2 y2) h h2 eq =
+        absurd (differ eq refl)
+    one_read (requires_certain word n d mid r nx i y) (asks d2 ts2 inside2 mid2 r2 test2 body2 nx2 x2 b2 y2) h h2 eq =
+        absurd (differ eq refl)
+    one_read (requires_certain word n d mid r nx i y) (asks_else d2 ts2 inside2 second2 mid2 r2 test2 body2 other2 nx2 x2 b2 o2 y2) h h2 eq =
+        absurd (differ eq refl)
     one_read (returns d ts mid r e nx x y) (assigns word2 n2 d2 ts2 mid2 r2 e2 nx2 i2 x2 y2) h h2 eq =
         absurd (differ eq refl)
     one_read (returns d ts mid r e nx x y) (requires d2 ts2 mid2 r2 e2 nx2 x2 y2) h h2 eq =
+        absurd (differ eq refl)
+    one_read (returns d ts mid r e nx x y) (requires_certain word2 n2 d2 mid2 r2 nx2 i2 y2) h h2 eq =
         absurd (differ eq refl)
     one_read (returns d ts mid r e nx x y) (returns d2 ts2 mid2 r2 e2 nx2 x2 y2) h h2 eq =
         let first = one_expr x x2 (next_stops y h) (next_stops y2 h2) (tails eq) in let second = one_next y y2 h h2 first.1 in ((λ j. return (first.0 j) (second.0 j)), second.1)
@@ -436,6 +468,8 @@ module _ (item_of : List ℕ → Option ℕ) where
         absurd (differ eq refl)
     one_read (asks d ts inside mid r test body nx x b y) (requires d2 ts2 mid2 r2 e2 nx2 x2 y2) h h2 eq =
         absurd (differ eq refl)
+    one_read (asks d ts inside mid r test body nx x b y) (requires_certain word2 n2 d2 mid2 r2 nx2 i2 y2) h h2 eq =
+        absurd (differ eq refl)
     one_read (asks d ts inside mid r test body nx x b y) (returns d2 ts2 mid2 r2 e2 nx2 x2 y2) h h2 eq =
         absurd (differ eq refl)
     one_read (asks d ts inside mid r test body nx x b y) (asks d2 ts2 inside2 mid2 r2 test2 body2 nx2 x2 b2 y2) h h2 eq =
@@ -445,6 +479,8 @@ module _ (item_of : List ℕ → Option ℕ) where
     one_read (asks_else d ts inside second mid r test body other nx x b o y) (assigns word2 n2 d2 ts2 mid2 r2 e2 nx2 i2 x2 y2) h h2 eq =
         absurd (differ eq refl)
     one_read (asks_else d ts inside second mid r test body other nx x b o y) (requires d2 ts2 mid2 r2 e2 nx2 x2 y2) h h2 eq =
+        absurd (differ eq refl)
+    one_read (asks_else d ts inside second mid r test body other nx x b o y) (requires_certain word2 n2 d2 mid2 r2 nx2 i2 y2) h h2 eq =
         absurd (differ eq refl)
     one_read (asks_else d ts inside second mid r test body other nx x b o y) (returns d2 ts2 mid2 r2 e2 nx2 x2 y2) h h2 eq =
         absurd (differ eq refl)

@@ -8,7 +8,7 @@ use Rattle.std.proofs.lemmas.List.FromFn.{length-range_with_len, get_or-range_wi
 use Rattle.std.proofs.lemmas.List.Kept.{AllPairs-filter}
 use Rattle.pv_base.proofs.ContainsLemmas.{Contains-filter}
 use Rattle.pv_base.proofs.OrderLemmas.{one-ascending_by}
-use Rattle.pv_model.specs.Syntax.{Expr, number, item, minus, negation, two, Program, end, assign, require, return, when, when_else}
+use Rattle.pv_model.specs.Syntax.{Expr, number, item, minus, negation, two, Program, end, assign, require, certain, return, when, when_else}
 use Rattle.pv_model.specs.Check.{reads, names_item, AreItems}
 
 pub one_items : (program : Program) (items others : List ℕ) → AreItems program items → AreItems program others → items ≡ others
@@ -32,6 +32,7 @@ abbrev above : Program → ℕ
 above end = 0
 above (assign m e next) = m + 1 + (above_expr e + above next)
 above (require e next) = above_expr e + above next
+above (certain m next) = m + 1 + above next
 above (return e next) = above_expr e + above next
 above (when e body next) = above_expr e + (above body + above next)
 above (when_else e body other next) = above_expr e + (above body + (above other + above next))
@@ -57,6 +58,8 @@ below-program (assign m e next) n is =
     (below-either (reads e n) (names_item next n) n _ _ (below-expr e n) (below-program next n)) is
 below-program (require e next) n is =
     below-either (reads e n) (names_item next n) n _ _ (below-expr e n) (below-program next n) is
+below-program (certain m next) n is =
+    below-either (m == n) (names_item next n) n (m + 1) _ (λ is. omega (arith, eqb-true m n is)) (below-program next n) is
 below-program (return e next) n is =
     below-either (reads e n) (names_item next n) n _ _ (below-expr e n) (below-program next n) is
 below-program (when e body next) n is =

@@ -9,15 +9,15 @@ use Rattle.pv_base.specs.declared.limits.TheConstants.{MAX_DEPTH}
 use Rattle.pv_base.specs.Catalog.{Declared}
 use Rattle.pv_model.specs.Syntax.{Expr, Program}
 use Rattle.pv_model.specs.Syntax.Expr.{number, item, minus, negation, two}
-use Rattle.pv_model.specs.Syntax.Program.{end, assign, require, return, when, when_else}
+use Rattle.pv_model.specs.Syntax.Program.{end, assign, require, certain, return, when, when_else}
 use Rattle.pv_model.specs.FirstMisplaced.{without_numbers}
 use Rattle.pv_model.specs.Tokens.{Token}
-use Rattle.pv_model.specs.Grammar.{Nested, Chain, Phrase, chain, comparison, Reads, chained, not, not_negated, compared, not_compared, negative, numeral, named, in_brackets, of_two, GoesOn, no_more, one_more, ReadsProgram, assigns, requires, returns, asks, asks_else, ReadsNext, last, next}
+use Rattle.pv_model.specs.Grammar.{Nested, Chain, Phrase, chain, comparison, Reads, chained, not, not_negated, compared, not_compared, negative, numeral, named, in_brackets, of_two, GoesOn, no_more, one_more, ReadsProgram, assigns, requires, requires_certain, returns, asks, asks_else, ReadsNext, last, next}
 use Rattle.pv_model.specs.ProgramText.{without_nestings, any_item, item_in, AreProgram, AreSomeProgram, IsProgramText, Kind, malformed, unknown_name, too_deep, HasFaultAt, Refusal, too_large, at_fault, IsRefused}
 use Rattle.pv_base.proofs.Basics.{heads, tails, and-left, and-right}
 use Rattle.pv_law_programs.proofs.FirstFaultLemmas.{no_fault}
 use Rattle.pv_law_programs.proofs.TokenLemmas.{one_token_list}
-use Rattle.pv_law_programs.proofs.GrammarLemmas.{differ, joined_is_no_stop, compared_stops_sum, compared_is_no_stop, EndsPhrase-sum, sub_is_no_prefix, begins_with_no_not, goes_on_stops, next_stops, next_is_no_else, EndsPhrase, EndsProgram, E, tag}
+use Rattle.pv_law_programs.proofs.GrammarLemmas.{differ, joined_is_no_stop, compared_stops_sum, compared_is_no_stop, EndsPhrase-sum, sub_is_no_prefix, begins_with_no_not, begins_with_no_certain, goes_on_stops, next_stops, next_is_no_else, EndsPhrase, EndsProgram, E, tag}
 
 -- ---- what is a program over items is one where every name is an item's
 
@@ -44,6 +44,7 @@ module _ (item_of : List ℕ → Option ℕ) where
     any_program : {d : ℕ} {ts r : List Nested} {p : Program} → ReadsProgram item_of d ts r p → (q : Program) × ReadsProgram any_item d ts r q
     any_program (assigns word n d ts mid r e nx i x y) = let u = any_expr x in let v = any_next y in (assign 0 u.0 v.0, assigns word 0 d ts mid r u.0 v.0 refl u.1 v.1)
     any_program (requires d ts mid r e nx x y) = let u = any_expr x in let v = any_next y in (require u.0 v.0, requires d ts mid r u.0 v.0 u.1 v.1)
+    any_program (requires_certain word n d mid r nx i y) = let v = any_next y in (certain 0 v.0, requires_certain word 0 d mid r v.0 refl v.1)
     any_program (returns d ts mid r e nx x y) = let u = any_expr x in let v = any_next y in (return u.0 v.0, returns d ts mid r u.0 v.0 u.1 v.1)
     any_program (asks d ts inside mid r test body nx x b y) =
         let u = any_expr x in let w = any_program b in let v = any_next y in (when u.0 w.0 v.0, asks d ts inside mid r u.0 w.0 v.0 u.1 w.1 v.1)
@@ -86,6 +87,7 @@ module _ (item_of : List ℕ → Option ℕ) where
     known_program : {d : ℕ} {ts r : List Nested} {p : Program} → ReadsProgram item_of d ts r p → AreKnown r → AreKnown ts
     known_program (assigns word n d ts mid r e nx i x y) k = ((n, i), (tt, known_expr x (known_next y k)))
     known_program (requires d ts mid r e nx x y) k = (tt, known_expr x (known_next y k))
+    known_program (requires_certain word n d mid r nx i y) k = (tt, (tt, ((n, i), known_next y k)))
     known_program (returns d ts mid r e nx x y) k = (tt, known_expr x (known_next y k))
     known_program (asks d ts inside mid r test body nx x b y) k = (tt, known_expr x (tt, known_program b (tt, known_next y k)))
     known_program (asks_else d ts inside second mid r test body other nx x b o y) k =
@@ -210,6 +212,8 @@ module _ (item_of other_of : List ℕ → Option ℕ) where
         λ same. (refl, λ becomes. (refl, agree_expr x x2 (next_stops item_of y h) (next_stops other_of y2 h2) (agree_next y y2 h h2 a)))
     agree_program (assigns word n d ts mid r e nx i x y) (requires d2 ts2 mid2 r2 e2 nx2 x2 y2) h h2 a =
         λ same. absurd (apart same refl)
+    agree_program (assigns word n d ts mid r e nx i x y) (requires_certain word2 n2 d2 mid2 r2 nx2 i2 y2) h h2 a =
+        λ same. absurd (apart same refl)
     agree_program (assigns word n d ts mid r e nx i x y) (returns d2 ts2 mid2 r2 e2 nx2 x2 y2) h h2 a =
         λ same. absurd (apart same refl)
     agree_program (assigns word n d ts mid r e nx i x y) (asks d2 ts2 inside2 mid2 r2 test2 body2 nx2 x2 b2 y2) h h2 a =
@@ -220,15 +224,31 @@ module _ (item_of other_of : List ℕ → Option ℕ) where
         λ same. absurd (apart same refl)
     agree_program (requires d ts mid r e nx x y) (requires d2 ts2 mid2 r2 e2 nx2 x2 y2) h h2 a =
         λ same. (refl, agree_expr x x2 (next_stops item_of y h) (next_stops other_of y2 h2) (agree_next y y2 h h2 a))
+    agree_program (requires d ts mid r e nx x y) (requires_certain word2 n2 d2 mid2 r2 nx2 i2 y2) h h2 a =
+        λ same. (refl, agree_right (d2, Token.certain) ((d2, Token.name word2) ∷ mid2) ts (λ xs eq. begins_with_no_certain item_of xs x eq))
     agree_program (requires d ts mid r e nx x y) (returns d2 ts2 mid2 r2 e2 nx2 x2 y2) h h2 a =
         λ same. absurd (apart same refl)
     agree_program (requires d ts mid r e nx x y) (asks d2 ts2 inside2 mid2 r2 test2 body2 nx2 x2 b2 y2) h h2 a =
         λ same. absurd (apart same refl)
     agree_program (requires d ts mid r e nx x y) (asks_else d2 ts2 inside2 second2 mid2 r2 test2 body2 other2 nx2 x2 b2 o2 y2) h h2 a =
         λ same. absurd (apart same refl)
+    agree_program (requires_certain word n d mid r nx i y) (assigns word2 n2 d2 ts2 mid2 r2 e2 nx2 i2 x2 y2) h h2 a =
+        λ same. absurd (apart same refl)
+    agree_program (requires_certain word n d mid r nx i y) (requires d2 ts2 mid2 r2 e2 nx2 x2 y2) h h2 a =
+        λ same. (refl, agree_left (d, Token.certain) ((d, Token.name word) ∷ mid) ts2 (λ xs eq. begins_with_no_certain other_of xs x2 eq))
+    agree_program (requires_certain word n d mid r nx i y) (requires_certain word2 n2 d2 mid2 r2 nx2 i2 y2) h h2 a =
+        λ same. (refl, λ sure. (refl, λ called. (refl, agree_next y y2 h h2 a)))
+    agree_program (requires_certain word n d mid r nx i y) (returns d2 ts2 mid2 r2 e2 nx2 x2 y2) h h2 a =
+        λ same. absurd (apart same refl)
+    agree_program (requires_certain word n d mid r nx i y) (asks d2 ts2 inside2 mid2 r2 test2 body2 nx2 x2 b2 y2) h h2 a =
+        λ same. absurd (apart same refl)
+    agree_program (requires_certain word n d mid r nx i y) (asks_else d2 ts2 inside2 second2 mid2 r2 test2 body2 other2 nx2 x2 b2 o2 y2) h h2 a =
+        λ same. absurd (apart same refl)
     agree_program (returns d ts mid r e nx x y) (assigns word2 n2 d2 ts2 mid2 r2 e2 nx2 i2 x2 y2) h h2 a =
         λ same. absurd (apart same refl)
     agree_program (returns d ts mid r e nx x y) (requires d2 ts2 mid2 r2 e2 nx2 x2 y2) h h2 a =
+        λ same. absurd (apart same refl)
+    agree_program (returns d ts mid r e nx x y) (requires_certain word2 n2 d2 mid2 r2 nx2 i2 y2) h h2 a =
         λ same. absurd (apart same refl)
     agree_program (returns d ts mid r e nx x y) (returns d2 ts2 mid2 r2 e2 nx2 x2 y2) h h2 a =
         λ same. (refl, agree_expr x x2 (next_stops item_of y h) (next_stops other_of y2 h2) (agree_next y y2 h h2 a))
@@ -240,6 +260,8 @@ module _ (item_of other_of : List ℕ → Option ℕ) where
         λ same. absurd (apart same refl)
     agree_program (asks d ts inside mid r test body nx x b y) (requires d2 ts2 mid2 r2 e2 nx2 x2 y2) h h2 a =
         λ same. absurd (apart same refl)
+    agree_program (asks d ts inside mid r test body nx x b y) (requires_certain word2 n2 d2 mid2 r2 nx2 i2 y2) h h2 a =
+        λ same. absurd (apart same refl)
     agree_program (asks d ts inside mid r test body nx x b y) (returns d2 ts2 mid2 r2 e2 nx2 x2 y2) h h2 a =
         λ same. absurd (apart same refl)
     agree_program (asks d ts inside mid r test body nx x b y) (asks d2 ts2 inside2 mid2 r2 test2 body2 nx2 x2 b2 y2) h h2 a =
@@ -249,6 +271,8 @@ module _ (item_of other_of : List ℕ → Option ℕ) where
     agree_program (asks_else d ts inside second mid r test body other nx x b o y) (assigns word2 n2 d2 ts2 mid2 r2 e2 nx2 i2 x2 y2) h h2 a =
         λ same. absurd (apart same refl)
     agree_program (asks_else d ts inside second mid r test body other nx x b o y) (requires d2 ts2 mid2 r2 e2 nx2 x2 y2) h h2 a =
+        λ same. absurd (apart same refl)
+    agree_program (asks_else d ts inside second mid r test body other nx x b o y) (requires_certain word2 n2 d2 mid2 r2 nx2 i2 y2) h h2 a =
         λ same. absurd (apart same refl)
     agree_program (asks_else d ts inside second mid r test body other nx x b o y) (returns d2 ts2 mid2 r2 e2 nx2 x2 y2) h h2 a =
         λ same. absurd (apart same refl)

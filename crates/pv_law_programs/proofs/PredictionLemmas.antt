@@ -8,11 +8,11 @@ use Rattle.std.proofs.lemmas.List.{append-nil}
 use Rattle.pv_model.specs.Syntax.{Op, Expr, Program}
 use Rattle.pv_model.specs.Syntax.Op.{sub, lesser, larger}
 use Rattle.pv_model.specs.Syntax.Expr.{number, item, minus, negation, two}
-use Rattle.pv_model.specs.Syntax.Program.{end, assign, require, return, when, when_else}
+use Rattle.pv_model.specs.Syntax.Program.{end, assign, require, certain, return, when, when_else}
 use Rattle.pv_model.specs.Tokens.{Token}
-use Rattle.pv_model.specs.Grammar.{Nested, Chain, disjunction, conjunction, sum, product, Phrase, chain, negated, comparison, unary, joins, compares, is_min_or_max, side, Reads, chained, not, not_negated, compared, not_compared, negative, numeral, named, in_brackets, of_two, GoesOn, no_more, one_more, ReadsProgram, assigns, requires, returns, asks, asks_else, ReadsNext, last, next}
+use Rattle.pv_model.specs.Grammar.{Nested, Chain, disjunction, conjunction, sum, product, Phrase, chain, negated, comparison, unary, joins, compares, is_min_or_max, side, Reads, chained, not, not_negated, compared, not_compared, negative, numeral, named, in_brackets, of_two, GoesOn, no_more, one_more, ReadsProgram, assigns, requires, requires_certain, returns, asks, asks_else, ReadsNext, last, next}
 use Rattle.pv_model.specs.ProgramText.{any_item}
-use Rattle.pv_law_programs.specs.Prediction.{Punctuation, is_punctuation, Symbol, Expected, is_optional, may_end, after_prefix, after_unary, after_sum, after_negated, after_phrase, after_program, after_symbol, step, at_start}
+use Rattle.pv_law_programs.specs.Prediction.{Punctuation, is_punctuation, Symbol, Expected, is_optional, may_end, after_prefix, after_unary, after_sum, after_negated, after_phrase, after_program, after_required, after_name, after_symbol, step, at_start}
 use Rattle.pv_base.proofs.Basics.{never, Some_inj, and-left, and-right}
 use Rattle.pv_law_programs.proofs.NoRefusalLemmas.{IsKnown, AreKnown}
 use Rattle.pv_law_programs.proofs.Walks.{Walks, here, on}
@@ -59,6 +59,14 @@ module _ (item_of : List ℕ → Option ℕ) where
     with_sum : (op : Op) (d : ℕ) (ts mid : List Nested) (right : Expr) → IsTrue (compares op) → Reads item_of (chain sum) d ts mid right
         → Compares d ((d, Token.operator op) ∷ ts) mid
 
+  data IsItemName : ℕ → List Nested → List Nested → Type 0 where
+    of_item : (word : List ℕ) (n d : ℕ) (mid : List Nested) → item_of word ≡ Some n → IsItemName d ((d, Token.name word) ∷ mid) mid
+
+  data Requires : ℕ → List Nested → List Nested → Type 0 where
+    a_test : (d : ℕ) (ts mid : List Nested) (e : Expr) → Reads item_of (chain disjunction) d ts mid e → Requires d ts mid
+    certainty : (word : List ℕ) (n d : ℕ) (mid : List Nested) → item_of word ≡ Some n
+        → Requires d ((d, Token.certain) ∷ (d, Token.name word) ∷ mid) mid
+
   data Elses : ℕ → List Nested → List Nested → Type 0 where
     no_else : (d : ℕ) (ts : List Nested) → Elses d ts ts
     with_else : (d : ℕ) (ts mid : List Nested) (p : Program) → ReadsProgram item_of (suc d) ts ((d, Token.closes_body) ∷ mid) p
@@ -71,6 +79,8 @@ module _ (item_of : List ℕ → Option ℕ) where
   IsSymbol Symbol.comparing d ts mid = Compares d ts mid
   IsSymbol (Symbol.punctuation m) d ts mid = ts ≡ (d, punctuation_token m) ∷ mid
   IsSymbol Symbol.program d ts mid = (p : Program) × ReadsProgram item_of d ts mid p
+  IsSymbol Symbol.requirement d ts mid = Requires d ts mid
+  IsSymbol Symbol.item_name d ts mid = IsItemName d ts mid
   IsSymbol Symbol.next d ts mid = (p : Program) × ReadsNext item_of d ts mid p
   IsSymbol Symbol.other d ts mid = Elses d ts mid
 
@@ -86,6 +96,8 @@ module _ (item_of : List ℕ → Option ℕ) where
   left_out Symbol.comparing d ts h = alone d ts
   left_out (Symbol.punctuation m) d ts h = absurd (never h)
   left_out Symbol.program d ts h = absurd (never h)
+  left_out Symbol.requirement d ts h = absurd (never h)
+  left_out Symbol.item_name d ts h = absurd (never h)
   left_out Symbol.next d ts h = (end, last d ts)
   left_out Symbol.other d ts h = no_else d ts
 
@@ -200,6 +212,26 @@ module _ (item_of : List ℕ → Option ℕ) where
   asks_read ts inside after test body p (with_else d second behind r o) x b y =
       (when_else test body r p, asks_else d ts inside second behind after test body r p x b o y)
 
+  -- a test, or that an item be certain
+  required_read : {d : ℕ} {ts mid : List Nested} (after : List Nested) (p : Program) → Requires d ts mid → ReadsNext item_of d mid after p
+      → (q : Program) × ReadsProgram item_of d ((d, Token.requires) ∷ ts) after q
+  required_read after p (a_test d ts mid e x) y = (require e p, requires d ts mid after e p x y)
+  required_read after p (certainty word n d mid i) y = (certain n p, requires_certain word n d mid after p i y)
+
+  certain_name : {d : ℕ} {ts mid : List Nested} → IsItemName d ts mid → Requires d ((d, Token.certain) ∷ ts) mid
+  certain_name (of_item word n d mid i) = certainty word n d mid i
+
+  required_back : (t : Token) (d : ℕ) (k more : List Expected) (ts : List Nested) → IsKnown item_of t → after_required d t k ≡ Some more → Matches more ts
+      → Matches ((d, Symbol.requirement) ∷ k) ((d, t) ∷ ts)
+  required_back Token.certain d k more ts known e m = let n = matches_at ts e m in (n.0, (certain_name n.1.0, n.1.1))
+  required_back t d k more ts known e m =
+      let n = part_back (chain disjunction) t d k more ts known e m in (n.0, (a_test d ((d, t) ∷ ts) n.0 n.1.0.0 n.1.0.1, n.1.1))
+
+  name_back : (t : Token) (d : ℕ) (k more : List Expected) (ts : List Nested) → IsKnown item_of t → after_name t k ≡ Some more → Matches more ts
+      → Matches ((d, Symbol.item_name) ∷ k) ((d, t) ∷ ts)
+  name_back (Token.name word) d k more ts known e m = (ts, (of_item word known.0 d ts known.1, matches_at ts e m))
+  name_back _ d k more ts known e m = absurd (none-some more e)
+
   program_back : (t : Token) (d : ℕ) (k more : List Expected) (ts : List Nested) → IsKnown item_of t → after_program d t k ≡ Some more → Matches more ts
       → Matches ((d, Symbol.program) ∷ k) ((d, t) ∷ ts)
   program_back (Token.name word) d k more ts known e m =
@@ -214,9 +246,8 @@ module _ (item_of : List ℕ → Option ℕ) where
   program_back Token.requires d k more ts known e m =
       let n = matches_at ts e m in
       let y = n.1.1 in
-      let value = n.1.0 in
       let after = y.1.0 in
-      (y.0, ((require value.0 after.0, requires d ts n.0 y.0 value.0 after.0 value.1 after.1), y.1.1))
+      (y.0, (required_read y.0 after.0 n.1.0 after.1, y.1.1))
   program_back Token.returns d k more ts known e m =
       let n = matches_at ts e m in
       let y = n.1.1 in
@@ -283,6 +314,8 @@ module _ (item_of : List ℕ → Option ℕ) where
   symbol_back (Symbol.punctuation x) t d k more ts known e m =
       let h = if_some (is_punctuation x t) e in (ts, (ap (λ (u : Token). (d, u) ∷ ts) (mark_is x t h.0), matches_at ts h.1 m))
   symbol_back Symbol.program t d k more ts known e m = program_back t d k more ts known e m
+  symbol_back Symbol.requirement t d k more ts known e m = required_back t d k more ts known e m
+  symbol_back Symbol.item_name t d k more ts known e m = name_back t d k more ts known e m
   symbol_back Symbol.comparing (Token.operator op) d k more ts known e m =
       let h = if_some (compares op) e in comparing_back op d k ts h.0 (matches_at ts h.1 m)
   symbol_back Symbol.next Token.then_next d k more ts known e m =
@@ -329,24 +362,28 @@ module _ (item_of : List ℕ → Option ℕ) where
   zero_part (chain conjunction) d mid = in_chain {c = conjunction} (zero_negated d mid)
   zero_part (chain disjunction) d mid = in_chain {c = disjunction} (in_chain {c = conjunction} (zero_negated d mid))
 
-  symbol_ends : (s : Symbol) (d : ℕ) (mid : List Nested) → (ts : List Nested) × IsSymbol s d ts mid
-  symbol_ends (Symbol.phrase p) d mid = ((d, Token.number 0) ∷ mid, (number (pos 0), zero_part p d mid))
-  symbol_ends (Symbol.more c) d mid = (mid, left_out (Symbol.more c) d mid refl)
-  symbol_ends Symbol.comparing d mid = (mid, left_out Symbol.comparing d mid refl)
-  symbol_ends (Symbol.punctuation m) d mid = ((d, punctuation_token m) ∷ mid, refl)
-  symbol_ends Symbol.program d mid = (
+  -- where some word is the name of an item
+  symbol_ends : (s : Symbol) (d : ℕ) (mid : List Nested) (word : List ℕ) (n : ℕ) → item_of word ≡ Some n → (ts : List Nested) × IsSymbol s d ts mid
+  symbol_ends (Symbol.phrase p) d mid word m i = ((d, Token.number 0) ∷ mid, (number (pos 0), zero_part p d mid))
+  symbol_ends (Symbol.more c) d mid word m i = (mid, left_out (Symbol.more c) d mid refl)
+  symbol_ends Symbol.comparing d mid word m i = (mid, left_out Symbol.comparing d mid refl)
+  symbol_ends (Symbol.punctuation x) d mid word m i = ((d, punctuation_token x) ∷ mid, refl)
+  symbol_ends Symbol.program d mid word m i = (
     (d, Token.returns) ∷ (d, Token.number 0) ∷ mid,
     (
       return (number (pos 0)) end,
       returns d ((d, Token.number 0) ∷ mid) mid mid (number (pos 0)) end (zero_part (chain disjunction) d mid) (last d mid),
     ),
   )
-  symbol_ends Symbol.next d mid = (mid, left_out Symbol.next d mid refl)
-  symbol_ends Symbol.other d mid = (mid, left_out Symbol.other d mid refl)
+  symbol_ends Symbol.requirement d mid word m i =
+      ((d, Token.number 0) ∷ mid, a_test d ((d, Token.number 0) ∷ mid) mid (number (pos 0)) (zero_part (chain disjunction) d mid))
+  symbol_ends Symbol.item_name d mid word m i = ((d, Token.name word) ∷ mid, of_item word m d mid i)
+  symbol_ends Symbol.next d mid word m i = (mid, left_out Symbol.next d mid refl)
+  symbol_ends Symbol.other d mid word m i = (mid, left_out Symbol.other d mid refl)
 
-  ends : (k : List Expected) → (ts : List Nested) × Matches k ts
-  ends [] = ([], refl)
-  ends (x ∷ k) = let behind = ends k in let now = symbol_ends x.1 x.0 behind.0 in (now.0, (behind.0, (now.1, behind.1)))
+  ends : (k : List Expected) (word : List ℕ) (n : ℕ) → item_of word ≡ Some n → (ts : List Nested) × Matches k ts
+  ends [] word n i = ([], refl)
+  ends (x ∷ k) word n i = let behind = ends k word n i in let now = symbol_ends x.1 x.0 behind.0 word n i in (now.0, (behind.0, (now.1, behind.1)))
 
   nothing_matches : (k : List Expected) → IsTrue (may_end k) → Matches k []
   nothing_matches [] h = refl
@@ -366,7 +403,7 @@ any_known (t ∷ ts) = (known t.1, any_known ts)
 -- Tokens that the reader takes begin a program.
 pub walks-viable : {ts : List Nested} {k : List Expected} → Walks at_start ts k [] → (rest : List Nested) × (p : Program) × ReadsProgram any_item 0 (ts ++ rest) [] p
 walks-viable {ts} {k} w =
-    let ending = ends any_item k in
+    let ending = ends any_item k [] 0 refl in
     let p = whole any_item {ts = ts ++ ending.0} (walks_back any_item ending.0 w (any_known ts) ending.1) in
     (ending.0, p.0, p.1)
 

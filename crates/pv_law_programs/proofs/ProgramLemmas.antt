@@ -3,7 +3,7 @@ use Rattle.std.proofs.Common.{◌≡◌, ℕ, ℤ, pos, Bool, true, false, ◌||
 use Rattle.std.specs.Prelude.{◌==◌}
 use Rattle.std.proofs.Math.Bool.{or-true}
 use Rattle.std.proofs.lemmas.Bool.{eqb-true, eq-eqb, cases_Bool}
-use Rattle.pv_model.specs.Syntax.{Program, end, assign, require, return, when, when_else}
+use Rattle.pv_model.specs.Syntax.{Program, end, assign, require, certain, return, when, when_else}
 use Rattle.pv_model.specs.Items.{lacks}
 use Rattle.pv_base.specs.declared.reply.Decline.{Decline}
 use Rattle.pv_base.specs.declared.reply.Decline.TheVariants.{Require}
@@ -52,6 +52,7 @@ run-keeps P (assign n e next) each rows p =
     (with_row rows n v) (each n (ap (λ (b : Bool). b || assigns next n) (eq-eqb n n refl)) rows v p))
 run-keeps P (require e next) each rows p =
     on-then_with P (value_of e rows) _ (λ v. on-cond P (holds v) _ (refused Require) (run-keeps P next each rows p) tt)
+run-keeps P (certain n next) each rows p = run-keeps P next each rows p
 run-keeps P (return e next) each rows p = on-then_with P (value_of e rows) _ (λ v. p)
 run-keeps P (when e body next) each rows p =
     let of_body = λ (m : ℕ) (is : assigns body m ≡ true). each m (ap (λ (b : Bool). b || assigns next m) is) in
@@ -162,6 +163,7 @@ run-followed (require e next) behind rows =
     (λ i. then_with (value_of e rows) (λ (v : ℤ). (ap (λ (o : Course). cond (holds v) o (refused Require)) (run-followed next behind rows)
     ∙ cond-then_run (holds v) (course_of next rows) (refused Require) (course_of behind)) i))
     ∙ then_with-then_run (value_of e rows) (λ (v : ℤ). cond (holds v) (course_of next rows) (refused Require)) (course_of behind)
+run-followed (certain n next) behind rows = run-followed next behind rows
 run-followed (return e next) behind rows = then_with-then_run (value_of e rows) (λ (v : ℤ). returned v rows) (course_of behind)
 run-followed (when e body next) behind rows =
     chosen-followed (value_of e rows) (course_of body rows) (ended rows) (course_of next) (course_of behind) (course_of (followed next behind)) (λ now. run-followed next behind now)

@@ -7,7 +7,7 @@ use Rattle.std.proofs.lemmas.Bool.{lt-ltb}
 use Rattle.pv_model.specs.Syntax.{Op, Expr, Program}
 use Rattle.pv_model.specs.Syntax.Op.{sub, lesser, larger}
 use Rattle.pv_model.specs.Tokens.{Token}
-use Rattle.pv_model.specs.Grammar.{Nested, Chain, disjunction, conjunction, sum, product, Phrase, chain, negated, comparison, unary, joins, compares, is_min_or_max, side, Reads, chained, not, not_negated, compared, not_compared, negative, numeral, named, in_brackets, of_two, GoesOn, no_more, one_more, ReadsProgram, assigns, requires, returns, asks, asks_else, ReadsNext, last, next}
+use Rattle.pv_model.specs.Grammar.{Nested, Chain, disjunction, conjunction, sum, product, Phrase, chain, negated, comparison, unary, joins, compares, is_min_or_max, side, Reads, chained, not, not_negated, compared, not_compared, negative, numeral, named, in_brackets, of_two, GoesOn, no_more, one_more, ReadsProgram, assigns, requires, requires_certain, returns, asks, asks_else, ReadsNext, last, next}
 use Rattle.pv_law_programs.specs.Prediction.{Punctuation, Symbol, Expected, is_optional, may_end, after_symbol, step, at_start}
 use Rattle.pv_base.proofs.Basics.{never}
 use Rattle.pv_law_programs.proofs.GrammarLemmas.{stops_at, joined_stops_side, joined_is_no_stop, compared_stops_sum, compared_is_no_stop, stop_of_side, stop_of_sum}
@@ -51,6 +51,11 @@ negated_begins : (d : ℕ) (k : List Expected) → TakesAlike ((d, Symbol.phrase
 unfolding step
 negated_begins d k Token.negates n more e = absurd (none-some (n, more) e)
 negated_begins d k t n more e = e
+
+requirement_begins : (d : ℕ) (k : List Expected) → TakesAlike ((d, Symbol.phrase (chain disjunction)) ∷ k) ((d, Symbol.requirement) ∷ k)
+unfolding step
+requirement_begins d k Token.certain n more e = absurd (none-some (n, more) e)
+requirement_begins d k t n more e = e
 
 -- ---- walks that begin with a token
 
@@ -213,7 +218,12 @@ module _ (item_of : List ℕ → Option ℕ) where
     walk_program (requires d ts mid behind e nx x y) k =
         let v = walk_expr x ((d, Symbol.next) ∷ k) in
         let z = walk_next y k v.0 (v.1.0.0, λ t h. v.1.0.1 t (stops-expr t h)) in
-        (z.0, (z.1.0, moves (takes d Symbol.program k Token.requires _ refl) (both (walked v.1.1) z.1.1)))
+        (z.0, (z.1.0, moves (takes d Symbol.program k Token.requires _ refl) (both (walked (alike (requirement_begins d ((d, Symbol.next) ∷ k)) v.1.1)) z.1.1)))
+    walk_program (requires_certain word n d mid behind nx i y) k =
+        let z = walk_next y k ((d, Symbol.next) ∷ k) (refl, λ t h. refl) in
+        let certain_e = takes d Symbol.requirement ((d, Symbol.next) ∷ k) Token.certain _ refl in
+        let name_e = takes d Symbol.item_name ((d, Symbol.next) ∷ k) (Token.name word) _ refl in
+        (z.0, (z.1.0, moves (takes d Symbol.program k Token.requires _ refl) (walks certain_e (walks name_e z.1.1))))
     walk_program (returns d ts mid behind e nx x y) k =
         let v = walk_expr x ((d, Symbol.next) ∷ k) in
         let z = walk_next y k v.0 (v.1.0.0, λ t h. v.1.0.1 t (stops-expr t h)) in

@@ -28,13 +28,16 @@ is_punctuation comma Token.parts = true
 is_punctuation _ _ = false
 
 -- What may be expected: a phrase of an expression; more sides of a chain, or none; an operator that compares and a sum, or none;
--- punctuation; a program; `;` and more of a program, or none; `else` and its program, or none.
+-- punctuation; a program; what is required, a test or that an item be certain; the name of an item; `;` and more of a program, or none; `else` and
+-- its program, or none.
 pub data Symbol : Type 0 where
   phrase : Phrase → Symbol
   more : Chain → Symbol
   comparing : Symbol
   punctuation : Punctuation → Symbol
   program : Symbol
+  requirement : Symbol
+  item_name : Symbol
   next : Symbol
   other : Symbol
 
@@ -90,11 +93,21 @@ after_phrase (chain disjunction) d t expected = after_negated d t ((d, more conj
 -- what is expected after a token that begins a statement
 abbrev pub after_program : ℕ → Token → List Expected → Option (List Expected)
 after_program d (Token.name word) expected = Some ((d, punctuation becomes) ∷ (d, phrase (chain disjunction)) ∷ (d, next) ∷ expected)
-after_program d Token.requires expected = Some ((d, phrase (chain disjunction)) ∷ (d, next) ∷ expected)
+after_program d Token.requires expected = Some ((d, requirement) ∷ (d, next) ∷ expected)
 after_program d Token.returns expected = Some ((d, phrase (chain disjunction)) ∷ (d, next) ∷ expected)
 after_program d Token.asks expected =
     Some ((d, phrase (chain disjunction)) ∷ (d, punctuation opens_body) ∷ (suc d, program) ∷ (d, punctuation closes_body) ∷ (d, other) ∷ (d, next) ∷ expected)
 after_program d _ expected = None
+
+-- what is expected after a token that begins what is required
+abbrev pub after_required : ℕ → Token → List Expected → Option (List Expected)
+after_required d Token.certain expected = Some ((d, item_name) ∷ expected)
+after_required d t expected = after_phrase (chain disjunction) d t expected
+
+-- what is expected after the name of an item
+abbrev pub after_name : Token → List Expected → Option (List Expected)
+after_name (Token.name word) expected = Some expected
+after_name _ expected = None
 
 -- What is expected after a token that goes on with what may be left out, or begins what must come; nothing where the token does neither.
 abbrev pub after_symbol : Symbol → ℕ → Token → List Expected → Option (List Expected)
@@ -103,6 +116,8 @@ after_symbol (more c) d (Token.operator op) expected = if joins c op then Some (
 after_symbol comparing d (Token.operator op) expected = if compares op then Some ((d, phrase (chain sum)) ∷ expected) else None
 after_symbol (punctuation m) d t expected = if is_punctuation m t then Some expected else None
 after_symbol program d t expected = after_program d t expected
+after_symbol requirement d t expected = after_required d t expected
+after_symbol item_name d t expected = after_name t expected
 after_symbol next d Token.then_next expected = Some ((d, program) ∷ expected)
 after_symbol other d Token.otherwise expected = Some ((d, punctuation opens_body) ∷ (suc d, program) ∷ (d, punctuation closes_body) ∷ expected)
 after_symbol _ d t expected = None

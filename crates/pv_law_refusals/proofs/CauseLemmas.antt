@@ -19,13 +19,14 @@ use Rattle.pv_law_acts.proofs.ListLemmas.{any-listed, listed-any, all-listed, li
 use Rattle.pv_law_acts.proofs.MemoryLemmas.{entry-txn}
 use Rattle.pv_law_acts.proofs.PassedLemmas.{taken-either}
 use Rattle.pv_law_acts.specs.Seen.{records_at, memory_at, Sent}
-use Rattle.pv_law_answers.proofs.RefusalNotes.{Refuses, by_width, by_denial, by_room, by_vote, by_time}
+use Rattle.pv_law_answers.proofs.RefusalNotes.{Refuses, by_width, by_doubt, by_denial, by_room, by_vote, by_time}
 use Rattle.pv_law_answers.proofs.Origin.{Gives, request, delivery, time}
 use Rattle.pv_law_refusals.specs.Histories.{MessagesCameOf}
 use Rattle.pv_law_refusals.specs.Waits.{EntriesHaveAge}
 use Rattle.pv_law_canonical.proofs.FilterLemmas.{kept-listed}
 use Rattle.pv_law_events.proofs.FoundLemmas.{listed-found, locking-found, voting-found}
 use Rattle.pv_law_programs.proofs.PlanLemmas.{Ascends, sites-ascend, sites-have, sites-known}
+use Rattle.pv_law_refusals.proofs.DoubtCauses.{least-doubt}
 use Rattle.pv_law_refusals.proofs.WidthNames.{names-together}
 use Rattle.pv_law_step.specs.GrantCases.{IsLastGrant}
 use Rattle.pv_law_step.specs.VoteCases.{IsVote}
@@ -35,10 +36,10 @@ use Rattle.pv_model.specs.Check.{IsAt}
 use Rattle.pv_model.specs.Events.{Event}
 use Rattle.pv_model.specs.Plan.{participants_of}
 use Rattle.pv_model.specs.Syntax.{Program}
-use Rattle.pv_protocol.specs.Causes.{HasCause, IsTooWide, HasNoRoom}
+use Rattle.pv_protocol.specs.Causes.{HasCause, IsInDoubt, IsTooWide, IsUncertain, HasNoRoom, TakesLast}
 use Rattle.pv_protocol.specs.Committed.{home_of, entry_in, entry_of}
-use Rattle.pv_protocol.specs.Coordinate.{names_taken, has_taken}
-use Rattle.pv_protocol.specs.Granted.{taking}
+use Rattle.pv_protocol.specs.Coordinate.{names_taken, has_taken, doubts}
+use Rattle.pv_protocol.specs.Granted.{taking, first_uncertain}
 use Rattle.pv_protocol.specs.Here.{Here, length_with, is_full}
 use Rattle.pv_protocol.specs.Keyed.{of_txn}
 use Rattle.pv_protocol.specs.Places.{Takes}
@@ -48,7 +49,7 @@ use Rattle.pv_protocol.specs.State.{Setup, Stage, locking, voting, Taken, Entry,
 use Rattle.pv_protocol.specs.Tick.{older_entries, expired_entries, has_answered, awaited}
 use Rattle.pv_protocol.specs.Vote.{cause_of}
 use Rattle.pv_protocol.specs.Waiting.{IsParticipant, HasAnswered, IsAwaited, IsLastTick}
-use Rattle.pv_protocol.specs.World.{World, opening}
+use Rattle.pv_protocol.specs.World.{World, opening, site_at}
 use Rattle.pv_protocol.specs.WorldStep.{Transition}
 
 -- What an event gives.
@@ -195,10 +196,9 @@ module _ (setup : Setup) (earlier : List Transition) (transition : Transition) (
     sent-of from asked message same delivered =
         subst (λ t. Sent world from n (message t)) same (there-sent world delivered.number (record { from = from; to = n; message = message asked }) delivered.sent)
 
-    too-wide : (from : ℕ) (asked : TxnId) (grant : GrantId) (values : List Read) (entry : Entry) → IsLastGrant here from asked grant values entry → entry.txn ≡ txn
-        → nat_lt setup.read_names (length (names_taken (taking entry from grant values))) ≡ true → IsDelivered world transition.event n from (granted asked grant values)
-        → IsTooWide setup world transition txn (length (names_taken (taking entry from grant values)))
-    too-wide from asked grant values entry last own wide delivered =
+    takes-last : (from : ℕ) (asked : TxnId) (grant : GrantId) (values : List Read) (entry : Entry) → IsLastGrant here from asked grant values entry → entry.txn ≡ txn
+        → IsDelivered world transition.event n from (granted asked grant values) → TakesLast setup world transition txn
+    takes-last from asked grant values entry last own delivered =
         let found = locking-found running (ordered n running up) asked entry last.taken.found in
         record {
           from = from;
@@ -217,10 +217,34 @@ module _ (setup : Setup) (earlier : List Transition) (transition : Transition) (
               (λ old. inr (subst (Contains (map (λ (t : Taken). t.site) entry.taken)) same (Contains-map (λ (t : Taken). t.site) entry.taken taken.0 old)))
               (λ new. inl (sym same ∙ sym (ap (λ (t : Taken). t.site) new)))
               (taken-either (record { site = from; grant = grant; values = values }) entry.taken taken.0 taken.1.0);
-          txns = names_taken (taking entry from grant values);
-          are = names-together entry from grant values;
-          number = refl;
-          above = ltb-true setup.read_names (length (names_taken (taking entry from grant values))) wide;
+        }
+
+    too-wide : (from : ℕ) (asked : TxnId) (grant : GrantId) (values : List Read) (entry : Entry) → IsLastGrant here from asked grant values entry → entry.txn ≡ txn
+        → nat_lt setup.read_names (length (names_taken (taking entry from grant values))) ≡ true → IsDelivered world transition.event n from (granted asked grant values)
+        → IsTooWide setup world transition txn (length (names_taken (taking entry from grant values)))
+    unfolding takes-last
+    too-wide from asked grant values entry last own wide delivered = record {
+      last = takes-last from asked grant values entry last own delivered;
+      txns = names_taken (taking entry from grant values);
+      are = names-together entry from grant values;
+      number = refl;
+      above = ltb-true setup.read_names (length (names_taken (taking entry from grant values))) wide;
+    }
+
+    uncertain-there : (from : ℕ) (asked : TxnId) (grant : GrantId) (values : List Read) (entry : Entry) (item : ℕ) → IsLastGrant here from asked grant values entry
+        → entry.txn ≡ txn → first_uncertain here (taking entry from grant values) ≡ Some item → IsDelivered world transition.event n from (granted asked grant values)
+        → IsUncertain setup world transition txn item (doubts here.records (taking entry from grant values) item)
+    unfolding takes-last
+    uncertain-there from asked grant values entry item last own doubt delivered =
+        let least = least-doubt (records_at world n) (taking entry from grant values) setup.catalog.items item doubt in
+        let count : ℕ = doubts (records_at world n) (taking entry from grant values) item in
+        let there : (other more : ℕ) → IsInDoubt (site_at world (home_of txn)).records (taking entry from grant values) other more
+            → IsInDoubt (records_at world n) (taking entry from grant values) other more =
+        λ other more. subst (λ m. IsInDoubt (site_at world m).records (taking entry from grant values) other more) own_home in
+        record {
+          last = takes-last from asked grant values entry last own delivered;
+          doubt = subst (λ m. IsInDoubt (site_at world m).records (taking entry from grant values) item count) (sym own_home) least.0;
+          least = λ other more doubted. least.1 other more (there other more doubted);
         }
 
     no-room : (from : ℕ) (asked : TxnId) (entry : Entry) → IsVote here from asked entry → entry.txn ≡ txn → is_full here (outcome_known entry.txn true) ≡ true
@@ -265,6 +289,8 @@ module _ (setup : Setup) (earlier : List Transition) (transition : Transition) (
     pub cause-by : (input : Input) (cause : Cause) → Refuses here txn input cause → ((from : ℕ) (message : Message) → input ≡ receive from message → IsDelivered world transition.event n from message)
         → (input ≡ tick → transition.event ≡ Event.tick n) → HasCause setup (opening setup) earlier transition txn cause
     cause-by _ _ (by_width from asked grant values entry last own wide is) delivered ticks = too-wide from asked grant values entry last own wide (delivered from (granted asked grant values) refl)
+    cause-by _ _ (by_doubt from asked grant values entry item last own doubt is) delivered ticks =
+        uncertain-there from asked grant values entry item last own doubt (delivered from (granted asked grant values) refl)
     cause-by _ _ (by_denial from asked item holder entry found own heard is) delivered ticks =
         let same = entry-txn running asked entry (locking-found running (ordered n running up) asked entry found).0 ∙ own in
         messages from n (denied txn item holder) (sent-of from asked (λ t. denied t item holder) same (delivered from (denied asked item holder) refl))

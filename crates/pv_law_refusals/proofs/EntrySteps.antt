@@ -270,7 +270,8 @@ module _ (setup : Setup) (w : World) (n : ℕ) (running : Running) (ready : IsRe
       next-of (receive from (granted asked grant values)) asked entry (taking entry from grant values) refl both.0 refl refl refl
       (lacks-grant (taking entry from grant values) both.1 some) found
   granted-entry from asked grant values step (of_grants.too_wide entry last h) found = left _ entry.txn refl found
-  granted-entry from asked grant values step (of_grants.reaches_lock_point entry last h) found =
+  granted-entry from asked grant values step (of_grants.in_doubt entry least last h doubt) found = left _ entry.txn refl found
+  granted-entry from asked grant values step (of_grants.reaches_lock_point entry last h certain) found =
       let both = locking-found running ready.ordered asked entry last.taken.found in
       let next : Entry = record (taking entry from grant values) { stage = voting; age = 0 } in
       ⊎_elim

@@ -1,5 +1,6 @@
 pub mod CauseLemmas
 pub mod Chains
+pub mod DoubtCauses
 pub mod EntrySteps
 pub mod JoinLemmas
 pub mod MessageHistories

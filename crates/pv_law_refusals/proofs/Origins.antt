@@ -114,7 +114,8 @@ module _ (here : Here) (order : IsInOrder here.running) (input : Input) where
   granted-origins from txn grant values step (of_grants.ignored entry h i) = no-origins
   granted-origins from txn grant values step (of_grants.waits entry h i) = no-origins
   granted-origins from txn grant values step (of_grants.too_wide entry h i) = outcome-origins entry.txn false (participants here entry)
-  granted-origins from txn grant values step (of_grants.reaches_lock_point entry h i) = vote-origins (taking entry from grant values)
+  granted-origins from txn grant values step (of_grants.in_doubt entry least h i doubt) = outcome-origins entry.txn false (participants here entry)
+  granted-origins from txn grant values step (of_grants.reaches_lock_point entry h i certain) = vote-origins (taking entry from grant values)
 
   denied-origins : (from : ℕ) (txn : TxnId) (item : ℕ) (holder : TxnId) (step : Step) → of_grants.DeniedCase here from txn item holder step → Origins step.sends
   denied-origins from txn item holder step (of_grants.no_entry h) = no-origins

@@ -6,7 +6,7 @@ use Rattle.std.proofs.lemmas.Bool.{eqb-true, false≢true, or_cases}
 use Rattle.std.proofs.lemmas.List.Elements.{All-cons, All-nil}
 use Rattle.pv_base.proofs.ContainsLemmas.{Contains-first, Contains-nil}
 use Rattle.pv_base.specs.Catalog.{Declared}
-use Rattle.pv_law_refusals.specs.Refused.{contested, read_only, unanswered, forgotten, raise_b}
+use Rattle.pv_law_refusals.specs.Refused.{contested, read_certain, read_only, unanswered, forgotten, raise_b}
 use Rattle.pv_law_events.proofs.PremiseLemmas.{transferring, can-run}
 use Rattle.pv_law_step.proofs.WantRanges.{ascend-nil, ascend-cons}
 use Rattle.pv_law_step.specs.Examples.{bank}
@@ -62,6 +62,9 @@ raise = one-item (changed Op.plus 1 1 Program.end) 1 one-below refl (assign-one 
 query : CanRun bank.catalog (Program.return (Expr.item 1) Program.end)
 query = one-item (Program.return (Expr.item 1) Program.end) 1 one-below refl (read-one 1) refl
 
+certainty : CanRun bank.catalog (Program.certain 1 Program.end)
+certainty = one-item (Program.certain 1 Program.end) 1 one-below refl (read-one 1) refl
+
 transfers : CanRun bank.catalog transferring
 transfers = record { runnable = can-run.runnable; numbers = can-run.numbers }
 
@@ -79,6 +82,9 @@ contested-fine = each-fine bank.catalog contested ((zero-below, one-more), ((zer
 
 pub read-fine : All (IsWellFormed bank.catalog) read_only
 read-fine = each-fine bank.catalog read_only ((zero-below, transfers), (tt, (one-below, (one-below, (one-below, ((one-below, query), (tt, (tt, tt))))))))
+
+pub certain-fine : All (IsWellFormed bank.catalog) read_certain
+certain-fine = each-fine bank.catalog read_certain ((zero-below, transfers), (tt, (one-below, (one-below, (one-below, ((one-below, certainty), (tt, (tt, tt))))))))
 
 pub unanswered-fine : All (IsWellFormed bank.catalog) unanswered
 unanswered-fine = each-fine bank.catalog unanswered ((zero-below, transfers), (one-below, (tt, (zero-below, (zero-below, (zero-below, tt))))))

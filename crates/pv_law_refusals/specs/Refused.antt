@@ -39,6 +39,10 @@ contested = one_more ∷ two_more ∷ pump_all ∷ []
 abbrev pub read_only : List Event
 read_only = doubted ++ read_b ∷ deliver 9 ∷ deliver 10 ∷ []
 
+-- Site 1 is asked for `require certain b`.
+abbrev pub read_certain : List Event
+read_certain = doubted ++ submit 1 false (codes "require certain b") (Program.certain 1 Program.end) ∷ deliver 9 ∷ deliver 10 ∷ []
+
 -- The request for locks at site 1 is lost.
 abbrev pub unanswered : List Event
 unanswered = transfer ∷ drop 1 ∷ pump_all ∷ three_ticks 0

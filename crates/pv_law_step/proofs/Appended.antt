@@ -68,7 +68,8 @@ module _ (here : Here) where
   granted-steady from txn grant values step (of_grants.ignored entry h i) = still here step refl refl (omega arith) (omega arith)
   granted-steady from txn grant values step (of_grants.waits entry h i) = still here step refl refl (omega arith) (omega arith)
   granted-steady from txn grant values step (of_grants.too_wide entry h i) = still here step refl refl (omega arith) (omega arith)
-  granted-steady from txn grant values step (of_grants.reaches_lock_point entry h i) = still here step refl refl (omega arith) (omega arith)
+  granted-steady from txn grant values step (of_grants.in_doubt entry least h i doubt) = still here step refl refl (omega arith) (omega arith)
+  granted-steady from txn grant values step (of_grants.reaches_lock_point entry h i certain) = still here step refl refl (omega arith) (omega arith)
 
   denied-steady : (from : ℕ) (txn : TxnId) (item : ℕ) (holder : TxnId) (step : Step) → of_grants.DeniedCase here from txn item holder step → IsSteady here step
   denied-steady from txn item holder step (of_grants.no_entry h) = still here step refl refl (omega arith) (omega arith)

@@ -13,7 +13,7 @@ use Rattle.pv_law_step.proofs.StepCases.{if_case}
 use Rattle.pv_base.proofs.ContainsLemmas.{Contains-first, Contains-behind, Contains-nil, Contains-cases}
 use Rattle.pv_base.specs.declared.reply.Decline.{Decline}
 use Rattle.pv_model.specs.Meaning.{Row, Course, ended, returned, refused, fits_i64, within, truth, holds, computed, with_value, with_left, value_in, with_row, value_of, then_with, then_run, course_of, effect_of, exec}
-use Rattle.pv_model.specs.Syntax.{Op, or, and, equal, unequal, less, at_most, greater, at_least, plus, sub, times, over, rest, lesser, larger, Expr, number, item, minus, negation, two, Program, end, assign, require, return, when, when_else}
+use Rattle.pv_model.specs.Syntax.{Op, or, and, equal, unequal, less, at_most, greater, at_least, plus, sub, times, over, rest, lesser, larger, Expr, number, item, minus, negation, two, Program, end, assign, require, certain, return, when, when_else}
 use Rattle.pv_protocol.specs.WellFormed.{is_of_small_numbers, has_small_numbers}
 
 abbrev pub Fits : ℤ → Type 0
@@ -147,6 +147,7 @@ course-fits (require e next) rows small fit =
     let parts = and_parts (is_of_small_numbers e) (has_small_numbers next) small in
     then-with-fits (value_of e rows) _ (expression-fits e rows parts.0 fit)
     (λ v h. if_case CourseFits (holds v) (λ met. course-fits next rows parts.1 fit) (λ unmet_now. tt))
+course-fits (certain n next) rows small fit = course-fits next rows small fit
 course-fits (return e next) rows small fit =
     let parts = and_parts (is_of_small_numbers e) (has_small_numbers next) small in
     then-with-fits (value_of e rows) _ (expression-fits e rows parts.0 fit) (λ v h. fit)

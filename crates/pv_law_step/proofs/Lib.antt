@@ -1,6 +1,7 @@
 pub mod Appended
 pub mod ComputedLemmas
 pub mod ConflictLemmas
+pub mod DoubtLemmas
 pub mod EpochLemmas
 pub mod FitLemmas
 pub mod HomeLemmas

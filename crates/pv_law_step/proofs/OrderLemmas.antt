@@ -89,7 +89,8 @@ module _ (here : Here) (order : IsInOrder here.running) where
   granted-order from txn grant values step (of_grants.ignored entry h i) = order
   granted-order from txn grant values step (of_grants.waits entry h i) = record { grants = order.grants; entries = put-entry _ here.running.entries order.entries }
   granted-order from txn grant values step (of_grants.too_wide entry h i) = record { grants = order.grants; entries = drop-entry _ here.running.entries order.entries }
-  granted-order from txn grant values step (of_grants.reaches_lock_point entry h i) = record { grants = order.grants; entries = put-entry _ here.running.entries order.entries }
+  granted-order from txn grant values step (of_grants.in_doubt entry least h i doubt) = record { grants = order.grants; entries = drop-entry _ here.running.entries order.entries }
+  granted-order from txn grant values step (of_grants.reaches_lock_point entry h i certain) = record { grants = order.grants; entries = put-entry _ here.running.entries order.entries }
 
   denied-order : (from : ℕ) (txn : TxnId) (item : ℕ) (holder : TxnId) (step : Step) → of_grants.DeniedCase here from txn item holder step → IsInOrder step.running
   denied-order from txn item holder step (of_grants.no_entry h) = order

@@ -267,7 +267,9 @@ module _ (sites : ℕ) (here : Here) (sound : IsHereInRange sites here) where
       (with-entry-safe sites here.setup.catalog here.me here.running sound.running (taking entry from grant values) (taking-safe entry from grant values (locking-safe txn entry taken.found) is are))
   granted-safe from txn grant values is are step (of_grants.too_wide entry last i) =
       refusing-safe (taking entry from grant values) _ (taking-safe entry from grant values (locking-safe txn entry last.taken.found) is are)
-  granted-safe from txn grant values is are step (of_grants.reaches_lock_point entry last few) =
+  granted-safe from txn grant values is are step (of_grants.in_doubt entry least last i doubt) =
+      refusing-safe (taking entry from grant values) _ (taking-safe entry from grant values (locking-safe txn entry last.taken.found) is are)
+  granted-safe from txn grant values is are step (of_grants.reaches_lock_point entry last few certain) =
       lock-point-safe (taking entry from grant values) (taking-safe entry from grant values (locking-safe txn entry last.taken.found) is are)
       (omega (arith, ltb-false here.setup.read_names (length (names_taken (taking entry from grant values))) few, sound.setup.apart, sound.setup.held))
 

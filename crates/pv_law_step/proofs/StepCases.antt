@@ -1,6 +1,6 @@
 -- Each step is one of its cases.
 use Rattle.std.proofs.Common.{◌≡◌, ℕ, Bool, true, false, Some, None, Option, List, refl, sym, ◌∙◌}
-use Rattle.std.specs.Prelude.{◌≢◌, ◌||◌, ◌==◌, not, if◌then◌else◌}
+use Rattle.std.specs.Prelude.{◌≢◌, ◌||◌, ◌==◌, length, nat_lt, not, if◌then◌else◌}
 use Rattle.std.proofs.lemmas.Option.{none-some}
 use Rattle.pv_base.specs.declared.grant.GrantId.{GrantId}
 use Rattle.pv_base.specs.declared.limits.TheConstants.{NEVER_GIVEN}
@@ -18,8 +18,8 @@ use Rattle.pv_law_step.specs.OutcomeCases as of_outcomes
 use Rattle.pv_law_step.specs.OutcomeCases.{OutcomeCase, AskCase}
 use Rattle.pv_law_step.specs.VoteCases as of_votes
 use Rattle.pv_law_step.specs.VoteCases.{PrepareCase, YesCase, NoCase, voted}
-use Rattle.pv_protocol.specs.Coordinate.{locking_entry, voting_entry}
-use Rattle.pv_protocol.specs.Granted.{on_granted, at_granted, on_denied, at_denied}
+use Rattle.pv_protocol.specs.Coordinate.{locking_entry, names_taken, voting_entry}
+use Rattle.pv_protocol.specs.Granted.{taking, first_uncertain, if_certain, on_granted, at_granted, on_denied, at_denied}
 use Rattle.pv_protocol.specs.Here.{Here, remembering, nothing, noting, grant_of, without_grant, length_with, is_full}
 use Rattle.pv_protocol.specs.Lock.{on_submit, on_lock, at_standing, at_conflict, Conflict, first_conflict, is_lock_ignored}
 use Rattle.pv_protocol.specs.Outcome.{on_outcome, is_needed, learning, is_issued, on_ask, at_known}
@@ -66,6 +66,13 @@ module _ (here : Here) (from : ℕ) (txn : TxnId) (wants : List Want) where
 -- Answers to locks.
 
 module _ (here : Here) (from : ℕ) (txn : TxnId) (grant : GrantId) (values : List Read) where
+  certain-case : (entry : Entry) → of_grants.IsLastGrant here from txn grant values entry
+      → nat_lt here.setup.read_names (length (names_taken (taking entry from grant values))) ≡ false
+      → (item : Option ℕ) → first_uncertain here (taking entry from grant values) ≡ item
+      → GrantedCase here from txn grant values (if_certain here (taking entry from grant values) item)
+  certain-case entry last few None is = of_grants.reaches_lock_point entry last few is
+  certain-case entry last few (Some item) is = of_grants.in_doubt entry item last few is
+
   entry-case : (entry : Option Entry) → locking_entry here.running txn ≡ entry → GrantedCase here from txn grant values (at_granted here from grant values entry)
   entry-case None is = of_grants.no_entry is
   entry-case (Some entry) is =
@@ -73,7 +80,8 @@ module _ (here : Here) (from : ℕ) (txn : TxnId) (grant : GrantId) (values : Li
       (λ heard. let taken : of_grants.IsTaken here from txn values entry = record { found = is; heard = heard } in
       unless_case (GrantedCase here from txn grant values) _ (of_grants.waits entry taken)
       (λ whole. let last : of_grants.IsLastGrant here from txn grant values entry = record { taken = taken; whole = whole } in
-      if_case (GrantedCase here from txn grant values) _ (of_grants.too_wide entry last) (of_grants.reaches_lock_point entry last)))
+      if_case (GrantedCase here from txn grant values) _ (of_grants.too_wide entry last)
+      (λ few. certain-case entry last few (first_uncertain here (taking entry from grant values)) refl)))
 
   pub granted-case : GrantedCase here from txn grant values (on_granted here from txn grant values)
   unfolding on_granted

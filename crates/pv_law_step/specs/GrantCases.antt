@@ -3,10 +3,10 @@ use Rattle.std.specs.Prelude.{◌≡◌, ℕ, ◌||◌, not, nat_lt, length, tru
 use Rattle.pv_base.specs.declared.grant.GrantId.{GrantId}
 use Rattle.pv_base.specs.declared.txn.TxnId.{TxnId}
 use Rattle.pv_model.specs.Alternatives.{Read}
-use Rattle.pv_protocol.specs.Coordinate.{locking_entry, has_all_grants, names_taken}
-use Rattle.pv_protocol.specs.Granted.{asked_of, is_unawaited, is_grant_ignored, taking, at_lock_point, is_wanted}
+use Rattle.pv_protocol.specs.Coordinate.{locking_entry, has_all_grants, names_taken, doubts}
+use Rattle.pv_protocol.specs.Granted.{asked_of, is_unawaited, is_grant_ignored, taking, at_lock_point, first_uncertain, is_wanted}
 use Rattle.pv_protocol.specs.Here.{Here, remembering, nothing, with_entry, refusing}
-use Rattle.pv_protocol.specs.State.{Entry, conflict, outcome_limit, Step}
+use Rattle.pv_protocol.specs.State.{Entry, conflict, outcome_limit, uncertain, Step}
 
 -- The coordinator has this entry, and takes this grant.
 pub record IsTaken (here : Here) (from : ℕ) (txn : TxnId) (values : List Read) (entry : Entry) : Type 0 where
@@ -29,8 +29,14 @@ pub data GrantedCase (here : Here) (from : ℕ) (txn : TxnId) (grant : GrantId) 
       → nat_lt here.setup.read_names (length (names_taken (taking entry from grant values))) ≡ true
       → GrantedCase here from txn grant values
       (refusing here (taking entry from grant values) (outcome_limit (length (names_taken (taking entry from grant values)))))
+  in_doubt : (entry : Entry) (item : ℕ) → IsLastGrant here from txn grant values entry
+      → nat_lt here.setup.read_names (length (names_taken (taking entry from grant values))) ≡ false
+      → first_uncertain here (taking entry from grant values) ≡ Some item
+      → GrantedCase here from txn grant values
+      (refusing here (taking entry from grant values) (uncertain item (doubts here.records (taking entry from grant values) item)))
   reaches_lock_point : (entry : Entry) → IsLastGrant here from txn grant values entry
       → nat_lt here.setup.read_names (length (names_taken (taking entry from grant values))) ≡ false
+      → first_uncertain here (taking entry from grant values) ≡ None
       → GrantedCase here from txn grant values (at_lock_point here (taking entry from grant values))
 
 -- The cases of a denied message.

@@ -8,7 +8,7 @@ use Rattle.pv_base.specs.Name.{is_blank}
 use Rattle.pv_base.proofs.Basics.{and-left, and-right, heads}
 use Rattle.pv_law_programs.proofs.TokenLemmas.{one_token_list}
 use Rattle.pv_model.specs.FirstMisplaced.{without_numbers}
-use Rattle.pv_model.specs.Grammar.{Nested, ReadsProgram, assigns, requires, returns, asks, asks_else}
+use Rattle.pv_model.specs.Grammar.{Nested, ReadsProgram, assigns, requires, requires_certain, returns, asks, asks_else}
 use Rattle.pv_model.specs.LineCauses.{Before}
 use Rattle.pv_model.specs.LineForms.{Script, live, most_bytes, after_blanks, after_word, before_blanks, program_text, takes_program, text_alone, arguments}
 use Rattle.pv_model.specs.ProgramText.{IsProgramText, item_in, without_nestings}
@@ -92,6 +92,7 @@ starts-or (b ∷ bs) = starts-by b bs (is_blank b) refl (starts-or bs)
 some-tokens : (item_of : List ℕ → Option ℕ) (d : ℕ) (ts after : List Nested) (p : Program) → ReadsProgram item_of d ts after p → ts ≡ [] → ⊥
 some-tokens item_of d ts after p (assigns word n d2 ts2 mid behind e next at value more) none = cc
 some-tokens item_of d ts after p (requires d2 ts2 mid behind e next value more) none = cc
+some-tokens item_of d ts after p (requires_certain word n d2 mid behind next known more) none = cc
 some-tokens item_of d ts after p (returns d2 ts2 mid behind e next value more) none = cc
 some-tokens item_of d ts after p (asks d2 ts2 inside mid behind test body next value inner more) none = cc
 some-tokens item_of d ts after p (asks_else d2 ts2 inside second mid behind test body other next value inner outer more) none = cc

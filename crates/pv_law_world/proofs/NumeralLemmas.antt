@@ -4,7 +4,7 @@ use Rattle.std.specs.Prelude.{IsTrue}
 use Rattle.std.specs.Cmp.Derive.{both_true}
 use Rattle.std.proofs.lemmas.Bool.{lt-ltb}
 use Rattle.pv_base.specs.Catalog.{Declared}
-use Rattle.pv_model.specs.Grammar.{Nested, Phrase, Chain, Reads, chained, not, not_negated, compared, not_compared, negative, numeral, named, in_brackets, of_two, GoesOn, no_more, one_more, ReadsProgram, assigns, requires, returns, asks, asks_else, ReadsNext, last, next}
+use Rattle.pv_model.specs.Grammar.{Nested, Phrase, Chain, Reads, chained, not, not_negated, compared, not_compared, negative, numeral, named, in_brackets, of_two, GoesOn, no_more, one_more, ReadsProgram, assigns, requires, requires_certain, returns, asks, asks_else, ReadsNext, last, next}
 use Rattle.pv_model.specs.ProgramText.{item_in, IsProgramText}
 use Rattle.pv_model.specs.Syntax.{Expr, Program}
 use Rattle.pv_protocol.specs.WellFormed.{is_of_small_numbers, has_small_numbers}
@@ -37,6 +37,7 @@ module _ (item_of : List ℕ → Option ℕ) where
     program-small : {d : ℕ} {ts after : List Nested} {p : Program} → ReadsProgram item_of d ts after p → AreSmall p
     program-small (assigns word m d ts mid after e rest at value more) = both_true (reads-small value) (next-small more)
     program-small (requires d ts mid after e rest test more) = both_true (reads-small test) (next-small more)
+    program-small (requires_certain word m d mid after rest at more) = next-small more
     program-small (returns d ts mid after e rest value more) = both_true (reads-small value) (next-small more)
     program-small (asks d ts inside mid after test body rest asked then more) =
         both_true (reads-small asked) (both_true (program-small then) (next-small more))

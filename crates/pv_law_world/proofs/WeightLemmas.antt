@@ -76,7 +76,8 @@ module _ (setup : Setup) (few : HasFewSites setup.catalog) (me : ℕ) (records :
   granted-light txn grant values (grants.ignored entry has ignored) = omega arith
   granted-light txn grant values (grants.waits entry taken more) = omega arith
   granted-light txn grant values (grants.too_wide entry last wide) = lt_of_le_of_lt (refusals-weight (taking entry from grant values) false) (omega arith)
-  granted-light txn grant values (grants.reaches_lock_point entry last narrow) = lt_of_le_of_lt (votes-weight (taking entry from grant values)) (omega arith)
+  granted-light txn grant values (grants.in_doubt entry least last wide doubt) = lt_of_le_of_lt (refusals-weight (taking entry from grant values) false) (omega arith)
+  granted-light txn grant values (grants.reaches_lock_point entry last narrow certain) = lt_of_le_of_lt (votes-weight (taking entry from grant values)) (omega arith)
 
   denied-light : (txn : TxnId) (item : ℕ) (holder : TxnId) {step : Step} → grants.DeniedCase here from txn item holder step → weight_sent step.sends < 4913
   denied-light txn item holder (grants.no_entry is) = omega arith

@@ -26,7 +26,8 @@ examples =
     ∷ record { line = Line.commit t (Nothing ∷ []); text = codes "commit 0.1.0 certain nothing" }
     ∷ record { line = Line.commit u (Value (negsuc 4) ∷ Declined ZeroDivisor ∷ Declined Overflow ∷ []); text = codes "commit 0.1.1 possible -5 declined-zero-divisor declined-overflow" }
     ∷ record { line = Line.refuse u (state.conflict 1 0 t); text = codes "refuse 0.1.1 conflict 1 a 0.1.0" }
-    ∷ record { line = Line.refuse t (state.outcome_limit 8); text = codes "refuse 0.1.0 outcome-limit 8" }
+    ∷ record { line = Line.refuse t (state.outcome_limit 12); text = codes "refuse 0.1.0 outcome-limit 12" }
+    ∷ record { line = Line.refuse t (state.uncertain 0 1); text = codes "refuse 0.1.0 uncertain a 1" }
     ∷ record { line = Line.refuse t (state.expired 1); text = codes "refuse 0.1.0 expired 1" }
     ∷ record { line = Line.refuse t (state.grant_lost 1); text = codes "refuse 0.1.0 grant-lost 1" }
     ∷ record { line = Line.refuse t (state.journal_full 0 66); text = codes "refuse 0.1.0 journal-full 0 66" }
@@ -60,5 +61,5 @@ examples =
     ∷ record { line = Line.total (pos 150 ∷ pos 160 ∷ []); text = codes "total possible 150 160" }
     ∷ record { line = Line.total_locked 1; text = codes "total locked b" }
     ∷ record { line = Line.total_down 1; text = codes "total down 1" }
-    ∷ record { line = Line.total_limit 9; text = codes "total outcome-limit 9" }
+    ∷ record { line = Line.total_limit 13; text = codes "total outcome-limit 13" }
     ∷ []

@@ -34,7 +34,8 @@ module _ (here : Here) where
   granted-none from txn grant values step (of_grants.ignored entry h i) = refl
   granted-none from txn grant values step (of_grants.waits entry h i) = refl
   granted-none from txn grant values step (of_grants.too_wide entry h i) = refl
-  granted-none from txn grant values step (of_grants.reaches_lock_point entry h i) = refl
+  granted-none from txn grant values step (of_grants.in_doubt entry least h i doubt) = refl
+  granted-none from txn grant values step (of_grants.reaches_lock_point entry h i certain) = refl
 
   denied-none : (from : ℕ) (txn : TxnId) (item : ℕ) (holder : TxnId) (step : Step) → of_grants.DeniedCase here from txn item holder step → step.appended ≡ None
   denied-none from txn item holder step (of_grants.no_entry h) = refl

@@ -39,7 +39,8 @@ module _ (here : Here) where
   granted-last from txn grant values step (of_grants.ignored entry h i) placed is = absurd (none-some _ is)
   granted-last from txn grant values step (of_grants.waits entry h i) placed is = absurd (none-some _ is)
   granted-last from txn grant values step (of_grants.too_wide entry h i) placed is = absurd (none-some _ is)
-  granted-last from txn grant values step (of_grants.reaches_lock_point entry last few) placed is =
+  granted-last from txn grant values step (of_grants.in_doubt entry least h i doubt) placed is = absurd (none-some _ is)
+  granted-last from txn grant values step (of_grants.reaches_lock_point entry last few certain) placed is =
       (entry, last, ap (λ (p : Placed). p.grants) (sym (Some_inj is)))
 
   denied-none : (from : ℕ) (txn : TxnId) (item : ℕ) (holder : TxnId) (step : Step) → of_grants.DeniedCase here from txn item holder step → step.placed ≡ None
