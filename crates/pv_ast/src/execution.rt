@@ -73,6 +73,7 @@ fn step(stmt: &Stmt, rows: &mut [Row]) -> Result<Option<i64>, Decline>
             }
             Ok(None)
         }
+        Stmt::Certain(_) => Ok(None),
         Stmt::Return(value) => Ok(Some(value_of(value, rows)?)),
         Stmt::If { test, body, other } => {
             if value_of(test, rows)? != 0 {

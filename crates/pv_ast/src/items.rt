@@ -1,5 +1,6 @@
-// Whether rows have each item of a program once, and which items the program assigns.
+// Whether rows have each item of a program once, which items the program assigns, and which it requires to be certain.
 ghost use Rattle.std.specs.Prelude.{◌≡◌, ◌&&◌, ◌||◌};
+ghost use Rattle.pv_model.specs.Check.{requires_certain};
 ghost use Rattle.pv_model.specs.Items.{has_items, has_all_items};
 ghost use Rattle.pv_model.specs.ProgramLaws.{assigns};
 ghost use Rattle.pv_model.specs.Syntax as model;
@@ -38,6 +39,20 @@ impl Program {
         }
         false
     }
+
+    /// Whether some statement of the program requires that the item be certain, also one that never runs. Takes time in proportion to
+    /// the program's statements, and recurses as deep as they nest.
+    #[cycle(requires_certain)]
+    pub fn requires_certain(&self, item: ItemId) -> bool
+        ensures { result ≡ requires_certain self.now item.0 }
+    {
+        for stmt in &self.stmts {
+            if stmt.requires_certain(item) {
+                return true;
+            }
+        }
+        false
+    }
 }
 
 impl Stmt {
@@ -48,6 +63,7 @@ impl Stmt {
         match self {
             Stmt::Assign { item, value } => has_once(rows, *item) && value.has_items(rows),
             Stmt::Require(test) => test.has_items(rows),
+            Stmt::Certain(item) => has_once(rows, *item),
             Stmt::Return(value) => value.has_items(rows),
             Stmt::If {
                 test,
@@ -69,6 +85,7 @@ impl Stmt {
         match self {
             Stmt::Assign { item: assigned, .. } => *assigned == item,
             Stmt::Require(_) => false,
+            Stmt::Certain(_) => false,
             Stmt::Return(_) => false,
             Stmt::If {
                 body,
@@ -80,6 +97,28 @@ impl Stmt {
                 other: Some(other),
                 ..
             } => body.assigns(item) || other.assigns(item),
+        }
+    }
+
+    #[cycle(requires_certain)]
+    fn requires_certain(&self, item: ItemId) -> bool
+        ensures { (next : model.Program) → requires_certain (followed_by self.now next) item.0 ≡ (result || requires_certain next item.0) }
+    {
+        match self {
+            Stmt::Assign { .. } => false,
+            Stmt::Require(_) => false,
+            Stmt::Certain(required) => *required == item,
+            Stmt::Return(_) => false,
+            Stmt::If {
+                body,
+                other: None,
+                ..
+            } => body.requires_certain(item),
+            Stmt::If {
+                body,
+                other: Some(other),
+                ..
+            } => body.requires_certain(item) || other.requires_certain(item),
         }
     }
 }

@@ -27,6 +27,8 @@ pub enum Stmt {
     },
     /// `require TEST`
     Require(Expr),
+    /// `require certain ITEM`. It does nothing when the program runs: whoever runs it has seen to it before.
+    Certain(ItemId),
     /// `return VALUE`
     Return(Expr),
     /// `if TEST { BODY } else { OTHER }`
@@ -85,6 +87,7 @@ impl Stmt {
                 value: value.copy(alloc)?,
             }),
             Stmt::Require(test) => Ok(Stmt::Require(test.copy(alloc)?)),
+            Stmt::Certain(item) => Ok(Stmt::Certain(*item)),
             Stmt::Return(value) => Ok(Stmt::Return(value.copy(alloc)?)),
             Stmt::If {
                 test,

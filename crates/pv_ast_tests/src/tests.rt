@@ -28,6 +28,12 @@ const WORKED: &[Worked] = &[
     (WITHDRAWAL, (100, 1), (90, 1), Reply::Value(90)),
     (WITHDRAWAL, (10, 1), (0, 1), Reply::Value(0)),
     (WITHDRAWAL, (5, 1), (5, 1), REQUIRE),
+    (
+        "require certain a ; a := 1 ; require certain b",
+        (3, 4),
+        (1, 4),
+        Reply::Nothing,
+    ),
     ("return 7 ; a := 1", (3, 4), (3, 4), Reply::Value(7)),
     ("a := 1 ; return 7", (3, 4), (1, 4), Reply::Value(7)),
     ("b := a", (3, 4), (3, 3), Reply::Nothing),

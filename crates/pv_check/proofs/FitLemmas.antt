@@ -22,7 +22,7 @@ use Rattle.pv_check.specs.declared.marks.Mark.{Mark}
 use Rattle.pv_law_programs.proofs.PlanLemmas.{at-some, sites-ascend, sites-have, sites-known, wants-each, wants-have}
 use Rattle.pv_model.specs.Check.{IsAt, Part, names_item, reads}
 use Rattle.pv_model.specs.Plan.{part_of, participants_of, plan_of, want_of, wants_from, wants_of}
-use Rattle.pv_model.specs.Syntax.{Expr, number, item, minus, negation, two, Program, end, assign, require, return, when, when_else}
+use Rattle.pv_model.specs.Syntax.{Expr, number, item, minus, negation, two, Program, end, assign, require, certain, return, when, when_else}
 
 or-left : (x y : Bool) → x ≡ true → (x || y) ≡ true
 or-left true y is = refl
@@ -67,6 +67,9 @@ names-known limit (assign m e next) below n is =
 names-known limit (require e next) below n is =
     let both = and_parts (reads_below limit e) (names_below limit next) below in
     ⊎_elim (reads-known limit e both.0 n) (names-known limit next both.1 n) (or-cases (reads e n) (names_item next n) is)
+names-known limit (certain m next) below n is =
+    let both = and_parts (nat_lt m limit) (names_below limit next) below in
+    ⊎_elim (λ here. omega (arith, ltb-true m limit both.0, eqb-true m n here)) (names-known limit next both.1 n) (or-cases (m == n) (names_item next n) is)
 names-known limit (return e next) below n is =
     let both = and_parts (reads_below limit e) (names_below limit next) below in
     ⊎_elim (reads-known limit e both.0 n) (names-known limit next both.1 n) (or-cases (reads e n) (names_item next n) is)
@@ -95,6 +98,9 @@ known-names limit (assign m e next) known =
 known-names limit (require e next) known =
     and_from _ _ (known-reads limit e (λ n is. known n (or-left (reads e n) (names_item next n) is)))
     (known-names limit next (λ n is. known n (or-right (reads e n) (names_item next n) is)))
+known-names limit (certain m next) known =
+    and_from _ _ (lt-ltb m limit (known m (or-left (m == m) (names_item next m) (eq-eqb m m refl))))
+    (known-names limit next (λ n is. known n (or-right (m == n) (names_item next n) is)))
 known-names limit (return e next) known =
     and_from _ _ (known-reads limit e (λ n is. known n (or-left (reads e n) (names_item next n) is)))
     (known-names limit next (λ n is. known n (or-right (reads e n) (names_item next n) is)))

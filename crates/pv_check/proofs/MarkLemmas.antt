@@ -4,7 +4,7 @@ use Rattle.std.specs.Prelude.{◌||◌, ◌==◌, IsTrue}
 use Rattle.std.proofs.lemmas.Bool.{cases_eq, cases_lt, eq-eqb, ne_eqb, false_from_ne_true}
 use Rattle.std.proofs.Math.Bool.{or_assoc, or_comm}
 use Rattle.std.proofs.lemmas.List.{length-set, length-replicate, length-take, get_or-set_same, get_or-set_other, get_or-replicate, get_or-take, get_or_past}
-use Rattle.pv_model.specs.Syntax.{Expr, number, item, minus, negation, two, Program, end, assign, require, return, when, when_else}
+use Rattle.pv_model.specs.Syntax.{Expr, number, item, minus, negation, two, Program, end, assign, require, certain, return, when, when_else}
 use Rattle.pv_model.specs.ProgramLaws.{assigns}
 use Rattle.pv_model.specs.Check.{reads, names_item}
 use Rattle.pv_check.specs.declared.marks.Mark.{Mark}
@@ -47,6 +47,7 @@ pub length-program : (program : Program) (marks : List Mark) → length (marks_a
 length-program end marks = refl
 length-program (assign m e next) marks = length-program next _ ∙ length-assigned e m marks
 length-program (require e next) marks = length-program next _ ∙ length-expr e marks
+length-program (certain m next) marks = length-program next _ ∙ length-expr (item m) marks
 length-program (return e next) marks = length-program next _ ∙ length-expr e marks
 length-program (when e body next) marks = length-program next _ ∙ length-program body _ ∙ length-expr e marks
 length-program (when_else e body other next) marks =
@@ -132,6 +133,9 @@ named-program (assign m e next) marks n within =
 named-program (require e next) marks n within =
     or-then (is_named (mark_at marks n)) (reads e n) (names_item next n) (named-expr e marks n within)
     (named-program next (marks_after_expr e marks) n (omega (arith, within, length-expr e marks)))
+named-program (certain m next) marks n within =
+    or-then (is_named (mark_at marks n)) (m == n) (names_item next n) (named-expr (item m) marks n within)
+    (named-program next (with_read marks m) n (omega (arith, within, length-expr (item m) marks)))
 named-program (return e next) marks n within =
     or-then (is_named (mark_at marks n)) (reads e n) (names_item next n) (named-expr e marks n within)
     (named-program next (marks_after_expr e marks) n (omega (arith, within, length-expr e marks)))
@@ -173,6 +177,9 @@ exclusive-program (assign m e next) marks n within =
 exclusive-program (require e next) marks n within =
     exclusive-behind e marks n (assigns next n) within
     (exclusive-program next (marks_after_expr e marks) n (omega (arith, within, length-expr e marks)))
+exclusive-program (certain m next) marks n within =
+    exclusive-behind (item m) marks n (assigns next n) within
+    (exclusive-program next (with_read marks m) n (omega (arith, within, length-expr (item m) marks)))
 exclusive-program (return e next) marks n within =
     exclusive-behind e marks n (assigns next n) within
     (exclusive-program next (marks_after_expr e marks) n (omega (arith, within, length-expr e marks)))

@@ -12,7 +12,7 @@ use Rattle.pv_check.specs.Wants.{is_home_site, marked_want}
 use Rattle.pv_check.specs.declared.marks.Mark.{Mark}
 use Rattle.pv_model.specs.Check.{Part, names_item, AreItems}
 use Rattle.pv_model.specs.Plan.{plan_of}
-use Rattle.pv_model.specs.Syntax.{Expr, number, item, minus, negation, two, Program, end, assign, require, return, when, when_else}
+use Rattle.pv_model.specs.Syntax.{Expr, number, item, minus, negation, two, Program, end, assign, require, certain, return, when, when_else}
 
 -- The program, which is no query, names items of the catalog alone, some and not too many, and these are the parts of its plan.
 pub record HasPlan (program : Program) (items : List Item) (parts : List Part) : Type 0 where
@@ -33,6 +33,7 @@ abbrev pub names_below : ℕ → Program → Bool
 names_below limit end = true
 names_below limit (assign n e next) = nat_lt n limit && (reads_below limit e && names_below limit next)
 names_below limit (require e next) = reads_below limit e && names_below limit next
+names_below limit (certain n next) = nat_lt n limit && names_below limit next
 names_below limit (return e next) = reads_below limit e && names_below limit next
 names_below limit (when e body next) = reads_below limit e && (names_below limit body && names_below limit next)
 names_below limit (when_else e body other next) =

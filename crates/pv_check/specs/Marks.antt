@@ -1,6 +1,6 @@
 -- The marks that one reading of a program leaves on the items that it names.
 use Rattle.std.specs.Prelude.{◌≡◌, ℕ, Bool, true, false, List, slice_index_or, slice_set, IsTrue}
-use Rattle.pv_model.specs.Syntax.{Expr, number, item, minus, negation, two, Program, end, assign, require, return, when, when_else}
+use Rattle.pv_model.specs.Syntax.{Expr, number, item, minus, negation, two, Program, end, assign, require, certain, return, when, when_else}
 use Rattle.pv_model.specs.ProgramLaws.{assigns}
 use Rattle.pv_model.specs.Check.{names_item}
 use Rattle.pv_check.specs.declared.marks.Mark.{Mark}
@@ -49,6 +49,7 @@ abbrev pub marks_after : Program → List Mark → List Mark
 marks_after end marks = marks
 marks_after (assign m e next) marks = marks_after next (with_assigned (marks_after_expr e marks) m)
 marks_after (require e next) marks = marks_after next (marks_after_expr e marks)
+marks_after (certain m next) marks = marks_after next (with_read marks m)
 marks_after (return e next) marks = marks_after next (marks_after_expr e marks)
 marks_after (when e body next) marks = marks_after next (marks_after body (marks_after_expr e marks))
 marks_after (when_else e body other next) marks =

@@ -115,6 +115,7 @@ fn mark_stmt(marks: &mut [Mark], stmt: &Stmt)
             mark_assigned(marks, *item);
         }
         Stmt::Require(test) => mark_expr(marks, test),
+        Stmt::Certain(item) => mark_read(marks, *item),
         Stmt::Return(value) => mark_expr(marks, value),
         Stmt::If { test, body, other } => {
             mark_expr(marks, test);

@@ -28,7 +28,7 @@ fn has_assignment_in(stmt: &Stmt) -> bool
 {
     match stmt {
         Stmt::Assign { .. } => true,
-        Stmt::Require(_) | Stmt::Return(_) => false,
+        Stmt::Require(_) | Stmt::Certain(_) | Stmt::Return(_) => false,
         Stmt::If {
             body,
             other: None,
@@ -62,7 +62,7 @@ fn has_return_in(stmt: &Stmt) -> bool
 {
     match stmt {
         Stmt::Return(_) => true,
-        Stmt::Assign { .. } | Stmt::Require(_) => false,
+        Stmt::Assign { .. } | Stmt::Require(_) | Stmt::Certain(_) => false,
         Stmt::If {
             body,
             other: None,
@@ -97,6 +97,7 @@ fn names_below_in(stmt: &Stmt, limit: u32) -> bool
     match stmt {
         Stmt::Assign { item, value } => item.0 < limit && reads_below(value, limit),
         Stmt::Require(test) => reads_below(test, limit),
+        Stmt::Certain(item) => item.0 < limit,
         Stmt::Return(value) => reads_below(value, limit),
         Stmt::If {
             test,

@@ -36,7 +36,7 @@ pub record Alike (context : Context) (expected other : List Expected) (ts : Colu
   pub fault : fault_in context expected ts ≡ fault_in context other ts
   pub place : placed expected ts ≡ placed other ts
 
-alike : (context : Context) (expected other : List Expected) (ts : Columned) → may_end expected ≡ may_end other
+pub alike : (context : Context) (expected other : List Expected) (ts : Columned) → may_end expected ≡ may_end other
     → ((t : ℕ × Token) (rest : Columned) → ts ≡ t ∷ rest → step expected t.1 ≡ step other t.1) → Alike context expected other ts
 unfolding first_fault placed
 alike context expected other [] ends steps = record { fault = ap (λ (b : Bool). if b then None else Some (malformed, context.after_text)) ends; place = refl }

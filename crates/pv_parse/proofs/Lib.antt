@@ -9,4 +9,5 @@ pub mod ExpressionLemmas
 pub mod UnaryLemmas
 pub mod ProgramLemmas
 pub mod BranchLemmas
+pub mod RequirementLemmas
 pub mod ParseLemmas

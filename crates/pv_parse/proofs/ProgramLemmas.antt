@@ -6,7 +6,7 @@ use denote.Ref.{Bor}
 use Rattle.pv_ast.specs.declared.expr.Expr.{Expr}
 use Rattle.pv_ast.specs.declared.program.Stmt.{Stmt}
 use Rattle.pv_ast.specs.ProgramView.{followed_by}
-use Rattle.pv_ast.specs.declared.program.Stmt.TheVariants.{Assign, Require, Return}
+use Rattle.pv_ast.specs.declared.program.Stmt.TheVariants.{Assign, Return}
 use Rattle.pv_ast.specs.ExprView.{expr_of}
 use Rattle.pv_base.specs.declared.catalog.ItemId.{ItemId}
 use Rattle.pv_model.specs.Syntax as model
@@ -14,7 +14,7 @@ use Rattle.pv_model.specs.Tokens.{Token}
 use Rattle.pv_model.specs.Grammar as grammar
 use Rattle.pv_model.specs.Grammar.{Nested, disjunction, chain, Reads, ReadsProgram, ReadsNext}
 use Rattle.pv_model.specs.ProgramText.{item_in}
-use Rattle.pv_law_programs.specs.Prediction.{phrase, punctuation, program, next, other, becomes, opens_body, closes_body, Expected, after_symbol, placed}
+use Rattle.pv_law_programs.specs.Prediction.{phrase, punctuation, program, requirement, next, other, becomes, opens_body, closes_body, Expected, after_symbol, placed}
 use Rattle.pv_parse.specs.declared.error.ParseError.{ParseError}
 use Rattle.pv_parse.specs.declared.error.ParseError.TheVariants.{Malformed, UnknownName, TooDeep}
 use Rattle.pv_parse.specs.declared.token.Token.{Token as Read}
@@ -23,7 +23,7 @@ use Rattle.pv_parse.specs.declared.cursor.Word.TheVariants.{Next, Else}
 use Rattle.pv_parse.specs.TokenView.{token_of}
 use Rattle.pv_parse.specs.Words.{has_no_word, FailsTooDeep}
 use Rattle.pv_parse.specs.ReadingSteps.{Columned, Context, fault_in, Skips, FailsWith, ReadsPhrase, PassesPunctuation}
-use Rattle.pv_parse.specs.ReadingPrograms.{ReadsStmt}
+use Rattle.pv_parse.specs.ReadingPrograms.{ReadsRequired, ReadsStmt}
 use Rattle.pv_parse.proofs.StepLemmas.{fault-deep, fault-unknown, fault-none, fault-end, skips}
 use Rattle.pv_parse.proofs.ExpressionLemmas.{FailsWith-through}
 use Rattle.pv_parse.proofs.UnaryLemmas.{Begins, begins-fault, begins-place, begins-fewer, begins-deep, unknown-name, known-name}
@@ -61,7 +61,7 @@ other-deep context d before error is =
 -- `require` and `return`
 
 pub begins-require : (context : Context) (d column : ℕ) (before after : Columned) → before ≡ (column, Token.requires) ∷ after
-    → Begins context (d, program) Token.requires column before after (λ k. expression d ∷ (d, next) ∷ k)
+    → Begins context (d, program) Token.requires column before after (λ k. (d, requirement) ∷ (d, next) ∷ k)
 begins-require context d column before after e = record { split = e; known = refl; leads = λ k. refl }
 
 pub begins-return : (context : Context) (d column : ℕ) (before after : Columned) → before ≡ (column, Token.returns) ∷ after
@@ -94,11 +94,27 @@ reads-word context t d column before mid after e stmt b shallow made p =
       fewer = omega (arith, shorter, inner);
     }
 
-pub reads-require : (context : Context) (d column : ℕ) (before mid after : Columned) (e : Expr) → before ≡ (column, Token.requires) ∷ mid → d ≤ MAX_DEPTH
-    → ReadsPhrase context (chain disjunction) d mid after (expr_of e) → ReadsStmt context d before after (Require e)
-reads-require context d column before mid after e split shallow p =
-    reads-word context Token.requires d column before mid after e (Require e) (begins-require context d column before mid split) shallow
-    (λ ts rest behind q r n. grammar.requires d ts rest behind (expr_of e) q r n) p
+-- A fault in what stands behind `require`.
+pub stops-require : (context : Context) (d column : ℕ) (before mid : Columned) (error : ParseError) → before ≡ (column, Token.requires) ∷ mid → d ≤ MAX_DEPTH
+    → FailsWith context (d, requirement) mid error → FailsWith context (d, program) before error
+stops-require context d column before mid error split shallow s =
+    FailsWith-through context (d, program) (d, requirement) (λ k. (d, next) ∷ k) before mid
+    (begins-fault context (d, program) Token.requires column before mid (λ k. (d, requirement) ∷ (d, next) ∷ k) (begins-require context d column before mid split) shallow) error s
+
+pub reads-require : (context : Context) (d column : ℕ) (before mid after : Columned) (stmt : Stmt) → before ≡ (column, Token.requires) ∷ mid → d ≤ MAX_DEPTH
+    → ReadsRequired context d mid after stmt → ReadsStmt context d before after stmt
+reads-require context d column before mid after stmt split shallow p =
+    let behind : List Expected → List Expected = λ k. (d, requirement) ∷ (d, next) ∷ k in
+    let b = begins-require context d column before mid split in
+    let shorter = begins-fewer context (d, program) Token.requires column before mid behind b in
+    let inner = p.fewer in
+    record {
+      fault = λ k. begins-fault context (d, program) Token.requires column before mid behind b shallow k ∙ p.fault ((d, next) ∷ k);
+      reads = λ k later q n.
+          subst (λ ts. ReadsProgram (item_in context.catalog) d ts later (followed_by stmt q))
+          (sym (begins-place context (d, program) Token.requires column before mid behind b k)) (p.reads ((d, next) ∷ k) later q n);
+      fewer = omega (arith, shorter, inner);
+    }
 
 pub reads-return : (context : Context) (d column : ℕ) (before mid after : Columned) (e : Expr) → before ≡ (column, Token.returns) ∷ mid → d ≤ MAX_DEPTH
     → ReadsPhrase context (chain disjunction) d mid after (expr_of e) → ReadsStmt context d before after (Return e)

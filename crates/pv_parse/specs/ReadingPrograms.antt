@@ -1,12 +1,13 @@
 -- What a step of reading statements and programs promises, whatever is expected after what it reads.
-use Rattle.std.specs.Prelude.{◌≡◌, ℕ, ◌+◌, ◌≤◌, List, ◌∷◌, length}
+use Rattle.std.specs.Prelude.{◌≡◌, ℕ, ◌+◌, ◌≤◌, Some, List, ◌∷◌, length}
+use Rattle.pv_base.specs.declared.limits.TheConstants.{MAX_DEPTH}
 use Rattle.pv_ast.specs.ProgramView.{followed_by}
 use Rattle.pv_ast.specs.declared.program.Stmt.{Stmt}
 use Rattle.pv_model.specs.Syntax as model
 use Rattle.pv_model.specs.Tokens.{Token}
 use Rattle.pv_model.specs.Grammar.{Nested, ReadsProgram, ReadsNext}
 use Rattle.pv_model.specs.ProgramText.{item_in}
-use Rattle.pv_law_programs.specs.Prediction.{punctuation, opens_body, closes_body, program, next, Expected, placed}
+use Rattle.pv_law_programs.specs.Prediction.{punctuation, opens_body, closes_body, program, requirement, next, Expected, placed}
 use Rattle.pv_parse.specs.declared.error.ParseError.{ParseError}
 use Rattle.pv_parse.specs.ReadingSteps.{Columned, Context, fault_in, IsErrorFor}
 
@@ -22,6 +23,21 @@ pub record ReadsStmt (context : Context) (d : ℕ) (before after : Columned) (st
   pub reads : (more : List Expected) (later : List Nested) (p : model.Program) → ReadsNext (item_in context.catalog) d (placed ((d, next) ∷ more) after) later p
       → ReadsProgram (item_in context.catalog) d (placed ((d, program) ∷ more) before) later (followed_by stmt p)
   pub fewer : length after ≤ length before
+
+-- Tokens up to a rest are what is required. With the word `require` before it and with whatever goes on after it they are a program.
+pub record ReadsRequired (context : Context) (d : ℕ) (before after : Columned) (stmt : Stmt) : Type 0 where
+  pub fault : (more : List Expected) → fault_in context ((d, requirement) ∷ more) before ≡ fault_in context more after
+  pub reads : (more : List Expected) (later : List Nested) (p : model.Program) → ReadsNext (item_in context.catalog) d (placed more after) later p
+      → ReadsProgram (item_in context.catalog) d ((d, Token.requires) ∷ placed ((d, requirement) ∷ more) before) later (followed_by stmt p)
+  pub fewer : length after ≤ length before
+
+-- The next token is the item's name.
+pub record PassesName (context : Context) (d : ℕ) (before after : Columned) (item : ℕ) : Type 0 where
+  pub word : List ℕ
+  pub column : ℕ
+  pub split : before ≡ (column, Token.name word) ∷ after
+  pub known : item_in context.catalog word ≡ Some item
+  pub shallow : d ≤ MAX_DEPTH
 
 -- what is expected of a program in braces, and then more
 abbrev pub braced : ℕ → List Expected → List Expected

@@ -28,7 +28,7 @@ token_of OpenBody = model.opens_body
 token_of CloseBody = model.closes_body
 token_of Next = model.then_next
 token_of Comma = model.parts
-token_of Certain = model.reserved
+token_of Certain = model.certain
 token_of (Stray byte) = model.stray byte
 
 -- a token with its column

@@ -5,18 +5,20 @@ use Rattle.pv_model.specs.Tokens.{Token}
 use Rattle.pv_parse.specs.declared.error.ParseError.{ParseError}
 use Rattle.pv_parse.specs.declared.error.ParseError.TheVariants.{TooDeep}
 use Rattle.pv_parse.specs.declared.cursor.Word.{Word}
-use Rattle.pv_parse.specs.declared.cursor.Word.TheVariants.{Not, Else, Next}
+use Rattle.pv_parse.specs.declared.cursor.Word.TheVariants.{Not, Else, Certain, Next}
 use Rattle.pv_parse.specs.ReadingSteps.{Columned, PassesToken, rest_of}
 
 -- the token that a word is
 abbrev pub token_of_word : Word → Token
 token_of_word Not = Token.negates
 token_of_word Else = Token.otherwise
+token_of_word Certain = Token.certain
 token_of_word Next = Token.then_next
 
 abbrev pub is_word : Word → Token → Bool
 is_word Not Token.negates = true
 is_word Else Token.otherwise = true
+is_word Certain Token.certain = true
 is_word Next Token.then_next = true
 is_word _ _ = false
 

@@ -17,6 +17,8 @@ pub(crate) enum Word {
     Not,
     /// `else`
     Else,
+    /// `certain`
+    Certain,
     /// `;`
     Next,
 }
@@ -97,6 +99,7 @@ fn is_word(token: Token, word: Word) -> bool
     match word {
         Word::Not => matches!(token, Token::Not),
         Word::Else => matches!(token, Token::Else),
+        Word::Certain => matches!(token, Token::Certain),
         Word::Next => matches!(token, Token::Next),
     }
 }

@@ -3,14 +3,14 @@ ghost use Rattle.std.specs.Prelude.{◌≡◌, ◌+◌, ◌≤◌, ◌∷◌, If
 ghost use Rattle.pv_law_programs.specs.Prediction as expected;
 ghost use Rattle.pv_model.specs.Tokens as text;
 ghost use Rattle.pv_parse.specs.ReadingSteps.{rest_of, IsNext, FailsWith};
-ghost use Rattle.pv_parse.specs.ReadingPrograms.{ReadsBody, ReadsStmt, ReadsWhole, StopsBraced};
+ghost use Rattle.pv_parse.specs.ReadingPrograms.{PassesName, ReadsBody, ReadsRequired, ReadsStmt, ReadsWhole, StopsBraced};
 
 use crate::ParseError;
 use crate::cursor::{Cursor, Word};
 use crate::parser::{Chain, Parser, Punctuation};
 use crate::token::Token;
 use pv_ast::{Program, Stmt};
-use pv_base::MAX_DEPTH;
+use pv_base::{ItemId, MAX_DEPTH};
 
 impl<'a> Parser<'a> {
     /// A program, which has a statement at least. Any number of them is read without recursion.
@@ -69,7 +69,7 @@ impl<'a> Parser<'a> {
         Ok(Stmt::Assign { item, value })
     }
 
-    // `require TEST`. The word is next.
+    // `require TEST` or `require certain ITEM`. The first word is next.
     fn require_stmt(&self, tokens: &mut Cursor, depth: u32) -> Result<Stmt, ParseError>
         requires depth { depth ≤ MAX_DEPTH + 1 }
         requires next { IsNext self.now text.Token.requires tokens.now }
@@ -77,8 +77,51 @@ impl<'a> Parser<'a> {
         ensures stops { IfErr result (FailsWith self.now (depth, expected.program) tokens.old) }
     {
         tokens.pass(depth)?;
+        Ok(self.requirement(tokens, depth)?)
+    }
+
+    // What stands behind `require`.
+    fn requirement(&self, tokens: &mut Cursor, depth: u32) -> Result<Stmt, ParseError>
+        requires { depth ≤ MAX_DEPTH }
+        ensures read { IfOk result (ReadsRequired self.now depth tokens.old tokens.new) }
+        ensures stops { IfErr result (FailsWith self.now (depth, expected.requirement) tokens.old) }
+    {
+        if tokens.take(Word::Certain, depth)? {
+            let item = self.item_name(tokens, depth)?;
+            return Ok(Stmt::Certain(item));
+        }
         let test = self.chain(tokens, Chain::Disjunction, depth)?;
         Ok(Stmt::Require(test))
+    }
+
+    // The name of an item, which has to come.
+    fn item_name(&self, tokens: &mut Cursor, depth: u32) -> Result<ItemId, ParseError>
+        requires { depth ≤ MAX_DEPTH }
+        ensures read { IfOk result (λ item. PassesName self.now depth tokens.old tokens.new item.0) }
+        ensures stops { IfErr result (FailsWith self.now (depth, expected.item_name) tokens.old) }
+    {
+        let Some(next) = tokens.first() else {
+            return Err(self.malformed(tokens));
+        };
+        match next.token {
+            Token::Name(word) => self.named_item(tokens, next.column, word, depth),
+            _ => Err(self.malformed(tokens)),
+        }
+    }
+
+    // The same. The item's name is next.
+    fn named_item(
+        &self,
+        tokens: &mut Cursor,
+        column: u32,
+        word: &[u8],
+        depth: u32,
+    ) -> Result<ItemId, ParseError>
+        requires { tokens.now ≡ (column, text.Token.name word.now) ∷ rest_of tokens.now }
+        ensures read { IfOk result (λ item. PassesName self.now depth tokens.old tokens.new item.0) }
+        ensures stops { IfErr result (FailsWith self.now (depth, expected.item_name) tokens.old) }
+    {
+        Ok(self.named(tokens, column, word, depth)?)
     }
 
     // `return VALUE`. The word is next.

@@ -43,7 +43,7 @@ pub(crate) enum Token<'a> {
     Next,
     /// `,`
     Comma,
-    /// The word `certain`, which no program has.
+    /// `certain`
     Certain,
     /// A byte that begins no token.
     Stray(u8),

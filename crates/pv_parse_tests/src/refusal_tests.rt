@@ -135,6 +135,12 @@ const REFUSED: &[(&str, &str)] = &[
     ("certain := 1", "Malformed(1)"),
     ("a := certain", "Malformed(6)"),
     ("certain", "Malformed(1)"),
+    ("require certain", "Malformed(16)"),
+    ("require certain 1", "Malformed(17)"),
+    ("require certain (a)", "Malformed(17)"),
+    ("require certain a + 1", "Malformed(19)"),
+    ("require not certain a", "Malformed(13)"),
+    ("require certain nobody", "UnknownName(17)"),
     ("return a certain", "Malformed(10)"),
     // A number ends at its last digit.
     ("a := 1a", "Malformed(7)"),

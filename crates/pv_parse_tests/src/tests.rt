@@ -111,6 +111,10 @@ fn push_stmt(text: &mut String, stmt: &Stmt) -> Result<(), NoMemory> {
             text.push_str("require ")?;
             push_expr(text, test)?;
         }
+        Stmt::Certain(item) => {
+            text.push_str("require certain ")?;
+            text.push_str(name_of(*item))?;
+        }
         Stmt::Return(value) => {
             text.push_str("return ")?;
             push_expr(text, value)?;
@@ -264,6 +268,9 @@ const READ: &[(&str, &str)] = &[
     // Statements follow one another.
     ("a := 1", "a := 1"),
     ("require a", "require a"),
+    ("require certain a", "require certain a"),
+    ("require certain b ; b := b - 1", "require certain b; b := (- b 1)"),
+    ("if a { require certain b }", "if a { require certain b }"),
     ("return a", "return a"),
     ("a := 1 ; b := a", "a := 1; b := a"),
     ("return 1 ; return 2", "return 1; return 2"),

@@ -9,7 +9,7 @@ use Rattle.pv_base.specs.Polyvalue.{Case, value_at, AreValues}
 use Rattle.pv_model.specs.Alternatives.{Read, number_at, rows_at}
 use Rattle.pv_model.specs.Items.{lacks, has_once, has_items, has_all_items}
 use Rattle.pv_model.specs.Meaning.{Row, Effect, items_of_rows, exec}
-use Rattle.pv_model.specs.Syntax.{Expr, number, item, minus, negation, two, Program, end, assign, require, return, when, when_else}
+use Rattle.pv_model.specs.Syntax.{Expr, number, item, minus, negation, two, Program, end, assign, require, certain, return, when, when_else}
 use Rattle.pv_base.proofs.Basics.{heads, tails}
 use Rattle.pv_law_polyvalues.proofs.TableLemmas.{length-assignments}
 use Rattle.pv_split.specs.Columns.{Column, column_of, columns_of, row_at, effects_at}
@@ -87,6 +87,8 @@ has_all_items-alike (assign n e next) rows others same =
     ap₂ (λ (b c : Bool). b && c) (ap₂ (λ (b c : Bool). b && c) (has_once-alike rows others n same) (has_items-alike e rows others same)) (has_all_items-alike next rows others same)
 has_all_items-alike (require e next) rows others same =
     ap₂ (λ (b c : Bool). b && c) (has_items-alike e rows others same) (has_all_items-alike next rows others same)
+has_all_items-alike (certain n next) rows others same =
+    ap₂ (λ (b c : Bool). b && c) (has_once-alike rows others n same) (has_all_items-alike next rows others same)
 has_all_items-alike (return e next) rows others same =
     ap₂ (λ (b c : Bool). b && c) (has_items-alike e rows others same) (has_all_items-alike next rows others same)
 has_all_items-alike (when e body next) rows others same =
