@@ -301,6 +301,10 @@ const READ: &[(&str, &str)] = &[
         "if a { b := 1 } else { if b { a := 1 } ; b := 2 }",
         "if a { b := 1 } else { if b { a := 1 }; b := 2 }",
     ),
+];
+
+// Texts whose words, symbols and numbers stand close together or are long, with the program that each is, or its fault.
+const CLOSE: &[(&str, &str)] = &[
     // Blanks are wanted only between words.
     ("a:=b<>1", "a := (<> b 1)"),
     ("a:=1;b:=2", "a := 1; b := 2"),
@@ -399,6 +403,11 @@ const READ: &[(&str, &str)] = &[
 #[test]
 fn each_text_has_its_program_or_its_fault(rt: HostRuntime) -> Result<(), Fail> {
     assert_reads(&rt, rt.alloc(), READ)
+}
+
+#[test]
+fn each_close_text_has_its_program_or_its_fault(rt: HostRuntime) -> Result<(), Fail> {
+    assert_reads(&rt, rt.alloc(), CLOSE)
 }
 
 // Refusals, with their texts.

@@ -12,7 +12,7 @@ use Rattle.pv_base.specs.declared.reply.Reply.{Reply}
 use Rattle.pv_base.specs.declared.reply.Reply.TheVariants.{Value, Nothing, Declined}
 use Rattle.pv_protocol.specs.LineText.{kind_text}
 use Rattle.pv_protocol.specs.Lines.{Line, MessageKind}
-use Rattle.pv_protocol.specs.State.{conflict, outcome_limit, expired, grant_lost, journal_full}
+use Rattle.pv_protocol.specs.State.{conflict, outcome_limit, uncertain, expired, grant_lost, journal_full}
 use Rattle.pv_report.specs.LineData.{txn_data, reply_data, literal_data, sum_data, case_data, data_of}
 use Rattle.pv_report.specs.LineJson as json
 use Rattle.pv_report.specs.NamesArePlain.{NamesArePlain}
@@ -86,6 +86,7 @@ shown-line catalog (Line.commit t replies) =
     (each_shown-map reply_data json.reply_json shown-reply replies)
 shown-line catalog (Line.refuse t (conflict site item holder)) = refl
 shown-line catalog (Line.refuse t (outcome_limit names)) = refl
+shown-line catalog (Line.refuse t (uncertain item names)) = refl
 shown-line catalog (Line.refuse t (expired site)) = refl
 shown-line catalog (Line.refuse t (grant_lost site)) = refl
 shown-line catalog (Line.refuse t (journal_full site length)) = refl
@@ -119,6 +120,7 @@ plain-line catalog (Line.commit t replies) named = (refl, txn-plain t, (refl, ea
 plain-line catalog (Line.refuse t (conflict site item holder)) named =
     (refl, refl, (refl, txn-plain holder, (refl, named, (refl, txn-plain t, (refl, refl, tt)))))
 plain-line catalog (Line.refuse t (outcome_limit names)) named = (refl, refl, (refl, refl, (refl, txn-plain t, tt)))
+plain-line catalog (Line.refuse t (uncertain item names)) named = (refl, refl, (refl, named, (refl, refl, (refl, txn-plain t, tt))))
 plain-line catalog (Line.refuse t (expired site)) named = (refl, refl, (refl, txn-plain t, (refl, refl, tt)))
 plain-line catalog (Line.refuse t (grant_lost site)) named = (refl, refl, (refl, txn-plain t, (refl, refl, tt)))
 plain-line catalog (Line.refuse t (journal_full site length)) named = (refl, refl, (refl, refl, (refl, txn-plain t, (refl, refl, tt))))

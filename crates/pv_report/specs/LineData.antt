@@ -14,7 +14,7 @@ use Rattle.pv_base.specs.declared.txn.TxnId.{TxnId}
 use Rattle.pv_model.specs.ReplyText.{reply_text}
 use Rattle.pv_protocol.specs.LineText.{kind_text, literal_text, name_of}
 use Rattle.pv_protocol.specs.Lines.{Line, MessageKind}
-use Rattle.pv_protocol.specs.State.{Cause, conflict, outcome_limit, expired, grant_lost, journal_full}
+use Rattle.pv_protocol.specs.State.{Cause, conflict, outcome_limit, uncertain, expired, grant_lost, journal_full}
 
 abbrev pub txn_data : TxnId → Data
 txn_data txn = string (txn_text txn)
@@ -69,6 +69,15 @@ refused_by_limit t names =
     (put (codes "names") (count_data names)
     (put (codes "cause") (string (codes "outcome-limit")) no_members)))
 
+-- one that is refused since an item isn't certain that has to be
+abbrev pub refused_by_doubt : Declared → TxnId → (item names : ℕ) → Data
+refused_by_doubt catalog t item names =
+    object
+    (put (codes "refuse") (txn_data t)
+    (put (codes "names") (count_data names)
+    (put (codes "item") (name_data catalog item)
+    (put (codes "cause") (string (codes "uncertain")) no_members))))
+
 -- one that is refused because of a site
 abbrev pub refused_by_site : List ℕ → TxnId → ℕ → Data
 refused_by_site cause t site =
@@ -87,6 +96,7 @@ refused_by_journal t site length =
 abbrev pub refusal_data : Declared → TxnId → Cause → Data
 refusal_data catalog t (conflict site item holder) = refused_by_holder catalog t site item holder
 refusal_data catalog t (outcome_limit names) = refused_by_limit t names
+refusal_data catalog t (uncertain item names) = refused_by_doubt catalog t item names
 refusal_data catalog t (expired site) = refused_by_site (codes "expired") t site
 refusal_data catalog t (grant_lost site) = refused_by_site (codes "grant-lost") t site
 refusal_data catalog t (journal_full site length) = refused_by_journal t site length

@@ -11,7 +11,7 @@ use Rattle.pv_base.specs.declared.txn.TxnId.{TxnId}
 use Rattle.pv_model.specs.ReplyText.{line_feed, reply_text}
 use Rattle.pv_protocol.specs.LineText.{kind_text, literal_text, name_of}
 use Rattle.pv_protocol.specs.Lines.{Line}
-use Rattle.pv_protocol.specs.State.{conflict, outcome_limit, expired, grant_lost, journal_full}
+use Rattle.pv_protocol.specs.State.{conflict, outcome_limit, uncertain, expired, grant_lost, journal_full}
 
 -- A text stands between quotes. None that a line holds has a byte to escape.
 abbrev pub quoted : List ℕ → List ℕ
@@ -75,6 +75,13 @@ json_of catalog (Line.refuse t (conflict site item holder)) =
     ∷ [])
 json_of catalog (Line.refuse t (outcome_limit names)) =
     object (member (codes "cause") (quoted (codes "outcome-limit")) ∷ member (codes "names") (decimal names) ∷ member (codes "refuse") (txn_json t) ∷ [])
+json_of catalog (Line.refuse t (uncertain item names)) =
+    object
+    (member (codes "cause") (quoted (codes "uncertain"))
+    ∷ member (codes "item") (name_json catalog item)
+    ∷ member (codes "names") (decimal names)
+    ∷ member (codes "refuse") (txn_json t)
+    ∷ [])
 json_of catalog (Line.refuse t (expired site)) =
     object (member (codes "cause") (quoted (codes "expired")) ∷ member (codes "refuse") (txn_json t) ∷ member (codes "site") (decimal site) ∷ [])
 json_of catalog (Line.refuse t (grant_lost site)) =

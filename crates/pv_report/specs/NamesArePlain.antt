@@ -3,7 +3,7 @@ use Rattle.std.specs.Prelude.{◌≡◌, ℕ, true, ⊤}
 use Rattle.pv_base.specs.Catalog.{Declared}
 use Rattle.pv_protocol.specs.LineText.{name_of}
 use Rattle.pv_protocol.specs.Lines.{Line}
-use Rattle.pv_protocol.specs.State.{Cause, conflict}
+use Rattle.pv_protocol.specs.State.{Cause, conflict, uncertain}
 use Rattle.pv_report.specs.Shown.{is_plain}
 
 -- The item's name needs no escape.
@@ -13,6 +13,7 @@ HasPlainName catalog item = is_plain (name_of catalog item) ≡ true
 -- Nor does the name in the cause, if there is one.
 abbrev pub CauseNamesArePlain : Declared → Cause → Type 0
 CauseNamesArePlain catalog (conflict site item holder) = HasPlainName catalog item
+CauseNamesArePlain catalog (uncertain item names) = HasPlainName catalog item
 CauseNamesArePlain catalog _ = ⊤
 
 -- The name in the line, if there is one, needs no escape.

@@ -2,7 +2,7 @@
 use Rattle.std.specs.Prelude.{ℕ, ◌<◌, ⊤, length}
 use Rattle.pv_base.specs.Catalog.{Declared}
 use Rattle.pv_protocol.specs.Lines.{Line}
-use Rattle.pv_protocol.specs.State.{Cause, conflict}
+use Rattle.pv_protocol.specs.State.{Cause, conflict, uncertain}
 
 -- The catalog has an item of this number.
 abbrev pub HasItem : Declared → ℕ → Type 0
@@ -11,6 +11,7 @@ HasItem catalog item = item < length catalog.items
 -- The item that the cause names, if it names one, is one of the catalog.
 abbrev pub CauseNamesOnlyItems : Declared → Cause → Type 0
 CauseNamesOnlyItems catalog (conflict site item holder) = HasItem catalog item
+CauseNamesOnlyItems catalog (uncertain item names) = HasItem catalog item
 CauseNamesOnlyItems catalog _ = ⊤
 
 -- The item that the line names, if it names one, is one of the catalog.

@@ -8,7 +8,7 @@ ghost use Rattle.pv_script.specs.LineView.{line_of};
 ghost use Rattle.serde_json.specs.View.{view};
 
 use crate::json_lines::{
-    refused_by_holder, refused_by_journal, refused_by_limit, refused_by_site, sent,
+    refused_by_doubt, refused_by_holder, refused_by_journal, refused_by_limit, refused_by_site, sent,
 };
 use crate::json_values::{
     cases_value, name_value, one, replies_value, sums_value, two, txn_value, txns_value,
@@ -61,6 +61,9 @@ fn value_of(alloc: Global, line: &Line, catalog: &Catalog) -> Result<Value, NoMe
             holder,
         } => refused_by_holder(alloc, *txn, *site, *item, *holder, catalog),
         Line::RefuseLimit { txn, names } => refused_by_limit(alloc, *txn, *names),
+        Line::RefuseUncertain { txn, item, names } => {
+            refused_by_doubt(alloc, *txn, *item, *names, catalog)
+        }
         Line::RefuseExpired { txn, site } => refused_by_site(alloc, "expired", *txn, *site),
         Line::RefuseLost { txn, site } => refused_by_site(alloc, "grant-lost", *txn, *site),
         Line::RefuseFull { txn, site, length } => refused_by_journal(alloc, *txn, *site, *length),

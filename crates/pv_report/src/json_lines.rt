@@ -1,6 +1,6 @@
 // The lines whose JSON has more than two members.
 ghost use Rattle.std.specs.Prelude.{◌≡◌, ◌<◌, length, IfOk};
-ghost use Rattle.pv_report.specs.LineData.{refused_by_holder, refused_by_journal, refused_by_limit, refused_by_site, sent_data};
+ghost use Rattle.pv_report.specs.LineData.{refused_by_doubt, refused_by_holder, refused_by_journal, refused_by_limit, refused_by_site, sent_data};
 ghost use Rattle.pv_report.specs.NamesArePlain.{HasPlainName};
 ghost use Rattle.pv_script.specs.LineView.{message_kind_of};
 ghost use Rattle.serde_json.specs.View.{view};
@@ -53,6 +53,36 @@ pub(crate) fn refused_by_limit(alloc: Global, txn: TxnId, names: u32) -> Result<
         alloc,
         "cause",
         Value::try_from_str(alloc, "outcome-limit")?,
+    )?;
+    put(&mut members, alloc, "names", Value::from(names))?;
+    put(&mut members, alloc, "refuse", txn_value(alloc, txn)?)?;
+    Ok(Value::Object(members))
+}
+
+// A transaction that is refused since an item isn't certain that has to be.
+pub(crate) fn refused_by_doubt(
+    alloc: Global,
+    txn: TxnId,
+    item: ItemId,
+    names: u32,
+    catalog: &Catalog,
+) -> Result<Value, NoMemory>
+    requires { item.0 < length catalog.now.items }
+    ensures value { IfOk result (λ value. view value ≡ refused_by_doubt catalog.now txn item.0 names) }
+    ensures plain { IfOk result (λ _. HasPlainName catalog.now item.0) }
+{
+    let mut members = Map::new(alloc);
+    put(
+        &mut members,
+        alloc,
+        "cause",
+        Value::try_from_str(alloc, "uncertain")?,
+    )?;
+    put(
+        &mut members,
+        alloc,
+        "item",
+        name_value(alloc, item, catalog)?,
     )?;
     put(&mut members, alloc, "names", Value::from(names))?;
     put(&mut members, alloc, "refuse", txn_value(alloc, txn)?)?;

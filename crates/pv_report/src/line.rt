@@ -2,7 +2,7 @@
 ghost use Rattle.std.specs.Prelude.{◌≡◌, ◌++◌, codes, decimal, IfOk, OnErr, OnOk};
 ghost use Rattle.pv_base.specs.Txn.{txn_text};
 ghost use Rattle.pv_protocol.specs.LineText.{cause_text, kind_text, line_text, name_of, spaced, words_of};
-ghost use Rattle.pv_protocol.specs.State.{conflict};
+ghost use Rattle.pv_protocol.specs.State.{conflict, uncertain};
 ghost use Rattle.pv_report.specs.NamesOnlyItems.{HasItem, NamesOnlyItems};
 ghost use Rattle.pv_report.specs.StillHeld.{StillHeld};
 ghost use Rattle.pv_script.specs.LineView.{message_kind_of, line_of};
@@ -77,6 +77,10 @@ fn push_words_of(text: &mut Vec<u8>, line: &Line, catalog: &Catalog) -> Result<(
         Line::RefuseLimit { txn, names } => {
             push_refused(text, *txn)?;
             push_numbered(text, b"outcome-limit", *names as u64)
+        }
+        Line::RefuseUncertain { txn, item, names } => {
+            push_refused(text, *txn)?;
+            push_uncertain(text, *item, *names, catalog)
         }
         Line::RefuseExpired { txn, site } => {
             push_refused(text, *txn)?;
@@ -185,6 +189,23 @@ fn push_conflict(
     text.extend_from_slice(b" ")?;
     push_name(text, item, catalog)?;
     push_with_txn(text, b" ", holder)
+}
+
+// `uncertain ITEM NAMES`
+fn push_uncertain(
+    text: &mut Vec<u8>,
+    item: ItemId,
+    names: u32,
+    catalog: &Catalog,
+) -> Result<(), NoMemory>
+    requires { HasItem catalog.now item.0 }
+    ensures text { OnOk result (text.new.items ≡ text.old.items ++ cause_text catalog.now (uncertain item.0 names)) }
+    ensures held { StillHeld text.old.items text.new.items }
+{
+    text.extend_from_slice(b"uncertain ")?;
+    push_name(text, item, catalog)?;
+    text.extend_from_slice(b" ")?;
+    push_number(text, names as u64)
 }
 
 // `sent NUMBER FROM>TO KIND TXN`

@@ -64,8 +64,8 @@ const TEXTS: [(&str, &str); 38] = [
         "{\"cause\":\"conflict\",\"holder\":\"0.1.0\",\"item\":\"a\",\"refuse\":\"1.2.10\",\"site\":0}\n",
     ),
     (
-        "refuse 0.1.0 outcome-limit 8\n",
-        "{\"cause\":\"outcome-limit\",\"names\":8,\"refuse\":\"0.1.0\"}\n",
+        "refuse 0.1.0 outcome-limit 12\n",
+        "{\"cause\":\"outcome-limit\",\"names\":12,\"refuse\":\"0.1.0\"}\n",
     ),
     (
         "refuse 0.1.0 expired 1\n",
@@ -152,7 +152,11 @@ const TEXTS: [(&str, &str); 38] = [
     ),
     ("total locked b\n", "{\"locked\":\"b\",\"total\":null}\n"),
     ("total down 1\n", "{\"down\":1,\"total\":null}\n"),
-    ("total outcome-limit 9\n", "{\"names\":9,\"total\":null}\n"),
+    ("total outcome-limit 13\n", "{\"names\":13,\"total\":null}\n"),
+    (
+        "refuse 0.1.0 uncertain a 2\n",
+        "{\"cause\":\"uncertain\",\"item\":\"a\",\"names\":2,\"refuse\":\"0.1.0\"}\n",
+    ),
 ];
 
 // The items a at site 0 and b at site 1.
@@ -215,7 +219,7 @@ fn worked_line(alloc: Global, number: usize, catalog: &Catalog) -> Result<Line, 
             item: ItemId(0),
             holder: T,
         }),
-        5 => Ok(Line::RefuseLimit { txn: T, names: 8 }),
+        5 => Ok(Line::RefuseLimit { txn: T, names: 12 }),
         6 => Ok(Line::RefuseExpired {
             txn: T,
             site: SiteId(1),
@@ -320,7 +324,12 @@ fn worked_line(alloc: Global, number: usize, catalog: &Catalog) -> Result<Line, 
         34 => Ok(Line::Total(Vec::from_slice(alloc, &[-9_223_372_036_854_775_809, 0])?)),
         35 => Ok(Line::TotalLocked(ItemId(1))),
         36 => Ok(Line::TotalDown(SiteId(1))),
-        _ => Ok(Line::TotalLimit(9)),
+        37 => Ok(Line::TotalLimit(13)),
+        _ => Ok(Line::RefuseUncertain {
+            txn: T,
+            item: ItemId(0),
+            names: 2,
+        }),
     }
 }
 

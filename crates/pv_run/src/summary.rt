@@ -81,6 +81,7 @@ fn refuses_txn(line: &Line) -> bool
     match line {
         Line::RefuseConflict { .. }
         | Line::RefuseLimit { .. }
+        | Line::RefuseUncertain { .. }
         | Line::RefuseExpired { .. }
         | Line::RefuseLost { .. }
         | Line::RefuseFull { .. } => true,

@@ -1,8 +1,8 @@
 -- A line of the code as a line of the definition.
 use Rattle.pv_protocol.specs.Lines as model
-use Rattle.pv_protocol.specs.State.{conflict, outcome_limit, expired, grant_lost, journal_full}
+use Rattle.pv_protocol.specs.State.{conflict, outcome_limit, uncertain, expired, grant_lost, journal_full}
 use Rattle.pv_script.specs.declared.line.Line.{Line}
-use Rattle.pv_script.specs.declared.line.Line.TheVariants.{Txn, Commit, RefuseConflict, RefuseLimit, RefuseExpired, RefuseLost, RefuseFull, Full, Spent, Down, Up, Stopped, Fault, Started, NoMessage, Sent, Order, Committed, OpenOnes, Item, ItemLocked, ItemDown, End, Total, TotalLocked, TotalDown, TotalLimit}
+use Rattle.pv_script.specs.declared.line.Line.TheVariants.{Txn, Commit, RefuseConflict, RefuseLimit, RefuseUncertain, RefuseExpired, RefuseLost, RefuseFull, Full, Spent, Down, Up, Stopped, Fault, Started, NoMessage, Sent, Order, Committed, OpenOnes, Item, ItemLocked, ItemDown, End, Total, TotalLocked, TotalDown, TotalLimit}
 use Rattle.pv_script.specs.declared.line.MessageKind.{MessageKind}
 use Rattle.pv_script.specs.declared.line.MessageKind.TheVariants.{Lock, Granted, Denied, Prepare, Yes, No, Outcome, Ask}
 
@@ -23,6 +23,7 @@ line_of (Txn txn) = model.Line.txn txn
 line_of (Commit txn replies) = model.Line.commit txn replies.items
 line_of (RefuseConflict txn site item holder) = model.Line.refuse txn (conflict site.0 item.0 holder)
 line_of (RefuseLimit txn names) = model.Line.refuse txn (outcome_limit names)
+line_of (RefuseUncertain txn item names) = model.Line.refuse txn (uncertain item.0 names)
 line_of (RefuseExpired txn site) = model.Line.refuse txn (expired site.0)
 line_of (RefuseLost txn site) = model.Line.refuse txn (grant_lost site.0)
 line_of (RefuseFull txn site length) = model.Line.refuse txn (journal_full site.0 length)

@@ -75,6 +75,15 @@ pub enum Line {
         /// How many outcomes they name.
         names: u32,
     },
+    /// The transaction is refused: its program requires an item to be certain, and it isn't.
+    RefuseUncertain {
+        /// The transaction.
+        txn: TxnId,
+        /// The item, the least such one.
+        item: ItemId,
+        /// How many outcomes its value depends on that the transaction's site doesn't know.
+        names: u32,
+    },
     /// The transaction is refused: its coordinator had no grant or no vote of a participant in time.
     RefuseExpired {
         /// The transaction.

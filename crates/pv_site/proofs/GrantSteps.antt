@@ -1,5 +1,5 @@
 -- What a grant that comes in does.
-use Rattle.std.proofs.Common.{◌≡◌, ℕ, ◌<◌, Bool, true, false, Some, None, Option, List, [], map, length, refl, sym, ap, subst, ◌∙◌}
+use Rattle.std.proofs.Common.{◌≡◌, ℕ, ◌<◌, ◌≤◌, Bool, true, false, Some, None, Option, List, [], map, length, refl, sym, ap, subst, ◌∙◌}
 use Rattle.std.specs.Prelude.{◌&&◌, not, nat_lt, if◌then◌else◌, is_some}
 use Rattle.std.specs.Option.{option_map}
 use Rattle.std.proofs.lemmas.Bool.{and_parts, le-ltb, lt-ltb, or_parts, true≢false}
@@ -28,13 +28,16 @@ use Rattle.pv_protocol.specs.Granted.{asked_of, at_granted, on_granted, with_gra
 use Rattle.pv_protocol.specs.Here.{Here, is_among, nothing, participants, refusing, remembering, with_entry}
 use Rattle.pv_protocol.specs.Sound.{IsEntryInRange}
 use Rattle.pv_protocol.specs.State as state
-use Rattle.pv_protocol.specs.State.{Entry, Taken, outcome_limit}
+use Rattle.pv_protocol.specs.State.{Entry, Taken, outcome_limit, uncertain}
 use Rattle.pv_protocol.specs.WellFormed.{CanRun}
+use Rattle.pv_site.proofs.LeastDoubt.{no-doubt, the-doubt}
 use Rattle.pv_site.proofs.Entries.{entry_in, first-found, found-txn, locking-of}
 use Rattle.pv_site.proofs.PrepareSends.{prepares-all}
-use Rattle.pv_site.proofs.TakenReads.{named-read, reads-apart, taken-with}
+use Rattle.pv_site.proofs.TakenReads.{named-read, reads-apart, reads-below, taken-with}
 use Rattle.pv_site.proofs.Tied.{here-with, planned-found, stepped, tied-with, work-found}
 use Rattle.pv_site.specs.Answer.{IsAnswer}
+use Rattle.pv_site.specs.declared.doubting.Doubt.{Doubt}
+use Rattle.pv_site.specs.Doubts.{least_from}
 use Rattle.pv_site.specs.LockPoint.{HasItsReads, IsComputed, IsTooMany, ReadApart}
 use Rattle.pv_site.specs.SiteParts.{AreSound, AreTied, HaveStepped, IsReplyOf, IsWorkOf, here_of}
 use Rattle.pv_site.specs.Shares.{prepares}
@@ -221,19 +224,19 @@ module _ (parts : SiteParts) (tied : AreTied parts) (txn : TxnId) (new : Taken) 
         subst (λ (step : state.Step). HaveStepped parts (record parts { coord = coord }) step × IsAnswer answer step)
         (sym (step-taken
         ∙ ap (λ (b : Bool). if not b then remembering (with_entry here.running entry) else
-        (if nat_lt READ_NAMES (length (names_taken entry)) then refusing here entry (outcome_limit (length (names_taken entry))) else model.at_lock_point here entry)) others))
+        (if nat_lt READ_NAMES (length (names_taken entry)) then refusing here entry (outcome_limit (length (names_taken entry))) else model.if_certain here entry (model.first_uncertain here entry))) others))
         (waiting-step coord answer others now sent noted unlocked)
 
     -- All have granted.
     module _ (whole : coordinate.has_all_grants here entry ≡ true) where
       step-whole : (b : Bool) → nat_lt READ_NAMES (length (names_taken entry)) ≡ b
           → on_granted here new.site txn new.grant new.values
-          ≡ (if b then refusing here entry (outcome_limit (length (names_taken entry))) else model.at_lock_point here entry)
+          ≡ (if b then refusing here entry (outcome_limit (length (names_taken entry))) else model.if_certain here entry (model.first_uncertain here entry))
       step-whole b is_wide =
           step-taken
           ∙ ap (λ (all : Bool). if not all then remembering (with_entry here.running entry) else
-          (if nat_lt READ_NAMES (length (names_taken entry)) then refusing here entry (outcome_limit (length (names_taken entry))) else model.at_lock_point here entry)) whole
-          ∙ ap (λ (wide : Bool). if wide then refusing here entry (outcome_limit (length (names_taken entry))) else model.at_lock_point here entry) is_wide
+          (if nat_lt READ_NAMES (length (names_taken entry)) then refusing here entry (outcome_limit (length (names_taken entry))) else model.if_certain here entry (model.first_uncertain here entry))) whole
+          ∙ ap (λ (wide : Bool). if wide then refusing here entry (outcome_limit (length (names_taken entry))) else model.if_certain here entry (model.first_uncertain here entry)) is_wide
 
       -- Too many outcomes.
       refused-step : (count : ℕ) → length (names_taken entry) ≡ count → READ_NAMES < count
@@ -241,6 +244,15 @@ module _ (parts : SiteParts) (tied : AreTied parts) (txn : TxnId) (new : Taken) 
       refused-step count counted over =
           step-whole true (ap (nat_lt READ_NAMES) counted ∙ lt-ltb READ_NAMES count over)
           ∙ ap (λ (n : ℕ). refusing here work.entry (outcome_limit n)) counted
+
+      -- An item isn't certain that has to be.
+      doubted-step : (item count : ℕ) → length (names_taken entry) ≤ READ_NAMES → model.first_uncertain here entry ≡ Some item
+          → coordinate.doubts parts.store.records entry item ≡ count
+          → on_granted here new.site txn new.grant new.values ≡ refusing here work.entry (uncertain item count)
+      doubted-step item count few doubt counted =
+          step-whole false (le-ltb READ_NAMES (length (names_taken entry)) few)
+          ∙ ap (model.if_certain here entry) doubt
+          ∙ ap (λ (n : ℕ). refusing here work.entry (uncertain item n)) counted
 
       work-is : work_of parts.coord.contents txn ≡ Some work
       work-is = first-found txn_of (λ (w : Work). is_locking w.entry.stage) txn parts.coord.contents.entries work tied.order is.found
@@ -269,14 +281,15 @@ module _ (parts : SiteParts) (tied : AreTied parts) (txn : TxnId) (new : Taken) 
           )
 
       locked : (coord : CoordMemory) (answer : Step) (writes : List Read) (reply : List (Case Reply)) → IsComputed parts.store.records entry writes reply
+          → model.first_uncertain here entry ≡ None
           → coord.contents ≡ own.taking parts.coord.contents grants (Some reply)
           → ((w : Work) → work_of parts.coord.contents txn ≡ Some w → map outgoing_of answer.sends.items ≡ prepares txn writes new.site new.grant (grant_from w) w.parts)
           → map note_of answer.notes.items ≡ [] → answer.locked ≡ Some txn
           → HaveStepped parts (record parts { coord = coord }) (on_granted here new.site txn new.grant new.values)
           × IsAnswer answer (on_granted here new.site txn new.grant new.values)
-      locked coord answer writes reply computed now sent noted placed =
+      locked coord answer writes reply computed sure now sent noted placed =
           subst (λ (step : state.Step). HaveStepped parts (record parts { coord = coord }) step × IsAnswer answer step)
-          (sym (step-whole false (le-ltb READ_NAMES (length (names_taken entry)) computed.few)))
+          (sym (step-whole false (le-ltb READ_NAMES (length (names_taken entry)) computed.few) ∙ ap (model.if_certain here entry) sure))
           (locked-step coord answer writes reply computed now sent noted placed)
 
   -- The step on a grant for which others are awaited.
@@ -294,16 +307,6 @@ module _ (parts : SiteParts) (tied : AreTied parts) (txn : TxnId) (new : Taken) 
     pub last-refused : (count : ℕ) → IsTooMany reads count → on_granted here new.site txn new.grant new.values ≡ refusing here is.taken.work.entry (outcome_limit count)
     last-refused count many =
         refused-step is.taken is.whole count (ap (λ (some : List Read). length (names_of (all_cases some))) is.reads_are ∙ many.counted) many.over
-
-    pub last-locked : (coord : CoordMemory) (answer : Step) (writes : List Read) (reply : List (Case Reply))
-        → ((entry : Entry) → entry.program ≡ program → reads_of entry ≡ reads → IsComputed parts.store.records entry writes reply)
-        → coord.contents ≡ own.taking parts.coord.contents grants (Some reply)
-        → ((w : Work) → work_of parts.coord.contents txn ≡ Some w → map outgoing_of answer.sends.items ≡ prepares txn writes new.site new.grant (grant_from w) w.parts)
-        → map note_of answer.notes.items ≡ [] → answer.locked ≡ Some txn
-        → HaveStepped parts (record parts { coord = coord }) (on_granted here new.site txn new.grant new.values)
-        × IsAnswer answer (on_granted here new.site txn new.grant new.values)
-    last-locked coord answer writes reply computed now sent noted placed =
-        locked is.taken is.whole coord answer writes reply (computed (with_grant is.taken.work new).entry is.program_is is.reads_are) now sent noted placed
 
     module _ (sound : AreSound parts) where
       abbrev is_locking_it : Entry → Bool
@@ -327,3 +330,41 @@ module _ (parts : SiteParts) (tied : AreTied parts) (txn : TxnId) (new : Taken) 
           subst (λ (some : Program). HasItsReads some reads) is.program_is
           (subst (λ (some : List Read). HasItsReads is.taken.work.entry.program some) is.reads_are
           (named-read parts.catalog is.taken.work.entry.program sound.range.setup.items runs (with_grant is.taken.work new).entry.taken (taken-work is.taken).taken is.whole))
+
+      -- What is known of the first item of the reads that isn't certain is so of the catalog.
+      sure-or-not : (first : Option Doubt) → first ≡ least_from parts.store.records program None reads
+          → (first ≡ None → model.first_uncertain here (with_grant is.taken.work new).entry ≡ None)
+          × ((doubt : Doubt) → first ≡ Some doubt → (model.first_uncertain here (with_grant is.taken.work new).entry ≡ Some doubt.item.0)
+          × (coordinate.doubts parts.store.records (with_grant is.taken.work new).entry doubt.item.0 ≡ doubt.outcomes))
+      sure-or-not first found =
+          let entry : Entry = (with_grant is.taken.work new).entry in
+          let apart : ReadApart (reads_of entry) = subst ReadApart (sym is.reads_are) last-apart in
+          let has : HasItsReads entry.program (reads_of entry) =
+          subst (λ (some : Program). HasItsReads some (reads_of entry)) (sym is.program_is) (subst (λ (some : List Read). HasItsReads program some) (sym is.reads_are) last-reads) in
+          let below = reads-below parts.catalog is.taken.work.entry.program entry.taken (taken-work is.taken).taken in
+          let least : first ≡ least_from parts.store.records entry.program None (reads_of entry) =
+          found ∙ (λ i. least_from parts.store.records (sym is.program_is i) None (sym is.reads_are i)) in (
+            λ none. no-doubt parts.store.records entry parts.catalog.items apart has below (sym least ∙ none),
+            λ doubt some. the-doubt parts.store.records entry parts.catalog.items apart has below doubt (sym least ∙ some),
+          )
+
+      -- The step on the last grant where an item isn't certain that has to be.
+      pub last-doubted : (first : Option Doubt) (doubt : Doubt) (writes : List Read) (reply : List (Case Reply))
+          → ((entry : Entry) → entry.program ≡ program → reads_of entry ≡ reads → IsComputed parts.store.records entry writes reply)
+          → first ≡ least_from parts.store.records program None reads → first ≡ Some doubt
+          → on_granted here new.site txn new.grant new.values ≡ refusing here is.taken.work.entry (uncertain doubt.item.0 doubt.outcomes)
+      last-doubted first doubt writes reply computed found some =
+          let there = (sure-or-not first found).1 doubt some in
+          doubted-step is.taken is.whole doubt.item.0 doubt.outcomes (computed (with_grant is.taken.work new).entry is.program_is is.reads_are).few there.0 there.1
+
+      pub last-locked : (coord : CoordMemory) (answer : Step) (writes : List Read) (reply : List (Case Reply)) (first : Option Doubt)
+          → ((entry : Entry) → entry.program ≡ program → reads_of entry ≡ reads → IsComputed parts.store.records entry writes reply)
+          → first ≡ least_from parts.store.records program None reads → first ≡ None
+          → coord.contents ≡ own.taking parts.coord.contents grants (Some reply)
+          → ((w : Work) → work_of parts.coord.contents txn ≡ Some w → map outgoing_of answer.sends.items ≡ prepares txn writes new.site new.grant (grant_from w) w.parts)
+          → map note_of answer.notes.items ≡ [] → answer.locked ≡ Some txn
+          → HaveStepped parts (record parts { coord = coord }) (on_granted here new.site txn new.grant new.values)
+          × IsAnswer answer (on_granted here new.site txn new.grant new.values)
+      last-locked coord answer writes reply first computed found none now sent noted placed =
+          locked is.taken is.whole coord answer writes reply (computed (with_grant is.taken.work new).entry is.program_is is.reads_are) ((sure-or-not first found).0 none) now sent
+          noted placed

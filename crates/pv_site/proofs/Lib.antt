@@ -7,6 +7,7 @@ pub mod Entries
 pub mod Expired
 pub mod FitLemmas
 pub mod GrantSteps
+pub mod LeastDoubt
 pub mod ListLemmas
 pub mod LockPoint
 pub mod Locked

@@ -85,7 +85,7 @@ record IsFound (records : List Record) (before after : List Read) (n : ℕ) : Ty
   polyvalue : IsPolyvalue HELD_NAMES write.cases
   value : (assignment : List TxnId) → value_at write.cases assignment ≡ Some (value_in (rows_at before (choice records assignment)) n)
 
-number-there : (cases : List (Case ℤ)) (assignment : List TxnId) (v : ℤ) → value_at cases assignment ≡ Some v → value_at cases assignment ≡ Some (number_at cases assignment)
+pub number-there : (cases : List (Case ℤ)) (assignment : List TxnId) (v : ℤ) → value_at cases assignment ≡ Some v → value_at cases assignment ≡ Some (number_at cases assignment)
 number-there cases assignment v is = is ∙ ap Some (sym (ap (λ (o : Option ℤ). unwrap_or o (pos 0)) is))
 
 found-first : (records : List Record) (first second : Read) (before after : List Read) (n : ℕ) → (first.item == n) ≡ true → IsWritePutIn records first second

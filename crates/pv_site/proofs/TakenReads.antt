@@ -7,8 +7,10 @@ use Rattle.std.specs.List.{AllPairs, Contains, flat_map, list_all, list_any}
 use Rattle.std.proofs.lemmas.Bool.{and_parts, and_from, eqb-true, eqb-false, eq-eqb, false≢true, ltb-true, ltb-false, or_cases, or_left, or_parts, or_right}
 use Rattle.std.proofs.lemmas.Bool.Decides.{Decides-eqb, nat_tests}
 use Rattle.std.proofs.lemmas.List.Elements.{All-append, All-contains, Contains-append_left, Contains-append_right}
+use Rattle.std.proofs.lemmas.List.{length-map}
 use Rattle.std.proofs.lemmas.List.Kept.{AllPairs-cons}
 use Rattle.std.proofs.lemmas.List.Sorted.{Contains-permutation}
+use Rattle.std.proofs.lemmas.Option.{slice_get_within}
 use Rattle.pv_base.proofs.Basics.{Some_inj}
 use Rattle.pv_base.proofs.ContainsLemmas.{Contains-first, Contains-behind, Contains-nil, Contains-cases}
 use Rattle.pv_base.proofs.MapLemmas.{Contains-map, Contains-unmap}
@@ -26,7 +28,7 @@ use Rattle.pv_model.specs.Items.{has_all_items, has_items, has_once, lacks}
 use Rattle.pv_model.specs.Meaning.{Row}
 use Rattle.pv_model.specs.Plan.{participants_of, part_of, plan_of, wants_of}
 use Rattle.pv_model.specs.ProgramLaws.{assigns}
-use Rattle.pv_model.specs.Syntax.{Expr, number, item, minus, negation, two, Program, end, assign, require, return, when, when_else}
+use Rattle.pv_model.specs.Syntax.{Expr, number, item, minus, negation, two, Program, end, assign, require, certain, return, when, when_else}
 use Rattle.pv_protocol.specs.Coordinate.{are_values_of, with_taken}
 use Rattle.pv_protocol.specs.State.{Taken}
 use Rattle.pv_protocol.specs.WellFormed.{CanRun}
@@ -146,6 +148,19 @@ module _ (catalog : Declared) (program : Program) (small : length catalog.items 
       (subst (λ (m : ℕ). Contains (wants_of program catalog.items m) (record { item = n; exclusive = assigns program n })) (sym (eqb-true one.site site granted.2)) wanted.2) in
       record { read = found.0; listed = flat-behind taken one found.0 granted.1 found.1; same = found.2 }
 
+-- What is read are items of the catalog.
+pub reads-below : (catalog : Declared) (program : Program) (taken : List Taken) → AreTakenFor catalog.items program taken
+    → (read : Read) → Contains (flat_map (λ (t : Taken). t.values) taken) read → read.item < length catalog.items
+reads-below catalog program taken are read h =
+    All-contains (λ (some : Read). some.item < length catalog.items) (flat_map (λ (t : Taken). t.values) taken) read
+    (all-flat (λ (some : Read). some.item < length catalog.items) (λ (t : Taken). t.values) taken
+    (λ one listed. all-from (λ (some : Read). some.item < length catalog.items) one.values
+    (λ some there.
+    let asked = All-contains (λ (one : Taken). IsTrue (are_values_of (wants_of program catalog.items one.site) one.values)) taken one are.asked listed in
+    let within = slice_get_within (map (λ (declared : Item). declared.site) catalog.items) some.item one.site (at-home catalog program one.site one.values asked some there) in
+    omega (arith, within, length-map catalog.items (λ (declared : Item). declared.site)))))
+    h
+
 -- Rows of reads that are apart.
 
 lacks-others : (reads : List Read) (n : ℕ) → ((read : Read) → Contains reads read → (read.item == n) ≡ false) → lacks (rows_at reads []) n ≡ true
@@ -196,6 +211,9 @@ module _ (rows : List Row) where
   has-all-items (require e next) each =
       and_from (has_items rows e) (has_all_items rows next) (has-items e (λ n r. each n (or_left (reads e n) (names_item next n) r)))
       (has-all-items next (λ n r. each n (or_right (reads e n) (names_item next n) r)))
+  has-all-items (certain m next) each =
+      and_from (has_once rows m) (has_all_items rows next) (each m (or_left (m == m) (names_item next m) (eq-eqb m m refl)))
+      (has-all-items next (λ n r. each n (or_right (m == n) (names_item next n) r)))
   has-all-items (return e next) each =
       and_from (has_items rows e) (has_all_items rows next) (has-items e (λ n r. each n (or_left (reads e n) (names_item next n) r)))
       (has-all-items next (λ n r. each n (or_right (reads e n) (names_item next n) r)))
@@ -224,6 +242,7 @@ assigns-named (assign m e next) n is =
     (λ behind. or_right (m == n) (reads e n || names_item next n) (or_right (reads e n) (names_item next n) (assigns-named next n behind)))
     (or_cases (m == n) (assigns next n) is)
 assigns-named (require e next) n is = or_right (reads e n) (names_item next n) (assigns-named next n is)
+assigns-named (certain m next) n is = or_right (m == n) (names_item next n) (assigns-named next n is)
 assigns-named (return e next) n is = or_right (reads e n) (names_item next n) (assigns-named next n is)
 assigns-named (when e body next) n is =
     or_right (reads e n) (names_item body n || names_item next n)

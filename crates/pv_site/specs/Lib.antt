@@ -3,6 +3,7 @@ pub mod Asked
 pub mod Calls
 pub mod Committed
 pub mod Crashes
+pub mod Doubts
 pub mod Inputs
 pub mod LastVote
 pub mod Lending

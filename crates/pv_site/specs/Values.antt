@@ -1,8 +1,8 @@
 -- What the inputs, messages, notes and causes of the code are.
 use Rattle.pv_protocol.specs.State as model
-use Rattle.pv_protocol.specs.State.{submit, receive, tick, conflict, outcome_limit, expired, grant_lost, journal_full, began, committed, refused, full, spent}
+use Rattle.pv_protocol.specs.State.{submit, receive, tick, conflict, outcome_limit, uncertain, expired, grant_lost, journal_full, began, committed, refused, full, spent}
 use Rattle.pv_site.specs.declared.input.Cause.{Cause}
-use Rattle.pv_site.specs.declared.input.Cause.TheVariants.{Conflict, OutcomeLimit, Expired, GrantLost, JournalFull}
+use Rattle.pv_site.specs.declared.input.Cause.TheVariants.{Conflict, OutcomeLimit, Uncertain, Expired, GrantLost, JournalFull}
 use Rattle.pv_site.specs.declared.input.Input.{Input}
 use Rattle.pv_site.specs.declared.input.Input.TheVariants.{Submit, Take, Tick}
 use Rattle.pv_site.specs.declared.input.Note.{Note}
@@ -24,6 +24,7 @@ outgoing_of outgoing = record { to = outgoing.to.0; message = message_of outgoin
 abbrev pub cause_of : Cause → model.Cause
 cause_of (Conflict site item holder) = conflict site.0 item.0 holder
 cause_of (OutcomeLimit names) = outcome_limit names
+cause_of (Uncertain item outcomes) = uncertain item.0 outcomes
 cause_of (Expired site) = expired site.0
 cause_of (GrantLost site) = grant_lost site.0
 cause_of (JournalFull site length) = journal_full site.0 length

@@ -18,6 +18,7 @@ ghost use Rattle.pv_site.specs.Values.{outgoing_of};
 ghost use Rattle.pv_split.specs.Splitting.{count_of};
 
 use crate::answers::nothing;
+use crate::doubting::first_doubt;
 use crate::parts::SiteParts;
 use crate::sure::is_sure_throughout;
 use crate::{Cause, Outgoing, Step};
@@ -58,7 +59,8 @@ impl SiteParts {
         }
     }
 
-    // The last grant: the transaction is refused if the values name too many outcomes together, and else is at its lock point.
+    // The last grant: the transaction is refused if the values name too many outcomes together, or if an item has to be certain and isn't, and else is
+    // at its lock point.
     fn on_last_grant(
         &mut self,
         alloc: Global,
@@ -75,6 +77,8 @@ impl SiteParts {
         requires planned { CanApply self.old.coord.contents (last reads.items program.now change) }
         ensures { StepParts self.old self.new (on_granted (here_of self.old) from.0 txn grant change.taken.values) result }
     {
+        let first = first_doubt(alloc, &self.store, program, &reads)?;
+        // Computed before a doubt is told: that it reads too much weighs more, and only the computation counts names.
         let joined = match computed(alloc, &self.store, program, reads) {
             Ok(joined) => joined,
             Err(SplitError::OutcomeLimit(names)) => {
@@ -82,6 +86,13 @@ impl SiteParts {
             }
             Err(SplitError::NoMemory) => return Err(NoMemory),
         };
+        if let Some(doubt) = first {
+            let cause = Cause::Uncertain {
+                item: doubt.item,
+                outcomes: doubt.outcomes,
+            };
+            return self.refuse(alloc, txn, cause);
+        }
         let sends = prepare_sends(alloc, &self.coord, from, txn, grant, &joined.writes)?;
         self.coord.apply_granted(change, Some(joined.reply));
         Ok(Step {

@@ -74,6 +74,13 @@ pub enum Cause {
     },
     /// The values that were granted name this many outcomes together, more than [`pv_base::READ_NAMES`].
     OutcomeLimit(u32),
+    /// The program requires an item to be certain, and it isn't.
+    Uncertain {
+        /// The item, the least such one.
+        item: ItemId,
+        /// How many outcomes its value depends on that the transaction's site doesn't know.
+        outcomes: u32,
+    },
     /// The coordinator had no grant or no vote of this site in time. It is the least such site.
     Expired(SiteId),
     /// At this site the grant doesn't stand any more under which its vote was asked for.

@@ -7,6 +7,7 @@ mod committing;
 mod crashes;
 mod crossing;
 mod deciding;
+mod doubting;
 mod error;
 mod granting;
 mod input;

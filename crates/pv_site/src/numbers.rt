@@ -30,6 +30,7 @@ fn has_small_numbers_in(stmt: &Stmt) -> bool
     match stmt {
         Stmt::Assign { value, .. } => is_of_small_numbers(value),
         Stmt::Require(test) => is_of_small_numbers(test),
+        Stmt::Certain(_) => true,
         Stmt::Return(value) => is_of_small_numbers(value),
         Stmt::If {
             test,

@@ -72,7 +72,8 @@ module _ (here : Here) where
   granted-points from txn grant values step (of_grants.ignored entry h i) = nobody step refl
   granted-points from txn grant values step (of_grants.waits entry h i) = nobody step refl
   granted-points from txn grant values step (of_grants.too_wide entry h i) = nobody step refl
-  granted-points from txn grant values step (of_grants.reaches_lock_point entry h i) = λ placed is. record {
+  granted-points from txn grant values step (of_grants.in_doubt entry least h i doubt) = nobody step refl
+  granted-points from txn grant values step (of_grants.reaches_lock_point entry h i certain) = λ placed is. record {
     from = from;
     txn = txn;
     grant = grant;

@@ -68,6 +68,11 @@ fn refusal(txn: TxnId, cause: Cause) -> Line
             holder,
         },
         Cause::OutcomeLimit(names) => Line::RefuseLimit { txn, names },
+        Cause::Uncertain { item, outcomes } => Line::RefuseUncertain {
+            txn,
+            item,
+            names: outcomes,
+        },
         Cause::Expired(site) => Line::RefuseExpired { txn, site },
         Cause::GrantLost(site) => Line::RefuseLost { txn, site },
         Cause::JournalFull { site, length } => Line::RefuseFull { txn, site, length },

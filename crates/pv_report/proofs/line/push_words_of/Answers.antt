@@ -2,7 +2,7 @@
 use Rattle.std.proofs.lemmas.Result.{on_ok_weaker}
 use Rattle.pv_base.specs.Txn.{txn_text}
 use Rattle.pv_protocol.specs.LineText.{cause_text, words_of}
-use Rattle.pv_protocol.specs.State.{outcome_limit, grant_lost, journal_full}
+use Rattle.pv_protocol.specs.State.{outcome_limit, uncertain, grant_lost, journal_full}
 use Rattle.pv_report.proofs.PieceLemmas.{put_cause}
 use Rattle.pv_report.proofs.line.push_words_of.Goals as goal
 
@@ -14,6 +14,15 @@ returns-in_ok-push_refused-in-RefuseLimit-clause-text c =
     (λ written. put_cause c.args.text.now.items c.push_refused-in-RefuseLimit.new.text.items c.push_numbered.new.text.items (txn_text c.in-RefuseLimit.txn)
     (cause_text c.args.catalog.now (outcome_limit c.in-RefuseLimit.names)) c.in_ok-push_refused-in-RefuseLimit.ensures.text written)
     c.push_numbered.ensures.text)
+
+pub returns-in_ok-push_refused-in-RefuseUncertain-clause-text : goal.returns-in_ok-push_refused-in-RefuseUncertain-clause-text
+unfolding words_of
+returns-in_ok-push_refused-in-RefuseUncertain-clause-text c =
+    rw c.in-RefuseUncertain.is
+    (on_ok_weaker c.push_uncertain.result
+    (λ written. put_cause c.args.text.now.items c.push_refused-in-RefuseUncertain.new.text.items c.push_uncertain.new.text.items (txn_text c.in-RefuseUncertain.txn)
+    (cause_text c.args.catalog.now (uncertain c.in-RefuseUncertain.item.0 c.in-RefuseUncertain.names)) c.in_ok-push_refused-in-RefuseUncertain.ensures.text written)
+    c.push_uncertain.ensures.text)
 
 pub returns-in_ok-push_refused-in-RefuseLost-clause-text : goal.returns-in_ok-push_refused-in-RefuseLost-clause-text
 unfolding words_of

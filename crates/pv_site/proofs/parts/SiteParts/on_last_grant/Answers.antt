@@ -1,5 +1,5 @@
 -- The last grant.
-use Rattle.std.proofs.Common.{◌∙◌, ℕ, List, Some, ap, map, refl, subst, sym}
+use Rattle.std.proofs.Common.{◌∙◌, ℕ, List, None, Some, ap, map, refl, subst, sym}
 use Rattle.std.specs.Prelude.{IfSome}
 use Rattle.pv_coord.specs.Answers.{arrival}
 use Rattle.pv_coord.specs.Coordinator.{CoordMemory, Grants, locking_work, taking}
@@ -9,8 +9,9 @@ use Rattle.pv_protocol.specs.Coordinate.{is_locking}
 use Rattle.pv_protocol.specs.State as state
 use Rattle.pv_protocol.specs.Here.{refusing}
 use Rattle.pv_protocol.specs.State.{Taken, outcome_limit}
-use Rattle.pv_site.proofs.GrantSteps.{is-last, last-apart, last-locked, last-reads, last-refused}
+use Rattle.pv_site.proofs.GrantSteps.{is-last, last-apart, last-doubted, last-locked, last-reads, last-refused}
 use Rattle.pv_site.proofs.Refused.{entry-found}
+use Rattle.pv_site.specs.Doubts.{least_from}
 use Rattle.pv_site.specs.LockPoint.{IsTooMany}
 use Rattle.pv_site.specs.SiteParts.{StepParts, here_of}
 use Rattle.pv_site.specs.Shares.{prepares}
@@ -50,16 +51,29 @@ returns-in-Err-OutcomeLimit c =
     (c.refuse.ensures is.taken.work.entry
     (entry-found parts c.requires.sound.tied (λ (w : Work). is_locking w.entry.stage) c.args.txn is.taken.work is.taken.found)))
 
+pub returns-in-Some : goal.returns-in-Some
+returns-in-Some c =
+    let parts = c.args.self.now in
+    let new : Taken = record { site = c.args.from.0; grant = c.args.grant; values = c.args.change.taken.values } in
+    let is = is-last parts c.requires.sound.tied c.args.txn new c.args.reads.items c.args.program.now c.args.change
+    (ap (arrival (locking_work parts.coord.contents c.args.txn)) (sym c.requires.change) ∙ c.requires.last) in
+    subst (λ (step : state.Step). StepParts parts c.refuse-in-Some.new.self step c.refuse-in-Some.result)
+    (sym (last-doubted parts c.requires.sound.tied c.args.txn new c.args.reads.items c.args.program.now is c.requires.sound c.in_ok-first.first
+    c.in-Some.doubt c.in-Ok.joined.writes.items c.in-Ok.joined.reply c.in-Ok.ensures.computed (c.in_ok-first.ensures ∙ ap (λ (some : List Read). least_from parts.store.records c.args.program.now None some) c.deref.ensures.value) c.in-Some.is))
+    (c.refuse-in-Some.ensures is.taken.work.entry
+    (entry-found parts c.requires.sound.tied (λ (w : Work). is_locking w.entry.stage) c.args.txn is.taken.work is.taken.found))
+
 pub returns : goal.returns
 returns c =
     let parts = c.args.self.now in
     let new : Taken = record { site = c.args.from.0; grant = c.args.grant; values = c.args.change.taken.values } in
     let is = is-last parts c.requires.sound.tied c.args.txn new c.args.reads.items c.args.program.now c.args.change
     (ap (arrival (locking_work parts.coord.contents c.args.txn)) (sym c.requires.change) ∙ c.requires.last) in
-    last-locked parts c.requires.sound.tied c.args.txn new c.args.reads.items c.args.program.now is c.apply_granted.new.self _
-    c.in-Ok.joined.writes.items c.in-Ok.joined.reply c.in-Ok.ensures.computed
+    last-locked parts c.requires.sound.tied c.args.txn new c.args.reads.items c.args.program.now is c.requires.sound c.apply_granted.new.self _
+    c.in-Ok.joined.writes.items c.in-Ok.joined.reply c.in_ok-first.first c.in-Ok.ensures.computed
+    (c.in_ok-first.ensures ∙ ap (λ (some : List Read). least_from parts.store.records c.args.program.now None some) c.deref.ensures.value) c.in_default.is
     (ap (λ (memory : CoordMemory). memory.contents) c.apply_granted.ensures
     ∙ ap (λ (grants : Grants). taking parts.coord.contents grants (Some c.in-Ok.joined.reply)) c.requires.change)
     (λ w found. c.in_ok-sends.ensures w found
-    ∙ ap (λ (writes : List Read). prepares c.args.txn writes c.args.from.0 c.args.grant (grant_from w) w.parts) c.deref.ensures.value)
+    ∙ ap (λ (writes : List Read). prepares c.args.txn writes c.args.from.0 c.args.grant (grant_from w) w.parts) c.deref-2.ensures.value)
     (ap (map note_of) c.new.ensures.items) refl
