@@ -20,6 +20,7 @@ NAMES = (
     "refused-grant-lost",
     "refused-journal-full",
     "refused-outcome-limit",
+    "refused-uncertain",
 )
 
 

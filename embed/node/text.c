@@ -130,8 +130,8 @@ static const struct {
     const char *cause;
     const char *members[3];
 } CAUSES[] = {
-    {"conflict", {"site", "item", "holder"}}, {"outcome-limit", {"names", NULL, NULL}},  {"expired", {"site", NULL, NULL}},
-    {"grant-lost", {"site", NULL, NULL}},     {"journal-full", {"site", "length", NULL}},
+    {"conflict", {"site", "item", "holder"}}, {"outcome-limit", {"names", NULL, NULL}}, {"uncertain", {"item", "names", NULL}},
+    {"expired", {"site", NULL, NULL}},        {"grant-lost", {"site", NULL, NULL}},     {"journal-full", {"site", "length", NULL}},
 };
 
 static void json_member_named(text *out, const char *const *members, const word *values, const char *name) {

@@ -43,7 +43,7 @@ class Refusal:
     """The transaction hasn't committed, and never will."""
 
     transaction: str
-    #: `conflict`, `outcome-limit`, `expired`, `grant-lost` or `journal-full`.
+    #: `conflict`, `outcome-limit`, `uncertain`, `expired`, `grant-lost` or `journal-full`.
     cause: str
     #: What the cause says besides: `site`, `item`, `holder`, `names`, `length`.
     more: Dict[str, Union[int, str]]
@@ -94,6 +94,7 @@ class Item:
 _MEMBERS = {
     "conflict": ("site", "item", "holder"),
     "outcome-limit": ("names",),
+    "uncertain": ("item", "names"),
     "expired": ("site",),
     "grant-lost": ("site",),
     "journal-full": ("site", "length"),

@@ -28,11 +28,12 @@ class Token:
 
 @dataclass(frozen=True)
 class Program:
-    """The statements of a program, the items that it names, those that it assigns, and whether it returns something."""
+    """The statements of a program, the items that it names, those that it assigns, those that have to be certain, and whether it returns something."""
 
     statements: tuple
     items: frozenset
     assigned: frozenset
+    certain: frozenset
     returns: bool
 
 
@@ -51,6 +52,7 @@ class Parser:
         self.names = names
         self.items = set()
         self.assigned = set()
+        self.certain = set()
         self.returns = False
 
     @property
@@ -95,7 +97,7 @@ class Parser:
         statements = self.program(0)
         if self.token.text:
             self.fault()
-        return Program(statements, frozenset(self.items), frozenset(self.assigned), self.returns)
+        return Program(statements, frozenset(self.items), frozenset(self.assigned), frozenset(self.certain), self.returns)
 
     def program(self, depth):
         """Statements between semicolons."""
@@ -111,6 +113,8 @@ class Parser:
         if word in ("require", "return"):
             self.step(depth)
             self.returns = self.returns or word == "return"
+            if word == "require" and self.token.text == "certain":
+                return self.certainty(depth)
             return (word, self.expression(depth))
         if word == "if":
             return self.branch(depth)
@@ -118,6 +122,13 @@ class Parser:
         self.assigned.add(name)
         self.take(":=", depth)
         return ("assign", name, self.expression(depth))
+
+    def certainty(self, depth):
+        """The word `certain` and an item."""
+        self.step(depth)
+        name = self.name(depth)
+        self.certain.add(name)
+        return ("certain", name)
 
     def branch(self, depth):
         """An `if` with its bodies."""
@@ -284,6 +295,8 @@ def course(statements, rows):
         elif statement[0] == "require":
             if not value_of(statement[1], rows):
                 raise Declined("declined-require")
+        elif statement[0] == "certain":
+            pass
         elif statement[0] == "return":
             return value_of(statement[1], rows)
         else:

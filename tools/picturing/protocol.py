@@ -86,6 +86,7 @@ class Site:
 
     def __init__(self, number, items, limit):
         self.number = number
+        self.declared = tuple(items)
         self.items = {name: item for name, item in items.items() if item.site == number}
         self.limit = limit
         self.outcomes = {}
@@ -215,6 +216,9 @@ class Site:
         named = set().union(*(polyvalues.names(tree) for tree in entry.reads.values()))
         if len(named) > READ_NAMES:
             return self.refuse(entry, f"outcome-limit {len(named)}")
+        for name in self.declared:
+            if name in entry.program.certain and (left := polyvalues.names(polyvalues.settle(entry.reads[name], self.outcomes))):
+                return self.refuse(entry, f"uncertain {name} {len(left)}")
         return self.lock_point(entry)
 
     def lock_point(self, entry):

@@ -19,6 +19,7 @@ CAUSES = "|".join(
     [
         rf"conflict {NUMBER} {NAME} {TRANSACTION}",
         rf"outcome-limit {NUMBER}",
+        rf"uncertain {NAME} {NUMBER}",
         rf"expired {NUMBER}",
         rf"grant-lost {NUMBER}",
         rf"journal-full {NUMBER} {NUMBER}",
