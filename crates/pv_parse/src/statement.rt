@@ -77,7 +77,7 @@ impl<'a> Parser<'a> {
         ensures stops { IfErr result (FailsWith self.now (depth, expected.program) tokens.old) }
     {
         tokens.pass(depth)?;
-        Ok(self.requirement(tokens, depth)?)
+        self.requirement(tokens, depth)
     }
 
     // What stands behind `require`.
@@ -121,7 +121,8 @@ impl<'a> Parser<'a> {
         ensures read { IfOk result (λ item. PassesName self.now depth tokens.old tokens.new item.0) }
         ensures stops { IfErr result (FailsWith self.now (depth, expected.item_name) tokens.old) }
     {
-        Ok(self.named(tokens, column, word, depth)?)
+        let item = self.named(tokens, column, word, depth)?;
+        Ok(item)
     }
 
     // `return VALUE`. The word is next.
