@@ -62,6 +62,7 @@ decide-cause before line causes.query_assigns e =
     decide-as (λ h. (h.0, h.1, h.2.0, h.2.1)) (λ h. (h.0, h.1, (h.2, h.3))) (decide-request before line (λ p. has_assignment p ≡ true) (λ p. decide-bool (has_assignment p) true))
 decide-cause before line causes.no_return e =
     decide-as (λ h. (h.0, h.1, h.2.0, h.2.1)) (λ h. (h.0, h.1, (h.2, h.3))) (decide-request before line (λ p. has_return p ≡ false) (λ p. decide-bool (has_return p) false))
+decide-cause before line causes.not_a_trace e = inr (λ never. never)
 
 -- Whether a line has a cause of a rank.
 
@@ -113,27 +114,29 @@ first-at before line r (inr none) next from =
     above : (r n : ℕ) → r ≤ n → (n ≡ r → ⊥) → suc r ≤ n
     above r n low isnt = omega (arith, low, isnt)
 
-rank-below : (c : LineCause) → line_cause_rank c ≤ 19
-rank-below causes.too_long = omega arith
-rank-below causes.not_text = omega arith
-rank-below causes.sites_expected = omega arith
-rank-below causes.unknown_word = omega arith
-rank-below causes.twice = omega arith
-rank-below causes.too_late = omega arith
-rank-below causes.wrong_count = omega arith
-rank-below causes.client_expected = omega arith
-rank-below causes.too_many_clients = omega arith
-rank-below causes.too_many_requests = omega arith
-rank-below causes.bad_number = omega arith
-rank-below causes.bad_mode = omega arith
-rank-below causes.bad_name = omega arith
-rank-below causes.name_taken = omega arith
-rank-below causes.too_many_items = omega arith
-rank-below (causes.at_program kind column) = omega arith
-rank-below causes.names_no_item = omega arith
-rank-below (causes.too_many_names n) = omega arith
-rank-below causes.query_assigns = omega arith
-rank-below causes.no_return = omega arith
+-- a cause that a line has; no line of a script is a line of a trace
+rank-below : (before : Before) (line : TextLine) (c : LineCause) → HasLineCause before line c → line_cause_rank c ≤ 19
+rank-below before line causes.too_long has = omega arith
+rank-below before line causes.not_text has = omega arith
+rank-below before line causes.sites_expected has = omega arith
+rank-below before line causes.unknown_word has = omega arith
+rank-below before line causes.twice has = omega arith
+rank-below before line causes.too_late has = omega arith
+rank-below before line causes.wrong_count has = omega arith
+rank-below before line causes.client_expected has = omega arith
+rank-below before line causes.too_many_clients has = omega arith
+rank-below before line causes.too_many_requests has = omega arith
+rank-below before line causes.bad_number has = omega arith
+rank-below before line causes.bad_mode has = omega arith
+rank-below before line causes.bad_name has = omega arith
+rank-below before line causes.name_taken has = omega arith
+rank-below before line causes.too_many_items has = omega arith
+rank-below before line (causes.at_program kind column) has = omega arith
+rank-below before line causes.names_no_item has = omega arith
+rank-below before line (causes.too_many_names n) has = omega arith
+rank-below before line causes.query_assigns has = omega arith
+rank-below before line causes.no_return has = omega arith
+rank-below before line causes.not_a_trace has = absurd has
 
 pub some-first : (before : Before) (line : TextLine) → SomeFirst before line
 some-first before line =
@@ -157,5 +160,5 @@ some-first before line =
     first-at before line 17 (many-at before line) (
     first-at before line 18 (plain-at before line causes.query_assigns refl) (
     first-at before line 19 (plain-at before line causes.no_return refl)
-    (λ from. inr (λ c has. omega (arith, from c has, rank-below c))))))))))))))))))))))
+    (λ from. inr (λ c has. omega (arith, from c has, rank-below before line c has))))))))))))))))))))))
     (λ c has. omega arith)

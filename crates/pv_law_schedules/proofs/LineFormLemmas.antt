@@ -232,3 +232,4 @@ fits-no-cause before line causes.query_assigns fits has =
 fits-no-cause before line causes.no_return fits has =
     let runs = fits-program before line has.0 fits has.1 in
     false≢true (sym has.3 ∙ (runs.answers has.2).1)
+fits-no-cause before line causes.not_a_trace fits has = has

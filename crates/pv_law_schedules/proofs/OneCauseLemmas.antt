@@ -24,7 +24,8 @@ plain_of r =
     (if r == 6 then causes.wrong_count else (if r == 7 then causes.client_expected else (if r == 8 then causes.too_many_clients else
     (if r == 9 then causes.too_many_requests else (if r == 10 then causes.bad_number else (if r == 11 then causes.bad_mode else
     (if r == 12 then causes.bad_name else (if r == 13 then causes.name_taken else (if r == 14 then causes.too_many_items else
-    (if r == 16 then causes.names_no_item else (if r == 18 then causes.query_assigns else causes.no_return))))))))))))))))
+    (if r == 16 then causes.names_no_item else (if r == 18 then causes.query_assigns else
+    (if r == 19 then causes.no_return else causes.not_a_trace)))))))))))))))))
 
 pub plain-cause : (c : LineCause) → says_more (line_cause_rank c) ≡ false → c ≡ plain_of (line_cause_rank c)
 plain-cause causes.too_long e = refl
@@ -47,6 +48,7 @@ plain-cause causes.names_no_item e = refl
 plain-cause (causes.too_many_names n) e = absurd (false≢true (sym e))
 plain-cause causes.query_assigns e = refl
 plain-cause causes.no_return e = refl
+plain-cause causes.not_a_trace e = refl
 
 same-fault : (k l : Kind) (m n : ℕ) → at_fault k m ≡ at_fault l n → causes.at_program k m ≡ causes.at_program l n
 same-fault k l m n e = let kind : k ≡ l = cc in let column : m ≡ n = cc in λ i. causes.at_program (kind i) (column i)

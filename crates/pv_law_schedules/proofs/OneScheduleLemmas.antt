@@ -17,7 +17,7 @@ use Rattle.pv_law_schedules.proofs.OneCauseLemmas.{one-cause}
 abbrev pub Steps : Before → TextLine → Before → Type 0
 Steps before line after = ((e : Event) × IsEvent before line e × (after ≡ with_event before)) ⊎ Declares before line after
 
-one-step : (before : Before) (line : TextLine) (a b : Before) → Steps before line a → Steps before line b → a ≡ b
+pub one-step : (before : Before) (line : TextLine) (a b : Before) → Steps before line a → Steps before line b → a ≡ b
 one-step before line a b (inl x) (inl y) = x.2 ∙ sym y.2
 one-step before line a b (inl x) (inr y) = absurd (not-both x.1 y)
 one-step before line a b (inr x) (inl y) = absurd (not-both y.1 x)
@@ -27,17 +27,17 @@ no-step : (before : Before) (line : TextLine) (after : Before) (cause : LineCaus
 no-step before line after cause steps has = ⊎_elim (λ x. no-cause-event cause x.1 has) (λ y. no-cause-declared cause y has) steps
 
 -- lines of which the first is good
-abbrev Goes : Before → TextLine → List TextLine → Before → Type 0
+abbrev pub Goes : Before → TextLine → List TextLine → Before → Type 0
 Goes before line rest last = (after : Before) × (events : List Event) × Steps before line after × AreLines after rest events last
 
-goes : {before last : Before} {line : TextLine} {rest : List TextLine} {events : List Event} → AreLines before (line ∷ rest) events last → Goes before line rest last
+pub goes : {before last : Before} {line : TextLine} {rest : List TextLine} {events : List Event} → AreLines before (line ∷ rest) events last → Goes before line rest last
 goes (declaration before after last line rest events d more) = (after, events, inr d, more)
 goes (event before last line rest e events d more) = (with_event before, events, inl (e, d, refl), more)
 
-stays : {before last : Before} {events : List Event} → AreLines before [] events last → before ≡ last
+pub stays : {before last : Before} {events : List Event} → AreLines before [] events last → before ≡ last
 stays (none before) = refl
 
-one-lines : {before last other : Before} {rest : List TextLine} {events others : List Event} → AreLines before rest events last → AreLines before rest others other → (events ≡ others) × (last ≡ other)
+pub one-lines : {before last other : Before} {rest : List TextLine} {events others : List Event} → AreLines before rest events last → AreLines before rest others other → (events ≡ others) × (last ≡ other)
 one-lines (none b) (none b2) = (refl, refl)
 one-lines (declaration b a l line ls es d more) (declaration b2 a2 l2 line2 ls2 es2 d2 more2) =
     one-lines more (subst (λ (x : Before). AreLines x ls es2 l2) (one-declared d2 d) more2)

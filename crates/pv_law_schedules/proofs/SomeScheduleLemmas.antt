@@ -13,7 +13,7 @@ use Rattle.pv_law_schedules.proofs.SomeLineLemmas.{some_line}
 
 -- Numbered lines are all good, or one of them is the first at fault.
 
-abbrev SitesIn : Before → Type 0
+abbrev pub SitesIn : Before → Type 0
 SitesIn before = (n : ℕ) × (before.sites ≡ Some n)
 
 abbrev AllGood : Before → List (ℕ × TextLine) → Type 0
@@ -87,7 +87,7 @@ walk before (x ∷ all) =
 
 -- Behind a line the count of sites has been said.
 
-keeps : (before after : Before) (line : TextLine) → Declares before line after → SitesIn after
+pub keeps : (before after : Before) (line : TextLine) → Declares before line after → SitesIn after
 keeps before after line (inl x) = (x.count, ap (λ (b : Before). b.sites) x.same)
 keeps before after line (inr (inl x)) = (x.sites, ap (λ (b : Before). b.sites) x.same ∙ x.said)
 keeps before after line (inr (inr (inl x))) = (x.sites, ap (λ (b : Before). b.sites) x.same ∙ x.said)
@@ -106,7 +106,7 @@ said-behind (event before last line ls e es is more) = said-from (is.sites, is.s
 
 -- A live script has no events.
 
-keeps-script : (before after : Before) (line : TextLine) → Declares before line after → after.script ≡ before.script
+pub keeps-script : (before after : Before) (line : TextLine) → Declares before line after → after.script ≡ before.script
 keeps-script before after line (inl x) = ap (λ (b : Before). b.script) x.same
 keeps-script before after line (inr (inl x)) = ap (λ (b : Before). b.script) x.same
 keeps-script before after line (inr (inr (inl x))) = ap (λ (b : Before). b.script) x.same

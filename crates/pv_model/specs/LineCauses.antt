@@ -62,6 +62,8 @@ pub data LineCause : Type 0 where
   too_many_names : ℕ → LineCause
   query_assigns : LineCause
   no_return : LineCause
+  -- the line of a trace is none; no line of a script has this cause
+  not_a_trace : LineCause
 
 -- the order in which causes are reported
 abbrev pub line_cause_rank : LineCause → ℕ
@@ -85,6 +87,7 @@ line_cause_rank names_no_item = 16
 line_cause_rank (too_many_names n) = 17
 line_cause_rank query_assigns = 18
 line_cause_rank no_return = 19
+line_cause_rank not_a_trace = 20
 
 -- the line begins with this word
 abbrev pub HasFirstWord : List ℕ → TextLine → Type 0
@@ -135,6 +138,7 @@ HasLineCause before line names_no_item = (p : Program) × HasProgram before line
 HasLineCause before line (too_many_names n) = (p : Program) × HasProgram before line p × (items : List ℕ) × AreItems p items × (n ≡ length items) × (MAX_PROGRAM_ITEMS < n)
 HasLineCause before line query_assigns = (p : Program) × HasProgram before line p × HasFirstWord (codes "query") line × (has_assignment p ≡ true)
 HasLineCause before line no_return = (p : Program) × HasProgram before line p × HasFirstWord (codes "query") line × (has_return p ≡ false)
+HasLineCause before line not_a_trace = ⊥
 
 -- The line's first cause, in the order of causes.
 pub record IsFirstCause (before : Before) (line : TextLine) (cause : LineCause) : Type 0 where

@@ -1,7 +1,7 @@
 -- How a refused line and its cause are printed.
 use Rattle.std.specs.Prelude.{ℕ, List, ◌++◌, codes}
 use Rattle.std.specs.Fmt.{decimal}
-use Rattle.pv_model.specs.LineCauses.{LineCause, too_long, not_text, sites_expected, unknown_word, twice, too_late, wrong_count, client_expected, too_many_clients, too_many_requests, bad_number, bad_mode, bad_name, name_taken, too_many_items, at_program, names_no_item, too_many_names, query_assigns, no_return}
+use Rattle.pv_model.specs.LineCauses.{LineCause, too_long, not_text, sites_expected, unknown_word, twice, too_late, wrong_count, client_expected, too_many_clients, too_many_requests, bad_number, bad_mode, bad_name, name_taken, too_many_items, at_program, names_no_item, too_many_names, query_assigns, no_return, not_a_trace}
 use Rattle.pv_model.specs.ProgramText.{malformed, unknown_name, too_deep}
 use Rattle.pv_script.specs.ScriptErrors.{line_cause_of}
 use Rattle.pv_script.specs.declared.schedule.ScriptError.{ScriptError}
@@ -31,6 +31,7 @@ cause_text names_no_item = codes "names no item"
 cause_text (too_many_names n) = codes "too many names " ++ decimal n
 cause_text query_assigns = codes "query assigns"
 cause_text no_return = codes "no return"
+cause_text not_a_trace = codes "not a trace"
 
 -- `line N: CAUSE`
 abbrev pub refused_text : ℕ → LineCause → List ℕ

@@ -5,7 +5,7 @@ use Rattle.pv_model.specs.LineForms.{Script, scheduled, live}
 use Rattle.pv_model.specs.Schedule.{IsMalformed}
 use Rattle.pv_model.specs.ProgramText.{malformed, unknown_name, too_deep}
 use Rattle.pv_script.specs.declared.schedule.LineCause.{LineCause}
-use Rattle.pv_script.specs.declared.schedule.LineCause.TheVariants.{TooLong, NotText, SitesExpected, UnknownWord, Twice, TooLate, WrongCount, ClientExpected, TooManyClients, TooManyRequests, BadNumber, BadMode, BadName, NameTaken, TooManyItems, ProgramColumn, UnknownName, TooDeep, NamesNoItem, TooManyNames, QueryAssigns, NoReturn}
+use Rattle.pv_script.specs.declared.schedule.LineCause.TheVariants.{TooLong, NotText, SitesExpected, UnknownWord, Twice, TooLate, WrongCount, ClientExpected, TooManyClients, TooManyRequests, BadNumber, BadMode, BadName, NameTaken, TooManyItems, ProgramColumn, UnknownName, TooDeep, NamesNoItem, TooManyNames, QueryAssigns, NoReturn, NotATrace}
 use Rattle.pv_script.specs.declared.schedule.ScriptError.{ScriptError}
 use Rattle.pv_script.specs.declared.schedule.ScriptError.TheVariants.{Malformed, NoMemory}
 
@@ -33,6 +33,7 @@ line_cause_of NamesNoItem = model.names_no_item
 line_cause_of (TooManyNames n) = model.too_many_names n
 line_cause_of QueryAssigns = model.query_assigns
 line_cause_of NoReturn = model.no_return
+line_cause_of NotATrace = model.not_a_trace
 
 -- A line, by its number, and why a text is refused there.
 pub record RefusedLine : Type 0 where

@@ -121,6 +121,8 @@ pub enum LineCause {
     QueryAssigns,
     /// A query has no `return`.
     NoReturn,
+    /// It is no line of a trace, or an event of one whose lines aren't whole. No line of a script has this cause.
+    NotATrace,
 }
 
 /// Why a text wasn't read as a schedule, or as a live script.
@@ -165,6 +167,7 @@ impl fmt::Display for LineCause {
             LineCause::TooManyNames(count) => write!(f, "too many names {count}"),
             LineCause::QueryAssigns => f.write_str("query assigns"),
             LineCause::NoReturn => f.write_str("no return"),
+            LineCause::NotATrace => f.write_str("not a trace"),
         }
     }
 }
