@@ -11,7 +11,7 @@ use Rattle.pv_ckpt.specs.declared.ckpt_log.CkptLog.{CkptLog}
 use Rattle.pv_disk.specs.BayAnswers.{HandsOut, HandsOutNone, TakesBack}
 use Rattle.pv_disk.specs.BayModel.{BayModel, Berth}
 use Rattle.pv_disk_model.specs.DiskModel.{DiskModel}
-use Rattle.pv_launch.proofs.DiskLemmas.{all-same, looked-same, same-idle}
+use Rattle.pv_launch.proofs.DiskLemmas.{all-same, looked-same, same-left}
 use Rattle.pv_launch.proofs.OrderedLemmas.{numbered-at, numbered-both, numbered-paired, numbered-push, numbered-some, paired-count}
 use Rattle.pv_launch.specs.Disks.{BeginsAll, IsBegunOn, IsOfDisks, Leaves}
 use Rattle.pv_launch.specs.Launching.{AreBack, AreLaunched, AreTaken, Brings, IsBack, IsCause, IsHandedBack, IsLaunched, IsOfBay, IsRefused, Shows, TakesAll, WasTaken}
@@ -163,7 +163,7 @@ module _ {B V : Type 0} (M : BayModel B) (D : DiskModel V) where
     of-bay BayFault old new is = (λ n disk. looked-same D disk, λ count. is)
     of-bay (DiskFault site) old new is = absurd is
     of-bay (Misread site) old new is = absurd is
-    of-bay NoMemory old new is = (λ n disk. same-idle D disk, λ count. (tt, is))
+    of-bay NoMemory old new is = (λ n disk. same-left D disk, λ count. (tt, is))
 
     pub short-brings : (old new : B) (left : GivenUp V) → TakesAll M D catalog.sites old new (Err left) → Brings M D catalog old new (Err left)
     short-brings old new left takes =

@@ -15,7 +15,7 @@ use Rattle.pv_disk_model.specs.DiskModel.{DiskModel}
 use Rattle.pv_launch.proofs.OrderedLemmas.{IsUnderWay, paired-all, paired-count, paired-same, paired-through, way-back, way-within}
 use Rattle.pv_launch.proofs.StartLemmas.{empty-log, idle-then, some-of}
 use Rattle.pv_launch.proofs.WorkLemmas.{few-idle, started-idle}
-use Rattle.pv_launch.specs.Disks.{AreEmpty, AreLeft, BeginsAll, IsBegunOn, IsEmpty, IsOfDisks, Leaves, disk_in, disk_of, why_for}
+use Rattle.pv_launch.specs.Disks.{AreEmpty, AreLeft, BeginsAll, IsBegunOn, IsEmpty, IsOfDisks, KeepsFull, Leaves, disk_in, disk_of, why_for}
 use Rattle.pv_launch.specs.Ordered.{Paired}
 use Rattle.pv_launch.specs.Starting.{HasBegun, Starts, StaysWithout}
 use Rattle.pv_launch.specs.Work.{HasNoWork, StaysIdle}
@@ -47,8 +47,24 @@ module _ {D : Type 0} (M : DiskModel D) where
     idle = λ empty. ([], looks.1 ∙ empty, inl (few-idle [] (omega arith)));
   }
 
-  pub same-idle : (disk : D) → StaysIdle M disk disk
+  same-idle : (disk : D) → StaysIdle M disk disk
   same-idle disk = looked-idle disk disk (looked-same disk)
+
+  -- ---- disks that aren't empty
+  keeps-looked : (old new : D) → LooksOn M old new → KeepsFull M old new
+  keeps-looked old new looks = λ held is some. looks
+
+  keeps-empty : (old new : D) → IsEmpty M old → KeepsFull M old new
+  keeps-empty old new empty = λ held is some. absurd (some (empty held is))
+
+  keeps-after : (old mid new : D) → LooksOn M old mid → KeepsFull M mid new → KeepsFull M old new
+  keeps-after old mid new looks keeps = λ held is some. looked-then old mid new looks (keeps held (looks.1 ∙ is) some)
+
+  keeps-same : (disk : D) → KeepsFull M disk disk
+  keeps-same disk = keeps-looked disk disk (looked-same disk)
+
+  pub same-left : (disk : D) → StaysIdle M disk disk × KeepsFull M disk disk
+  same-left disk = (same-idle disk, keeps-same disk)
 
   since-look : (old mid : D) → LooksOn M old mid → (bytes : List ℕ) → HasNoWork bytes ⊎ M.may_leave mid bytes → HasNoWork bytes ⊎ M.may_leave old bytes
   since-look old mid looks bytes (inl idle) = inl idle
@@ -103,6 +119,9 @@ module _ {D : Type 0} (M : DiskModel D) where
         idle-after taken on.asked site.log.disk on.looks
         (idle-then M n catalog on.asked on.made on.formatted_so site.log.disk (begun-without n on.made site on.begun))
 
+    begun-keeps : (n : ℕ) (taken : D) (site : SiteState (CkptLog D)) → IsBegunOn M catalog n taken site → KeepsFull M taken (disk_of site)
+    begun-keeps n taken site on = keeps-empty taken (disk_of site) (λ held is. on.empty held (on.looks.1 ∙ is))
+
     looked-begun : (n : ℕ) (old mid : D) (site : SiteState (CkptLog D)) → LooksOn M old mid → IsBegunOn M catalog n mid site → IsBegunOn M catalog n old site
     looked-begun n old mid site looks on = record {
       asked = on.asked;
@@ -118,7 +137,7 @@ module _ {D : Type 0} (M : DiskModel D) where
         (looked-then old mid new looks leaves.0, λ is none. leaves.1 is (looks.1 ∙ none))
     looked-leaves BayFault n old mid new looks leaves = looked-then old mid new looks leaves
     looked-leaves (DiskFault site) n old mid new looks leaves =
-        (idle-after old mid new looks leaves.0, λ is. subst (λ (k : ℕ). Rose k (M.faults new)) looks.2 (leaves.1 is))
+        (idle-after old mid new looks leaves.0, λ is. subst (λ (k : ℕ). Rose k (M.faults new)) looks.2 (leaves.1 is), λ apart. keeps-after old mid new looks (leaves.2 apart))
     looked-leaves (LaunchMisread site) n old mid new looks leaves = (
       idle-after old mid new looks leaves.0,
       λ is.
@@ -131,22 +150,26 @@ module _ {D : Type 0} (M : DiskModel D) where
             reads = read.reads;
             untold = sym looks.1 ∙ read.untold;
           },
+      keeps-after old mid new looks leaves.2,
     )
-    looked-leaves LaunchNoMemory n old mid new looks leaves = idle-after old mid new looks leaves
+    looked-leaves LaunchNoMemory n old mid new looks leaves = (idle-after old mid new looks leaves.0, keeps-after old mid new looks leaves.1)
 
     -- Of other disks than the one that it was for.
-    idle-leaves : (site : SiteId) (why : NotStarted D) (n : ℕ) (old new : D) → n ≢ site.0 → StaysIdle M old new → Leaves M catalog (why_for site why) n old new
-    idle-leaves site (Failed disk) n old new apart idle = (idle, λ is. absurd (apart is))
-    idle-leaves site (Misread disk) n old new apart idle = (idle, λ is. absurd (apart is))
-    idle-leaves site (NoMemory disk) n old new apart idle = idle
+    idle-leaves : (site : SiteId) (why : NotStarted D) (n : ℕ) (old new : D) → n ≢ site.0 → StaysIdle M old new → KeepsFull M old new
+        → Leaves M catalog (why_for site why) n old new
+    idle-leaves site (Failed disk) n old new apart idle keeps = (idle, λ is. absurd (apart is), λ other. keeps)
+    idle-leaves site (Misread disk) n old new apart idle keeps = (idle, λ is. absurd (apart is), keeps)
+    idle-leaves site (NoMemory disk) n old new apart idle keeps = (idle, keeps)
 
-    starts-leaves : (site : SiteId) (why : NotStarted D) (old : D) → Starts M site.0 catalog old (Err why) → Leaves M catalog (why_for site why) site.0 old (disk_in why)
-    starts-leaves site (Failed disk) old starts = (starts.0, λ is. starts.1)
-    starts-leaves site (Misread disk) old starts = (
+    starts-leaves : (site : SiteId) (why : NotStarted D) (old : D) → IsEmpty M old → Starts M site.0 catalog old (Err why)
+        → Leaves M catalog (why_for site why) site.0 old (disk_in why)
+    starts-leaves site (Failed disk) old empty starts = (starts.0, λ is. starts.1, λ apart. keeps-empty old disk empty)
+    starts-leaves site (Misread disk) old empty starts = (
       starts.0,
       λ is. record { asked = old; looks = looked-same old; made = starts.1.0; formatted_so = starts.1.1; reads = starts.1.2; untold = starts.2 },
+      keeps-empty old disk empty,
     )
-    starts-leaves site (NoMemory disk) old starts = starts
+    starts-leaves site (NoMemory disk) old empty starts = (starts, keeps-empty old disk empty)
 
     pub starts-begun : (n : ℕ) (old : D) (site : SiteState (CkptLog D)) → IsEmpty M old → Starts M n catalog old (Ok site) → IsBegunOn M catalog n old site
     starts-begun n old site empty starts = record {
@@ -178,9 +201,9 @@ module _ {D : Type 0} (M : DiskModel D) where
           stop-failed now = (
             whole (Leaves M catalog (DiskFault site))
                 (way-back (λ n old new. LooksOn M old new × IsEmpty M new) all before after last done is way (Leaves M catalog (DiskFault site)) (λ (d : D). d) new
-                (λ k x below. (same-idle x, λ same. absurd (omega (arith, below, same, here))))
-                (now.0, λ same. now.1)
-                (λ k x y above so. (looked-idle x y so.0, λ same. absurd (omega (arith, above, same, here))))),
+                (λ k x below. (same-idle x, λ same. absurd (omega (arith, below, same, here)), λ apart. keeps-same x))
+                (now.0, λ same. now.1, λ apart. absurd (apart here))
+                (λ k x y above so. (looked-idle x y so.0, λ same. absurd (omega (arith, above, same, here)), λ apart. keeps-looked x y so.0))),
             stop-within,
           )
 
@@ -199,19 +222,20 @@ module _ {D : Type 0} (M : DiskModel D) where
         fails-within : IsOfDisks (why_for site why) (length all)
         fails-within = of-disks site why (length all) (subst (λ n. n < length all) here (way-within (IsBegunOn M catalog) all before after last done is way))
 
-        fails-so : Starts M site.0 catalog last (Err why) → Paired (Leaves M catalog (why_for site why)) 0 all (after ++ (disk_in why ∷ map disk_of (reverse done)))
-        fails-so starts =
+        fails-so : IsEmpty M last → Starts M site.0 catalog last (Err why) → Paired (Leaves M catalog (why_for site why)) 0 all (after ++ (disk_in why ∷ map disk_of (reverse done)))
+        fails-so empty starts =
             let S = Leaves M catalog (why_for site why) in
             way-back (IsBegunOn M catalog) all before after last done is way S disk_of (disk_in why)
-            (λ k x below. idle-leaves site why k x x (λ same. absurd (omega (arith, below, same, here))) (same-idle x))
-            (subst (λ n. S n last (disk_in why)) (sym here) (starts-leaves site why last starts))
-            (λ k x on above begun. idle-leaves site why k x (disk_of on) (λ same. absurd (omega (arith, above, same, here))) (begun-idle k x on begun))
+            (λ k x below. idle-leaves site why k x x (λ same. absurd (omega (arith, below, same, here))) (same-idle x) (keeps-same x))
+            (subst (λ n. S n last (disk_in why)) (sym here) (starts-leaves site why last empty starts))
+            (λ k x on above begun.
+            idle-leaves site why k x (disk_of on) (λ same. absurd (omega (arith, above, same, here))) (begun-idle k x on begun) (begun-keeps k x on begun))
 
-        pub fails-left : Starts M site.0 catalog last (Err why) → (left : GivenUp D) → left.disks.items ≡ after ++ (disk_in why ∷ map disk_of (reverse done))
+        pub fails-left : IsEmpty M last → Starts M site.0 catalog last (Err why) → (left : GivenUp D) → left.disks.items ≡ after ++ (disk_in why ∷ map disk_of (reverse done))
             → left.why ≡ why_for site why → AreLeft M catalog all left × IsOfDisks left.why (length all)
-        fails-left starts left disks_are why_is = (
+        fails-left empty starts left disks_are why_is = (
           subst (λ (w : NotLaunched). Paired (Leaves M catalog w) 0 all left.disks.items) (sym why_is)
-              (subst (λ (l : List D). Paired (Leaves M catalog (why_for site why)) 0 all l) (sym disks_are) (fails-so starts)),
+              (subst (λ (l : List D). Paired (Leaves M catalog (why_for site why)) 0 all l) (sym disks_are) (fails-so empty starts)),
           subst (λ (w : NotLaunched). IsOfDisks w (length all)) (sym why_is) fails-within,
         )
 

@@ -46,6 +46,10 @@ module _ {D : Type 0} (M : DiskModel D) where
   abbrev pub IsEmpty : D → Type 0
   IsEmpty disk = (held : List ℕ) → M.content disk ≡ Some held → held ≡ []
 
+  -- A disk of which it is known that it isn't empty is only looked at.
+  abbrev pub KeepsFull : D → D → Type 0
+  KeepsFull taken given = (held : List ℕ) → M.content taken ≡ Some held → held ≢ [] → LooksOn M taken given
+
   -- Each disk was asked, and is empty.
   abbrev pub AreEmpty : List D → List D → Type 0
   AreEmpty taken asked = Paired (λ n old new. LooksOn M old new × IsEmpty new) 0 taken asked
@@ -73,9 +77,10 @@ module _ {D : Type 0} (M : DiskModel D) where
     abbrev pub Leaves : NotLaunched → ℕ → D → D → Type 0
     Leaves (NotEmpty site) n taken given = LooksOn M taken given × (n ≡ site.0 → M.content taken ≢ Some [])
     Leaves BayFault n taken given = LooksOn M taken given
-    Leaves (DiskFault site) n taken given = StaysIdle M taken given × (n ≡ site.0 → Rose (M.faults taken) (M.faults given))
-    Leaves (LaunchMisread site) n taken given = StaysIdle M taken given × (n ≡ site.0 → IsMisread n taken given)
-    Leaves LaunchNoMemory n taken given = StaysIdle M taken given
+    Leaves (DiskFault site) n taken given =
+        StaysIdle M taken given × (n ≡ site.0 → Rose (M.faults taken) (M.faults given)) × (n ≢ site.0 → KeepsFull taken given)
+    Leaves (LaunchMisread site) n taken given = StaysIdle M taken given × (n ≡ site.0 → IsMisread n taken given) × KeepsFull taken given
+    Leaves LaunchNoMemory n taken given = StaysIdle M taken given × KeepsFull taken given
 
     -- The disks are left so.
     abbrev pub AreLeft : List D → GivenUp D → Type 0

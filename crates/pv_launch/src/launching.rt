@@ -15,13 +15,13 @@ use std::alloc::Global;
 /// The sites of the catalog, in order, each started on the disk that the bay hands out for it, which has to be empty.
 ///
 /// All disks are taken first, then each is asked for its length, and only then is one of them changed. Where the sites aren't launched each disk that was taken
-/// is handed back, with no promise and no outcome on it if it was empty. Takes time in proportion to the sites times the catalog.
+/// is handed back: with no promise and no outcome on it if it was empty, and as it was if it wasn't and no call of it failed. Takes time in proportion to the sites times the catalog.
 ///
 /// - [`NotLaunched::NotEmpty`]: a disk isn't empty. Nothing was written to any.
 /// - [`NotLaunched::BayFault`]: the bay failed to hand a disk out, and counted that. Nothing was written to any.
 /// - [`NotLaunched::DiskFault`]: a disk failed, and the bay counts that for its site.
 /// - [`NotLaunched::Misread`]: a disk read back other bytes than were written. Such a disk doesn't tell what it holds.
-/// - [`NotLaunched::NoMemory`]: there was no memory.
+/// - [`NotLaunched::NoMemory`]: there was no memory. A disk that isn't empty is as it was.
 pub fn launch<B: Bay>(
     alloc: Global,
     catalog: &Catalog,

@@ -3,7 +3,7 @@ use Rattle.std.proofs.Common.{◌≡◌, ◌≢◌, ◌∷◌, [], ◌++◌, opt
 use Rattle.std.proofs.lemmas.Bool.Decides.{nat_tests}
 use Rattle.std.proofs.lemmas.List.{length_push}
 use Rattle.pv_law_calls.specs.Reading.{LooksOn}
-use Rattle.pv_launch.proofs.DiskLemmas.{all-same, asked-so, empty-so, same-idle, some-so, stop-failed, stop-not_empty, unanswered}
+use Rattle.pv_launch.proofs.DiskLemmas.{all-same, asked-so, empty-so, same-left, some-so, stop-failed, stop-not_empty, unanswered}
 use Rattle.pv_launch.proofs.OrderedLemmas.{IsUnderWay, way-count, way-end, way-more, way-none}
 use Rattle.pv_launch.specs.Disks.{IsEmpty}
 use Rattle.pv_launch.specs.Ordered.{Paired}
@@ -11,7 +11,7 @@ use Rattle.pv_launch.specs.declared.not_launched.NotLaunched.TheVariants.{NoMemo
 use Rattle.pv_launch.proofs.asking.ask_all.Goals as goal
 
 pub returns-in_default : goal.returns-in_default
-returns-in_default g c = λ catalog. (all-same g.D.Disk.model catalog NoMemory c.args.disks.items (λ n disk. same-idle g.D.Disk.model disk), tt)
+returns-in_default g c = λ catalog. (all-same g.D.Disk.model catalog NoMemory c.args.disks.items (λ n disk. same-left g.D.Disk.model disk), tt)
 
 pub loop-disk-init : goal.loop-disk-init
 loop-disk-init g c =

@@ -2,7 +2,7 @@
 use Rattle.std.proofs.Common.{◌≡◌, ◌∷◌, [], ◌++◌, Some, Ok, option_to_list, length, sym, ap, subst, ◌∙◌, arith}
 use Rattle.std.proofs.lemmas.List.{length_push}
 use Rattle.std.proofs.lemmas.List.Elements.{All-pop}
-use Rattle.pv_launch.proofs.DiskLemmas.{all-same, fails-left, same-idle, starts-begun}
+use Rattle.pv_launch.proofs.DiskLemmas.{all-same, fails-left, same-left, starts-begun}
 use Rattle.pv_launch.proofs.OrderedLemmas.{IsUnderWay, way-count, way-end, way-more, way-none}
 use Rattle.pv_launch.specs.Disks.{IsBegunOn, IsEmpty}
 use Rattle.pv_launch.specs.Ordered.{Paired}
@@ -11,7 +11,7 @@ use Rattle.pv_launch.specs.declared.not_launched.NotLaunched.TheVariants.{NoMemo
 use Rattle.pv_launch.proofs.beginning.begin_all.Goals as goal
 
 pub returns-in_default : goal.returns-in_default
-returns-in_default g c = (all-same g.D.Disk.model c.args.catalog.now NoMemory c.args.disks.items (λ n disk. same-idle g.D.Disk.model disk), tt)
+returns-in_default g c = (all-same g.D.Disk.model c.args.catalog.now NoMemory c.args.disks.items (λ n disk. same-left g.D.Disk.model disk), tt)
 
 pub loop-disk-init : goal.loop-disk-init
 loop-disk-init g c = record {
@@ -82,7 +82,8 @@ returns-in-Err g c =
     let after = c.pop.new.self.items in
     let is : before ≡ after ++ c.in-Some.disk ∷ [] = c.pop.ensures.items ∙ ap (λ r. after ++ option_to_list r) c.in-Some.is in
     fails-left g.D.Disk.model c.args.catalog.now c.args.disks.items before after c.in-Some.disk is c.loop-disk.sites.items c.loop-disk.invariant.way _
-    (sym (c.len-in-Some.ensures ∙ c.pop.new.self.ok.0)) c.in-Err.why c.in-Err.ensures c.given_up.result c.given_up.ensures.disks c.given_up.ensures.why
+    (sym (c.len-in-Some.ensures ∙ c.pop.new.self.ok.0)) c.in-Err.why
+    (All-pop (IsEmpty g.D.Disk.model) before after (Some c.in-Some.disk) is c.loop-disk.invariant.empty).1 c.in-Err.ensures c.given_up.result c.given_up.ensures.disks c.given_up.ensures.why
 
 pub returns : goal.returns
 returns g c =
