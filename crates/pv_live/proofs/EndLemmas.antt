@@ -1,5 +1,5 @@
 -- How `live` ends, by what was launched, read and written.
-use Rattle.std.proofs.Common.{◌≡◌, ◌≢◌, ◌⊎◌, inl, inr, List, [], ℕ, ◌<◌, ◌≤◌, length, Option, Result, Ok, Err, OnOk, OnErr, cond, is_ok, refl, sym, ap, ◌∙◌, subst, arith}
+use Rattle.std.proofs.Common.{◌≡◌, ◌≢◌, ◌⊎◌, inl, inr, List, [], ℕ, ◌<◌, ◌≤◌, ◌==◌, true, false, if◌then◌else◌, length, get_or, Option, Result, Ok, Err, OnOk, OnErr, cond, is_ok, refl, sym, ap, ◌∙◌, subst, arith}
 use Rattle.std.specs.Prelude.{IfErr}
 use Rattle.std.specs.Bool.{⊤}
 use Rattle.std.specs.Io.KnownBytes.{Appends}
@@ -7,7 +7,9 @@ use Rattle.std.proofs.lemmas.Bool.Decides.{leb_tells}
 use Rattle.std.proofs.lemmas.List.{take_all}
 use Rattle.std.proofs.lemmas.Result.{IfOk-at_ok}
 use Rattle.std.proofs.KnownBytes.{Appends-nil, Keeps-refl}
+use Rattle.pv_base.specs.Fault.{risen}
 use Rattle.pv_base.specs.declared.limits.TheConstants.{MAX_INPUT}
+use Rattle.pv_ckpt.specs.declared.ckpt_log.CkptLog.{CkptLog}
 use Rattle.pv_disk.specs.BayModel.{BayModel, Berth}
 use Rattle.pv_disk_model.specs.DiskModel.{DiskModel}
 use Rattle.pv_io.specs.SinkEffects.{Writes, WritesNothing, WritesPrefix}
@@ -15,7 +17,7 @@ use Rattle.pv_io.specs.Stream.{AppendsPrefix}
 use Rattle.pv_io.specs.declared.read_end.ReadEnd.{ReadEnd}
 use Rattle.pv_io.specs.declared.read_end.ReadEnd.TheVariants as why
 use Rattle.pv_io.specs.declared.sink.Sink.{Ghosts}
-use Rattle.pv_launch.specs.Launching.{IsRefused}
+use Rattle.pv_launch.specs.Launching.{AreLaunched, IsHandedBack, IsLaunched, IsRefused}
 use Rattle.pv_launch.specs.declared.not_launched.NotLaunched.{NotLaunched}
 use Rattle.pv_launch.specs.declared.not_launched.NotLaunched.TheVariants as unlaunched
 use Rattle.pv_model.specs.LineCauses.{LineCause}
@@ -28,7 +30,8 @@ use Rattle.pv_run.specs.declared.status.Status.TheVariants.{Malformed as Malform
 use Rattle.pv_run.specs.declared.write_end.WriteEnd.{WriteEnd}
 use Rattle.pv_run.specs.declared.write_end.WriteEnd.TheVariants as unwritten
 use Rattle.pv_show.specs.Bays.{IsAtRest}
-use Rattle.pv_live.specs.Lived.{Lives}
+use Rattle.pv_site.specs.SiteState.{SiteState}
+use Rattle.pv_live.specs.Lived.{KeepsFullDisks, Lives}
 use Rattle.pv_live.proofs.NamingLemmas.{element}
 use Rattle.pv_live.specs.Inputs.{IsRefusedText, IsScriptOfClients}
 use Rattle.pv_live.specs.LiveEnds.{AnswersLive, RunsSites, end_of_launch, end_of_refusal, live_status}
@@ -102,6 +105,34 @@ module _ {B V : Type 0} (M : BayModel B) (D : DiskModel V) (script : LiveScript)
             ap (λ (b : Berth). b.is_out) (lives.has_run.served n (element lives.boxes n below) below).back.0
       ]
 
+  -- ---- disks that aren't empty
+  -- One that was handed out is back as it was.
+  handed-full : (n : ℕ) → IsHandedBack M D script.catalog unlaunched.NoMemory old new n → (M.berth old n).is_out ≡ false → M.tells old ≡ true → (M.berth old n).holds ≢ []
+      → M.berth new n ≡ M.berth old n
+  handed-full n one rest tells some =
+      let was = one.was.holds tells in
+      let looks = one.leaves.1 (M.berth old n).holds was some in
+      let unfailed : D.faults one.given ≡ 0 = looks.2 ∙ one.was.unfailed in
+      let faults : (if D.faults one.given == 0 then (M.berth old n).faults else risen (M.berth old n).faults) ≡ (M.berth old n).faults =
+      ap (λ k. if k == 0 then (M.berth old n).faults else risen (M.berth old n).faults) unfailed in
+      let holds : (M.berth new n).holds ≡ (M.berth old n).holds = one.back.1 tells (M.berth old n).holds (looks.1 ∙ was) in
+      one.back.0 ∙ (λ i. record (M.berth old n) { is_out = sym rest i; faults = faults i; holds = holds i })
+
+  refused-full : IsRefused M D script.catalog old new unlaunched.NoMemory → KeepsFullDisks M D script old new
+  refused-full refused = λ rest tells n below some.
+      elim (leb_tells refused.count n) [
+        | inl past ↦ refused.beyond n past.1
+        | inr not ↦ handed-full n (refused.each n (let less = not.1 in omega (arith, less))) (rest n) tells some
+      ]
+
+  -- And none is launched.
+  pub launched-full : (mid : B) (sites : List (SiteState (CkptLog V))) → AreLaunched M D script.catalog old mid sites
+      → ((n : ℕ) (any : SiteState (CkptLog V)) → n < length sites → IsLaunched M D script.catalog old n (get_or sites n any)) → KeepsFullDisks M D script old new
+  launched-full mid sites launched numbered = λ rest tells n below some.
+      let within : n < length sites = let many = launched.new_sites.0 in omega (arith, below, many) in
+      let one = numbered n (element sites n within) within in
+      absurd (some (one.begun.empty (M.berth old n).holds (one.begun.looks.1 ∙ one.was.holds tells)))
+
   -- ---- by the end
   module _ {W : Type 0} (sink : Ghosts W) (before after : W) where
     -- No site was launched.
@@ -117,6 +148,7 @@ module _ {B V : Type 0} (M : BayModel B) (D : DiskModel V) (script : LiveScript)
         faults = refused.cause.1;
         tells = refused.tells;
       },
+      refused-full refused,
       nothing,
     )
 
@@ -126,6 +158,12 @@ module _ {B V : Type 0} (M : BayModel B) (D : DiskModel V) (script : LiveScript)
         → RunsSites M D sink script old new before after ended
     lived-runs (Ok all) ended text is lives whole part = subst (RunsSites M D sink script old new before after) (sym is) (text, lives, whole)
     lived-runs (Err e) ended text is lives whole part = subst (RunsSites M D sink script old new before after) (sym is) (text, lives, part)
+
+-- Nothing was done.
+pub idle-runs : {W B V : Type 0} (sink : Ghosts W) (M : BayModel B) (D : DiskModel V) (script : LiveScript) (bay : B) (same : W)
+    → RunsSites M D sink script bay bay same same at.NoMemory
+idle-runs sink M D script bay same =
+    (record { beyond = λ n past. refl; faults = refl; tells = refl }, λ rest tells n below some. refl, Keeps-refl (sink.held same))
 
 -- Of an input that wasn't read nothing is run.
 module _ {W B V : Type 0} (sink : Ghosts W) (M : BayModel B) (D : DiskModel V) (same : W) (bay : B) (input : List ℕ) where
@@ -220,7 +258,7 @@ module _ {W B V : Type 0} (sink : Ghosts W) (M : BayModel B) (D : DiskModel V) (
 pub answers-nothing : {W B V : Type 0} (sink : Ghosts W) (M : BayModel B) (D : DiskModel V) (same : W) (bay : B) (input : List ℕ) → length input ≤ MAX_INPUT
     → AnswersLive sink M D same same bay bay (Ok at.NoMemory) input
 answers-nothing sink M D same bay input short = record {
-  run = λ within script says. (record { beyond = λ n past. refl; faults = refl; tells = refl }, Keeps-refl (sink.held same));
+  run = λ within script says. idle-runs sink M D script bay same;
   refused = λ within number cause is.
       ((inl tt, (0, Appends-nil (sink.held same)), λ fault. absurd (let wrong : ⊥ = cc in wrong)), refl, λ malformed. absurd (let wrong : ⊥ = cc in wrong));
   long = λ over. absurd (omega (arith, over, short));

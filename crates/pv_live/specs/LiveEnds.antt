@@ -26,7 +26,7 @@ use Rattle.pv_run.specs.declared.write_end.WriteEnd.{WriteEnd}
 use Rattle.pv_run.specs.declared.write_end.WriteEnd.TheVariants as unwritten
 use Rattle.pv_show.specs.Bays.{IsAtRest}
 use Rattle.pv_live.specs.Inputs.{IsRefusedText, IsScriptOfClients}
-use Rattle.pv_live.specs.Lived.{IsElseUnchanged, Lives}
+use Rattle.pv_live.specs.Lived.{IsElseUnchanged, KeepsFullDisks, Lives}
 use Rattle.pv_live.specs.declared.live_end.LiveEnd.{LiveEnd}
 use Rattle.pv_live.specs.declared.live_end.LiveEnd.TheVariants.{Done, Malformed, WriteFault, NoMemory, BayFault, NotEmpty}
 
@@ -61,13 +61,13 @@ module _ {B V : Type 0} (M : BayModel B) (D : DiskModel V) where
 
 module _ {B V W : Type 0} (M : BayModel B) (D : DiskModel V) (sink : sinks.Ghosts W) (script : LiveScript) (old new : B) (before after : W) where
   -- What was written, and what became of the bay, where the text is this script: the text of a run, or a beginning of it where the output failed; and nothing where no site
-  -- was launched, or where there was no memory. Then disks may be out.
+  -- was launched, or where there was no memory. Where there was no memory disks that were empty may be out.
   abbrev pub RunsSites : LiveEnd → Type 0
   RunsSites Done = (text : List ℕ) × Lives M D script old new text × Writes sink before after text
   RunsSites WriteFault = (text : List ℕ) × Lives M D script old new text × WritesPrefix sink before after text
   RunsSites BayFault = IsNotLaunched M D script.catalog old new BayFault × WritesNothing sink before after
   RunsSites NotEmpty = IsNotLaunched M D script.catalog old new NotEmpty × WritesNothing sink before after
-  RunsSites NoMemory = IsElseUnchanged M D script old new × WritesNothing sink before after
+  RunsSites NoMemory = IsElseUnchanged M D script old new × KeepsFullDisks M D script old new × WritesNothing sink before after
   RunsSites Malformed = ⊥
 
   -- So it is of an input that is no longer than it may be. Where that wasn't read, nothing was done.

@@ -1,5 +1,5 @@
 -- What a live run of a script comes to: what is written of it, and what is handed back to the bay.
-use Rattle.std.specs.Prelude.{◌≡◌, ℕ, ◌<◌, ◌≤◌, true, Vec, List, All, Contains, length, get_or}
+use Rattle.std.specs.Prelude.{◌≡◌, ◌≢◌, ℕ, ◌<◌, ◌≤◌, true, Vec, List, [], All, Contains, length, get_or}
 use Rattle.std.specs.declared.alloc.Global.{Global}
 use Rattle.pv_base.specs.Fault.{Rose}
 use Rattle.pv_cell.specs.Box.{course_site}
@@ -29,6 +29,7 @@ use Rattle.pv_protocol.specs.State.{Setup}
 use Rattle.pv_protocol.specs.World.{World, opening, site_at}
 use Rattle.pv_script.specs.LiveView.{live_script_of}
 use Rattle.pv_script.specs.declared.live.LiveScript as read
+use Rattle.pv_show.specs.Bays.{IsAtRest}
 use Rattle.pv_site.specs.SiteState.{SiteState, setup_of}
 use Rattle.pv_told.specs.declared.line.ClientLine.{ClientLine}
 use Rattle.pv_transcript.specs.Transcript.{transcript}
@@ -68,6 +69,11 @@ module _ {B V : Type 0} (M : BayModel B) (D : DiskModel V) (script : LiveScript)
     pub beyond : (n : ℕ) → script.catalog.sites ≤ n → M.berth new n ≡ M.berth old n
     pub faults : M.faults new ≡ M.faults old
     pub tells : M.tells new ≡ M.tells old
+
+  -- Where no disk was out, nothing is changed of a site of whose disk the bay tells that it isn't empty.
+  abbrev pub KeepsFullDisks : Type 0
+  KeepsFullDisks =
+      IsAtRest M old → M.tells old ≡ true → (n : ℕ) → n < script.catalog.sites → (M.berth old n).holds ≢ [] → M.berth new n ≡ M.berth old n
 
   -- What is handed back, by the histories and by the world in which their run ends. Where the bay tells what its disks hold, the disk of a site whose steps met no fault
   -- has the records that the run leaves the site. The steps of a site met a fault only where the bay's count of it rose.

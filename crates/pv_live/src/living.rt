@@ -16,7 +16,7 @@ use pv_base::{Failed, MAX_INPUT, NoMemory};
 use pv_crew::Gate;
 use pv_disk::Bay;
 use pv_io::{ReadEnd, Sink, Source, read_all, write_all};
-use pv_launch::{NotLaunched, launch};
+use pv_launch::{NotLaunched, launch, launched_sites_are_numbered};
 use pv_run::{WriteEnd, refuse};
 use pv_script::{LineCause, LiveScript, ScriptError, line_after, read_live};
 use std::alloc::Global;
@@ -106,8 +106,13 @@ where
     ensures rest { result ≢ LiveEnd.NoMemory → IsAtRest B.model bay.new }
     ensures write_fault { result ≡ LiveEnd.WriteFault → HasFailed W.Sink sink.old sink.new }
 {
+    launched_sites_are_numbered::<B>();
+    // Made while no disk is out: where there is no memory for it none is lost.
+    let Ok(histories) = Vec::with_capacity(alloc, usize::from(script.catalog.sites())) else {
+        return LiveEnd::NoMemory;
+    };
     match launch(alloc, &script.catalog, bay) {
-        Ok(sites) => match text_of_run(rt, alloc, workers, script, sites, bay, gate) {
+        Ok(sites) => match text_of_run(rt, alloc, workers, script, sites, histories, bay, gate) {
             Ok(text) => end_of_text(write_all(sink, &text)),
             Err(NoMemory) => LiveEnd::NoMemory,
         },

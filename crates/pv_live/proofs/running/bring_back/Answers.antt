@@ -11,9 +11,9 @@ use Rattle.pv_live.proofs.running.bring_back.Goals as goal
 pub loop-one-init : goal.loop-one-init
 loop-one-init g c = record {
   back = brought-none g.B.Bay.model g.B.D.Disk.model c.args.bay.now;
-  histories = search rules;
+  histories = c.requires.none;
   count = search rules;
-  room = search rules;
+  room = c.requires.room;
 }
 
 pub back-requires : goal.back-requires
@@ -60,5 +60,4 @@ returns g c =
     record {
       back = subst (AreBroughtBack g.B.Bay.model g.B.D.Disk.model c.args.bay.now c.loop-one.bay) all c.loop-one.invariant.back;
       histories = c.loop-one.invariant.histories ∙ ap (map (λ box. box.history)) all;
-      unchanged = tt;
     }

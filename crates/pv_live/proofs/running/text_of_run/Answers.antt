@@ -18,22 +18,29 @@ use Rattle.pv_transcript.specs.Transcript.{transcript}
 use Rattle.pv_live.proofs.LivedLemmas.{histories-same, merge-fine, plans-so, sizes-so}
 use Rattle.pv_live.proofs.NamingLemmas.{length-histories, told-few, told-fine}
 use Rattle.pv_live.proofs.ServedLemmas.{closed-at, else-unchanged, has-run, launched-unchanged, many-boxes, numbers-are, out-at}
-use Rattle.pv_live.specs.Lived.{IsElseUnchanged, IsRunOf, Lives}
+use Rattle.pv_live.specs.Lived.{IsRunOf, Lives}
 use Rattle.pv_live.specs.Told.{heard_of}
 use Rattle.pv_live.proofs.running.text_of_run.Goals as goal
 
 pub run-requires-clause-sites : goal.run-requires-clause-sites
 run-requires-clause-sites g c κs lives = c.requires.launched.1.new_sites
 
-pub bring_back-requires-clause-few : goal.bring_back-requires-clause-few
-bring_back-requires-clause-few g c =
+pub bring_back-histories-requires-clause-room : goal.bring_back-histories-requires-clause-room
+bring_back-histories-requires-clause-room g c =
+    let many = many-boxes g.B.Bay.model g.B.D.Disk.model (live_script_of c.args.script.now) c.requires.launched.0 c.args.bay.now c.args.sites.items c.in_ok-boxes.field-0.boxes.items
+    c.requires.launched.1 (c.launched_sites_are_numbered.ensures (live_script_of c.args.script.now).catalog c.requires.launched.0 c.args.bay.now c.args.sites.items c.requires.launched.1)
+    c.in_ok-boxes.ensures.boxes in
+    omega (arith, many, c.requires.room)
+
+pub bring_back-histories-requires-clause-few : goal.bring_back-histories-requires-clause-few
+bring_back-histories-requires-clause-few g c =
     let many = many-boxes g.B.Bay.model g.B.D.Disk.model (live_script_of c.args.script.now) c.requires.launched.0 c.args.bay.now c.args.sites.items c.in_ok-boxes.field-0.boxes.items
     c.requires.launched.1 (c.launched_sites_are_numbered.ensures (live_script_of c.args.script.now).catalog c.requires.launched.0 c.args.bay.now c.args.sites.items c.requires.launched.1)
     c.in_ok-boxes.ensures.boxes in
     omega (arith, many, c.sites.ensures.count, c.sites.ensures.bound)
 
-pub bring_back-requires-clause-out : goal.bring_back-requires-clause-out
-bring_back-requires-clause-out g c =
+pub bring_back-histories-requires-clause-out : goal.bring_back-histories-requires-clause-out
+bring_back-histories-requires-clause-out g c =
     out-at g.B.Bay.model g.B.D.Disk.model (live_script_of c.args.script.now) c.requires.launched.0 c.args.bay.now c.args.sites.items c.in_ok-boxes.field-0.boxes.items
     c.requires.launched.1 (c.launched_sites_are_numbered.ensures (live_script_of c.args.script.now).catalog c.requires.launched.0 c.args.bay.now c.args.sites.items c.requires.launched.1)
     c.in_ok-boxes.ensures.boxes
@@ -51,7 +58,7 @@ transcribed-requires g c =
     let launched = c.requires.launched.1 in
     let histories = c.deref.result.now in
     let told = c.deref-2.result.now in
-    let are = c.deref.ensures.value ∙ c.in_ok-histories.ensures.histories in
+    let are = c.deref.ensures.value ∙ c.bring_back-histories.ensures.histories in
     let same = histories-same boxes histories are in
     let closed = closed-at M D (live_script_of script) before c.args.bay.now sites boxes launched (c.launched_sites_are_numbered.ensures script.catalog before c.args.bay.now sites launched) run.boxes in
     let many = many-boxes M D (live_script_of script) before c.args.bay.now sites boxes launched (c.launched_sites_are_numbered.ensures script.catalog before c.args.bay.now sites launched) run.boxes in
@@ -82,11 +89,6 @@ pub returns-in_err-boxes-clause-unchanged : goal.returns-in_err-boxes-clause-unc
 returns-in_err-boxes-clause-unchanged g c = λ before launched.
     launched-unchanged g.B.Bay.model g.B.D.Disk.model (live_script_of c.args.script.now) before c.args.bay.now c.args.sites.items launched
 
-pub returns-in_err-histories-clause-unchanged : goal.returns-in_err-histories-clause-unchanged
-returns-in_err-histories-clause-unchanged g c = λ before launched.
-    subst (IsElseUnchanged g.B.Bay.model g.B.D.Disk.model (live_script_of c.args.script.now) before) (sym c.in_err-histories.ensures.unchanged)
-    (launched-unchanged g.B.Bay.model g.B.D.Disk.model (live_script_of c.args.script.now) before c.args.bay.now c.args.sites.items launched)
-
 pub returns-clause-lives : goal.returns-clause-lives
 returns-clause-lives g c = λ before launched.
     let M = g.B.Bay.model in
@@ -95,7 +97,7 @@ returns-clause-lives g c = λ before launched.
     let boxes = c.in_ok-boxes.field-0.boxes.items in
     let run = c.in_ok-boxes.ensures in
     let setup = setup_of script.catalog in
-    let same = histories-same boxes c.deref.result.now (c.deref.ensures.value ∙ c.in_ok-histories.ensures.histories) in
+    let same = histories-same boxes c.deref.result.now (c.deref.ensures.value ∙ c.bring_back-histories.ensures.histories) in
     let moments = merge (histories_of boxes) in
     let merged = c.histories_have_one_merge.ensures.there (histories_of boxes) run.fit.rising in
     let here : IsMerge (merged_of c.deref.result.now) moments = subst (λ (histories : List (List Stamped)). IsMerge histories moments) (sym same) merged in
@@ -106,11 +108,11 @@ returns-clause-lives g c = λ before launched.
       prints = c.merged_histories_are_a_run.ensures.lines setup (histories_of boxes) moments run.fit merged;
     } in
     let ran = has-run M D (live_script_of script) before c.args.bay.now c.args.sites.items boxes launched
-    (c.launched_sites_are_numbered.ensures script.catalog before c.args.bay.now c.args.sites.items launched) run.boxes c.bring_back.new.bay c.in_ok-histories.ensures.back moments so
+    (c.launched_sites_are_numbered.ensures script.catalog before c.args.bay.now c.args.sites.items launched) run.boxes c.bring_back-histories.new.bay c.bring_back-histories.ensures.back moments so
     (c.merged_histories_are_a_run.ensures.sites setup (histories_of boxes) moments run.fit merged) in
     IfOk-weaker c.transcribed.result
     (λ (text : Vec ℕ Global). text.items ≡ transcript script.catalog setup (events_of_merge moments) (heard_of script.clients.items c.deref-2.result.now))
-    (λ (text : Vec ℕ Global). Lives M D (live_script_of script) before c.bring_back.new.bay text.items)
+    (λ (text : Vec ℕ Global). Lives M D (live_script_of script) before c.bring_back-histories.new.bay text.items)
     (λ text is. record {
       boxes = boxes;
       moments = moments;
@@ -130,4 +132,4 @@ pub returns-clause-unchanged : goal.returns-clause-unchanged
 returns-clause-unchanged g c = λ before launched.
     else-unchanged g.B.Bay.model g.B.D.Disk.model (live_script_of c.args.script.now) before c.args.bay.now c.args.sites.items c.in_ok-boxes.field-0.boxes.items launched
     (c.launched_sites_are_numbered.ensures c.args.script.now.catalog before c.args.bay.now c.args.sites.items launched) c.in_ok-boxes.ensures.boxes
-    c.bring_back.new.bay c.in_ok-histories.ensures.back
+    c.bring_back-histories.new.bay c.bring_back-histories.ensures.back
