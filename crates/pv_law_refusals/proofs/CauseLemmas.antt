@@ -239,7 +239,7 @@ module _ (setup : Setup) (earlier : List Transition) (transition : Transition) (
         let least = least-doubt (records_at world n) (taking entry from grant values) setup.catalog.items item doubt in
         let count : ℕ = doubts (records_at world n) (taking entry from grant values) item in
         let there : (other more : ℕ) → IsInDoubt (site_at world (home_of txn)).records (taking entry from grant values) other more
-            → IsInDoubt (records_at world n) (taking entry from grant values) other more =
+        → IsInDoubt (records_at world n) (taking entry from grant values) other more =
         λ other more. subst (λ m. IsInDoubt (site_at world m).records (taking entry from grant values) other more) own_home in
         record {
           last = takes-last from asked grant values entry last own delivered;

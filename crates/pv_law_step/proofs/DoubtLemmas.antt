@@ -75,25 +75,25 @@ module _ (records : List Record) (entry : Entry) where
   first-from n [] item is = absurd (let low = is.from in let high = is.below in omega (arith, low, high))
   first-from n (declared ∷ items) item is =
       by (n == item) refl (is_uncertain records entry n) refl (λ up. first-from (n + 1) items item up) where
-    by : (c : Bool) → (n == item) ≡ c → (b : Bool) → is_uncertain records entry n ≡ b
-        → (IsFirst (n + 1) (length items) item → uncertain_from records entry (n + 1) items ≡ Some item)
-        → (if b then Some n else uncertain_from records entry (n + 1) items) ≡ Some item
-    by true same true at behind = ap Some (eqb-true n item same)
-    by true same false at behind = absurd (false≢true (sym at ∙ subst (λ m. is_uncertain records entry m ≡ true) (sym (eqb-true n item same)) is.is))
-    by false apart true at behind =
-        let differ = eqb-false n item apart in
-        let low = is.from in
-        absurd (false≢true (sym (is.least n (omega arith) (omega (arith, differ, low))) ∙ at))
-    by false apart false at behind =
-        let differ = eqb-false n item apart in
-        let low = is.from in
-        let high = is.below in
-        behind (record {
-          from = omega (arith, differ, low);
-          below = omega (arith, high);
-          is = is.is;
-          least = λ other up down. is.least other (omega (arith, up)) down;
-        })
+        by : (c : Bool) → (n == item) ≡ c → (b : Bool) → is_uncertain records entry n ≡ b
+            → (IsFirst (n + 1) (length items) item → uncertain_from records entry (n + 1) items ≡ Some item)
+            → (if b then Some n else uncertain_from records entry (n + 1) items) ≡ Some item
+        by true same true at behind = ap Some (eqb-true n item same)
+        by true same false at behind = absurd (false≢true (sym at ∙ subst (λ m. is_uncertain records entry m ≡ true) (sym (eqb-true n item same)) is.is))
+        by false apart true at behind =
+            let differ = eqb-false n item apart in
+            let low = is.from in
+            absurd (false≢true (sym (is.least n (omega arith) (omega (arith, differ, low))) ∙ at))
+        by false apart false at behind =
+            let differ = eqb-false n item apart in
+            let low = is.from in
+            let high = is.below in
+            behind (record {
+              from = omega (arith, differ, low);
+              below = omega (arith, high);
+              is = is.is;
+              least = λ other up down. is.least other (omega (arith, up)) down;
+            })
 
   pub none-from : (n : ℕ) (items : List Item) → ((other : ℕ) → n ≤ other → other < n + length items → is_uncertain records entry other ≡ false)
       → uncertain_from records entry n items ≡ None

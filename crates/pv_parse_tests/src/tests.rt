@@ -269,7 +269,10 @@ const READ: &[(&str, &str)] = &[
     ("a := 1", "a := 1"),
     ("require a", "require a"),
     ("require certain a", "require certain a"),
-    ("require certain b ; b := b - 1", "require certain b; b := (- b 1)"),
+    (
+        "require certain b ; b := b - 1",
+        "require certain b; b := (- b 1)",
+    ),
     ("if a { require certain b }", "if a { require certain b }"),
     ("return a", "return a"),
     ("a := 1 ; b := a", "a := 1; b := a"),

@@ -8,7 +8,8 @@ ghost use Rattle.pv_script.specs.LineView.{line_of};
 ghost use Rattle.serde_json.specs.View.{view};
 
 use crate::json_lines::{
-    refused_by_doubt, refused_by_holder, refused_by_journal, refused_by_limit, refused_by_site, sent,
+    refused_by_doubt, refused_by_holder, refused_by_journal, refused_by_limit, refused_by_site,
+    sent,
 };
 use crate::json_values::{
     cases_value, name_value, one, replies_value, sums_value, two, txn_value, txns_value,

@@ -152,7 +152,10 @@ const TEXTS: [(&str, &str); 38] = [
     ),
     ("total locked b\n", "{\"locked\":\"b\",\"total\":null}\n"),
     ("total down 1\n", "{\"down\":1,\"total\":null}\n"),
-    ("total outcome-limit 13\n", "{\"names\":13,\"total\":null}\n"),
+    (
+        "total outcome-limit 13\n",
+        "{\"names\":13,\"total\":null}\n",
+    ),
     (
         "refuse 0.1.0 uncertain a 2\n",
         "{\"cause\":\"uncertain\",\"item\":\"a\",\"names\":2,\"refuse\":\"0.1.0\"}\n",

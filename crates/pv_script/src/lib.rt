@@ -27,7 +27,9 @@ pub use catalog_text::CatalogText;
 pub use generator::make;
 pub use keyword::keyword_in;
 pub use line::{Line, MessageKind};
-pub use lines::{MAX_SCHEDULE, SignificantLine, first_line, is_significant, line_after, without_return};
+pub use lines::{
+    MAX_SCHEDULE, SignificantLine, first_line, is_significant, line_after, without_return,
+};
 pub use live::{Client, LiveScript, Request};
 pub use read::{read_live, read_schedule};
 pub use reader::Reader;
