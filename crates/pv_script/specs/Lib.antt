@@ -9,7 +9,6 @@ pub mod ScheduleView
 pub mod LineFaults
 pub mod Generated
 pub mod Keywords
-pub mod ReaderView
 pub mod Said
 pub mod TakesLine
 pub mod Behind
