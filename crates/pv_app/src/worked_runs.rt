@@ -146,6 +146,78 @@ txn 1.1.1
 commit 1.1.1 possible 50 60
 ";
 
+// An item that has to be certain, and isn't where its site hasn't heard the outcome.
+const CERTAIN: &str = "\
+sites 2
+item a 0 100
+item b 1 50
+submit 0 a := a - 10 ; b := b + 10
+pump 8
+lose 8
+tick 1
+tick 1
+tick 1
+lose 9
+report
+submit 1 require certain b ; b := b + 1
+pump
+deliver 8
+submit 1 require certain b ; b := b + 1
+pump
+report
+";
+
+const CERTAIN_OUTPUT: &str = "\
+txn 0.1.0
+commit 0.1.0 certain nothing
+order 0.1.0
+committed 0.1.0
+open
+item a 90
+item b 50 if -0.1.0 ; 60 if +0.1.0
+end
+txn 1.1.0
+refuse 1.1.0 uncertain b 1
+txn 1.1.1
+commit 1.1.1 certain nothing
+order 0.1.0 1.1.1
+committed 0.1.0 1.1.1
+open
+item a 90
+item b 61
+end
+";
+
+// The same, asked for at the site that knows the outcome: there it is certain.
+const CERTAIN_HERE: &str = "\
+sites 2
+item a 0 100
+item b 1 50
+submit 0 a := a - 10 ; b := b + 10
+pump 8
+lose 8
+tick 1
+tick 1
+tick 1
+lose 9
+submit 0 require certain b ; b := b + 1
+pump
+report
+";
+
+const CERTAIN_HERE_OUTPUT: &str = "\
+txn 0.1.0
+commit 0.1.0 certain nothing
+txn 0.1.1
+commit 0.1.1 certain nothing
+order 0.1.0 0.1.1
+committed 0.1.0 0.1.1
+open
+item a 90
+item b 61
+end
+";
+
 // Two requests for one item: the second is refused.
 const CONFLICT: &str = "\
 sites 1
@@ -481,6 +553,8 @@ pub(crate) const RUNS: &[(&str, &str)] = &[
     (DOUBT, DOUBT_OUTPUT),
     (DOUBT_READ, DOUBT_READ_OUTPUT),
     (DOUBT_ASKED, DOUBT_ASKED_OUTPUT),
+    (CERTAIN, CERTAIN_OUTPUT),
+    (CERTAIN_HERE, CERTAIN_HERE_OUTPUT),
     (CONFLICT, CONFLICT_OUTPUT),
     (GRANT_ENDS, GRANT_ENDS_OUTPUT),
     (OLD_PREPARE, OLD_PREPARE_OUTPUT),

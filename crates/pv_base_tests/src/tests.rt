@@ -186,7 +186,7 @@ fn a_condition_is_met_where_each_literal_is(rt: HostRuntime) {
 }
 
 #[test]
-fn the_limits_are_seven_and_eight_outcomes(rt: HostRuntime) {
+fn the_limits_are_eleven_and_twelve_outcomes(rt: HostRuntime) {
     assert!(rt; READ_NAMES == 11);
     assert!(rt; HELD_NAMES == 12);
 }

@@ -40,7 +40,7 @@ fn either<V: Exact>(alloc: Global, txn: TxnId, values: &[V]) -> Result<Poly<V>, 
     Poly::from_table(alloc, &[txn], values)
 }
 
-// ten values, of which the last one names the outcome that the first one names
+// fourteen values, of which the last one names the outcome that the first one names
 fn fourteen_of_thirteen_outcomes(alloc: Global) -> Result<Vec<Poly<i64>>, NoMemory>
     ensures { IfOk result (λ values. length values.items ≡ 14) }
 {

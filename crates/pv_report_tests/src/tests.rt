@@ -45,7 +45,7 @@ const IF_T_AND_NOT_U: [Literal; 2] = [
 ];
 
 // The text of each line that `worked_line` gives, and its JSON.
-const TEXTS: [(&str, &str); 38] = [
+const TEXTS: [(&str, &str); 39] = [
     ("txn 0.1.0\n", "{\"txn\":\"0.1.0\"}\n"),
     (
         "commit 0.1.0 certain nothing\n",
