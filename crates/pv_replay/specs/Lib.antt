@@ -1,5 +1,6 @@
 pub mod Content
 pub mod Faults
+pub mod Left
 pub mod Order
 pub mod Values
 pub mod Refused

@@ -1,10 +1,12 @@
 // The fields that messages and records have in common.
 ghost use Rattle.std.specs.Prelude.{◌≡◌, ◌≢◌, ◌++◌, ◌∷◌, ◌<◌, ℕ, List, if◌then◌else◌, IfOk, IfErr, OnOk};
+ghost use Rattle.std.specs.Io.{StartsWith};
 ghost use Rattle.pv_base.specs.BigEndian.{big_endian};
 ghost use Rattle.pv_format.specs.Layout.{site_layout, truth_layout, txn_layout};
 ghost use Rattle.pv_format.specs.Spelling.{IsAllowed, IsSite, IsTruth, SpellsTxn, is_count_from, is_item_from};
 ghost use Rattle.pv_fields.specs.Decoding.{Passes, PassesNumber, Stops, StopsNumber};
 ghost use Rattle.pv_replay.specs.Faults.{fault_of};
+ghost use Rattle.pv_replay.specs.Left.{HasGoneOn};
 
 use crate::PolyError;
 use pv_base::{ItemId, MAX_ITEMS, MAX_PROGRAM_ITEMS, MAX_SITES, NoMemory, SiteId, TxnId};
@@ -12,14 +14,16 @@ use pv_bytes::{Put, Take};
 
 /// Writes a truth value.
 pub fn put_truth(put: &mut Put, truth: bool) -> Result<(), NoMemory>
-    ensures { (bytes : List ℕ) → IsTruth truth bytes → OnOk result (put.new.bytes ≡ put.old.bytes ++ bytes) }
+    ensures written { (bytes : List ℕ) → IsTruth truth bytes → OnOk result (put.new.bytes ≡ put.old.bytes ++ bytes) }
+    ensures kept { StartsWith put.new.bytes put.old.bytes }
 {
     put.u8(u8::from(truth))
 }
 
 /// Writes a transaction.
 pub fn put_txn(put: &mut Put, txn: TxnId) -> Result<(), NoMemory>
-    ensures { (bytes : List ℕ) → SpellsTxn txn bytes → OnOk result (put.new.bytes ≡ put.old.bytes ++ bytes) }
+    ensures written { (bytes : List ℕ) → SpellsTxn txn bytes → OnOk result (put.new.bytes ≡ put.old.bytes ++ bytes) }
+    ensures kept { StartsWith put.new.bytes put.old.bytes }
 {
     put.bytes(&txn_bytes(txn))
 }
@@ -38,6 +42,7 @@ pub fn take_site(take: &mut Take<'_>) -> Result<SiteId, PolyError>
     ensures passes { IfOk result (λ site. Passes (IsSite site.0) site_layout take.old take.new) }
     ensures stops { IfErr result (λ e. Stops site_layout take.old (fault_of e)) }
     ensures memory { result ≢ Err PolyError.NoMemory }
+    ensures left { HasGoneOn take.old take.new }
 {
     let place = take.place();
     let site = take.u8()?;
@@ -52,6 +57,7 @@ pub fn take_truth(take: &mut Take<'_>) -> Result<bool, PolyError>
     ensures passes { IfOk result (λ truth. Passes (IsTruth truth) truth_layout take.old take.new) }
     ensures stops { IfErr result (λ e. Stops truth_layout take.old (fault_of e)) }
     ensures memory { result ≢ Err PolyError.NoMemory }
+    ensures left { HasGoneOn take.old take.new }
 {
     let place = take.place();
     match take.u8()? {
@@ -66,6 +72,7 @@ pub fn take_txn(take: &mut Take<'_>) -> Result<TxnId, PolyError>
     ensures passes { IfOk result (λ txn. Passes (SpellsTxn txn) txn_layout take.old take.new) }
     ensures stops { IfErr result (λ e. Stops txn_layout take.old (fault_of e)) }
     ensures memory { result ≢ Err PolyError.NoMemory }
+    ensures left { HasGoneOn take.old take.new }
 {
     let site = take_site(take)?;
     let epoch = take.u32()?;
@@ -82,6 +89,7 @@ pub fn take_item(take: &mut Take<'_>, least: u32) -> Result<ItemId, PolyError>
     ensures passes { IfOk result (λ item. PassesNumber (IsAllowed 4 (is_item_from least) item.0) 4 (is_item_from least) item.0 take.old take.new) }
     ensures stops { IfErr result (λ e. StopsNumber 4 (is_item_from least) take.old (fault_of e)) }
     ensures memory { result ≢ Err PolyError.NoMemory }
+    ensures left { HasGoneOn take.old take.new }
 {
     let place = take.place();
     let item = take.u32()?;
@@ -96,6 +104,7 @@ pub fn take_count(take: &mut Take<'_>, fewest: u8) -> Result<u8, PolyError>
     ensures passes { IfOk result (λ count. PassesNumber (IsAllowed 1 (is_count_from fewest) count) 1 (is_count_from fewest) count take.old take.new) }
     ensures stops { IfErr result (λ e. StopsNumber 1 (is_count_from fewest) take.old (fault_of e)) }
     ensures memory { result ≢ Err PolyError.NoMemory }
+    ensures left { HasGoneOn take.old take.new }
 {
     let place = take.place();
     let count = take.u8()?;

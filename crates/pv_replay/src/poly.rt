@@ -1,6 +1,7 @@
 // Polyvalues as bytes: the count of the cases, and for each case the count of its literals, the literals and the value.
 ghost use Rattle.std.specs.Prelude.{◌≡◌, ◌++◌, ◌∷◌, [], ◌<◌, ◌^◌, ◌≤◌, ℕ, ℤ, List, length, map, All, MatchOption, IfOk, IfErr, OnOk};
 ghost use Rattle.std.specs.List.{sum};
+ghost use Rattle.std.specs.Io.{StartsWith};
 ghost use Rattle.pv_base.specs.Answer.{Answers};
 ghost use Rattle.pv_base.specs.CaseFaults.{fault_of as case_fault_of};
 ghost use Rattle.pv_base.specs.declared.limits.TheConstants.{HELD_NAMES};
@@ -13,6 +14,7 @@ ghost use Rattle.pv_format.specs.PolyvalueSpelling.{BeginsWith, SpellsCase, Spel
 ghost use Rattle.pv_format.specs.Spelling.{SpellsEach};
 ghost use Rattle.pv_fields.specs.Decoding.{Passes, Stops};
 ghost use Rattle.pv_replay.specs.Faults.{fault_of};
+ghost use Rattle.pv_replay.specs.Left.{HasGoneOn};
 ghost use Rattle.pv_replay.specs.Refused.{IsRefused};
 
 use crate::PolyError;
@@ -30,7 +32,8 @@ use std::alloc::Global;
 /// be dropped.
 pub fn put_poly(put: &mut Put, value: &Poly<i64>) -> Result<(), NoMemory>
     requires { (bytes : List ℕ) × SpellsPolyvalue value.now bytes }
-    ensures { (bytes : List ℕ) → SpellsPolyvalue value.now bytes → OnOk result (put.new.bytes ≡ put.old.bytes ++ bytes) }
+    ensures written { (bytes : List ℕ) → SpellsPolyvalue value.now bytes → OnOk result (put.new.bytes ≡ put.old.bytes ++ bytes) }
+    ensures kept { StartsWith put.new.bytes put.old.bytes }
 {
     let cases = value.cases();
     put.u16(cases.len() as u16)?;
@@ -40,7 +43,8 @@ pub fn put_poly(put: &mut Put, value: &Poly<i64>) -> Result<(), NoMemory>
 // Writes the cases, one after another.
 fn put_cases(put: &mut Put, cases: &[Case<i64>]) -> Result<(), NoMemory>
     requires { All (λ case. length case.when < 256) cases.now }
-    ensures { (bytes : List ℕ) → SpellsEach SpellsCase cases.now bytes → OnOk result (put.new.bytes ≡ put.old.bytes ++ bytes) }
+    ensures written { (bytes : List ℕ) → SpellsEach SpellsCase cases.now bytes → OnOk result (put.new.bytes ≡ put.old.bytes ++ bytes) }
+    ensures kept { StartsWith put.new.bytes put.old.bytes }
 {
     for case in cases {
         put_case(put, case)?;
@@ -51,7 +55,8 @@ fn put_cases(put: &mut Put, cases: &[Case<i64>]) -> Result<(), NoMemory>
 // Writes a case.
 fn put_case(put: &mut Put, case: &Case<i64>) -> Result<(), NoMemory>
     requires { length case.now.when < 256 }
-    ensures { (bytes : List ℕ) → SpellsCase case.now bytes → OnOk result (put.new.bytes ≡ put.old.bytes ++ bytes) }
+    ensures written { (bytes : List ℕ) → SpellsCase case.now bytes → OnOk result (put.new.bytes ≡ put.old.bytes ++ bytes) }
+    ensures kept { StartsWith put.new.bytes put.old.bytes }
 {
     put.u8(case.when.len() as u8)?;
     put_literals(put, &case.when)?;
@@ -60,7 +65,8 @@ fn put_case(put: &mut Put, case: &Case<i64>) -> Result<(), NoMemory>
 
 // Writes the literals, one after another.
 fn put_literals(put: &mut Put, when: &[Literal]) -> Result<(), NoMemory>
-    ensures { (bytes : List ℕ) → SpellsEach SpellsLiteral when.now bytes → OnOk result (put.new.bytes ≡ put.old.bytes ++ bytes) }
+    ensures written { (bytes : List ℕ) → SpellsEach SpellsLiteral when.now bytes → OnOk result (put.new.bytes ≡ put.old.bytes ++ bytes) }
+    ensures kept { StartsWith put.new.bytes put.old.bytes }
 {
     for literal in when {
         put_literal(put, *literal)?;
@@ -70,7 +76,8 @@ fn put_literals(put: &mut Put, when: &[Literal]) -> Result<(), NoMemory>
 
 // Writes a literal.
 fn put_literal(put: &mut Put, literal: Literal) -> Result<(), NoMemory>
-    ensures { (bytes : List ℕ) → SpellsLiteral literal bytes → OnOk result (put.new.bytes ≡ put.old.bytes ++ bytes) }
+    ensures written { (bytes : List ℕ) → SpellsLiteral literal bytes → OnOk result (put.new.bytes ≡ put.old.bytes ++ bytes) }
+    ensures kept { StartsWith put.new.bytes put.old.bytes }
 {
     put.bytes(&literal_bytes(literal))
 }
@@ -91,6 +98,7 @@ pub fn take_poly(alloc: Global, take: &mut Take<'_>) -> Result<Poly<i64>, PolyEr
         (λ poly. (poly, take.new.left)) fault_of result }
     ensures passes { IfOk result (λ poly. Passes (SpellsPolyvalue poly) polyvalue_then take.old take.new) }
     ensures stops { IfErr result (λ e. Stops polyvalue_then take.old (fault_of e)) }
+    ensures left { HasGoneOn take.old take.new }
 {
     // Only bytes have exactly one answer, as the contract says. That what is left is bytes, `place` promises, and nothing else shows it here.
     let _ = take.place();
@@ -101,6 +109,7 @@ pub fn take_poly(alloc: Global, take: &mut Take<'_>) -> Result<Poly<i64>, PolyEr
 fn read_poly(alloc: Global, take: &mut Take<'_>) -> Result<Poly<i64>, PolyError>
     ensures passes { IfOk result (λ poly. Passes (SpellsPolyvalue poly) polyvalue_then take.old take.new) }
     ensures stops { IfErr result (λ e. Stops polyvalue_then take.old (fault_of e)) }
+    ensures left { HasGoneOn take.old take.new }
 {
     let place = take.place();
     let count = take.u16()?;
@@ -166,6 +175,7 @@ fn take_counted_cases(
     ensures counted { IfOk result (λ cases. length cases.items ≡ count) }
     ensures passes { IfOk result (λ cases. Passes (SpellsEach SpellsCase cases.items) (repeated count case_layout) take.old take.new) }
     ensures stops { IfErr result (λ e. Stops (repeated count case_layout) take.old (fault_of e)) }
+    ensures left { HasGoneOn take.old take.new }
 {
     let mut cases = with_room_for_few(alloc, usize::from(count))?;
     while cases.len() < usize::from(count) {
@@ -178,6 +188,7 @@ fn take_counted_cases(
 fn take_case(alloc: Global, take: &mut Take<'_>) -> Result<Case<i64>, PolyError>
     ensures passes { IfOk result (λ case. Passes (SpellsCase case) case_layout take.old take.new) }
     ensures stops { IfErr result (λ e. Stops case_layout take.old (fault_of e)) }
+    ensures left { HasGoneOn take.old take.new }
 {
     let count = take.u8()?;
     let when = take_literals(alloc, take, count)?;
@@ -190,6 +201,7 @@ fn take_literals(alloc: Global, take: &mut Take<'_>, count: u8) -> Result<Vec<Li
     ensures counted { IfOk result (λ when. length when.items ≡ count) }
     ensures passes { IfOk result (λ when. Passes (SpellsEach SpellsLiteral when.items) (repeated count literal_layout) take.old take.new) }
     ensures stops { IfErr result (λ e. Stops (repeated count literal_layout) take.old (fault_of e)) }
+    ensures left { HasGoneOn take.old take.new }
 {
     let mut when = with_room_for_few(alloc, usize::from(count))?;
     while when.len() < usize::from(count) {
@@ -202,6 +214,7 @@ fn take_literals(alloc: Global, take: &mut Take<'_>, count: u8) -> Result<Vec<Li
 fn take_literal(take: &mut Take<'_>) -> Result<Literal, PolyError>
     ensures passes { IfOk result (λ literal. Passes (SpellsLiteral literal) literal_layout take.old take.new) }
     ensures stops { IfErr result (λ e. Stops literal_layout take.old (fault_of e)) }
+    ensures left { HasGoneOn take.old take.new }
 {
     let commits = take_truth(take)?;
     let txn = take_txn(take)?;

@@ -1,5 +1,6 @@
 // Items with their polyvalues: their count, and for each the item and the polyvalue. The items are ascending.
 ghost use Rattle.std.specs.Prelude.{◌≡◌, ◌++◌, ◌∷◌, [], ◌≤◌, ℕ, List, length, IfOk, IfErr, OnOk};
+ghost use Rattle.std.specs.Io.{StartsWith};
 ghost use Rattle.pv_base.specs.BigEndian.{big_endian, twos_complement};
 ghost use Rattle.pv_format.specs.Layout.{counted_layout, entries_layout, polyvalue_then};
 ghost use Rattle.pv_format.specs.PolyvalueSpelling.{SpellsPolyvalue};
@@ -9,6 +10,7 @@ ghost use Rattle.pv_fields.specs.Decoding.{Passes, Stops};
 ghost use Rattle.pv_fields.specs.Encoding.{SpellsEntry};
 ghost use Rattle.pv_model.specs.Alternatives as model;
 ghost use Rattle.pv_replay.specs.Faults.{fault_of};
+ghost use Rattle.pv_replay.specs.Left.{HasGoneOn};
 
 use crate::PolyError;
 use crate::fields::{take_count, take_item};
@@ -24,7 +26,8 @@ use std::alloc::Global;
 /// part of them, and is to be dropped.
 pub fn put_reads(put: &mut Put, reads: &[Read]) -> Result<(), NoMemory>
     requires { (fewest : ℕ) × (bytes : List ℕ) × SpellsReads fewest reads.now bytes }
-    ensures { (fewest : ℕ) (bytes : List ℕ) → SpellsReads fewest reads.now bytes → OnOk result (put.new.bytes ≡ put.old.bytes ++ bytes) }
+    ensures written { (fewest : ℕ) (bytes : List ℕ) → SpellsReads fewest reads.now bytes → OnOk result (put.new.bytes ≡ put.old.bytes ++ bytes) }
+    ensures kept { StartsWith put.new.bytes put.old.bytes }
 {
     put.u8(reads.len() as u8)?;
     for read in reads {
@@ -36,7 +39,8 @@ pub fn put_reads(put: &mut Put, reads: &[Read]) -> Result<(), NoMemory>
 // Writes an item and its polyvalue.
 fn put_read(put: &mut Put, read: &Read) -> Result<(), NoMemory>
     requires { (bytes : List ℕ) × SpellsPolyvalue read.now.cases bytes }
-    ensures { (bytes : List ℕ) → SpellsEntry (λ (entry : model.Read). SpellsPolyvalue entry.cases) (λ entry. entry.item) read.now bytes → OnOk result (put.new.bytes ≡ put.old.bytes ++ bytes) }
+    ensures written { (bytes : List ℕ) → SpellsEntry (λ (entry : model.Read). SpellsPolyvalue entry.cases) (λ entry. entry.item) read.now bytes → OnOk result (put.new.bytes ≡ put.old.bytes ++ bytes) }
+    ensures kept { StartsWith put.new.bytes put.old.bytes }
 {
     if let Some(value) = sure_value(read.value.cases()) {
         return put_sure(put, read.item, value);
@@ -47,8 +51,9 @@ fn put_read(put: &mut Put, read: &Read) -> Result<(), NoMemory>
 
 // Writes an item and its value, which depends on no outcome. Most do, so that their bytes are written at once.
 fn put_sure(put: &mut Put, item: ItemId, value: i64) -> Result<(), NoMemory>
-    ensures { (bytes : List ℕ) → SpellsEntry (λ (entry : model.Read). SpellsPolyvalue entry.cases) (λ entry. entry.item)
+    ensures written { (bytes : List ℕ) → SpellsEntry (λ (entry : model.Read). SpellsPolyvalue entry.cases) (λ entry. entry.item)
         (record { item = item.0; cases = record { when = []; value = value } ∷ [] }) bytes → OnOk result (put.new.bytes ≡ put.old.bytes ++ bytes) }
+    ensures kept { StartsWith put.new.bytes put.old.bytes }
 {
     put.bytes(&sure_bytes(item, value))
 }
@@ -67,6 +72,7 @@ fn sure_bytes(item: ItemId, value: i64) -> [u8; 15]
 pub fn take_reads(alloc: Global, take: &mut Take<'_>, fewest: u8) -> Result<Vec<Read>, PolyError>
     ensures passes { IfOk result (λ reads. Passes (SpellsReads fewest reads.items) (counted_layout fewest polyvalue_then) take.old take.new) }
     ensures stops { IfErr result (λ e. Stops (counted_layout fewest polyvalue_then) take.old (fault_of e)) }
+    ensures left { HasGoneOn take.old take.new }
 {
     let count = take_count(take, fewest)?;
     take_counted_reads(alloc, take, count)
@@ -78,6 +84,7 @@ fn take_counted_reads(alloc: Global, take: &mut Take<'_>, count: u8) -> Result<V
     ensures passes { IfOk result (λ reads. Passes (SpellsEntriesFrom (λ (read : model.Read). SpellsPolyvalue read.cases) (λ read. read.item) 0 reads.items)
         (entries_layout count polyvalue_then 0) take.old take.new) }
     ensures stops { IfErr result (λ e. Stops (entries_layout count polyvalue_then 0) take.old (fault_of e)) }
+    ensures left { HasGoneOn take.old take.new }
 {
     let mut reads = with_room_for_few(alloc, usize::from(count))?;
     let mut least = 0;

@@ -11,4 +11,4 @@ returns c =
     ∙ two-parts (big_endian 1 17) (big_endian 4 c.args.output) c.requires.0 c.u8.new.self.bytes c.u32.new.self.bytes c.put_poly.new.put.bytes
     (c.in_ok-u8.ensures.written ∙ ap (λ front. front ++ big_endian 1 17) c.new-put.ensures)
     c.in_ok-u32.ensures.written
-    (c.in_ok-put_poly.ensures c.requires.0 c.requires.1))
+    (c.in_ok-put_poly.ensures.written c.requires.0 c.requires.1))

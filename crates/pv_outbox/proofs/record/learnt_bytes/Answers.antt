@@ -12,5 +12,5 @@ returns c =
     (c.done.ensures
     ∙ two-parts (big_endian 1 18) txn.0 truth.0 c.u8.new.self.bytes c.put_txn.new.put.bytes c.put_truth.new.put.bytes
     (c.in_ok-u8.ensures.written ∙ ap (λ front. front ++ big_endian 1 18) c.new-put.ensures)
-    (c.in_ok-put_txn.ensures txn.0 txn.1)
-    (c.in_ok-put_truth.ensures truth.0 truth.1))
+    (c.in_ok-put_txn.ensures.written txn.0 txn.1)
+    (c.in_ok-put_truth.ensures.written truth.0 truth.1))

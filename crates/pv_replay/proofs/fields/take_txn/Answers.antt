@@ -7,6 +7,7 @@ use Rattle.pv_format.specs.Layout.{any, number_then, site_layout}
 use Rattle.pv_format.specs.Spelling.{◌followed_by◌, IsSite}
 use Rattle.pv_replay.specs.Faults.{fault_of}
 use Rattle.pv_fields.proofs.PartLemmas.{passes_any, passes_both, stops_any, stops_first, stops_second}
+use Rattle.pv_replay.proofs.LeftLemmas.{gone_further, gone_nowhere}
 use Rattle.pv_replay.proofs.fields.take_txn.Goals as goal
 
 pub returns-in_err-site-clause-stops : goal.returns-in_err-site-clause-stops
@@ -39,3 +40,13 @@ returns-clause-passes c =
     (λ next. number_then 4 any (λ _. next)) c.take_site.new.take c.u32.new.self c.u32-2.new.self
     (passes_any 4 c.in_ok-epoch.epoch c.take_site.new.take c.u32.new.self c.in_ok-epoch.ensures.taken (omega arith))
     (passes_any 4 c.in_ok-number.number c.u32.new.self c.u32-2.new.self c.in_ok-number.ensures.taken (omega arith)))
+
+pub returns-in_err-number-clause-left : goal.returns-in_err-number-clause-left
+returns-in_err-number-clause-left c =
+    gone_further c.args.take.now c.take_site.new.take c.u32-2.new.self c.take_site.ensures.left
+    (gone_further c.take_site.new.take c.u32.new.self c.u32-2.new.self (_, c.in_ok-epoch.ensures.taken) (gone_nowhere c.u32.new.self c.u32-2.new.self c.in_err-number.ensures.short.stays))
+
+pub returns-clause-left : goal.returns-clause-left
+returns-clause-left c =
+    gone_further c.args.take.now c.take_site.new.take c.u32-2.new.self c.take_site.ensures.left
+    (gone_further c.take_site.new.take c.u32.new.self c.u32-2.new.self (_, c.in_ok-epoch.ensures.taken) (_, c.in_ok-number.ensures.taken))

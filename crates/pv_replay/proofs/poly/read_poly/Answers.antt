@@ -7,6 +7,7 @@ use Rattle.pv_replay.specs.Faults.{fault_of}
 use Rattle.pv_fields.proofs.PartLemmas.{stops_at_number, stops_short}
 use Rattle.pv_fields.proofs.PolyvalueLemmas.{stops_cases, counted_literals}
 use Rattle.pv_replay.proofs.CaseLemmas.{after_count, cases_pass, cases_stop, case_passes, case_stops, kept_passes, refused_stops}
+use Rattle.pv_replay.proofs.LeftLemmas.{gone_further}
 use Rattle.pv_replay.proofs.poly.read_poly.Goals as goal
 
 pub returns-in_err-count-clause-stops : goal.returns-in_err-count-clause-stops
@@ -62,3 +63,17 @@ returns-clause-stops c =
     (cases_pass c.in_ok-count.count c.args.take.now c.u16.new.self c.in_ok-count.ensures.taken (omega arith) c.in_ok-cases.cases.items c.take_counted_cases.new.take
     c.in_ok-cases.ensures.counted c.in_ok-cases.ensures.passes)
     c.place-place.result c.poly_of.result c.place-place.ensures.place c.poly_of.ensures.refused
+
+pub returns-in_err-case-clause-left : goal.returns-in_err-case-clause-left
+returns-in_err-case-clause-left c = gone_further c.args.take.now c.u16.new.self c.take_case.new.take (_, c.in_ok-count.ensures.taken) c.take_case.ensures.left
+
+pub returns-then-count-eq1-clause-left : goal.returns-then-count-eq1-clause-left
+returns-then-count-eq1-clause-left c = gone_further c.args.take.now c.u16.new.self c.take_case.new.take (_, c.in_ok-count.ensures.taken) c.take_case.ensures.left
+
+pub returns-in_err-cases-clause-left : goal.returns-in_err-cases-clause-left
+returns-in_err-cases-clause-left c =
+    gone_further c.args.take.now c.u16.new.self c.take_counted_cases.new.take (_, c.in_ok-count.ensures.taken) c.take_counted_cases.ensures.left
+
+pub returns-clause-left : goal.returns-clause-left
+returns-clause-left c =
+    gone_further c.args.take.now c.u16.new.self c.take_counted_cases.new.take (_, c.in_ok-count.ensures.taken) c.take_counted_cases.ensures.left

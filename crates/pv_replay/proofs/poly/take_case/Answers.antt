@@ -14,6 +14,7 @@ use Rattle.pv_fields.specs.Decoding.{Passes}
 use Rattle.pv_replay.specs.Faults.{fault_of}
 use Rattle.pv_fields.proofs.PartLemmas.{number_any, passes_both, passes_after_number, stops_first, stops_second, stops_after_number, stops_at_number, stops_any, stops_short}
 use Rattle.pv_fields.proofs.PolyvalueLemmas.{passes_signed}
+use Rattle.pv_replay.proofs.LeftLemmas.{gone_further, gone_nowhere}
 use Rattle.pv_replay.proofs.poly.take_case.Goals as goal
 
 -- What comes after the count of the literals.
@@ -62,3 +63,17 @@ returns-clause-passes c =
     subst (λ (value : ℤ). Passes (SpellsCase (record { when = c.in_ok-when.when.items; value = value })) case_layout old new) (sym (to_z-of_z w64 c.in_ok-value.value fits))
     (subst (λ (n : ℕ). Passes (IsNumber 1 n followed_by SpellsEach SpellsLiteral c.in_ok-when.when.items followed_by IsSigned c.in_ok-value.value) case_layout old new)
     (sym c.in_ok-when.ensures.counted) passes)
+
+pub returns-in_err-when-clause-left : goal.returns-in_err-when-clause-left
+returns-in_err-when-clause-left c = gone_further c.args.take.now c.u8.new.self c.take_literals.new.take (_, c.in_ok-count.ensures.taken) c.take_literals.ensures.left
+
+pub returns-in_err-value-clause-left : goal.returns-in_err-value-clause-left
+returns-in_err-value-clause-left c =
+    gone_further c.args.take.now c.u8.new.self c.i64.new.self (_, c.in_ok-count.ensures.taken)
+    (gone_further c.u8.new.self c.take_literals.new.take c.i64.new.self c.take_literals.ensures.left
+    (gone_nowhere c.take_literals.new.take c.i64.new.self c.in_err-value.ensures.short.stays))
+
+pub returns-clause-left : goal.returns-clause-left
+returns-clause-left c =
+    gone_further c.args.take.now c.u8.new.self c.i64.new.self (_, c.in_ok-count.ensures.taken)
+    (gone_further c.u8.new.self c.take_literals.new.take c.i64.new.self c.take_literals.ensures.left (_, c.in_ok-value.ensures.taken))

@@ -24,8 +24,8 @@ spelled_at_once item value bytes spelled =
     let polyvalue = cases.whole ∙ ap₂ join cases.first.spelled all in
     sym (spelled.whole ∙ ap₂ join spelled.first.spelled polyvalue)
 
-pub returns : goal.returns
-returns c = λ bytes spelled.
+pub returns-clause-written : goal.returns-clause-written
+returns-clause-written c = λ bytes spelled.
     let fits = spelled.second.spelled.second.first.second.second.fits in
     let same = ap (λ (value : ℤ). big_endian 4 c.args.item.0 ++ (big_endian 2 1 ++ (big_endian 1 0 ++ big_endian 8 (twos_complement value)))) (to_z-of_z w64 c.args.value fits) in
     subst (λ (written : List ℕ). OnOk c.bytes.result (c.bytes.new.self.bytes ≡ c.args.put.now.bytes ++ written))

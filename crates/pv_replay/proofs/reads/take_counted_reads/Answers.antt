@@ -1,5 +1,5 @@
 -- One item after another.
-use Rattle.std.proofs.Common.{◌<◌, ◌∷◌, [], length, length-append, arith}
+use Rattle.std.proofs.Common.{◌<◌, ◌∷◌, [], length, length-append, refl, arith}
 use Rattle.std.proofs.lemmas.Bool.Decides.{nat_tests}
 use Rattle.std.proofs.lemmas.Result.{err_from_is_err_and}
 use Rattle.pv_format.specs.Layout.{polyvalue_then}
@@ -7,12 +7,18 @@ use Rattle.pv_format.specs.PolyvalueSpelling.{SpellsPolyvalue}
 use Rattle.pv_model.specs.Alternatives.{Read}
 use Rattle.pv_replay.specs.Faults.{fault_of}
 use Rattle.pv_fields.proofs.ListLemmas.{entries_start, entries_go_on, entries_stop, entries_stop_at_item, entries_end}
+use Rattle.pv_replay.proofs.LeftLemmas.{gone_further, gone_nowhere}
 use Rattle.pv_replay.proofs.reads.take_counted_reads.Goals as goal
 
 pub loop-alloc-init : goal.loop-alloc-init
 loop-alloc-init c =
     rw c.in_ok-reads.ensures
-    record { few = omega arith; small = omega arith; reading = entries_start (λ (entry : Read). SpellsPolyvalue entry.cases) (λ entry. entry.item) polyvalue_then c.args.count c.args.take.now }
+    record {
+      few = omega arith;
+      small = omega arith;
+      reading = entries_start (λ (entry : Read). SpellsPolyvalue entry.cases) (λ entry. entry.item) polyvalue_then c.args.count c.args.take.now;
+      left = gone_nowhere c.args.take.now c.args.take.now refl;
+    }
 
 pub loop-alloc-preserved : goal.loop-alloc-preserved
 loop-alloc-preserved c =
@@ -25,6 +31,8 @@ loop-alloc-preserved c =
       small = grind (arith, nat_tests);
       reading = entries_go_on (λ (entry : Read). SpellsPolyvalue entry.cases) (λ entry. entry.item) polyvalue_then c.loop-alloc.reads.items read c.args.count c.loop-alloc.least c.args.take.now c.loop-alloc.take
           c.take_item.new.take c.take_poly.new.take some c.loop-alloc.invariant.reading c.in_ok-item.ensures.passes c.in_ok-value.ensures.passes;
+      left = gone_further c.args.take.now c.take_item.new.take c.take_poly.new.take
+          (gone_further c.args.take.now c.loop-alloc.take c.take_item.new.take c.loop-alloc.invariant.left c.in_ok-item.ensures.left) c.in_ok-value.ensures.left;
     }
 
 pub returns-in_err-item-clause-stops : goal.returns-in_err-item-clause-stops
@@ -46,3 +54,16 @@ returns-in_err-value-clause-stops c =
 pub returns-clause-passes : goal.returns-clause-passes
 returns-clause-passes c =
     entries_end (λ (entry : Read). SpellsPolyvalue entry.cases) (λ entry. entry.item) polyvalue_then c.loop-alloc.reads.items c.args.count c.loop-alloc.least c.args.take.now c.loop-alloc.take (omega arith) c.loop-alloc.invariant.reading
+
+pub returns-in_err-item-clause-left : goal.returns-in_err-item-clause-left
+returns-in_err-item-clause-left c = gone_further c.args.take.now c.loop-alloc.take c.take_item.new.take c.loop-alloc.invariant.left c.in_err-item.ensures.left
+
+pub returns-in_err-value-clause-left : goal.returns-in_err-value-clause-left
+returns-in_err-value-clause-left c =
+    gone_further c.args.take.now c.take_item.new.take c.take_poly.new.take
+    (gone_further c.args.take.now c.loop-alloc.take c.take_item.new.take c.loop-alloc.invariant.left c.in_ok-item.ensures.left) c.in_err-value.ensures.left
+
+pub returns-in_err-push-clause-left : goal.returns-in_err-push-clause-left
+returns-in_err-push-clause-left c =
+    gone_further c.args.take.now c.take_item.new.take c.take_poly.new.take
+    (gone_further c.args.take.now c.loop-alloc.take c.take_item.new.take c.loop-alloc.invariant.left c.in_ok-item.ensures.left) c.in_ok-value.ensures.left

@@ -4,6 +4,7 @@ use Rattle.pv_format.specs.Layout.{polyvalue_then}
 use Rattle.pv_format.specs.PolyvalueSpelling.{SpellsPolyvalue}
 use Rattle.pv_fields.proofs.ListLemmas.{IsReadingEntries}
 use Rattle.pv_model.specs.Alternatives.{Read}
+use Rattle.pv_replay.specs.Left.{HasGoneOn}
 use Rattle.pv_replay.proofs.reads.take_counted_reads.Given as goal
 
 abbrev pub invariant-loop-alloc : goal.invariant-loop-alloc
@@ -11,6 +12,7 @@ invariant-loop-alloc l = record {
   few : length l.reads.items ≤ l.count;
   small : l.least ≤ 1024;
   reading : IsReadingEntries (λ (entry : Read). SpellsPolyvalue entry.cases) (λ entry. entry.item) polyvalue_then l.reads.items l.count l.least l.initial.take l.take;
+  left : HasGoneOn l.initial.take l.take;
 }
 
 abbrev pub decreases-loop-alloc : goal.decreases-loop-alloc

@@ -8,6 +8,7 @@ use Rattle.pv_fields.specs.Decoding.{Passes, Stops}
 use Rattle.pv_fields.proofs.PartLemmas.{ok_from_both, passes_after_number, stops_after_number, stops_at_number}
 use Rattle.pv_model.specs.Alternatives.{Read}
 use Rattle.pv_replay.specs.Faults.{fault_of}
+use Rattle.pv_replay.proofs.LeftLemmas.{gone_further}
 use Rattle.pv_replay.proofs.reads.take_reads.Goals as goal
 
 abbrev after_count : ℕ → Layout → Layout
@@ -37,3 +38,6 @@ returns-clause-stops c =
     stops_after_number (IsAllowed 1 (is_count_from c.args.fewest) c.in_ok-count.count) 1 (is_count_from c.args.fewest) c.in_ok-count.count after_count c.args.take.now c.take_count.new.take
     c.in_ok-count.ensures.passes (fault_of e) stops)
     c.take_counted_reads.ensures.stops
+
+pub returns-clause-left : goal.returns-clause-left
+returns-clause-left c = gone_further c.args.take.now c.take_count.new.take c.take_counted_reads.new.take c.take_count.ensures.left c.take_counted_reads.ensures.left

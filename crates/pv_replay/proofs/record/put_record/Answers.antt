@@ -34,8 +34,8 @@ returns-in_ok-put_txn-in-Prepared c = λ bytes all.
     appended_both c.args.put.now.bytes c.u8-in-Prepared.new.self.bytes c.put_reads.new.put.bytes spelled.front spelled.back bytes spelled.whole
     (c.in_ok-u8-in-Prepared.ensures.written ∙ ap (λ front. c.args.put.now.bytes ++ front) (sym spelled.first.spelled))
     (appended_both c.u8-in-Prepared.new.self.bytes c.put_txn.new.put.bytes c.put_reads.new.put.bytes spelled.second.front spelled.second.back spelled.back spelled.second.whole
-    (c.in_ok-put_txn-in-Prepared.ensures spelled.second.front spelled.second.first) last))
-    (c.put_reads.ensures 0 spelled.second.back (subst (λ (reads : List Read). SpellsReads 0 reads spelled.second.back) (sym c.deref.ensures.value) spelled.second.second))
+    (c.in_ok-put_txn-in-Prepared.ensures.written spelled.second.front spelled.second.first) last))
+    (c.put_reads.ensures.written 0 spelled.second.back (subst (λ (reads : List Read). SpellsReads 0 reads spelled.second.back) (sym c.deref.ensures.value) spelled.second.second))
 
 pub returns-in_ok-put_txn-in-Outcome : goal.returns-in_ok-put_txn-in-Outcome
 returns-in_ok-put_txn-in-Outcome c = λ bytes all.
@@ -46,5 +46,5 @@ returns-in_ok-put_txn-in-Outcome c = λ bytes all.
     appended_both c.args.put.now.bytes c.u8-in-Outcome.new.self.bytes c.put_truth.new.put.bytes spelled.front spelled.back bytes spelled.whole
     (c.in_ok-u8-in-Outcome.ensures.written ∙ ap (λ front. c.args.put.now.bytes ++ front) (sym spelled.first.spelled))
     (appended_both c.u8-in-Outcome.new.self.bytes c.put_txn-in-Outcome.new.put.bytes c.put_truth.new.put.bytes spelled.second.front spelled.second.back spelled.back spelled.second.whole
-    (c.in_ok-put_txn-in-Outcome.ensures spelled.second.front spelled.second.first) last))
-    (c.put_truth.ensures spelled.second.back spelled.second.second)
+    (c.in_ok-put_txn-in-Outcome.ensures.written spelled.second.front spelled.second.first) last))
+    (c.put_truth.ensures.written spelled.second.back spelled.second.second)

@@ -39,7 +39,7 @@ returns-in_ok-put_grant-in-Granted c = λ bytes all.
     on_ok_weaker c.put_reads.result
     (appended_both c.args.put.now.bytes c.put_grant.new.put.bytes c.put_reads.new.put.bytes spelled.front spelled.back bytes spelled.whole
     (c.in_ok-put_grant-in-Granted.ensures spelled.front spelled.first))
-    (c.put_reads.ensures 1 spelled.back (subst (λ (reads : List Read). SpellsReads 1 reads spelled.back) (sym c.deref-in-Granted.ensures.value) spelled.second))
+    (c.put_reads.ensures.written 1 spelled.back (subst (λ (reads : List Read). SpellsReads 1 reads spelled.back) (sym c.deref-in-Granted.ensures.value) spelled.second))
 
 pub put_reads-requires-in-Prepare : goal.put_reads-requires-in-Prepare
 put_reads-requires-in-Prepare c =
@@ -54,7 +54,7 @@ returns-in_ok-put_grant-in-Prepare c = λ bytes all.
     on_ok_weaker c.put_reads-in-Prepare.result
     (appended_both c.args.put.now.bytes c.put_grant-in-Prepare.new.put.bytes c.put_reads-in-Prepare.new.put.bytes spelled.front spelled.back bytes spelled.whole
     (c.in_ok-put_grant-in-Prepare.ensures spelled.front spelled.first))
-    (c.put_reads-in-Prepare.ensures 0 spelled.back (subst (λ (reads : List Read). SpellsReads 0 reads spelled.back) (sym c.deref-in-Prepare.ensures.value) spelled.second))
+    (c.put_reads-in-Prepare.ensures.written 0 spelled.back (subst (λ (reads : List Read). SpellsReads 0 reads spelled.back) (sym c.deref-in-Prepare.ensures.value) spelled.second))
 
 pub returns-in_ok-u32-in-Denied : goal.returns-in_ok-u32-in-Denied
 returns-in_ok-u32-in-Denied c = λ bytes all.
@@ -63,8 +63,8 @@ returns-in_ok-u32-in-Denied c = λ bytes all.
     on_ok_weaker c.put_txn.result
     (appended_both c.args.put.now.bytes c.u32.new.self.bytes c.put_txn.new.put.bytes spelled.front spelled.back bytes spelled.whole
     (c.in_ok-u32-in-Denied.ensures.written ∙ ap (λ front. c.args.put.now.bytes ++ front) (sym spelled.first.spelled.spelled)))
-    (c.put_txn.ensures spelled.back spelled.second)
+    (c.put_txn.ensures.written spelled.back spelled.second)
 
 pub returns-in-Outcome : goal.returns-in-Outcome
 returns-in-Outcome c = λ bytes all.
-    c.put_truth.ensures bytes (subst (λ (message : Message). SpellsBody (message_of message) bytes) c.in-Outcome.is all)
+    c.put_truth.ensures.written bytes (subst (λ (message : Message). SpellsBody (message_of message) bytes) c.in-Outcome.is all)
