@@ -6,10 +6,16 @@ ghost use Rattle.pv_post.specs.Ends.{plan_of, posted, taken};
 use pv_base::{History, NoMemory};
 use pv_post::{In, Out, Posted};
 use std::alloc::Global;
-use std::thread;
+use std::{hint, thread};
 
 /// After so many looks in a row that found no answer a client asks no more.
 pub const MAX_LOOKS: u32 = 10_000_000;
+
+// After each of so many looks in a row that found no answer another thread may have the processor, and then after half as many whenever the looks have doubled.
+const POLITE_LOOKS: u32 = 128;
+
+// How far the other looks are apart: as far as gives an answer seconds to come, and no minutes.
+const SPINS: u32 = 8;
 
 /// A client. It asks for what its script says, in order, and for the next thing only after as many answers as it has asked for things.
 ///
@@ -108,11 +114,11 @@ impl<Q: Drop, A: Drop> Client<Q, A> {
         ensures heard { result ≡ true → length (posted self.new.asks) ≤ length self.new.heard.items }
         ensures ended { result ≡ false → HasEnded self.new }
     {
-        for _ in 1..MAX_LOOKS {
+        for looks in 1..MAX_LOOKS {
             if self.look() {
                 return true;
             }
-            thread::yield_now();
+            pause(looks);
         }
         self.look()
     }
@@ -132,5 +138,19 @@ impl<Q: Drop, A: Drop> Client<Q, A> {
         };
         self.heard.push_reserved(answer);
         true
+    }
+}
+
+// Waits a moment after so many looks in a row that found no answer.
+//
+// A client that hands its processor over leaves it to a worker, for whom the answer may wait. Where processors are busy it gets it back milliseconds later, so that one
+// that did so after each of its looks might wait for hours. Therefore it does so ever more rarely: where the count of looks is a small number times a power of two.
+fn pause(looks: u32) {
+    if looks.wrapping_shr(looks.trailing_zeros()) < POLITE_LOOKS {
+        thread::yield_now();
+        return;
+    }
+    for _ in 0..SPINS {
+        hint::spin_loop();
     }
 }
