@@ -1,6 +1,7 @@
 // Rows of things, one of each site.
-ghost use Rattle.std.specs.Prelude.{◌≡◌, ◌<◌, [], All, IfOk, OnOk, length};
+ghost use Rattle.std.specs.Prelude.{◌≡◌, ◌<◌, [], All, IfOk, OnErr, OnOk, length};
 ghost use Rattle.pv_links.specs.Rows.{AddsTo};
+ghost use Rattle.pv_rings.specs.Rings.{Each};
 
 use pv_base::NoMemory;
 use std::alloc::Global;
@@ -17,10 +18,11 @@ pub fn new_rows<A: Drop>(alloc: Global, count: usize) -> Result<Vec<Vec<A>>, NoM
     Ok(rows)
 }
 
-/// Adds one at the end of this row.
+/// Adds one at the end of this row. Without memory each row has what it had, and the one is gone.
 pub fn push_to<A: Drop>(rows: &mut Vec<Vec<A>>, row: usize, one: A) -> Result<(), NoMemory>
     requires { row < length rows.old.items }
-    ensures { OnOk result (AddsTo row one rows.old.items rows.new.items) }
+    ensures added { OnOk result (AddsTo row one rows.old.items rows.new.items) }
+    ensures unchanged { OnErr result (Each (λ _ before after. after.items ≡ before.items) rows.old.items rows.new.items) }
 {
     rows[row].push(one)?;
     Ok(())

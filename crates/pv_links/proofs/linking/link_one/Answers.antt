@@ -21,5 +21,5 @@ loop-to-preserved g c =
       let less = c.loop-to-test.true in let whole = c.len-to-end.ensures in let same = kept.0 in omega (arith, long),
       subst (λ l. AreLinked c.args.plan l first last) (sym new)
           (linked-more c.args.plan outs out inlet c.in_ok-out.ensures.pair c.in_ok-out.ensures.inlet first mid last kept.2 unused
-          (subst (λ n. AddsTo n inlet mid last) kept.0 c.in_ok-push_to.ensures)),
+          (subst (λ n. AddsTo n inlet mid last) kept.0 c.in_ok-push_to.ensures.added)),
     )
