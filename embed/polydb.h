@@ -114,7 +114,7 @@ uint32_t polydb_version(void);
 #define POLYDB_NOT_OURS 22u
 /* What the journal holds isn't a record. */
 #define POLYDB_BAD_RECORD 23u
-/* With the journal's records the value of an item would name too many outcomes. No site of this configuration writes such a journal. */
+/* With the journal's records the value of an item would name too many outcomes. In a run no site of this configuration has such records (docs/EMBEDDING.md, What isn't said). */
 #define POLYDB_TOO_MANY_OUTCOMES 24u
 /* No epoch is left: the site was opened 4,294,967,294 times. */
 #define POLYDB_EPOCHS_SPENT 25u
@@ -221,8 +221,8 @@ void polydb_world_close(polydb_world *world);
 /* ---- a site: one site of several, for a host that carries its messages and writes its journal ---- */
 
 /*
- * A host does this, in any order and as often as it likes, but for the two calls of the inner loop, which belong together. With a room of 64 KiB, say, it
- * writes all records that have come meanwhile together, with two writes and two syncs for all of them:
+ * A host does this, in any order and as often as it likes. polydb_site_journal_synced is for the bytes that polydb_site_take_journal gave last; other calls may come between.
+ * With a room of 64 KiB, say, it writes all records that have come meanwhile together, with two writes and two syncs for all of them:
  *
  *     open the site on what its file holds
  *     for ever:
@@ -233,25 +233,32 @@ void polydb_world_close(polydb_world *world);
  *             send the message to the site that it goes to; show the report
  *         give the site what came: a request, a message, a tick
  *
- * A message may be lost, may come late and may come twice: the protocol is made for that. That sites of several hosts agree is a law: whatever happens to them, there is
- * one run of `polydb run` that has let out and shown the same. It asks for what these calls are proved to do (docs/EMBEDDING.md has both side by side), and of hosts for
- * what stands below.
+ * A message may be lost, may come late and may come twice: the protocol is made for that. That sites of several hosts agree is a law: whatever happens to them, there is one
+ * run of all sites together, a list of events, in which what they have let out was sent or printed, and what they show is shown; and it goes on as they do. It asks for what
+ * these calls are proved to do (docs/EMBEDDING.md has both side by side), and of hosts for what stands below. Not promised: that the run's programs are the texts of the
+ * requests, as a schedule for `polydb run` has them; nor one run across a raised limit of journals (docs/EMBEDDING.md, What isn't said).
  * Time is the host's: a site that waits for an answer gives up at its third tick, lets go of
  * its locks at their third, and then asks again at each tick; and never without one.
  *
  * What the host owes besides (`host/polydb_host.h` does what is on files of it, for a site on a folder, and `node/polydb_node.h` carries messages and ticks too):
  *   - the file, and for a new one its entry in the folder, is synced before its bytes are read for polydb_site_open: the site counts as written all that it
  *     finds, and of a process that was killed the file may show bytes that aren't on the disk yet;
- *   - the file of a site that is opened the first time is POLYDB_EMPTY_JOURNAL; and later the one that its last process left;
- *   - the file holds what was written and synced before polydb_site_journal_synced was called, until the site is opened again. A crash in
- *     a write leaves any bytes where that write puts its bytes, and all other bytes alone;
+ *   - the file of a site that is opened the first time is POLYDB_EMPTY_JOURNAL, with any bytes behind it; and later the one that its last process left;
+ *   - the file goes on to hold what it held when its bytes were read for polydb_site_open, and what was written and synced before polydb_site_journal_synced was called, also
+ *     when the site is opened again. A crash in a write leaves any bytes where that write puts its bytes, and all other bytes alone. The host writes
+ *     nothing else into it (but see polydb_site_open and polydb_site_take_journal);
  *   - where a write or a sync fails, polydb_site_journal_synced isn't called. The host writes the same bytes again (polydb_site_take_journal gives them
  *     again), and syncs. A later sync that answers 0 without a new write proves nothing: the system may have given up the bytes, and shows them still. That is so
- *     after a restart, too: a host that can't rule it out opens the site on a copy, all of which it has written and synced, with its entry in the folder;
- *   - one open site at a time has the file, and nothing that an earlier process has written lands in it once it is opened again: not from a queue, either;
- *   - bytes that polydb_site_receive is given may be any bytes; but where they spell a message, a site of the same configuration let it out;
+ *     after a restart, too: a host that can't rule it out goes on with a copy, all of which is written and synced, with its entry in the folder, before any call but the opening;
+ *   - of each number one site is open at a time, on one file: once the bytes are read for the next opening, what is taken from an earlier one, and what that shows or tells, is
+ *     dropped;
+ *   - no write lands late, not from a queue, either: from the sync before the bytes are read none that was for an earlier opening, of another process or of this one; and
+ *     none that was given up and made again, once polydb_site_journal_synced is called for it;
+ *   - bytes that polydb_site_receive is given may be any bytes; but where they spell a message, a site of these very files let it out: on the file of its number, at any time since
+ *     that was new. A site of other files is a stranger, also with the same configuration: one of a copy of all files, or of the time before all were made anew;
  *   - all sites are opened with the same configuration, always, but that all of them together may get a higher limit of journals (polydb_site_open); and each
- *     number is one site's. The file holds neither the configuration nor `me`: that it is opened as another site, or under another configuration, isn't noticed.
+ *     number is one site's. One run of before and after that isn't promised. The same is what declares the same: sites, items in their order, the limit. The file holds neither
+ *     the configuration nor `me`: that it is opened as another site, or under another configuration, isn't noticed.
  *
  * What is proved of it: each call makes of the site what the program's site makes of the same input; nothing is let out before all records are in the file
  * that the site had when it made it, and nothing is shown while one isn't; and at each moment, and whatever a crash in a write leaves, the file is a journal
@@ -267,7 +274,7 @@ typedef struct {
 
 /*
  * The file of a new site: a journal without records. It is these bytes with the zero behind them, sizeof POLYDB_EMPTY_JOURNAL in all.
- * The host makes the file, and syncs it and its folder, before it opens the site the first time.
+ * The host makes the file, and syncs it and its folder, before it makes any call on the new site but the opening.
  */
 #define POLYDB_EMPTY_JOURNAL "PVJRNL01"
 
@@ -276,8 +283,8 @@ typedef struct {
 
 /*
  * Opens a closed handle with site `me` of a configuration: lines `sites`, `journal` and `item` of a schedule, the same for all sites. The journal is
- * what the host's file holds. What the file holds beyond the journal's end doesn't matter, and the opening takes no memory for it. The site keeps
- * copies of what it needs.
+ * what the host's file holds, as it was found. What stands there beyond the journal's end, its closed gate, doesn't matter: until the next call on the site the host may leave it
+ * out, cut it off or put other bytes there. The opening takes no memory for it. The site keeps copies of what it needs.
  *
  *   POLYDB_DONE               the site is open. It is in a new epoch, whose record is the first thing to write
  *   POLYDB_IN_USE             the handle was open
@@ -293,7 +300,8 @@ typedef struct {
  *   POLYDB_NO_MEMORY          there was no memory
  *
  * Each opening adds a record of 10 bytes, so a journal at its limit can't be opened, nor be read. It isn't lost: a configuration with a higher limit in its line
- * `journal` opens the same bytes. All sites are stopped then, and opened with that configuration.
+ * `journal` opens the same bytes. All sites are stopped then, and opened with that configuration. What a site shows of its records stays what it was; but a run has one limit,
+ * so one run of before and after isn't promised.
  */
 uint32_t polydb_site_open(polydb_site *site, const uint8_t *config, size_t config_length, uint8_t me, const uint8_t *journal,
                           size_t journal_length);
@@ -314,8 +322,9 @@ uint32_t polydb_site_open_at(polydb_site *site, const uint8_t *config, size_t co
  * A request: the program that the text is runs, with this site as its coordinator. A query assigns nothing and has a `return`. What becomes of it is
  * reported. Each request that is taken has one report `txn ..` with its number, in the order of the requests, and later one `commit ..` or `refuse ..` with
  * that number; or in place of these `spent ..`, where the site has no number left for it, and then nothing more. If the site is closed before, there is
- * nothing more either: it may have committed or not. (`spent ..` also comes where this site is asked for locks and has no number left for a grant. A site
- * has 4,294,967,295 numbers of each of the two kinds, and as many again when it is opened again.)
+ * nothing more either: it may have committed or not if its `txn ..` was taken, and else it hasn't and never will. (`spent ..` also comes where this site is asked for locks and
+ * has no number left for a grant, and it isn't said for which of the two: the host is to close the site then, and to open it again. A site has 4,294,967,295 numbers of each
+ * of the two kinds, and as many again when it is opened again.)
  *
  *   POLYDB_DONE         the site has begun it
  *   POLYDB_CLOSED       the handle is closed
@@ -336,8 +345,11 @@ uint32_t polydb_site_submit_at(polydb_site *site, const uint8_t *program, size_t
 
 /*
  * The same, with a number of the host's, which polydb_site_take_tagged gives with the report `txn ..` of this request. 0 is that of a request without one. The site keeps the
- * tag in memory until then, and no file has it: if the site is closed before, it is lost with that report. So a host that keeps beside each tag what it has of the request, and
- * then the number that came with the tag, can ask for the outcome (polydb_site_outcome) after a crash.
+ * tag in memory until then, and no file has it: if the site is closed before, it is lost with that report.
+ *
+ * So that a retry after a crash does nothing twice, a host keeps on its disk, beside each tag, what it has of the request; and then the number that came with the tag, before it
+ * takes anything more from the site, since what comes next may let the transaction commit. After a crash it asks for the outcome of each number that it has (polydb_site_outcome).
+ * A request of which it has no number hasn't committed, and never will.
  */
 uint32_t polydb_site_submit_tagged(polydb_site *site, const uint8_t *program, size_t length, bool query, uint64_t tag, polydb_fault *fault);
 
@@ -365,7 +377,8 @@ uint32_t polydb_site_tick(polydb_site *site);
 /*
  * What the host is to write next into its file: `*written` bytes at `*place` (from 0), which may lie within the file. They are a group of the records that wait, as
  * many as have room and one at least; and once polydb_site_journal_synced is called for them, one byte more, which makes all of them count. The group stays
- * as it is, and the same bytes come, until then: a record that comes meanwhile waits for the next group.
+ * as it is, and the same bytes come, until then: a record that comes meanwhile waits for the next group. The byte is written only after the group is there and synced. But a store
+ * that takes several writes whole or not at all may be given both together: that counts as the group there and told, and the byte under way.
  *
  *   POLYDB_DONE        the bytes are in `out`
  *   POLYDB_CLOSED      the handle is closed
@@ -375,7 +388,7 @@ uint32_t polydb_site_tick(polydb_site *site);
 uint32_t polydb_site_take_journal(polydb_site *site, uint8_t *out, size_t room, size_t *written, uint64_t *place);
 
 /*
- * The host has written these bytes at this place, as many as polydb_site_take_journal gave, and synced the file. To say so before it is true breaks
+ * The host has written these bytes at this place, as many as polydb_site_take_journal gave last, and synced the file. To say so before it is true breaks
  * what is proved.
  *
  *   POLYDB_DONE        the site knows; the next write, if there is one, is now to be taken
@@ -426,16 +439,16 @@ uint32_t polydb_site_read(polydb_site *site, const uint8_t *name, size_t length,
 
 /*
  * What became of a transaction of this site, by the three numbers of its `txn` report, as 0, 1 and 0 of `txn 0.1.0`. It is what another site is answered that asks
- * for the outcome. A client that has such a number asks after a crash, so that a retry does nothing twice. Nothing changes.
+ * for the outcome. A host that has kept such a number asks after a crash (polydb_site_submit_tagged). Nothing changes.
  *
  * It is told only once all is written that the site has asked for: else a crash might undo it. POLYDB_COMMITTED and POLYDB_NOT_COMMITTED are final; a transaction
- * that is POLYDB_AT_WORK may still commit or not, and doesn't if the site is closed before.
+ * that is POLYDB_AT_WORK may still commit or not.
  *
  *   POLYDB_DONE        `*outcome` is POLYDB_COMMITTED, POLYDB_NOT_COMMITTED or POLYDB_AT_WORK; with other statuses it is 0
  *   POLYDB_CLOSED      the handle is closed
  *   POLYDB_NOT_HERE    it is a transaction of another site
  *   POLYDB_UNWRITTEN   polydb_site_take_journal has something to write, and nothing is told before polydb_site_journal_synced
- *   POLYDB_NOTHING     the site has given this number to no transaction yet, and may still do so
+ *   POLYDB_NOTHING     the site has given this number to no transaction yet
  *   POLYDB_NO_MEMORY   there was no memory
  */
 uint32_t polydb_site_outcome(polydb_site *site, uint8_t coordinator, uint32_t epoch, uint32_t number, uint32_t *outcome);

@@ -18,14 +18,15 @@
  *   - after a fork the child is refused (POLYDB_HOST_FORKED), and the parent goes on;
  *   - the folder says which site it is and with which configuration (`site-S.id`), in its file and its folder's entry before anything else is written, and is
  *     compared at each opening;
- *   - a new journal is on the disk with its entry in the folder before the site is opened. A file without a byte counts as new, as `polydb show` makes one;
+ *   - a new journal is on the disk with its entry in the folder before the site is given anything. A file without a byte counts as new, as `polydb show` makes one;
  *   - where the process before didn't end by polydb_host_close, or one of its writes or syncs has failed, the bytes that can be read needn't be on the disk, and a
  *     sync alone needn't bring them there: the journal is written anew under another name, synced, and takes the old one's place;
  *   - a write or a sync that fails is never told to the site. The same bytes are written again at the next polydb_host_settle;
  *   - a message of the site to itself is given back to it at once.
  *
  * What the program owes: the folder is on a file system of this machine on which the system keeps to locks and syncs; nobody else writes files `site-S.*` of
- * it; a message is given to the site only if a site of the same configuration has let it out; and no host is used by two threads at once.
+ * it, copies them to go on from both, or sets them back; a message is given to the site only if a site of this very deployment has let it out, as `polydb.h` says; and no host
+ * is used by two threads at once.
  *
  * Files of site S in its folder, which several sites may share: `site-S.pv` the journal; `site-S.id` the number and the configuration; `site-S.lock` the lock,
  * whose text says whether the last process ended well; `site-S.new` and `site-S.id.new`, which are there for a moment. To move a site, close it and move all.
@@ -107,7 +108,7 @@ typedef struct {
     void *context;
     /* A message for site `to`, another one. `to` may be no site of the configuration: then it is lost. */
     void (*message)(void *context, uint8_t to, const uint8_t *bytes, size_t length);
-    /* A report, as a run prints it, without its line feed. */
+    /* A report, as a run prints it, without its line feed. Nothing more is taken from the site before it returns. */
     void (*report)(void *context, const char *line, size_t length);
 } polydb_host_setup;
 
