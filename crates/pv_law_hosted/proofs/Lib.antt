@@ -7,6 +7,9 @@ mod GivesLemmas
 mod GoesLemmas
 mod HappensLemmas
 mod MirroredLemmas
+mod NumberEvents
+mod NumberLemmas
+mod NumberSteps
 mod OneByOneLemmas
 mod OpensLemmas
 mod OutcomeLemmas

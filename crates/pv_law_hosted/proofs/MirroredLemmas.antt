@@ -36,7 +36,7 @@ all-mapped f (first ∷ xs) =
 pub contains-mapped : {X Y : Type 0} (f : X → Y) (xs : List X) (x : X) → Contains xs x → Contains (map f xs) (f x)
 contains-mapped f xs x there = All-contains (λ x. Contains (map f xs) (f x)) xs x (all-mapped f xs) there
 
-no-member : {X : Type 0} (x : X) → Contains [] x → ⊥
+pub no-member : {X : Type 0} (x : X) → Contains [] x → ⊥
 no-member x there = let below = there.1 in omega (arith, below)
 
 no-station : (d : Deployment) (n : ℕ) (envelope : Envelope) → length d ≤ n → Contains (station_at d n).let_out (message envelope) → ⊥

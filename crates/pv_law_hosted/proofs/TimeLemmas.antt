@@ -34,7 +34,7 @@ use Rattle.pv_law_hosted.specs.Made.{made_as, made_by, made_from, prints}
 use Rattle.pv_law_hosted.specs.Mirrored.{Follows, FollowsHosted, FollowsProcess, IsMirrored, world_of}
 
 -- what is held, without the lengths
-outs-of-held : (size : ℕ) (out : List Out) → map (λ (one : Held). one.out) (map (λ (it : Out). record { length = size; out = it }) out) ≡ out
+pub outs-of-held : (size : ℕ) (out : List Out) → map (λ (one : Held). one.out) (map (λ (it : Out). record { length = size; out = it }) out) ≡ out
 outs-of-held size [] = refl
 outs-of-held size (first ∷ out) = ap (λ (l : List Out). first ∷ l) (outs-of-held size out)
 

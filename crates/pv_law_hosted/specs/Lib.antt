@@ -5,4 +5,5 @@ pub mod DeploymentEvents
 pub mod Given
 pub mod Made
 pub mod Mirrored
+pub mod Numbers
 pub mod Worked

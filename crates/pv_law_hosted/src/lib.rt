@@ -32,11 +32,12 @@ ghost use Rattle.pv_law_hosted.specs.Deployment.{Deployment, IsNew, station_at, 
 ghost use Rattle.pv_law_hosted.specs.DeploymentEvents.{Happens, MayTake, Stands};
 ghost use Rattle.pv_law_hosted.specs.Made.{IsLetOutOf, made_as, made_by};
 ghost use Rattle.pv_law_hosted.specs.Mirrored.{IsMirrored, plain_site, world_of};
+ghost use Rattle.pv_law_hosted.specs.Numbers.{AreNumbersFirst};
 ghost use Rattle.pv_law_hosted.specs.Worked as worked;
 ghost use Rattle.pv_law_outcomes.specs.Decided.{IsCutTo};
 ghost use Rattle.pv_model.specs.Events.{Event, Schedule};
 ghost use Rattle.pv_model.specs.Meaning.{value_in};
-ghost use Rattle.pv_protocol.specs.Committed.{Fits, entry_of, is_committed, is_readable, serial_rows};
+ghost use Rattle.pv_protocol.specs.Committed.{Fits, entry_of, home_of, is_committed, is_readable, serial_rows};
 ghost use Rattle.pv_protocol.specs.Lines.{line_of};
 ghost use Rattle.pv_protocol.specs.Outcomes.{IsOut};
 ghost use Rattle.pv_protocol.specs.Run.{printed};
@@ -252,6 +253,22 @@ pub fn hosted_outcomes_hold()
     outcomes_are_decided();
     outcomes_are_for_ever();
     no_two_outcomes();
+}
+
+/// A transaction that commits has had its number let out, by the site that has begun it: so a host that keeps what it has of its requests by their numbers, as they are
+/// let out, has the number of whatever commits. From a new deployment on (`new`), whatever happens in it (`event`), the number stands before whatever asks for a vote on the
+/// transaction, since one process makes both; and no site votes, and nothing commits, where no vote was asked for in a message that was let out.
+pub fn commits_have_their_numbers_out()
+    ensures new { (catalog : Declared) (d : Deployment) → IsNew catalog d → AreNumbersFirst (setup_of catalog) d }
+    ensures event { (config : List ℕ) (schedule : Schedule) (d later : Deployment) (events : List Event) → IsMirrored (setup_of schedule.catalog) d events →
+        AreNumbersFirst (setup_of schedule.catalog) d → Happens config schedule.catalog d later → AreNumbersFirst (setup_of schedule.catalog) later }
+    ensures committed { (setup : Setup) (d : Deployment) (events : List Event) (txn : TxnId) → IsMirrored setup d events → AreNumbersFirst setup d →
+        IsTrue (is_committed (world_of setup events) txn) → Contains (station_at d (home_of txn)).let_out (note (began txn)) }
+{
+    files_are_journals();
+    files_hold_what_was_let_out();
+    one_journal();
+    one_record();
 }
 
 /// A deployment of one site, computed, so that the laws above don't speak of nothing. The site is opened on a new file, and its process goes before anything is written
