@@ -5,7 +5,7 @@ What is done here of that which a host owes by `polydb.h`:
 - A lock excludes every other process, and every other opening in this one (an open file description lock on `site-S.lock`).
 - After a fork the child is refused (`Forked`), and the parent goes on.
 - The folder says which site it is and with which configuration (`site-S.id`), on the disk before anything else is written; it is compared at each opening.
-- A new journal is on the disk with its entry in the folder before the site is opened. A file without a byte counts as new, as `polydb show` makes one.
+- A new journal is on the disk with its entry in the folder before the site is given anything. A file without a byte counts as new, as `polydb show` makes one.
 - Where the process before didn't end by `close`, or one of its writes or syncs has failed, the bytes that can be read needn't be on the disk, and a sync alone needn't bring
   them there: the journal is written anew under another name, synced, and takes the old one's place.
 - A write or a sync that fails is never told to the site. The same bytes are written again at the next `settle`.

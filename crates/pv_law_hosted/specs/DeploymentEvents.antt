@@ -48,7 +48,7 @@ pub data HappensTo (catalog : Declared) (d : Deployment) (n : ℕ) (site : Hoste
   -- the next thing is let out: as much of the log is in the file as there was when it was made
   lets_out : (next : HostedState) (first : Held) (later : List Held) → site.held ≡ first ∷ later → first.length ≤ stored_length site
       → next ≡ record site { held = later } → HappensTo catalog d n site old (record old { hosted = Some next; let_out = old.let_out ++ first.out ∷ [] })
-  -- the process goes: by a crash, by a kill, or closed; and the file is one that this may leave
+  -- the process goes: by a crash, by a kill, or closed; and the file is, as the next opening finds it, one that this may leave
   goes : (left : List ℕ) → MayLeave site.site.log old.file left → HappensTo catalog d n site old (record old { file = left; hosted = None })
 
 -- What may happen to a station. One without a process gets one: the site is opened on the file that the last one left.

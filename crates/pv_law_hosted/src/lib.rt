@@ -1,5 +1,5 @@
 //! The law of hosted sites: sites in processes of their own, each with a host and a file, agree as the sites of a world do, since for whatever
-//! happens to them there is a schedule whose run mirrors it. The functions do nothing: each states a law.
+//! happens to them there are events whose run mirrors it. The functions do nothing: each states a law.
 #![tactic(auto)]
 
 ghost use Rattle.std.specs.Prelude.{◌≡◌, ℕ, ◌<◌, ◌≤◌, Bool, false, Option, Some, None, Result, Ok, Err, List, [], ◌∷◌, ◌++◌, drop, length, map, option_to_list, slice_get, All, IsTrue, ⊤};
@@ -62,7 +62,7 @@ use pv_law_schedules::one_schedule;
 use pv_law_world::{epochs_are_recorded, memories_are_in_order};
 use pv_site::logs_tell_of_records;
 
-/// A deployment is mirrored by the run of a schedule, from its beginning on, whatever happens in it; and the run only goes on.
+/// A deployment is mirrored by the run of some events, under the one configuration that it has from its beginning on, whatever happens in it; and the run only goes on.
 pub fn deployments_are_runs()
     ensures new { (catalog : Declared) (d : Deployment) → IsNew catalog d → IsMirrored (setup_of catalog) d [] }
     ensures event { (config : List ℕ) (schedule : Schedule) (d later : Deployment) (events : List Event) → Configures config schedule →
@@ -83,7 +83,9 @@ pub fn deployments_are_runs()
 /// - Where bytes that it hands on spell a message, one of the sites has let it out (`received`).
 /// - It says that a write is in the file only where it is (`wrote`).
 /// - A write that hasn't ended, or has failed, leaves the file with any bytes in its range, and so does the end of a process (`is_writing`, `gone`).
-/// - It opens a site on the file that the last process of that number has left (`opened`).
+/// - It opens a site, of a number that has no process, on the file that the last process of that number has left, as it is found then: what a write of that process still leaves
+///   is part of `gone` (`opened`).
+/// - At first each file is a journal without records and no process is there ([`deployments_are_runs`]), and each configuration declares the one catalog.
 ///
 /// [`HostedSite::stands_ready`](pv_embed::HostedSite::stands_ready) shows that the site stands after a call. Before it, it has its number, its catalog and what
 /// stands ready, since the deployment is mirrored (`has`). A reading changes nothing, nor does a question what is to be written of what was asked for. `gave` is `took` for who
@@ -137,7 +139,7 @@ pub fn calls_happen()
 /// - The run's events are well formed, so all that is promised of runs is promised of it.
 /// - What each station has let out, in its order, its site sends and prints in the run, in its order: of what each process's steps made it is a beginning.
 /// - Where all of its log is said to be in the file, a site shows what the world's site shows: it has the same records and the same memory.
-/// - The file of a station whose process is gone is a journal of exactly the records of the world's site.
+/// - The file of a station whose process is gone is a journal of exactly the records of the world's site, or of none, where that site was started once and nothing has happened in it.
 pub fn mirrored_deployments_agree()
     ensures well { (setup : Setup) (d : Deployment) (events : List Event) → IsMirrored setup d events → All (IsWellFormed setup.catalog) events }
     ensures let_out { (setup : Setup) (d : Deployment) (events : List Event) (n : ℕ) → IsMirrored setup d events → n < setup.catalog.sites →
@@ -188,7 +190,7 @@ pub fn hosted_reports_hold()
 }
 
 /// What was let out before a request was given stands before it in the run: what stations have let out is in the run that mirrors the deployment now
-/// (`mirrored_deployments_agree`), and no transaction that a site begins from now on is begun in that run. It is begun in what the run goes on with.
+/// (`mirrored_deployments_agree`), and no transaction that a site begins from now on is begun in that run. It is begun in what the run goes on with, by some program: the clause doesn't say which.
 pub fn hosted_time_is_kept()
     ensures { (setup : Setup) (d : Deployment) (events : List Event) (n : ℕ) (site next : HostedState) (input : Input) (held : Held) (txn : TxnId) →
         IsMirrored setup d events → n < setup.catalog.sites → (station_at d n).hosted ≡ Some site → MayTake setup.catalog d n input → HasStepped site next input →

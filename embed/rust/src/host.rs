@@ -3,7 +3,7 @@
 //! - A lock excludes every other process, and every other opening in this one, whether by this crate, by C or by Python.
 //! - After a fork the child is refused, and the parent goes on.
 //! - The folder says which site it is and with which configuration, on the disk before anything else is written, and is compared at each opening.
-//! - A new journal is on the disk with its entry in the folder before the site is opened. A file without a byte counts as new.
+//! - A new journal is on the disk with its entry in the folder before the site is given anything. A file without a byte counts as new.
 //! - Where the process before didn't end by a drop, or one of its writes or syncs has failed, the journal is written anew under another name, synced, and takes the old one's place.
 //! - A write or a sync that fails is never told to the site. The same bytes are written again at the next [`FileHost::settle`].
 //! - A message of the site to itself is given back to it at once.
