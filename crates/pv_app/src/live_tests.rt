@@ -56,6 +56,12 @@ const MALFORMED: &[(&str, &str)] = &[
     ("sites 1\nclient 0\nplan 1 0\n", "line 3: too late\n"),
 ];
 
+// A client at the only site, with two requests.
+const ONE_CLIENT: &str = "sites 1\nitem a 0 0\nclient 0\nsubmit a := 1\nsubmit a := 1\n";
+
+// How many writes and syncs of its disk come before a site has started.
+const CALLS_BEFORE: u32 = 8;
+
 // How often a gate looks before it gives up.
 const LOOKS: u32 = 1_000_000_000;
 
@@ -240,4 +246,23 @@ fn a_bay_that_fails_ends_a_live_run(rt: HostRuntime) -> Result<(), Fail> {
     assert_eq!(rt; status, Status::BayFault);
     assert!(rt; text.is_empty());
     Ok(())
+}
+
+// A disk fails when its site has started, at what would commit the first request. The client hears that, and that the site is down then; and the schedule has the fault.
+#[test]
+fn a_client_hears_of_a_disk_that_fails(rt: HostRuntime) -> Result<(), Fail> {
+    let alloc = rt.alloc();
+    let mut disks = Vec::new(alloc);
+    let mut disk = MemDisk::new(alloc);
+    disk.arm(CALLS_BEFORE + 1, Mode::Lost, false);
+    disks.push(disk)?;
+    let mut bay = bay_of(disks)?;
+    let (status, text) = live(&rt, "1", ONE_CLIENT.as_bytes(), &mut bay, &IdleGate)?;
+    assert_eq!(rt; status, Status::Done);
+    let Some((schedule, clients, answers)) = parts_of(&text) else {
+        rt.abort();
+    };
+    assert_eq!(rt; clients, "client 0 0 fault 0\nclient 0 1 down 0");
+    assert!(rt; schedule.find("\nfail 0 1 lost\n").is_some());
+    assert_answers(&rt, schedule, answers)
 }
