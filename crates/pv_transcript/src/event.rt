@@ -1,7 +1,8 @@
 // The lines of events.
-ghost use Rattle.std.specs.Prelude.{◌≡◌, ◌++◌, OnOk};
+ghost use Rattle.std.specs.Prelude.{◌≡◌, ◌++◌, OnErr, OnOk};
 ghost use Rattle.pv_model.specs.Schedule.{request_word};
 ghost use Rattle.pv_protocol.specs.LineText.{numbered_text};
+ghost use Rattle.pv_report.specs.StillHeld.{StillHeld};
 ghost use Rattle.pv_script.specs.ScheduleView.{event_of};
 ghost use Rattle.pv_transcript.specs.ScheduleText.{armed_text, armed_word, event_line, event_words, mode_text, request_text};
 
@@ -12,7 +13,8 @@ use pv_script::Event;
 /// Puts the line of an event after what the buffer holds; a request's program stands as its text. Where that text is the program's, the line is meant to be read as the
 /// event, which no contract says.
 pub fn push_event(text: &mut Vec<u8>, event: &Event) -> Result<(), NoMemory>
-    ensures { OnOk result (text.new.items ≡ text.old.items ++ event_line (event_of event.now)) }
+    ensures text { OnOk result (text.new.items ≡ text.old.items ++ event_line (event_of event.now)) }
+    ensures held { OnErr result (StillHeld text.old.items text.new.items) }
 {
     push_words(text, event)?;
     push_bytes(text, b"\n")
@@ -21,7 +23,8 @@ pub fn push_event(text: &mut Vec<u8>, event: &Event) -> Result<(), NoMemory>
 // The line without its line feed.
 #[tactic(auto, unfolding(crate::specs::ScheduleText::event_words))]
 fn push_words(text: &mut Vec<u8>, event: &Event) -> Result<(), NoMemory>
-    ensures { OnOk result (text.new.items ≡ text.old.items ++ event_words (event_of event.now)) }
+    ensures text { OnOk result (text.new.items ≡ text.old.items ++ event_words (event_of event.now)) }
+    ensures held { OnErr result (StillHeld text.old.items text.new.items) }
 {
     match event {
         Event::Submit {
@@ -59,7 +62,8 @@ fn push_request(
     query: bool,
     program: &[u8],
 ) -> Result<(), NoMemory>
-    ensures { OnOk result (text.new.items ≡ text.old.items ++ request_text site.0 query program.now) }
+    ensures text { OnOk result (text.new.items ≡ text.old.items ++ request_text site.0 query program.now) }
+    ensures held { OnErr result (StillHeld text.old.items text.new.items) }
 {
     push_numbered(text, request_word(query), u64::from(site.0))?;
     push_bytes(text, b" ")?;
@@ -81,7 +85,8 @@ fn push_armed(
     mode: Mode,
     stops: bool,
 ) -> Result<(), NoMemory>
-    ensures { OnOk result (text.new.items ≡ text.old.items ++ armed_text site.0 call mode stops) }
+    ensures text { OnOk result (text.new.items ≡ text.old.items ++ armed_text site.0 call mode stops) }
+    ensures held { OnErr result (StillHeld text.old.items text.new.items) }
 {
     push_numbered(text, armed_word(stops), u64::from(site.0))?;
     push_numbered(text, b"", u64::from(call))?;

@@ -1,7 +1,8 @@
 // The lines of what clients heard, each put after what a buffer holds.
-ghost use Rattle.std.specs.Prelude.{◌≡◌, ◌++◌, OnOk};
+ghost use Rattle.std.specs.Prelude.{◌≡◌, ◌++◌, OnErr, OnOk};
 ghost use Rattle.pv_base.specs.Catalog.{Declared};
 ghost use Rattle.pv_report.specs.NamesOnlyItems.{NamesOnlyItems};
+ghost use Rattle.pv_report.specs.StillHeld.{StillHeld};
 ghost use Rattle.pv_script.specs.LineView.{line_of};
 ghost use Rattle.pv_transcript.specs.Heard as heard;
 ghost use Rattle.pv_transcript.specs.Heard.{client_head, heard_line};
@@ -20,7 +21,8 @@ pub fn push_heard(
     catalog: &Catalog,
 ) -> Result<(), NoMemory>
     requires items { NamesOnlyItems catalog.now (line_of line.now) }
-    ensures { OnOk result (text.new.items ≡ text.old.items ++ heard_line catalog.now client request (heard.line (line_of line.now))) }
+    ensures text { OnOk result (text.new.items ≡ text.old.items ++ heard_line catalog.now client request (heard.line (line_of line.now))) }
+    ensures held { OnErr result (StillHeld text.old.items text.new.items) }
 {
     push_head(text, client, request)?;
     push_line(text, line, catalog)
@@ -33,7 +35,8 @@ pub fn push_worn(
     request: u32,
     site: SiteId,
 ) -> Result<(), NoMemory>
-    ensures { (catalog : Declared) → OnOk result (text.new.items ≡ text.old.items ++ heard_line catalog client request (heard.worn site.0)) }
+    ensures text { (catalog : Declared) → OnOk result (text.new.items ≡ text.old.items ++ heard_line catalog client request (heard.worn site.0)) }
+    ensures held { OnErr result (StillHeld text.old.items text.new.items) }
 {
     push_head(text, client, request)?;
     push_numbered(text, b"worn", u64::from(site.0))?;
@@ -42,7 +45,8 @@ pub fn push_worn(
 
 /// The line of such a request, where it was lost for want of memory.
 pub fn push_no_memory(text: &mut Vec<u8>, client: u32, request: u32) -> Result<(), NoMemory>
-    ensures { (catalog : Declared) → OnOk result (text.new.items ≡ text.old.items ++ heard_line catalog client request heard.no_memory) }
+    ensures text { (catalog : Declared) → OnOk result (text.new.items ≡ text.old.items ++ heard_line catalog client request heard.no_memory) }
+    ensures held { OnErr result (StillHeld text.old.items text.new.items) }
 {
     push_head(text, client, request)?;
     push_bytes(text, b"no-memory\n")
@@ -51,7 +55,8 @@ pub fn push_no_memory(text: &mut Vec<u8>, client: u32, request: u32) -> Result<(
 // What the line begins with.
 #[tactic(auto, unfolding(crate::specs::Heard::client_head))]
 fn push_head(text: &mut Vec<u8>, client: u32, request: u32) -> Result<(), NoMemory>
-    ensures { OnOk result (text.new.items ≡ text.old.items ++ client_head client request) }
+    ensures text { OnOk result (text.new.items ≡ text.old.items ++ client_head client request) }
+    ensures held { OnErr result (StillHeld text.old.items text.new.items) }
 {
     push_numbered(text, b"client", u64::from(client))?;
     push_numbered(text, b"", u64::from(request))?;

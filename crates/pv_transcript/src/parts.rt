@@ -1,7 +1,8 @@
 // The parts of the text, each put after what a buffer holds.
-ghost use Rattle.std.specs.Prelude.{◌≡◌, ◌++◌, All, OnOk, codes, map};
+ghost use Rattle.std.specs.Prelude.{◌≡◌, ◌++◌, All, OnErr, OnOk, codes, map};
 ghost use Rattle.pv_protocol.specs.LineText.{text_of};
 ghost use Rattle.pv_report.specs.NamesOnlyItems.{NamesOnlyItems};
+ghost use Rattle.pv_report.specs.StillHeld.{StillHeld};
 ghost use Rattle.pv_script.specs.LineView.{line_of};
 ghost use Rattle.pv_script.specs.ScheduleView.{event_of};
 ghost use Rattle.pv_transcript.specs.ScheduleText.{events_text};
@@ -20,7 +21,8 @@ pub fn push_schedule(
     catalog: &Catalog,
     events: &[Event],
 ) -> Result<(), NoMemory>
-    ensures { OnOk result (text.new.items ≡ text.old.items ++ schedule_part catalog.now (map event_of events.now)) }
+    ensures text { OnOk result (text.new.items ≡ text.old.items ++ schedule_part catalog.now (map event_of events.now)) }
+    ensures held { OnErr result (StillHeld text.old.items text.new.items) }
 {
     push_bytes(text, b"schedule\n")?;
     push_catalog(text, catalog)?;
@@ -29,7 +31,8 @@ pub fn push_schedule(
 
 // The lines of events.
 fn push_events(text: &mut Vec<u8>, events: &[Event]) -> Result<(), NoMemory>
-    ensures { OnOk result (text.new.items ≡ text.old.items ++ events_text (map event_of events.now)) }
+    ensures text { OnOk result (text.new.items ≡ text.old.items ++ events_text (map event_of events.now)) }
+    ensures held { OnErr result (StillHeld text.old.items text.new.items) }
 {
     for event in events {
         push_event(text, event)?;
@@ -39,7 +42,8 @@ fn push_events(text: &mut Vec<u8>, events: &[Event]) -> Result<(), NoMemory>
 
 /// What the lines of clients begin with.
 pub fn push_clients_heading(text: &mut Vec<u8>) -> Result<(), NoMemory>
-    ensures { OnOk result (text.new.items ≡ text.old.items ++ codes "clients\n") }
+    ensures text { OnOk result (text.new.items ≡ text.old.items ++ codes "clients\n") }
+    ensures unchanged { OnErr result (text.new.items ≡ text.old.items) }
 {
     push_bytes(text, b"clients\n")
 }
@@ -47,7 +51,8 @@ pub fn push_clients_heading(text: &mut Vec<u8>) -> Result<(), NoMemory>
 /// What the schedule prints.
 pub fn push_answers(text: &mut Vec<u8>, lines: &[Line], catalog: &Catalog) -> Result<(), NoMemory>
     requires items { All (NamesOnlyItems catalog.now) (map line_of lines.now) }
-    ensures { OnOk result (text.new.items ≡ text.old.items ++ (codes "answers\n" ++ text_of catalog.now (map line_of lines.now))) }
+    ensures text { OnOk result (text.new.items ≡ text.old.items ++ (codes "answers\n" ++ text_of catalog.now (map line_of lines.now))) }
+    ensures held { OnErr result (StillHeld text.old.items text.new.items) }
 {
     push_bytes(text, b"answers\n")?;
     push_lines(text, lines, catalog)
@@ -56,7 +61,8 @@ pub fn push_answers(text: &mut Vec<u8>, lines: &[Line], catalog: &Catalog) -> Re
 // Lines, one after another.
 fn push_lines(text: &mut Vec<u8>, lines: &[Line], catalog: &Catalog) -> Result<(), NoMemory>
     requires items { All (NamesOnlyItems catalog.now) (map line_of lines.now) }
-    ensures { OnOk result (text.new.items ≡ text.old.items ++ text_of catalog.now (map line_of lines.now)) }
+    ensures text { OnOk result (text.new.items ≡ text.old.items ++ text_of catalog.now (map line_of lines.now)) }
+    ensures held { OnErr result (StillHeld text.old.items text.new.items) }
 {
     for line in lines {
         push_line(text, line, catalog)?;

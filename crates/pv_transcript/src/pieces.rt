@@ -1,21 +1,24 @@
 // The least pieces of lines, each put after what a buffer holds.
-ghost use Rattle.std.specs.Prelude.{◌≡◌, ◌++◌, OnOk};
+ghost use Rattle.std.specs.Prelude.{◌≡◌, ◌++◌, OnErr, OnOk};
 ghost use Rattle.std.specs.Fmt.{signed_decimal};
 ghost use Rattle.pv_protocol.specs.LineText.{numbered_text};
+ghost use Rattle.pv_report.specs.StillHeld.{StillHeld};
 
 use itoa::Buffer;
 use pv_base::{NoMemory, push_number};
 
 /// Bytes as they stand.
 pub(crate) fn push_bytes(text: &mut Vec<u8>, bytes: &[u8]) -> Result<(), NoMemory>
-    ensures { OnOk result (text.new.items ≡ text.old.items ++ bytes.now) }
+    ensures text { OnOk result (text.new.items ≡ text.old.items ++ bytes.now) }
+    ensures unchanged { OnErr result (text.new.items ≡ text.old.items) }
 {
     Ok(text.extend_from_slice(bytes)?)
 }
 
 /// A word, a space and a number.
 pub(crate) fn push_numbered(text: &mut Vec<u8>, word: &[u8], number: u64) -> Result<(), NoMemory>
-    ensures { OnOk result (text.new.items ≡ text.old.items ++ numbered_text word.now number) }
+    ensures text { OnOk result (text.new.items ≡ text.old.items ++ numbered_text word.now number) }
+    ensures held { OnErr result (StillHeld text.old.items text.new.items) }
 {
     text.extend_from_slice(word)?;
     text.extend_from_slice(b" ")?;
@@ -24,7 +27,8 @@ pub(crate) fn push_numbered(text: &mut Vec<u8>, word: &[u8], number: u64) -> Res
 
 /// A number in decimal, with its sign where it is negative.
 pub(crate) fn push_signed(text: &mut Vec<u8>, number: i64) -> Result<(), NoMemory>
-    ensures { OnOk result (text.new.items ≡ text.old.items ++ signed_decimal number) }
+    ensures text { OnOk result (text.new.items ≡ text.old.items ++ signed_decimal number) }
+    ensures unchanged { OnErr result (text.new.items ≡ text.old.items) }
 {
     let mut digits = Buffer::new();
     Ok(text.extend_from_slice(digits.format(number).as_bytes())?)

@@ -9,10 +9,10 @@ pub returns-in-Worn : goal.returns-in-Worn
 returns-in-Worn c =
     subst (λ (what : ClientWhat). OnOk c.push_worn.result
     (c.push_worn.new.text.items ≡ c.args.text.now.items ++ heard_line c.args.catalog.now c.args.client c.args.request (heard_by c.args.site.0 what)))
-    (sym c.in-Worn.is) (c.push_worn.ensures c.args.catalog.now)
+    (sym c.in-Worn.is) (c.push_worn.ensures.text c.args.catalog.now)
 
 pub returns-in-NoMemory : goal.returns-in-NoMemory
 returns-in-NoMemory c =
     subst (λ (what : ClientWhat). OnOk c.push_no_memory.result
     (c.push_no_memory.new.text.items ≡ c.args.text.now.items ++ heard_line c.args.catalog.now c.args.client c.args.request (heard_by c.args.site.0 what)))
-    (sym c.in-NoMemory.is) (c.push_no_memory.ensures c.args.catalog.now)
+    (sym c.in-NoMemory.is) (c.push_no_memory.ensures.text c.args.catalog.now)

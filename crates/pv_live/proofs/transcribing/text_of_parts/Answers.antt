@@ -17,4 +17,4 @@ returns c =
     let lines : after ≡ before ++ clients_text catalog 0 (heard_of c.args.script.now.clients.items c.args.told.now) =
     subst (λ (clients : List Client). after ≡ before ++ clients_text catalog 0 (heard_of clients c.args.told.now)) c.deref.ensures.value c.in_ok-push_clients.ensures in
     four-parts c.new-text.result.items c.push_schedule.new.text.items before after c.push_answers.new.text.items _ _ _ _
-    c.new-text.ensures.items c.in_ok-push_schedule.ensures c.in_ok-push_clients_heading.ensures lines c.in_ok-push_answers.ensures
+    c.new-text.ensures.items c.in_ok-push_schedule.ensures.text c.in_ok-push_clients_heading.ensures.text lines c.in_ok-push_answers.ensures.text
