@@ -6,6 +6,8 @@ mod opening_tests;
 #[cfg(test)]
 mod play_tests;
 #[cfg(test)]
+mod reading_tests;
+#[cfg(test)]
 mod step_tests;
 #[cfg(test)]
 mod tests;
