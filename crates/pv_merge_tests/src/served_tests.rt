@@ -3,6 +3,7 @@ ghost use Rattle.std.specs.Prelude.{◌≡◌, ◌∷◌, [], ◌+◌, ◌<◌, 
 ghost use Rattle.pv_base.specs.Catalog.{Declared};
 ghost use Rattle.pv_history.specs.Entries.{stamped_of, stamps_of};
 ghost use Rattle.pv_law_histories.specs.Examples.{at, first_request, granted_of, lock_of, served, vote_asked};
+ghost use Rattle.pv_law_histories.specs.Fitting.{FitTogether};
 ghost use Rattle.pv_law_histories.specs.History.{Intake, done};
 ghost use Rattle.pv_law_step.specs.Examples.{sure, txn_at, write};
 ghost use Rattle.pv_law_world.specs.Schedules.{alone, changed};
@@ -18,7 +19,6 @@ use pv_ast::{Expr, Op, Operand, Program, Stmt};
 use pv_base::{Catalog, GrantId, ItemId, MAX_JOURNAL, Reply, SiteId, TxnId, Want};
 use pv_check::check;
 use pv_history::{Entry, Seen, Taken};
-use pv_law_histories::one_request_is_served;
 use pv_merge::{Run, merge};
 use pv_script::{Event, Line, Request};
 use pv_site::Note;
@@ -43,7 +43,7 @@ const GRANT: GrantId = GrantId {
 
 // One site, and a, which is 100.
 fn catalog(alloc: Global) -> Result<Catalog, Fail>
-    ensures { IfOk result (λ catalog. setup_of catalog ≡ alone 100) }
+    ensures { IfOk result (λ catalog. catalog ≡ (alone 100).catalog) }
 {
     let mut catalog = Catalog::new(alloc, 1, MAX_JOURNAL);
     catalog.add(b"a", HERE, 100)?;
@@ -71,7 +71,7 @@ fn program(alloc: Global) -> Result<Program, Fail>
 
 // The client's first request.
 fn request(alloc: Global, catalog: &Catalog) -> Result<Request, Fail>
-    requires { setup_of catalog.now ≡ alone 100 }
+    requires { catalog.now ≡ (alone 100).catalog }
     ensures request { IfOk result (λ request. Intake.request 0 (request_of request) ≡ first_request (codes "a := a + 1") (changed model.Op.plus 0 1 model.Program.end)) }
     ensures planned { IfOk result (IsRequestPlanned catalog.now) }
 {
@@ -125,7 +125,7 @@ fn taken(stamp: u64, message: Message, sends: u32, notes: Vec<Note>) -> Entry
 
 // The entry of the request, at the site's first stamp.
 fn begun(alloc: Global, catalog: &Catalog) -> Result<Entry, Fail>
-    requires { setup_of catalog.now ≡ alone 100 }
+    requires { catalog.now ≡ (alone 100).catalog }
     ensures stamped { IfOk result (λ entry. stamped_of entry ≡
         at 1 (first_request (codes "a := a + 1") (changed model.Op.plus 0 1 model.Program.end)) 1 (done (began (txn_at 0 0) ∷ []))) }
     ensures planned { IfOk result (λ entry. ArePlanned catalog.now (entry ∷ [])) }
@@ -175,7 +175,7 @@ fn prepare(alloc: Global) -> Result<Message, Fail>
 
 // The history.
 fn history(alloc: Global, catalog: &Catalog) -> Result<Vec<Entry>, Fail>
-    requires { setup_of catalog.now ≡ alone 100 }
+    requires { catalog.now ≡ (alone 100).catalog }
     ensures stamps { IfOk result (λ entries. stamps_of entries.items ≡ served) }
     ensures planned { IfOk result (λ entries. ArePlanned catalog.now entries.items) }
     ensures count { IfOk result (λ entries. length entries.items ≡ 5) }
@@ -235,11 +235,17 @@ fn are_of_commit(lines: &[Line]) -> bool {
     }
 }
 
+// The history fits a site with the program's limits.
+#[tactic(auto, unfolding(pv_base::specs::Canonical::canonical_cases, pv_model::specs::Meaning::exec, pv_model::specs::Plan::plan_of, pv_protocol::specs::Coordinate::new_value, pv_protocol::specs::Coordinate::reply_value, pv_protocol::specs::Granted::on_granted, pv_protocol::specs::Lock::on_lock, pv_protocol::specs::Lock::on_submit, pv_protocol::specs::Records::journal_bytes, pv_protocol::specs::Shown::shown_within, pv_protocol::specs::Tick::on_tick, pv_protocol::specs::Vote::on_prepare, pv_protocol::specs::Vote::on_yes))]
+fn history_fits()
+    ensures { FitTogether (setup_of (alone 100).catalog) (served ∷ []) }
+{}
+
 // The merge of the history.
 fn merged(alloc: Global) -> Result<Run, Fail> {
     let catalog = catalog(alloc)?;
     let histories = vec![in alloc; history(alloc, &catalog)?]?;
-    one_request_is_served();
+    history_fits();
     let run = merge(alloc, &histories, &catalog)?;
     Ok(run)
 }
