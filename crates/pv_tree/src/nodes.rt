@@ -36,8 +36,8 @@ impl<V> Model for Nodes<V> {
     ghost invariant = { λ nodes. AreNodes nodes.list.items };
 }
 
-// Among how many nodes, the first ones, a leaf is sought before it is made. Where there are more different values than these have, a leaf may be
-// made again: seeking it among all would cost more than it saves.
+// Among how many nodes a node is sought before it is made: a leaf among the first ones, and a test among the first ones behind both its sides. Where
+// it stands behind these it may be made again: seeking it among all would cost more than it saves.
 const SOUGHT: u32 = 32;
 
 impl<V: Exact> Nodes<V> {
@@ -135,8 +135,8 @@ impl<V: Exact> Nodes<V> {
         }
     }
 
-    /// The number of the node that tests this transaction first, which is made if there is none, unless both sides are equal: then it is that of
-    /// a side. Takes time in proportion to the nodes behind both sides.
+    /// The number of the node that tests this transaction first, which is made if none is found, unless both sides are equal: then it is that of
+    /// a side.
     pub fn test(&mut self, txn: TxnId, aborted: u32, committed: u32) -> Result<u32, NoMemory>
         requires aborted_there { aborted < length self.old }
         requires committed_there { committed < length self.old }
@@ -156,11 +156,12 @@ impl<V: Exact> Nodes<V> {
         self.push(Node::Test(txn, aborted, committed))
     }
 
-    // The number of the test of this transaction with these sides, if there is one. It stands behind both.
+    // The number of the test of this transaction with these sides, if there is one among the first nodes behind both.
     fn test_of(&self, txn: TxnId, aborted: u32, committed: u32) -> Option<u32>
         ensures { IfSome result (λ number. IsAt self.now number (under txn false (cases_at self.now aborted) ++ under txn true (cases_at self.now committed))) }
     {
-        for number in aborted.max(committed)..self.len() {
+        let behind = aborted.max(committed);
+        for number in behind..self.len().min(behind.saturating_add(SOUGHT)) {
             if self.is_test(number, txn, aborted, committed) {
                 return Some(number);
             }
