@@ -2,8 +2,10 @@
 use Rattle.std.proofs.Common.{◌≡◌, ◌⊎◌, inl, inr, ℕ, zero, suc, ◌+◌, ◌^◌, ◌<◌, ◌≤◌, List, [], ◌∷◌, ◌++◌, length, take, drop, arith, refl, sym, ◌∙◌, ap, append_assoc, length-append, length-drop}
 use Rattle.std.proofs.lemmas.List.{take-append-drop, take_at, take-append-le}
 use Rattle.std.proofs.lemmas.List.Concat.{flat_map-append}
+use Rattle.std.proofs.lemmas.List.Sums.{sum_by-cons}
 use Rattle.std.proofs.lemmas.List.Elements.{All-nil, All-cons, All-head, All-tail}
 use Rattle.pv_base.specs.BigEndian.{big_endian}
+use Rattle.pv_base.specs.declared.limits.TheConstants.{MAX_JOURNAL}
 use Rattle.pv_base.proofs.BigEndianLemmas.{big_endian-begins, append-same_length}
 use Rattle.pv_disk_model.specs.Size.{Contents, size_of}
 use Rattle.pv_format.specs.Journal.{framed, record_of, records_of, AreShort, IsCut}
@@ -97,3 +99,10 @@ block_size (content ∷ contents) =
 pub records_size : (packed later : Contents) → length (records_of packed) + length (records_of later) + 9 ≡ size_of (packed ++ later)
 records_size packed later =
     omega (arith, end_of-size (packed ++ later), ap length (flat_map-append record_of packed later), length-append (records_of packed) (records_of later))
+
+-- Contents within the limit are short.
+pub short_within : (contents : Contents) → size_of contents ≤ MAX_JOURNAL → AreShort contents
+short_within [] within = All-nil (λ c. length c < 2 ^ 32)
+short_within (content ∷ contents) within =
+    let more = sum_by-cons (λ c. 5 + length c) content contents in
+    All-cons (λ c. length c < 2 ^ 32) content contents (omega (arith, more, within)) (short_within contents (omega (arith, more, within)))

@@ -1,9 +1,9 @@
 -- What each part of a checkpoint makes of a log in two areas, and what a crash in it leaves.
-use Rattle.std.proofs.Common.{◌≡◌, ◌≢◌, ◌⊎◌, inl, inr, ℕ, ◌+◌, ◌-◌, ◌^◌, ◌<◌, ◌≤◌, ◌==◌, true, false, if◌then◌else◌, List, [], ◌∷◌, ◌++◌, length, take, drop, get_or, arith, refl, sym, ◌∙◌, ap, subst, append_assoc}
+use Rattle.std.proofs.Common.{◌≡◌, ◌≢◌, ◌⊎◌, inl, inr, ⊎_elim, ℕ, ◌+◌, ◌-◌, ◌^◌, ◌<◌, ◌≤◌, ◌==◌, true, false, if◌then◌else◌, List, [], ◌∷◌, ◌++◌, length, take, drop, get_or, arith, refl, sym, ◌∙◌, ap, subst, append_assoc}
 use Rattle.std.proofs.lemmas.Bool.{cases_lt, lt-ltb, le-ltb}
 use Rattle.std.proofs.lemmas.Bool.Decides.{eqb_tells}
 use Rattle.std.proofs.lemmas.List.{take_at, drop_at, drop-drop, append-nil, length-append, length-take, length-drop}
-use Rattle.std.proofs.lemmas.List.Elements.{All-nil, All-append}
+use Rattle.std.proofs.lemmas.List.Elements.{All-nil}
 use Rattle.pv_base.specs.BigEndian.{big_endian, number_of}
 use Rattle.pv_base.proofs.BigEndianLemmas.{length-big_endian, number_of-big_endian}
 use Rattle.pv_base.specs.declared.mode.Mode.{Mode}
@@ -16,8 +16,8 @@ use Rattle.pv_law_journal.proofs.SizeLemmas.{end_of-size}
 use Rattle.pv_law_checkpoints.specs.Roots.{fields_of, other_root, gate_at, number_at, place_at, size_at, IsRoot, IsInForce, IsSameRoot}
 use Rattle.pv_law_checkpoints.specs.TwoAreas.{block_of, end_at, greatest_place, HasBlock, IsLog}
 use Rattle.pv_format.specs.Checkpoint.{Standing, done, shut, Part, storing, closing, naming, opening, MayLeave, MayLeaveInAll, left_by, parts_of}
-use Rattle.pv_law_checkpoints.specs.Stages.{standing_at, IsUnderWay, free_place, writes_at, writes, Holds, IsNamed, IsMade, IsNext, IsLeft, LeadsOn, made_by, IsBlockPlace, IsPacked, made_by_all}
-use Rattle.pv_law_checkpoints.proofs.Blocks.{block_size, records_size}
+use Rattle.pv_law_checkpoints.specs.Stages.{standing_at, IsUnderWay, Stands, free_place, writes_at, writes, Holds, IsNamed, IsMade, IsNext, IsLeft, LeadsOn, made_by, IsBlockPlace, IsPacked, made_by_all}
+use Rattle.pv_law_checkpoints.proofs.Blocks.{block_size, records_size, short_within}
 use Rattle.pv_law_checkpoints.proofs.LogLemmas.{extent, end_within, log_kept}
 use Rattle.pv_law_checkpoints.proofs.RootLemmas.{root_kept, other_is, other_is_root, other_twice, IsRoot-le, gate_before, number_behind_gate, place_behind_gate, size_behind_gate, starts_kept}
 use Rattle.pv_law_checkpoints.proofs.Slices.{Apart, behind_kept, drop-overlaid}
@@ -35,15 +35,12 @@ pub block_length : (bytes : List ℕ) (at : ℕ) (packed : Contents) → HasBloc
 block_length bytes at packed block =
     omega (arith, ap length block.is, block.ends, length-take (size_at bytes at) (drop (place_at bytes at) bytes), length-drop (place_at bytes at) bytes)
 
-module _ (part : Part) (at place : ℕ) (packed later : Contents) (bytes : List ℕ) (next : IsNext part at place packed later bytes) where
-  abbrev pub together : Contents
-  together = packed ++ later
-
+module _ (part : Part) (at place : ℕ) (packed later given : Contents) (bytes : List ℕ) (next : IsNext part at place packed later given bytes) where
   abbrev pub new_size : ℕ
-  new_size = length (block_of together)
+  new_size = length (block_of given)
 
   pub new_size_small : new_size + 9 ≤ 4294967296
-  new_size_small = omega (arith, block_size together, end_of-size together, next.within)
+  new_size_small = omega (arith, block_size given, end_of-size given, next.within)
 
   -- The new block is behind the roots and in range.
   pub new_place : (58 ≤ place) × (place ≤ greatest_place)
@@ -51,7 +48,7 @@ module _ (part : Part) (at place : ℕ) (packed later : Contents) (bytes : List 
     | inl low ↦ (omega (arith, low.0, next.place_is), omega (arith, low.0, next.place_is))
     | inr high ↦ (
       omega (arith, high.0, next.place_is, next.log.block.behind_roots),
-      omega (arith, high.0, high.1, next.place_is, new_size_small, block_length bytes at packed next.log.block, block_size packed, records_size packed later, next.within),
+      omega (arith, high.0, high.1, next.place_is, new_size_small, block_length bytes at packed next.log.block, block_size packed, records_size packed later, next.reach),
     )
   ]
 
@@ -68,14 +65,15 @@ module _ (part : Part) (at place : ℕ) (packed later : Contents) (bytes : List 
     | inr high ↦ omega (arith, high.0, next.place_is, end_within at packed later bytes next.log)
   ]
 
-  pub short_together : AreShort together
-  short_together = All-append (λ c. length c < 2 ^ 32) packed later next.log.block.short next.log.short
+  pub short_given : AreShort given
+  short_given = short_within given next.within
 
   -- What is next after a write that leaves the log as it is.
-  pub next_from : (other : Part) (new : List ℕ) → IsLog at packed later new → IsSameRoot bytes new at → IsMade other at (number_at new at) place together new
-      → IsNext other at place packed later new
+  pub next_from : (other : Part) (new : List ℕ) → IsLog at packed later new → IsSameRoot bytes new at → IsMade other at (number_at new at) place given new
+      → IsNext other at place packed later given new
   next_from other new log same made = record {
     log = log;
+    reach = next.reach;
     within = next.within;
     numbered = omega (arith, same.number, next.numbered);
     place_is = next.place_is ∙ sym (λ i. free_place new_size (same.place i) (same.place i + same.size i + length (records_of later)));
@@ -87,11 +85,11 @@ holds_kept : (place count : ℕ) (old new : List ℕ) → Torn place count old n
 holds_kept place count old new torn contents at behind holds = (holds.0, behind_kept place count old new torn at behind ∙ holds.1)
 
 -- The log as it was, with a standing that may be left.
-as_before : (part : Part) (was : Standing) (at : ℕ) (packed later : Contents) (left : List ℕ) → IsLog at packed later left → MayLeave part was (standing_at left at)
-    → IsLeft part was (packed ++ later) left
-as_before part was at packed later left log may = record {
+as_before : (part : Part) (was : Standing) (at : ℕ) (packed later given : Contents) (left : List ℕ) → IsLog at packed later left → number_at left at ≡ was.number
+    → MayLeave part was (standing_at left at) → IsLeft part was (packed ++ later) given left
+as_before part was at packed later given left log number may = record {
   standing = standing_at left at;
-  stands = record { at = at; packed = packed; later = later; log = log; contents_are = refl; stands = refl };
+  stands = inl (number, record { at = at; packed = packed; later = later; log = log; contents_are = refl; stands = refl });
   may = may;
 }
 
@@ -99,17 +97,17 @@ standing_is : (left : List ℕ) (at : ℕ) (standing : Standing) → number_at l
 standing_is left at standing number gate = λ i. record { number = number i; other_open = gate i }
 
 -- The write of the new block.
-module _ (at place : ℕ) (packed later : Contents) (bytes : List ℕ) (next : IsNext storing at place packed later bytes) where
-  module _ (left : List ℕ) (torn : Torn place (length (writes storing (number_at bytes at) place (packed ++ later))) bytes left) where
+module _ (at place : ℕ) (packed later given : Contents) (bytes : List ℕ) (next : IsNext storing at place packed later given bytes) where
+  module _ (left : List ℕ) (torn : Torn place (length (writes storing (number_at bytes at) place given)) bytes left) where
     count : ℕ
-    count = length (writes storing (number_at bytes at) place (packed ++ later))
+    count = length (writes storing (number_at bytes at) place given)
 
-    size_is : count ≡ length (block_of (packed ++ later)) + 1
+    size_is : count ≡ length (block_of given) + 1
     unfolding count
-    size_is = length-append (block_of (packed ++ later)) (0 ∷ [])
+    size_is = length-append (block_of given) (0 ∷ [])
 
     root_apart : (root : ℕ) → IsRoot root → Apart place count root 25
-    root_apart root is = inr (omega (arith, (IsRoot-le root is).1, (new_place storing at place packed later bytes next).0))
+    root_apart root is = inr (omega (arith, (IsRoot-le root is).1, (new_place storing at place packed later given bytes next).0))
 
     torn_here : Torn place count bytes left
     unfolding count
@@ -121,35 +119,35 @@ module _ (at place : ℕ) (packed later : Contents) (bytes : List ℕ) (next : I
     pub storing_keeps : IsLog at packed later left × IsSameRoot bytes left at × IsSameRoot bytes left (other_root at)
     storing_keeps =
         let kept =
-        log_kept at packed later bytes next.log place count left torn_here (omega (arith, (new_place storing at place packed later bytes next).0))
+        log_kept at packed later bytes next.log place count left torn_here (omega (arith, (new_place storing at place packed later given bytes next).0))
         (root_apart at next.log.in_force.root)
-        (subst (λ n. Apart place n (place_at bytes at) (extent at packed later bytes next.log + 1)) (sym size_is) (new_apart storing at place packed later bytes next))
+        (subst (λ n. Apart place n (place_at bytes at) (extent at packed later bytes next.log + 1)) (sym size_is) (new_apart storing at place packed later given bytes next))
         (λ opened. (sym other_same.gate ∙ opened, other_same.number)) in
         (kept.0, kept.1, other_same)
 
-    pub storing_leaves : IsLeft storing (standing_at bytes at) (packed ++ later) left
+    pub storing_leaves : IsLeft storing (standing_at bytes at) (packed ++ later) given left
     storing_leaves =
-        as_before storing (standing_at bytes at) at packed later left storing_keeps.0
+        as_before storing (standing_at bytes at) at packed later given left storing_keeps.0 storing_keeps.1.number
         (standing_is left at (standing_at bytes at) storing_keeps.1.number (ap (λ g. g == 1) other_same.gate))
 
   -- What that write makes.
-  pub after_storing : (made : List ℕ) → made ≡ overlaid bytes place (writes storing (number_at bytes at) place (packed ++ later))
-      → LeadsOn storing at place packed later bytes made
+  pub after_storing : (made : List ℕ) → made ≡ overlaid bytes place (writes storing (number_at bytes at) place given)
+      → LeadsOn storing at place packed later given bytes made
   after_storing made is =
-      let written = writes storing (number_at bytes at) place (packed ++ later) in
-      let within = new_within storing at place packed later bytes next in
+      let written = writes storing (number_at bytes at) place given in
+      let within = new_within storing at place packed later given bytes next in
       let torn : Torn place (length written) bytes made = subst (Torn place (length written) bytes) (sym is) (Torn-overlaid bytes place written within) in
       let kept = storing_keeps made torn in
       let rest = drop (place + length written) bytes in
-      let holds : Holds (packed ++ later) place made =
-      (rest, ap (λ (l : List ℕ). drop place l) is ∙ drop-overlaid bytes place written within ∙ append_assoc (block_of (packed ++ later)) (0 ∷ []) rest) in (
+      let holds : Holds given place made =
+      (rest, ap (λ (l : List ℕ). drop place l) is ∙ drop-overlaid bytes place written within ∙ append_assoc (block_of given) (0 ∷ []) rest) in (
         kept.1,
-        (λ opened. next_from storing at place packed later bytes next closing made kept.0 kept.1 (holds, kept.2.gate ∙ opened)),
-        (λ shut. next_from storing at place packed later bytes next naming made kept.0 kept.1 (holds, λ opened. shut (sym kept.2.gate ∙ opened))),
+        (λ opened. next_from storing at place packed later given bytes next closing made kept.0 kept.1 (holds, kept.2.gate ∙ opened)),
+        (λ shut. next_from storing at place packed later given bytes next naming made kept.0 kept.1 (holds, λ opened. shut (sym kept.2.gate ∙ opened))),
       )
 
 -- A write in the other root is apart from the one in force and from its area.
-module _ (part : Part) (at place : ℕ) (packed later : Contents) (bytes : List ℕ) (next : IsNext part at place packed later bytes) where
+module _ (part : Part) (at place : ℕ) (packed later given : Contents) (bytes : List ℕ) (next : IsNext part at place packed later given bytes) where
   root : IsRoot at
   root = next.log.in_force.root
 
@@ -176,33 +174,33 @@ module _ (part : Part) (at place : ℕ) (packed later : Contents) (bytes : List 
         log_kept at packed later bytes next.log from count left torn (omega (arith, low, other_low)) (own_apart from count low high)
         (inl (omega (arith, high, other_low, next.log.block.behind_roots))) other
 
-    pub new_block_kept : Holds (packed ++ later) place bytes → Holds (packed ++ later) place left
-    new_block_kept = holds_kept from count bytes left torn (packed ++ later) place (omega (arith, high, other_low, (new_place part at place packed later bytes next).0))
+    pub new_block_kept : Holds given place bytes → Holds given place left
+    new_block_kept = holds_kept from count bytes left torn given place (omega (arith, high, other_low, (new_place part at place packed later given bytes next).0))
 
 -- The closing of the other root's gate.
-module _ (at place : ℕ) (packed later : Contents) (bytes : List ℕ) (next : IsNext closing at place packed later bytes) where
+module _ (at place : ℕ) (packed later given : Contents) (bytes : List ℕ) (next : IsNext closing at place packed later given bytes) where
   module _ (left : List ℕ) (torn : Torn (other_root at) 1 bytes left) where
     pub closing_keeps : IsLog at packed later left × IsSameRoot bytes left at
     closing_keeps =
-        root_write_keeps closing at place packed later bytes next (other_root at) 1 (omega arith) (omega arith) left torn
+        root_write_keeps closing at place packed later given bytes next (other_root at) 1 (omega arith) (omega arith) left torn
         (λ opened. (next.made.1, number_behind_gate (other_root at) 1 bytes left torn (other_root at) (omega arith)))
 
-    pub closing_leaves : IsLeft closing (standing_at bytes at) (packed ++ later) left
-    closing_leaves = as_before closing (standing_at bytes at) at packed later left closing_keeps.0 (elim (eqb_tells (gate_at left (other_root at)) 1) [
+    pub closing_leaves : IsLeft closing (standing_at bytes at) (packed ++ later) given left
+    closing_leaves = as_before closing (standing_at bytes at) at packed later given left closing_keeps.0 closing_keeps.1.number (elim (eqb_tells (gate_at left (other_root at)) 1) [
       | inl opened ↦ inl (standing_is left at (standing_at bytes at) closing_keeps.1.number (ap (λ g. g == 1) (opened.1 ∙ sym next.made.1)))
       | inr closed ↦ inr (standing_is left at (shut (standing_at bytes at)) closing_keeps.1.number closed.0)
     ])
 
   -- What it makes.
-  pub after_closing : (made : List ℕ) → made ≡ overlaid bytes (other_root at) (0 ∷ []) → LeadsOn closing at place packed later bytes made
+  pub after_closing : (made : List ℕ) → made ≡ overlaid bytes (other_root at) (0 ∷ []) → LeadsOn closing at place packed later given bytes made
   after_closing made is =
       let o = other_root at in
       let within : o ≤ length bytes = omega (arith, next.log.starts.long) in
       let torn : Torn o 1 bytes made = subst (Torn o 1 bytes) (sym is) (Torn-overlaid bytes o (0 ∷ []) within) in
       let kept = closing_keeps made torn in
       let gate : gate_at made o ≡ 0 = ap (λ (l : List ℕ). get_or l o 0) is ∙ get_or-overlaid_in bytes o (0 ∷ []) within o (omega arith) (omega arith) ∙ ap (λ n. get_or (0 ∷ []) n 0) (let none : o - o ≡ 0 = omega arith in none) in
-      let held = new_block_kept closing at place packed later bytes next o 1 (omega arith) (omega arith) made torn next.made.0 in
-      (kept.1, next_from closing at place packed later bytes next naming made kept.0 kept.1 (held, λ opened. absurd (omega (arith, gate, opened))))
+      let held = new_block_kept closing at place packed later given bytes next o 1 (omega arith) (omega arith) made torn next.made.0 in
+      (kept.1, next_from closing at place packed later given bytes next naming made kept.0 kept.1 (held, λ opened. absurd (omega (arith, gate, opened))))
 
 pub length-fields : (number place size : ℕ) → length (fields_of number place size) ≡ 24
 length-fields number place size =
@@ -235,47 +233,47 @@ fields_read bytes at number place size rest few low small is =
     }
 
 -- The write of the other root's number, place and size.
-module _ (at place : ℕ) (packed later : Contents) (bytes : List ℕ) (next : IsNext naming at place packed later bytes) where
-  module _ (left : List ℕ) (torn : Torn (other_root at + 1) (length (writes naming (number_at bytes at) place (packed ++ later))) bytes left) where
+module _ (at place : ℕ) (packed later given : Contents) (bytes : List ℕ) (next : IsNext naming at place packed later given bytes) where
+  module _ (left : List ℕ) (torn : Torn (other_root at + 1) (length (writes naming (number_at bytes at) place given)) bytes left) where
     torn_fields : Torn (other_root at + 1) 24 bytes left
-    torn_fields = subst (λ n. Torn (other_root at + 1) n bytes left) (length-fields (number_at bytes at + 1) place (length (block_of (packed ++ later)))) torn
+    torn_fields = subst (λ n. Torn (other_root at + 1) n bytes left) (length-fields (number_at bytes at + 1) place (length (block_of given))) torn
 
     pub other_shut : gate_at left (other_root at) ≢ 1
     other_shut = λ opened. next.made.1 (sym (gate_before (other_root at + 1) 24 bytes left torn_fields (other_root at) (omega arith)) ∙ opened)
 
     pub naming_keeps : IsLog at packed later left × IsSameRoot bytes left at
     naming_keeps =
-        root_write_keeps naming at place packed later bytes next (other_root at + 1) 24 (omega arith) (omega arith) left torn_fields (λ opened. absurd (other_shut opened))
+        root_write_keeps naming at place packed later given bytes next (other_root at + 1) 24 (omega arith) (omega arith) left torn_fields (λ opened. absurd (other_shut opened))
 
-    pub naming_leaves : IsLeft naming (standing_at bytes at) (packed ++ later) left
-    naming_leaves = as_before naming (standing_at bytes at) at packed later left naming_keeps.0 (elim (eqb_tells (gate_at left (other_root at)) 1) [
+    pub naming_leaves : IsLeft naming (standing_at bytes at) (packed ++ later) given left
+    naming_leaves = as_before naming (standing_at bytes at) at packed later given left naming_keeps.0 naming_keeps.1.number (elim (eqb_tells (gate_at left (other_root at)) 1) [
       | inl opened ↦ absurd (other_shut opened.1)
       | inr closed ↦ standing_is left at (shut (standing_at bytes at)) naming_keeps.1.number closed.0
     ])
 
   -- What it makes.
-  pub after_naming : (made : List ℕ) → made ≡ overlaid bytes (other_root at + 1) (writes naming (number_at bytes at) place (packed ++ later)) → LeadsOn naming at place packed later bytes made
+  pub after_naming : (made : List ℕ) → made ≡ overlaid bytes (other_root at + 1) (writes naming (number_at bytes at) place given) → LeadsOn naming at place packed later given bytes made
   after_naming made is =
       let o = other_root at in
-      let size = length (block_of (packed ++ later)) in
-      let written = writes naming (number_at bytes at) place (packed ++ later) in
+      let size = length (block_of given) in
+      let written = writes naming (number_at bytes at) place given in
       let within : o + 1 ≤ length bytes = omega (arith, next.log.starts.long) in
       let torn : Torn (o + 1) (length written) bytes made = subst (Torn (o + 1) (length written) bytes) (sym is) (Torn-overlaid bytes (o + 1) written within) in
       let kept = naming_keeps made torn in
-      let facts = new_place naming at place packed later bytes next in
+      let facts = new_place naming at place packed later given bytes next in
       let named =
       fields_read made o (number_at bytes at + 1) place size (drop (o + 1 + length written) bytes) next.numbered (omega (arith, facts.1))
-      (omega (arith, new_size_small naming at place packed later bytes next)) (ap (λ (l : List ℕ). drop (o + 1) l) is ∙ drop-overlaid bytes (o + 1) written within) in
-      let held = new_block_kept naming at place packed later bytes next (o + 1) 24 (omega arith) (omega arith) made (torn_fields made torn) next.made.0 in
+      (omega (arith, new_size_small naming at place packed later given bytes next)) (ap (λ (l : List ℕ). drop (o + 1) l) is ∙ drop-overlaid bytes (o + 1) written within) in
+      let held = new_block_kept naming at place packed later given bytes next (o + 1) 24 (omega arith) (omega arith) made (torn_fields made torn) next.made.0 in
       let renamed : IsNamed made o (number_at made at + 1) place size =
       record { number_is = named.number_is ∙ sym (ap (λ n. n + 1) kept.1.number); place_is = named.place_is; size_is = named.size_is } in
-      (kept.1, next_from naming at place packed later bytes next opening made kept.0 kept.1 (held, other_shut made torn, renamed))
+      (kept.1, next_from naming at place packed later given bytes next opening made kept.0 kept.1 (held, other_shut made torn, renamed))
 
 -- The opening of the other root.
-module _ (at place : ℕ) (packed later : Contents) (bytes : List ℕ) (next : IsNext opening at place packed later bytes) where
+module _ (at place : ℕ) (packed later given : Contents) (bytes : List ℕ) (next : IsNext opening at place packed later given bytes) where
   module _ (left : List ℕ) (torn : Torn (other_root at) 1 bytes left) where
     own : IsSameRoot bytes left at
-    own = own_kept opening at place packed later bytes next (other_root at) 1 (omega arith) (omega arith) left torn
+    own = own_kept opening at place packed later given bytes next (other_root at) 1 (omega arith) (omega arith) left torn
 
     number_there : number_at left (other_root at) ≡ number_at bytes at + 1
     number_there = number_behind_gate (other_root at) 1 bytes left torn (other_root at) (omega arith) ∙ next.made.2.number_is
@@ -283,14 +281,14 @@ module _ (at place : ℕ) (packed later : Contents) (bytes : List ℕ) (next : I
     place_there : place_at left (other_root at) ≡ place
     place_there = place_behind_gate (other_root at) 1 bytes left torn (other_root at) (omega arith) ∙ next.made.2.place_is
 
-    size_there : size_at left (other_root at) ≡ length (block_of (packed ++ later))
+    size_there : size_at left (other_root at) ≡ length (block_of given)
     size_there = size_behind_gate (other_root at) 1 bytes left torn (other_root at) (omega arith) ∙ next.made.2.size_is
 
     back : other_root (other_root at) ≡ at
     back = other_twice at next.log.in_force.root
 
-    held : Holds (packed ++ later) place left
-    held = new_block_kept opening at place packed later bytes next (other_root at) 1 (omega arith) (omega arith) left torn next.made.0
+    held : Holds given place left
+    held = new_block_kept opening at place packed later given bytes next (other_root at) 1 (omega arith) (omega arith) left torn next.made.0
 
     other_in_force : gate_at left (other_root at) ≡ 1 → IsInForce left (other_root at)
     other_in_force opened = record {
@@ -301,23 +299,23 @@ module _ (at place : ℕ) (packed later : Contents) (bytes : List ℕ) (next : I
           inl (omega (arith, same, number_there));
     }
 
-    other_block : HasBlock left (other_root at) (packed ++ later)
+    other_block : HasBlock left (other_root at) given
     other_block =
-        let facts = new_place opening at place packed later bytes next in
-        let size = length (block_of (packed ++ later)) in
+        let facts = new_place opening at place packed later given bytes next in
+        let size = length (block_of given) in
         record {
           behind_roots = omega (arith, facts.0, place_there);
           in_range = omega (arith, facts.1, place_there);
-          ends = omega (arith, place_there, size_there, ap length held.1, length-append (block_of (packed ++ later)) (0 ∷ held.0), length-drop place left);
-          short = short_together opening at place packed later bytes next;
+          ends = omega (arith, place_there, size_there, ap length held.1, length-append (block_of given) (0 ∷ held.0), length-drop place left);
+          short = short_given opening at place packed later given bytes next;
           is =
               (λ i. take (size_there i) (drop (place_there i) left)) ∙ ap (λ (l : List ℕ). take size l) held.1
-              ∙ take_at (block_of (packed ++ later)) (0 ∷ held.0) size refl;
+              ∙ take_at (block_of given) (0 ∷ held.0) size refl;
         }
 
-    -- Where its gate is 1 the other root is in force, with all contents in its block and a closed gate behind it.
+    -- Where its gate is 1 the other root is in force, with the given contents in its block and a closed gate behind it.
     pub switched : gate_at left (other_root at) ≡ 1
-        → IsLog (other_root at) (packed ++ later) [] left × (standing_at left (other_root at) ≡ done (standing_at bytes at))
+        → IsLog (other_root at) given [] left × (standing_at left (other_root at) ≡ done (standing_at bytes at))
     switched opened = (
       record {
         starts = starts_kept (other_root at) 1 bytes left torn (omega (arith, IsRoot-le (other_root at) (other_is_root at next.log.in_force.root))) next.log.starts;
@@ -328,40 +326,43 @@ module _ (at place : ℕ) (packed later : Contents) (bytes : List ℕ) (next : I
         rest = held.0;
         closed = λ zero_is_one. absurd (omega (arith, zero_is_one));
         is =
-            let size = length (block_of (packed ++ later)) in
+            let size = length (block_of given) in
             (λ i. drop (place_there i + size_there i) left) ∙ sym (drop-drop size place left) ∙ ap (λ (l : List ℕ). drop size l) held.1
-            ∙ drop_at (block_of (packed ++ later)) (0 ∷ held.0) size refl;
+            ∙ drop_at (block_of given) (0 ∷ held.0) size refl;
       },
       standing_is left (other_root at) (done (standing_at bytes at)) number_there
           (ap (λ a. gate_at left a == 1) back ∙ ap (λ g. g == 1) (own.gate ∙ next.log.in_force.opened)),
     )
 
     pub not_switched : gate_at left (other_root at) ≢ 1 → IsLog at packed later left × IsSameRoot bytes left at
-    not_switched shut = root_write_keeps opening at place packed later bytes next (other_root at) 1 (omega arith) (omega arith) left torn (λ opened. absurd (shut opened))
+    not_switched shut = root_write_keeps opening at place packed later given bytes next (other_root at) 1 (omega arith) (omega arith) left torn (λ opened. absurd (shut opened))
 
-    pub opening_leaves : IsLeft opening (standing_at bytes at) (packed ++ later) left
+    pub opening_leaves : IsLeft opening (standing_at bytes at) (packed ++ later) given left
     opening_leaves = elim (eqb_tells (gate_at left (other_root at)) 1) [
       | inl opened ↦
           let now = switched opened.1 in
           record {
             standing = standing_at left (other_root at);
-            stands = record {
-              at = other_root at;
-              packed = packed ++ later;
-              later = [];
-              log = now.0;
-              contents_are = sym (append-nil (packed ++ later));
-              stands = refl;
-            };
+            stands = inr (
+              now.1,
+              record {
+                at = other_root at;
+                packed = given;
+                later = [];
+                log = now.0;
+                contents_are = sym (append-nil given);
+                stands = refl;
+              },
+            );
             may = inr now.1;
           }
       | inr closed ↦
           let still = not_switched closed.1 in
-          as_before opening (standing_at bytes at) at packed later left still.0 (inl (standing_is left at (shut (standing_at bytes at)) still.1.number closed.0))
+          as_before opening (standing_at bytes at) at packed later given left still.0 still.1.number (inl (standing_is left at (shut (standing_at bytes at)) still.1.number closed.0))
     ]
 
   -- What it makes.
-  pub after_opening : (made : List ℕ) → made ≡ overlaid bytes (other_root at) (1 ∷ []) → IsPacked at (packed ++ later) (standing_at bytes at) made
+  pub after_opening : (made : List ℕ) → made ≡ overlaid bytes (other_root at) (1 ∷ []) → IsPacked at given (standing_at bytes at) made
   after_opening made is =
       let o = other_root at in
       let within : o ≤ length bytes = omega (arith, next.log.starts.long) in
@@ -370,60 +371,64 @@ module _ (at place : ℕ) (packed later : Contents) (bytes : List ℕ) (next : I
       let now = switched made torn gate in
       record { log = now.0; stands = now.1 }
 
--- What a crash in a part leaves is a log of the same contents.
-pub crash_in : (part : Part) (at place : ℕ) (packed later : Contents) (bytes left : List ℕ) → IsNext part at place packed later bytes
-    → Torn (writes_at part at place) (length (writes part (number_at bytes at) place (packed ++ later))) bytes left → IsLeft part (standing_at bytes at) (packed ++ later) left
-crash_in storing at place packed later bytes left next torn = storing_leaves at place packed later bytes next left torn
-crash_in closing at place packed later bytes left next torn = closing_leaves at place packed later bytes next left torn
-crash_in naming at place packed later bytes left next torn = naming_leaves at place packed later bytes next left torn
-crash_in opening at place packed later bytes left next torn = opening_leaves at place packed later bytes next left torn
+-- What a crash in a part leaves is a log of the contents before or of the given ones.
+pub crash_in : (part : Part) (at place : ℕ) (packed later given : Contents) (bytes left : List ℕ) → IsNext part at place packed later given bytes
+    → Torn (writes_at part at place) (length (writes part (number_at bytes at) place given)) bytes left → IsLeft part (standing_at bytes at) (packed ++ later) given left
+crash_in storing at place packed later given bytes left next torn = storing_leaves at place packed later given bytes next left torn
+crash_in closing at place packed later given bytes left next torn = closing_leaves at place packed later given bytes next left torn
+crash_in naming at place packed later given bytes left next torn = naming_leaves at place packed later given bytes next left torn
+crash_in opening at place packed later given bytes left next torn = opening_leaves at place packed later given bytes next left torn
+
+-- Where they are the same, of these.
+pub same_left : (part : Part) (was : Standing) (contents : Contents) (left : List ℕ) → IsLeft part was contents contents left → (now : Standing) × Stands contents now left × MayLeave part was now
+same_left part was contents left is = (is.standing, ⊎_elim (λ still. still.1) (λ switched. switched.1) is.stands, is.may)
 
 -- What a part makes lets the next one come.
-pub leads_on : (part : Part) (at place : ℕ) (packed later : Contents) (bytes : List ℕ) → IsNext part at place packed later bytes
-    → LeadsOn part at place packed later bytes (made_by part at place (packed ++ later) bytes)
-leads_on storing at place packed later bytes next = after_storing at place packed later bytes next (made_by storing at place (packed ++ later) bytes) refl
-leads_on closing at place packed later bytes next = after_closing at place packed later bytes next (made_by closing at place (packed ++ later) bytes) refl
-leads_on naming at place packed later bytes next = after_naming at place packed later bytes next (made_by naming at place (packed ++ later) bytes) refl
-leads_on opening at place packed later bytes next = after_opening at place packed later bytes next (made_by opening at place (packed ++ later) bytes) refl
+pub leads_on : (part : Part) (at place : ℕ) (packed later given : Contents) (bytes : List ℕ) → IsNext part at place packed later given bytes
+    → LeadsOn part at place packed later given bytes (made_by part at place given bytes)
+leads_on storing at place packed later given bytes next = after_storing at place packed later given bytes next (made_by storing at place given bytes) refl
+leads_on closing at place packed later given bytes next = after_closing at place packed later given bytes next (made_by closing at place given bytes) refl
+leads_on naming at place packed later given bytes next = after_naming at place packed later given bytes next (made_by naming at place given bytes) refl
+leads_on opening at place packed later given bytes next = after_opening at place packed later given bytes next (made_by opening at place given bytes) refl
 
 -- Where the new block lies.
-pub lies_apart : (at place : ℕ) (packed later : Contents) (bytes : List ℕ) → IsNext storing at place packed later bytes
-    → IsBlockPlace place (length (block_of (packed ++ later))) (place_at bytes at) (end_at bytes at later) × (place ≤ length bytes)
-lies_apart at place packed later bytes next =
-    let facts = new_place storing at place packed later bytes next in (
+pub lies_apart : (at place : ℕ) (packed later given : Contents) (bytes : List ℕ) → IsNext storing at place packed later given bytes
+    → IsBlockPlace place (length (block_of given)) (place_at bytes at) (end_at bytes at later) × (place ≤ length bytes)
+lies_apart at place packed later given bytes next =
+    let facts = new_place storing at place packed later given bytes next in (
       record {
         behind_roots = facts.0;
         in_range = facts.1;
-        apart = elim (new_apart storing at place packed later bytes next) [
+        apart = elim (new_apart storing at place packed later given bytes next) [
           | inl before ↦ inl (omega (arith, before))
           | inr behind ↦ inr (omega (arith, behind))
         ];
       },
-      new_within storing at place packed later bytes next,
+      new_within storing at place packed later given bytes next,
     )
 
 -- All parts, one after another.
-module _ (at place : ℕ) (packed later : Contents) (bytes : List ℕ) (next : IsNext storing at place packed later bytes) where
-  from_naming : (was : List ℕ) → number_at was at ≡ number_at bytes at → IsNext naming at place packed later was
-      → IsPacked at (packed ++ later) (standing_at bytes at) (made_by_all (naming ∷ opening ∷ []) at place (packed ++ later) was)
+module _ (at place : ℕ) (packed later given : Contents) (bytes : List ℕ) (next : IsNext storing at place packed later given bytes) where
+  from_naming : (was : List ℕ) → number_at was at ≡ number_at bytes at → IsNext naming at place packed later given was
+      → IsPacked at given (standing_at bytes at) (made_by_all (naming ∷ opening ∷ []) at place given was)
   from_naming was number is =
-      let named = made_by naming at place (packed ++ later) was in
-      let third = leads_on naming at place packed later was is in
-      let fourth = leads_on opening at place packed later named third.1 in
+      let named = made_by naming at place given was in
+      let third = leads_on naming at place packed later given was is in
+      let fourth = leads_on opening at place packed later given named third.1 in
       record { log = fourth.log; stands = fourth.stands ∙ (λ i. record { number = (third.0.number ∙ number) i + 1; other_open = true }) }
 
   -- What a whole checkpoint makes.
-  pub packs : IsPacked at (packed ++ later) (standing_at bytes at) (made_by_all (parts_of (gate_at bytes (other_root at) == 1)) at place (packed ++ later) bytes)
+  pub packs : IsPacked at given (standing_at bytes at) (made_by_all (parts_of (gate_at bytes (other_root at) == 1)) at place given bytes)
   packs =
-      let stored = made_by storing at place (packed ++ later) bytes in
-      let first = leads_on storing at place packed later bytes next in
+      let stored = made_by storing at place given bytes in
+      let first = leads_on storing at place packed later given bytes next in
       elim (eqb_tells (gate_at bytes (other_root at)) 1) [
         | inl opened ↦
-            let second = leads_on closing at place packed later stored (first.1 opened.1) in
-            subst (λ b. IsPacked at (packed ++ later) (standing_at bytes at) (made_by_all (parts_of b) at place (packed ++ later) bytes)) (sym opened.0)
-            (from_naming (made_by closing at place (packed ++ later) stored) (second.0.number ∙ first.0.number) second.1)
+            let second = leads_on closing at place packed later given stored (first.1 opened.1) in
+            subst (λ b. IsPacked at given (standing_at bytes at) (made_by_all (parts_of b) at place given bytes)) (sym opened.0)
+            (from_naming (made_by closing at place given stored) (second.0.number ∙ first.0.number) second.1)
         | inr closed ↦
-            subst (λ b. IsPacked at (packed ++ later) (standing_at bytes at) (made_by_all (parts_of b) at place (packed ++ later) bytes)) (sym closed.0)
+            subst (λ b. IsPacked at given (standing_at bytes at) (made_by_all (parts_of b) at place given bytes)) (sym closed.0)
             (from_naming stored first.0.number (first.2 closed.1))
       ]
 

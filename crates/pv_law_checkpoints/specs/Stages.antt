@@ -1,5 +1,5 @@
--- A checkpoint: what each of its parts writes, and where.
-use Rattle.std.specs.Prelude.{◌≡◌, ◌≢◌, ◌⊎◌, ℕ, ◌+◌, ◌^◌, ◌<◌, ◌≤◌, nat_lt, ◌==◌, Bool, true, false, if◌then◌else◌, List, [], ◌∷◌, ◌++◌, length, drop, ⊤}
+-- A checkpoint, and a rewriting, which is one with given contents in its block: what each of its parts writes, and where.
+use Rattle.std.specs.Prelude.{◌≡◌, ◌≢◌, ◌⊎◌, ℕ, ◌+◌, ◌^◌, ◌<◌, ◌≤◌, nat_lt, ◌==◌, if◌then◌else◌, List, [], ◌∷◌, ◌++◌, length, drop, ⊤}
 use Rattle.pv_base.specs.declared.limits.TheConstants.{MAX_JOURNAL}
 use Rattle.pv_disk_model.specs.Disk.{overlaid}
 use Rattle.pv_disk_model.specs.Size.{Contents, size_of}
@@ -20,9 +20,17 @@ pub record Stands (contents : Contents) (standing : Standing) (bytes : List ℕ)
   pub contents_are : contents ≡ packed ++ later
   pub stands : standing_at bytes at ≡ standing
 
+-- The bytes are a log that stands so: with the contents before where the number in force is as it was, with the given ones where it stands as after a checkpoint that is done.
+abbrev pub StandsEither : (was : Standing) → (before given : Contents) → Standing → List ℕ → Type 0
+StandsEither was before given now bytes = ((now.number ≡ was.number) × Stands before now bytes) ⊎ ((now ≡ done was) × Stands given now bytes)
+
 -- Between the parts of a checkpoint the log stands as before, or the other gate isn't 1.
 abbrev pub IsUnderWay : Standing → Standing → Type 0
 IsUnderWay was now = (now ≡ was) ⊎ (now ≡ shut was)
+
+-- The greatest length of a log of which a checkpoint may be made, so that its block, where it stands behind the area in force, is in range: 2 to the 35th power.
+abbrev pub greatest_length : ℕ
+greatest_length = 34359738368
 
 -- Where a block of so many bytes is put: at 58 where it ends, with a gate behind it, before the area in force, else behind that area's closed gate.
 abbrev pub free_place : (size in_force end : ℕ) → ℕ
@@ -66,18 +74,19 @@ IsMade naming at number place contents bytes = Holds contents place bytes × (ga
 IsMade opening at number place contents bytes =
     Holds contents place bytes × (gate_at bytes (other_root at) ≢ 1) × IsNamed bytes (other_root at) (number + 1) place (length (block_of contents))
 
--- A part of a checkpoint is next: the log is as before, and holds what the parts before this one have made.
-pub record IsNext (part : Part) (at place : ℕ) (packed later : Contents) (bytes : List ℕ) : Type 0 where
+-- A part of a checkpoint is next, whose block is to have the given contents: the log is as before, and holds what the parts before this one have made.
+pub record IsNext (part : Part) (at place : ℕ) (packed later given : Contents) (bytes : List ℕ) : Type 0 where
   pub log : IsLog at packed later bytes
-  pub within : size_of (packed ++ later) ≤ MAX_JOURNAL
+  pub reach : size_of (packed ++ later) ≤ greatest_length
+  pub within : size_of given ≤ MAX_JOURNAL
   pub numbered : number_at bytes at + 1 < 2 ^ 64
-  pub place_is : place ≡ free_place (length (block_of (packed ++ later))) (place_at bytes at) (end_at bytes at later)
-  pub made : IsMade part at (number_at bytes at) place (packed ++ later) bytes
+  pub place_is : place ≡ free_place (length (block_of given)) (place_at bytes at) (end_at bytes at later)
+  pub made : IsMade part at (number_at bytes at) place given bytes
 
--- The bytes are a log of these contents, and stand as a crash in this part may leave them.
-pub record IsLeft (part : Part) (was : Standing) (contents : Contents) (bytes : List ℕ) : Type 0 where
+-- The bytes are a log of the contents before or of the given ones, and stand as a crash in this part may leave them.
+pub record IsLeft (part : Part) (was : Standing) (before given : Contents) (bytes : List ℕ) : Type 0 where
   pub standing : Standing
-  pub stands : Stands contents standing bytes
+  pub stands : StandsEither was before given standing bytes
   pub may : MayLeave part was standing
 
 -- What the write of a part makes of bytes, so that the next part can come.
@@ -89,17 +98,17 @@ abbrev pub made_by_all : List Part → (at place : ℕ) → Contents → List �
 made_by_all [] at place contents bytes = bytes
 made_by_all (part ∷ parts) at place contents bytes = made_by_all parts at place contents (made_by part at place contents bytes)
 
--- The other root is in force, its block has all contents, the gate behind it is closed, and the log stands as after a checkpoint that is done.
+-- The other root is in force, its block has these contents, the gate behind it is closed, and the log stands as after a checkpoint that is done.
 pub record IsPacked (at : ℕ) (contents : Contents) (was : Standing) (made : List ℕ) : Type 0 where
   pub log : IsLog (other_root at) contents [] made
   pub stands : standing_at made (other_root at) ≡ done was
 
--- With this write the next part can come. The last one makes a log with the other root in force, all contents in its block and a closed gate behind it, and the
+-- With this write the next part can come. The last one makes a log with the other root in force, the given contents in its block and a closed gate behind it, and the
 -- number in force is one more.
-abbrev pub LeadsOn : Part → (at place : ℕ) → (packed later : Contents) → (was made : List ℕ) → Type 0
-LeadsOn storing at place packed later was made =
-    IsSameRoot was made at × (gate_at was (other_root at) ≡ 1 → IsNext closing at place packed later made)
-    × (gate_at was (other_root at) ≢ 1 → IsNext naming at place packed later made)
-LeadsOn closing at place packed later was made = IsSameRoot was made at × IsNext naming at place packed later made
-LeadsOn naming at place packed later was made = IsSameRoot was made at × IsNext opening at place packed later made
-LeadsOn opening at place packed later was made = IsPacked at (packed ++ later) (standing_at was at) made
+abbrev pub LeadsOn : Part → (at place : ℕ) → (packed later given : Contents) → (was made : List ℕ) → Type 0
+LeadsOn storing at place packed later given was made =
+    IsSameRoot was made at × (gate_at was (other_root at) ≡ 1 → IsNext closing at place packed later given made)
+    × (gate_at was (other_root at) ≢ 1 → IsNext naming at place packed later given made)
+LeadsOn closing at place packed later given was made = IsSameRoot was made at × IsNext naming at place packed later given made
+LeadsOn naming at place packed later given was made = IsSameRoot was made at × IsNext opening at place packed later given made
+LeadsOn opening at place packed later given was made = IsPacked at given (standing_at was at) made

@@ -1,6 +1,9 @@
--- The lemma, as the law of an empty function.
-use Rattle.pv_law_checkpoints.proofs.CheckpointLemmas.{crash_in}
+-- The lemmas, as the law of an empty function.
+use Rattle.pv_law_checkpoints.proofs.CheckpointLemmas.{crash_in, same_left}
 use Rattle.pv_law_checkpoints.proofs.checkpoints.crashes_keep_the_contents.Goals as goal
 
-pub returns : goal.returns
-returns c = λ part at place packed later bytes left next torn. crash_in part at place packed later bytes left next torn
+pub returns-clause-either : goal.returns-clause-either
+returns-clause-either c = λ part at place packed later given bytes left next torn. crash_in part at place packed later given bytes left next torn
+
+pub returns-clause-same : goal.returns-clause-same
+returns-clause-same c = λ part was contents left is. same_left part was contents left is
