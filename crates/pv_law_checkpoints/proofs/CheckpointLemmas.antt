@@ -16,7 +16,7 @@ use Rattle.pv_law_journal.proofs.SizeLemmas.{end_of-size}
 use Rattle.pv_law_checkpoints.specs.Roots.{fields_of, other_root, gate_at, number_at, place_at, size_at, IsRoot, IsInForce, IsSameRoot}
 use Rattle.pv_law_checkpoints.specs.TwoAreas.{block_of, end_at, greatest_place, HasBlock, IsLog}
 use Rattle.pv_format.specs.Checkpoint.{Standing, done, shut, Part, storing, closing, naming, opening, MayLeave, MayLeaveInAll, left_by, parts_of}
-use Rattle.pv_law_checkpoints.specs.Stages.{standing_at, IsUnderWay, Stands, free_place, writes_at, writes, Holds, IsNamed, IsMade, IsNext, IsLeft, LeadsOn, made_by, IsBlockPlace, IsPacked, made_by_all}
+use Rattle.pv_law_checkpoints.specs.Stages.{standing_at, IsBeforeOrGiven, IsUnderWay, Stands, free_place, writes_at, writes, Holds, IsNamed, IsMade, IsNext, IsLeft, LeadsOn, made_by, IsBlockPlace, IsPacked, made_by_all}
 use Rattle.pv_law_checkpoints.proofs.Blocks.{block_size, records_size, short_within}
 use Rattle.pv_law_checkpoints.proofs.LogLemmas.{extent, end_within, log_kept}
 use Rattle.pv_law_checkpoints.proofs.RootLemmas.{root_kept, other_is, other_is_root, other_twice, IsRoot-le, gate_before, number_behind_gate, place_behind_gate, size_behind_gate, starts_kept}
@@ -466,3 +466,21 @@ part_of_all closing was now left is (inr may) = inr (inl (may ∙ shut_same was 
 part_of_all naming was now left is may = inr (inl (may ∙ shut_same was now is))
 part_of_all opening was now left is (inl may) = inr (inl (may ∙ shut_same was now is))
 part_of_all opening was now left is (inr may) = inr (inr (may ∙ done_same was now is))
+
+-- With the contents that go with it.
+number_same : (was now : Standing) → IsUnderWay was now → now.number ≡ was.number
+number_same was now (inl same) = ap Standing.number same
+number_same was now (inr closed) = ap Standing.number closed
+
+before_in_all : (was standing : Standing) (before given : Contents) (left : List ℕ) → standing.number ≡ was.number → Stands before standing left → MayLeaveInAll was standing
+    → IsBeforeOrGiven given was before left
+before_in_all was standing before given left number stands (inl same) = inl (subst (λ s. Stands before s left) same stands)
+before_in_all was standing before given left number stands (inr (inl closed)) = inr (inl (subst (λ s. Stands before s left) closed stands))
+before_in_all was standing before given left number stands (inr (inr finished)) = absurd (omega (arith, number, ap Standing.number finished))
+
+pub left_in_all : (part : Part) (was now : Standing) (before given : Contents) (left : List ℕ) → IsUnderWay was now → IsLeft part now before given left → IsBeforeOrGiven given was before left
+left_in_all part was now before given left is leaves = elim leaves.stands [
+  | inl still ↦
+      before_in_all was leaves.standing before given left (still.0 ∙ number_same was now is) still.1 (part_of_all part was now leaves.standing is leaves.may)
+  | inr switched ↦ inr (inr (subst (λ s. Stands given s left) (switched.0 ∙ done_same was now is) switched.1))
+]

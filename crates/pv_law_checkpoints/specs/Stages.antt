@@ -24,6 +24,11 @@ pub record Stands (contents : Contents) (standing : Standing) (bytes : List ℕ)
 abbrev pub StandsEither : (was : Standing) → (before given : Contents) → Standing → List ℕ → Type 0
 StandsEither was before given now bytes = ((now.number ≡ was.number) × Stands before now bytes) ⊎ ((now ≡ done was) × Stands given now bytes)
 
+-- What a crash at any moment of a whole checkpoint with given contents in its block may leave: a log of the contents before, which stands as before or with the other gate not 1;
+-- or one of the given contents, which stands as after a checkpoint that is done.
+abbrev pub IsBeforeOrGiven : (given : Contents) → (was : Standing) → (before : Contents) → List ℕ → Type 0
+IsBeforeOrGiven given was before left = Stands before was left ⊎ Stands before (shut was) left ⊎ Stands given (done was) left
+
 -- Between the parts of a checkpoint the log stands as before, or the other gate isn't 1.
 abbrev pub IsUnderWay : Standing → Standing → Type 0
 IsUnderWay was now = (now ≡ was) ⊎ (now ≡ shut was)

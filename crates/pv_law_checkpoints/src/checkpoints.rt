@@ -6,7 +6,7 @@ ghost use Rattle.pv_disk_model.specs.Disk.{Torn};
 ghost use Rattle.pv_disk_model.specs.Size.{Contents, size_of};
 ghost use Rattle.pv_law_checkpoints.specs.Roots.{gate_at, number_at, other_root, place_at};
 ghost use Rattle.pv_format.specs.Checkpoint.{MayLeave, MayLeaveInAll, Part, Standing, left_by, parts_of, shut, storing};
-ghost use Rattle.pv_law_checkpoints.specs.Stages.{IsBlockPlace, IsLeft, IsNext, IsPacked, IsUnderWay, LeadsOn, Stands, free_place, greatest_length, made_by, made_by_all, standing_at, writes, writes_at};
+ghost use Rattle.pv_law_checkpoints.specs.Stages.{IsBeforeOrGiven, IsBlockPlace, IsLeft, IsNext, IsPacked, IsUnderWay, LeadsOn, Stands, free_place, greatest_length, made_by, made_by_all, standing_at, writes, writes_at};
 ghost use Rattle.pv_law_checkpoints.specs.TwoAreas.{IsLog, block_of, end_at};
 
 /// A log that isn't too long, and whose number can be raised, is ready for a checkpoint with given contents within the limit in its block. Each part of it makes what the next
@@ -36,13 +36,15 @@ pub fn blocks_lie_apart()
 {}
 
 /// A crash at any moment of a checkpoint leaves a log of the contents before or of the given ones: of the former where the number in force is as it was, of the latter where it is
-/// one more. That number, and whether the gate of the other root is 1, are among what the part may leave in which the crash came. Where the given contents are those before,
-/// it leaves them.
+/// one more. That number, and whether the gate of the other root is 1, are among what the part may leave in which the crash came, and with the contents among what the whole
+/// checkpoint may leave. Where the given contents are those before, it leaves them.
 pub fn crashes_keep_the_contents()
     ensures either { (part : Part) (at place : ℕ) (packed later given : Contents) (bytes left : List ℕ) →
         IsNext part at place packed later given bytes →
         Torn (writes_at part at place) (length (writes part (number_at bytes at) place given)) bytes left →
         IsLeft part (standing_at bytes at) (packed ++ later) given left }
+    ensures in_all { (part : Part) (was now : Standing) (before given : Contents) (left : List ℕ) →
+        IsUnderWay was now → IsLeft part now before given left → IsBeforeOrGiven given was before left }
     ensures same { (part : Part) (was : Standing) (contents : Contents) (left : List ℕ) →
         IsLeft part was contents contents left → (now : Standing) × Stands contents now left × MayLeave part was now }
 {}
