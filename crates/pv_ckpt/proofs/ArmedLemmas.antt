@@ -162,9 +162,10 @@ module _ (contents : Contents) (standing : Standing) (armed : Option Arm) where
     abbrev place : ℕ
     place = free_place (length (block_of held)) old.root.place old.end
 
-    next : IsNext storing old.root.at place up.is.0 up.is.1 bytes
+    next : IsNext storing old.root.at place up.is.0 up.is.1 held bytes
     next = record {
       log = up.is.2.log;
+      reach = omega (arith, up.is.3, fits, intact.limited);
       within = omega (arith, up.is.3, fits, intact.limited);
       numbered = omega (arith, up.is.2.root_is.number, few);
       place_is = λ i. free_place (length (block_of held)) (up.is.2.root_is.place i) (up.is.2.end_is i);

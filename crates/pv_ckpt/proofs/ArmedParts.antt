@@ -13,7 +13,7 @@ use Rattle.pv_disk_model.specs.Size.{Contents}
 use Rattle.pv_format.specs.Checkpoint.{Part, Standing, calls_of, closing, done, left_by, naming, opening, part_of, shut, storing}
 use Rattle.pv_law_calls.proofs.ArmedLemmas.{IsAt}
 use Rattle.pv_law_checkpoints.specs.Roots.{fields_of, gate_at, number_at, other_root}
-use Rattle.pv_law_checkpoints.specs.Stages.{IsLeft, IsNext, IsPacked, LeadsOn, Stands, made_by, standing_at, writes, writes_at}
+use Rattle.pv_law_checkpoints.specs.Stages.{IsLeft, IsNext, IsPacked, LeadsOn, Stands, StandsEither, made_by, standing_at, writes, writes_at}
 use Rattle.pv_law_checkpoints.specs.TwoAreas.{IsLog, block_of}
 use Rattle.pv_law_checkpoints.proofs.CheckpointLemmas.{closing_keeps, crash_in, leads_on, lies_apart, not_switched}
 use Rattle.pv_ckpt.specs.Armed.{ComesTo}
@@ -26,13 +26,18 @@ pub stands-there : (at : ℕ) (packed later : Contents) (standing : Standing) (b
     → Stands (packed ++ later) standing bytes
 stands-there at packed later standing bytes log stands = record { at = at; packed = packed; later = later; log = log; contents_are = refl; stands = stands }
 
+-- Whichever of the same contents they are.
+either-stands : (contents : Contents) (was now : Standing) (bytes : List ℕ) → StandsEither was contents contents now bytes → Stands contents now bytes
+either-stands contents was now bytes (inl still) = still.1
+either-stands contents was now bytes (inr switched) = switched.1
+
 module _ (at place : ℕ) (packed later : Contents) where
   abbrev contents : Contents
   contents = packed ++ later
 
   -- Where the write of a part begins there are bytes.
-  part-within : (part : Part) (bytes : List ℕ) → IsNext part at place packed later bytes → writes_at part at place ≤ length bytes
-  part-within storing bytes next = (lies_apart at place packed later bytes next).1
+  part-within : (part : Part) (bytes : List ℕ) → IsNext part at place packed later contents bytes → writes_at part at place ≤ length bytes
+  part-within storing bytes next = (lies_apart at place packed later contents bytes next).1
   part-within closing bytes next = omega (arith, next.log.starts.long)
   part-within naming bytes next = omega (arith, next.log.starts.long)
   part-within opening bytes next = omega (arith, next.log.starts.long)
@@ -42,39 +47,39 @@ module _ (at place : ℕ) (packed later : Contents) where
   Left part mode bytes =
       left_on mode (written_at (settled_at bytes) (writes_at part at place) (length (writes part (number_at bytes at) place contents))) (made_by part at place contents bytes)
 
-  part-torn : (part : Part) (mode : Mode) (bytes : List ℕ) → IsNext part at place packed later bytes
+  part-torn : (part : Part) (mode : Mode) (bytes : List ℕ) → IsNext part at place packed later contents bytes
       → Torn (writes_at part at place) (length (writes part (number_at bytes at) place contents)) bytes (Left part mode bytes)
   part-torn part mode bytes next = left-torn mode (writes_at part at place) (writes part (number_at bytes at) place contents) bytes (part-within part bytes next)
 
   -- A part of which a crash may leave one standing alone.
-  one-left : (part : Part) (mode : Mode) (bytes : List ℕ) (standing : Standing) → IsNext part at place packed later bytes
-      → ((is : IsLeft part (standing_at bytes at) contents (Left part mode bytes)) → is.standing ≡ standing) → Stands contents standing (Left part mode bytes)
+  one-left : (part : Part) (mode : Mode) (bytes : List ℕ) (standing : Standing) → IsNext part at place packed later contents bytes
+      → ((is : IsLeft part (standing_at bytes at) contents contents (Left part mode bytes)) → is.standing ≡ standing) → Stands contents standing (Left part mode bytes)
   one-left part mode bytes standing next same =
-      let is = crash_in part at place packed later bytes (Left part mode bytes) next (part-torn part mode bytes next) in
-      subst (λ s. Stands contents s (Left part mode bytes)) (same is) is.stands
+      let is = crash_in part at place packed later contents bytes (Left part mode bytes) next (part-torn part mode bytes next) in
+      subst (λ s. Stands contents s (Left part mode bytes)) (same is) (either-stands contents (standing_at bytes at) is.standing (Left part mode bytes) is.stands)
 
   -- The gate of the other root isn't 1.
   shut-there : (was left : List ℕ) → IsLog at packed later left → number_at left at ≡ number_at was at → gate_at left (other_root at) ≢ 1 → Stands contents (shut (standing_at was at)) left
   shut-there was left log number closed =
       stands-there at packed later (shut (standing_at was at)) left log (standing_is left at (shut (standing_at was at)) number (gate_isnt (gate_at left (other_root at)) closed))
 
-  part-left : (part : Part) (mode : Mode) (bytes : List ℕ) → IsNext part at place packed later bytes → Stands contents (left_by part mode (standing_at bytes at)) (Left part mode bytes)
+  part-left : (part : Part) (mode : Mode) (bytes : List ℕ) → IsNext part at place packed later contents bytes → Stands contents (left_by part mode (standing_at bytes at)) (Left part mode bytes)
   part-left storing mode bytes next = one-left storing mode bytes (standing_at bytes at) next (λ is. is.may)
   part-left naming mode bytes next = one-left naming mode bytes (shut (standing_at bytes at)) next (λ is. is.may)
   part-left closing Lost bytes next = stands-there at packed later (standing_at bytes at) bytes next.log refl
   part-left closing Kept bytes next =
-      let lead = leads_on closing at place packed later bytes next in
+      let lead = leads_on closing at place packed later contents bytes next in
       shut-there bytes (made_by closing at place contents bytes) lead.1.log lead.0.number lead.1.made.1
   part-left closing TornAll bytes next =
-      let keeps = closing_keeps at place packed later bytes next (Left closing TornAll bytes) (part-torn closing TornAll bytes next) in
+      let keeps = closing_keeps at place packed later contents bytes next (Left closing TornAll bytes) (part-torn closing TornAll bytes next) in
       shut-there bytes (Left closing TornAll bytes) keeps.0 keeps.1.number (torn-gate (other_root at) 0 bytes (part-within closing bytes next))
   part-left opening Lost bytes next = shut-there bytes bytes next.log refl next.made.1
   part-left opening Kept bytes next =
-      let lead : IsPacked at contents (standing_at bytes at) (made_by opening at place contents bytes) = leads_on opening at place packed later bytes next in
+      let lead : IsPacked at contents (standing_at bytes at) (made_by opening at place contents bytes) = leads_on opening at place packed later contents bytes next in
       record { at = other_root at; packed = contents; later = []; log = lead.log; contents_are = sym (append-nil contents); stands = lead.stands }
   part-left opening TornAll bytes next =
       let closed = torn-gate (other_root at) 1 bytes (part-within opening bytes next) in
-      let keeps = not_switched at place packed later bytes next (Left opening TornAll bytes) (part-torn opening TornAll bytes next) closed in
+      let keeps = not_switched at place packed later contents bytes next (Left opening TornAll bytes) (part-torn opening TornAll bytes next) closed in
       shut-there bytes (Left opening TornAll bytes) keeps.0 keeps.1.number closed
 
   -- The opening leaves the same whether the gate of the other root was 1 before.
@@ -88,7 +93,7 @@ module _ (at place : ℕ) (packed later : Contents) where
     LeftOf arm = (contents, left_by (part_of other_open arm.left) arm.mode was)
 
     -- What a part leaves, where the fault fires in it.
-    left-of : (part : Part) (bytes : List ℕ) → IsNext part at place packed later bytes → ((mode : Mode) → left_by part mode (standing_at bytes at) ≡ left_by part mode was)
+    left-of : (part : Part) (bytes : List ℕ) → IsNext part at place packed later contents bytes → ((mode : Mode) → left_by part mode (standing_at bytes at) ≡ left_by part mode was)
         → (arm : Arm) → part_of other_open arm.left ≡ part → Stands contents (left_by (part_of other_open arm.left) arm.mode was) (Left part arm.mode bytes)
     left-of part bytes next same arm is =
         subst (λ s. Stands contents s (Left part arm.mode bytes)) (same arm.mode ∙ ap (λ p. left_by p arm.mode was) (sym is)) (part-left part arm.mode bytes next)
@@ -96,7 +101,7 @@ module _ (at place : ℕ) (packed later : Contents) where
     -- The naming and the opening, after so many calls.
     module _ (calls count : ℕ) (all : calls ≡ count + 4) (names : (n : ℕ) → count < n → n ≤ count + 2 → part_of other_open n ≡ naming) (opens : (n : ℕ) → count + 2 < n → part_of other_open n ≡ opening)
         (some : 0 < count) where
-      named-on : (bytes : List ℕ) → IsNext naming at place packed later bytes → standing_at bytes at ≡ shut was → Waits count armed
+      named-on : (bytes : List ℕ) → IsNext naming at place packed later contents bytes → standing_at bytes at ≡ shut was → Waits count armed
           → (old : MemState) → IsAt bytes (settled_at bytes) (after_calls count armed) None old
           → Makes MemGoes old (name_and_open_calls (other_root at) (writes naming (number_at bytes at) place contents)) ok new → ComesTo calls armed (contents, done was) LeftOf ok new
       named-on bytes next stands waits old is makes =
@@ -104,7 +109,7 @@ module _ (at place : ℕ) (packed later : Contents) where
           let fields = writes naming (number_at bytes at) place contents in
           let named = made_by naming at place contents bytes in
           let opened = made_by opening at place contents named in
-          let lead : LeadsOn naming at place packed later bytes named = leads_on naming at place packed later bytes next in
+          let lead : LeadsOn naming at place packed later contents bytes named = leads_on naming at place packed later contents bytes next in
           let still : standing_at named at ≡ shut was =
           standing_is named at (shut was) (lead.0.number ∙ ap (λ (s : Standing). s.number) stands) (gate_isnt (gate_at named o) lead.1.made.1) in
           elim (pair (o + 1) fields bytes (synced_write o (1 ∷ [])) old new ok count armed is makes) [
@@ -128,7 +133,7 @@ module _ (at place : ℕ) (packed later : Contents) where
           ]
 
   -- All parts of a checkpoint.
-  module _ (bytes : List ℕ) (next : IsNext storing at place packed later bytes) (armed : Option Arm) (old new : MemState) (ok : Bool)
+  module _ (bytes : List ℕ) (next : IsNext storing at place packed later contents bytes) (armed : Option Arm) (old new : MemState) (ok : Bool)
       (is : IsAt bytes (settled_at bytes) armed None old) where
     abbrev was : Standing
     was = standing_at bytes at
@@ -139,8 +144,8 @@ module _ (at place : ℕ) (packed later : Contents) where
     abbrev block : List ℕ
     block = writes storing (number_at bytes at) place contents
 
-    lead : LeadsOn storing at place packed later bytes stored
-    lead = leads_on storing at place packed later bytes next
+    lead : LeadsOn storing at place packed later contents bytes stored
+    lead = leads_on storing at place packed later contents bytes next
 
     abbrev Calls : Bool → List DiskCall
     Calls other_open = store_and_close_calls (other_root at) other_open place block ++ name_and_open_calls (other_root at) (fields_of (number_at bytes at + 1) place (length (block_of contents)))
@@ -179,7 +184,7 @@ module _ (at place : ℕ) (packed later : Contents) where
               let closes = lead.1 opened in
               let still : standing_at stored at ≡ was =
               standing_is stored at was lead.0.number (ap (λ g. g == 1) (closes.made.1 ∙ sym opened)) in
-              let second : LeadsOn closing at place packed later stored closed = leads_on closing at place packed later stored closes in
+              let second : LeadsOn closing at place packed later contents stored closed = leads_on closing at place packed later contents stored closes in
               let number : number_at closed at ≡ number_at bytes at = second.0.number ∙ lead.0.number in
               elim (pair o (0 ∷ []) stored naming_after mid new ok 2 armed is_mid rest) [
                 | inl fires ↦

@@ -12,7 +12,7 @@ use Rattle.pv_format.specs.Checkpoint.{Standing}
 use Rattle.pv_law_checkpoints.specs.Roots.{other_root}
 use Rattle.pv_law_checkpoints.specs.Stages.{free_place, IsPacked, Stands}
 use Rattle.pv_law_checkpoints.specs.TwoAreas.{block_of}
-use Rattle.pv_ckpt.specs.Checkpointing.{CheckpointMakes, Checkpoints, IsLeftInAll, KeepsContents, SwitchMakes, SwitchesTo, switch_calls}
+use Rattle.pv_ckpt.specs.Checkpointing.{CheckpointMakes, Checkpoints, IsLeftBySwitch, KeepsContents, Leaves, SwitchMakes, SwitchesTo, switch_calls}
 use Rattle.pv_ckpt.specs.CkptLog.{IsIntact}
 use Rattle.pv_ckpt.specs.Roots.{IsHeld}
 use Rattle.pv_ckpt.specs.declared.ckpt_error.CkptError.{CkptError}
@@ -20,14 +20,14 @@ use Rattle.pv_ckpt.specs.declared.ckpt_error.CkptError.TheVariants.{Failed, Down
 use Rattle.pv_ckpt.specs.declared.ckpt_log.CkptLog.{CkptLog}
 use Rattle.pv_ckpt.specs.declared.roots.Root.{Root}
 use Rattle.pv_ckpt.proofs.KeepLemmas.{keeps_room}
-use Rattle.pv_ckpt.proofs.SwitchLemmas.{keeps_quiet, quiet, stands_here}
+use Rattle.pv_ckpt.proofs.SwitchLemmas.{keeps_own, keeps_quiet, own, quiet, stands_here}
 
 module _ {D : Type 0} (M : DiskModel D) (old : CkptLog D) (intact : IsIntact M old) (up : old.down ≡ false) (unspent : old.root.number < 2 ^ 64 - 1) where
   -- Where the reading failed, or found no memory, no more was done.
   pub reading_failed : (new : CkptLog D) → Looks M old.disk new.disk → new.length ≡ old.length → new.limit ≡ old.limit → new.down ≡ true
       → Rose (M.faults old.disk) (M.faults new.disk) → Checkpoints M {X = Unit {0}} old new (Err Failed)
   reading_failed new looks long limit down rose = (
-    keeps_quiet M old intact up new looks.known looks.any_moment looks.faults long limit,
+    keeps_own M old.length old new (keeps_quiet M old intact up own new looks.known looks.any_moment looks.faults long limit),
     record { down = down; rose = rose },
     record { read = new.disk; reads = looks.reads; calls = inl (refl, refl) },
     unspent,
@@ -36,7 +36,7 @@ module _ {D : Type 0} (M : DiskModel D) (old : CkptLog D) (intact : IsIntact M o
   pub reading_in_vain : (new : CkptLog D) → LooksOn M old.disk new.disk → new.root ≡ old.root → new.end ≡ old.end → new.frame ≡ old.frame → new.length ≡ old.length → new.limit ≡ old.limit
       → new.down ≡ false → Checkpoints M {X = Unit {0}} old new (Err NoMemory)
   reading_in_vain new (looks, content, faults) root end frame long limit down = (
-    keeps_quiet M old intact up new looks.known looks.any_moment looks.faults long limit,
+    keeps_own M old.length old new (keeps_quiet M old intact up own new looks.known looks.any_moment looks.faults long limit),
     record {
       up = down;
       uncounted = faults;
@@ -60,18 +60,18 @@ module _ {D : Type 0} (M : DiskModel D) (old : CkptLog D) (intact : IsIntact M o
         let is = here.0 in
         block_is bytes is.0 is.1 known is.2 ∙ ap block_of (sym here.1)
 
-    keeps_both : KeepsContents M mid new → KeepsContents M old new
-    keeps_both keeps = record {
-      known = keeps.known ∙ looks.0.known;
+    keeps_both : Leaves M (IsLeftBySwitch own) mid.length mid new → KeepsContents M old new
+    keeps_both leaves = keeps_own M old.length old new (record {
+      known = leaves.known ∙ looks.0.known;
       any_moment = λ contents was bytes known stands.
-          let P = IsLeftInAll was contents in
-          LeavesOnly-trans M old.disk mid.disk new.disk P P P (quiet M old intact up mid.disk looks.0.any_moment contents was bytes known stands)
-          (keeps.any_moment contents was bytes (looks.1 ∙ known) stands) (λ left has. has) (λ left has. has);
-      length = keeps.length ∙ long;
-      limit = keeps.limit ∙ limit;
+          let P = IsLeftBySwitch own was contents in
+          LeavesOnly-trans M old.disk mid.disk new.disk P P P (quiet M old intact up own mid.disk looks.0.any_moment contents was bytes known stands)
+          (leaves.any_moment contents was bytes (looks.1 ∙ known) stands) (λ left has. has) (λ left has. has);
+      length = leaves.length ∙ long;
+      limit = leaves.limit ∙ limit;
       was_up = up;
-      faults = omega (arith, keeps.faults, looks.0.faults);
-    }
+      faults = omega (arith, leaves.faults, looks.0.faults);
+    })
 
     makes_both : (ok : Bool) → SwitchMakes M mid new block ok → (ok ≡ true → new.root.size ≡ length block) → CheckpointMakes M old new ok
     makes_both ok (inl none) size = record { read = mid.disk; reads = looks.0.reads; calls = inl none }
@@ -89,7 +89,7 @@ module _ {D : Type 0} (M : DiskModel D) (old : CkptLog D) (intact : IsIntact M o
     makes_none : SwitchMakes M mid new block false → CheckpointMakes M old new false
     makes_none makes = makes_both false makes (λ ok. absurd (true≢false (sym ok)))
 
-    pub after_reading : {X : Type 0} (result : Result X CkptError) → SwitchesTo M {X = X} mid new block result → Checkpoints M {X = X} old new result
+    pub after_reading : {X : Type 0} (result : Result X CkptError) → SwitchesTo M {X = X} own mid new block mid.length result → Checkpoints M {X = X} old new result
     after_reading (Ok x) (keeps, done, makes, size) = (
       keeps_both keeps,
       record {

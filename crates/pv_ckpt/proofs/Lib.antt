@@ -16,6 +16,7 @@ mod PackLemmas
 mod PartLemmas
 mod ReadLemmas
 mod RecordLemmas
+mod RewriteLemmas
 mod RootLemmas
 mod SwitchLemmas
 mod WritingLemmas

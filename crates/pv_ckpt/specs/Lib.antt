@@ -8,5 +8,6 @@ pub mod Opening
 pub mod Outline
 pub mod Packing
 pub mod Reading
+pub mod Rewriting
 pub mod Roots
 pub mod Writing

@@ -17,8 +17,8 @@ pub record IsPackedFrom (root : Root) (end : ℕ) (block : List ℕ) (packed : P
   pub block_is : packed.block.items ≡ block ++ 0 ∷ []
   pub fields_are : packed.fields.items ≡ fields_of (root.number + 1) packed.root.place (length block)
 
--- It is what a checkpoint of these bytes writes, in which the root at this place is in force.
-pub record IsMadeFor (packed : Packed) (at : ℕ) (held later : Contents) (bytes : List ℕ) : Type 0 where
+-- It is what a checkpoint of these bytes writes, in which the root at this place is in force, with the given contents in its block.
+pub record IsMadeFor (packed : Packed) (at : ℕ) (given : Contents) (bytes : List ℕ) : Type 0 where
   pub root : packed.root.at ≡ other_root at
-  pub block_is : packed.block.items ≡ writes storing (number_at bytes at) packed.root.place (held ++ later)
-  pub fields_are : packed.fields.items ≡ writes naming (number_at bytes at) packed.root.place (held ++ later)
+  pub block_is : packed.block.items ≡ writes storing (number_at bytes at) packed.root.place given
+  pub fields_are : packed.fields.items ≡ writes naming (number_at bytes at) packed.root.place given

@@ -1,4 +1,4 @@
-// Checkpoints: all contents written anew, packed, and put in force at one moment.
+// Checkpoints: all contents written anew, packed, and put in force at one moment; and the switch to a block of any contents.
 ghost use Rattle.std.specs.Prelude.{◌≡◌, ◌⊎◌, ◌==◌, false, ℕ, ◌+◌, ◌-◌, ◌<◌, ◌≤◌, ◌^◌, ◌++◌, ◌∷◌, [], List, Some, length, take, drop, is_ok, is_some, vec_len, vec_capacity, IfOk, OnOk, IsErrOf};
 ghost use Rattle.pv_base.specs.declared.limits.TheConstants.{MAX_WRITE_END};
 ghost use Rattle.pv_base.specs.Fault.{FaultCounted};
@@ -9,10 +9,10 @@ ghost use Rattle.pv_format.specs.Journal.{framed, record_of};
 ghost use Rattle.pv_law_calls.specs.Reading.{LooksBy};
 ghost use Rattle.pv_law_checkpoints.specs.Roots.{gate_at, number_at, other_root, IsRoot};
 ghost use Rattle.pv_format.specs.Checkpoint.{naming, storing};
-ghost use Rattle.pv_law_checkpoints.specs.Stages.{free_place, writes};
+ghost use Rattle.pv_law_checkpoints.specs.Stages.{free_place, greatest_length, writes};
 ghost use Rattle.pv_law_checkpoints.specs.TwoAreas.{block_of};
 ghost use Rattle.pv_ckpt.specs.Roots.{IsHeld};
-ghost use Rattle.pv_ckpt.specs.Checkpointing.{Checkpoints, IsReadyFor, name_and_open_calls, store_and_close_calls, StoresAndCloses, Switches, SwitchesTo};
+ghost use Rattle.pv_ckpt.specs.Checkpointing.{Checkpoints, IsBlockFor, IsReadyFor, name_and_open_calls, store_and_close_calls, StoresAndCloses, Switches, SwitchesTo};
 ghost use Rattle.pv_ckpt.specs.Packing.{IsMadeFor, IsPackedFrom};
 ghost use Rattle.pv_ckpt.specs.CkptLog.{IsIntact};
 
@@ -47,7 +47,10 @@ impl<D: Disk> CkptLog<D> {
             return Err(CkptError::Spent);
         }
         match read_packed(*self.frame.allocator(), &mut self.disk, self.root, self.end) {
-            Ok(block) => self.switch_to(block),
+            Ok(block) => {
+                let length = self.length;
+                self.switch_to(block, length)
+            }
             Err(LookError::Failed) => {
                 self.down = true;
                 Err(CkptError::Failed)
@@ -57,16 +60,17 @@ impl<D: Disk> CkptLog<D> {
         }
     }
 
-    // Switches to this block of all contents: it is written outside the area in force, and then the other root is closed, named anew and opened.
-    fn switch_to(&mut self, block: Vec<u8>) -> Result<(), CkptError>
+    // Switches to this block, of contents with which a log is so long: it is written outside the area in force, and then the other root is closed, named anew and opened.
+    pub(crate) fn switch_to(&mut self, block: Vec<u8>, length: u64) -> Result<(), CkptError>
         requires intact { IsIntact D.model self.old }
         requires up { self.old.down ≡ false }
-        requires within { self.old.length ≤ self.old.limit }
+        requires reach { self.old.length ≤ greatest_length }
+        requires within { length ≤ self.old.limit }
         requires unspent { self.old.root.number < 2 ^ 64 - 1 }
-        requires size { vec_len block + 9 ≤ self.old.length }
-        requires contents { (bytes : List ℕ) (packed later : Contents) → D.model.content self.old.disk ≡ Some bytes → IsHeld bytes self.old.root self.old.end packed later
-            → block.items ≡ block_of (packed ++ later) }
-        ensures effect { SwitchesTo D.model self.old self.new block.items result }
+        requires size { vec_len block + 9 ≤ length }
+        requires contents { (given : Contents → Contents) × IsBlockFor D.model self.old given block.items length }
+        ensures effect { (given : Contents → Contents) → IsBlockFor D.model self.old given block.items length
+            → SwitchesTo D.model given self.old self.new block.items length result }
         ensures intact { IsIntact D.model self.new }
     {
         let packed = match make_ready(
@@ -87,6 +91,7 @@ impl<D: Disk> CkptLog<D> {
             Ok(()) => {
                 self.root = packed.root;
                 self.end = packed.root.place + packed.root.size;
+                self.length = length;
                 Ok(())
             }
             Err(_) => {
@@ -254,9 +259,9 @@ fn write_parts<D: Disk>(disk: &mut D, other_open: bool, packed: &Packed) -> Resu
     requires fields { vec_len packed.now.fields ≡ 24 }
     requires room { vec_len packed.now.block + 26 ≤ D.model.room disk.old }
     requires writes { 4 ≤ D.model.writes disk.old }
-    ensures crash { (at : ℕ) (held later : Contents) (bytes : List ℕ) → IsReadyFor D.model storing disk.old at packed.now.root.place held later bytes
-        → IsMadeFor packed.now at held later bytes → other_open ≡ (gate_at bytes (other_root at) == 1)
-        → Switches D.model disk.old disk.new at packed.now.root.place held later bytes result }
+    ensures crash { (at : ℕ) (held later given : Contents) (bytes : List ℕ) → IsReadyFor D.model storing disk.old at packed.now.root.place held later given bytes
+        → IsMadeFor packed.now at given bytes → other_open ≡ (gate_at bytes (other_root at) == 1)
+        → Switches D.model disk.old disk.new at packed.now.root.place held later given bytes result }
     ensures calls { Makes D.model.goes disk.old (store_and_close_calls packed.now.root.at other_open packed.now.root.place packed.now.block.items
         ++ name_and_open_calls packed.now.root.at packed.now.fields.items) (is_ok result) disk.new }
     ensures known { is_some (D.model.content disk.new) ≡ is_some (D.model.content disk.old) }
@@ -287,9 +292,9 @@ fn store_and_close<D: Disk>(
     requires end { place + length block.now ≤ MAX_WRITE_END }
     requires room { length block.now + 1 ≤ D.model.room disk.old }
     requires writes { 2 ≤ D.model.writes disk.old }
-    ensures crash { (at : ℕ) (held later : Contents) (bytes : List ℕ) → IsReadyFor D.model storing disk.old at place held later bytes → other ≡ other_root at
-        → block.now ≡ writes storing (number_at bytes at) place (held ++ later) → other_open ≡ (gate_at bytes other == 1)
-        → StoresAndCloses D.model disk.old disk.new at place held later bytes result }
+    ensures crash { (at : ℕ) (held later given : Contents) (bytes : List ℕ) → IsReadyFor D.model storing disk.old at place held later given bytes → other ≡ other_root at
+        → block.now ≡ writes storing (number_at bytes at) place given → other_open ≡ (gate_at bytes other == 1)
+        → StoresAndCloses D.model disk.old disk.new at place held later given bytes result }
     ensures calls { Makes D.model.goes disk.old (store_and_close_calls other other_open place block.now) (is_ok result) disk.new }
     ensures long { OnOk result ((bytes : List ℕ) → D.model.content disk.new ≡ Some bytes → 59 ≤ length bytes) }
     ensures room { D.model.room disk.old ≤ D.model.room disk.new + (length block.now + 1) }
@@ -312,9 +317,9 @@ fn name_and_open<D: Disk>(disk: &mut D, other: u64, fields: &[u8]) -> Result<(),
     requires fields { length fields.now ≡ 24 }
     requires room { 25 ≤ D.model.room disk.old }
     requires writes { 2 ≤ D.model.writes disk.old }
-    ensures crash { (at place : ℕ) (held later : Contents) (bytes : List ℕ) → IsReadyFor D.model naming disk.old at place held later bytes → other ≡ other_root at
-        → fields.now ≡ writes naming (number_at bytes at) place (held ++ later)
-        → Switches D.model disk.old disk.new at place held later bytes result }
+    ensures crash { (at place : ℕ) (held later given : Contents) (bytes : List ℕ) → IsReadyFor D.model naming disk.old at place held later given bytes → other ≡ other_root at
+        → fields.now ≡ writes naming (number_at bytes at) place given
+        → Switches D.model disk.old disk.new at place held later given bytes result }
     ensures calls { Makes D.model.goes disk.old (name_and_open_calls other fields.now) (is_ok result) disk.new }
     ensures known { is_some (D.model.content disk.new) ≡ is_some (D.model.content disk.old) }
     ensures fault { FaultCounted (D.model.faults disk.old) (D.model.faults disk.new) result }

@@ -1,5 +1,5 @@
 //! A log on a disk in two areas. A crash at any moment of an append leaves the contents with the new one or without it, and at any moment of a checkpoint, which writes all
-//! of them anew, it leaves them all.
+//! of them anew, it leaves them all; at any moment of a rewriting it leaves them or those given.
 #![tactic(auto)]
 
 mod checkpoint;
@@ -9,6 +9,7 @@ mod log;
 mod memory;
 mod open_ckpt;
 mod reading;
+mod rewrite;
 mod roots;
 mod writing;
 

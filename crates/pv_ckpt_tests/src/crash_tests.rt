@@ -1,5 +1,5 @@
-// What checkpoints make of the bytes; and many of them, to be timed.
-ghost use Rattle.std.specs.Prelude.{◌≡◌, ◌<◌, ◌≤◌, ◌^◌, length, IfOk};
+// What checkpoints and a rewriting make of the bytes; and many checkpoints, to be timed.
+ghost use Rattle.std.specs.Prelude.{◌≡◌, ◌<◌, ◌≤◌, ◌^◌, length, vec_len, IfOk};
 
 use crate::tests::PACKED_ONCE;
 use pv_base::buffer;
@@ -138,6 +138,51 @@ fn checkpoints_pack_the_bytes(rt: HostRuntime) -> Result<(), Fail> {
     assert!(rt; packs_to(alloc, 0, &APPENDED)?);
     assert!(rt; packs_to(alloc, 1, &PACKED_ONCE)?);
     assert!(rt; packs_to(alloc, 2, &PACKED_TWICE)?);
+    Ok(())
+}
+
+// After a rewriting with the first and the last of the three: root 1 has the number 2 and a block of 24 bytes at 116, behind the records that were in force.
+const REWRITTEN: [u8; 141] = *b"PVCKPT01\
+    \x01\0\0\0\0\0\0\0\x01\0\0\0\0\0\0\0\x3a\0\0\0\0\0\0\0\0\
+    \x01\0\0\0\0\0\0\0\x02\0\0\0\0\0\0\0\x74\0\0\0\0\0\0\0\x18\
+    \x01\0\0\0\x05\x01\0\0\0\x01\
+    \x01\0\0\0\x1a\x02\0\0\0\0\x01\0\0\0\0\x01\0\0\0\0\0\x01\0\0\0\0\0\0\0\0\x65\
+    \x01\0\0\0\x0b\x03\0\0\0\0\x01\0\0\0\0\x01\
+    \0\
+    \0\0\0\x05\x01\0\0\0\x01\
+    \0\0\0\x0b\x03\0\0\0\0\x01\0\0\0\0\x01\
+    \0";
+
+// A rewriting with two contents, of a log within its limit.
+fn rewritten(
+    log: &mut CkptLog<MemDisk>,
+    first: Vec<u8>,
+    last: Vec<u8>,
+) -> Result<(), CkptError>
+    requires intact { ⟦<CkptLog<MemDisk> as Log>⟧.model.is_intact log.old }
+    requires limit { ⟦<CkptLog<MemDisk> as Log>⟧.model.limit log.old ≡ LIMIT }
+    requires first { vec_len first ≤ 100 }
+    requires last { vec_len last ≤ 100 }
+{
+    if log.length() > LIMIT {
+        return Err(CkptError::NoMemory);
+    }
+    log.rewrite(&[first, last])
+}
+
+#[test]
+fn a_rewriting_puts_the_given_contents_into_its_block(rt: HostRuntime) -> Result<(), Fail> {
+    let alloc = rt.alloc();
+    let mut disk = MemDisk::new(alloc);
+    format(&mut disk)?;
+    let mut log = worked(alloc, disk)?;
+    rewritten(
+        &mut log,
+        CONTENTS[0].to_vec(alloc)?,
+        CONTENTS[2].to_vec(alloc)?,
+    )?;
+    assert_eq!(rt; log.length(), 35);
+    assert!(rt; bytes_of(alloc, &mut log.close())?.as_slice() == REWRITTEN.as_slice());
     Ok(())
 }
 

@@ -10,8 +10,8 @@ use Rattle.pv_ckpt.proofs.WritingLemmas.{makes_then, still_long}
 use Rattle.pv_ckpt.proofs.checkpoint.store_and_close.Goals as goal
 
 pub returns-in_err-write_synced-clause-crash : goal.returns-in_err-write_synced-clause-crash
-returns-in_err-write_synced-clause-crash g c at held later bytes ready other_is block_is tells =
-    stores_not g.D.Disk.model at c.args.place held later bytes c.args.disk.now ready c.args.block.now block_is c.write_synced.new.disk c.write_synced.result
+returns-in_err-write_synced-clause-crash g c at held later given bytes ready other_is block_is tells =
+    stores_not g.D.Disk.model at c.args.place held later given bytes c.args.disk.now ready c.args.block.now block_is c.write_synced.new.disk c.write_synced.result
     c.from_residual.result (record {}) (search rules) c.write_synced.ensures.effect
 
 pub write_synced-requires-then-other_open-clause-within : goal.write_synced-requires-then-other_open-clause-within
@@ -20,10 +20,10 @@ write_synced-requires-then-other_open-clause-within g c held is =
     omega (arith, long, IsRoot-le c.args.other c.requires.root)
 
 pub returns-then-other_open-clause-crash : goal.returns-then-other_open-clause-crash
-returns-then-other_open-clause-crash g c at held later bytes ready other_is block_is tells =
+returns-then-other_open-clause-crash g c at held later given bytes ready other_is block_is tells =
     let told = gate_tells (gate_at bytes c.args.other) (sym tells ∙ c.if-other_open.true) in
     let opened : gate_at bytes (other_root at) ≡ 1 = subst (λ n. gate_at bytes n ≡ 1) other_is told in
-    stores_open g.D.Disk.model at c.args.place held later bytes c.args.disk.now ready c.args.block.now block_is c.write_synced.new.disk tt c.in_ok-write_synced.ensures.effect opened
+    stores_open g.D.Disk.model at c.args.place held later given bytes c.args.disk.now ready c.args.block.now block_is c.write_synced.new.disk tt c.in_ok-write_synced.ensures.effect opened
     c.write_synced-then-other_open.new.disk c.args.other c.write_synced-then-other_open.result other_is c.write_synced-then-other_open.ensures.effect
 
 pub returns-then-other_open-clause-calls : goal.returns-then-other_open-clause-calls
@@ -46,9 +46,9 @@ returns-then-other_open-clause-long g c =
     (λ held is. (omega (arith, long held is, IsRoot-le c.args.other c.requires.root), long held is))
 
 pub returns-clause-crash : goal.returns-clause-crash
-returns-clause-crash g c at held later bytes ready other_is block_is tells =
+returns-clause-crash g c at held later given bytes ready other_is block_is tells =
     let denied = gate_denies (gate_at bytes c.args.other) (sym tells ∙ c.if-other_open.false) in
-    stores_closed g.D.Disk.model at c.args.place held later bytes c.args.disk.now ready c.args.block.now block_is c.write_synced.new.disk tt c.in_ok-write_synced.ensures.effect tt
+    stores_closed g.D.Disk.model at c.args.place held later given bytes c.args.disk.now ready c.args.block.now block_is c.write_synced.new.disk tt c.in_ok-write_synced.ensures.effect tt
     (λ opened. denied (subst (λ n. gate_at bytes n ≡ 1) (sym other_is) opened))
 
 pub returns-clause-long : goal.returns-clause-long

@@ -9,10 +9,10 @@ use Rattle.pv_ckpt.proofs.WritingLemmas.{makes_not, makes_then}
 use Rattle.pv_ckpt.proofs.checkpoint.write_parts.Goals as goal
 
 pub returns-in_err-store_and_close-clause-crash : goal.returns-in_err-store_and_close-clause-crash
-returns-in_err-store_and_close-clause-crash g c at held later bytes ready made tells =
+returns-in_err-store_and_close-clause-crash g c at held later given bytes ready made tells =
     let told = tells ∙ ap (λ n. gate_at bytes n == 1) (sym made.root) in
-    let stored = c.store_and_close.ensures.crash at held later bytes ready made.root (c.deref.ensures.value ∙ made.block_is) told in
-    stopped_before_naming g.D.Disk.model at c.args.packed.now.root.place held later bytes c.args.disk.now c.store_and_close.new.disk c.store_and_close.result c.from_residual.result (record {})
+    let stored = c.store_and_close.ensures.crash at held later given bytes ready made.root (c.deref.ensures.value ∙ made.block_is) told in
+    stopped_before_naming g.D.Disk.model at c.args.packed.now.root.place held later given bytes c.args.disk.now c.store_and_close.new.disk c.store_and_close.result c.from_residual.result (record {})
     (search rules) stored
 
 pub returns-in_err-store_and_close-clause-calls : goal.returns-in_err-store_and_close-clause-calls
@@ -28,13 +28,13 @@ returns-in_err-store_and_close-clause-calls g c =
     (makes_not goes c.args.disk.now c.store_and_close.new.disk (first packed.block.items) second stopped)
 
 pub returns-clause-crash : goal.returns-clause-crash
-returns-clause-crash g c at held later bytes ready made tells =
+returns-clause-crash g c at held later given bytes ready made tells =
     let told = tells ∙ ap (λ n. gate_at bytes n == 1) (sym made.root) in
     let place = c.args.packed.now.root.place in
-    let stored = c.in_ok-store_and_close.ensures.crash at held later bytes ready made.root (c.deref.ensures.value ∙ made.block_is) told in
-    let renamed = made.fields_are ∙ ap (λ n. fields_of (n + 1) place (length (block_of (held ++ later)))) (sym stored.done.2) in
-    both_switch g.D.Disk.model at place held later bytes c.args.disk.now c.store_and_close.new.disk tt stored c.name_and_open.new.disk c.name_and_open.result
-    (c.name_and_open.ensures.crash at place held later stored.done.0 stored.done.1 made.root (c.deref-2.ensures.value ∙ renamed))
+    let stored = c.in_ok-store_and_close.ensures.crash at held later given bytes ready made.root (c.deref.ensures.value ∙ made.block_is) told in
+    let renamed = made.fields_are ∙ ap (λ n. fields_of (n + 1) place (length (block_of given))) (sym stored.done.2) in
+    both_switch g.D.Disk.model at place held later given bytes c.args.disk.now c.store_and_close.new.disk tt stored c.name_and_open.new.disk c.name_and_open.result
+    (c.name_and_open.ensures.crash at place held later given stored.done.0 stored.done.1 made.root (c.deref-2.ensures.value ∙ renamed))
 
 pub returns-clause-calls : goal.returns-clause-calls
 returns-clause-calls g c =

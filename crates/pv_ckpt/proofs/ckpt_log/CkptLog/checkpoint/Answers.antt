@@ -3,7 +3,7 @@ use Rattle.pv_law_calls.specs.Reading.{LooksBy, LooksOn}
 use Rattle.pv_law_checkpoints.proofs.LogLemmas.{end_within}
 use Rattle.pv_ckpt.specs.declared.ckpt_log.CkptLog.{CkptLog}
 use Rattle.pv_ckpt.proofs.CheckpointLemmas.{after_reading, reading_failed, reading_in_vain}
-use Rattle.pv_ckpt.proofs.SwitchLemmas.{still_held}
+use Rattle.pv_ckpt.proofs.SwitchLemmas.{own, still_held}
 use Rattle.pv_ckpt.proofs.ckpt_log.CkptLog.checkpoint.Goals as goal
 
 pub read_packed-requires-clause-within : goal.read_packed-requires-clause-within
@@ -21,7 +21,7 @@ switch_to-requires-clause-intact g c =
     still_held g.D.Disk.model old c.requires.intact c.if-self.false mid refl refl refl refl looks.1 looks.0.any_moment
 
 pub switch_to-requires-clause-contents : goal.switch_to-requires-clause-contents
-switch_to-requires-clause-contents g c bytes packed later is held = c.in-Ok.ensures.block bytes packed later (sym c.in-Ok.ensures.effect.1 ∙ is) held
+switch_to-requires-clause-contents g c = (own, λ bytes known is. (c.in-Ok.ensures.block bytes is.0 is.1 (sym c.in-Ok.ensures.effect.1 ∙ known) is.2, is.3))
 
 pub returns-in-Ok-clause-effect : goal.returns-in-Ok-clause-effect
 returns-in-Ok-clause-effect g c =
@@ -30,7 +30,8 @@ returns-in-Ok-clause-effect g c =
     record { disk = c.read_packed.new.disk; root = old.root; end = old.end; frame = old.frame; length = old.length; limit = old.limit; down = old.down } in
     let unspent : old.root.number < 2 ^ 64 - 1 = search rules in
     after_reading g.D.Disk.model old c.requires.intact c.if-self.false unspent mid c.switch_to.new.self c.in-Ok.ensures.effect refl refl refl refl refl c.in-Ok.block.items c.in-Ok.ensures.block
-    c.switch_to.result c.switch_to.ensures.effect
+    c.switch_to.result
+    (c.switch_to.ensures.effect own (λ bytes known is. (c.in-Ok.ensures.block bytes is.0 is.1 (sym c.in-Ok.ensures.effect.1 ∙ known) is.2, is.3)))
 
 pub returns-in-Err-Failed-clause-effect : goal.returns-in-Err-Failed-clause-effect
 returns-in-Err-Failed-clause-effect g c =

@@ -9,25 +9,25 @@ use Rattle.pv_ckpt.proofs.SwitchLemmas.{done, keeps, keeps_quiet, makes_all, now
 use Rattle.pv_ckpt.proofs.ckpt_log.CkptLog.switch_to.Goals as goal
 
 pub returns-in-Err-Failed-clause-effect : goal.returns-in-Err-Failed-clause-effect
-returns-in-Err-Failed-clause-effect g c =
+returns-in-Err-Failed-clause-effect g c given block_is =
     let M = g.D.Disk.model in
     let old = c.args.self.now in
     let d1 = c.make_ready.new.disk in
     let new : CkptLog g.row.D.Denot = record { disk = d1; root = old.root; end = old.end; frame = old.frame; length = old.length; limit = old.limit; down = true } in
     let effect = subst (λ e. ReservesOnDisk M {X = Packed} old.disk d1 (length c.args.block.items + 27) 4 (Err e)) c.in-Err-Failed.field-0-is c.in-Err-Failed.ensures.effect in (
-      keeps_quiet M old c.requires.intact c.requires.up new effect.0.known effect.0.any_moment effect.0.faults refl refl,
+      keeps_quiet M old c.requires.intact c.requires.up given new effect.0.known effect.0.any_moment effect.0.faults refl refl,
       record { down = refl; rose = effect.1 },
       room_failed M old c.requires.intact c.requires.up c.args.block.items d1 c.in-Err-Failed.ensures.goes,
     )
 
 pub returns-in-Err-NoMemory-clause-effect : goal.returns-in-Err-NoMemory-clause-effect
-returns-in-Err-NoMemory-clause-effect g c =
+returns-in-Err-NoMemory-clause-effect g c given block_is =
     let M = g.D.Disk.model in
     let old = c.args.self.now in
     let d1 = c.make_ready.new.disk in
     let new : CkptLog g.row.D.Denot = record { disk = d1; root = old.root; end = old.end; frame = old.frame; length = old.length; limit = old.limit; down = old.down } in
     let effect = subst (λ e. ReservesOnDisk M {X = Packed} old.disk d1 (length c.args.block.items + 27) 4 (Err e)) c.in-Err-NoMemory.field-0-is c.in-Err-NoMemory.ensures.effect in (
-      keeps_quiet M old c.requires.intact c.requires.up new effect.0.known effect.0.any_moment effect.0.faults refl refl,
+      keeps_quiet M old c.requires.intact c.requires.up given new effect.0.known effect.0.any_moment effect.0.faults refl refl,
       record {
         up = c.requires.up;
         uncounted = effect.2;
@@ -54,7 +54,7 @@ write_parts-requires-clause-within g c bytes is =
     let effect = c.in-Ok.ensures.effect in
     let packed_is = c.in-Ok.ensures.packed in
     let within =
-    place_within g.D.Disk.model c.args.self.now c.requires.intact c.requires.up c.requires.within c.requires.unspent c.args.block.items c.requires.contents bytes (sym effect.1 ∙ is) in
+    place_within g.D.Disk.model c.args.self.now c.requires.intact c.requires.up c.requires.reach c.args.length c.requires.within c.requires.unspent c.requires.contents.0 c.args.block.items c.requires.contents.1 bytes (sym effect.1 ∙ is) in
     (omega (arith, packed_is.place, within.0), within.1)
 
 pub write_parts-requires-clause-fields : goal.write_parts-requires-clause-fields
@@ -65,7 +65,7 @@ write_parts-requires-clause-fields g c =
     omega (arith, long, ap length packed_is.fields_are, length-fields (c.args.self.now.root.number + 1) packed.root.place (length c.args.block.items))
 
 pub returns-in-Ok-write_parts-clause-effect : goal.returns-in-Ok-write_parts-clause-effect
-returns-in-Ok-write_parts-clause-effect g c =
+returns-in-Ok-write_parts-clause-effect g c given block_is =
     let M = g.D.Disk.model in
     let old = c.args.self.now in
     let needs = c.requires in
@@ -78,20 +78,20 @@ returns-in-Ok-write_parts-clause-effect g c =
     let wrote = c.in-Ok-write_parts.ensures in
     let long : length block ≡ vec_len c.args.block = search rules in
     let new : CkptLog g.row.D.Denot =
-    record { disk = d2; root = packed.root; end = packed.root.place + packed.root.size; frame = old.frame; length = old.length; limit = old.limit; down = old.down } in (
-      keeps M old needs.intact needs.up needs.within needs.unspent block needs.contents d1 effect.0 effect.1 packed packed_is d2 _ wrote.crash new refl wrote.known wrote.fault.0 refl refl,
+    record { disk = d2; root = packed.root; end = packed.root.place + packed.root.size; frame = old.frame; length = c.args.length; limit = old.limit; down = old.down } in (
+      keeps M old needs.intact needs.up needs.reach c.args.length needs.within needs.unspent given block block_is d1 effect.0 effect.1 packed packed_is d2 _ wrote.crash new c.args.length refl wrote.known wrote.fault.0 refl refl,
       record {
         up = needs.up;
         uncounted = wrote.uncounted ∙ effect.4;
         number = packed_is.number;
-        packed = done M old needs.intact needs.up needs.within needs.unspent block needs.contents d1 effect.0 effect.1 packed packed_is d2 tt wrote.crash wrote.known (omega (arith, needs.size, long));
+        packed = done M old needs.intact needs.up needs.reach c.args.length needs.within needs.unspent given block block_is d1 effect.0 effect.1 packed packed_is d2 tt wrote.crash wrote.known (omega (arith, needs.size, long));
         at = packed_is.at;
         place = packed_is.place ∙ ap (λ n. free_place n old.root.place old.end) (sym packed_is.size);
         other = packed_is.other;
         end = refl;
       },
       inr (
-          makes_all M old needs.intact needs.up needs.within needs.unspent block needs.contents d1 effect.0 effect.1 packed packed_is d2 _ wrote.crash true
+          makes_all M old needs.intact needs.up needs.reach c.args.length needs.within needs.unspent given block block_is d1 effect.0 effect.1 packed packed_is d2 _ wrote.crash true
           (room_made M old needs.intact needs.up block d1 c.in-Ok.ensures.goes) wrote.calls
           ),
       packed_is.size,
@@ -113,15 +113,15 @@ returns-in-Ok-write_parts-clause-intact g c =
       root = packed.root;
       end = packed.root.place + packed.root.size;
       frame = old.frame;
-      length = old.length;
+      length = c.args.length;
       limit = old.limit;
       down = old.down;
     } in
-    now_intact M old needs.intact needs.up needs.within needs.unspent block needs.contents c.make_ready.new.disk effect.0 effect.1 packed c.in-Ok.ensures.packed c.write_parts.new.disk tt
+    now_intact M old needs.intact needs.up needs.reach c.args.length needs.within needs.unspent needs.contents.0 block needs.contents.1 c.make_ready.new.disk effect.0 effect.1 packed c.in-Ok.ensures.packed c.write_parts.new.disk tt
     wrote.crash wrote.known (omega (arith, needs.size, long)) new refl refl refl refl refl
 
 pub returns-clause-effect : goal.returns-clause-effect
-returns-clause-effect g c =
+returns-clause-effect g c given block_is =
     let M = g.D.Disk.model in
     let old = c.args.self.now in
     let needs = c.requires in
@@ -134,10 +134,10 @@ returns-clause-effect g c =
     let wrote = c.in-Err.ensures in
     let new : CkptLog g.row.D.Denot =
     record { disk = d2; root = old.root; end = old.end; frame = old.frame; length = old.length; limit = old.limit; down = true } in (
-      keeps M old needs.intact needs.up needs.within needs.unspent block needs.contents d1 effect.0 effect.1 packed packed_is d2 _ wrote.crash new refl wrote.known wrote.fault.0 refl refl,
+      keeps M old needs.intact needs.up needs.reach c.args.length needs.within needs.unspent given block block_is d1 effect.0 effect.1 packed packed_is d2 _ wrote.crash new old.length refl wrote.known wrote.fault.0 refl refl,
       record { down = refl; rose = omega (arith, wrote.fault.1, effect.4) },
       inr (
-          makes_all M old needs.intact needs.up needs.within needs.unspent block needs.contents d1 effect.0 effect.1 packed packed_is d2 _ wrote.crash false
+          makes_all M old needs.intact needs.up needs.reach c.args.length needs.within needs.unspent given block block_is d1 effect.0 effect.1 packed packed_is d2 _ wrote.crash false
           (room_made M old needs.intact needs.up block d1 c.in-Ok.ensures.goes) wrote.calls
           ),
     )
