@@ -154,11 +154,7 @@ const REWRITTEN: [u8; 141] = *b"PVCKPT01\
     \0";
 
 // A rewriting with two contents, of a log within its limit.
-fn rewritten(
-    log: &mut CkptLog<MemDisk>,
-    first: Vec<u8>,
-    last: Vec<u8>,
-) -> Result<(), CkptError>
+fn rewritten(log: &mut CkptLog<MemDisk>, first: Vec<u8>, last: Vec<u8>) -> Result<(), CkptError>
     requires intact { ⟦<CkptLog<MemDisk> as Log>⟧.model.is_intact log.old }
     requires limit { ⟦<CkptLog<MemDisk> as Log>⟧.model.limit log.old ≡ LIMIT }
     requires first { vec_len first ≤ 100 }

@@ -1,7 +1,7 @@
 -- Examples of steps: one site that takes the messages that it sends itself, and a participant that is left in doubt.
 use Rattle.std.specs.Prelude.{ℕ, zero, suc, ℤ, pos, Bool, true, false, List, [], ◌∷◌, ◌++◌, codes}
 use Rattle.std.specs.Option.{option_to_list}
-use Rattle.pv_base.specs.declared.limits.TheConstants.{MAX_JOURNAL}
+use Rattle.pv_base.specs.declared.limits.TheConstants.{MAX_JOURNAL, READ_NAMES, HELD_NAMES}
 use Rattle.pv_base.specs.declared.literal.Literal.{Literal}
 use Rattle.pv_base.specs.declared.txn.TxnId.{TxnId}
 use Rattle.pv_base.specs.Polyvalue.{Case}
@@ -42,8 +42,8 @@ bank = record {
     journal = MAX_JOURNAL;
     items = record { name = codes "a"; site = 0; value = pos 100 } ∷ record { name = codes "b"; site = 1; value = pos 50 } ∷ [];
   };
-  read_names = 7;
-  held_names = 8;
+  read_names = READ_NAMES;
+  held_names = HELD_NAMES;
 }
 
 -- the program `a := a + 1`

@@ -1,6 +1,6 @@
 -- Catalogs and schedules of which laws say what they print.
 use Rattle.std.specs.Prelude.{ℕ, pos, false, true, Some, None, List, [], ◌∷◌, ◌++◌, codes}
-use Rattle.pv_base.specs.declared.limits.TheConstants.{MAX_JOURNAL}
+use Rattle.pv_base.specs.declared.limits.TheConstants.{MAX_JOURNAL, READ_NAMES, HELD_NAMES}
 use Rattle.pv_base.specs.Catalog.{Item}
 use Rattle.pv_base.specs.declared.mode.Mode.{Mode}
 use Rattle.pv_model.specs.Events.{Event, submit, deliver, pump, lose, drop, tick, stop, start, arm, report}
@@ -9,7 +9,7 @@ use Rattle.pv_protocol.specs.State.{Setup}
 
 -- these items at so many sites, with the greatest journals
 abbrev pub setup_of : ℕ → List Item → Setup
-setup_of sites items = record { catalog = record { sites = sites; journal = MAX_JOURNAL; items = items }; read_names = 7; held_names = 8 }
+setup_of sites items = record { catalog = record { sites = sites; journal = MAX_JOURNAL; items = items }; read_names = READ_NAMES; held_names = HELD_NAMES }
 
 -- `item a 0 VALUE` at one site
 abbrev pub alone : ℕ → Setup
