@@ -4,12 +4,16 @@ use Rattle.std.specs.List.{find}
 use Rattle.std.specs.Option.{option_map}
 use Rattle.std.specs.Prelude.{is_some, not, ◌&&◌, ◌↔◌}
 use Rattle.pv_base.specs.Assignment.{is_same_txn}
+use Rattle.pv_base.specs.Catalog.{Declared}
+use Rattle.pv_base.specs.Polyvalue.{names}
 use Rattle.pv_base.specs.declared.txn.TxnId.{TxnId}
 use Rattle.pv_coord.specs.Coordinator as coord
 use Rattle.pv_coord.specs.Coordinator.{voting_work, work_of}
 use Rattle.pv_coord.specs.Work.{Work}
 use Rattle.pv_protocol.specs.Committed.{entry_in, grants_of}
+use Rattle.pv_protocol.specs.Lock.{is_home}
 use Rattle.pv_protocol.specs.Outcome.{named_here}
+use Rattle.pv_protocol.specs.Shown.{shown}
 use Rattle.pv_store.specs.Kept.{IsStoreOf}
 use Rattle.pv_protocol.specs.Coordinate.{is_locking}
 use Rattle.pv_protocol.specs.State.{Entry, Running}
@@ -21,7 +25,7 @@ use Rattle.pv_site.proofs.LogLemmas.{holds-after, limit-after}
 use Rattle.pv_site.specs.OnLog.{HoldsRecords, Logs}
 use Rattle.pv_site.specs.Steps.{IsReady}
 use Rattle.pv_site.proofs.Entries.{find-map}
-use Rattle.pv_site.specs.Asked.{entries_of, grant_taken, voting_at, IsIdle}
+use Rattle.pv_site.specs.Asked.{entries_of, grant_taken, is_touched, voting_at, IsIdle}
 use Rattle.pv_site.specs.SiteState.{here_with}
 use Rattle.pv_site.specs.SiteParts.{here_of, HaveStepped}
 use Rattle.pv_site.specs.SiteView.{running_unless, state_of, IsSite}
@@ -63,6 +67,23 @@ pub votes-in : (parts : SiteParts) (txn : TxnId) (site : ℕ) (down : Bool) → 
 votes-in parts txn site false none = votes-up parts txn site
 votes-in parts txn site true none =
     ap (λ (works : List Work). coord.grant_of (find (λ (work : Work). is_same_txn txn work.entry.txn && not (is_locking work.entry.stage)) works) site) (none refl)
+
+-- Which items a site shows that name a transaction, by its store.
+module _ {W : Type 0} (inside : Inside W) (txn : TxnId) (item : ℕ) where
+  abbrev is-touched-where : Bool → Bool
+  is-touched-where down =
+      is_some (running_unless down (here_of inside.parts).running)
+      && (is_home inside.parts.catalog inside.parts.me.0 item && names (shown inside.parts.catalog inside.parts.store.records item) txn)
+
+  pub touched-down : inside.down ≡ true → false ≡ is_touched (state_of inside) txn item
+  touched-down down = sym (ap is-touched-where down)
+
+  pub touched-up : IsSite inside → inside.down ≡ false
+      → (is_home inside.parts.store.catalog inside.parts.store.site item && names (shown inside.parts.store.catalog inside.parts.store.records item) txn) ≡ is_touched (state_of inside) txn item
+  touched-up is up =
+      ap (λ (catalog : Declared). is_home catalog inside.parts.store.site item && names (shown catalog inside.parts.store.records item) txn) is.sound.tied.store_catalog
+      ∙ ap (λ (site : ℕ). is_home inside.parts.catalog site item && names (shown inside.parts.catalog inside.parts.store.records item) txn) is.sound.tied.store_site
+      ∙ sym (ap is-touched-where up)
 
 module _ {W : Type 0} (M : LogModel W) (inside : Inside W) (log : W) (parts : SiteParts) (step : model.Step) where
   ready-by : (down : Bool) → inside.down ≡ down → down ≡ false → HaveStepped inside.parts parts step → Logs M inside.log log step.appended → M.is_intact log

@@ -1,12 +1,14 @@
 -- What is asked of a site between its steps.
-use Rattle.std.specs.Prelude.{◌≡◌, ℕ, List, [], Option, Some, None}
+use Rattle.std.specs.Prelude.{◌≡◌, ◌&&◌, ℕ, Bool, List, [], Option, Some, None, is_some}
 use Rattle.std.specs.Option.{option_map}
 use Rattle.pv_base.specs.declared.grant.GrantId.{GrantId}
 use Rattle.pv_base.specs.declared.txn.TxnId.{TxnId}
+use Rattle.pv_base.specs.Polyvalue.{names}
 use Rattle.pv_protocol.specs.Committed.{grants_of, holder_of}
 use Rattle.pv_protocol.specs.Coordinate.{voting_entry}
 use Rattle.pv_protocol.specs.Granted.{taken_from}
 use Rattle.pv_protocol.specs.Keyed.{of_txn}
+use Rattle.pv_protocol.specs.Lock.{is_home}
 use Rattle.pv_protocol.specs.Outcome.{named_here}
 use Rattle.pv_protocol.specs.Shown.{shown}
 use Rattle.pv_protocol.specs.State.{Entry, Grant, Running, Taken}
@@ -40,6 +42,10 @@ Shows site None item (Locked txn) = ⊥
 Shows site (Some running) item (Locked txn) = holder_of running.grants item ≡ Some txn
 Shows site None item (Cases value) = ⊥
 Shows site (Some running) item (Cases value) = (holder_of running.grants item ≡ None) × (value.now ≡ shown site.catalog site.records item)
+
+-- The item is the site's, and what the site shows of it names the transaction. A site that is down shows nothing.
+abbrev pub is_touched : {W : Type 0} → SiteState W → TxnId → ℕ → Bool
+is_touched site txn item = is_some site.running && (is_home site.catalog site.me item && names (shown site.catalog site.records item) txn)
 
 -- Nothing is left to come to the site: no grant and no entry stands, and no shown value names an outcome.
 pub record IsIdle {W : Type 0} (site : SiteState W) : Type 0 where

@@ -1,16 +1,19 @@
 // A site over a log: what it makes of an input, and what can be asked of it.
-ghost use Rattle.std.specs.Prelude.{◌≡◌, ◌↔◌, ◌<◌, true, false, All, IfOk, IfErr, IsTrue, is_some};
+ghost use Rattle.std.specs.Prelude.{◌≡◌, ◌↔◌, ◌<◌, ℕ, true, false, All, IfOk, IfErr, IsTrue, is_some};
+ghost use Rattle.std.specs.List.{AllPairs};
+ghost use Rattle.pv_base.specs.declared.catalog.ItemId as id;
 ghost use Rattle.pv_model.specs.Plan.{plan_of};
 ghost use Rattle.pv_protocol.specs.Committed.{entry_in};
 ghost use Rattle.pv_protocol.specs.Lock.{is_home};
 ghost use Rattle.pv_protocol.specs.Records.{is_prepared, known};
 ghost use Rattle.pv_protocol.specs.WellFormed.{CanRun};
-ghost use Rattle.pv_site.specs.Asked.{grant_held, grant_taken, voting_at, IsIdle, Shows};
+ghost use Rattle.pv_site.specs.Asked.{grant_held, grant_taken, is_touched, voting_at, IsIdle, Shows};
 ghost use Rattle.pv_site.specs.Inputs.{IsInputFor, IsSpelledFrom};
 ghost use Rattle.pv_site.specs.Opens.{Opens, log_in};
 ghost use Rattle.pv_site.specs.Resumes.{CanResume, Resumes, log_left};
 ghost use Rattle.pv_site.specs.Steps.{IsReady, Steps};
 ghost use Rattle.pv_site.specs.Values.{input_of};
+ghost use Rattle.pv_store.specs.StandingHere.{is_one_of};
 
 use crate::numbers::has_small_numbers;
 use crate::opening::{Loaded, load, setup_is_in_range, unopened};
@@ -244,6 +247,17 @@ impl<L: Log> Site<L> {
         ensures { result ≡ known self.now.records txn }
     {
         self.parts.store.known(txn)
+    }
+
+    /// The site's items whose shown values name the transaction, ascending: none where the site is down. It takes no memory.
+    pub fn touched(&self, txn: TxnId) -> &[ItemId]
+        ensures items { (item : ℕ) → is_one_of item result.now ≡ is_touched self.now txn item }
+        ensures ascending { AllPairs (λ (item later : id.ItemId). item.0 < later.0) result.now }
+    {
+        if self.down {
+            return &[];
+        }
+        self.parts.store.touched(txn)
     }
 
     /// Whether there is something that the site waits for: a grant or an entry stands, or a value that it shows names an outcome.

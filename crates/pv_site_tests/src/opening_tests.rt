@@ -4,7 +4,7 @@ ghost use Rattle.pv_base.specs.declared.limits.TheConstants.{MAX_JOURNAL, MAX_LE
 ghost use Rattle.pv_disk_model.specs.Size.{size_of};
 
 use crate::tests::{HERE, bytes_of, catalog};
-use pv_base::MAX_JOURNAL;
+use pv_base::{ItemId, MAX_JOURNAL, SiteId, TxnId};
 use pv_disk::{ListLog, Log, LogError};
 use pv_site::{OpenError, Site};
 use std::alloc::Global;
@@ -113,5 +113,28 @@ fn a_site_is_opened_in_the_next_epoch(rt: HostRuntime) -> Result<(), Fail> {
     for (contents, expected) in OPENINGS {
         assert_eq!(rt; opening(alloc, contents)?, *expected);
     }
+    Ok(())
+}
+
+// The first transaction of the first site.
+const T: TxnId = TxnId {
+    site: SiteId(0),
+    epoch: 1,
+    number: 0,
+};
+
+#[test]
+fn the_items_of_a_promise_are_told_by_its_transaction(rt: HostRuntime) -> Result<(), Fail> {
+    let alloc = rt.alloc();
+    let catalog = catalog(alloc, MAX_JOURNAL)?;
+    let contents = [
+        "01 00000001",
+        "02 00 00000001 00000000 01 00000000 0001 00 0000000000000005",
+    ];
+    let log = log_of(alloc, &contents)?;
+    let Ok(site) = Site::open(alloc, log, HERE, &catalog) else {
+        return Err("the site isn't opened".into());
+    };
+    assert_eq!(rt; site.touched(T), [ItemId(0)].as_slice());
     Ok(())
 }

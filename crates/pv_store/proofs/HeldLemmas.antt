@@ -52,12 +52,12 @@ replaced_at-some item (read ∷ reads) cases =
     some-if false new old = refl
 
 -- One element is put in place of another.
-set-same : {X : Type 0} (xs : List X) (i : ℕ) (x : X) → i < length xs → slice_get (set xs i x) i ≡ Some x
+pub set-same : {X : Type 0} (xs : List X) (i : ℕ) (x : X) → i < length xs → slice_get (set xs i x) i ≡ Some x
 set-same [] i x within = absurd (omega (arith, within))
 set-same (y ∷ ys) zero x within = refl
 set-same (y ∷ ys) (suc i) x within = set-same ys i x (omega (arith, within))
 
-set-other : {X : Type 0} (xs : List X) (i : ℕ) (x : X) (k : ℕ) → (i ≡ k → ⊥) → slice_get (set xs i x) k ≡ slice_get xs k
+pub set-other : {X : Type 0} (xs : List X) (i : ℕ) (x : X) (k : ℕ) → (i ≡ k → ⊥) → slice_get (set xs i x) k ≡ slice_get xs k
 set-other [] i x k apart = refl
 set-other (y ∷ ys) zero x zero apart = absurd (apart refl)
 set-other (y ∷ ys) zero x (suc k) apart = refl

@@ -1,8 +1,8 @@
 -- What the shown values of a site name.
-use Rattle.std.proofs.Common.{◌≡◌, ◌∙◌, ⊎_elim, zero, suc, ℕ, ℤ, ◌≤◌, ◌+◌, Bool, true, false, Some, None, Option, List, [], ◌∷◌, ◌++◌, ◌==◌, ◌||◌, length, take, refl, sym, ap, subst, arith}
+use Rattle.std.proofs.Common.{◌≡◌, ◌∙◌, ⊎_elim, zero, suc, ℕ, ◌≤◌, ◌+◌, Bool, true, false, Some, List, [], ◌∷◌, ◌++◌, ◌==◌, ◌||◌, length, take, refl, sym, ap, subst, arith}
 use Rattle.std.specs.Prelude.{◌↔◌, slice_get, filter, if◌then◌else◌, IsTrue}
 use Rattle.std.specs.List.{Contains, list_any}
-use Rattle.std.proofs.lemmas.Bool.{false≢true, or_cases, or_left, or_right, eqb-true}
+use Rattle.std.proofs.lemmas.Bool.{false≢true, or_cases, or_left, or_right}
 use Rattle.std.proofs.lemmas.Grind.{common_steps}
 use Rattle.std.proofs.lemmas.List.Elements.{All-contains, filter_passes}
 use Rattle.std.proofs.lemmas.Option.{none-some}
@@ -11,10 +11,9 @@ use Rattle.pv_base.proofs.ContainsLemmas.{Contains-first, Contains-behind, Conta
 use Rattle.pv_law_polyvalues.proofs.AscendingLemmas.{one-ascending}
 use Rattle.pv_base.specs.Assignment.{AreAscending, is_same_txn}
 use Rattle.pv_base.specs.Catalog.{Item, Declared}
-use Rattle.pv_base.specs.declared.catalog.ItemId.{ItemId}
 use Rattle.pv_base.specs.declared.txn.TxnId.{TxnId}
 use Rattle.pv_base.specs.Named.{names_of}
-use Rattle.pv_base.specs.Polyvalue.{Case, names}
+use Rattle.pv_base.specs.Polyvalue.{names}
 use Rattle.pv_format.specs.Record.{Record}
 use Rattle.pv_law_step.proofs.HomeLemmas.{items-home}
 use Rattle.pv_law_step.proofs.NameLists.{listed-names, names-listed, united}
@@ -22,19 +21,10 @@ use Rattle.pv_protocol.specs.Here.{Here}
 use Rattle.pv_protocol.specs.Lock.{is_home, is_of_site}
 use Rattle.pv_protocol.specs.Outcome.{is_named_here, items_from, items_here, named_here, names_shown}
 use Rattle.pv_protocol.specs.Shown.{shown}
-use Rattle.pv_store.specs.Held.{Values, AreShown, ArePlaced, does_name}
+use Rattle.pv_store.specs.Held.{ArePlaced}
 use Rattle.pv_store.specs.Kept.{IsStoreOf, Kept, Places, has_place, txns_of}
-use Rattle.pv_store.proofs.HeldLemmas.{shown-at}
-use Rattle.pv_store.proofs.SettlingLemmas.{held-home}
 
 -- What is held of a store is held of the site that it is of.
-
-pub shown-of : (kept : Kept) (here : Here) → IsStoreOf here kept → (values : Values) → AreShown kept.catalog kept.site kept.records kept.records values
-    → AreShown here.setup.catalog here.me here.records here.records values
-shown-of kept here of values are =
-    subst (λ (records : List Record). AreShown here.setup.catalog here.me records records values) of.records
-    (subst (λ site. AreShown here.setup.catalog site kept.records kept.records values) of.site
-    (subst (λ (catalog : Declared). AreShown catalog kept.site kept.records kept.records values) of.catalog are))
 
 pub placed-of : (kept : Kept) (here : Here) → IsStoreOf here kept → ArePlaced kept.catalog kept.site kept.records kept.records kept.room.places
     → ArePlaced here.setup.catalog here.me here.records here.records kept.room.places
@@ -83,41 +73,6 @@ home-listed-in catalog site item home = subst (λ n. Contains (items_from site 0
 
 pub home-listed : (here : Here) (item : ℕ) → IsTrue (is_home here.setup.catalog here.me item) → Contains (items_here here) item
 home-listed here item home = subst (λ n. Contains (items_here here) n) (omega arith) (listed here.me 0 here.setup.catalog.items item home)
-
--- A transaction is named where a value names it that stands in the index.
-module _ (here : Here) (values : Values) (are : AreShown here.setup.catalog here.me here.records here.records values)
-    (places : Places) (placed : ArePlaced here.setup.catalog here.me here.records here.records places)
-    (txn : TxnId) (items : List ItemId) (found : (item : ℕ) → list_any (λ (other : ItemId). item == other.0) items ≡ has_place places txn item) where
-  abbrev names-at : ItemId → Bool
-  names-at item = does_name (slice_get values item.0) txn
-
-  held-by : (value : Option (Option (List (Case ℤ)))) → does_name value txn ≡ true → (cases : List (Case ℤ)) × (value ≡ Some (Some cases)) × (names cases txn ≡ true)
-  held-by (Some (Some cases)) is = (cases, refl, is)
-  held-by (Some None) is = absurd (false≢true is)
-  held-by None is = absurd (false≢true is)
-
-  to-shown : list_any names-at items ≡ true → list_any (λ item. names (shown here.setup.catalog here.records item) txn) (items_here here) ≡ true
-  to-shown is =
-      let one = any-has names-at items is in
-      let held = held-by (slice_get values one.0.0) one.2 in
-      let home = held-home here.setup.catalog here.me here.records here.records values are one.0.0 held.0 held.1 in
-      has-any (λ item. names (shown here.setup.catalog here.records item) txn) (items_here here) one.0.0 (home-listed here one.0.0 home.0)
-      (ap (λ (cases : List (Case ℤ)). names cases txn) (sym home.1) ∙ held.2)
-
-  from-shown : list_any (λ item. names (shown here.setup.catalog here.records item) txn) (items_here here) ≡ true → list_any names-at items ≡ true
-  from-shown is =
-      let one = any-has (λ item. names (shown here.setup.catalog here.records item) txn) (items_here here) is in
-      let home = items-home here one.0 one.1 in
-      let place = any-has (λ (other : ItemId). one.0 == other.0) items (found one.0 ∙ placed one.0 txn home one.2) in
-      let same : one.0 ≡ place.0.0 = eqb-true one.0 place.0.0 place.2 in
-      has-any names-at items place.0 place.1
-      (ap (λ (n : ℕ). does_name (slice_get values n) txn) (sym same)
-      ∙ ap (λ value. does_name value txn) (shown-at here.setup.catalog here.me here.records here.records values are one.0 home)
-      ∙ one.2)
-
-  pub named-is : list_any names-at items ≡ is_named_here here txn
-  unfolding is_named_here
-  named-is = both-ways (list_any names-at items) (is_named_here here txn) to-shown from-shown
 
 -- The list of the named.
 

@@ -57,3 +57,8 @@ pub none-told : (old more : Option Bool) → is_none (option_or old more) ≡ tr
 none-told None None is = refl
 none-told None (Some outcome) is = absurd (let no : ⊥ = cc in no)
 none-told (Some old) more is = absurd (let no : ⊥ = cc in no)
+
+-- What stands at a transaction goes where a record tells its outcome.
+pub untold-stay : (same commits had : Bool) → (if same then false else had) ≡ (is_none (if same then Some commits else None) && had)
+untold-stay true commits had = refl
+untold-stay false commits had = refl

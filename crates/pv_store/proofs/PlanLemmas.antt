@@ -515,6 +515,7 @@ planned-promise kept old more placed txn writes new after put room = record {
   shown_then = λ item home. same item ∙ sym (replaced item home);
   narrow = λ item home. subst (λ cases. length (names_of cases) ≤ HELD_NAMES) (sym (same item)) (after.narrow item home);
   placed = λ item t home named. by item t home (has_item item new) refl (subst (λ cases. IsTrue (names cases t)) (same item) named);
+  told = put;
   room = room;
 } where
   then_ : ℕ → List (Case ℤ)

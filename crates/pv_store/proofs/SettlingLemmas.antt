@@ -188,7 +188,8 @@ has-settled catalog site records txn outcome (first ∷ items) item home is =
 
 -- The change that settles a transaction's values is planned.
 pub planned-settle : (kept : Kept) (values : Values) → AreShown kept.catalog kept.site kept.records kept.records values → ArePlaced kept.catalog kept.site kept.records kept.records kept.room.places
-    → (txn : TxnId) (outcome : Bool) (items : List ℕ) → ((item : ℕ) → list_any (λ other. item == other) items ≡ has_place kept.room.places txn item) → 0 < kept.room.outcomes
+    → (txn : TxnId) (outcome : Bool) (items : List ℕ)
+    → ((item : ℕ) → IsTrue (is_home kept.catalog kept.site item) → IsTrue (names (shown kept.catalog kept.records item) txn) → list_any (λ other. item == other) items ≡ true) → 0 < kept.room.outcomes
     → IsPlannedOn kept (record { appended = outcome_known txn outcome; values = flat_map (settled_at kept.catalog kept.site kept.records txn outcome) items })
 planned-settle kept values are placed txn outcome items found room = record {
   here = All-weaker (λ (read : Read). IsTrue (is_home kept.catalog kept.site read.item) × (read.cases ≡ then_ read.item)) (λ (read : Read). IsTrue (is_home kept.catalog kept.site read.item))
@@ -198,6 +199,10 @@ planned-settle kept values are placed txn outcome items found room = record {
       (λ absent. sym (shown-unnamed kept.catalog kept.records txn outcome item (unnamed item home absent))));
   narrow = λ item home. omega (arith, settled-narrow kept.catalog kept.records txn outcome item, are.narrow item home);
   placed = λ item t home named. placed item t home (settled-placed kept.catalog kept.records txn outcome item t named);
+  told = All-weaker (λ (read : Read). IsTrue (is_home kept.catalog kept.site read.item) × (read.cases ≡ then_ read.item))
+      (λ (read : Read). (t : TxnId) → IsTrue (names read.cases t) → has_place kept.room.places t read.item ≡ true)
+      (λ read is t named. placed read.item t is.0 (settled-placed kept.catalog kept.records txn outcome read.item t (subst (λ (cases : List (Case ℤ)). IsTrue (names cases t)) is.1 named)))
+      reads each;
   room = room;
 } where
   reads : List Read
@@ -212,5 +217,5 @@ planned-settle kept values are placed txn outcome items found room = record {
   unnamed : (item : ℕ) → IsTrue (is_home kept.catalog kept.site item) → has_item item reads ≡ false → names (shown kept.catalog kept.records item) txn ≡ false
   unnamed item home absent = by (names (shown kept.catalog kept.records item) txn) refl where
     by : (test : Bool) → names (shown kept.catalog kept.records item) txn ≡ test → test ≡ false
-    by true named = absurd (false≢true (sym absent ∙ has-settled kept.catalog kept.site kept.records txn outcome items item home (found item ∙ placed item txn home named)))
+    by true named = absurd (false≢true (sym absent ∙ has-settled kept.catalog kept.site kept.records txn outcome items item home (found item home named)))
     by false not-named = refl

@@ -71,3 +71,7 @@ replaced_at item (read ∷ reads) value = replaced_at item reads (if read.item =
 abbrev pub does_name : Option (Option (List (Case ℤ))) → TxnId → Bool
 does_name (Some (Some cases)) txn = names cases txn
 does_name other txn = false
+
+-- By transaction stand exactly the items whose values name it.
+abbrev pub AreTouched : Values → Places → Type 0
+AreTouched values touched = (item : ℕ) (txn : TxnId) → has_place touched txn item ≡ does_name (slice_get values item) txn

@@ -4,4 +4,5 @@ pub mod PlacesView
 pub mod Promise
 pub mod Refusals
 pub mod Settling
+pub mod StandingHere
 pub mod Writes

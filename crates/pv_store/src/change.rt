@@ -2,8 +2,8 @@
 ghost use Rattle.std.specs.Prelude.{◌≡◌};
 ghost use Rattle.pv_replay.specs.Values.{record_of};
 
+use crate::named::NewValue;
 use pv_replay::Record;
-use pv_tree::Read;
 use std::marker::Model;
 
 /// One more record, and what it changes. It is planned on a store, takes its memory then, and is applied to the same contents.
@@ -12,7 +12,7 @@ pub struct StoreChange {
     /// The record.
     pub(crate) record: Record,
     /// The new values of the items that it changes.
-    pub(crate) values: Vec<Read>,
+    pub(crate) values: Vec<NewValue>,
 }
 
 impl Model for StoreChange {

@@ -2,6 +2,7 @@
 ghost use Rattle.std.specs.Prelude.{◌≡◌, ◌<◌, [], length, IfOk};
 ghost use Rattle.pv_store.specs.Held.{AreShown, value_here};
 
+use crate::named::Named;
 use pv_base::{Catalog, ItemId, NoMemory, SiteId};
 use pv_tree::Poly;
 use std::alloc::Global;
@@ -11,7 +12,7 @@ pub(crate) fn declared_values(
     alloc: Global,
     catalog: &Catalog,
     site: SiteId,
-) -> Result<Vec<Option<Poly<i64>>>, NoMemory>
+) -> Result<Vec<Option<Named>>, NoMemory>
     ensures { IfOk result (λ values. AreShown catalog.now site.0 [] [] values.items) }
 {
     let mut values = Vec::with_capacity(alloc, catalog.len() as usize)?;
@@ -27,12 +28,14 @@ fn declared_value(
     catalog: &Catalog,
     site: SiteId,
     item: ItemId,
-) -> Result<Option<Poly<i64>>, NoMemory>
+) -> Result<Option<Named>, NoMemory>
     requires { item.0 < length catalog.now.items }
     ensures { IfOk result (λ value. value ≡ value_here catalog.now site.0 [] [] item.0) }
 {
     if catalog.site_of(item) != site {
         return Ok(None);
     }
-    Ok(Some(Poly::sure(alloc, catalog.declared(item))?))
+    let value = Poly::sure(alloc, catalog.declared(item))?;
+    let named = Named::of(alloc, value)?;
+    Ok(Some(named))
 }

@@ -4,12 +4,13 @@ ghost use Rattle.pv_base.specs.Catalog.{Declared};
 ghost use Rattle.pv_format.specs.Record as model;
 ghost use Rattle.pv_format.specs.Record.{prepared};
 ghost use Rattle.pv_replay.specs.Values.{record_of, records_of};
-ghost use Rattle.pv_store.specs.Held.{AreKnown, ArePlaced, ArePrepared, AreShown};
+ghost use Rattle.pv_store.specs.Held.{AreKnown, ArePlaced, ArePrepared, AreShown, AreTouched};
 ghost use Rattle.pv_store.specs.Refusals.{IsRefusedFor, first_too_many, site_items, too_many_at, too_many_in};
 ghost use Rattle.pv_store.specs.Writes.{IsPromising};
 
 use crate::StoreError;
 use crate::dependents::Dependents;
+use crate::named::Named;
 use crate::note::note;
 use crate::outcomes::Outcomes;
 use crate::places::place_all;
@@ -18,7 +19,7 @@ use crate::values::put_values;
 use crate::writes::values_after;
 use pv_base::{History, NoMemory, TxnId};
 use pv_replay::Record;
-use pv_tree::{Poly, Read};
+use pv_tree::Read;
 use std::alloc::Global;
 
 /// What records say of their own transactions.
@@ -59,7 +60,7 @@ pub(crate) fn note_all(alloc: Global, records: &[Record]) -> Result<Noted, NoMem
 #[derive(Drop)]
 pub(crate) struct Loaded {
     /// The values, by item.
-    pub(crate) values: Vec<Option<Poly<i64>>>,
+    pub(crate) values: Vec<Option<Named>>,
     /// The places.
     pub(crate) dependents: Dependents,
 }
@@ -68,14 +69,16 @@ pub(crate) struct Loaded {
 pub(crate) fn values_of(
     alloc: Global,
     outcomes: &Outcomes,
-    declared: &[Option<Poly<i64>>],
+    declared: &[Option<Named>],
     records: &[Record],
 ) -> Result<Loaded, StoreError>
     requires { (catalog : Declared) × (site : ℕ) × AreKnown outcomes.now.outcomes (records_of records.now) × AreShown catalog site [] [] declared.now }
     ensures values { (catalog : Declared) (site : ℕ) → AreKnown outcomes.now.outcomes (records_of records.now) → AreShown catalog site [] [] declared.now →
         IfOk result (λ loaded. AreShown catalog site (records_of records.now) (records_of records.now) loaded.values.items) }
     ensures places { (catalog : Declared) (site : ℕ) → AreKnown outcomes.now.outcomes (records_of records.now) → AreShown catalog site [] [] declared.now →
-        IfOk result (λ loaded. ArePlaced catalog site (records_of records.now) (records_of records.now) loaded.dependents) }
+        IfOk result (λ loaded. ArePlaced catalog site (records_of records.now) (records_of records.now) loaded.dependents.places) }
+    ensures touched { (catalog : Declared) (site : ℕ) → AreShown catalog site [] [] declared.now →
+        IfOk result (λ loaded. AreTouched loaded.values.items loaded.dependents.touched) }
     ensures answer { (catalog : Declared) (site : ℕ) → AreKnown outcomes.now.outcomes (records_of records.now) → AreShown catalog site [] [] declared.now →
         IsRefusedFor (too_many_in catalog site (records_of records.now)) result }
 {
@@ -91,7 +94,7 @@ pub(crate) fn values_of(
 fn put_record(
     alloc: Global,
     outcomes: &Outcomes,
-    values: &mut [Option<Poly<i64>>],
+    values: &mut [Option<Named>],
     dependents: &mut Dependents,
     new: &Record,
 ) -> Result<(), StoreError>
@@ -99,7 +102,8 @@ fn put_record(
     ensures values { (catalog : Declared) (site : ℕ) (records front : List model.Record) → IsPromising catalog site records front outcomes.now.outcomes values.old →
         OnOk result (AreShown catalog site records (front ++ record_of new.now ∷ []) values.new) }
     ensures places { (catalog : Declared) (site : ℕ) (records front : List model.Record) → IsPromising catalog site records front outcomes.now.outcomes values.old →
-        ArePlaced catalog site records front dependents.old → OnOk result (ArePlaced catalog site records (front ++ record_of new.now ∷ []) dependents.new) }
+        ArePlaced catalog site records front dependents.old.places → OnOk result (ArePlaced catalog site records (front ++ record_of new.now ∷ []) dependents.new.places) }
+    ensures touched { AreTouched values.old dependents.old.touched → OnOk result (AreTouched values.new dependents.new.touched) }
     ensures answer { (catalog : Declared) (site : ℕ) (records front : List model.Record) → IsPromising catalog site records front outcomes.now.outcomes values.old →
         IsRefusedFor (too_many_at catalog site records front (record_of new.now)) result }
 {
@@ -116,7 +120,7 @@ fn put_record(
 fn put_writes(
     alloc: Global,
     outcomes: &Outcomes,
-    values: &mut [Option<Poly<i64>>],
+    values: &mut [Option<Named>],
     dependents: &mut Dependents,
     txn: TxnId,
     writes: &[Read],
@@ -125,21 +129,19 @@ fn put_writes(
     ensures values { (catalog : Declared) (site : ℕ) (records front : List model.Record) → IsPromising catalog site records front outcomes.now.outcomes values.old →
         OnOk result (AreShown catalog site records (front ++ prepared txn writes.now ∷ []) values.new) }
     ensures places { (catalog : Declared) (site : ℕ) (records front : List model.Record) → IsPromising catalog site records front outcomes.now.outcomes values.old →
-        ArePlaced catalog site records front dependents.old → OnOk result (ArePlaced catalog site records (front ++ prepared txn writes.now ∷ []) dependents.new) }
+        ArePlaced catalog site records front dependents.old.places → OnOk result (ArePlaced catalog site records (front ++ prepared txn writes.now ∷ []) dependents.new.places) }
+    ensures touched { AreTouched values.old dependents.old.touched → OnOk result (AreTouched values.new dependents.new.touched) }
     ensures answer { (catalog : Declared) (site : ℕ) (records front : List model.Record) → IsPromising catalog site records front outcomes.now.outcomes values.old →
         IsRefusedFor (first_too_many catalog records (front ++ prepared txn writes.now ∷ []) (site_items catalog site)) result }
 {
     let after = values_after(alloc, outcomes, values, txn, writes)?;
-    place_all(alloc, dependents, &after)?;
-    put_values(values, after);
+    place_all(dependents, &after)?;
+    put_values(values, dependents, after);
     Ok(())
 }
 
 // The same values, in memory of their own.
-fn copy_values(
-    alloc: Global,
-    values: &[Option<Poly<i64>>],
-) -> Result<Vec<Option<Poly<i64>>>, NoMemory>
+fn copy_values(alloc: Global, values: &[Option<Named>]) -> Result<Vec<Option<Named>>, NoMemory>
     ensures { IfOk result (λ copy. copy.items ≡ values.now) }
 {
     let mut copy = Vec::with_capacity(alloc, values.len())?;
@@ -150,7 +152,7 @@ fn copy_values(
 }
 
 // The same value, if there is one.
-fn copy_value(alloc: Global, value: &Option<Poly<i64>>) -> Result<Option<Poly<i64>>, NoMemory>
+fn copy_value(alloc: Global, value: &Option<Named>) -> Result<Option<Named>, NoMemory>
     ensures { IfOk result (λ copy. copy ≡ value.now) }
 {
     match value {

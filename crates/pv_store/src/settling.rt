@@ -6,19 +6,19 @@ ghost use Rattle.pv_format.specs.Record.{Record};
 ghost use Rattle.pv_store.specs.Held.{AreShown};
 ghost use Rattle.pv_store.specs.Settling.{settled_at};
 
+use crate::named::{Named, NewValue};
 use crate::values::held;
 use pv_base::{ItemId, NoMemory, TxnId};
-use pv_tree::{Poly, Read};
 use std::alloc::Global;
 
 /// The values of these items once the transaction's outcome is known. Takes time in proportion to their cases, times the names.
 pub(crate) fn settled_values(
     alloc: Global,
-    values: &[Option<Poly<i64>>],
+    values: &[Option<Named>],
     items: &[ItemId],
     txn: TxnId,
     commits: bool,
-) -> Result<Vec<Read>, NoMemory>
+) -> Result<Vec<NewValue>, NoMemory>
     ensures { (catalog : Declared) (site : ℕ) (records : List Record) → AreShown catalog site records records values.now →
         IfOk result (λ settled. settled.items ≡ flat_map (settled_at catalog site records txn commits) (map (λ item. item.0) items.now)) }
 {
@@ -32,8 +32,8 @@ pub(crate) fn settled_values(
 // Appends the item's value once the outcome is known, if the item has a value.
 fn push_settled(
     alloc: Global,
-    settled: &mut Vec<Read>,
-    values: &[Option<Poly<i64>>],
+    settled: &mut Vec<NewValue>,
+    values: &[Option<Named>],
     item: ItemId,
     txn: TxnId,
     commits: bool,
@@ -41,9 +41,10 @@ fn push_settled(
     ensures { (catalog : Declared) (site : ℕ) (records : List Record) → AreShown catalog site records records values.now →
         OnOk result (settled.new.items ≡ settled.old.items ++ settled_at catalog site records txn commits item.0) }
 {
-    if let Some(value) = held(values, item) {
-        let value = value.settle(alloc, txn, commits)?;
-        settled.push(Read { item, value })?;
+    if let Some(old) = held(values, item) {
+        let value = old.value().settle(alloc, txn, commits)?;
+        let named = Named::of(alloc, value)?;
+        settled.push(NewValue { item, value: named })?;
     }
     Ok(())
 }

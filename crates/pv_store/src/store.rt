@@ -16,13 +16,14 @@ ghost use Rattle.pv_replay.specs.Values.{records_of};
 use crate::declared::declared_values;
 use crate::dependents::Dependents;
 use crate::load::{note_all, values_of};
+use crate::named::Named;
 use crate::note::note;
 use crate::outcomes::Outcomes;
 use crate::places::place_all;
 use crate::promise::settled;
 use crate::promises::Promises;
 use crate::settling::settled_values;
-use crate::values::{names_any, put_values, value_of};
+use crate::values::{put_values, value_of};
 use crate::writes::{copy_reads, values_after};
 use crate::{StoreChange, StoreError};
 use pv_base::{Catalog, Exact, History, ItemId, NoMemory, Remembered, SiteId, TxnId};
@@ -48,12 +49,12 @@ pub struct Store {
     /// The records, for the proof.
     records: History<Record>,
     /// The shown value of each item of the site, by the item's number. Items of other sites have none.
-    values: Vec<Option<Poly<i64>>>,
+    values: Vec<Option<Named>>,
     /// The transactions that are prepared.
     promises: Promises,
     /// The outcomes that are known.
     outcomes: Outcomes,
-    /// By transaction whose outcome isn't known, the items whose values may name it.
+    /// By transaction whose outcome isn't known, the items whose values name it.
     dependents: Dependents,
 }
 
@@ -63,26 +64,30 @@ impl Model for Store {
 
     ghost Value = { Kept };
 
-    ghost use Rattle.pv_store.specs.Held.{AreShown, ArePrepared, AreKnown, ArePlaced};
+    ghost use Rattle.pv_store.specs.Held.{AreShown, ArePrepared, AreKnown, ArePlaced, AreTouched};
 
     ghost view = { λ s. record {
       catalog = s.catalog.value;
       site = s.site.0;
       records = records_of s.records.items;
-      room = record { promises = s.promises.room; outcomes = s.outcomes.room; places = s.dependents };
+      room = record { promises = s.promises.room; outcomes = s.outcomes.room; places = s.dependents.places };
     } };
 
     ghost invariant = { λ s. record {
       values : AreShown s.catalog.value s.site.0 (records_of s.records.items) (records_of s.records.items) s.values.items;
       prepared : ArePrepared s.promises.txns (records_of s.records.items);
       known : AreKnown s.outcomes.outcomes (records_of s.records.items);
-      placed : ArePlaced s.catalog.value s.site.0 (records_of s.records.items) (records_of s.records.items) s.dependents;
+      placed : ArePlaced s.catalog.value s.site.0 (records_of s.records.items) (records_of s.records.items) s.dependents.places;
+      touched : AreTouched s.values.items s.dependents.touched;
     } };
 }
 
 impl Store {
     ghost use Rattle.std.specs.Prelude.{◌↔◌, false};
     ghost use Rattle.pv_store.specs.Kept.{HasSameContents, IsPlannedOn, IsStoreOf, Planned};
+    ghost use Rattle.std.specs.Prelude.{◌&&◌, ℕ};
+    ghost use Rattle.pv_base.specs.declared.catalog.ItemId as id;
+    ghost use Rattle.pv_store.specs.StandingHere.{is_one_of};
     ghost use Rattle.pv_store.specs.Refusals.{AnswersFor, ReportsWide, too_many_in, too_many_with};
 
     /// The store of a site without records: each of its items is shown as declared. Takes time in proportion to the catalog's items.
@@ -133,7 +138,7 @@ impl Store {
         requires { IsTrue (is_home self.now.catalog self.now.site item.0) }
         ensures { result.now ≡ shown self.now.catalog self.now.records item.0 }
     {
-        value_of(&self.values, item)
+        value_of(&self.values, item).value()
     }
 
     /// Plans to prepare the transaction: it is to write these values, of ascending items of the site, if it commits.
@@ -153,7 +158,7 @@ impl Store {
         ensures kept { (change : Planned) → IsPlannedOn self.old change → IsPlannedOn self.new change }
     {
         let values = values_after(self.alloc, &self.outcomes, &self.values, txn, writes)?;
-        place_all(self.alloc, &mut self.dependents, &values)?;
+        place_all(&mut self.dependents, &values)?;
         self.promises.reserve(1)?;
         Ok(StoreChange {
             record: Record::Prepared {
@@ -175,7 +180,7 @@ impl Store {
         let values = settled_values(
             self.alloc,
             &self.values,
-            self.dependents.items(txn),
+            self.dependents.touched(txn),
             txn,
             commits,
         )?;
@@ -203,7 +208,7 @@ impl Store {
         ensures { self.new ≡ record self.old { records = self.old.records ++ change.appended ∷ []; room = self.new.room } }
     {
         let StoreChange { record, values } = change;
-        put_values(&mut self.values, values);
+        put_values(&mut self.values, &mut self.dependents, values);
         note(
             &mut self.promises,
             &mut self.outcomes,
@@ -237,12 +242,19 @@ impl Store {
         settled(alloc, &self.outcomes, value)
     }
 
-    /// Whether the value of an item of the site names the transaction. Takes time in proportion to the values that named it when it was
-    /// prepared, and their cases.
+    /// The items of the site whose shown values name the transaction, ascending. It takes no memory.
+    pub fn touched(&self, txn: TxnId) -> &[ItemId]
+        ensures items { (item : ℕ) → is_one_of item result.now ≡ (is_home self.now.catalog self.now.site item && names (shown self.now.catalog self.now.records item) txn) }
+        ensures ascending { AllPairs (λ (item later : id.ItemId). item.0 < later.0) result.now }
+    {
+        self.dependents.touched(txn)
+    }
+
+    /// Whether the value of an item of the site names the transaction.
     pub fn named(&self, txn: TxnId) -> bool
         ensures { (here : Here) → IsStoreOf here self.now → result ≡ is_named_here here txn }
     {
-        names_any(&self.values, self.dependents.items(txn), txn)
+        !self.touched(txn).is_empty()
     }
 
     /// Whether the value of an item of the site names any transaction.

@@ -8,11 +8,12 @@ ghost use Rattle.pv_store.specs.Refusals.{IsRefusedFor, first_too_many, site_ite
 ghost use Rattle.pv_store.specs.Writes.{AreAfter, AreFirst, IsPromising, after_write, held_writes, is_held, items_of, with_held, with_write};
 
 use crate::StoreError;
+use crate::named::{Named, NewValue};
 use crate::outcomes::Outcomes;
 use crate::promise::promised;
 use crate::values::value_of;
 use pv_base::{ItemId, NoMemory, TxnId};
-use pv_tree::{Poly, Read};
+use pv_tree::Read;
 use std::alloc::Global;
 
 /// The new values of the site's items that the transaction's record of these writes changes. Takes time in proportion to the cases of the
@@ -20,10 +21,10 @@ use std::alloc::Global;
 pub(crate) fn values_after(
     alloc: Global,
     outcomes: &Outcomes,
-    values: &[Option<Poly<i64>>],
+    values: &[Option<Named>],
     txn: TxnId,
     writes: &[Read],
-) -> Result<Vec<Read>, StoreError>
+) -> Result<Vec<NewValue>, StoreError>
     ensures values { (catalog : Declared) (site : ℕ) (records front : List Record) → IsPromising catalog site records front outcomes.now.outcomes values.now →
         IfOk result (λ new. AreAfter catalog site records front txn writes.now new.items) }
     ensures answer { (catalog : Declared) (site : ℕ) (records front : List Record) → IsPromising catalog site records front outcomes.now.outcomes values.now →
@@ -37,7 +38,7 @@ pub(crate) fn values_after(
 // looked for from the front.
 fn held_writes<'a>(
     alloc: Global,
-    values: &[Option<Poly<i64>>],
+    values: &[Option<Named>],
     writes: &'a [Read],
 ) -> Result<Vec<&'a Read>, NoMemory>
     ensures { IfOk result (λ found. map (λ write. write.now) found.items ≡ held_writes values.now [] writes.now) }
@@ -52,7 +53,7 @@ fn held_writes<'a>(
 // Puts the write in its place, if its item has a value here and isn't there yet.
 fn push_held<'a>(
     found: &mut Vec<&'a Read>,
-    values: &[Option<Poly<i64>>],
+    values: &[Option<Named>],
     write: &'a Read,
 ) -> Result<(), NoMemory>
     ensures { OnOk result (map (λ write. write.now) found.new.items ≡ with_held values.now write.now (map (λ write. write.now) found.old.items)) }
@@ -99,10 +100,10 @@ fn place_for(found: &[&Read], item: ItemId) -> Option<usize>
 fn promised_values(
     alloc: Global,
     outcomes: &Outcomes,
-    values: &[Option<Poly<i64>>],
+    values: &[Option<Named>],
     txn: TxnId,
     writes: &[&Read],
-) -> Result<Vec<Read>, StoreError>
+) -> Result<Vec<NewValue>, StoreError>
     requires { All (λ write. IsTrue (is_held (slice_get values.now write.item))) (map (λ write. write.now) writes.now) }
     ensures values { (catalog : Declared) (site : ℕ) (records front : List Record) (all : List model.Read) →
         IsPromising catalog site records front outcomes.now.outcomes values.now →
@@ -116,10 +117,11 @@ fn promised_values(
     let mut new = Vec::with_capacity(alloc, writes.len())?;
     for write in writes {
         let old = value_of(values, write.item);
-        let value = promised(alloc, outcomes, txn, &write.value, old)?;
-        new.push(Read {
+        let value = promised(alloc, outcomes, txn, &write.value, old.value())?;
+        let named = Named::of(alloc, value)?;
+        new.push(NewValue {
             item: write.item,
-            value,
+            value: named,
         })?;
     }
     Ok(new)

@@ -154,6 +154,7 @@ fn a_promise_is_shown_with_both_outcomes(rt: HostRuntime) -> Result<(), Fail> {
     assert!(rt; is_sure(store.show(B).cases(), 2));
     let mentioned = store.mentioned()?;
     assert_eq!(rt; mentioned.as_slice(), [HERE].as_slice());
+    assert_eq!(rt; store.touched(HERE), [A].as_slice());
     Ok(())
 }
 
@@ -189,6 +190,7 @@ fn a_commit_leaves_the_new_value(rt: HostRuntime) -> Result<(), Fail> {
     settle(&mut store, HERE, true)?;
     assert!(rt; is_sure(store.show(A).cases(), 5));
     assert!(rt; store.mentioned()?.is_empty());
+    assert!(rt; store.touched(HERE).is_empty());
     let value = sixty_or_fifty(rt.alloc())?;
     let settled = store.settled(rt.alloc(), &value)?;
     assert!(rt; is_sure(settled.cases(), 60));

@@ -16,8 +16,8 @@ pub returns : goal.returns
 returns c =
     let home = declared-home c.args.catalog.now c.args.site.0 c.args.item.0 c.site_of.result.0 c.site_of.ensures ∙ not-not (c.site_of.result.0 == c.args.site.0) c.if-ne.ensures in
     let fits : FitsSigned w64 c.declared.result = search rules in
-    let values : (a : List TxnId) → value_at c.in_ok-sure.field-0 a ≡ Some c.declared.result =
-    λ a. c.in_ok-sure.ensures.value a ∙ ap Some (to_z-of_z w64 c.declared.result fits) in
-    let shown = declared-shown c.args.catalog.now c.args.item.0 c.declared.result c.declared.ensures c.in_ok-sure.field-0 c.in_ok-sure.ensures.polyvalue values in
-    ap Some shown
+    let values : (a : List TxnId) → value_at c.in_ok-value.value a ≡ Some c.declared.result =
+    λ a. c.in_ok-value.ensures.value a ∙ ap Some (to_z-of_z w64 c.declared.result fits) in
+    let shown = declared-shown c.args.catalog.now c.args.item.0 c.declared.result c.declared.ensures c.in_ok-value.value c.in_ok-value.ensures.polyvalue values in
+    ap Some (c.in_ok-named.ensures ∙ shown)
     ∙ ap (λ (test : Bool). if test then Some (shown_within c.args.catalog.now [] [] c.args.item.0) else None) (sym home)

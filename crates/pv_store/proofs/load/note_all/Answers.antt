@@ -9,4 +9,4 @@ note-requires c =
     let some : c.loop-record.record-index < length c.args.records.now = c.loop-record-test.true in
     let promises = c.loop-record.invariant.promises_room in
     let outcomes = c.loop-record.invariant.outcomes_room in
-    room-for-any (record { promises = c.loop-record.promises.room; outcomes = c.loop-record.outcomes.room; places = c.loop-record.unnamed }) (record_of c.record-item.result) (omega (arith, some, promises)) (omega (arith, some, outcomes))
+    room-for-any (record { promises = c.loop-record.promises.room; outcomes = c.loop-record.outcomes.room; places = c.loop-record.unnamed.places }) (record_of c.record-item.result) (omega (arith, some, promises)) (omega (arith, some, outcomes))

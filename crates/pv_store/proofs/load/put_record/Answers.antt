@@ -13,8 +13,8 @@ returns-in-Epoch-clause-values c = λ catalog site records front is.
 
 pub returns-in-Epoch-clause-places : goal.returns-in-Epoch-clause-places
 returns-in-Epoch-clause-places c = λ catalog site records front is placed.
-    subst (λ (last : model.Record). ArePlaced catalog site records (front ++ last ∷ []) c.args.dependents.now) (sym (ap record_of c.in-Epoch.is))
-    (epoch-placed catalog site records front c.in-Epoch.field-0 c.args.dependents.now placed)
+    subst (λ (last : model.Record). ArePlaced catalog site records (front ++ last ∷ []) c.args.dependents.now.places) (sym (ap record_of c.in-Epoch.is))
+    (epoch-placed catalog site records front c.in-Epoch.field-0 c.args.dependents.now.places placed)
 
 pub returns-in-Outcome-clause-values : goal.returns-in-Outcome-clause-values
 returns-in-Outcome-clause-values c = λ catalog site records front is.
@@ -23,5 +23,5 @@ returns-in-Outcome-clause-values c = λ catalog site records front is.
 
 pub returns-in-Outcome-clause-places : goal.returns-in-Outcome-clause-places
 returns-in-Outcome-clause-places c = λ catalog site records front is placed.
-    subst (λ (last : model.Record). ArePlaced catalog site records (front ++ last ∷ []) c.args.dependents.now) (sym (ap record_of c.in-Outcome.is))
-    (outcome-placed catalog site records front c.in-Outcome.txn c.in-Outcome.commits c.args.dependents.now placed)
+    subst (λ (last : model.Record). ArePlaced catalog site records (front ++ last ∷ []) c.args.dependents.now.places) (sym (ap record_of c.in-Outcome.is))
+    (outcome-placed catalog site records front c.in-Outcome.txn c.in-Outcome.commits c.args.dependents.now.places placed)

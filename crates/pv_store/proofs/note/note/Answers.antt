@@ -1,11 +1,14 @@
 -- By the kind of record.
-use Rattle.std.proofs.Common.{◌≡◌, ◌∙◌, [], ◌∷◌, ◌++◌, List, ap, sym}
+use Rattle.std.proofs.Common.{◌≡◌, ◌∙◌, [], ◌∷◌, ◌++◌, ◌&&◌, List, ap, sym}
+use Rattle.std.specs.Prelude.{is_none}
+use Rattle.pv_base.specs.Assignment.{is_same_txn}
 use Rattle.pv_base.specs.declared.txn.TxnId.{TxnId}
 use Rattle.pv_format.specs.Record as model
 use Rattle.pv_law_values.proofs.RecordsMore.{known-epoch, known-promise, is_prepared-epoch, is_prepared-outcome}
 use Rattle.pv_protocol.specs.Records.{known, is_prepared}
 use Rattle.pv_replay.specs.Values.{record_of}
-use Rattle.pv_store.proofs.NoteLemmas.{known-with, prepared-more}
+use Rattle.pv_store.specs.Kept.{has_place}
+use Rattle.pv_store.proofs.NoteLemmas.{known-with, prepared-more, untold-stay}
 use Rattle.pv_store.proofs.note.note.Goals as goal
 
 -- what the records say of a transaction's promise and outcome, by their last one
@@ -42,3 +45,9 @@ pub returns-in-Outcome-clause-known : goal.returns-in-Outcome-clause-known
 returns-in-Outcome-clause-known c = λ records are txn.
     known-with c.args.outcomes.now.outcomes c.add-in-Outcome.new.self.outcomes c.in-Outcome.txn c.in-Outcome.commits c.add-in-Outcome.ensures.added records are txn
     ∙ known-as records _ _ (ap record_of c.in-Outcome.is) txn
+
+pub returns-in-Outcome-clause-touched : goal.returns-in-Outcome-clause-touched
+returns-in-Outcome-clause-touched c = λ txn item.
+    c.remove.ensures.touched txn item
+    ∙ untold-stay (is_same_txn txn c.in-Outcome.txn) c.in-Outcome.commits (has_place c.args.dependents.now.touched txn item)
+    ∙ ap (λ (last : model.Record). is_none (known (last ∷ []) txn) && has_place c.args.dependents.now.touched txn item) (sym (ap record_of c.in-Outcome.is))

@@ -9,6 +9,7 @@ use Rattle.pv_store.proofs.places.place_all.Given as goal
 
 abbrev pub invariant-loop-value : goal.invariant-loop-value
 invariant-loop-value l = record {
-  more : (other : TxnId) (there : ℕ) → has_place l.initial.dependents other there ≡ true → has_place l.dependents other there ≡ true;
-  placed : All (λ (value : Read). (txn : TxnId) → IsTrue (names value.cases txn) → has_place l.dependents txn value.item ≡ true) (take l.value-index l.values);
+  more : (other : TxnId) (there : ℕ) → has_place l.initial.dependents.places other there ≡ true → has_place l.dependents.places other there ≡ true;
+  placed : All (λ (value : Read). (txn : TxnId) → IsTrue (names value.cases txn) → has_place l.dependents.places txn value.item ≡ true) (take l.value-index l.values);
+  touched : (other : TxnId) (there : ℕ) → has_place l.dependents.touched other there ≡ has_place l.initial.dependents.touched other there;
 }

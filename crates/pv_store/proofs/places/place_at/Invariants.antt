@@ -7,6 +7,7 @@ use Rattle.pv_store.proofs.places.place_at.Given as goal
 
 abbrev pub invariant-loop-txn : goal.invariant-loop-txn
 invariant-loop-txn l = record {
-  more : (other : TxnId) (there : ℕ) → has_place l.initial.dependents other there ≡ true → has_place l.dependents other there ≡ true;
-  placed : All (λ txn. has_place l.dependents txn l.item.0 ≡ true) (take l.txn-index l.txns);
+  more : (other : TxnId) (there : ℕ) → has_place l.initial.dependents.places other there ≡ true → has_place l.dependents.places other there ≡ true;
+  placed : All (λ txn. has_place l.dependents.places txn l.item.0 ≡ true) (take l.txn-index l.txns);
+  touched : (other : TxnId) (there : ℕ) → has_place l.dependents.touched other there ≡ has_place l.initial.dependents.touched other there;
 }

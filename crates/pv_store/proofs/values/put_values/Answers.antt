@@ -1,40 +1,56 @@
 -- One value after another is put in its place.
-use Rattle.std.proofs.Common.{◌≡◌, ◌∙◌, ◌<◌, ℕ, ℤ, [], ◌∷◌, Option, None, Some, List, length, arith, ap, sym, refl, subst}
-use Rattle.std.specs.Prelude.{slice_get, All}
+use Rattle.std.proofs.Common.{◌≡◌, ◌∙◌, ◌<◌, ℕ, ℤ, true, [], ◌∷◌, Option, None, Some, List, length, arith, ap, sym, refl, subst}
+use Rattle.std.specs.Prelude.{slice_get, All, IsTrue}
 use Rattle.std.specs.Option.{option_map}
-use Rattle.pv_base.specs.Polyvalue.{Case}
+use Rattle.std.proofs.lemmas.List.Elements.{All-head, All-tail}
+use Rattle.pv_base.specs.declared.txn.TxnId.{TxnId}
+use Rattle.pv_base.specs.Polyvalue.{Case, names}
 use Rattle.pv_model.specs.Alternatives.{Read}
 use Rattle.pv_store.specs.Held.{replaced_at}
-use Rattle.pv_store.proofs.HeldLemmas.{puts-step}
+use Rattle.pv_store.specs.Kept.{Places, has_place}
+use Rattle.pv_store.proofs.HeldLemmas.{Puts, puts-step}
 use Rattle.pv_store.proofs.values.put_values.Goals as goal
 
-pub loop-read-init : goal.loop-read-init
-loop-read-init c =
-    let all = c.into_iter-read-iterator.ensures.into_iter_gives.0 in
+abbrev IsPlaced : Places → Read → Type 0
+IsPlaced places read = (txn : TxnId) → IsTrue (names read.cases txn) → has_place places txn read.item ≡ true
+
+pub loop-value-init : goal.loop-value-init
+loop-value-init c =
+    let all = c.into_iter-value-iterator.ensures.into_iter_gives.0 in
     record {
-      within = subst (λ (reads : List Read). All (λ (read : Read). read.item < length c.args.values.now) reads) (sym all) c.requires;
-      same = λ item. ap (λ (reads : List Read). option_map (replaced_at item reads) (slice_get c.args.values.now item)) all;
+      puts = record {
+        within = subst (λ (reads : List Read). All (λ (read : Read). read.item < length c.args.values.now) reads) (sym all) c.requires.within;
+        same = λ item. ap (λ (reads : List Read). option_map (replaced_at item reads) (slice_get c.args.values.now item)) all;
+      };
+      placed = subst (λ (reads : List Read). All (IsPlaced c.args.dependents.now.places) reads) (sym all) c.requires.placed;
+      more = λ other there is. is;
+      touched = λ are. are;
     }
 
-pub loop-read-preserved-in-Some : goal.loop-read-preserved-in-Some
-loop-read-preserved-in-Some c =
-    puts-step c.args.new.items c.args.values.now c.loop-read.read-iterator.rest.items c.next.new.self.rest.items c.loop-read.values
-    c.in-Some.read _ c.in-Some.ensures.steps.0 c.read.view_is c.loop-read.invariant
+pub put_value-requires : goal.put_value-requires
+put_value-requires c =
+    let value : Read = c.in-Some.value in
+    let rest : List Read = c.next.new.self.rest.items in
+    record {
+      within = All-head (λ (read : Read). read.item < length c.loop-value.values) value rest
+          (subst (λ (reads : List Read). All (λ (read : Read). read.item < length c.loop-value.values) reads) c.in-Some.ensures.steps.0 c.loop-value.invariant.puts.within);
+      placed = λ txn named. c.loop-value.invariant.more txn value.item
+          (All-head (IsPlaced c.args.dependents.now.places) value rest
+          (subst (λ (reads : List Read). All (IsPlaced c.args.dependents.now.places) reads) c.in-Some.ensures.steps.0 c.loop-value.invariant.placed) txn named);
+    }
 
-pub loop-read-preserved : goal.loop-read-preserved
-loop-read-preserved c =
-    puts-step c.args.new.items c.args.values.now c.loop-read.read-iterator.rest.items c.next.new.self.rest.items c.loop-read.values
-    c.in-Some.read _ c.in-Some.ensures.steps.0 c.read.view_is c.loop-read.invariant
-
-pub loop-read-preserved-in-Some-2 : goal.loop-read-preserved-in-Some-2
-loop-read-preserved-in-Some-2 c =
-    puts-step c.args.new.items c.args.values.now c.loop-read.read-iterator.rest.items c.next.new.self.rest.items c.loop-read.values
-    c.in-Some.read _ c.in-Some.ensures.steps.0 c.read.view_is c.loop-read.invariant
-
-pub loop-read-preserved-in-Some-3 : goal.loop-read-preserved-in-Some-3
-loop-read-preserved-in-Some-3 c =
-    puts-step c.args.new.items c.args.values.now c.loop-read.read-iterator.rest.items c.next.new.self.rest.items c.loop-read.values
-    c.in-Some.read _ c.in-Some.ensures.steps.0 c.read.view_is c.loop-read.invariant
+pub loop-value-preserved : goal.loop-value-preserved
+loop-value-preserved c =
+    let value : Read = c.in-Some.value in
+    let rest : List Read = c.next.new.self.rest.items in
+    record {
+      puts = subst (Puts c.args.new.items c.args.values.now rest) (sym c.put_value.ensures.values)
+          (puts-step c.args.new.items c.args.values.now c.loop-value.value-iterator.rest.items rest c.loop-value.values value value c.in-Some.ensures.steps.0 refl c.loop-value.invariant.puts);
+      placed = All-tail (IsPlaced c.args.dependents.now.places) value rest
+          (subst (λ (reads : List Read). All (IsPlaced c.args.dependents.now.places) reads) c.in-Some.ensures.steps.0 c.loop-value.invariant.placed);
+      more = λ other there is. c.put_value.ensures.more other there (c.loop-value.invariant.more other there is);
+      touched = λ are. c.put_value.ensures.touched (c.loop-value.invariant.touched are);
+    }
 
 no-more : {X : Type 0} (xs : List X) → length xs ≡ 0 → xs ≡ []
 no-more [] none = refl
@@ -44,10 +60,10 @@ as-is : (item : ℕ) (found : Option (Option (List (Case ℤ)))) → option_map 
 as-is item None = refl
 as-is item (Some value) = refl
 
-pub returns : goal.returns
-returns c = λ item.
-    let rest = c.loop-read.read-iterator.rest in
+pub returns-clause-values : goal.returns-clause-values
+returns-clause-values c = λ item.
+    let rest = c.loop-value.value-iterator.rest in
     let none : rest.items ≡ [] = no-more rest.items (sym rest.ok.0 ∙ c.in-None.ensures.steps.0) in
-    sym (as-is item (slice_get c.loop-read.values item))
-    ∙ ap (λ (reads : List Read). option_map (replaced_at item reads) (slice_get c.loop-read.values item)) (sym none)
-    ∙ c.loop-read.invariant.same item
+    sym (as-is item (slice_get c.loop-value.values item))
+    ∙ ap (λ (reads : List Read). option_map (replaced_at item reads) (slice_get c.loop-value.values item)) (sym none)
+    ∙ c.loop-value.invariant.puts.same item

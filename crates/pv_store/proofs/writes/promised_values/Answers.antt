@@ -1,8 +1,9 @@
 -- One write after another, each by the contract of its promise.
-use Rattle.std.proofs.Common.{◌≡◌, ◌∙◌, ◌∷◌, suc, Bor, List, map, drop, add-one, arith, ap, sym, subst, refl}
+use Rattle.std.proofs.Common.{◌≡◌, ◌∙◌, ◌∷◌, ◌++◌, [], suc, ℤ, Bor, List, Some, map, drop, add-one, arith, ap, sym, subst, refl}
 use Rattle.std.specs.Prelude.{Err, IsTrue, slice_get}
 use Rattle.std.proofs.lemmas.List.{length-map}
 use Rattle.std.proofs.lemmas.Result.{err_from_is_err_and}
+use Rattle.pv_base.specs.Polyvalue.{Case}
 use Rattle.pv_model.specs.Alternatives.{Read}
 use Rattle.pv_store.specs.Writes.{is_held}
 use Rattle.pv_store.proofs.WriteLemmas.{ArePromised, all-at, held-is, map-at, promise-end, promise-refused, promise-step}
@@ -35,7 +36,7 @@ returns-in_err-value-clause-answer c =
     map-at (λ (write : Bor Read). write.now) c.args.writes.now i c.write-item.result c.loop-write-test.true c.write-item.is
     ∙ ap (λ (read : Read). read ∷ rest) (sym (ap (λ (write : Bor Read). write.now) c.write.view_is)) in
     let p = err_from_is_err_and c.from_residual-in_err-value.result c.from_residual-in_err-value.ensures.1 in
-    promise-refused c.args.outcomes.now.outcomes c.args.values.now c.args.txn reads i c.loop-write.new.items c.loop-write.invariant write rest here c.value_of-old.result.now c.value_of-old.ensures
+    promise-refused c.args.outcomes.now.outcomes c.args.values.now c.args.txn reads i c.loop-write.new.items c.loop-write.invariant write rest here c.value.result.now (c.value_of-old.ensures ∙ ap (λ (cases : List (Case ℤ)). Some (Some cases)) (sym c.value.ensures))
     c.in_err-value.field-0.0 c.from_residual-in_err-value.result (p.1 ∙ ap Err p.2)
     (λ catalog records front item all asked. (c.in_err-value.ensures.answer catalog records front item all asked).refused)
 
@@ -49,8 +50,9 @@ loop-write-preserved c =
     map-at (λ (write : Bor Read). write.now) c.args.writes.now i c.write-item.result c.loop-write-test.true c.write-item.is
     ∙ ap (λ (read : Read). read ∷ rest) (sym (ap (λ (write : Bor Read). write.now) c.write.view_is)) in
     subst (λ k. ArePromised c.args.outcomes.now.outcomes c.args.values.now c.args.txn reads k c.push.new.self.items) (sym (add-one i))
-    (promise-step c.args.outcomes.now.outcomes c.args.values.now c.args.txn reads i c.loop-write.new.items c.loop-write.invariant write rest here c.value_of-old.result.now c.value_of-old.ensures
-    c.in_ok-value.value c.push.new.self.items c.in_ok-push.ensures.items c.in_ok-value.ensures.value
+    (promise-step c.args.outcomes.now.outcomes c.args.values.now c.args.txn reads i c.loop-write.new.items c.loop-write.invariant write rest here c.value.result.now (c.value_of-old.ensures ∙ ap (λ (cases : List (Case ℤ)). Some (Some cases)) (sym c.value.ensures))
+    c.in_ok-value.value c.push.new.self.items
+    (c.in_ok-push.ensures.items ∙ ap (λ (cases : List (Case ℤ)). c.loop-write.new.items ++ record { item = write.item; cases = cases } ∷ []) c.in_ok-named.ensures) c.in_ok-value.ensures.value
     (λ catalog records front item all asked. (c.in_ok-value.ensures.answer catalog records front item all asked).accepted))
 
 pub returns-clause-values : goal.returns-clause-values

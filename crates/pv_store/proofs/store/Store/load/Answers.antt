@@ -7,7 +7,7 @@ use Rattle.pv_base.specs.declared.txn.TxnId.{TxnId}
 use Rattle.pv_format.specs.Record as model
 use Rattle.pv_replay.specs.Values.{records_of}
 use Rattle.pv_replay.specs.declared.record.Record.{Record}
-use Rattle.pv_store.specs.Held.{AreKnown, ArePlaced, ArePrepared, AreShown, Values}
+use Rattle.pv_store.specs.Held.{AreKnown, ArePlaced, ArePrepared, AreShown, AreTouched, Values}
 use Rattle.pv_store.specs.Kept.{Kept}
 use Rattle.pv_store.specs.Refusals.{AnswersFor, too_many_in}
 use Rattle.pv_store.proofs.PlanLemmas.{accepted-as, memory-answers, refused-as}
@@ -74,11 +74,13 @@ invariant_of-self c =
       values : AreShown inside.catalog.value inside.site.0 (records_of records) (records_of records) loaded.values.items;
       prepared : ArePrepared noted.promises.txns (records_of records);
       known : AreKnown noted.outcomes.outcomes (records_of records);
-      placed : ArePlaced inside.catalog.value inside.site.0 (records_of records) (records_of records) loaded.dependents;
+      placed : ArePlaced inside.catalog.value inside.site.0 (records_of records) (records_of records) loaded.dependents.places;
+      touched : AreTouched loaded.values.items loaded.dependents.touched;
     }) (sym (c.in_ok-noted.ensures.records ∙ same))
     (record {
       values = c.in_ok-loaded.ensures.values inside.catalog.value inside.site.0 known declared;
       prepared = subst (λ (records : List Record). ArePrepared noted.promises.txns (records_of records)) same c.in_ok-noted.ensures.prepared;
       known = known;
       placed = c.in_ok-loaded.ensures.places inside.catalog.value inside.site.0 known declared;
+      touched = c.in_ok-loaded.ensures.touched inside.catalog.value inside.site.0 declared;
     })

@@ -19,6 +19,7 @@ planned-epoch kept epoch none empty values are placed =
       shown_then = λ item home. shown-epoch kept.catalog kept.records epoch item;
       narrow = λ item home. subst (λ cases. length (names_of cases) ≤ HELD_NAMES) (sym (shown-epoch kept.catalog kept.records epoch item)) (are.narrow item home);
       placed = λ item txn home named. placed item txn home (subst (λ cases. IsTrue (names cases txn)) (shown-epoch kept.catalog kept.records epoch item) named);
+      told = λ k d below. absurd (omega (arith, below));
       room = tt;
     })
 

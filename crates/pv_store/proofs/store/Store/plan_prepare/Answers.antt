@@ -35,7 +35,7 @@ returns-in_err-values-clause-answer c =
       catalog = inside.catalog.value;
       site = inside.site.0;
       records = records;
-      room = record { promises = inside.promises.room; outcomes = inside.outcomes.room; places = inside.dependents };
+      room = record { promises = inside.promises.room; outcomes = inside.outcomes.room; places = inside.dependents.places };
     } in
     let p = err_from_is_err_and c.from_residual.result c.from_residual.ensures.1 in
     subst (λ (kept : Kept). AnswersFor (too_many_with kept (prepared c.args.txn c.args.writes.now)) c.from_residual.result) c.self.view_is
@@ -61,7 +61,7 @@ returns-clause-answer c =
       catalog = inside.catalog.value;
       site = inside.site.0;
       records = records;
-      room = record { promises = inside.promises.room; outcomes = inside.outcomes.room; places = inside.dependents };
+      room = record { promises = inside.promises.room; outcomes = inside.outcomes.room; places = inside.dependents.places };
     } in
     let change : Planned = record { appended = prepared c.args.txn c.in_ok-copy_reads.field-0.items; values = c.in_ok-values.values.items } in
     subst (λ (kept : Kept). AnswersFor (too_many_with kept (prepared c.args.txn c.args.writes.now)) (Ok change)) c.self.view_is
@@ -75,16 +75,16 @@ returns-clause-planned c =
       catalog = inside.catalog.value;
       site = inside.site.0;
       records = records_of inside.records.items;
-      room = record { promises = c.reserve.new.self.room; outcomes = inside.outcomes.room; places = c.place_all.new.dependents };
+      room = record { promises = c.reserve.new.self.room; outcomes = inside.outcomes.room; places = c.place_all.new.dependents.places };
     } in
     let promising : IsPromising kept.catalog kept.site kept.records kept.records inside.outcomes.outcomes c.deref.result.now =
     record { known = c.self.invariant.known; shown = subst (λ (values : Values). AreShown kept.catalog kept.site kept.records kept.records values) (sym c.deref.ensures.value) c.self.invariant.values } in
     let new : List Read = c.in_ok-values.values.items in
     let put = c.in_ok-place_all.ensures.placed in
     subst (λ (writes : List Read). IsPlannedOn kept (record { appended = prepared c.args.txn writes; values = new })) (sym c.in_ok-copy_reads.ensures)
-    (planned-promise kept inside.dependents c.in_ok-place_all.ensures.more c.self.invariant.placed c.args.txn c.args.writes.now new
+    (planned-promise kept inside.dependents.places c.in_ok-place_all.ensures.more c.self.invariant.placed c.args.txn c.args.writes.now new
     (c.in_ok-values.ensures.values kept.catalog kept.site kept.records kept.records promising)
-    (subst (λ (reads : List Read). All (λ (value : Read). (t : TxnId) → IsTrue (names value.cases t) → has_place c.place_all.new.dependents t value.item ≡ true) reads) c.deref-2.ensures.value put) c.in_ok-reserve.ensures.room)
+    (subst (λ (reads : List Read). All (λ (value : Read). (t : TxnId) → IsTrue (names value.cases t) → has_place c.place_all.new.dependents.places t value.item ≡ true) reads) c.deref-2.ensures.value put) c.in_ok-reserve.ensures.room)
 
 pub returns-in_err-values-clause-wide : goal.returns-in_err-values-clause-wide
 returns-in_err-values-clause-wide c = λ here of limit.

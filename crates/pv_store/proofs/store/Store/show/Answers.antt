@@ -15,6 +15,6 @@ value_of-requires c =
 pub returns : goal.returns
 returns c =
     let home = subst (λ (kept : Kept). IsTrue (is_home kept.catalog kept.site c.args.item.0)) (sym c.self.view_is) c.requires in
-    subst (λ (kept : Kept). c.value_of.result.now ≡ shown kept.catalog kept.records c.args.item.0) c.self.view_is
-    (some-some _ _ (sym c.value_of.ensures ∙ ap (λ values. slice_get values c.args.item.0) c.deref.ensures.value
+    subst (λ (kept : Kept). c.value.result.now ≡ shown kept.catalog kept.records c.args.item.0) c.self.view_is
+    (c.value.ensures ∙ some-some _ _ (sym c.value_of.ensures ∙ ap (λ values. slice_get values c.args.item.0) c.deref.ensures.value
     ∙ shown-at _ _ _ _ _ c.self.invariant.values c.args.item.0 home))
