@@ -1,7 +1,8 @@
--- What a buffer still holds, after one thing and another.
-use Rattle.std.proofs.Common.{◌++◌, List, ℕ, Result, Ok, Err, ap, ◌∙◌, append_assoc}
+-- What a buffer still holds, after one thing and another, and how much it has of what was put.
+use Rattle.std.proofs.Common.{◌≡◌, ◌++◌, List, ℕ, Result, Ok, Err, ap, subst, sym, ◌∙◌, append_assoc}
 use Rattle.std.specs.Prelude.{OnErr}
 use Rattle.pv_report.specs.StillHeld.{StillHeld}
+use Rattle.pv_transcript.specs.Begins.{Begins}
 
 -- What a buffer begins with after each of two things, it begins with after both.
 pub held_further : (old mid new : List ℕ) → StillHeld old mid → StillHeld mid new → StillHeld old new
@@ -14,3 +15,30 @@ held_further old mid new first second = record {
 pub on_err : {X E : Type 0} (r : Result X E) (P : Type 0) → P → OnErr r P
 on_err (Ok x) P p = tt
 on_err (Err e) P p = p
+
+-- Nothing of the text is a beginning of it.
+pub begun_none : (old text new : List ℕ) → new ≡ old → Begins new (old ++ text)
+begun_none old text new same = record { left = text; is = ap (λ front. front ++ text) (sym same) }
+
+-- A beginning of the first part is one of all.
+pub begun_first : (old first more new : List ℕ) → Begins new (old ++ first) → Begins new (old ++ (first ++ more))
+begun_first old first more new begun = record {
+  left = begun.left ++ more;
+  is = sym (append_assoc old first more) ∙ ap (λ front. front ++ more) begun.is ∙ append_assoc new begun.left more;
+}
+
+-- The first part and a beginning of the rest are a beginning of all.
+pub begun_next : (old first more mid new : List ℕ) → mid ≡ old ++ first → Begins new (mid ++ more) → Begins new (old ++ (first ++ more))
+begun_next old first more mid new put begun = record {
+  left = begun.left;
+  is = sym (append_assoc old first more) ∙ ap (λ front. front ++ more) (sym put) ∙ begun.is;
+}
+
+-- So where what was put is known to be the first part.
+pub begun_first_as : (old first put more new : List ℕ) → put ≡ first → Begins new (old ++ put) → Begins new (old ++ (first ++ more))
+begun_first_as old first put more new same begun = begun_first old first more new (subst (λ it. Begins new (old ++ it)) same begun)
+
+pub begun_next_as : (old first put more mid new : List ℕ) → put ≡ first → mid ≡ old ++ put → Begins new (mid ++ more) → Begins new (old ++ (first ++ more))
+begun_next_as old first put more mid new same is begun = begun_next old first more mid new (is ∙ ap (λ it. old ++ it) same) begun
+
+pub ruleset beginnings = (begun_none, begun_first, begun_next)

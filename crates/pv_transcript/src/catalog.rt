@@ -3,16 +3,18 @@ ghost use Rattle.std.specs.Prelude.{◌≡◌, ◌<◌, ◌++◌, OnErr, OnOk, S
 ghost use Rattle.std.specs.List.{flat_map};
 ghost use Rattle.pv_base.specs.Catalog.{Item};
 ghost use Rattle.pv_report.specs.StillHeld.{StillHeld};
+ghost use Rattle.pv_transcript.specs.Begins.{Begins};
 ghost use Rattle.pv_transcript.specs.ScheduleText.{catalog_text, item_line};
 
 use crate::pieces::{push_bytes, push_numbered, push_signed};
 use pv_base::{Catalog, ItemId, NoMemory, SiteId};
 
 /// Puts the lines of a catalog after what the buffer holds: how many sites there are, the limit of each journal, and the items in order of declaration.
-#[tactic(auto, unfolding(crate::specs::ScheduleText::catalog_text))]
+#[tactic(auto, using(crate::proofs::HeldLemmas::beginnings), unfolding(crate::specs::ScheduleText::catalog_text))]
 pub fn push_catalog(text: &mut Vec<u8>, catalog: &Catalog) -> Result<(), NoMemory>
     ensures text { OnOk result (text.new.items ≡ text.old.items ++ catalog_text catalog.now) }
     ensures held { OnErr result (StillHeld text.old.items text.new.items) }
+    ensures begun { OnErr result (Begins text.new.items (text.old.items ++ catalog_text catalog.now)) }
 {
     push_numbered(text, b"sites", u64::from(catalog.sites()))?;
     push_bytes(text, b"\n")?;
@@ -25,6 +27,7 @@ pub fn push_catalog(text: &mut Vec<u8>, catalog: &Catalog) -> Result<(), NoMemor
 fn push_items(text: &mut Vec<u8>, catalog: &Catalog) -> Result<(), NoMemory>
     ensures text { OnOk result (text.new.items ≡ text.old.items ++ flat_map item_line catalog.now.items) }
     ensures held { OnErr result (StillHeld text.old.items text.new.items) }
+    ensures begun { OnErr result (Begins text.new.items (text.old.items ++ flat_map item_line catalog.now.items)) }
 {
     for number in 0..catalog.len() {
         push_item(text, ItemId(number), catalog)?;
@@ -37,6 +40,7 @@ fn push_item(text: &mut Vec<u8>, item: ItemId, catalog: &Catalog) -> Result<(), 
     requires { item.0 < length catalog.now.items }
     ensures text { (declared : Item) → slice_get catalog.now.items item.0 ≡ Some declared → OnOk result (text.new.items ≡ text.old.items ++ item_line declared) }
     ensures held { OnErr result (StillHeld text.old.items text.new.items) }
+    ensures begun { (declared : Item) → slice_get catalog.now.items item.0 ≡ Some declared → OnErr result (Begins text.new.items (text.old.items ++ item_line declared)) }
 {
     push_declared(
         text,
@@ -47,10 +51,11 @@ fn push_item(text: &mut Vec<u8>, item: ItemId, catalog: &Catalog) -> Result<(), 
 }
 
 // The line of an item that was declared so.
-#[tactic(auto, unfolding(crate::specs::ScheduleText::item_line))]
+#[tactic(auto, using(crate::proofs::HeldLemmas::beginnings), unfolding(crate::specs::ScheduleText::item_line))]
 fn push_declared(text: &mut Vec<u8>, name: &[u8], site: SiteId, value: i64) -> Result<(), NoMemory>
     ensures text { let declared : Item = record { name = name.now; site = site.0; value = value } in OnOk result (text.new.items ≡ text.old.items ++ item_line declared) }
     ensures held { OnErr result (StillHeld text.old.items text.new.items) }
+    ensures begun { let declared : Item = record { name = name.now; site = site.0; value = value } in OnErr result (Begins text.new.items (text.old.items ++ item_line declared)) }
 {
     push_bytes(text, b"item ")?;
     push_bytes(text, name)?;

@@ -4,6 +4,7 @@ ghost use Rattle.pv_model.specs.Schedule.{request_word};
 ghost use Rattle.pv_protocol.specs.LineText.{numbered_text};
 ghost use Rattle.pv_report.specs.StillHeld.{StillHeld};
 ghost use Rattle.pv_script.specs.ScheduleView.{event_of};
+ghost use Rattle.pv_transcript.specs.Begins.{Begins};
 ghost use Rattle.pv_transcript.specs.ScheduleText.{armed_text, armed_word, event_line, event_words, mode_text, request_text};
 
 use crate::pieces::{push_bytes, push_numbered};
@@ -12,19 +13,22 @@ use pv_script::Event;
 
 /// Puts the line of an event after what the buffer holds; a request's program stands as its text. Where that text is the program's, the line is meant to be read as the
 /// event, which no contract says.
+#[tactic(auto, using(crate::proofs::HeldLemmas::beginnings))]
 pub fn push_event(text: &mut Vec<u8>, event: &Event) -> Result<(), NoMemory>
     ensures text { OnOk result (text.new.items ≡ text.old.items ++ event_line (event_of event.now)) }
     ensures held { OnErr result (StillHeld text.old.items text.new.items) }
+    ensures begun { OnErr result (Begins text.new.items (text.old.items ++ event_line (event_of event.now))) }
 {
     push_words(text, event)?;
     push_bytes(text, b"\n")
 }
 
 // The line without its line feed.
-#[tactic(auto, unfolding(crate::specs::ScheduleText::event_words))]
+#[tactic(auto, using(crate::proofs::HeldLemmas::beginnings), unfolding(crate::specs::ScheduleText::event_words))]
 fn push_words(text: &mut Vec<u8>, event: &Event) -> Result<(), NoMemory>
     ensures text { OnOk result (text.new.items ≡ text.old.items ++ event_words (event_of event.now)) }
     ensures held { OnErr result (StillHeld text.old.items text.new.items) }
+    ensures begun { OnErr result (Begins text.new.items (text.old.items ++ event_words (event_of event.now))) }
 {
     match event {
         Event::Submit {
@@ -56,6 +60,7 @@ fn push_words(text: &mut Vec<u8>, event: &Event) -> Result<(), NoMemory>
 }
 
 // A request with the text of its program.
+#[tactic(auto, using(crate::proofs::HeldLemmas::beginnings))]
 fn push_request(
     text: &mut Vec<u8>,
     site: SiteId,
@@ -64,6 +69,7 @@ fn push_request(
 ) -> Result<(), NoMemory>
     ensures text { OnOk result (text.new.items ≡ text.old.items ++ request_text site.0 query program.now) }
     ensures held { OnErr result (StillHeld text.old.items text.new.items) }
+    ensures begun { OnErr result (Begins text.new.items (text.old.items ++ request_text site.0 query program.now)) }
 {
     push_numbered(text, request_word(query), u64::from(site.0))?;
     push_bytes(text, b" ")?;
@@ -78,6 +84,7 @@ fn request_word(query: bool) -> &'static [u8]
 }
 
 // A write or a sync that stops its site, or fails.
+#[tactic(auto, using(crate::proofs::HeldLemmas::beginnings))]
 fn push_armed(
     text: &mut Vec<u8>,
     site: SiteId,
@@ -87,6 +94,7 @@ fn push_armed(
 ) -> Result<(), NoMemory>
     ensures text { OnOk result (text.new.items ≡ text.old.items ++ armed_text site.0 call mode stops) }
     ensures held { OnErr result (StillHeld text.old.items text.new.items) }
+    ensures begun { OnErr result (Begins text.new.items (text.old.items ++ armed_text site.0 call mode stops)) }
 {
     push_numbered(text, armed_word(stops), u64::from(site.0))?;
     push_numbered(text, b"", u64::from(call))?;

@@ -4,6 +4,7 @@ ghost use Rattle.pv_base.specs.Catalog.{Declared};
 ghost use Rattle.pv_report.specs.NamesOnlyItems.{NamesOnlyItems};
 ghost use Rattle.pv_report.specs.StillHeld.{StillHeld};
 ghost use Rattle.pv_script.specs.LineView.{line_of};
+ghost use Rattle.pv_transcript.specs.Begins.{Begins};
 ghost use Rattle.pv_transcript.specs.Heard as heard;
 ghost use Rattle.pv_transcript.specs.Heard.{client_head, heard_line};
 
@@ -13,6 +14,7 @@ use pv_report::push_line;
 use pv_script::Line;
 
 /// The line of a request of a client, both counted from 0, where the client heard this line of its site.
+#[tactic(auto, using(crate::proofs::HeldLemmas::beginnings))]
 pub fn push_heard(
     text: &mut Vec<u8>,
     client: u32,
@@ -23,12 +25,14 @@ pub fn push_heard(
     requires items { NamesOnlyItems catalog.now (line_of line.now) }
     ensures text { OnOk result (text.new.items ≡ text.old.items ++ heard_line catalog.now client request (heard.line (line_of line.now))) }
     ensures held { OnErr result (StillHeld text.old.items text.new.items) }
+    ensures begun { OnErr result (Begins text.new.items (text.old.items ++ heard_line catalog.now client request (heard.line (line_of line.now)))) }
 {
     push_head(text, client, request)?;
     push_line(text, line, catalog)
 }
 
 /// The line of such a request, where the history of the client's site is full.
+#[tactic(auto, using(crate::proofs::HeldLemmas::beginnings))]
 pub fn push_worn(
     text: &mut Vec<u8>,
     client: u32,
@@ -37,6 +41,7 @@ pub fn push_worn(
 ) -> Result<(), NoMemory>
     ensures text { (catalog : Declared) → OnOk result (text.new.items ≡ text.old.items ++ heard_line catalog client request (heard.worn site.0)) }
     ensures held { OnErr result (StillHeld text.old.items text.new.items) }
+    ensures begun { (catalog : Declared) → OnErr result (Begins text.new.items (text.old.items ++ heard_line catalog client request (heard.worn site.0))) }
 {
     push_head(text, client, request)?;
     push_numbered(text, b"worn", u64::from(site.0))?;
@@ -44,19 +49,22 @@ pub fn push_worn(
 }
 
 /// The line of such a request, where it was lost for want of memory.
+#[tactic(auto, using(crate::proofs::HeldLemmas::beginnings))]
 pub fn push_no_memory(text: &mut Vec<u8>, client: u32, request: u32) -> Result<(), NoMemory>
     ensures text { (catalog : Declared) → OnOk result (text.new.items ≡ text.old.items ++ heard_line catalog client request heard.no_memory) }
     ensures held { OnErr result (StillHeld text.old.items text.new.items) }
+    ensures begun { (catalog : Declared) → OnErr result (Begins text.new.items (text.old.items ++ heard_line catalog client request heard.no_memory)) }
 {
     push_head(text, client, request)?;
     push_bytes(text, b"no-memory\n")
 }
 
 // What the line begins with.
-#[tactic(auto, unfolding(crate::specs::Heard::client_head))]
+#[tactic(auto, using(crate::proofs::HeldLemmas::beginnings), unfolding(crate::specs::Heard::client_head))]
 fn push_head(text: &mut Vec<u8>, client: u32, request: u32) -> Result<(), NoMemory>
     ensures text { OnOk result (text.new.items ≡ text.old.items ++ client_head client request) }
     ensures held { OnErr result (StillHeld text.old.items text.new.items) }
+    ensures begun { OnErr result (Begins text.new.items (text.old.items ++ client_head client request)) }
 {
     push_numbered(text, b"client", u64::from(client))?;
     push_numbered(text, b"", u64::from(request))?;

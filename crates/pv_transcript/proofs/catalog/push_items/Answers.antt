@@ -2,9 +2,10 @@
 use Rattle.std.proofs.Common.{◌++◌, [], append-nil, refl, sym, arith}
 use Rattle.std.specs.Prelude.{flat_map}
 use Rattle.pv_report.specs.StillHeld.{StillHeld}
+use Rattle.pv_transcript.specs.Begins.{Begins}
 use Rattle.pv_transcript.specs.ScheduleText.{item_line}
 use Rattle.pv_transcript.proofs.HeldLemmas.{held_further, on_err}
-use Rattle.pv_transcript.proofs.ItemLemmas.{declared-at, one-more-item}
+use Rattle.pv_transcript.proofs.ItemLemmas.{begun_at_item, declared-at, one-more-item}
 use Rattle.pv_transcript.proofs.catalog.push_items.Goals as goal
 
 pub loop-number-init : goal.loop-number-init
@@ -25,3 +26,12 @@ pub returns-in_err-push_item-clause-held : goal.returns-in_err-push_item-clause-
 returns-in_err-push_item-clause-held c =
     on_err c.from_residual.result (StillHeld c.args.text.now.items c.push_item.new.text.items)
     (held_further c.args.text.now.items c.loop-number.text.items c.push_item.new.text.items c.loop-number.invariant.held c.in_err-push_item.ensures.held)
+
+pub returns-in_err-push_item-clause-begun : goal.returns-in_err-push_item-clause-begun
+returns-in_err-push_item-clause-begun c =
+    let items = c.args.catalog.now.items in
+    let at = declared-at items c.loop-number.number (omega (arith, c.loop-number-test.true, c.len-number-end.ensures.count)) in
+    let all = c.args.text.now.items ++ flat_map item_line items in
+    on_err c.from_residual.result (Begins c.push_item.new.text.items all)
+    (begun_at_item item_line items c.loop-number.number all c.loop-number.text.items c.push_item.new.text.items at.0 at.1
+    c.loop-number.invariant.whole (c.in_err-push_item.ensures.begun at.0 at.1))
