@@ -20,7 +20,7 @@ use Rattle.pv_protocol.specs.Shown.{declared_or_zero, declared_value, item_value
 use Rattle.pv_protocol.specs.WellFormed.{CanRun}
 
 -- ## Values
-front-get : {X : Type 0} (xs ys : List X) (i : ℕ) → i < length xs → slice_get (xs ++ ys) i ≡ slice_get xs i
+pub front-get : {X : Type 0} (xs ys : List X) (i : ℕ) → i < length xs → slice_get (xs ++ ys) i ≡ slice_get xs i
 front-get [] ys i below = absurd (omega (arith, below))
 front-get (x ∷ xs) ys zero below = refl
 front-get (x ∷ xs) ys (suc i) below = front-get xs ys i (omega (arith, below))
