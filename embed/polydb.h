@@ -139,6 +139,8 @@ uint32_t polydb_version(void);
 #define POLYDB_UNKNOWN_NAME 33u
 /* Records wait to be written into the file. What the item shows may rest on them, and a crash may undo it. */
 #define POLYDB_UNWRITTEN 37u
+/* The configuration isn't one that the other has grown to. */
+#define POLYDB_NOT_GROWN 38u
 
 /* Of worlds. */
 
@@ -236,7 +238,7 @@ void polydb_world_close(polydb_world *world);
  * A message may be lost, may come late and may come twice: the protocol is made for that. That sites of several hosts agree is a law: whatever happens to them, there is one
  * run of all sites together, a list of events, in which what they have let out was sent or printed, and what they show is shown; and it goes on as they do. It asks for what
  * these calls are proved to do (docs/EMBEDDING.md has both side by side), and of hosts for what stands below. Not promised: that the run's programs are the texts of the
- * requests, as a schedule for `polydb run` has them; nor one run across a raised limit of journals (docs/EMBEDDING.md, What isn't said).
+ * requests, as a schedule for `polydb run` has them; nor one run across a configuration that has grown (docs/EMBEDDING.md, What isn't said).
  * Time is the host's: a site that waits for an answer gives up at its third tick, lets go of
  * its locks at their third, and then asks again at each tick; and never without one.
  *
@@ -256,7 +258,7 @@ void polydb_world_close(polydb_world *world);
  *     none that was given up and made again, once polydb_site_journal_synced is called for it;
  *   - bytes that polydb_site_receive is given may be any bytes; but where they spell a message, a site of these very files let it out: on the file of its number, at any time since
  *     that was new. A site of other files is a stranger, also with the same configuration: one of a copy of all files, or of the time before all were made anew;
- *   - all sites are opened with the same configuration, always, but that all of them together may get a higher limit of journals (polydb_site_open); and each
+ *   - all sites are opened with the same configuration, always, but that all of them together may get one to which it has grown (polydb_config_grows); and each
  *     number is one site's. One run of before and after that isn't promised. The same is what declares the same: sites, items in their order, the limit. The file holds neither
  *     the configuration nor `me`: that it is opened as another site, or under another configuration, isn't noticed.
  *
@@ -300,8 +302,7 @@ typedef struct {
  *   POLYDB_NO_MEMORY          there was no memory
  *
  * Each opening adds a record of 10 bytes, so a journal at its limit can't be opened, nor be read. It isn't lost: a configuration with a higher limit in its line
- * `journal` opens the same bytes. All sites are stopped then, and opened with that configuration. What a site shows of its records stays what it was; but a run has one limit,
- * so one run of before and after isn't promised.
+ * `journal` opens the same bytes (polydb_config_grows).
  */
 uint32_t polydb_site_open(polydb_site *site, const uint8_t *config, size_t config_length, uint8_t me, const uint8_t *journal,
                           size_t journal_length);
@@ -317,6 +318,20 @@ uint32_t polydb_site_open(polydb_site *site, const uint8_t *config, size_t confi
  */
 uint32_t polydb_site_open_at(polydb_site *site, const uint8_t *config, size_t config_length, uint8_t me, const uint8_t *journal,
                              size_t journal_length, polydb_fault *fault);
+
+/*
+ * Whether a site that was opened with the configuration `before` may be opened with `later` from now on: whether `later` declares the same sites, the same items in
+ * their order and perhaps more behind them, and no lower a limit of journals. Where it may, all sites are stopped, and opened with `later`; the other way back there is none.
+ * The items that were there show what they showed, which is a law of records. But a run has one catalog and one limit, so one run of before and after isn't promised
+ * (docs/EMBEDDING.md, What isn't said).
+ *
+ *   POLYDB_DONE       it may; also where both declare the same
+ *   POLYDB_TOO_LONG, POLYDB_MALFORMED, POLYDB_HAS_EVENTS
+ *                     `before` is no configuration; or it is one, and `later` is none
+ *   POLYDB_NOT_GROWN  it may not
+ *   POLYDB_NO_MEMORY  there was no memory
+ */
+uint32_t polydb_config_grows(const uint8_t *before, size_t before_length, const uint8_t *later, size_t later_length);
 
 /*
  * A request: the program that the text is runs, with this site as its coordinator. A query assigns nothing and has a `return`. What becomes of it is

@@ -402,7 +402,7 @@ static polydb_host_cause compare(site_keys *keys, const polydb_host_setup *setup
     keys->is_made = there != NULL || answer_pair(&answer, first) != NULL;
     snprintf(number, sizeof number, "%" PRIu64, keys->client.cluster);
     if (there != NULL) {
-        cause = compare_identity((const uint8_t *)there->value, there->value_length, keys->site, setup->config, setup->config_length, id, error);
+        cause = compare_identity((const uint8_t *)there->value, there->value_length, keys->site, setup->config, setup->config_length, NULL, id, error);
     } else if (keys->is_made && !setup->adopts) {
         cause = refuse(error, POLYDB_HOST_UNNAMED, id, "");
     }

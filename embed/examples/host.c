@@ -32,8 +32,9 @@ static bool refused(const polydb_host_error *error) {
 static bool begins(const char *line, const char *front) { return strncmp(line, front, strlen(front)) == 0; }
 
 /* The context is whether the request has its answer. */
-static void on_report(void *context, const char *line, size_t length) {
+static void on_report(void *context, const char *line, size_t length, uint64_t tag) {
     bool *has_ended = context;
+    (void)tag; /* its requests have none */
     *has_ended |= begins(line, "commit ") || begins(line, "refuse ") || begins(line, "spent ");
     printf("%.*s\n", (int)length, line); /* `main` looks whether it got out */
 }

@@ -8,6 +8,7 @@
 
 #include <errno.h>
 #include <fcntl.h>
+#include <inttypes.h>
 #include <stdio.h>
 #include <stdlib.h>
 #include <string.h>
@@ -25,17 +26,25 @@ typedef struct {
     int journal;
     uint8_t site;
     bool is_named;    /* the folder says which site it is */
+    bool grows;       /* and its configuration is one that has grown to the one that is given */
     bool ended_well;  /* so did the last process that had the site here */
+    bool is_copy;     /* the lock's file isn't the one that a process had here */
+    uint64_t noted;   /* so long the journal was on the disk when a process opened it, if that was noted */
     bool has_journal; /* the journal's file is there and has bytes */
     bool runs;        /* the lock's file says that this process has the site */
     bool has_failed;  /* a write or a sync of this process has */
     char journal_name[NAME_ROOM];
 } site_folder;
 
-/* What the lock's file says of the process that has the lock, or had it last. Of one length, so that the one covers the other. */
+/*
+ * What the lock's file says of the process that has the lock, or had it last: first one of these words, of one length, so that the one covers the other. Behind it stands which file it is, since a
+ * copy is another one, and how long the journal was on the disk then, since one that was set back may be shorter.
+ */
 static const char RUNS[] = "runs\n";
 static const char ENDED[] = "done\n";
-enum { STATE_LENGTH = sizeof RUNS - 1 };
+enum { STATE_LENGTH = sizeof RUNS - 1, NOTES_ROOM = 64 };
+#define NOTES "file %020" PRIu64 "\njournal %020" PRIu64 "\n"
+#define NOTED "file %20" SCNu64 "\njournal %20" SCNu64 "\n"
 
 static void name_of(char *out, uint8_t site, const char *end) { snprintf(out, NAME_ROOM, "site-%u.%s", (unsigned)site, end); }
 
@@ -54,6 +63,23 @@ static int set_lock(int file, short kind) {
     return fcntl(file, F_OFD_SETLK, &whole);
 }
 
+/* Reads what the lock's file says. One that has the word alone, or nothing, says nothing of copies. */
+static polydb_host_cause read_notes(site_folder *files, const char *name, polydb_host_error *error) {
+    char text[STATE_LENGTH + NOTES_ROOM + 1] = "";
+    struct stat about;
+    uint64_t file, noted;
+    ssize_t count = read_at(files->lock, (uint8_t *)text, sizeof text - 1, 0);
+    if (count < 0 || fstat(files->lock, &about) != 0) {
+        return refuse_system(error, "read", name);
+    }
+    files->ended_well = count >= STATE_LENGTH && memcmp(text, ENDED, STATE_LENGTH) == 0;
+    if (count > STATE_LENGTH && sscanf(text + STATE_LENGTH, NOTED, &file, &noted) == 2) {
+        files->is_copy = file != about.st_ino;
+        files->noted = noted;
+    }
+    return POLYDB_HOST_DONE;
+}
+
 static polydb_host_cause take_lock(site_folder *files, polydb_host_error *error) {
     char name[NAME_ROOM];
     name_of(name, files->site, "lock");
@@ -68,18 +94,18 @@ static polydb_host_cause take_lock(site_folder *files, polydb_host_error *error)
     if (!is_there(files->folder, name, files->lock)) {
         return refuse(error, POLYDB_HOST_BUSY, "lock", name);
     }
-    uint8_t state[STATE_LENGTH];
-    ssize_t count = read_at(files->lock, state, sizeof state, 0);
-    if (count < 0) {
-        return refuse_system(error, "read", name);
-    }
-    files->ended_well = count == STATE_LENGTH && memcmp(state, ENDED, STATE_LENGTH) == 0;
-    return POLYDB_HOST_DONE;
+    return read_notes(files, name, error);
 }
 
 /* Says in the lock's file that this process has the site, so that the next one knows where this one ends without a word. */
 static polydb_host_cause say_it_runs(site_folder *files, polydb_host_error *error) {
-    if (!write_at(files->lock, (const uint8_t *)RUNS, STATE_LENGTH, 0)) {
+    char text[STATE_LENGTH + NOTES_ROOM];
+    struct stat about;
+    if (fstat(files->lock, &about) != 0) {
+        return refuse_system(error, "stat", "the lock");
+    }
+    int length = snprintf(text, sizeof text, "%s" NOTES, RUNS, (uint64_t)about.st_ino, files->noted);
+    if (!write_at(files->lock, (const uint8_t *)text, (size_t)length, 0)) {
         return refuse_system(error, "write", "the lock");
     }
     if (!sync_data(files->lock)) {
@@ -134,7 +160,7 @@ static polydb_host_cause compare(site_folder *files, const polydb_host_setup *se
     size_t count = 0;
     polydb_host_cause cause = read_small(file, MOST_IDENTITY, &bytes, &count, name, error);
     if (cause == POLYDB_HOST_DONE) {
-        cause = compare_identity(bytes, count, files->site, setup->config, setup->config_length, name, error);
+        cause = compare_identity(bytes, count, files->site, setup->config, setup->config_length, &files->grows, name, error);
     }
     free(bytes);
     close(file);
@@ -153,7 +179,7 @@ static polydb_host_cause put_identity(site_folder *files, const polydb_host_setu
     }
     polydb_host_cause cause = put_file(files->folder, name, beside, bytes, length, NULL, error);
     free(bytes);
-    files->is_named = cause == POLYDB_HOST_DONE;
+    files->is_named |= cause == POLYDB_HOST_DONE;
     return cause;
 }
 
@@ -242,6 +268,9 @@ static site_folder *files_of(polydb_store *store) { return (site_folder *)store;
 static polydb_host_cause folder_read(polydb_store *store, const polydb_host_setup *setup, journal_content *content, polydb_host_found *found, polydb_host_error *error) {
     site_folder *files = files_of(store);
     polydb_host_cause cause = compare(files, setup, error);
+    if (cause == POLYDB_HOST_DONE && files->is_copy && !setup->adopts) {
+        cause = refuse(error, POLYDB_HOST_OTHER_STORE, "open", "the folder");
+    }
     bool was_named = files->is_named;
     if (cause == POLYDB_HOST_DONE) {
         cause = read_journal(files, setup, content, error);
@@ -253,16 +282,22 @@ static polydb_host_cause folder_read(polydb_store *store, const polydb_host_setu
 
 /*
  * Makes that what was read is in the journal's file and on the disk, by a file of its own where there is none or the one that is there is in doubt; that the
- * folder says whose it is; and that the next opening knows of this one.
+ * folder says whose it is, and with which configuration from now on; and that the next opening knows of this one.
  */
 static polydb_host_cause folder_settle(polydb_store *store, const polydb_host_setup *setup, const journal_content *content, polydb_host_found *found, polydb_host_error *error) {
     (void)found;
     site_folder *files = files_of(store);
+    if (content->length < files->noted) {
+        return refuse(error, POLYDB_HOST_LOST, "set back:", files->journal_name);
+    }
+    if (files->has_journal && files->ended_well) {
+        files->noted = content->length; /* else what can be read needn't be on the disk, and a crash may leave less */
+    }
     polydb_host_cause cause = say_it_runs(files, error);
     if (cause == POLYDB_HOST_DONE && (!files->has_journal || !files->ended_well)) {
         cause = put_journal(files, content, error);
     }
-    if (cause == POLYDB_HOST_DONE && !files->is_named) {
+    if (cause == POLYDB_HOST_DONE && (!files->is_named || files->grows)) {
         cause = put_identity(files, setup, error);
     }
     files->has_failed |= cause != POLYDB_HOST_DONE;

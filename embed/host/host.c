@@ -32,13 +32,13 @@ struct polydb_host {
     uint64_t length; /* of the journal */
     room out;        /* what the site gives */
     room held;       /* what it has let out, and the program hasn't got yet; of length 0 where there is nothing */
-    uint64_t held_to;
+    uint64_t held_to, held_tag;
     room own;          /* what it has sent to itself: the length of each, and its bytes */
     bool is_certain;   /* since the last input the store has said that the site is this process's */
     bool is_replaced;  /* it has said that it isn't */
     void *context;
     void (*message)(void *context, uint8_t to, const uint8_t *bytes, size_t length);
-    void (*report)(void *context, const char *line, size_t length);
+    void (*report)(void *context, const char *line, size_t length, uint64_t tag);
 };
 
 enum { FIRST_ROOM = 1 << 16 }; /* bytes; more is taken where one doesn't fit */
@@ -164,9 +164,14 @@ static polydb_host_cause take(polydb_host *host, uint32_t status, const char *wh
     return answer(status, what, error);
 }
 
-polydb_host_cause polydb_host_submit(polydb_host *host, const uint8_t *program, size_t length, bool is_query, polydb_host_error *error) {
+polydb_host_cause polydb_host_submit_tagged(polydb_host *host, const uint8_t *program, size_t length, bool is_query, uint64_t tag, polydb_host_error *error) {
+    polydb_fault fault;
     polydb_host_cause cause = may_use(host, error);
-    return cause == POLYDB_HOST_DONE ? take(host, polydb_site_submit(&host->site, program, length, is_query), "a request", error) : cause;
+    return cause == POLYDB_HOST_DONE ? take(host, polydb_site_submit_tagged(&host->site, program, length, is_query, tag, &fault), "a request", error) : cause;
+}
+
+polydb_host_cause polydb_host_submit(polydb_host *host, const uint8_t *program, size_t length, bool is_query, polydb_host_error *error) {
+    return polydb_host_submit_tagged(host, program, length, is_query, 0, error);
 }
 
 polydb_host_cause polydb_host_receive(polydb_host *host, const uint8_t *message, size_t length, polydb_host_error *error) {
@@ -292,7 +297,7 @@ static polydb_host_cause hold_next(polydb_host *host, bool *any, polydb_host_err
     while (!*any) {
         size_t length;
         polydb_host_cause cause = POLYDB_HOST_DONE;
-        uint32_t status = polydb_site_take_message(&host->site, host->out.bytes, host->out.room, &length, &host->held_to);
+        uint32_t status = polydb_site_take_tagged(&host->site, host->out.bytes, host->out.room, &length, &host->held_to, &host->held_tag);
         switch (status) {
         case POLYDB_DONE:
             if (host->held_to == host->me) {
@@ -328,7 +333,7 @@ static void hand_over(polydb_host *host) {
     if (host->held_to == POLYDB_REPORT) {
         length -= length > 0; /* the line feed */
         held->bytes[length] = '\0';
-        host->report(host->context, (const char *)held->bytes, length);
+        host->report(host->context, (const char *)held->bytes, length, host->held_tag);
     } else {
         host->message(host->context, (uint8_t)host->held_to, held->bytes, length);
     }
@@ -405,6 +410,21 @@ polydb_host_cause polydb_host_read(polydb_host *host, const uint8_t *name, size_
     return POLYDB_HOST_DONE;
 }
 
+polydb_host_cause polydb_host_outcome(polydb_host *host, uint8_t coordinator, uint32_t epoch, uint32_t number, uint32_t *outcome, polydb_host_error *error) {
+    *outcome = 0;
+    polydb_host_cause cause = may_use(host, error);
+    if (cause == POLYDB_HOST_DONE) {
+        cause = answer(polydb_site_outcome(&host->site, coordinator, epoch, number, outcome), "an outcome", error);
+    }
+    if (cause == POLYDB_HOST_DONE) {
+        cause = confirm(host, error); /* what came before doesn't count: it is told as it is now */
+    }
+    if (cause != POLYDB_HOST_DONE) {
+        *outcome = 0;
+    }
+    return cause;
+}
+
 polydb_host_cause polydb_host_confirm(polydb_host *host, polydb_host_error *error) {
     polydb_host_cause cause = may_use(host, error);
     return cause == POLYDB_HOST_DONE ? confirm(host, error) : cause;
@@ -422,6 +442,7 @@ static const char *const STATUSES[] = {
     [POLYDB_MALFORMED] = "a line isn't in the grammar",
     [POLYDB_TOO_LONG] = "more than 16,777,216 bytes",
     [POLYDB_CLOSED] = "closed",
+    [POLYDB_NOTHING] = "there is nothing yet",
     [POLYDB_HAS_EVENTS] = "the configuration has an event",
     [POLYDB_NO_SITE] = "the configuration has no site of this number",
     [POLYDB_NOT_OURS] = "the file is no journal",
@@ -437,6 +458,7 @@ static const char *const STATUSES[] = {
     [POLYDB_NOT_NEXT] = "not the write that is next",
     [POLYDB_UNKNOWN_NAME] = "no item has this name",
     [POLYDB_UNWRITTEN] = "records wait to be written",
+    [POLYDB_NOT_GROWN] = "the configuration isn't what the other has grown to",
 };
 
 static const char *words_of(uint32_t status) {
@@ -449,7 +471,7 @@ const char *polydb_host_describe(const polydb_host_error *error, char *out, size
         [POLYDB_HOST_DONE] = "done",
         [POLYDB_HOST_BUSY] = "another process, or another part of this one, has the site open",
         [POLYDB_HOST_OTHER_SITE] = "the files are another site's",
-        [POLYDB_HOST_OTHER_CONFIG] = "the site was opened first with another configuration",
+        [POLYDB_HOST_OTHER_CONFIG] = "the site was opened before with another configuration",
         [POLYDB_HOST_UNNAMED] = "the journal has records, and nothing says of which site and configuration",
         [POLYDB_HOST_LOST] = "the site was opened before, and its journal is gone or empty",
         [POLYDB_HOST_DAMAGED] = "the file that says which site it is can't be read",

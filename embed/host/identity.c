@@ -6,6 +6,7 @@
 #include <string.h>
 
 #include "errors.h"
+#include "polydb.h"
 
 uint8_t *spell_identity(uint8_t site, const uint8_t *config, size_t config_length, size_t *length) {
     char head[IDENTITY_ROOM];
@@ -19,8 +20,7 @@ uint8_t *spell_identity(uint8_t site, const uint8_t *config, size_t config_lengt
     return bytes;
 }
 
-/* Whether a site that was opened first with the one configuration may be opened with the other. A configuration that only grows could be let in here. */
-static bool configs_agree(const uint8_t *kept, size_t kept_length, const uint8_t *given, size_t given_length) {
+static bool is_same(const uint8_t *kept, size_t kept_length, const uint8_t *given, size_t given_length) {
     return kept_length == given_length && memcmp(kept, given, given_length) == 0;
 }
 
@@ -33,7 +33,7 @@ static unsigned first_line_apart(const uint8_t *one, size_t one_length, const ui
     return line;
 }
 
-polydb_host_cause compare_identity(const uint8_t *bytes, size_t length, uint8_t site, const uint8_t *config, size_t config_length, const char *name,
+polydb_host_cause compare_identity(const uint8_t *bytes, size_t length, uint8_t site, const uint8_t *config, size_t config_length, bool *grows, const char *name,
                                    polydb_host_error *error) {
     char head[IDENTITY_ROOM + 1] = {0};
     unsigned kept_site, version;
@@ -51,9 +51,18 @@ polydb_host_cause compare_identity(const uint8_t *bytes, size_t length, uint8_t 
         snprintf(head, sizeof head, "it is site %u", kept_site);
         return refuse(error, POLYDB_HOST_OTHER_SITE, name, head);
     }
-    if (!configs_agree(bytes + head_length, kept_length, config, config_length)) {
-        snprintf(head, sizeof head, "from line %u on", first_line_apart(bytes + head_length, kept_length, config, config_length));
+    const uint8_t *kept = bytes + head_length;
+    if (is_same(kept, kept_length, config, config_length)) {
+        return POLYDB_HOST_DONE;
+    }
+    uint32_t status = grows == NULL ? POLYDB_NOT_GROWN : polydb_config_grows(kept, kept_length, config, config_length);
+    if (status == POLYDB_NO_MEMORY) {
+        return refuse(error, POLYDB_HOST_NO_MEMORY, "read", name);
+    }
+    if (status != POLYDB_DONE) {
+        snprintf(head, sizeof head, "from line %u on", first_line_apart(kept, kept_length, config, config_length));
         return refuse(error, POLYDB_HOST_OTHER_CONFIG, name, head);
     }
+    *grows = true;
     return POLYDB_HOST_DONE;
 }

@@ -21,6 +21,8 @@
  *   - a new journal is on the disk with its entry in the folder before the site is given anything. A file without a byte counts as new, as `polydb show` makes one;
  *   - where the process before didn't end by polydb_host_close, or one of its writes or syncs has failed, the bytes that can be read needn't be on the disk, and a
  *     sync alone needn't bring them there: the journal is written anew under another name, synced, and takes the old one's place;
+ *   - files that were copied, or set back to what they were before the last opening, are refused where it shows: the lock's file is another one, or the journal is shorter. It doesn't show where
+ *     the disk itself was copied or set back, as with a virtual machine, nor where the lock's file was removed;
  *   - a write or a sync that fails is never told to the site. The same bytes are written again at the next polydb_host_settle;
  *   - a message of the site to itself is given back to it at once.
  *
@@ -29,7 +31,8 @@
  * is used by two threads at once.
  *
  * Files of site S in its folder, which several sites may share: `site-S.pv` the journal; `site-S.id` the number and the configuration; `site-S.lock` the lock,
- * whose text says whether the last process ended well; `site-S.new` and `site-S.id.new`, which are there for a moment. To move a site, close it and move all.
+ * whose text says whether the last process ended well, and by which a copy is known; `site-S.new` and `site-S.id.new`, which are there for a moment. To move a site, close it and move all;
+ * from one file system to another the system copies, so `adopts` is to be said then, once, and the files before are to be gone.
  *
  * It opens files and calls the program back, which the library of `polydb.h` never does. Link it before that: `libpolydb_host.a libpolydb.a`.
  */
@@ -53,11 +56,11 @@ typedef enum {
     POLYDB_HOST_BUSY = 2,
     /* The folder's files are those of a site with another number. */
     POLYDB_HOST_OTHER_SITE = 3,
-    /* The site was opened first with another configuration. */
+    /* The site was opened before with another configuration; on a folder, with one that hasn't grown to this one (polydb_config_grows). */
     POLYDB_HOST_OTHER_CONFIG = 4,
     /* The journal has records, and nothing says of which site and configuration. `adopts` takes it. */
     POLYDB_HOST_UNNAMED = 5,
-    /* The site was opened before, and its journal isn't there, or has no byte. Of a store: a write that it had acknowledged isn't there. */
+    /* The site was opened before, and its journal isn't there, or has no byte, or is shorter than it was. Of a store: a write that it had acknowledged isn't there. */
     POLYDB_HOST_LOST = 6,
     /* The file that says which site it is can't be read as such. */
     POLYDB_HOST_DAMAGED = 7,
@@ -71,15 +74,15 @@ typedef enum {
     POLYDB_HOST_NOT_THERE = 11,
     /* The site is there with records, and was said to be new. */
     POLYDB_HOST_THERE = 12,
+    /* The store is another one than that in which the site was made, or a copy of it; or the folder's files were copied, or moved from another file system. `adopts` takes it. */
+    POLYDB_HOST_OTHER_STORE = 15,
 
     /* Of a store (`setup.store`). */
 
     /* Another process has opened the site since. What this one has waits for ever, and each later call is refused: close it. */
     POLYDB_HOST_REPLACED = 13,
     /* The store can't be reached, or refuses something: `what` says which. */
-    POLYDB_HOST_STORE = 14,
-    /* The store is another one than that in which the site was made, or a copy of it. `adopts` takes it. */
-    POLYDB_HOST_OTHER_STORE = 15
+    POLYDB_HOST_STORE = 14
 } polydb_host_cause;
 
 /* A refusal with its circumstances. */
@@ -104,12 +107,13 @@ typedef struct {
     bool is_new;   /* the site isn't there yet, or has no record: one that has is refused, and stays as it is */
     bool adopts;   /* takes a journal with records beside which nothing says whose it is, or a store that is another one */
 
-    /* Called within polydb_host_settle alone. Of this host's functions they may call polydb_host_submit, polydb_host_receive and polydb_host_tick. Neither pointer may be null. */
+    /* Called within polydb_host_settle alone. Of this host's functions they may call polydb_host_submit, polydb_host_submit_tagged, polydb_host_receive and polydb_host_tick. Neither pointer may be null. */
     void *context;
     /* A message for site `to`, another one. `to` may be no site of the configuration: then it is lost. */
     void (*message)(void *context, uint8_t to, const uint8_t *bytes, size_t length);
-    /* A report, as a run prints it, without its line feed. Nothing more is taken from the site before it returns. */
-    void (*report)(void *context, const char *line, size_t length);
+    /* A report, as a run prints it, without its line feed; `txn ..` with the tag of its request, and all else with 0. Nothing more is taken from the site before it returns: so a number
+     * that it keeps on a disk is there before its transaction can commit. */
+    void (*report)(void *context, const char *line, size_t length, uint64_t tag);
 } polydb_host_setup;
 
 /* What an opening has found. */
@@ -133,6 +137,10 @@ polydb_host_cause polydb_host_open(polydb_host **host, const polydb_host_setup *
 /* A request, as polydb_site_submit takes it. */
 polydb_host_cause polydb_host_submit(polydb_host *host, const uint8_t *program, size_t length, bool is_query, polydb_host_error *error);
 
+/* The same, with a number of the program's, which comes again with the report of the transaction's number. What a program keeps so that a retry does nothing twice, `polydb.h` says at
+ * polydb_site_submit_tagged. */
+polydb_host_cause polydb_host_submit_tagged(polydb_host *host, const uint8_t *program, size_t length, bool is_query, uint64_t tag, polydb_host_error *error);
+
 /* A message of another site comes. */
 polydb_host_cause polydb_host_receive(polydb_host *host, const uint8_t *message, size_t length, polydb_host_error *error);
 
@@ -150,6 +158,12 @@ polydb_host_cause polydb_host_settle(polydb_host *host, polydb_host_error *error
  * the status POLYDB_UNWRITTEN, polydb_host_settle comes first.
  */
 polydb_host_cause polydb_host_read(polydb_host *host, const uint8_t *name, size_t name_length, const char **line, size_t *length, polydb_host_error *error);
+
+/*
+ * What became of a transaction of this site, by the three numbers of its `txn` report: POLYDB_COMMITTED, POLYDB_NOT_COMMITTED or POLYDB_AT_WORK, as polydb_site_outcome says. Where it is
+ * refused with the status POLYDB_UNWRITTEN, polydb_host_settle comes first; with POLYDB_NOTHING the site has given this number to no transaction yet.
+ */
+polydb_host_cause polydb_host_outcome(polydb_host *host, uint8_t coordinator, uint32_t epoch, uint32_t number, uint32_t *outcome, polydb_host_error *error);
 
 /*
  * Whether the site is still this process's, as its store says now: POLYDB_HOST_DONE, or POLYDB_HOST_REPLACED; or POLYDB_HOST_LOST, where the store was set back; or POLYDB_HOST_STORE, where it

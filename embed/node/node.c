@@ -431,12 +431,12 @@ static bool number_in(const char *line, uint64_t *number) {
 
 static bool begins(const char *line, const char *front) { return strncmp(line, front, strlen(front)) == 0; }
 
-static void on_report(void *context, const char *line, size_t length) {
+static void on_report(void *context, const char *line, size_t length, uint64_t tag) {
     polydb_node *node = context;
-    uint64_t number, tag;
+    uint64_t number;
     bool is_answer = true, is_known = false;
     if (begins(line, "txn ") && number_in(line, &number)) {
-        is_known = requests_number(&node->requests, number, &tag);
+        is_known = requests_number(&node->requests, number, tag);
     } else if ((begins(line, "commit ") || begins(line, "refuse ")) && number_in(line, &number)) {
         is_known = requests_end(&node->requests, number, &tag);
     } else {
@@ -619,7 +619,7 @@ polydb_host_cause polydb_node_submit(polydb_node *node, uint64_t tag, const uint
     if (!requests_reserve(&node->requests)) {
         return node_refuse(error, POLYDB_HOST_NO_MEMORY, 0, "a request");
     }
-    polydb_host_cause cause = polydb_host_submit(node->host, program, length, is_query, error);
+    polydb_host_cause cause = polydb_host_submit_tagged(node->host, program, length, is_query, tag, error);
     if (cause == POLYDB_HOST_DONE) {
         requests_add(&node->requests, tag);
         work_again(node);
@@ -661,25 +661,56 @@ static void settle(polydb_node *node) {
     heed(node, cause, &error);
 }
 
-polydb_host_cause polydb_node_read(polydb_node *node, const uint8_t *name, size_t name_length, const char **line, size_t *length, polydb_host_error *error) {
-    polydb_host_cause cause = POLYDB_HOST_STORE;
-    if (is_failing(node) && node->failure.cause == POLYDB_HOST_STORE) { /* it was asked a moment ago, and will be in another */
-        *line = NULL;
-        *length = 0;
+/* Whether a store fails, with how: it was asked a moment ago, and will be in another. */
+static bool is_store_failing(const polydb_node *node, polydb_host_error *error) {
+    if (node->failure.cause == POLYDB_HOST_STORE) {
         *error = node->failure;
-        return cause;
     }
-    cause = polydb_host_read(node->host, name, name_length, line, length, error);
-    if (cause == POLYDB_HOST_ENGINE && error->status == POLYDB_UNWRITTEN && !is_failing(node)) {
-        settle(node);
-        work_again(node);
-        cause = polydb_host_read(node->host, name, name_length, line, length, error);
+    return node->failure.cause == POLYDB_HOST_STORE;
+}
+
+/* Whether a question was refused since records wait, and they were written now: then it is asked again. */
+static bool writes_first(polydb_node *node, polydb_host_cause cause, const polydb_host_error *error) {
+    if (cause != POLYDB_HOST_ENGINE || error->status != POLYDB_UNWRITTEN || is_failing(node)) {
+        return false;
     }
+    settle(node);
+    work_again(node);
+    return true;
+}
+
+/* Takes note of how a question about the site ended. */
+static polydb_host_cause heed_question(polydb_node *node, polydb_host_cause cause, const polydb_host_error *error) {
     if (cause == POLYDB_HOST_REPLACED || cause == POLYDB_HOST_STORE || cause == POLYDB_HOST_LOST) {
         heed(node, cause, error);
         work_again(node);
     }
     return cause;
+}
+
+polydb_host_cause polydb_node_read(polydb_node *node, const uint8_t *name, size_t name_length, const char **line, size_t *length, polydb_host_error *error) {
+    *line = NULL;
+    *length = 0;
+    if (is_store_failing(node, error)) {
+        return error->cause;
+    }
+    polydb_host_cause cause = polydb_host_read(node->host, name, name_length, line, length, error);
+    if (writes_first(node, cause, error)) {
+        cause = polydb_host_read(node->host, name, name_length, line, length, error);
+    }
+    return heed_question(node, cause, error);
+}
+
+polydb_host_cause polydb_node_outcome(polydb_node *node, uint8_t coordinator, uint32_t epoch, uint32_t number, uint32_t *outcome, polydb_host_error *error) {
+    *outcome = 0;
+    if (is_store_failing(node, error)) {
+        return error->cause;
+    }
+    polydb_host_cause cause = polydb_host_outcome(node->host, coordinator, epoch, number, outcome, error);
+    if (writes_first(node, cause, error)) {
+        cause = polydb_host_outcome(node->host, coordinator, epoch, number, outcome, error);
+    }
+    return heed_question(node, cause, error);
 }
 
 /* Says how full a store is: at half, and then at each tenth more. */

@@ -59,7 +59,8 @@ typedef struct {
 
     /* Called within polydb_node_work alone. They call no function of this node but polydb_node_submit. */
     void *context;
-    /* An answer to the request that came with this tag, as a line without its line feed: first `txn T`, then `commit T ..` or `refuse T ..`. */
+    /* An answer to the request that came with this tag, as a line without its line feed: first `txn T`, then `commit T ..` or `refuse T ..`. Nothing more is taken from the site before it
+     * returns: so a number that it keeps on a disk is there before its transaction can commit (polydb_site_submit_tagged). */
     void (*answer)(void *context, uint64_t tag, const char *line, size_t length);
     /* Something that whoever looks after the node should know, in words: a peer that has come, or that is refused; a write that has failed. */
     void (*notice)(void *context, const char *words);
@@ -76,6 +77,9 @@ polydb_host_cause polydb_node_submit(polydb_node *node, uint64_t tag, const uint
 /* What the site shows of an item, as polydb_host_read. Where records wait, it writes them first; POLYDB_UNWRITTEN comes only where that fails. While a store fails, POLYDB_HOST_STORE comes at
  * once: it isn't asked for this, and is asked again at a tick. */
 polydb_host_cause polydb_node_read(polydb_node *node, const uint8_t *name, size_t name_length, const char **line, size_t *length, polydb_host_error *error);
+
+/* What became of a transaction of this site, as polydb_host_outcome. Records that wait are written first, and a store that fails isn't asked, as with polydb_node_read. */
+polydb_host_cause polydb_node_outcome(polydb_node *node, uint8_t coordinator, uint32_t epoch, uint32_t number, uint32_t *outcome, polydb_host_error *error);
 
 /* Can be read when there is something to do, also for a tick. It isn't to be read. */
 int polydb_node_descriptor(const polydb_node *node);

@@ -21,6 +21,7 @@ enum { DONE = 0, REFUSED = 1, WRONG_USE = 2, UNKNOWN = 3 };
 static const char USAGE[] = "usage: polydbc --socket PATH [--json] [--timeout SECONDS] submit PROGRAM\n"
                             "                                                         query PROGRAM\n"
                             "                                                         read [--certain] NAME..\n"
+                            "                                                         outcome TRANSACTION\n"
                             "                                                         info\n"
                             "                                                         lines\n";
 
@@ -235,7 +236,7 @@ static int pass_lines(connection *with) {
 
 static int run(connection *with, char **words, int count) {
     const char *verb = words[0];
-    if ((strcmp(verb, "submit") == 0 || strcmp(verb, "query") == 0) && count == 2) {
+    if ((strcmp(verb, "submit") == 0 || strcmp(verb, "query") == 0 || strcmp(verb, "outcome") == 0) && count == 2) {
         return ask(with, verb, 1, words[1]) ? hear_all(with) : complain("a request");
     }
     if (strcmp(verb, "read") == 0 && count > 1) {

@@ -6,10 +6,12 @@
  *     submit TAG PROGRAM     txn TAG T, and then commit TAG T .. or refuse TAG T ..
  *     query TAG PROGRAM      the same
  *     read TAG NAME          item TAG NAME ..
+ *     outcome TAG T          outcome TAG T committed, .. not-committed, .. at-work, or .. none
  *     info TAG               info TAG ..
  *     json, text             nothing: how answers look from now on
  *
  * TAG is a number below 4,294,967,296 that the client chooses, and by which it knows the answer. What is refused before it begins has the answer error TAG WORDS.
+ * The line `txn TAG T` is sent before anything goes out on which the commit of T depends.
  */
 #define _GNU_SOURCE
 
@@ -29,6 +31,7 @@
 #include <sys/un.h>
 #include <unistd.h>
 
+#include "polydb.h"
 #include "polydb_node.h"
 #include "text.h"
 #ifndef POLYDB_WITHOUT_ETCD
@@ -76,23 +79,24 @@ static void drop(client *one) {
     one->file = NO_FILE;
 }
 
-/* Sends what waits, as much as goes now. Who doesn't read is dropped. */
-static void flush(client *one) {
+/* Sends what waits, as much as goes now; whether the client is still there. */
+static bool send_waiting(client *one) {
     while (one->out.length > 0) {
         ssize_t count = send(one->file, one->out.bytes, one->out.length, MSG_DONTWAIT | MSG_NOSIGNAL);
         if (count < 0 && errno == EINTR) {
             continue;
         }
-        if (count < 0 && (errno == EAGAIN || errno == EWOULDBLOCK)) {
-            break;
-        }
         if (count < 0) {
-            drop(one);
-            return;
+            return errno == EAGAIN || errno == EWOULDBLOCK;
         }
         text_drop(&one->out, (size_t)count);
     }
-    if (one->out.length > MOST_WAITING || one->out.has_failed) {
+    return true;
+}
+
+/* The same, and drops who is gone or doesn't read. */
+static void flush(client *one) {
+    if (!send_waiting(one) || one->out.length > MOST_WAITING || one->out.has_failed) {
         drop(one);
     }
 }
@@ -107,6 +111,9 @@ static void on_answer(void *context, uint64_t tag, const char *line, size_t leng
         client *one = &all->clients[i];
         if (one->file != NO_FILE && one->serial == tag >> 32) {
             answer_client(one, tag & UINT32_MAX, line);
+            if (strncmp(line, "txn ", 4) == 0) {
+                (void)send_waiting(one); /* so that no transaction commits whose number this process has to itself; who is gone is dropped later */
+            }
             return;
         }
     }
@@ -131,6 +138,28 @@ static void read_item(server *all, client *one, uint64_t tag, const char *name) 
     } else {
         refuse_client(one, tag, &error);
     }
+}
+
+static void tell_outcome(server *all, client *one, uint64_t tag, const char *transaction) {
+    static const char *const WORDS[] = {"none", [POLYDB_COMMITTED] = "committed", [POLYDB_NOT_COMMITTED] = "not-committed", [POLYDB_AT_WORK] = "at-work"};
+    uint64_t parts[3];
+    uint32_t outcome;
+    int end = 0;
+    char line[64];
+    polydb_host_error error;
+    bool is_one = sscanf(transaction, "%2" SCNu64 ".%10" SCNu64 ".%10" SCNu64 "%n", &parts[0], &parts[1], &parts[2], &end) == 3 && transaction[end] == '\0' && parts[0] < 16 &&
+                  parts[1] <= UINT32_MAX && parts[2] <= UINT32_MAX;
+    if (!is_one) {
+        answer_client(one, tag, "error a transaction is three numbers: 0.1.0");
+        return;
+    }
+    polydb_host_cause cause = polydb_node_outcome(all->node, (uint8_t)parts[0], (uint32_t)parts[1], (uint32_t)parts[2], &outcome, &error);
+    if (cause != POLYDB_HOST_DONE && !(cause == POLYDB_HOST_ENGINE && error.status == POLYDB_NOTHING)) {
+        refuse_client(one, tag, &error);
+        return;
+    }
+    snprintf(line, sizeof line, "outcome %" PRIu64 ".%" PRIu64 ".%" PRIu64 " %s", parts[0], parts[1], parts[2], WORDS[outcome]);
+    answer_client(one, tag, line);
 }
 
 static void tell_info(server *all, client *one, uint64_t tag) {
@@ -166,7 +195,7 @@ static void obey(server *all, client *one, const char *line) {
     bool is_tagged = sscanf(line, "%7[a-z]%n %" SCNu32 "%n", verb, &verb_length, &tag, &length) == 2 && line[verb_length] == ' ' && line[verb_length + 1] >= '0' &&
                      line[verb_length + 1] <= '9' && (line[length] == ' ' || line[length] == '\0');
     if (!is_tagged) {
-        answer_client(one, 0, "error a line is: submit TAG PROGRAM, query TAG PROGRAM, read TAG NAME, info TAG, json, text");
+        answer_client(one, 0, "error a line is: submit TAG PROGRAM, query TAG PROGRAM, read TAG NAME, outcome TAG TRANSACTION, info TAG, json, text");
         return;
     }
     const char *rest = line + length + strspn(line + length, " ");
@@ -174,6 +203,8 @@ static void obey(server *all, client *one, const char *line) {
         begin(all, one, tag, rest, verb[0] == 'q');
     } else if (strcmp(verb, "read") == 0) {
         read_item(all, one, tag, rest);
+    } else if (strcmp(verb, "outcome") == 0) {
+        tell_outcome(all, one, tag, rest);
     } else if (strcmp(verb, "info") == 0) {
         tell_info(all, one, tag);
     } else {
@@ -439,7 +470,7 @@ static bool open_store(unsigned site, const options *with, polydb_store **store)
 
 /* Nothing is let out while a site is made. */
 static void no_message(void *context, uint8_t to, const uint8_t *bytes, size_t length) { (void)context, (void)to, (void)bytes, (void)length; }
-static void no_report(void *context, const char *line, size_t length) { (void)context, (void)line, (void)length; }
+static void no_report(void *context, const char *line, size_t length, uint64_t tag) { (void)context, (void)line, (void)length, (void)tag; }
 
 /* Makes the files of a site that isn't there yet, and prints its public key: of a new pair, where it has no key yet. */
 static int make_site(unsigned site, const options *with, const text *config, const char *key_path) {

@@ -50,16 +50,15 @@ void requests_add(requests *all, uint64_t tag) {
     all->open++;
 }
 
-bool requests_number(requests *all, uint64_t number, uint64_t *tag) {
-    if (all->waiting.count == 0) {
+bool requests_number(requests *all, uint64_t number, uint64_t tag) {
+    if (all->waiting.count == 0 || all->waiting.tags[all->waiting.first] != tag) {
         return false;
     }
-    *tag = all->waiting.tags[all->waiting.first];
     pop(&all->waiting);
     if (all->numbered.count == 0) {
         all->least = number;
     }
-    push(&all->numbered, *tag);
+    push(&all->numbered, tag);
     return true;
 }
 

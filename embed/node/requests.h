@@ -26,8 +26,8 @@ bool requests_reserve(requests *all);
 /* A request was given. */
 void requests_add(requests *all, uint64_t tag);
 
-/* The oldest request without a number has this one. Once the library's report of a number has the tag itself, this is the place where it comes in. */
-bool requests_number(requests *all, uint64_t number, uint64_t *tag);
+/* The request with this tag, the oldest one without a number, has this one; whether it is that. */
+bool requests_number(requests *all, uint64_t number, uint64_t tag);
 
 /* The request of this number has its answer. */
 bool requests_end(requests *all, uint64_t number, uint64_t *tag);

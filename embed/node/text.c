@@ -233,6 +233,15 @@ static void json_answer(text *out, uint64_t tag, const char *line) {
         text_print(out, "}\n");
         return;
     }
+    if (is_word(first, "outcome")) {
+        word transaction = next_word(&rest), outcome = next_word(&rest);
+        text_print(out, "\"outcome\":");
+        json_string(out, outcome.at, outcome.length);
+        text_print(out, ",\"tag\":%" PRIu64 ",\"txn\":", tag);
+        json_string(out, transaction.at, transaction.length);
+        text_print(out, "}\n");
+        return;
+    }
     if (is_word(first, "commit")) {
         json_commit(out, rest);
     } else if (is_word(first, "refuse")) {

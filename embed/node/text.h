@@ -20,7 +20,7 @@ void text_drop(text *out, size_t length);
 void text_free(text *out);
 
 /*
- * An answer to a request with this tag: a report or an item's line, `error WORDS` or `info WORDS`, with the tag as its second word, and a line feed. As JSON it is an object with
+ * An answer to a request with this tag: a report or an item's line, `outcome T WORD`, `error WORDS` or `info WORDS`, with the tag as its second word, and a line feed. As JSON it is an object with
  * the members that `polydb json` prints for the line, and `tag`.
  */
 void text_answer(text *out, bool is_json, uint64_t tag, const char *line);

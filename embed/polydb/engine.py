@@ -41,6 +41,7 @@ __all__ = [
     "Outcome",
     "Placed",
     "Report",
+    "config_grows",
     "run",
     "status_text",
     "version",
@@ -74,6 +75,7 @@ __all__ = [
 _DONE = 0
 _TOO_SMALL = 18
 _NOTHING = 19
+_NOT_GROWN = 38
 _REPORT = 255
 
 #: The file of a new site: a journal without records.
@@ -300,6 +302,7 @@ _world_open = _declare("polydb_world_open", _handle, c_char_p, c_size_t)
 _world_step = _declare("polydb_world_step", _handle, c_char_p, c_size_t)
 _world_take = _declare("polydb_world_take", _handle, _out, c_size_t, _size)
 _world_close = _declare("polydb_world_close", _handle, result=None)
+_config_grows = _declare("polydb_config_grows", c_char_p, c_size_t, c_char_p, c_size_t)
 _site_open = _declare("polydb_site_open_at", _handle, c_char_p, c_size_t, c_uint8, c_char_p, c_size_t, _fault)
 _site_submit = _declare("polydb_site_submit_tagged", _handle, c_char_p, c_size_t, c_bool, c_uint64, _fault)
 _site_receive = _declare("polydb_site_receive", _handle, c_char_p, c_size_t)
@@ -342,6 +345,16 @@ def run(schedule: Text) -> Tuple[int, bytes]:
     """The status and the text that `polydb run` gives for a schedule: (0, text) where all of it was run."""
     text = _bytes(schedule)
     return _fill(lambda out, room, written: _run(text, len(text), out, room, written))
+
+
+def config_grows(before: Text, later: Text) -> bool:
+    """Whether a site that was opened with the configuration `before` may be opened with `later` from now on: the same sites, the same items and perhaps more behind
+    them, and no lower a limit of journals."""
+    old, new = _bytes(before), _bytes(later)
+    status: int = _config_grows(old, len(old), new, len(new))
+    if status != _NOT_GROWN:
+        _check(status, "config_grows")
+    return status == _DONE
 
 
 def version() -> Tuple[int, int, int]:

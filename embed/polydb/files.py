@@ -4,10 +4,12 @@ What is done here of that which a host owes by `polydb.h`:
 
 - A lock excludes every other process, and every other opening in this one (an open file description lock on `site-S.lock`).
 - After a fork the child is refused (`Forked`), and the parent goes on.
-- The folder says which site it is and with which configuration (`site-S.id`), on the disk before anything else is written; it is compared at each opening.
+- The folder says which site it is and with which configuration (`site-S.id`), on the disk before anything else is written; it is compared at each opening. A configuration
+  to which that one has grown takes its place there, once the library has opened the site with it and before the site is given anything.
 - A new journal is on the disk with its entry in the folder before the site is given anything. A file without a byte counts as new, as `polydb show` makes one.
 - Where the process before didn't end by `close`, or one of its writes or syncs has failed, the bytes that can be read needn't be on the disk, and a sync alone needn't bring
   them there: the journal is written anew under another name, synced, and takes the old one's place.
+- Files that were copied, or set back to what they were before the last opening, are refused where it shows: the lock's file is another one (`Copied`), or the journal is shorter (`Lost`).
 - A write or a sync that fails is never told to the site. The same bytes are written again at the next `settle`.
 - A message of the site to itself is given back to it at once.
 """
@@ -22,9 +24,9 @@ import struct
 from pathlib import Path
 from typing import Callable, NamedTuple, Optional, Union
 
-from .engine import EMPTY_JOURNAL, Bytes, Message, Output, PolydbError, Site, Text, _bytes
+from .engine import EMPTY_JOURNAL, Bytes, HasEvents, Malformed, Message, Outcome, Output, PolydbError, Site, Text, TooLong, _bytes, config_grows
 
-__all__ = ["FileHost", "SiteFolder", "Found", "Busy", "OtherSite", "OtherConfig", "Unnamed", "Lost", "NotThere", "Damaged", "Forked"]
+__all__ = ["FileHost", "SiteFolder", "Found", "Busy", "OtherSite", "OtherConfig", "Unnamed", "Lost", "NotThere", "Damaged", "Copied", "Forked"]
 
 _HEADER = EMPTY_JOURNAL[:8]
 _HEAD = 5  # a gate, and the length of its record
@@ -41,7 +43,7 @@ class OtherSite(PolydbError):
 
 
 class OtherConfig(PolydbError):
-    """The site was opened first with another configuration."""
+    """The site was opened before with a configuration that hasn't grown to this one."""
 
 
 class Unnamed(PolydbError):
@@ -49,7 +51,7 @@ class Unnamed(PolydbError):
 
 
 class Lost(PolydbError):
-    """The site was opened before, and its journal is gone or empty."""
+    """The site was opened before, and its journal is gone or empty, or shorter than it was."""
 
 
 class NotThere(PolydbError):
@@ -58,6 +60,10 @@ class NotThere(PolydbError):
 
 class Damaged(PolydbError):
     """The file that says which site it is can't be read."""
+
+
+class Copied(PolydbError):
+    """The folder's files were copied, or moved from another file system. `adopts` takes them."""
 
 
 class Forked(PolydbError):
@@ -96,6 +102,14 @@ def _set_lock(file: int, kind: int) -> None:
     fcntl.fcntl(file, fcntl.F_OFD_SETLK, struct.pack("hhqqi4x", kind, os.SEEK_SET, 0, 0, 0))
 
 
+def _has_grown(before: bytes, later: bytes) -> bool:
+    """Whether the one configuration has grown to the other. A text that is none has not."""
+    try:
+        return config_grows(before, later)
+    except (HasEvents, Malformed, TooLong):
+        return False
+
+
 class SiteFolder:
     """A site's files in its folder. The lock comes first, as all else is looked at and changed under it. What is changed comes last (`settle`),
     when all has been read and the library has taken it: so a refused opening leaves the files as they were."""
@@ -108,11 +122,14 @@ class SiteFolder:
         self.records = 0
         self._process = os.getpid()
         self._folder = self._lock = self._journal = -1
-        self._is_named = self._has_journal = self._runs = self._has_failed = False
+        self._is_named = self._grows = self._is_copy = self._has_journal = self._runs = self._has_failed = False
+        self._noted = 0  # so long the journal was on the disk when a process opened it, if that was noted
         try:
             self._folder = os.open(folder, os.O_RDONLY | os.O_DIRECTORY | os.O_CLOEXEC)
             self._take_lock()
             self._compare()
+            if self._is_copy and not adopts:
+                raise Copied(f"{self.name('lock')}: {Copied.__doc__}")
             self._read(adopts)
             if is_there and not self._is_named and self.records == 0:
                 raise NotThere(f"{self.name('pv')}: {NotThere.__doc__}")
@@ -146,11 +163,15 @@ class SiteFolder:
             is_there = False
         if not is_there:  # somebody has removed it, and the lock on it excludes nobody
             raise Busy(f"{name}: {Busy.__doc__}")
-        self._ended_well = _read_at(self._lock, len(_ENDED), 0) == _ENDED
+        text = _read_at(self._lock, 128, 0)
+        self._ended_well = text.startswith(_ENDED)
+        if notes := re.match(rb"file (\d{20})\njournal (\d{20})\n", text[len(_ENDED) :]):
+            self._is_copy, self._noted = int(notes[1]) != opened.st_ino, int(notes[2])
 
     def _say_it_runs(self) -> None:
-        """Says in the lock's file that this process has the site, so that the next one knows where this one ends without a word."""
-        _write_at(self._lock, _RUNS, 0)
+        """Says in the lock's file that this process has the site, so that the next one knows where this one ends without a word; and which file that is, and how long the journal was
+        on the disk, so that it knows of a copy, or of files that were set back."""
+        _write_at(self._lock, _RUNS + b"file %020d\njournal %020d\n" % (os.fstat(self._lock).st_ino, self._noted), 0)
         os.fdatasync(self._lock)
         self._runs = True
 
@@ -174,15 +195,13 @@ class SiteFolder:
             raise Damaged(f"{name}: {Damaged.__doc__}")
         if int(head[1]) != self.me:
             raise OtherSite(f"{name}: {OtherSite.__doc__} (site {int(head[1])})")
-        if not self._configs_agree(kept[head.end() :]):
-            lines = zip(kept[head.end() :].split(b"\n"), self.config.split(b"\n"))
+        config = kept[head.end() :]
+        self._grows = config != self.config
+        if self._grows and not _has_grown(config, self.config):
+            lines = zip(config.split(b"\n"), self.config.split(b"\n"))
             line = next((number for number, (one, other) in enumerate(lines, 1) if one != other), 0)
             raise OtherConfig(f"{name}: {OtherConfig.__doc__} (line {line})")
         self._is_named = True
-
-    def _configs_agree(self, kept: bytes) -> bool:
-        """Whether a site that was opened first with that configuration may be opened with this one. A configuration that only grows could be let in here."""
-        return kept == self.config
 
     # ---- the journal ----
 
@@ -239,7 +258,12 @@ class SiteFolder:
         return file
 
     def settle(self) -> None:
-        """Makes that what was read is in the journal's file and on the disk, that the folder says whose it is, and that the next opening knows of this one."""
+        """Makes that what was read is in the journal's file and on the disk, that the folder says whose it is, and with which configuration from now on, and that the next
+        opening knows of this one."""
+        if len(self.held) < self._noted:
+            raise Lost(f"{self.name('pv')}: {Lost.__doc__}")
+        if self._has_journal and self._ended_well:
+            self._noted = len(self.held)  # else what can be read needn't be on the disk, and a crash may leave less
         try:
             self._say_it_runs()
             if not self._has_journal or not self._ended_well:
@@ -247,7 +271,7 @@ class SiteFolder:
                 if self._journal >= 0:
                     os.close(self._journal)  # the old one, of which nothing counts any more
                 self._journal = file
-            if not self._is_named:
+            if not self._is_named or self._grows:
                 os.close(self._put(self.name("id"), self.name("id.new"), self._identity() + self.config))
         except BaseException:
             self._has_failed = True
@@ -299,7 +323,7 @@ class FileHost:
 
     def __init__(self, folder: Union[str, Path], config: Text, me: int, hand_over: Callable[[Output], object], adopts: bool = False, is_there: bool = False) -> None:
         """Opens site `me` on its folder. `hand_over` is called within `settle`, with each Message for another site and each Report. With
-        `adopts`, a journal with records is taken beside which nothing says whose it is. With `is_there`, the site was opened here before: a folder without it is
+        `adopts`, a journal with records is taken beside which nothing says whose it is, and files that were copied. With `is_there`, the site was opened here before: a folder without it is
         refused, and not taken for a new site's. A site whose files were lost isn't to begin anew."""
         self.me = me
         self._hand_over = hand_over
@@ -336,8 +360,13 @@ class FileHost:
         """What the site shows of its item of this name; `settle` comes first."""
         return self._open().read(name)
 
+    def outcome(self, transaction: str) -> Optional[Outcome]:
+        """What became of a transaction of this site, `0.1.0`, or None where its number was given to none yet; `settle` comes first."""
+        return self._open().outcome(transaction)
+
     def settle(self) -> None:
-        """Writes and syncs what the site wants written, hands over what it lets out, and goes on until there is nothing of either.
+        """Writes and syncs what the site wants written, hands over what it lets out, and goes on until there is nothing of either. Nothing more is taken from the site before
+        `hand_over` returns: so a number that it keeps on a disk is there before its transaction can commit.
 
         A write or sync that fails raises OSError. What doesn't rest on it is handed over all the same; the rest waits, and the next call tries again.
         """

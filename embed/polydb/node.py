@@ -27,7 +27,7 @@ from zmq.auth.asyncio import AsyncioAuthenticator
 from zmq.utils import z85
 
 from .answers import Answer, Item, answer_of, item_of
-from .engine import Message, NoMemory, Output, PolydbError, Report, Text, Unwritten, _bytes
+from .engine import Message, NoMemory, Outcome, Output, PolydbError, Report, Text, Unwritten, _bytes
 from .files import FileHost, Found
 
 __all__ = ["Node", "Peer", "BadFile", "Unknown", "read_peers", "read_key", "public_key", "new_key"]
@@ -51,6 +51,10 @@ class BadFile(PolydbError, ValueError):
 
 class Unknown(PolydbError):
     """The node was closed, or has failed, before the request had its answer: it may have committed or not."""
+
+
+class _NotKept(Exception):
+    """A number wasn't kept, and nothing more is to be taken from the site: its transaction might commit."""
 
 
 class Peer(NamedTuple):
@@ -148,7 +152,9 @@ class Node:
         self._inputs: List[Callable[[], None]] = []
         self._outputs: List[Output] = []
         self._links: Dict[int, _Link] = {}
-        self._waiting: List[Tuple[asyncio.Future[Any], Optional[Callable[[str], object]]]] = []
+        self._tag = 0  # of the last request
+        self._waiting: Dict[int, Tuple[asyncio.Future[Any], Optional[Callable[[str], object]]]] = {}
+        self._keeping: Dict[int, Callable[[str], object]] = {}
         self._numbered: Dict[str, asyncio.Future[Any]] = {}
         self._tasks: List[asyncio.Task[None]] = []
         self._readers: List[Callable[[], None]] = []
@@ -183,7 +189,7 @@ class Node:
         node._public = zmq.curve_public(node._secret)
         if me not in node._peers or node._peers[me].key != node._public:
             raise BadFile(f"the file of peers has no site {me}, or another key of it")
-        node.host = FileHost(folder, config, me, node._outputs.append, adopts, is_there)
+        node.host = FileHost(folder, config, me, node._take_over, adopts, is_there)
         node.found = node.host.found
         node._disk = ThreadPoolExecutor(1, "polydb-disk")
         try:
@@ -201,36 +207,27 @@ class Node:
 
     # ---- what a program asks for ----
 
-    async def submit(self, program: Text, begun: Optional[Callable[[str], object]] = None) -> Answer:
+    async def submit(self, program: Text, begun: Optional[Callable[[str], object]] = None, keep: Optional[Callable[[str], object]] = None) -> Answer:
         """A request, with this site as its coordinator: its end, a Commit or a Refusal. Where this is cancelled, it goes on all the same.
 
-        `begun` is told the transaction's number as soon as it has one.
+        `begun` is told the transaction's number, in the loop, as soon as it has one; but the site may have let out more by then, and the transaction may have committed.
+        `keep` is told it before anything more is taken from the site, in the thread that writes: a number that it has on a disk when it returns is there before the
+        transaction can commit. So who keeps each request before it is given, and its number so, can ask for its `outcome` after a crash, and a retry does nothing twice: a
+        request without a number hasn't committed, and never will. Where `keep` raises, the node has failed, and is to be closed.
         """
-        return await self._ask(program, False, begun)
+        return await self._ask(program, False, begun, keep)
 
-    async def query(self, program: Text, begun: Optional[Callable[[str], object]] = None) -> Answer:
+    async def query(self, program: Text, begun: Optional[Callable[[str], object]] = None, keep: Optional[Callable[[str], object]] = None) -> Answer:
         """A request that assigns nothing and has a `return`."""
-        return await self._ask(program, True, begun)
+        return await self._ask(program, True, begun, keep)
+
+    async def outcome(self, transaction: str) -> Optional[Outcome]:
+        """What became of a transaction of this site, `0.1.0`, once all is written; None where its number was given to none yet."""
+        return cast(Optional[Outcome], await self._look(lambda: self.host.outcome(transaction)))
 
     async def read(self, name: str) -> Item:
         """What the site shows of its item of this name, once all is written."""
-        if self._is_closed:
-            raise Unknown("the node is closed")
-        done = self._new_future()
-
-        def look() -> None:
-            try:
-                shown = self.host.read(name)
-            except Unwritten:
-                self._readers.append(look)
-            except PolydbError as error:
-                _fail(done, error)
-            else:
-                _give(done, item_of(name, shown))
-
-        self._readers.append(look)
-        self._give_input(lambda: None)
-        return cast(Item, await done)
+        return item_of(name, cast(str, await self._look(lambda: self.host.read(name))))
 
     async def certain(self, name: str, pause: float = 0.02) -> int:
         """The value of an item, once it is neither held nor in doubt."""
@@ -276,18 +273,42 @@ class Node:
 
     # ---- inputs and outputs ----
 
-    async def _ask(self, program: Text, is_query: bool, begun: Optional[Callable[[str], object]]) -> Answer:
+    async def _look(self, ask: Callable[[], object]) -> object:
+        """What the site answers to a question, once all is written."""
+        if self._is_closed:
+            raise Unknown("the node is closed")
+        done = self._new_future()
+
+        def look() -> None:
+            try:
+                answer = ask()
+            except Unwritten:
+                self._readers.append(look)
+            except (PolydbError, ValueError) as error:
+                _fail(done, error)
+            else:
+                _give(done, answer)
+
+        self._readers.append(look)
+        self._give_input(lambda: None)
+        return await done
+
+    async def _ask(self, program: Text, is_query: bool, begun: Optional[Callable[[str], object]], keep: Optional[Callable[[str], object]]) -> Answer:
         if self._is_closed or self._is_spent:
             raise Unknown("the node is closed" if self._is_closed else "the site has no number left: open it again")
         done = self._new_future()
+        self._tag += 1
+        tag = self._tag
 
         def give() -> None:
             try:
-                self.host.submit(program, is_query)
+                self.host.submit(program, is_query, tag)
             except PolydbError as error:
                 _fail(done, error)
             else:
-                self._waiting.append((done, begun))  # numbers are given in the order of the requests
+                self._waiting[tag] = done, begun
+                if keep is not None:
+                    self._keeping[tag] = keep
 
         self._give_input(give)
         return cast(Answer, await done)
@@ -332,6 +353,16 @@ class Node:
             for look in readers:
                 look()
 
+    def _take_over(self, output: Output) -> None:
+        """What the site lets out, within its `settle` and so in the thread that writes. All but the numbers that are to be kept waits for the loop."""
+        keep = self._keeping.pop(output.tag, None) if isinstance(output, Report) else None
+        if keep is not None and isinstance(output, Report):
+            try:
+                keep(output.line.partition(" ")[2])
+            except Exception as error:
+                raise _NotKept(f"{output.line} wasn't kept: {error!r}") from error
+        self._outputs.append(output)
+
     def _say_failing(self, error: Exception) -> None:
         if not self._is_failing:
             self._is_failing = True
@@ -339,14 +370,14 @@ class Node:
 
     def _hand_over(self, output: Output) -> None:
         if isinstance(output, Report):
-            self._report(output.line)
+            self._report(output.line, output.tag)
         else:
             self._send(output)
 
-    def _report(self, line: str) -> None:
+    def _report(self, line: str, tag: int) -> None:
         word, _, rest = line.partition(" ")
-        if word == "txn" and self._waiting:
-            self._numbered[rest], begun = self._waiting.pop(0)
+        if word == "txn" and tag in self._waiting:
+            self._numbered[rest], begun = self._waiting.pop(tag)
             if begun is not None:
                 begun(rest)
         elif word in ("commit", "refuse"):
@@ -357,8 +388,9 @@ class Node:
             self._notice(line)  # `full ..`, `spent ..`
             if word == "spent":  # for a request or for a grant: from here on a number can't be told from another's
                 self._is_spent = True
-                while self._waiting:
-                    _fail(self._waiting.pop(0)[0], Unknown("the site has no number left: open it again"))
+                for done, _ in self._waiting.values():
+                    _fail(done, Unknown("the site has no number left: open it again"))
+                self._waiting.clear()
 
     def _send(self, message: Message) -> None:
         link = self._links.get(message.to)

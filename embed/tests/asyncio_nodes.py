@@ -72,8 +72,13 @@ async def talk(sites):
     sites.wait_for_log(2, "site 0 is here")
     assert first.found.records == 0 and first.hears(2)
 
-    numbers = []
-    assert (await first.submit("a := a + 0", numbers.append)).transaction in numbers
+    numbers, kept = [], []
+    answer = await first.submit("a := a + 0", numbers.append, lambda number: kept.append((number, threading.current_thread().name)))
+    assert numbers == [answer.transaction] and kept[0][0] == answer.transaction and kept[0][1].startswith("polydb-disk")
+    assert await first.outcome(answer.transaction) is (polydb.Outcome.COMMITTED if answer else polydb.Outcome.NOT_COMMITTED)
+    assert await first.outcome("0.1.1000") is None
+    await refused(polydb.NotHere, first.outcome("1.1.0"))
+    await refused(ValueError, first.outcome("0.1"))
     commit = await commits(first, "a := a - 10 ; b := b + 10 ; return a")
     assert commit.reply == 90 and commit.is_certain, commit
     assert await first.certain("a") == 90 and await second.certain("b") == 60
@@ -90,7 +95,7 @@ async def talk(sites):
     await refused(polydb.Busy, opened(sites, 2, notices[0]))  # a polydbd has it
     second_here = await asyncio.to_thread(nodes.subprocess.run, sites.words(0), capture_output=True, text=True)
     assert second_here.returncode == 3 and "has the site open" in second_here.stderr, second_here
-    await refused(polydb.OtherConfig, Node.open(await closed(second, sites), nodes.CONFIG + "\n", 1, sites.peers))
+    await refused(polydb.OtherConfig, Node.open(await closed(second, sites), nodes.CONFIG.replace("50", "51"), 1, sites.peers))
 
     # Several at once are answered each on its own.
     second = await opened(sites, 1, notices[1])
@@ -278,9 +283,29 @@ def half_frames(sites):
     nodes.commits(sites.client(2), "c := c + 0 ; a := a + 0")
 
 
+async def numbers_that_are_not_kept(sites):
+    """Where a number can't be kept nothing more goes out, so its transaction never commits."""
+    notices, told = Notices(), []
+
+    def keep(number):
+        told.append(number)
+        raise OSError(errno.ENOSPC, "no room")
+
+    node = await opened(sites, 0, notices)
+    await refused(Unknown, node.submit("a := a + 1", keep=keep))
+    await notices.has("the node has failed")
+    await refused(Unknown, node.submit("a := a + 1"))
+    await node.close()
+    node = await opened(sites, 0, notices)
+    assert await node.outcome(told[0]) is polydb.Outcome.NOT_COMMITTED and (await node.read("a")).value == 100
+    await node.close()
+
+
 def main():
     with nodes.Sites() as sites:
         asyncio.run(talk(sites))
+    with nodes.Sites() as sites:
+        asyncio.run(numbers_that_are_not_kept(sites))
     with nodes.Sites() as sites:
         bad_frames(sites)
     with nodes.Sites() as sites:

@@ -349,6 +349,33 @@ def tags():
     assert all(report.tag == 0 for report in reports if not report.line.startswith("txn "))
 
 
+def configurations_that_grow():
+    """What a configuration grows to, and what it doesn't; and texts that are none, the one before first."""
+    limited = "sites 2\njournal 1000\nitem a 0 100\nitem b 1 50\n"
+    grown = [CONFIG, CONFIG + "item c 0 -7\nitem d 1 0\n", "# one site more is another database\n\nsites 2\n" + CONFIG[8:], limited.replace("1000", "1001"), limited]
+    for later in grown[:3]:
+        assert polydb.config_grows(CONFIG, later) and polydb.config_grows(limited, later), later  # the greatest limit is the one where none is said
+    assert polydb.config_grows(limited, grown[3]) and polydb.config_grows(limited, limited)
+    for later in (
+        limited,  # a lower limit
+        CONFIG.replace("sites 2", "sites 3"),
+        CONFIG.replace("100", "101"),
+        CONFIG.replace("item b 1", "item b 0"),
+        CONFIG.replace("item a", "item c"),
+        CONFIG.replace("item b", "item c 0 0\nitem b"),
+        "sites 2\nitem b 1 50\nitem a 0 100\n",
+        "sites 2\nitem a 0 100\n",
+    ):
+        assert not polydb.config_grows(CONFIG, later), later
+    assert not polydb.config_grows("sites 3\n", "sites 2\n") and polydb.config_grows("sites 1\n", "sites 1\nitem a 0 0\n")
+    long = "#" * (1 << 24) + "\n"
+    for error, text in ((polydb.Malformed, ""), (polydb.Malformed, "nonsense\n"), (polydb.HasEvents, CONFIG + "tick 0\n"), (polydb.TooLong, long)):
+        refused(error, polydb.config_grows, text, CONFIG)
+        refused(error, polydb.config_grows, CONFIG, text)
+        refused(error, polydb.config_grows, text, "nonsense" * (1 << 21) + "!")
+    assert engine._config_grows(None, 0, None, 0) == 3  # both are empty
+
+
 def main():
     closed_handles()
     lengths_of_zero()
@@ -362,6 +389,7 @@ def main():
     writes_never_asked_for()
     small_rooms()
     tags()
+    configurations_that_grow()
     print("each is refused, and nothing is lost")
 
 

@@ -97,7 +97,7 @@ static void anything_is_survived(void) {
 }
 
 static void on_message(void *context, uint8_t to, const uint8_t *bytes, size_t length) { (void)context, (void)to, (void)bytes, (void)length; }
-static void on_report(void *context, const char *line, size_t length) { (void)context, (void)line, (void)length; }
+static void on_report(void *context, const char *line, size_t length, uint64_t tag) { (void)context, (void)line, (void)length, (void)tag; }
 
 static void nobody_is_there(void) {
     static const char *const WRONG[] = {"", ",", "127.0.0.1:2379", "ftp://127.0.0.1", "http://127.0.0.1:1,nonsense"};

@@ -83,13 +83,23 @@ static void fail(call which, int nth, int with) {
 static char folder[64];
 static int reports, commits;
 static char last_report[128];
+static uint64_t last_tag; /* of a number that was reported */
+static bool dies_at_number;
 
-static void on_report(void *context, const char *line, size_t length) {
+static void on_report(void *context, const char *line, size_t length, uint64_t tag) {
     (void)context;
     assert(strlen(line) == length);
     reports++;
     commits += strncmp(line, "commit ", 7) == 0;
     snprintf(last_report, sizeof last_report, "%s", line);
+    if (strncmp(line, "txn ", 4) == 0) {
+        last_tag = tag;
+        if (dies_at_number) {
+            raise(SIGKILL);
+        }
+    } else {
+        assert(tag == 0);
+    }
 }
 
 static void on_message(void *context, uint8_t to, const uint8_t *bytes, size_t length) {
@@ -163,11 +173,12 @@ static void transfer(polydb_host *host) {
     assert(commits == before + 1);
 }
 
+/* `item NAME ..` is what it shows of the item of this name. */
 static void shows(polydb_host *host, const char *wanted) {
-    const char *line;
+    const char *line, *name = wanted + strlen("item ");
     size_t length;
     settles(host);
-    assert(polydb_host_read(host, (const uint8_t *)"a", 1, &line, &length, &error) == POLYDB_HOST_DONE);
+    assert(polydb_host_read(host, (const uint8_t *)name, strcspn(name, " "), &line, &length, &error) == POLYDB_HOST_DONE);
     assert(strcmp(line, wanted) == 0 && length == strlen(wanted));
 }
 
@@ -278,10 +289,72 @@ static void names_are_compared(void) {
     settles(host);
     transfer(host);
     polydb_host_close(host);
-    is_refused(POLYDB_HOST_OTHER_CONFIG, 0, GROWN);
-    assert(strstr(error.what, "line 4") != NULL);
     is_refused(POLYDB_HOST_OTHER_CONFIG, 0, "sites 1\n");
+    is_refused(POLYDB_HOST_OTHER_CONFIG, 0, "sites 1\nitem a 0 100\nitem c 0 0\nitem b 0 50\n");
+    assert(strstr(error.what, "line 3") != NULL);
     drop_folder();
+}
+
+/* A configuration with an item more is let in and takes the other's place, which isn't let in any more. */
+static void configurations_grow(void) {
+    new_folder();
+    polydb_host *host = opened();
+    settles(host);
+    transfer(host);
+    polydb_host_close(host);
+    assert(open_as(&host, 0, GROWN, false) == POLYDB_HOST_DONE);
+    settles(host);
+    shows(host, "item a 90");
+    shows(host, "item c 0");
+    polydb_host_close(host);
+    is_refused(POLYDB_HOST_OTHER_CONFIG, 0, CONFIG);
+    assert(strstr(error.what, "line 4") != NULL);
+    assert(open_as(&host, 0, GROWN, false) == POLYDB_HOST_DONE);
+    polydb_host_close(host);
+    drop_folder();
+}
+
+static call dying;
+static int dies_in;
+
+static void grows_until_it_dies(void) {
+    polydb_host *host;
+    dies = true;
+    fail(dying, dies_in, 0);
+    assert(open_as(&host, 0, GROWN, false) == POLYDB_HOST_DONE);
+    settles(host);
+    polydb_host_close(host);
+}
+
+static const call CALLS[] = {PWRITE, FDATASYNC, FSYNC, RENAMEAT};
+
+/* Whatever call a process dies in that opens a site with a later configuration, the folder says the one before or the later one, and the later one is let in. */
+static void deaths_leave_a_configuration(void) {
+    for (size_t i = 0; i < sizeof CALLS / sizeof *CALLS; i++) {
+        bool died = true;
+        for (int nth = 1; died; nth++) {
+            polydb_host *host;
+            new_folder();
+            host = opened();
+            transfer(host);
+            polydb_host_close(host);
+            dying = CALLS[i];
+            dies_in = nth;
+            died = was_killed(grows_until_it_dies);
+            if (open_as(&host, 0, CONFIG, false) == POLYDB_HOST_DONE) {
+                assert(died);
+                shows(host, "item a 90");
+                polydb_host_close(host);
+            } else {
+                assert(error.cause == POLYDB_HOST_OTHER_CONFIG);
+            }
+            assert(open_as(&host, 0, GROWN, false) == POLYDB_HOST_DONE);
+            shows(host, "item a 90");
+            shows(host, "item c 0");
+            polydb_host_close(host);
+            drop_folder();
+        }
+    }
 }
 
 static void copy_file(const char *from, const char *to) {
@@ -290,6 +363,44 @@ static void copy_file(const char *from, const char *to) {
     ssize_t length = read(file, bytes, sizeof bytes);
     assert(length >= 0 && close(file) == 0);
     put(to, bytes, (size_t)length);
+}
+
+static void put_in_place(const char *from, const char *to) {
+    int files = open(folder, O_RDONLY | O_DIRECTORY);
+    assert(files >= 0 && renameat(files, from, files, to) == 0 && close(files) == 0);
+}
+
+/* A folder that was copied is refused, unless it is said that it may be, and one whose journal was set back to what it was before the last opening. */
+static void copies_are_refused(void) {
+    new_folder();
+    polydb_host *host = opened();
+    transfer(host);
+    polydb_host_close(host);
+    uint64_t first = found.length;
+    copy_file("site-0.pv", "kept");
+    host = opened();
+    assert(found.length > first);
+    transfer(host);
+    polydb_host_close(host);
+    host = opened();
+    settles(host);
+    polydb_host_close(host);
+    copy_file("site-0.pv", "other");
+    copy_file("kept", "site-0.pv");
+    is_refused(POLYDB_HOST_LOST, 0, CONFIG);
+    copy_file("other", "site-0.pv");
+    polydb_host_close(opened());
+    copy_file("site-0.lock", "other");
+    put_in_place("other", "site-0.lock");
+    is_refused(POLYDB_HOST_OTHER_STORE, 0, CONFIG);
+    assert(open_as(&host, 0, CONFIG, true) == POLYDB_HOST_DONE);
+    shows(host, "item a 80");
+    polydb_host_close(host);
+    polydb_host_close(opened());
+    unlink(path_of("site-0.lock"));
+    polydb_host_close(opened()); /* without it nothing shows */
+    unlink(path_of("kept"));
+    drop_folder();
 }
 
 static void sites_are_compared(void) {
@@ -444,6 +555,67 @@ static void full_journals_stay(void) {
     ino_t file = inode_of("site-0.pv");
     is_refused(POLYDB_HOST_ENGINE, 0, SMALL);
     assert(error.status == POLYDB_FULL && inode_of("site-0.pv") == file);
+    assert(open_as(&host, 0, "sites 1\njournal 4096\nitem a 0 100\n", false) == POLYDB_HOST_DONE);
+    shows(host, "item a 100");
+    polydb_host_close(host);
+    is_refused(POLYDB_HOST_OTHER_CONFIG, 0, SMALL);
+    drop_folder();
+}
+
+/* ---- numbers of requests ---- */
+
+static void tells(polydb_host *host, unsigned epoch, unsigned number, uint32_t wanted) {
+    uint32_t outcome;
+    assert(polydb_host_outcome(host, 0, epoch, number, &outcome, &error) == POLYDB_HOST_DONE && outcome == wanted);
+}
+
+static void tells_nothing(polydb_host *host, uint8_t coordinator, unsigned epoch, unsigned number, uint32_t status) {
+    uint32_t outcome = UINT32_MAX;
+    assert(polydb_host_outcome(host, coordinator, epoch, number, &outcome, &error) == POLYDB_HOST_ENGINE && error.status == status && outcome == 0);
+}
+
+static void tags_come_with_numbers(void) {
+    new_folder();
+    polydb_host *host = opened();
+    tells_nothing(host, 0, 1, 0, POLYDB_UNWRITTEN);
+    settles(host);
+    tells_nothing(host, 0, 1, 0, POLYDB_NOTHING);
+    tells_nothing(host, 1, 1, 0, POLYDB_NOT_HERE);
+    assert(polydb_host_submit_tagged(host, (const uint8_t *)"nonsense", 8, false, 6, &error) == POLYDB_HOST_ENGINE && error.status == POLYDB_BAD_TEXT);
+    assert(polydb_host_submit_tagged(host, (const uint8_t *)TRANSFER, sizeof TRANSFER - 1, false, UINT64_MAX, &error) == POLYDB_HOST_DONE);
+    settles(host);
+    assert(last_tag == UINT64_MAX && strncmp(last_report, "commit 0.1.0 ", 13) == 0);
+    tells(host, 1, 0, POLYDB_COMMITTED);
+    transfer(host);
+    assert(last_tag == 0);
+    polydb_host_close(host);
+    host = opened();
+    tells_nothing(host, 0, 1, 0, POLYDB_UNWRITTEN);
+    settles(host);
+    tells(host, 1, 1, POLYDB_COMMITTED);
+    tells(host, 1, 2, POLYDB_NOT_COMMITTED); /* the epoch has passed, so no transaction has this number */
+    polydb_host_close(host);
+    drop_folder();
+}
+
+static void dies_with_its_number(void) {
+    polydb_host *host = opened();
+    settles(host);
+    dies_at_number = true;
+    transfer(host);
+}
+
+/* A program that has kept the number before it returns from `report`, and dies then, asks for it afterwards: the transaction hasn't committed, and never will. */
+static void numbers_come_first(void) {
+    new_folder();
+    assert(was_killed(dies_with_its_number));
+    polydb_host *host = opened();
+    settles(host);
+    tells(host, 1, 0, POLYDB_NOT_COMMITTED);
+    shows(host, "item a 100");
+    transfer(host);
+    tells(host, 2, 0, POLYDB_COMMITTED);
+    polydb_host_close(host);
     drop_folder();
 }
 
@@ -487,8 +659,6 @@ static void doubt_makes_a_copy(void) {
 
 /* ---- each write, sync and rename failing in turn ---- */
 
-static const call CALLS[] = {PWRITE, FDATASYNC, FSYNC, RENAMEAT};
-
 static void failures_say_nothing_too_early(int with) {
     for (size_t i = 0; i < sizeof CALLS / sizeof *CALLS; i++) {
         for (int nth = 1;; nth++) {
@@ -518,9 +688,6 @@ static void failures_say_nothing_too_early(int with) {
         }
     }
 }
-
-static call dying;
-static int dies_in;
 
 static void lives_until_it_dies(void) {
     dies = true;
@@ -555,13 +722,18 @@ int main(void) {
     one_at_a_time();
     children_keep_no_lock();
     names_are_compared();
+    configurations_grow();
+    deaths_leave_a_configuration();
     sites_are_compared();
+    copies_are_refused();
     records_are_written_together();
     empty_files_are_new();
     lost_sites_are_refused();
     no_journals_are_refused();
     long_files_take_no_memory();
     full_journals_stay();
+    tags_come_with_numbers();
+    numbers_come_first();
     doubt_makes_a_copy();
     failures_say_nothing_too_early(EIO);
     failures_say_nothing_too_early(ENOSPC);

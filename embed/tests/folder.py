@@ -113,6 +113,56 @@ def names_are_compared():
         folder.open().close()
 
 
+def configurations_grow():
+    """One that has more items behind the others, or a higher limit of journals, is let in, and the one before not any more."""
+    limited, grown = CONFIG.replace("item a", "journal 1000\nitem a"), CONFIG + "item c 0 7\n"
+    with Folder() as folder:
+        with folder.open(limited) as host:
+            folder.transfer(host)
+        for other in (limited.replace("1000", "999"), limited.replace("item a", "item c 0 7\nitem a"), limited.replace("50", "51"), "nonsense\n"):
+            refused(polydb.OtherConfig, folder.open, other)
+        assert polydb.config_grows(limited, CONFIG) and polydb.config_grows(CONFIG, grown) and not polydb.config_grows(grown, CONFIG)
+        with folder.open(CONFIG) as host:
+            host.settle()
+            assert host.read("a") == "90"
+        refused(polydb.OtherConfig, folder.open, limited)
+        with folder.open(grown) as host:
+            host.settle()
+            assert host.read("a") == "90" and host.read("c") == "7"
+        refused(polydb.OtherConfig, folder.open)
+        folder.open(grown).close()
+
+
+def copies_are_refused():
+    """Files that were copied are refused, unless it is said that they may be, and a journal that was set back to what it was before the last opening."""
+    with Folder() as folder, Folder() as other:
+        for _ in range(2):
+            with folder.open() as host:
+                folder.transfer(host)
+        kept = folder.journal().read_bytes()
+        folder.open().close()
+        whole = folder.journal().read_bytes()
+        assert whole == kept
+        with folder.open() as host:
+            folder.transfer(host)
+        folder.open().close()
+        whole = folder.journal().read_bytes()
+        folder.journal().write_bytes(kept)
+        refused(polydb.Lost, folder.open)
+        folder.journal().write_bytes(whole)
+        for path in folder.path.iterdir():
+            shutil.copy2(path, other.path)
+        refused(polydb.Copied, other.open)
+        refused(polydb.Copied, other.open, is_there=True)
+        with other.open(adopts=True) as host:
+            host.settle()
+            assert host.read("a") == "70"
+        other.open().close()
+        for path in list(folder.path.iterdir()):
+            path.rename(other.path / path.name)  # within a file system a file that is moved is the same
+        other.open().close()
+
+
 def journals():
     with Folder() as folder:
         folder.journal().write_bytes(b"")
@@ -277,6 +327,8 @@ def main():
         return
     one_at_a_time()
     names_are_compared()
+    configurations_grow()
+    copies_are_refused()
     journals()
     lost()
     doubt()

@@ -233,7 +233,7 @@ def who_may_not():
         second = subprocess.run(sites.words(0), capture_output=True, text=True)
         assert second.returncode == 3 and "has the site open" in second.stderr, second
         other = sites.folder / "other"
-        other.write_text(CONFIG + "item d 0 5\n")
+        other.write_text(CONFIG.replace("item b", "item d 0 5\nitem b"))
         refused = subprocess.run(sites.words(2, config=sites.folder / "nowhere"), capture_output=True, text=True)
         assert refused.returncode == 3 and "No such file" in refused.stderr, refused
         assert "has the site open" in sites.new_site(0, status=3).stderr
@@ -304,6 +304,57 @@ def who_may_not():
         assert "info" in client.ask("info")
 
 
+def numbers_have_outcomes():
+    """What became of a transaction is told by its number, also by the next process; and of no other site's, and of nothing that is no transaction."""
+    with Sites() as sites:
+        for me in range(3):
+            sites.start(me)
+        client = sites.client(0)
+        tag = client.send("submit", "a := a - 10 ; b := b + 10")
+        word, found, number = client.line().split()
+        assert (word, found) == ("txn", str(tag))
+        word = client.line().split()[0]
+        wanted = {"commit": "committed", "refuse": "not-committed"}[word]
+        assert client.ask("outcome", number) == f"outcome {number} {wanted}"
+        assert client.ask("outcome", "0.1.4000000000") == "outcome 0.1.4000000000 none"
+        assert client.ask("outcome", "1.1.0").startswith("error ")
+        for words in ("", "0.1", "0.1.0 ", "0.1.x", "99999999999.1.0", "16.1.0", "-1.1.0"):
+            assert client.ask("outcome", words).startswith("error "), words
+        sites.kill(0)
+        sites.start(0)
+        client = sites.client(0)
+        assert client.ask("outcome", number) == f"outcome {number} {wanted}"
+        assert sites.polydbc(0, "outcome", number) == [f"outcome {number} {wanted}"]
+        client.socket.sendall(b"json\n")
+        client.send("outcome", number)
+        assert json.loads(client.line()) == {"outcome": wanted, "tag": client.tag, "txn": number}
+
+
+def configurations_grow():
+    """All sites are stopped, and started with a later configuration: what they show stays, the later items are there, and the configuration before is refused."""
+    with Sites() as sites:
+        for me in range(3):
+            sites.start(me)
+        commits(sites.client(0), "a := a - 10 ; b := b + 10")
+        for me in range(3):
+            sites.stop(me)
+        grown = sites.folder / "grown"
+        grown.write_text(CONFIG.replace("item a", "journal 4000000000\nitem a") + "item d 2 5\n")
+        refused = subprocess.run(sites.words(0, config=grown), capture_output=True, text=True)
+        assert refused.returncode == 3 and "another configuration" in refused.stderr, refused  # its limit is lower than the greatest, which is where none is said
+        grown.write_text(CONFIG + "item d 2 5\n")
+        for me in range(3):
+            sites.start(me, config=grown)
+        client = sites.client(0)
+        until(lambda: sites.client(1).ask("read", "b") == "item b 60", "b")
+        commits(client, "a := a - 10 ; d := d + 10")
+        until(lambda: sites.client(2).ask("read", "d") == "item d 15", "d")
+        sites.stop(0)
+        refused = subprocess.run(sites.words(0), capture_output=True, text=True)
+        assert refused.returncode == 3 and "another configuration" in refused.stderr, refused
+        sites.start(0, config=grown)
+
+
 def peers_that_are_wrong():
     """Files of peers that aren't as they should be."""
     with Sites() as sites:
@@ -370,7 +421,7 @@ def disks_that_fail():
 
 
 def main():
-    tests = [a_transfer_and_a_kill, who_may_not, peers_that_are_wrong, disks_that_fail]
+    tests = [a_transfer_and_a_kill, who_may_not, numbers_have_outcomes, configurations_grow, peers_that_are_wrong, disks_that_fail]
     for test in tests:
         if len(sys.argv) < 2 or test.__name__ in sys.argv[1:]:
             test()

@@ -1,5 +1,5 @@
 -- The number of each cause for which the engine refuses, as embed/polydb.h has it.
-use Rattle.std.specs.Prelude.{ℕ}
+use Rattle.std.specs.Prelude.{ℕ, Bool, true, false, Result, Ok, Err}
 use Rattle.pv_base.specs.declared.failure.NoMemory.{NoMemory}
 use Rattle.pv_embed.specs.declared.fault.OpenFault.{OpenFault}
 use Rattle.pv_embed.specs.declared.fault.OpenFault.TheVariants as opening
@@ -9,6 +9,8 @@ use Rattle.pv_embed.specs.declared.fault.SubmitFault.{SubmitFault}
 use Rattle.pv_embed.specs.declared.fault.SubmitFault.TheVariants as submitting
 use Rattle.pv_embed_world.specs.declared.fault.WorldFault.{WorldFault}
 use Rattle.pv_embed_world.specs.declared.fault.WorldFault.TheVariants as world
+use Rattle.pv_growth.specs.declared.fault.ConfigFault.{ConfigFault}
+use Rattle.pv_growth.specs.declared.fault.ConfigFault.TheVariants as growing
 use Rattle.pv_handle.specs.declared.faults.NotNext.{NotNext}
 use Rattle.pv_handle.specs.declared.faults.ValueFault.{ValueFault}
 use Rattle.pv_handle.specs.declared.faults.ValueFault.TheVariants as value
@@ -25,6 +27,15 @@ opening_number (opening.TooManyOutcomes count) = 24
 opening_number opening.EpochsSpent = 25
 opening_number (opening.Full length) = 26
 opening_number opening.NoMemory = 7
+
+-- whether a configuration grows; or why one of the two is none
+abbrev pub growth_number : Result Bool ConfigFault → ℕ
+growth_number (Ok true) = 0
+growth_number (Ok false) = 38
+growth_number (Err growing.TooLong) = 6
+growth_number (Err (growing.Malformed line cause)) = 3
+growth_number (Err growing.HasEvents) = 20
+growth_number (Err growing.NoMemory) = 7
 
 -- why a request isn't taken
 abbrev pub request_number : SubmitFault → ℕ

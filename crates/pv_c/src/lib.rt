@@ -5,6 +5,7 @@ mod asking;
 mod fault;
 mod given_numbers;
 mod given_text;
+mod growth;
 mod numbers;
 mod placing;
 mod run;

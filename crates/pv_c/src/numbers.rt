@@ -1,18 +1,19 @@
 // From answers to numbers.
 ghost use Rattle.std.specs.Prelude.{◌≡◌};
-ghost use Rattle.pv_c.specs.Causes.{memory_number, message_number, opening_number, request_number, value_number, world_number, write_number};
+ghost use Rattle.pv_c.specs.Causes.{growth_number, memory_number, message_number, opening_number, request_number, value_number, world_number, write_number};
 ghost use Rattle.pv_c.specs.Status.{numbers_of_asked, numbers_of_given, numbers_of_read, status_of};
 
 use crate::given_numbers::Numbers;
 use crate::status::{
     BAD_MESSAGE, BAD_PROGRAM, BAD_RECORD, BAD_TEXT, BROKEN_OFF, CLOSED, DONE, ENDED, EPOCHS_SPENT,
-    FULL, HAS_EVENTS, IN_USE, MALFORMED, NO_MEMORY, NO_SENDER, NO_SITE, NOT_HERE, NOT_NEXT,
-    NOT_ONE_EVENT, NOT_OURS, NOTHING, SENT_LIMIT, TOO_LONG, TOO_MANY_OUTCOMES, TOO_SMALL,
+    FULL, HAS_EVENTS, IN_USE, MALFORMED, NO_MEMORY, NO_SENDER, NO_SITE, NOT_GROWN, NOT_HERE,
+    NOT_NEXT, NOT_ONE_EVENT, NOT_OURS, NOTHING, SENT_LIMIT, TOO_LONG, TOO_MANY_OUTCOMES, TOO_SMALL,
     UNKNOWN_NAME, UNWRITTEN,
 };
 use pv_base::NoMemory;
 use pv_embed::{OpenFault, ReceiveFault, SubmitFault};
 use pv_embed_world::WorldFault;
+use pv_growth::ConfigFault;
 use pv_handle::{Given, NotNext, Refused, ValueFault};
 
 /// The number of an answer to an opening of a site.
@@ -84,6 +85,20 @@ pub fn status_of_world(answer: Result<(), Refused<WorldFault>>) -> u32
         Err(Refused::Closed) => CLOSED,
         Err(Refused::InUse) => IN_USE,
         Err(Refused::Engine(fault)) => world_number(fault),
+    }
+}
+
+/// The number of an answer to whether a configuration grows.
+pub fn status_of_growth(answer: Result<bool, ConfigFault>) -> u32
+    ensures { result ≡ growth_number answer }
+{
+    match answer {
+        Ok(true) => DONE,
+        Ok(false) => NOT_GROWN,
+        Err(ConfigFault::TooLong) => TOO_LONG,
+        Err(ConfigFault::Malformed { .. }) => MALFORMED,
+        Err(ConfigFault::HasEvents) => HAS_EVENTS,
+        Err(ConfigFault::NoMemory) => NO_MEMORY,
     }
 }
 

@@ -80,3 +80,6 @@ pub const ENDED: u32 = 36;
 
 /// Records wait to be written into the host's file, and the item isn't shown before they are.
 pub const UNWRITTEN: u32 = 37;
+
+/// The later configuration isn't one that the one before has grown to.
+pub const NOT_GROWN: u32 = 38;

@@ -6,13 +6,13 @@ ghost use Rattle.pv_c.specs.StatusTexts.{GivesText, told_text};
 use crate::run::put;
 use crate::status::{
     BAD_MESSAGE, BAD_PROGRAM, BAD_RECORD, BAD_TEXT, BROKEN_OFF, CLOSED, DONE, ENDED, EPOCHS_SPENT,
-    FULL, HAS_EVENTS, IN_USE, MALFORMED, NO_MEMORY, NO_SENDER, NO_SITE, NOT_HERE, NOT_NEXT,
-    NOT_ONE_EVENT, NOT_OURS, NOTHING, SENT_LIMIT, TOO_LONG, TOO_MANY_OUTCOMES, TOO_SMALL,
+    FULL, HAS_EVENTS, IN_USE, MALFORMED, NO_MEMORY, NO_SENDER, NO_SITE, NOT_GROWN, NOT_HERE,
+    NOT_NEXT, NOT_ONE_EVENT, NOT_OURS, NOTHING, SENT_LIMIT, TOO_LONG, TOO_MANY_OUTCOMES, TOO_SMALL,
     UNKNOWN_NAME, UNWRITTEN,
 };
 
 /// Each status, and what it says.
-pub const STATUS_TEXTS: [(u32, &[u8]); 27] = [
+pub const STATUS_TEXTS: [(u32, &[u8]); 28] = [
     (DONE, b"done"),
     (MALFORMED, b"a line is not in the grammar"),
     (TOO_LONG, b"more than 16,777,216 bytes"),
@@ -49,6 +49,10 @@ pub const STATUS_TEXTS: [(u32, &[u8]); 27] = [
         b"there was no memory within the step, and the world takes no more",
     ),
     (ENDED, b"the world takes no more steps"),
+    (
+        NOT_GROWN,
+        b"the configuration is not what the other has grown to",
+    ),
 ];
 
 /// Writes what a status says, if there is such a status and room for its text, and says how many bytes that is.

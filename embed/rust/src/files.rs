@@ -12,7 +12,7 @@ use std::path::{Path, PathBuf};
 use std::process;
 
 use crate::host::{Found, HostError};
-use crate::EMPTY_JOURNAL;
+use crate::{config_grows, Error, EMPTY_JOURNAL};
 
 const HEADER: usize = 8;
 const HEAD: usize = 5; // a gate, and the length of its record
@@ -84,7 +84,10 @@ pub(crate) struct SiteFolder {
     me: u8,
     process: u32,
     is_named: bool,
+    grows: bool,
     ended_well: bool,
+    is_copy: bool, // the lock's file isn't the one that a process had here
+    noted: u64, // so long the journal was on the disk when a process opened it, if that was noted
     has_journal: bool,
     runs: bool,
     has_failed: bool,
@@ -124,8 +127,11 @@ impl SiteFolder {
         if !is_there {
             return Err(HostError::Busy); // somebody has removed it, and the lock on it excludes nobody
         }
-        let state = whole_at(&lock, ENDED.len(), 0)
+        let text = whole_at(&lock, 128, 0)
             .map_err(|error| HostError::system("read", &lock_path, error))?;
+        let notes = read_notes(text.get(ENDED.len()..).unwrap_or_default());
+        let is_copy =
+            matches!((notes, &opened), (Some((file, _)), Ok(about)) if file != about.ino());
         Ok(SiteFolder {
             path: path.to_path_buf(),
             folder,
@@ -134,7 +140,10 @@ impl SiteFolder {
             me,
             process: process::id(),
             is_named: false,
-            ended_well: state == ENDED,
+            grows: false,
+            ended_well: text.starts_with(ENDED),
+            is_copy,
+            noted: notes.map_or(0, |(_, length)| length),
             has_journal: false,
             runs: false,
             has_failed: false,
@@ -144,7 +153,12 @@ impl SiteFolder {
     /// Says in the lock's file that this process has the site, so that the next one knows where this one ends without a word.
     fn say_it_runs(&mut self) -> Result<(), HostError> {
         self.lock
-            .write_all_at(RUNS, 0)
+            .metadata()
+            .map(|about| spell_notes(about.ino(), self.noted))
+            .and_then(|notes| {
+                self.lock
+                    .write_all_at(&[RUNS.as_slice(), notes.as_bytes()].concat(), 0)
+            })
             .and_then(|()| self.lock.sync_data())
             .map_err(|error| HostError::system("write", &self.name("lock"), error))?;
         self.runs = true;
@@ -177,7 +191,8 @@ impl SiteFolder {
         if site != self.me {
             return Err(HostError::OtherSite(site));
         }
-        if !configs_agree(kept_config, config) {
+        self.grows = kept_config != config;
+        if self.grows && !has_grown(kept_config, config)? {
             let mut lines = kept_config
                 .split(|&byte| byte == b'\n')
                 .zip(config.split(|&byte| byte == b'\n'));
@@ -192,6 +207,9 @@ impl SiteFolder {
 
     /// Syncs the journal and reads it: of a new site, which is refused where the site was said to be there, the journal without records.
     pub(crate) fn read(&mut self, adopts: bool, is_there: bool) -> Result<Content, HostError> {
+        if self.is_copy && !adopts {
+            return Err(HostError::Copied);
+        }
         let path = self.name("pv");
         match OpenOptions::new().read(true).write(true).open(&path) {
             Ok(file) => self.journal = Some(file),
@@ -263,19 +281,27 @@ impl SiteFolder {
         if !self.has_journal || !self.ended_well {
             self.journal = Some(self.put("pv", "new", &content.bytes)?); // of the old one nothing counts any more
         }
-        if !self.is_named {
+        if !self.is_named || self.grows {
             self.put("id", "id.new", &self.identity(config))?;
         }
         Ok(())
     }
 
-    /// Makes that what was read is in the journal's file and on the disk, that the folder says whose it is, and that the next opening knows of this one.
+    /// Makes that what was read is in the journal's file and on the disk, that the folder says whose it is, and with which configuration from now on, and that the next
+    /// opening knows of this one.
     pub(crate) fn settle(&mut self, content: &Content, config: &[u8]) -> Result<Found, HostError> {
+        let length = content.bytes.len() as u64;
+        if length < self.noted {
+            return Err(HostError::Lost);
+        }
+        if self.has_journal && self.ended_well {
+            self.noted = length; // else what can be read needn't be on the disk, and a crash may leave less
+        }
         let found = Found {
             is_new: !self.is_named && content.records == 0,
             is_copied: self.has_journal && !self.ended_well,
             records: content.records,
-            length: content.bytes.len() as u64,
+            length,
         };
         let changed = self.change(content, config);
         self.has_failed |= changed.is_err();
@@ -312,9 +338,26 @@ impl Drop for SiteFolder {
     }
 }
 
-/// Whether a site that was opened first with the one configuration may be opened with the other. A configuration that only grows could be let in here.
-fn configs_agree(kept: &[u8], given: &[u8]) -> bool {
-    kept == given
+/// Whether the one configuration has grown to the other. A text that is none has not.
+fn has_grown(before: &[u8], later: &[u8]) -> Result<bool, HostError> {
+    match config_grows(before, later) {
+        Err(Error::NoMemory) => Err(HostError::Engine(Error::NoMemory)),
+        grows => Ok(grows.unwrap_or(false)),
+    }
+}
+
+/// What stands in the lock's file behind what it says of the process: which file it is, since a copy is another one, and how long the journal was on the disk then, since
+/// one that was set back may be shorter.
+fn spell_notes(file: u64, length: u64) -> String {
+    format!("file {file:020}\njournal {length:020}\n")
+}
+
+fn read_notes(text: &[u8]) -> Option<(u64, u64)> {
+    let (file, rest) = text.strip_prefix(b"file ")?.split_at_checked(20)?;
+    let (length, rest) = rest.strip_prefix(b"\njournal ")?.split_at_checked(20)?;
+    let number = |digits| std::str::from_utf8(digits).ok()?.parse().ok();
+    rest.starts_with(b"\n")
+        .then_some((number(file)?, number(length)?))
 }
 
 fn read_identity(bytes: &[u8]) -> Option<(u8, &[u8])> {

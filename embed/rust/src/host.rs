@@ -5,6 +5,7 @@
 //! - The folder says which site it is and with which configuration, on the disk before anything else is written, and is compared at each opening.
 //! - A new journal is on the disk with its entry in the folder before the site is given anything. A file without a byte counts as new.
 //! - Where the process before didn't end by a drop, or one of its writes or syncs has failed, the journal is written anew under another name, synced, and takes the old one's place.
+//! - Files that were copied, or set back to what they were before the last opening, are refused where it shows: the lock's file is another one, or the journal is shorter.
 //! - A write or a sync that fails is never told to the site. The same bytes are written again at the next [`FileHost::settle`].
 //! - A message of the site to itself is given back to it at once.
 
@@ -14,7 +15,7 @@ use std::io;
 use std::path::{Path, PathBuf};
 
 use crate::files::SiteFolder;
-use crate::{Error, Output, Site};
+use crate::{Error, Outcome, Output, Site};
 
 /// Why a host refused a call.
 #[derive(Debug)]
@@ -33,19 +34,21 @@ pub enum HostError {
     Busy,
     /// The folder's files are those of the site with this number.
     OtherSite(u8),
-    /// The site was opened first with another configuration.
+    /// The site was opened before with a configuration that hasn't grown to this one.
     OtherConfig {
         /// The first line that is another one, from 1.
         line: usize,
     },
     /// The journal has records, and nothing says of which site and configuration.
     Unnamed,
-    /// The site was opened before, and its journal is gone or empty.
+    /// The site was opened before, and its journal is gone or empty, or shorter than it was.
     Lost,
     /// Nothing of the site is in the folder, and it was said to be there.
     NotThere,
     /// The file that says which site it is can't be read.
     Damaged,
+    /// The folder's files were copied, or moved from another file system. `adopts` takes them.
+    Copied,
     /// This process is a child of the one that opened the site.
     Forked,
     /// The library refused it.
@@ -74,16 +77,19 @@ impl fmt::Display for HostError {
             HostError::OtherSite(site) => write!(f, "the files are those of site {site}"),
             HostError::OtherConfig { line } => write!(
                 f,
-                "the site was opened first with another configuration (line {line})"
+                "the site was opened before with another configuration (line {line})"
             ),
             HostError::Unnamed => f.write_str(
                 "the journal has records, and nothing says of which site and configuration",
             ),
-            HostError::Lost => {
-                f.write_str("the site was opened before, and its journal is gone or empty")
-            }
+            HostError::Lost => f.write_str(
+                "the site was opened before, and its journal is gone, or shorter than it was",
+            ),
             HostError::NotThere => f.write_str("nothing of the site is in the folder"),
             HostError::Damaged => f.write_str("the file that says which site it is can't be read"),
+            HostError::Copied => {
+                f.write_str("the folder's files were copied, or moved from another file system")
+            }
             HostError::Forked => f.write_str("the parent of this process has the site"),
             HostError::Engine(error) => error.fmt(f),
         }
@@ -129,7 +135,8 @@ pub struct FileHost {
 }
 
 impl FileHost {
-    /// Opens site `me` on its folder. With `adopts`, a journal with records is taken beside which nothing says whose it is.
+    /// Opens site `me` on its folder. With `adopts`, a journal with records is taken beside which nothing says whose it is, and
+    /// files that were copied.
     pub fn open(folder: &Path, config: &[u8], me: u8, adopts: bool) -> Result<FileHost, HostError> {
         FileHost::opened(folder, config, me, adopts, false)
     }
@@ -174,7 +181,20 @@ impl FileHost {
 
     /// A request, with this site as its coordinator.
     pub fn submit(&mut self, program: &[u8], query: bool) -> Result<(), HostError> {
-        Ok(self.site()?.submit(program, query)?)
+        self.submit_tagged(program, query, 0)
+    }
+
+    /// The same, with a tag that [`FileHost::settle_tagged`] gives with the report of the request's number. 0 is no tag.
+    pub fn submit_tagged(
+        &mut self,
+        program: &[u8],
+        query: bool,
+        tag: u64,
+    ) -> Result<(), HostError> {
+        Ok(self
+            .site()?
+            .submit_tagged(program, query, tag)
+            .map_err(|(error, _)| error)?)
     }
 
     /// A message of another site comes.
@@ -192,9 +212,29 @@ impl FileHost {
         Ok(self.site()?.read(name)?)
     }
 
+    /// What became of a transaction of this site, by the three numbers of its `txn` report, or `None` where the site has given its number to none yet;
+    /// [`FileHost::settle`] comes first.
+    pub fn outcome(
+        &mut self,
+        coordinator: u8,
+        epoch: u32,
+        number: u32,
+    ) -> Result<Option<Outcome>, HostError> {
+        Ok(self.site()?.outcome(coordinator, epoch, number)?)
+    }
+
     /// Writes and syncs what the site wants written, hands over its messages for other sites and its reports, and goes on until there is nothing of either. Where a write
     /// fails, what doesn't rest on it is handed over all the same; the rest waits, and the next call tries again.
     pub fn settle(&mut self, mut hand_over: impl FnMut(Output)) -> Result<(), HostError> {
+        self.settle_tagged(|output, _| hand_over(output))
+    }
+
+    /// The same, with the tag of the request whose number is reported, and 0 with all else. Nothing more is taken from the site before `hand_over` returns: so a number that
+    /// it keeps on a disk is there before its transaction can commit.
+    pub fn settle_tagged(
+        &mut self,
+        mut hand_over: impl FnMut(Output, u64),
+    ) -> Result<(), HostError> {
         self.site()?;
         loop {
             let written = self.write_all();
@@ -215,15 +255,15 @@ impl FileHost {
         Ok(())
     }
 
-    fn let_out(&mut self, hand_over: &mut impl FnMut(Output)) -> Result<bool, HostError> {
+    fn let_out(&mut self, hand_over: &mut impl FnMut(Output, u64)) -> Result<bool, HostError> {
         let mut any = false;
-        while let Some(output) = self.site.take()? {
+        while let Some((output, tag)) = self.site.take_tagged()? {
             any = true;
             match output {
                 Output::Message { to, bytes } if to == u64::from(self.me) => {
                     let _ = self.site.receive(&bytes); // where it can't be taken it is lost, which a message may be: the next ticks ask again
                 }
-                other => hand_over(other),
+                other => hand_over(other, tag),
             }
         }
         Ok(any)

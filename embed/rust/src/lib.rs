@@ -4,6 +4,7 @@
 //! The functions that are called are those of `polydb.h`; what each does is written there. Nothing but `std` is needed.
 #![warn(missing_docs)]
 
+mod calls;
 mod files;
 mod host;
 
@@ -14,97 +15,6 @@ use std::ffi::c_void;
 use std::fmt;
 use std::io::{self, Write};
 use std::ptr;
-
-mod calls {
-    use super::{Fault, Handle, Told};
-
-    #[link(name = "polydb", kind = "static")]
-    extern "C" {
-        pub fn polydb_version() -> u32;
-        pub fn polydb_status_text(
-            status: u32,
-            out: *mut u8,
-            room: usize,
-            written: *mut usize,
-        ) -> u32;
-        pub fn polydb_world_open(world: *mut Handle, catalog: *const u8, length: usize) -> u32;
-        pub fn polydb_world_step(world: *mut Handle, line: *const u8, length: usize) -> u32;
-        pub fn polydb_world_take(
-            world: *mut Handle,
-            out: *mut u8,
-            room: usize,
-            written: *mut usize,
-        ) -> u32;
-        pub fn polydb_world_close(world: *mut Handle);
-        pub fn polydb_site_open_at(
-            site: *mut Handle,
-            config: *const u8,
-            config_length: usize,
-            me: u8,
-            journal: *const u8,
-            journal_length: usize,
-            fault: *mut Fault,
-        ) -> u32;
-        pub fn polydb_site_submit_tagged(
-            site: *mut Handle,
-            program: *const u8,
-            length: usize,
-            query: bool,
-            tag: u64,
-            fault: *mut Fault,
-        ) -> u32;
-        pub fn polydb_site_receive(site: *mut Handle, message: *const u8, length: usize) -> u32;
-        pub fn polydb_site_tick(site: *mut Handle) -> u32;
-        pub fn polydb_site_take_journal(
-            site: *mut Handle,
-            out: *mut u8,
-            room: usize,
-            written: *mut usize,
-            place: *mut u64,
-        ) -> u32;
-        pub fn polydb_site_journal_synced(site: *mut Handle, place: u64, written: usize) -> u32;
-        pub fn polydb_site_take_tagged(
-            site: *mut Handle,
-            out: *mut u8,
-            room: usize,
-            written: *mut usize,
-            to: *mut u64,
-            tag: *mut u64,
-        ) -> u32;
-        pub fn polydb_site_read(
-            site: *mut Handle,
-            name: *const u8,
-            length: usize,
-            out: *mut u8,
-            room: usize,
-            written: *mut usize,
-        ) -> u32;
-        pub fn polydb_site_outcome(
-            site: *mut Handle,
-            coordinator: u8,
-            epoch: u32,
-            number: u32,
-            outcome: *mut u32,
-        ) -> u32;
-        pub fn polydb_site_info(site: *mut Handle, info: *mut Told) -> u32;
-        pub fn polydb_site_item(
-            site: *mut Handle,
-            number: u64,
-            out: *mut u8,
-            room: usize,
-            written: *mut usize,
-            at: *mut u64,
-        ) -> u32;
-        pub fn polydb_site_close(site: *mut Handle);
-        pub fn polydb_run(
-            input: *const u8,
-            length: usize,
-            out: *mut u8,
-            room: usize,
-            written: *mut usize,
-        ) -> u32;
-    }
-}
 
 /// A handle as C has it. Zeroes are a closed one.
 #[repr(C)]
@@ -206,6 +116,7 @@ impl error::Error for Error {}
 
 const DONE: u32 = 0;
 const TOO_SMALL: u32 = 18;
+const NOT_GROWN: u32 = 38;
 const NOTHING: u32 = 19;
 const REPORT: u64 = 255;
 const FIRST_ROOM: usize = 4096;
@@ -347,6 +258,18 @@ pub const MAX_JOURNAL: u64 = 4_294_967_296;
 /// The version of the library: 10,000 times the first number, 100 times the second, and the third.
 pub fn version() -> u32 {
     unsafe { calls::polydb_version() }
+}
+
+/// Whether a site that was opened with the configuration `before` may be opened with `later` from now on: the same sites, the same items and perhaps more behind
+/// them, and no lower a limit of journals.
+pub fn config_grows(before: &[u8], later: &[u8]) -> Result<bool, Error> {
+    let status = unsafe {
+        calls::polydb_config_grows(before.as_ptr(), before.len(), later.as_ptr(), later.len())
+    };
+    if status == NOT_GROWN {
+        return Ok(false);
+    }
+    answer(status).map(|()| true)
 }
 
 /// What a status of the library says, if there is such a status.

@@ -9,7 +9,7 @@ use std::io::{self, Read, Write};
 use std::path::{Path, PathBuf};
 use std::process::{self, Child, Command, Stdio};
 
-use polydb::{Error, FileHost, HostError, Output};
+use polydb::{Error, FileHost, HostError, Outcome, Output};
 
 const CONFIG: &[u8] = b"sites 2\nitem a 0 100\nitem b 1 50\n";
 const TRANSFER: &[u8] = b"a := a - 10 ; b := b + 10";
@@ -149,6 +149,69 @@ fn a_folder_is_one_sites() {
         refusal(&folder.0, b"nonsense\n", 2),
         HostError::Engine(Error::Malformed)
     ));
+}
+
+#[test]
+fn a_configuration_grows() {
+    let folder = Folder::new("grows");
+    let grown = [CONFIG, b"item c 0 7\n"].concat();
+    open(&folder.0, 0).settle(|_| ()).unwrap();
+    let mut host = FileHost::open(&folder.0, &grown, 0, false).unwrap();
+    host.settle(|_| ()).unwrap();
+    drop(host);
+    assert!(matches!(
+        refusal(&folder.0, CONFIG, 0),
+        HostError::OtherConfig { .. }
+    ));
+    assert!(FileHost::open(&folder.0, &grown, 0, false).is_ok());
+}
+
+#[test]
+fn copies_are_refused() {
+    let (folder, other) = (Folder::new("first"), Folder::new("copy"));
+    open(&folder.0, 0).settle(|_| ()).unwrap();
+    for entry in fs::read_dir(&folder.0).unwrap() {
+        let name = entry.unwrap().file_name();
+        fs::copy(folder.0.join(&name), other.0.join(&name)).unwrap();
+    }
+    assert!(matches!(refusal(&other.0, CONFIG, 0), HostError::Copied));
+    assert!(FileHost::open(&other.0, CONFIG, 0, true).is_ok());
+    let kept = fs::read(folder.0.join("site-0.pv")).unwrap();
+    open(&folder.0, 0).settle(|_| ()).unwrap();
+    open(&folder.0, 0).settle(|_| ()).unwrap();
+    fs::write(folder.0.join("site-0.pv"), kept).unwrap();
+    assert!(matches!(refusal(&folder.0, CONFIG, 0), HostError::Lost));
+}
+
+#[test]
+fn numbers_have_tags_and_outcomes() {
+    const ALONE: &[u8] = b"sites 1\nitem a 0 100\n";
+    let folder = Folder::new("tags");
+    let mut host = FileHost::open(&folder.0, ALONE, 0, false).unwrap();
+    assert!(matches!(
+        host.outcome(0, 1, 0),
+        Err(HostError::Engine(Error::Unwritten))
+    ));
+    host.submit_tagged(b"a := a - 10", false, 7).unwrap();
+    let mut reports = Vec::new();
+    host.settle_tagged(|output, tag| match output {
+        Output::Report(line) => reports.push((words(&line), tag)),
+        Output::Message { .. } => panic!("there is no other site"),
+    })
+    .unwrap();
+    assert_eq!(reports[0], ("txn 0.1.0\n".to_string(), 7));
+    assert!(reports[1].0.starts_with("commit 0.1.0 ") && reports[1].1 == 0);
+    assert_eq!(host.outcome(0, 1, 0).unwrap(), Some(Outcome::Committed));
+    assert_eq!(host.outcome(0, 1, 1).unwrap(), None);
+    assert!(matches!(
+        host.outcome(1, 1, 0),
+        Err(HostError::Engine(Error::NotHere))
+    ));
+    drop(host);
+    let mut host = FileHost::reopen(&folder.0, ALONE, 0).unwrap();
+    host.settle(|_| ()).unwrap();
+    assert_eq!(host.outcome(0, 1, 0).unwrap(), Some(Outcome::Committed));
+    assert_eq!(host.outcome(0, 1, 1).unwrap(), Some(Outcome::NotCommitted));
 }
 
 // ---- a crash, and a doubt ----

@@ -24,8 +24,8 @@ static void on_message(void *context, uint8_t to, const uint8_t *bytes, size_t l
     puts("");
 }
 
-static void on_report(void *context, const char *line, size_t length) {
-    (void)context;
+static void on_report(void *context, const char *line, size_t length, uint64_t tag) {
+    (void)context, (void)tag;
     printf("report %.*s\n", (int)length, line);
 }
 

@@ -44,6 +44,9 @@ class Client:
                 self.say(f"{'commit' if answer else 'refuse'} {tag} {words_of(answer)}")
             elif verb == "read":
                 self.say(f"item {tag} {rest} {cases_of(await self.node.read(rest))}")
+            elif verb == "outcome":
+                outcome = await self.node.outcome(rest)
+                self.say(f"outcome {tag} {rest} {'none' if outcome is None else outcome.name.lower().replace('_', '-')}")
             elif verb == "info":
                 hears = " ".join(str(site) for site in range(16) if self.node.hears(site))
                 self.say(f"info {tag} site {self.node.me} sent {self.node.sent} taken {self.node.taken} lost {self.node.lost} refused {self.node.refused} hears {hears}")

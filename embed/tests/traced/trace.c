@@ -19,12 +19,12 @@
 
 polydb_host_cause REAL(polydb_host_open)(polydb_host **, const polydb_host_setup *, polydb_host_found *, polydb_host_error *);
 polydb_host_cause REAL(polydb_host_read)(polydb_host *, const uint8_t *, size_t, const char **, size_t *, polydb_host_error *);
-uint32_t REAL(polydb_site_submit)(polydb_site *, const uint8_t *, size_t, bool);
+uint32_t REAL(polydb_site_submit_tagged)(polydb_site *, const uint8_t *, size_t, bool, uint64_t, polydb_fault *);
 uint32_t REAL(polydb_site_receive)(polydb_site *, const uint8_t *, size_t);
 uint32_t REAL(polydb_site_tick)(polydb_site *);
 polydb_host_cause WRAPPED(polydb_host_open)(polydb_host **, const polydb_host_setup *, polydb_host_found *, polydb_host_error *);
 polydb_host_cause WRAPPED(polydb_host_read)(polydb_host *, const uint8_t *, size_t, const char **, size_t *, polydb_host_error *);
-uint32_t WRAPPED(polydb_site_submit)(polydb_site *, const uint8_t *, size_t, bool);
+uint32_t WRAPPED(polydb_site_submit_tagged)(polydb_site *, const uint8_t *, size_t, bool, uint64_t, polydb_fault *);
 uint32_t WRAPPED(polydb_site_receive)(polydb_site *, const uint8_t *, size_t);
 uint32_t WRAPPED(polydb_site_tick)(polydb_site *);
 
@@ -56,9 +56,9 @@ static void on_message(void *context, uint8_t to, const uint8_t *bytes, size_t l
     setup_of_program.message(context, to, bytes, length);
 }
 
-static void on_report(void *context, const char *line, size_t length) {
+static void on_report(void *context, const char *line, size_t length, uint64_t tag) {
     put_text("report", line, length);
-    setup_of_program.report(context, line, length);
+    setup_of_program.report(context, line, length, tag);
 }
 
 polydb_host_cause WRAPPED(polydb_host_open)(polydb_host **host, const polydb_host_setup *setup, polydb_host_found *found, polydb_host_error *error) {
@@ -87,8 +87,8 @@ polydb_host_cause WRAPPED(polydb_host_read)(polydb_host *host, const uint8_t *na
     return cause;
 }
 
-uint32_t WRAPPED(polydb_site_submit)(polydb_site *site, const uint8_t *program, size_t length, bool query) {
-    uint32_t status = REAL(polydb_site_submit)(site, program, length, query);
+uint32_t WRAPPED(polydb_site_submit_tagged)(polydb_site *site, const uint8_t *program, size_t length, bool query, uint64_t tag, polydb_fault *fault) {
+    uint32_t status = REAL(polydb_site_submit_tagged)(site, program, length, query, tag, fault);
     if (status == POLYDB_DONE) {
         put_text(query ? "query" : "submit", program, length);
     }
