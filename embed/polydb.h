@@ -114,7 +114,7 @@ uint32_t polydb_version(void);
 #define POLYDB_NOT_OURS 22u
 /* What the journal holds isn't a record. */
 #define POLYDB_BAD_RECORD 23u
-/* With the journal's records the value of an item would name too many outcomes. In a run no site of this configuration has such records (docs/EMBEDDING.md, What isn't said). */
+/* With the journal's records the value of an item would name too many outcomes. No site of this configuration, whatever its limit of journals was, has such records. */
 #define POLYDB_TOO_MANY_OUTCOMES 24u
 /* No epoch is left: the site was opened 4,294,967,294 times. */
 #define POLYDB_EPOCHS_SPENT 25u

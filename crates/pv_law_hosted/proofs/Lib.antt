@@ -1,4 +1,5 @@
 mod AgreeLemmas
+mod BegunLemmas
 mod CallLemmas
 mod CaseLemmas
 mod ClaimLemmas
@@ -7,6 +8,7 @@ mod GivesLemmas
 mod GoesLemmas
 mod HappensLemmas
 mod MirroredLemmas
+mod NarrowLemmas
 mod NumberEvents
 mod NumberLemmas
 mod NumberSteps

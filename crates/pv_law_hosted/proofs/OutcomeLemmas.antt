@@ -5,11 +5,12 @@ use Rattle.std.specs.List.{Contains}
 use Rattle.std.proofs.lemmas.List.Elements.{All-cons}
 use Rattle.pv_base.proofs.ContainsLemmas.{Contains-first}
 use Rattle.pv_base.specs.declared.txn.TxnId.{TxnId}
+use Rattle.pv_format.specs.Contents.{greatest_epoch}
 use Rattle.pv_format.specs.Message.{Envelope, Message, outcome_reported}
 use Rattle.pv_format.specs.Record.{Record}
 use Rattle.pv_law_acts.specs.Acts.{Acts, no_act}
 use Rattle.pv_law_acts.specs.Guards.{HasOutcome}
-use Rattle.pv_law_acts.specs.Seen.{records_at, memory_at, ageless_entry, IsDead}
+use Rattle.pv_law_acts.specs.Seen.{records_at, memory_at, ageless_entry, next_txn_in, IsDead, IsNumberPassed, IsPassed}
 use Rattle.pv_law_events.proofs.OutcomeActs.{on-ask-acts}
 use Rattle.pv_law_events.proofs.StepActs.{IsActs, IsReady, here_at}
 use Rattle.pv_law_events.proofs.WorldLemmas.{At, own-site}
@@ -32,6 +33,7 @@ use Rattle.pv_protocol.specs.WorldStep.{Transition}
 use Rattle.pv_site.specs.SiteState.{here_with}
 use Rattle.pv_embed.specs.Hosted.{HostedState}
 use Rattle.pv_law_hosted.proofs.AgreeLemmas.{last-world}
+use Rattle.pv_law_hosted.proofs.BegunLemmas.{passed-issued}
 use Rattle.pv_law_hosted.proofs.RunLemmas.{after-append}
 use Rattle.pv_law_hosted.specs.Deployment.{Deployment, station_at}
 use Rattle.pv_law_hosted.specs.Mirrored.{FollowsHosted, FollowsProcess, IsMirrored, plain_site, world_of}
@@ -144,6 +146,14 @@ module _ (setup : Setup) (w : World) (n : ℕ) (hosted : HostedState) (running :
   works-told works =
       let found = some-found (of_txn (λ (entry : Entry). entry.txn) txn running.entries) works in
       (found.0, ap (λ (m : ℕ). entry_in (memory_at w m) txn) home-is ∙ ap (λ (memory : Option Running). entry_in memory txn) memory-is ∙ found.1)
+
+  pub passed-told : AreEpochsRecorded w → IsPassed w txn → is_issued (here_with hosted.site running) txn ≡ true
+  passed-told recorded passed =
+      let number : IsNumberPassed hosted.site.records (Some running.next_txn) txn.epoch txn.number =
+      subst (λ (rs : List Record). IsNumberPassed rs (Some running.next_txn) txn.epoch txn.number) records-are
+      (subst (λ (memory : Option Running). IsNumberPassed (records_at w n) (next_txn_in memory) txn.epoch txn.number) memory-is
+      (subst (λ (m : ℕ). IsNumberPassed (records_at w m) (next_txn_in (memory_at w m)) txn.epoch txn.number) home-is passed)) in
+      passed-issued (here_with hosted.site running) txn (sym home) (recorded n running memory-is ∙ ap greatest_epoch records-are) number
 
 -- What a site works on isn't committed.
 pub works-uncommitted : (w : World) (txn : TxnId) (entry : Entry) → AreDecided w → entry_of w txn ≡ Some entry → is_committed w txn ≡ false

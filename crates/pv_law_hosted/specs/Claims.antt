@@ -1,5 +1,5 @@
 -- What a mirrored deployment promises, in the words of its users.
-use Rattle.std.specs.Prelude.{◌≡◌, ◌⊎◌, ℕ, None, List, []}
+use Rattle.std.specs.Prelude.{◌≡◌, ◌⊎◌, ℕ, None, List, [], IsTrue}
 use Rattle.std.specs.List.{Contains}
 use Rattle.pv_base.specs.declared.reply.Reply.{Reply}
 use Rattle.pv_base.specs.declared.txn.TxnId.{TxnId}
@@ -9,6 +9,7 @@ use Rattle.pv_format.specs.Journal.{IsJournal}
 use Rattle.pv_model.specs.Events.{Event}
 use Rattle.pv_protocol.specs.Causes.{HasCause}
 use Rattle.pv_protocol.specs.CommitAnswers.{ArePossible, HaveSerialReplies}
+use Rattle.pv_protocol.specs.Committed.{is_committed}
 use Rattle.pv_protocol.specs.Lines.{Line}
 use Rattle.pv_protocol.specs.Outcomes.{IsOut}
 use Rattle.pv_protocol.specs.Places.{Place, world_before}
@@ -24,12 +25,13 @@ HoldsSite file site =
     ⊎ (IsJournal [] file × (site ≡ first_site))
 
 -- The run answers so: in a transition of it the transaction commits, with these replies. They are the possible ones, and those of each serial run that fits the world
--- after it are among them.
+-- after it are among them. And in the world after all of it the transaction is committed.
 pub record IsAnswered (setup : Setup) (events : List Event) (txn : TxnId) (replies : List Reply) : Type 0 where
   pub place : Place (run setup (opening setup) events)
   pub printed : Contains place.transition.lines (Line.commit txn replies)
   pub possible : ArePossible (world_before (opening setup) place) place.transition txn replies
   pub serial : HaveSerialReplies setup place.transition.world txn replies
+  pub committed : IsTrue (is_committed (world_of setup events) txn)
 
 -- The run refuses the transaction in a transition of it, for this cause; and in the world after all of it the transaction is neither committed nor open.
 pub record IsRefused (setup : Setup) (events : List Event) (txn : TxnId) (cause : Cause) : Type 0 where

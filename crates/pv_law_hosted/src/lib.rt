@@ -19,7 +19,8 @@ ghost use Rattle.pv_embed.specs.Requests.{ReceivesBy, SubmitsBy};
 ghost use Rattle.pv_embed.specs.declared.asked.Outcome.{Outcome};
 ghost use Rattle.pv_embed.specs.declared.asked.Outcome.TheVariants.{Committed, NotCommitted, AtWork};
 ghost use Rattle.pv_embed.specs.declared.asked.OutcomeFault.{OutcomeFault};
-ghost use Rattle.pv_embed.specs.declared.fault.OpenFault.TheVariants.{BadRecord, NotOurs};
+ghost use Rattle.pv_embed.specs.declared.asked.OutcomeFault.TheVariants.{NotBegun};
+ghost use Rattle.pv_embed.specs.declared.fault.OpenFault.TheVariants.{BadRecord, NotOurs, TooManyOutcomes};
 ghost use Rattle.pv_embed.specs.declared.fault.ReceiveFault.{ReceiveFault};
 ghost use Rattle.pv_embed.specs.declared.fault.SubmitFault.{SubmitFault};
 ghost use Rattle.pv_embed.specs.declared.made.Output.{Output};
@@ -49,8 +50,8 @@ ghost use Rattle.pv_site.specs.SiteState.{setup_of};
 
 use pv_embed::files_hold_what_was_let_out;
 use pv_host::files_are_journals;
-use pv_law_answers::{commits_answer, no_txn_is_begun_twice, worlds_agree};
-use pv_law_events::runs_are_reached;
+use pv_law_answers::{commits_answer, committed_fit, no_txn_is_begun_twice, worlds_agree};
+use pv_law_events::{runs_are_reached, starts_find_sound_records};
 use pv_law_format::one_record;
 use pv_law_journal::one_journal;
 use pv_law_outcomes::{
@@ -59,7 +60,7 @@ use pv_law_outcomes::{
 use pv_law_programs::some_items;
 use pv_law_refusals::refusals_hold;
 use pv_law_schedules::one_schedule;
-use pv_law_world::{epochs_are_recorded, memories_are_in_order};
+use pv_law_world::{epochs_are_recorded, memories_are_in_order, schedules_are_in_range};
 use pv_site::logs_tell_of_records;
 
 /// A deployment is mirrored by the run of some events, under the one configuration that it has from its beginning on, whatever happens in it; and the run only goes on.
@@ -175,17 +176,25 @@ pub fn hosted_sites_agree()
 
 /// Whatever happens in a deployment, a report that was let out holds:
 ///
-/// - A commit that a site reports is one of the run, with the replies that it answers there: the possible ones, and those of each serial run that fits are among them.
+/// - A commit that a site reports is one of the run, with the replies that it answers there: the possible ones, and those of each serial run that fits are among them. And its
+///   transaction is committed, now and whatever happens later.
 /// - A refusal that a site reports is one of the run, with its cause there; and its transaction is neither committed nor open, now and whatever happens later, since
 ///   what was let out stays so and the run goes on.
+/// - So of one transaction not both are reported.
 pub fn hosted_reports_hold()
     ensures commits { (setup : Setup) (d : Deployment) (events : List Event) (n : ℕ) (txn : TxnId) (replies : List Reply) → IsMirrored setup d events →
         n < setup.catalog.sites → Contains (station_at d n).let_out (note (committed txn replies)) → IsAnswered setup events txn replies }
     ensures refusals { (setup : Setup) (d : Deployment) (events : List Event) (n : ℕ) (txn : TxnId) (cause : Cause) → IsMirrored setup d events →
         n < setup.catalog.sites → Contains (station_at d n).let_out (note (refused txn cause)) → IsRefused setup events txn cause }
+    ensures not_both { (setup : Setup) (d : Deployment) (events : List Event) (n m : ℕ) (txn : TxnId) (replies : List Reply) (cause : Cause) → IsMirrored setup d events →
+        n < setup.catalog.sites → m < setup.catalog.sites → Contains (station_at d n).let_out (note (committed txn replies)) →
+        Contains (station_at d m).let_out (note (refused txn cause)) → ⊥ }
 {
     hosted_sites_agree();
+    runs_are_reached();
     commits_answer();
+    committed_fit();
+    outcomes_are_for_ever();
     refusals_hold();
 }
 
@@ -214,15 +223,25 @@ pub fn hosted_readings_last()
 }
 
 /// The file that a process has left is read by the next one: whatever the configuration is, an opening on it isn't refused since it were no journal, or held what is no
-/// record.
+/// record; and where the configuration is the deployment's (`narrow`), or that with another limit of journals (`raised`), not since its records gave an item too many outcomes.
 pub fn left_files_are_read()
     ensures ours { (config : List ℕ) (setup : Setup) (d : Deployment) (events : List Event) (n place : ℕ) → IsMirrored setup d events → n < setup.catalog.sites →
         (station_at d n).hosted ≡ None → OpensHosted config n (station_at d n).file (Err (NotOurs place)) → ⊥ }
     ensures records { (config : List ℕ) (setup : Setup) (d : Deployment) (events : List Event) (n index : ℕ) → IsMirrored setup d events → n < setup.catalog.sites →
         (station_at d n).hosted ≡ None → OpensHosted config n (station_at d n).file (Err (BadRecord index)) → ⊥ }
+    ensures narrow { (config : List ℕ) (schedule : Schedule) (d : Deployment) (events : List Event) (n count : ℕ) → Configures config schedule →
+        IsMirrored (setup_of schedule.catalog) d events → n < schedule.catalog.sites → (station_at d n).hosted ≡ None →
+        OpensHosted config n (station_at d n).file (Err (TooManyOutcomes count)) → ⊥ }
+    ensures raised { (config later_config : List ℕ) (schedule later : Schedule) (limit : ℕ) (d : Deployment) (events : List Event) (n count : ℕ) →
+        Configures config schedule → Configures later_config later → later.catalog ≡ record schedule.catalog { journal = limit } →
+        IsMirrored (setup_of schedule.catalog) d events → n < schedule.catalog.sites → (station_at d n).hosted ≡ None →
+        OpensHosted later_config n (station_at d n).file (Err (TooManyOutcomes count)) → ⊥ }
 {
     mirrored_deployments_agree();
     one_journal();
+    one_schedule();
+    schedules_are_in_range();
+    starts_find_sound_records();
 }
 
 /// What a site tells of a transaction that it coordinates is so in the run, and stays so whatever happens later, since the run only goes on:
@@ -230,6 +249,7 @@ pub fn left_files_are_read()
 /// - Of one that has committed, that it is committed there.
 /// - Of one that hasn't and never will, that it is neither committed nor open there.
 /// - Of one that is at work, that its site works on it there, and it isn't committed yet.
+/// - Of one whose number it has reported, one of these, and not that the number may still be given (`begun`).
 ///
 /// And the outcomes of a transaction that sites report to one another in messages that were let out are one outcome.
 pub fn hosted_outcomes_hold()
@@ -242,6 +262,9 @@ pub fn hosted_outcomes_hold()
     ensures at_work { (setup : Setup) (d : Deployment) (events : List Event) (n : ℕ) (hosted new : HostedState) (txn : TxnId) → IsMirrored setup d events →
         n < setup.catalog.sites → (station_at d n).hosted ≡ Some hosted → TellsOutcome hosted new txn (Ok AtWork) →
         (entry : Entry) × (entry_of (world_of setup events) txn ≡ Some entry) × (is_committed (world_of setup events) txn ≡ false) }
+    ensures begun { (setup : Setup) (d : Deployment) (events : List Event) (n : ℕ) (hosted new : HostedState) (txn : TxnId) → IsMirrored setup d events →
+        n < setup.catalog.sites → (station_at d n).hosted ≡ Some hosted → Contains (station_at d n).let_out (note (began txn)) →
+        TellsOutcome hosted new txn (Err NotBegun) → ⊥ }
     ensures one { (setup : Setup) (d : Deployment) (events : List Event) (n m : ℕ) (envelope other : Envelope) (txn : TxnId) (commits reported : Bool) →
         IsMirrored setup d events → n < setup.catalog.sites → m < setup.catalog.sites → Contains (station_at d n).let_out (message envelope) →
         Contains (station_at d m).let_out (message other) → envelope.message ≡ outcome_reported txn commits → other.message ≡ outcome_reported txn reported →
