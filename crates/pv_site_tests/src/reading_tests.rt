@@ -24,9 +24,19 @@ const LOG: &str = "50 56 43 4b 50 54 30 31
     0000000b 03 00 00000001 00000000 01
     00";
 
-// How many reads it takes to open a site on that log. The log is measured first: a read of both roots and what stands before them, one of each of the three lengths in the
-// block, and one of the gate behind it, which are 5. Then the site reads it: the roots, a length and a content three times, and the gate, which are 8.
-const READS: u64 = 13;
+// How many reads it takes to open that log, which is measured then: a read of both roots and what stands before them, one of each of the three lengths in the block, and one
+// of the gate behind it.
+const LOG_READS: u64 = 5;
+
+// How many reads it takes to open a site on it after that: the roots, a length and a content three times, and the gate.
+const SITE_READS: u64 = 8;
+
+// Whose opening failed.
+#[derive(Clone, Copy, Debug, PartialEq, Eq)]
+enum Part {
+    Log,
+    Site,
+}
 
 // Opens the site on its log. It answers the epoch, or the disk that failed.
 fn opened_on<D: Disk>(
@@ -47,18 +57,21 @@ fn opened_on<D: Disk>(
     }
 }
 
-// Opens the log on the disk and the site on the log. It answers the epoch, or the disk that failed.
+// Opens the log on the disk and the site on the log. It answers the epoch, or the disk that failed, and in which of the two.
 fn opened<D: Disk>(
     alloc: Global,
     disk: D,
     site: SiteId,
     catalog: &Catalog,
-) -> Result<Result<u32, D>, Fail>
+) -> Result<Result<u32, (Part, D)>, Fail>
     requires site { site.0 < catalog.now.sites }
 {
     match CkptLog::open(alloc, disk, catalog.journal()) {
-        Ok(log) => opened_on(alloc, log, site, catalog),
-        Err(OpenCkpt::Failed(disk)) => Ok(Err(disk)),
+        Ok(log) => match opened_on(alloc, log, site, catalog)? {
+            Ok(epoch) => Ok(Ok(epoch)),
+            Err(disk) => Ok(Err((Part::Site, disk))),
+        },
+        Err(OpenCkpt::Failed(disk)) => Ok(Err((Part::Log, disk))),
         Err(_) => Err("the disk holds a log".into()),
     }
 }
@@ -72,15 +85,16 @@ fn log_disk(alloc: Global) -> Result<MemDisk, Fail> {
     Ok(MemDisk::of(alloc, bytes))
 }
 
-// Opens the site where the read with this number fails, counted from 0, and again on the same disk if it did. It answers whether it did, and the epoch of the opened site.
-fn opening(alloc: Global, read: u64) -> Result<(bool, u32), Fail> {
+// Opens the site where the read with this number fails, counted from 0, and again on the same disk if it did. It answers in which opening it did, and the epoch of the opened
+// site.
+fn opening(alloc: Global, read: u64) -> Result<(Option<Part>, u32), Fail> {
     let catalog = catalog(alloc, MAX_JOURNAL)?;
     let mut disk = log_disk(alloc)?;
     disk.fail_read(read);
     match opened(alloc, disk, HERE, &catalog)? {
-        Ok(epoch) => Ok((false, epoch)),
-        Err(disk) => match opened(alloc, disk, HERE, &catalog)? {
-            Ok(epoch) => Ok((true, epoch)),
+        Ok(epoch) => Ok((None, epoch)),
+        Err((failed, disk)) => match opened(alloc, disk, HERE, &catalog)? {
+            Ok(epoch) => Ok((Some(failed), epoch)),
             Err(_) => Err("one read fails".into()),
         },
     }
@@ -89,9 +103,12 @@ fn opening(alloc: Global, read: u64) -> Result<(bool, u32), Fail> {
 #[test]
 fn a_site_opens_after_any_read_that_failed(rt: HostRuntime) -> Result<(), Fail> {
     let alloc = rt.alloc();
-    for read in 0..READS {
-        assert_eq!(rt; opening(alloc, read)?, (true, 2), "at {read}");
+    for read in 0..LOG_READS {
+        assert_eq!(rt; opening(alloc, read)?, (Some(Part::Log), 2), "at {read}");
     }
-    assert_eq!(rt; opening(alloc, READS)?, (false, 2));
+    for read in LOG_READS..LOG_READS + SITE_READS {
+        assert_eq!(rt; opening(alloc, read)?, (Some(Part::Site), 2), "at {read}");
+    }
+    assert_eq!(rt; opening(alloc, LOG_READS + SITE_READS)?, (None, 2));
     Ok(())
 }
