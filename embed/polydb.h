@@ -114,9 +114,9 @@ uint32_t polydb_version(void);
 #define POLYDB_NOT_OURS 22u
 /* What the journal holds isn't a record. */
 #define POLYDB_BAD_RECORD 23u
-/* With the journal's records the value of an item would name too many outcomes. No site of this configuration, whatever its limit of journals was, has such records. */
+/* With the journal's records the value of an item would name too many outcomes. No site that ran under one limit of journals has such records, whatever its limit is then. */
 #define POLYDB_TOO_MANY_OUTCOMES 24u
-/* No epoch is left: the site was opened 4,294,967,294 times. */
+/* No epoch is left: the records of 4,294,967,294 openings were written into the file. */
 #define POLYDB_EPOCHS_SPENT 25u
 /* The journal has no room for the record of the new epoch: its limit is the one of the configuration's line `journal`. A higher one opens it (polydb_site_open). */
 #define POLYDB_FULL 26u
@@ -129,7 +129,7 @@ uint32_t polydb_version(void);
 #define POLYDB_BAD_PROGRAM 28u
 /* The bytes are no message. */
 #define POLYDB_BAD_MESSAGE 29u
-/* The message goes to another site; or the item is at another one. */
+/* The message goes to another site; or the item is at another one; or the transaction is another one's. */
 #define POLYDB_NOT_HERE 30u
 /* There is no such site as the message comes from. */
 #define POLYDB_NO_SENDER 31u
@@ -137,7 +137,7 @@ uint32_t polydb_version(void);
 #define POLYDB_NOT_NEXT 32u
 /* No item has this name. */
 #define POLYDB_UNKNOWN_NAME 33u
-/* Records wait to be written into the file. What the item shows may rest on them, and a crash may undo it. */
+/* Records wait to be written into the file. What the item shows, or what became of the transaction, may rest on them, and a crash may undo it. */
 #define POLYDB_UNWRITTEN 37u
 /* The configuration isn't one that the other has grown to. */
 #define POLYDB_NOT_GROWN 38u
@@ -238,28 +238,30 @@ void polydb_world_close(polydb_world *world);
  * A message may be lost, may come late and may come twice: the protocol is made for that. That sites of several hosts agree is a law: whatever happens to them, there is one
  * run of all sites together, a list of events, in which what they have let out was sent or printed, and what they show is shown; and it goes on as they do. It asks for what
  * these calls are proved to do (docs/EMBEDDING.md has both side by side), and of hosts for what stands below. Not promised: that the run's programs are the texts of the
- * requests, as a schedule for `polydb run` has them; nor one run across a configuration that has grown (docs/EMBEDDING.md, What isn't said).
+ * requests, as a schedule for `polydb run` has them; nor any run once the configuration has grown, be it one across or one of what comes then, since the law begins with new
+ * files (docs/EMBEDDING.md, What isn't said).
  * Time is the host's: a site that waits for an answer gives up at its third tick, lets go of
  * its locks at their third, and then asks again at each tick; and never without one.
  *
  * What the host owes besides (`host/polydb_host.h` does what is on files of it, for a site on a folder, and `node/polydb_node.h` carries messages and ticks too):
- *   - the file, and for a new one its entry in the folder, is synced before its bytes are read for polydb_site_open: the site counts as written all that it
- *     finds, and of a process that was killed the file may show bytes that aren't on the disk yet;
+ *   - a file that is there is synced before its bytes are read for polydb_site_open: the site counts as written all that it finds, and of a process that was killed the file may
+ *     show bytes that aren't on the disk yet. A new one, and a copy, are synced, with their entry in the folder, before any call but the opening;
  *   - the file of a site that is opened the first time is POLYDB_EMPTY_JOURNAL, with any bytes behind it; and later the one that its last process left;
  *   - the file goes on to hold what it held when its bytes were read for polydb_site_open, and what was written and synced before polydb_site_journal_synced was called, also
- *     when the site is opened again. A crash in a write leaves any bytes where that write puts its bytes, and all other bytes alone. The host writes
+ *     when the site is opened again. A crash in a write, or a write that fails, leaves there any bytes or none, and all other bytes alone. The host writes
  *     nothing else into it (but see polydb_site_open and polydb_site_take_journal);
  *   - where a write or a sync fails, polydb_site_journal_synced isn't called. The host writes the same bytes again (polydb_site_take_journal gives them
  *     again), and syncs. A later sync that answers 0 without a new write proves nothing: the system may have given up the bytes, and shows them still. That is so
  *     after a restart, too: a host that can't rule it out goes on with a copy, all of which is written and synced, with its entry in the folder, before any call but the opening;
- *   - of each number one site is open at a time, on one file: once the bytes are read for the next opening, what is taken from an earlier one, and what that shows or tells, is
- *     dropped;
+ *   - of each number one site is open at a time, on one file: once the bytes are read for an opening that succeeds, nothing more is given to an earlier site of that number; what
+ *     could not have been taken from it by then is dropped, and what it shows or tells from then on. (What could have been taken by then counts as taken by then.)
  *   - no write lands late, not from a queue, either: from the sync before the bytes are read none that was for an earlier opening, of another process or of this one; and
  *     none that was given up and made again, once polydb_site_journal_synced is called for it;
  *   - bytes that polydb_site_receive is given may be any bytes; but where they spell a message, a site of these very files let it out: on the file of its number, at any time since
  *     that was new. A site of other files is a stranger, also with the same configuration: one of a copy of all files, or of the time before all were made anew;
  *   - all sites are opened with the same configuration, always, but that all of them together may get one to which it has grown (polydb_config_grows); and each
- *     number is one site's. One run of before and after that isn't promised. The same is what declares the same: sites, items in their order, the limit. The file holds neither
+ *     number is one site's. Afterwards no run is promised: what stands here as final is so as long as the configuration stays, and each call does what is said of it also then.
+ *     The same is what declares the same: sites, items with their first values in their order, the limit. The file holds neither
  *     the configuration nor `me`: that it is opened as another site, or under another configuration, isn't noticed.
  *
  * What is proved of it: each call makes of the site what the program's site makes of the same input; nothing is let out before all records are in the file
@@ -301,7 +303,7 @@ typedef struct {
  *   POLYDB_FULL               there is no room for the epoch's record
  *   POLYDB_NO_MEMORY          there was no memory
  *
- * Each opening adds a record of 10 bytes, so a journal at its limit can't be opened, nor be read. It isn't lost: a configuration with a higher limit in its line
+ * Each opening asks for a record of 10 bytes, so a journal at its limit can't be opened, nor be read. It isn't lost: a configuration with a higher limit in its line
  * `journal` opens the same bytes (polydb_config_grows).
  */
 uint32_t polydb_site_open(polydb_site *site, const uint8_t *config, size_t config_length, uint8_t me, const uint8_t *journal,
@@ -322,8 +324,8 @@ uint32_t polydb_site_open_at(polydb_site *site, const uint8_t *config, size_t co
 /*
  * Whether a site that was opened with the configuration `before` may be opened with `later` from now on: whether `later` declares the same sites, the same items in
  * their order and perhaps more behind them, and no lower a limit of journals. Where it may, all sites are stopped, and opened with `later`; the other way back there is none.
- * The items that were there show what they showed, which is a law of records. But a run has one catalog and one limit, so one run of before and after isn't promised
- * (docs/EMBEDDING.md, What isn't said).
+ * The items that were there show what they showed, which is a law of records. But a run has one catalog and one limit, so no run is promised afterwards, neither one of before and
+ * after nor one of what comes then (docs/EMBEDDING.md, What isn't said).
  *
  *   POLYDB_DONE       it may; also where both declare the same
  *   POLYDB_TOO_LONG, POLYDB_MALFORMED, POLYDB_HAS_EVENTS
@@ -341,7 +343,7 @@ uint32_t polydb_config_grows(const uint8_t *before, size_t before_length, const 
  * has no number left for a grant, and it isn't said for which of the two: the host is to close the site then, and to open it again. A site has 4,294,967,295 numbers of each
  * of the two kinds, and as many again when it is opened again.)
  *
- *   POLYDB_DONE         the site has begun it
+ *   POLYDB_DONE         the site has taken it
  *   POLYDB_CLOSED       the handle is closed
  *   POLYDB_BAD_TEXT     the text is no program: also where it has more than 1,000 bytes
  *   POLYDB_BAD_PROGRAM  the program may not run
@@ -364,7 +366,7 @@ uint32_t polydb_site_submit_at(polydb_site *site, const uint8_t *program, size_t
  *
  * So that a retry after a crash does nothing twice, a host keeps on its disk, beside each tag, what it has of the request; and then the number that came with the tag, before it
  * takes anything more from the site, since what comes next may let the transaction commit. After a crash it asks for the outcome of each number that it has (polydb_site_outcome).
- * A request of which it has no number hasn't committed, and never will.
+ * A request of which it has no number hasn't committed, and never will, as long as the configuration stays.
  */
 uint32_t polydb_site_submit_tagged(polydb_site *site, const uint8_t *program, size_t length, bool query, uint64_t tag, polydb_fault *fault);
 
@@ -453,17 +455,17 @@ uint32_t polydb_site_read(polydb_site *site, const uint8_t *name, size_t length,
 #define POLYDB_AT_WORK 3u
 
 /*
- * What became of a transaction of this site, by the three numbers of its `txn` report, as 0, 1 and 0 of `txn 0.1.0`. It is what another site is answered that asks
- * for the outcome. A host that has kept such a number asks after a crash (polydb_site_submit_tagged). Nothing changes.
+ * What became of a transaction of this site, by the three numbers of its `txn` report, as 0, 1 and 0 of `txn 0.1.0`. POLYDB_COMMITTED and POLYDB_NOT_COMMITTED are what another
+ * site is answered that asks for the outcome; else that one gets no answer. A host that has kept such a number asks after a crash (polydb_site_submit_tagged). Nothing changes.
  *
- * It is told only once all is written that the site has asked for: else a crash might undo it. POLYDB_COMMITTED and POLYDB_NOT_COMMITTED are final; a transaction
- * that is POLYDB_AT_WORK may still commit or not.
+ * It is told only once all is written that the site has asked for: else a crash might undo it. POLYDB_COMMITTED and POLYDB_NOT_COMMITTED are final, as long as the configuration
+ * stays; a transaction that is POLYDB_AT_WORK may still commit or not. Of a number of a passed epoch that was never given POLYDB_NOT_COMMITTED is told.
  *
  *   POLYDB_DONE        `*outcome` is POLYDB_COMMITTED, POLYDB_NOT_COMMITTED or POLYDB_AT_WORK; with other statuses it is 0
  *   POLYDB_CLOSED      the handle is closed
  *   POLYDB_NOT_HERE    it is a transaction of another site
  *   POLYDB_UNWRITTEN   polydb_site_take_journal has something to write, and nothing is told before polydb_site_journal_synced
- *   POLYDB_NOTHING     the site has given this number to no transaction yet
+ *   POLYDB_NOTHING     the site may still give this number to a transaction
  *   POLYDB_NO_MEMORY   there was no memory
  */
 uint32_t polydb_site_outcome(polydb_site *site, uint8_t coordinator, uint32_t epoch, uint32_t number, uint32_t *outcome);

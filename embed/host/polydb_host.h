@@ -161,7 +161,7 @@ polydb_host_cause polydb_host_read(polydb_host *host, const uint8_t *name, size_
 
 /*
  * What became of a transaction of this site, by the three numbers of its `txn` report: POLYDB_COMMITTED, POLYDB_NOT_COMMITTED or POLYDB_AT_WORK, as polydb_site_outcome says. Where it is
- * refused with the status POLYDB_UNWRITTEN, polydb_host_settle comes first; with POLYDB_NOTHING the site has given this number to no transaction yet.
+ * refused with the status POLYDB_UNWRITTEN, polydb_host_settle comes first; with POLYDB_NOTHING the site may still give this number to a transaction.
  */
 polydb_host_cause polydb_host_outcome(polydb_host *host, uint8_t coordinator, uint32_t epoch, uint32_t number, uint32_t *outcome, polydb_host_error *error);
 

@@ -554,7 +554,7 @@ class Site(_Open):
         return line.decode().removeprefix(f"item {text.decode()} ").rstrip("\n")
 
     def outcome(self, transaction: str) -> Optional[Outcome]:
-        """What became of a transaction of this site, `0.1.0`, once all is written; None where its number was given to none yet, and may still be."""
+        """What became of a transaction of this site, `0.1.0`, once all is written; None where the site may still give its number to one."""
         words = transaction.split(".")
         if len(words) != 3 or not all(word.isascii() and word.isdigit() and int(word) < 1 << 32 for word in words) or int(words[0]) > 255:
             raise ValueError(f"no transaction: {transaction}")

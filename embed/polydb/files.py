@@ -361,7 +361,7 @@ class FileHost:
         return self._open().read(name)
 
     def outcome(self, transaction: str) -> Optional[Outcome]:
-        """What became of a transaction of this site, `0.1.0`, or None where its number was given to none yet; `settle` comes first."""
+        """What became of a transaction of this site, `0.1.0`, or None where the site may still give its number to one; `settle` comes first."""
         return self._open().outcome(transaction)
 
     def settle(self) -> None:

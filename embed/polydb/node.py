@@ -222,7 +222,7 @@ class Node:
         return await self._ask(program, True, begun, keep)
 
     async def outcome(self, transaction: str) -> Optional[Outcome]:
-        """What became of a transaction of this site, `0.1.0`, once all is written; None where its number was given to none yet."""
+        """What became of a transaction of this site, `0.1.0`, once all is written; None where the site may still give its number to one."""
         return cast(Optional[Outcome], await self._look(lambda: self.host.outcome(transaction)))
 
     async def read(self, name: str) -> Item:

@@ -212,7 +212,7 @@ impl FileHost {
         Ok(self.site()?.read(name)?)
     }
 
-    /// What became of a transaction of this site, by the three numbers of its `txn` report, or `None` where the site has given its number to none yet;
+    /// What became of a transaction of this site, by the three numbers of its `txn` report, or `None` where the site may still give its number to one;
     /// [`FileHost::settle`] comes first.
     pub fn outcome(
         &mut self,

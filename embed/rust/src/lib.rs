@@ -534,8 +534,8 @@ impl Site {
         Ok(line)
     }
 
-    /// What became of a transaction of this site, once all is written, by the three numbers of its `txn` report; or `None` where the site has given its
-    /// number to none yet, and may still do so.
+    /// What became of a transaction of this site, once all is written, by the three numbers of its `txn` report; or `None` where the site may still
+    /// give its number to one.
     pub fn outcome(
         &mut self,
         coordinator: u8,
