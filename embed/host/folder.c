@@ -32,7 +32,7 @@ typedef struct {
     uint64_t noted;   /* so long the journal was on the disk when a process opened it, if that was noted */
     bool has_journal; /* the journal's file is there and has bytes */
     bool runs;        /* the lock's file says that this process has the site */
-    bool has_failed;  /* a write or a sync of this process has */
+    bool has_failed;  /* a write or a sync of this process has, and no copy of the journal was made since */
     char journal_name[NAME_ROOM];
 } site_folder;
 
@@ -227,6 +227,7 @@ static polydb_host_cause read_journal(site_folder *files, const polydb_host_setu
     polydb_host_cause cause = POLYDB_HOST_DONE;
     if (!sync_data(files->journal) || !sync_folder(files->folder)) {
         files->ended_well = false;
+        files->has_failed = true;
         cause = say_it_runs(files, error); /* the next sync may say nothing, so the doubt is kept for the next opening, if this one comes to nothing */
     }
     if (cause != POLYDB_HOST_DONE) {
@@ -257,6 +258,7 @@ static polydb_host_cause put_journal(site_folder *files, const journal_content *
         }
         files->journal = file;
         files->has_journal = true;
+        files->has_failed = false; /* what had failed was a sync of the old one */
     }
     return cause;
 }

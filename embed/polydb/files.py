@@ -221,7 +221,7 @@ class SiteFolder:
             os.fdatasync(self._journal)
             os.fsync(self._folder)
         except OSError:
-            self._ended_well = False
+            self._ended_well, self._has_failed = False, True
             self._say_it_runs()  # the next sync may say nothing, so the doubt is kept for the next opening, if this one comes to nothing
         self.held = _read_at(self._journal, self._length(size), 0)
         if not self._is_named and self.records > 0 and not adopts:
@@ -271,6 +271,7 @@ class SiteFolder:
                 if self._journal >= 0:
                     os.close(self._journal)  # the old one, of which nothing counts any more
                 self._journal = file
+                self._has_failed = False  # what had failed was a sync of the old one
             if not self._is_named or self._grows:
                 os.close(self._put(self.name("id"), self.name("id.new"), self._identity() + self.config))
         except BaseException:

@@ -21,6 +21,8 @@
 
 static const char CONFIG[] = "sites 1\nitem a 0 100\nitem b 0 50\n";
 static const char GROWN[] = "sites 1\nitem a 0 100\nitem b 0 50\nitem c 0 0\n";
+static const char SMALL[] = "sites 1\njournal 40\nitem a 0 100\n"; /* three starts have room */
+static const char LARGER[] = "sites 1\njournal 4096\nitem a 0 100\n";
 static const char TRANSFER[] = "a := a - 10 ; b := b + 10";
 
 /* ---- calls that fail ---- */
@@ -542,7 +544,6 @@ static void long_files_take_no_memory(void) {
 
 /* Each start has its record. A journal that has no room for one more stays as it is. */
 static void full_journals_stay(void) {
-    static const char SMALL[] = "sites 1\njournal 40\nitem a 0 100\n";
     new_folder();
     polydb_host *host;
     int starts = 0;
@@ -555,7 +556,7 @@ static void full_journals_stay(void) {
     ino_t file = inode_of("site-0.pv");
     is_refused(POLYDB_HOST_ENGINE, 0, SMALL);
     assert(error.status == POLYDB_FULL && inode_of("site-0.pv") == file);
-    assert(open_as(&host, 0, "sites 1\njournal 4096\nitem a 0 100\n", false) == POLYDB_HOST_DONE);
+    assert(open_as(&host, 0, LARGER, false) == POLYDB_HOST_DONE);
     shows(host, "item a 100");
     polydb_host_close(host);
     is_refused(POLYDB_HOST_OTHER_CONFIG, 0, SMALL);
@@ -657,6 +658,52 @@ static void doubt_makes_a_copy(void) {
     drop_folder();
 }
 
+static void starts_and_dies(void) {
+    polydb_host *host;
+    assert(open_as(&host, 0, SMALL, false) == POLYDB_HOST_DONE);
+    settles(host);
+    raise(SIGKILL);
+}
+
+/* A sync that fails at an opening may be told once only, and what it was for is as good as lost. Where that opening is refused then, the next one makes the copy. */
+static void refused_openings_keep_the_doubt(void) {
+    static const call SYNCS[] = {FDATASYNC, FSYNC};
+    for (size_t i = 0; i < sizeof SYNCS / sizeof *SYNCS; i++) {
+        new_folder();
+        for (int starts = 0; starts < 3; starts++) {
+            assert(was_killed(starts_and_dies));
+        }
+        polydb_host *host;
+        fail(SYNCS[i], 1, EIO);
+        is_refused(POLYDB_HOST_ENGINE, 0, SMALL);
+        assert(error.status == POLYDB_FULL && fails_in == 0);
+        assert(open_as(&host, 0, LARGER, false) == POLYDB_HOST_DONE);
+        assert(found.is_copied);
+        polydb_host_close(host);
+        assert(open_as(&host, 0, LARGER, false) == POLYDB_HOST_DONE);
+        assert(!found.is_copied);
+        polydb_host_close(host);
+
+        assert(unlink(path_of("site-0.id")) == 0);
+        fail(SYNCS[i], 1, EIO);
+        is_refused(POLYDB_HOST_UNNAMED, 0, LARGER); /* after one that ended well, too */
+        assert(fails_in == 0);
+        assert(open_as(&host, 0, LARGER, true) == POLYDB_HOST_DONE);
+        assert(found.is_copied);
+        polydb_host_close(host);
+
+        fail(SYNCS[i], 1, EIO);
+        assert(open_as(&host, 0, LARGER, false) == POLYDB_HOST_DONE);
+        assert(found.is_copied && fails_in == 0);
+        polydb_host_close(host);
+        assert(open_as(&host, 0, LARGER, false) == POLYDB_HOST_DONE);
+        assert(!found.is_copied); /* the copy ended the doubt */
+        shows(host, "item a 100");
+        polydb_host_close(host);
+        drop_folder();
+    }
+}
+
 /* ---- each write, sync and rename failing in turn ---- */
 
 static void failures_say_nothing_too_early(int with) {
@@ -735,6 +782,7 @@ int main(void) {
     tags_come_with_numbers();
     numbers_come_first();
     doubt_makes_a_copy();
+    refused_openings_keep_the_doubt();
     failures_say_nothing_too_early(EIO);
     failures_say_nothing_too_early(ENOSPC);
     deaths_leave_a_journal();

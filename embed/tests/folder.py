@@ -3,6 +3,7 @@
     folder.py [PROGRAM]          with PROGRAM, the example `process` in Rust, only that the two exclude one another and take over from one another, and what it does where its disk fails
 """
 
+import contextlib
 import errno
 import os
 import select
@@ -222,26 +223,48 @@ def doubt():
         with folder.open() as host:
             second = folder.journal().stat().st_ino
             assert host.found.is_copied and second != first
-            sync, os.fdatasync = os.fdatasync, failing_once(errno.ENOSPC)
-            try:
-                host.submit(TRANSFER)
+            host.submit(TRANSFER)
+            with a_failing_sync(errno.ENOSPC):
                 assert refused(OSError, host.settle).errno == errno.ENOSPC
-                assert len(folder.reports) == 2, folder.reports
-            finally:
-                os.fdatasync = sync
+            assert len(folder.reports) == 2, folder.reports
             host.settle()
             assert host.read("a") == "70"
         with folder.open() as host:
             assert host.found.is_copied and folder.journal().stat().st_ino != second
 
+        # A sync that fails at an opening may be told once only. Where that opening is refused then, the next one makes the copy.
+        name, aside = folder.path / "site-0.id", folder.path / "aside"
+        for ends in (dies, lambda: folder.open().close()):
+            in_child(ends)
+            name.rename(aside)
+            with a_failing_sync(errno.EIO):
+                refused(polydb.Unnamed, folder.open)
+            aside.rename(name)
+            with folder.open() as host:
+                assert host.found.is_copied
+        with a_failing_sync(errno.EIO), folder.open() as host:
+            assert host.found.is_copied
+        with folder.open() as host:
+            assert not host.found.is_copied  # the copy ended the doubt
+            host.settle()
+            assert host.read("a") == "60"
 
-def failing_once(number):
-    """A sync that fails."""
 
-    def sync(_):
+@contextlib.contextmanager
+def a_failing_sync(number):
+    """The first sync within fails."""
+    sync = os.fdatasync
+
+    def fails(_):
+        os.fdatasync = sync
         raise OSError(number, os.strerror(number))
 
-    return sync
+    os.fdatasync = fails
+    try:
+        yield
+        assert os.fdatasync is sync, "no sync"
+    finally:
+        os.fdatasync = sync
 
 
 class Other:

@@ -90,7 +90,7 @@ pub(crate) struct SiteFolder {
     noted: u64, // so long the journal was on the disk when a process opened it, if that was noted
     has_journal: bool,
     runs: bool,
-    has_failed: bool,
+    has_failed: bool, // a write or a sync of this process has, and no copy of the journal was made since
 }
 
 /// What a journal's file holds, from its header to its closed gate.
@@ -236,12 +236,14 @@ impl SiteFolder {
             .sync_data()
             .and_then(|()| self.folder.sync_all())
             .is_ok();
-        let (length, records) = end_of(file, size).map_err(failed)?;
-        let bytes = whole_at(file, length, 0).map_err(failed)?;
+        let read = end_of(file, size)
+            .and_then(|(length, records)| Ok((whole_at(file, length, 0)?, records)));
         if !is_synced {
             self.ended_well = false;
+            self.has_failed = true;
             self.say_it_runs()?; // the next sync may say nothing, so the doubt is kept for the next opening, if this one comes to nothing
         }
+        let (bytes, records) = read.map_err(failed)?;
         if !self.is_named && records > 0 && !adopts {
             return Err(HostError::Unnamed);
         }
@@ -280,6 +282,7 @@ impl SiteFolder {
         self.say_it_runs()?;
         if !self.has_journal || !self.ended_well {
             self.journal = Some(self.put("pv", "new", &content.bytes)?); // of the old one nothing counts any more
+            self.has_failed = false; // what had failed was a sync of the old one
         }
         if !self.is_named || self.grows {
             self.put("id", "id.new", &self.identity(config))?;

@@ -3,7 +3,9 @@
 //! The coordinator of the transfer that comes to be in doubt is in a process of its own: this test's program again, which a variable of the environment tells to be that site. Frames between
 //! the two are a length of four bytes and a message.
 
+use std::cell::Cell;
 use std::env;
+use std::ffi::c_int;
 use std::fs;
 use std::io::{self, Read, Write};
 use std::path::{Path, PathBuf};
@@ -14,6 +16,27 @@ use polydb::{Error, FileHost, HostError, Outcome, Output};
 const CONFIG: &[u8] = b"sites 2\nitem a 0 100\nitem b 1 50\n";
 const TRANSFER: &[u8] = b"a := a - 10 ; b := b + 10";
 const FOLDER: &str = "POLYDB_TEST_FOLDER";
+
+thread_local! {
+    /// Whether the next sync of this thread fails.
+    static FAILS: Cell<bool> = const { Cell::new(false) };
+}
+
+extern "C" {
+    fn fsync(file: c_int) -> c_int;
+    fn __errno_location() -> *mut c_int;
+}
+
+/// The system's call, by which `sync_data` goes: this one is linked before it.
+#[no_mangle]
+pub extern "C" fn fdatasync(file: c_int) -> c_int {
+    const EIO: c_int = 5;
+    if FAILS.replace(false) {
+        unsafe { *__errno_location() = EIO };
+        return -1;
+    }
+    unsafe { fsync(file) }
+}
 
 /// A folder that goes at the end of a test.
 struct Folder(PathBuf);
@@ -301,8 +324,20 @@ fn a_crash_leaves_a_doubt_that_ends() {
         "item b 50 if -0.1.0 ; 60 if +0.1.0\n"
     );
 
+    // A sync that fails at an opening may be told once only. Where that opening is refused then, the next one makes the copy.
+    let (name, aside) = (folder.0.join("site-0.id"), folder.0.join("aside"));
+    fs::rename(&name, &aside).unwrap();
+    FAILS.set(true);
+    assert!(matches!(refusal(&folder.0, CONFIG, 0), HostError::Unnamed));
+    assert!(!FAILS.get());
+    fs::rename(&aside, &name).unwrap();
     let coordinator = open(&folder.0, 0);
     assert!(coordinator.found().is_copied);
+    drop(coordinator);
+    FAILS.set(true);
+    assert!(open(&folder.0, 0).found().is_copied);
+    let coordinator = open(&folder.0, 0);
+    assert!(!coordinator.found().is_copied); // the copy ended the doubt
     let mut hosts = [coordinator, participant];
     while read(&mut hosts[1], "b").contains(" if ") {
         hosts[1].tick().unwrap();
