@@ -112,7 +112,7 @@ typedef struct {
     /* A message for site `to`, another one. `to` may be no site of the configuration: then it is lost. */
     void (*message)(void *context, uint8_t to, const uint8_t *bytes, size_t length);
     /* A report, as a run prints it, without its line feed; `txn ..` with the tag of its request, and all else with 0. Nothing more is taken from the site before it returns: so a number
-     * that it keeps on a disk is there before its transaction can commit. */
+     * that it keeps on a disk is there before its transaction can commit. A program that can't keep it ends the process here: once this returns, the transaction may commit. */
     void (*report)(void *context, const char *line, size_t length, uint64_t tag);
 } polydb_host_setup;
 

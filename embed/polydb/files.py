@@ -24,7 +24,7 @@ import struct
 from pathlib import Path
 from typing import Callable, NamedTuple, Optional, Union
 
-from .engine import EMPTY_JOURNAL, Bytes, HasEvents, Malformed, Message, Outcome, Output, PolydbError, Site, Text, TooLong, _bytes, config_grows
+from .engine import EMPTY_JOURNAL, Bytes, HasEvents, Malformed, Message, Outcome, Output, PolydbError, Report, Site, Text, TooLong, _bytes, config_grows
 
 __all__ = ["FileHost", "SiteFolder", "Found", "Busy", "OtherSite", "OtherConfig", "Unnamed", "Lost", "NotThere", "Damaged", "Copied", "Forked"]
 
@@ -329,6 +329,7 @@ class FileHost:
         self.me = me
         self._hand_over = hand_over
         self.site: Optional[Site] = None
+        self._left: Optional[Report] = None  # one at which `hand_over` has raised
         self.files = SiteFolder(folder, config, me, adopts, is_there)
         try:
             self.site = Site(config, me, self.files.held)
@@ -367,7 +368,8 @@ class FileHost:
 
     def settle(self) -> None:
         """Writes and syncs what the site wants written, hands over what it lets out, and goes on until there is nothing of either. Nothing more is taken from the site before
-        `hand_over` returns: so a number that it keeps on a disk is there before its transaction can commit.
+        `hand_over` returns: so a number that it keeps on a disk is there before its transaction can commit. Where it raises, so does this: a Report comes again at the next
+        call, before all else that is let out; a Message is lost, which it may be.
 
         A write or sync that fails raises OSError. What doesn't rest on it is handed over all the same; the rest waits, and the next call tries again.
         """
@@ -388,15 +390,19 @@ class FileHost:
 
     def _let_out(self, site: Site) -> bool:
         any_out = False
-        while (output := site.take()) is not None:
-            any_out = True
+        while (output := self._left or site.take()) is not None:
+            any_out, self._left = True, None
             if isinstance(output, Message) and output.to == self.me:
                 try:
                     site.receive(output.bytes)
                 except PolydbError:
                     pass  # it is lost, which a message may be: the next ticks ask again
             else:
-                self._hand_over(output)
+                try:
+                    self._hand_over(output)
+                except BaseException:
+                    self._left = output if isinstance(output, Report) else None
+                    raise
         return any_out
 
     def close(self) -> None:

@@ -164,6 +164,25 @@ def copies_are_refused():
         other.open().close()
 
 
+def reports_come_again():
+    """A program that couldn't keep a number is told it again, and the transaction doesn't commit before."""
+    heard = []
+
+    def hear(output):
+        heard.append(output)
+        if len(heard) < 3:
+            raise OSError(errno.ENOSPC, os.strerror(errno.ENOSPC))
+
+    with Folder() as folder, polydb.FileHost(folder.path, CONFIG, 0, hear) as host:
+        host.submit(TRANSFER, tag=7)
+        for _ in range(2):
+            refused(OSError, host.settle)
+            assert host.outcome("0.1.0") is polydb.Outcome.AT_WORK
+        host.settle()
+        assert heard[:3] == 3 * [polydb.Report("txn 0.1.0", 7)] and heard[3].line.startswith("commit 0.1.0 ") and len(heard) == 4, heard
+        assert host.outcome("0.1.0") is polydb.Outcome.COMMITTED
+
+
 def journals():
     with Folder() as folder:
         folder.journal().write_bytes(b"")
@@ -352,6 +371,7 @@ def main():
     names_are_compared()
     configurations_grow()
     copies_are_refused()
+    reports_come_again()
     journals()
     lost()
     doubt()

@@ -230,7 +230,7 @@ impl FileHost {
     }
 
     /// The same, with the tag of the request whose number is reported, and 0 with all else. Nothing more is taken from the site before `hand_over` returns: so a number that
-    /// it keeps on a disk is there before its transaction can commit.
+    /// it keeps on a disk is there before its transaction can commit. A program that can't keep it ends the process there: once it returns, the transaction may commit.
     pub fn settle_tagged(
         &mut self,
         mut hand_over: impl FnMut(Output, u64),
