@@ -11,7 +11,7 @@
  *     json, text             nothing: how answers look from now on
  *
  * TAG is a number below 4,294,967,296 that the client chooses, and by which it knows the answer. What is refused before it begins has the answer error TAG WORDS.
- * The line `txn TAG T` is sent before anything goes out on which the commit of T depends.
+ * The line `txn TAG T` is sent, as far as the client's socket takes it, before anything goes out on which the commit of T depends.
  */
 #define _GNU_SOURCE
 
