@@ -193,7 +193,7 @@ takes-query = refl
 -- ---- words that are none
 
 -- Bytes that aren't in a table are none of its words.
-unlisted : {K : Type 0} (bytes : List ℕ) (table : List (Bor (List ℕ) × K)) → keyword_beside bytes table ≡ None → list_any (λ entry. bytes_eq bytes entry.0.now) table ≡ false
+pub unlisted : {K : Type 0} (bytes : List ℕ) (table : List (Bor (List ℕ) × K)) → keyword_beside bytes table ≡ None → list_any (λ entry. bytes_eq bytes entry.0.now) table ≡ false
 unfolding keyword_beside
 unlisted bytes [] none = refl
 unlisted {K} bytes (e ∷ table) none = go (bytes_eq bytes e.0.now) (unlisted bytes table) none

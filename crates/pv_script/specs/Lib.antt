@@ -9,6 +9,7 @@ pub mod ScheduleView
 pub mod LineFaults
 pub mod Generated
 pub mod Keywords
+pub mod ReaderView
 pub mod Said
 pub mod TakesLine
 pub mod Behind

@@ -120,9 +120,9 @@ pub fn live_keyword_of(word: &[u8]) -> Option<LiveKeyword>
     keyword_in(word, &LIVE_KEYWORDS)
 }
 
-// The keyword beside a word in a table.
+/// The keyword beside a word in a table.
 #[tactic(auto, unfolding(crate::specs::Keywords::keyword_beside))]
-fn keyword_in<K: Copy>(word: &[u8], table: &[(&[u8], K)]) -> Option<K>
+pub fn keyword_in<K: Copy>(word: &[u8], table: &[(&[u8], K)]) -> Option<K>
     ensures { result ≡ keyword_beside word.now table.now }
 {
     table

@@ -16,6 +16,7 @@ mod live_said;
 mod made_lines;
 mod program;
 mod read;
+mod reader;
 mod said;
 mod same;
 mod schedule;
@@ -24,8 +25,12 @@ mod words;
 
 pub use catalog_text::CatalogText;
 pub use generator::make;
+pub use keyword::keyword_in;
 pub use line::{Line, MessageKind};
-pub use lines::{MAX_SCHEDULE, line_after};
+pub use lines::{
+    MAX_SCHEDULE, SignificantLine, first_line, is_significant, line_after, without_return,
+};
 pub use live::{Client, LiveScript, Request};
 pub use read::{read_live, read_schedule};
+pub use reader::Reader;
 pub use schedule::{Event, LineCause, Schedule, ScriptError};

@@ -110,11 +110,12 @@ pub fn line_after(text: &[u8]) -> u32
     Lines::new(text).after_last()
 }
 
-// The first line, with the carriage return that may end it, and what stands after its line feed.
-fn first_line(rest: &[u8]) -> (&[u8], &[u8])
+/// The first line, with the carriage return that may end it, and what stands after its line feed.
+pub fn first_line(rest: &[u8]) -> (&[u8], &[u8])
     requires { 0 < length rest.now }
     ensures first { lines rest.now ≡ strip_carriage_return result.0.now ∷ lines result.1.now }
     ensures shorter { length result.1.now < length rest.now }
+    ensures within { length result.0.now ≤ length rest.now }
 {
     let Some(end) = memchr(b'\n', rest) else {
         return rest.split_at(rest.len());
@@ -124,9 +125,10 @@ fn first_line(rest: &[u8]) -> (&[u8], &[u8])
     (line, after)
 }
 
-// The line without a carriage return at its end.
-fn without_return(line: &[u8]) -> &[u8]
-    ensures { result.now ≡ strip_carriage_return line.now }
+/// The line without a carriage return at its end.
+pub fn without_return(line: &[u8]) -> &[u8]
+    ensures line { result.now ≡ strip_carriage_return line.now }
+    ensures within { length result.now ≤ length line.now }
 {
     match line {
         [front @ .., b'\r'] => front,
@@ -134,8 +136,8 @@ fn without_return(line: &[u8]) -> &[u8]
     }
 }
 
-// Whether the line has more than blanks, and is no comment.
-fn is_significant(line: &[u8]) -> bool
+/// Whether the line has more than blanks, and is no comment.
+pub fn is_significant(line: &[u8]) -> bool
     ensures { result ≡ is_significant line.now }
 {
     line.iter()

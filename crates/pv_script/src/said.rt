@@ -1,5 +1,5 @@
 // What the lines of a script said so far, and what one more line of a schedule says.
-ghost use Rattle.std.specs.Prelude.{◌≡◌, ℕ, List, [], ◌∷◌, MatchOption, IfOk, IfErr, IfSome, OnOk, codes};
+ghost use Rattle.std.specs.Prelude.{◌≡◌, ℕ, List, [], ◌∷◌, MatchOption, IfOk, IfErr, IfSome, OnOk, OnErr, codes};
 ghost use Rattle.pv_model.specs.Check.{IsPlan};
 ghost use Rattle.pv_model.specs.LineCauses as model;
 ghost use Rattle.pv_model.specs.LineForms as form;
@@ -77,6 +77,7 @@ impl Said {
         ensures limited { OnOk result (IsLimited self.new) }
         ensures plan { IfOk result (λ found. IfSome found (HasPlan self.new.catalog)) }
         ensures fault { IfErr result (IsLineFault (before_of self.old) line.now) }
+        ensures unchanged { OnErr result (self.new ≡ self.old) }
     {
         let words = words_in(alloc, Script::Scheduled, line)?;
         let (keyword, args) = split(&words)?;
@@ -129,6 +130,7 @@ impl Said {
         ensures limited { OnOk result (IsLimited self.new) }
         ensures fault { (beside : Beside) (line : List ℕ) → IsHead (before_with beside self.old) line (codes "journal") (texts args.now) →
             IfErr result (λ cause. IsLineFault (before_with beside self.old) line (At cause)) }
+        ensures unchanged { OnErr result (self.new ≡ self.old) }
     {
         if self.journal.is_some() {
             return Err(LineCause::Twice);
@@ -150,6 +152,7 @@ impl Said {
         ensures limited { OnOk result (IsLimited self.new) }
         ensures fault { (beside : Beside) (line : List ℕ) → IsHead (before_with beside self.old) line (codes "item") (texts args.now) →
             IfErr result (IsLineFault (before_with beside self.old) line) }
+        ensures unchanged { OnErr result (self.new ≡ self.old) }
     {
         if self.begun {
             return Err(Fault::At(LineCause::TooLate));
