@@ -1,5 +1,5 @@
 -- Which words lines begin with, and what stands behind each.
-use Rattle.std.proofs.Common.{◌≡◌, ℕ, Bool, true, false, Option, Some, None, List, [], ◌∷◌, map, filter, find, cond, Bor, MatchOption, refl, sym, ap, ◌∙◌}
+use Rattle.std.proofs.Common.{◌≡◌, ℕ, Bool, true, false, Option, Some, None, List, [], ◌∷◌, map, filter, find, cond, Bor, MatchOption, IfSome, IfNone, refl, sym, ap, ◌∙◌}
 use Rattle.std.specs.Prelude.{codes, ◌||◌, ◌^◌, ◌-◌}
 use Rattle.std.specs.List.{list_all, list_any}
 use Rattle.std.specs.Option.{option_map}
@@ -193,7 +193,7 @@ takes-query = refl
 -- ---- words that are none
 
 -- Bytes that aren't in a table are none of its words.
-pub unlisted : {K : Type 0} (bytes : List ℕ) (table : List (Bor (List ℕ) × K)) → keyword_beside bytes table ≡ None → list_any (λ entry. bytes_eq bytes entry.0.now) table ≡ false
+unlisted : {K : Type 0} (bytes : List ℕ) (table : List (Bor (List ℕ) × K)) → keyword_beside bytes table ≡ None → list_any (λ entry. bytes_eq bytes entry.0.now) table ≡ false
 unfolding keyword_beside
 unlisted bytes [] none = refl
 unlisted {K} bytes (e ∷ table) none = go (bytes_eq bytes e.0.now) (unlisted bytes table) none
@@ -247,3 +247,13 @@ pub keyword-answer : {K : Type 0} (script : Script) (spelled : K → List ℕ) (
     → MatchOption found (forms_of script bytes ≡ []) (λ keyword. bytes ≡ spelled keyword)
 keyword-answer script spelled bytes table None all each is = unlisted-forms script bytes table all (sym is)
 keyword-answer script spelled bytes table (Some keyword) all each is = keyword_beside-spelled spelled bytes table keyword each (sym is)
+
+pub spelled-answer : {K : Type 0} (spelled : K → List ℕ) (bytes : List ℕ) (table : List (Bor (List ℕ) × K)) (found : Option K)
+    → list_all (λ entry. bytes_eq entry.0.now (spelled entry.1)) table ≡ true → found ≡ keyword_beside bytes table → IfSome found (λ keyword. bytes ≡ spelled keyword)
+spelled-answer spelled bytes table None each is = tt
+spelled-answer spelled bytes table (Some keyword) each is = keyword_beside-spelled spelled bytes table keyword each (sym is)
+
+pub unlisted-answer : {K : Type 0} (bytes : List ℕ) (table : List (Bor (List ℕ) × K)) (found : Option K) → found ≡ keyword_beside bytes table
+    → IfNone found (list_any (λ entry. bytes_eq bytes entry.0.now) table ≡ false)
+unlisted-answer bytes table None is = unlisted bytes table (sym is)
+unlisted-answer bytes table (Some keyword) is = tt

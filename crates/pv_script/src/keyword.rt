@@ -1,5 +1,7 @@
 // The words that lines begin with.
-ghost use Rattle.std.specs.Prelude.{◌≡◌, [], MatchOption};
+ghost use Rattle.std.specs.Prelude.{◌≡◌, ℕ, true, false, List, [], MatchOption, IfSome, IfNone};
+ghost use Rattle.std.specs.List.{list_all, list_any};
+ghost use Rattle.std.specs.Str.{bytes_eq};
 ghost use Rattle.pv_model.specs.LineForms.{scheduled, live, forms_of};
 ghost use Rattle.pv_script.specs.Keywords.{spelled, spelled_live, keyword_beside};
 
@@ -120,13 +122,21 @@ pub fn live_keyword_of(word: &[u8]) -> Option<LiveKeyword>
     keyword_in(word, &LIVE_KEYWORDS)
 }
 
-/// The keyword beside a word in a table.
+// The keyword beside a word in a table.
 #[tactic(auto, unfolding(crate::specs::Keywords::keyword_beside))]
-pub fn keyword_in<K: Copy>(word: &[u8], table: &[(&[u8], K)]) -> Option<K>
+fn keyword_in<K: Copy>(word: &[u8], table: &[(&[u8], K)]) -> Option<K>
     ensures { result ≡ keyword_beside word.now table.now }
 {
     table
         .iter()
         .find(|entry| word == entry.0)
         .map(|entry| entry.1)
+}
+
+/// What stands beside a word in a table, if the table has the word.
+pub fn look_up<K: Copy>(word: &[u8], table: &[(&[u8], K)]) -> Option<K>
+    ensures spelled { (spelled : K → List ℕ) → list_all (λ entry. bytes_eq entry.0.now (spelled entry.1)) table.now ≡ true → IfSome result (λ found. word.now ≡ spelled found) }
+    ensures unlisted { IfNone result (list_any (λ entry. bytes_eq word.now entry.0.now) table.now ≡ false) }
+{
+    keyword_in(word, table)
 }

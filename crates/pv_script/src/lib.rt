@@ -25,7 +25,7 @@ mod words;
 
 pub use catalog_text::CatalogText;
 pub use generator::make;
-pub use keyword::keyword_in;
+pub use keyword::look_up;
 pub use line::{Line, MessageKind};
 pub use lines::{
     MAX_SCHEDULE, SignificantLine, first_line, is_significant, line_after, without_return,
