@@ -79,5 +79,6 @@ pub record IsPlannedOn (kept : Kept) (change : Planned) : Type 0 where
       length (names_of (shown kept.catalog (kept.records ++ change.appended ∷ []) item)) ≤ HELD_NAMES
   pub placed : (item : ℕ) (txn : TxnId) → IsTrue (is_home kept.catalog kept.site item) →
       IsTrue (names (shown kept.catalog (kept.records ++ change.appended ∷ []) item) txn) → has_place kept.room.places txn item ≡ true
+  -- Each new value has its places, also one that a later value of the same item replaces.
   pub told : All (λ value. (txn : TxnId) → IsTrue (names value.cases txn) → has_place kept.room.places txn value.item ≡ true) change.values
   pub room : HasRoom kept.room change.appended
