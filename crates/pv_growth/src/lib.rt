@@ -19,14 +19,8 @@ use std::alloc::Global;
 pub fn config_grows(alloc: Global, before: &[u8], later: &[u8]) -> Result<bool, ConfigFault>
     ensures { AnswersGrowth before.now later.now result }
 {
-    let before = match read_config(alloc, before) {
-        Ok(catalog) => catalog,
-        Err(fault) => return Err(fault),
-    };
-    let later = match read_config(alloc, later) {
-        Ok(catalog) => catalog,
-        Err(fault) => return Err(fault),
-    };
+    let before = read_config(alloc, before)?;
+    let later = read_config(alloc, later)?;
     Ok(has_grown(&before, &later))
 }
 
