@@ -1,13 +1,23 @@
 /* Loaded before the C library, for bench/hostile: refuses one request of the process. REFUSED_KIND says of which kind (0 for memory, 1 a read, 2 a write, 3 a sync) and REFUSED_NUMBER
- * which, from 1. How many of each kind there were stands, also after a process that didn't end by itself, in the file that REQUEST_COUNTS names, eight bytes for each. */
+ * which, from 1. How many of each kind there were stands, also after a process that didn't end by itself, in the file that REQUEST_COUNTS names, eight bytes for each.
+ *
+ * With REFUSED_STEP, of which the process needs to have one thread, no open file but its streams, and files for these, it refuses the request of that number and each of so many after it,
+ * each in a child that begins just then and so has done what the process has done. It waits for the child, looks at how that ended, and goes on as if nothing had been: its output is as
+ * long as before, and its input stands where it stood. A child ends well with status REFUSED_STATUS, which is that of want of memory, and a beginning of the text that stands in the
+ * file WHOLE, or as the process itself is to end: with status WHOLE_STATUS and all of that text. How many ended well stands behind the counts, and of the others a line on the standard
+ * error. */
 #define _GNU_SOURCE
 
 #include <errno.h>
 #include <fcntl.h>
 #include <stddef.h>
+#include <stdio.h>
 #include <stdlib.h>
+#include <string.h>
 #include <sys/mman.h>
+#include <sys/stat.h>
 #include <sys/syscall.h>
+#include <sys/wait.h>
 #include <unistd.h>
 
 enum kind { MEMORY, READ, WRITE, SYNC, KINDS };
@@ -17,8 +27,17 @@ extern void *__libc_calloc(size_t count, size_t size);
 extern void *__libc_realloc(void *old, size_t size);
 extern void *__libc_memalign(size_t align, size_t size);
 
-static unsigned long unseen[KINDS], refused_kind = KINDS, refused_number;
+/* Behind the counts of each kind: how many children ended well. */
+enum { WELL = KINDS, NUMBERS };
+
+/* How long a child may take. */
+enum { SECONDS = 60 };
+
+static unsigned long unseen[NUMBERS], refused_kind = KINDS, refused_number, refused_step, refused_status, whole_status;
 static unsigned long *requests = unseen;
+static const char *whole = "";
+static size_t whole_length;
+static int is_child;
 
 static unsigned long number_of(const char *name, unsigned long otherwise) {
     const char *text = getenv(name);
@@ -36,16 +55,74 @@ __attribute__((constructor)) static void begin(void) {
             requests = place;
         }
     }
-    for (int kind = 0; kind < KINDS; kind++) {
-        requests[kind] = 0;
+    for (int number = 0; number < NUMBERS; number++) {
+        requests[number] = 0;
     }
     refused_kind = number_of("REFUSED_KIND", KINDS);
     refused_number = number_of("REFUSED_NUMBER", 0);
+    refused_step = number_of("REFUSED_STEP", 0);
+    refused_status = number_of("REFUSED_STATUS", 0);
+    whole_status = number_of("WHOLE_STATUS", 0);
+    whole = getenv("WHOLE");
+    file = whole == NULL ? -1 : open(whole, O_RDONLY);
+    if (file >= 0) {
+        struct stat found;
+        whole_length = fstat(file, &found) == 0 ? found.st_size : 0;
+        whole = whole_length == 0 ? "" : mmap(NULL, whole_length, PROT_READ, MAP_PRIVATE, file, 0);
+        close(file);
+    }
+}
+
+/* Whether the standard output holds a beginning of the whole text, and of which length. */
+static int is_beginning(size_t length) {
+    static char part[1 << 16];
+    size_t place = 0;
+    while (place < length) {
+        ssize_t read = syscall(SYS_pread64, 1, part, sizeof part, place);
+        if (read <= 0 || place + read > whole_length || memcmp(part, whole + place, read) != 0) {
+            return 0;
+        }
+        place += read;
+    }
+    return 1;
+}
+
+/* Whether this is the child, in which the request is refused. The process itself goes on when the child has ended. */
+static int is_refused_in_a_child(unsigned long number) {
+    off_t input = lseek(0, 0, SEEK_CUR), output = lseek(1, 0, SEEK_CUR);
+    int status = -1;
+    pid_t child = _Fork();
+    if (child == 0) {
+        memcpy(unseen, requests, sizeof unseen);
+        requests = unseen;
+        is_child = 1;
+        alarm(SECONDS);
+        return 1;
+    }
+    if (child > 0) {
+        waitpid(child, &status, 0);
+    }
+    off_t length = lseek(1, 0, SEEK_END);
+    int good = is_beginning(length) && WIFEXITED(status) &&
+        ((unsigned long)WEXITSTATUS(status) == refused_status || ((unsigned long)WEXITSTATUS(status) == whole_status && (size_t)length == whole_length));
+    if (good) {
+        requests[WELL] += 1;
+    } else {
+        dprintf(2, "request %lu refused: ended as %#x, %zd bytes written\n", number, (unsigned)status, (ssize_t)length);
+    }
+    if (ftruncate(1, output) != 0 || lseek(1, output, SEEK_SET) != output || lseek(0, input, SEEK_SET) != input) {
+        dprintf(2, "the streams of the process aren't files\n");
+        _exit(1);
+    }
+    return 0;
 }
 
 static int is_refused(enum kind kind) {
     unsigned long number = __atomic_add_fetch(&requests[kind], 1, __ATOMIC_SEQ_CST);
-    if (kind != refused_kind || number != refused_number) {
+    if (kind != refused_kind || is_child || number < refused_number) {
+        return 0;
+    }
+    if (refused_step == 0 ? number != refused_number : (number - refused_number) % refused_step != 0 || !is_refused_in_a_child(number)) {
         return 0;
     }
     errno = kind == MEMORY ? ENOMEM : EIO;
