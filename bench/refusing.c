@@ -1,7 +1,7 @@
 /* Loaded before the C library, for bench/hostile: refuses one request of the process. REFUSED_KIND says of which kind (0 for memory, 1 a read, 2 a write, 3 a sync) and REFUSED_NUMBER
  * which, from 1. How many of each kind there were stands, also after a process that didn't end by itself, in the file that REQUEST_COUNTS names, eight bytes for each.
  *
- * With REFUSED_STEP, of which the process needs to have one thread, no open file but its streams, and files for these, it refuses the request of that number and each of so many after it,
+ * With REFUSED_STEP, of which the process needs to have one thread, no open file but its streams, and files for these, it refuses the request of that number and each REFUSED_STEP-th after it,
  * each in a child that begins just then and so has done what the process has done. It waits for the child, looks at how that ended, and goes on as if nothing had been: its output is as
  * long as before, and its input stands where it stood. A child ends well with status REFUSED_STATUS, which is that of want of memory, and a beginning of the text that stands in the
  * file WHOLE, or as the process itself is to end: with status WHOLE_STATUS and all of that text. How many ended well stands behind the counts, and of the others a line on the standard
@@ -70,6 +70,9 @@ __attribute__((constructor)) static void begin(void) {
         whole_length = fstat(file, &found) == 0 ? found.st_size : 0;
         whole = whole_length == 0 ? "" : mmap(NULL, whole_length, PROT_READ, MAP_PRIVATE, file, 0);
         close(file);
+        if (whole == MAP_FAILED) {
+            whole_length = 0;
+        }
     }
 }
 
@@ -110,7 +113,7 @@ static int is_refused_in_a_child(unsigned long number) {
     } else {
         dprintf(2, "request %lu refused: ended as %#x, %zd bytes written\n", number, (unsigned)status, (ssize_t)length);
     }
-    if (ftruncate(1, output) != 0 || lseek(1, output, SEEK_SET) != output || lseek(0, input, SEEK_SET) != input) {
+    if (input < 0 || ftruncate(1, output) != 0 || lseek(1, output, SEEK_SET) != output || lseek(0, input, SEEK_SET) != input) {
         dprintf(2, "the streams of the process aren't files\n");
         _exit(1);
     }
