@@ -70,7 +70,7 @@ uint32_t polydb_version(void);
 #define POLYDB_MAX_PROGRAM_ITEMS 16u
 /* Bytes of a configuration, of a schedule, and of a catalog and a line together. */
 #define POLYDB_MAX_INPUT 16777216u
-/* Bytes of a message: 16 values of 4,096 cases each. */
+/* Bytes of a message: none has more. By its format it has at most 1,245,141, 16 values of 4,096 leaves and 4,095 tests each; the number is that of earlier versions. */
 #define POLYDB_MAX_MESSAGE 8454261u
 /* Bytes of the limit of journals: the least that may be declared, and the greatest, which is the limit where none is. */
 #define POLYDB_MIN_JOURNAL 32u

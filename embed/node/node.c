@@ -28,11 +28,11 @@
 #include "requests.h"
 
 enum {
-    VERSION = 1,
+    VERSION = 2,
     DIGEST = 16,
     HEAD = 4 + DIGEST,
     MESSAGE_FROM = 1,         /* where in a message the site stands that it comes from */
-    MOST_MESSAGE = 8454261,   /* bytes of the longest message, by its format */
+    MOST_MESSAGE = 8454261,   /* no message has more bytes; by its format it has at most 1,245,141 */
     QUEUE = 4096,             /* frames that wait for a peer */
     ROUND = 256,              /* frames that are taken before what they make is written */
     ROUNDS = 16,              /* such rounds in one call of polydb_node_work */

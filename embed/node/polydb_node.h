@@ -15,7 +15,7 @@
  *
  *     1 tcp://10.0.0.2:7400 Yne@$w-vo<fVvi]a<NY6T1ed:M$fCG*[IaLV{hID
  *
- * What goes over the wire. A frame is 20 bytes and what follows: `PV`, the version 1, the kind, and 16 bytes of BLAKE2b of the configuration. So each frame is compared, the
+ * What goes over the wire. A frame is 20 bytes and what follows: `PV`, the version 2, the kind, and 16 bytes of BLAKE2b of the configuration. So each frame is compared, the
  * first one too; of a site with another version or configuration nothing is taken, and both say so. Kinds: `h` a hello, which comes first and about once a second;
  * `w` its answer; `n` the answer to a frame of another version or configuration; `m` a message of a site. What can't be sent waits in a queue of 4,096 frames
  * for each peer. Where that is full, messages are lost, which a message may be; and where nothing has come back for 4 seconds then, all that waits is lost, too.

@@ -32,10 +32,10 @@ from .files import FileHost, Found
 
 __all__ = ["Node", "Peer", "BadFile", "Unknown", "read_peers", "read_key", "public_key", "new_key"]
 
-_VERSION = 1
+_VERSION = 2
 _HELLO, _WELCOME, _NO, _MESSAGE = b"hwnm"
 _HEAD = 20
-_MOST_MESSAGE = 8454261  # bytes of the longest message, by its format
+_MOST_MESSAGE = 8454261  # no message has more bytes; by its format it has at most 1,245,141
 _QUEUE = 4096  # frames that wait for a peer
 _LINGER = 250  # milliseconds in which what was sent last may still go
 _HANDSHAKE = 5000  # milliseconds that a connection has to show its key

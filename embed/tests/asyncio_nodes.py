@@ -211,9 +211,9 @@ def bad_frames(sites):
     dealer.curve_serverkey, dealer.curve_secretkey, dealer.curve_publickey = peers[0].key, secret, peers[2].key
     dealer.connect(peers[0].address)
     digest = polydb.node._digest_of(nodes.CONFIG)
-    head = b"PV\1m" + digest
+    head = b"PV\2m" + digest
     from_1 = b"\5\1\0" + bytes(9)
-    headless = (b"", b"P", b"PV\2h" + digest, b"PV\1h" + bytes(16), b"PV\1x" + digest, random.randbytes(300_000))
+    headless = (b"", b"P", b"PV\1h" + digest, b"PV\2h" + bytes(16), b"PV\2x" + digest, random.randbytes(300_000))
     messages = (b"", b"\5", from_1, b"\5\2\1" + bytes(9), random.randbytes(5000))
     for frame in (*headless, *(head + message for message in messages)):
         dealer.send(frame)

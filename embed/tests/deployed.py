@@ -21,7 +21,7 @@ from polydb import EMPTY_JOURNAL, Message, Site  # noqa: E402
 HEADER = 8  # bytes before the first gate
 HEAD = 5  # a gate, and the length of its record
 NO_MESSAGE = 2**64 - 1  # in a schedule, of a message that isn't sent there
-KINDS = ["", "lock", "granted", "denied", "prepare", "yes", "no", "outcome", "ask"]
+KINDS = {1: "lock", 2: "granted", 3: "denied", 4: "prepare", 5: "yes", 6: "no", 7: "outcome", 8: "ask", 18: "granted", 20: "prepare"}
 
 
 class Found(Exception):

@@ -17,6 +17,9 @@ RECORD_BYTES = 5
 EPOCH_BYTES = 5
 OUTCOME_BYTES = 11
 PROMISE_BYTES = 11
+VALUE_BYTES = 6
+LEAF_BYTES = 9
+TEST_BYTES = 10
 LONGEST_JOURNAL = 2**32
 
 
@@ -124,7 +127,9 @@ class Site:
             return self.length + RECORD_BYTES + EPOCH_BYTES
         if kind == "outcome":
             return self.length + RECORD_BYTES + OUTCOME_BYTES
-        content = sum(6 + sum(9 + 10 * len(literals) for _, literals in polyvalues.cases(tree)) for tree in record[2].values())
+        leaves = [len(list(polyvalues.cases(tree))) for tree in record[2].values()]
+        # Beside its leaves a tree has one test fewer.
+        content = sum(VALUE_BYTES + LEAF_BYTES * count + TEST_BYTES * (count - 1) for count in leaves)
         return self.length + RECORD_BYTES + PROMISE_BYTES + content
 
     def is_full(self, record):

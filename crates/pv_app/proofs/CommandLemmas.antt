@@ -1,10 +1,12 @@
 -- Words are one command at most, the one that is found of them.
 use Rattle.std.proofs.Common.{◌≡◌, ℕ, ◌≤◌, List, [], ◌∷◌, codes, decimal, get_or, Option, Some, IfSome, refl, sym, ap, ◌∙◌, subst, arith}
 use Rattle.std.proofs.lemmas.Fmt.{decimal_injective}
-use Rattle.pv_app.specs.Commands.{IsCommand, word_of}
+use Rattle.pv_app.specs.Commands.{IsCommand, word_of, word_of_tour}
 use Rattle.pv_app.specs.declared.command.Command.{Command}
-use Rattle.pv_app.specs.declared.command.Command.TheVariants.{Run, Make, Big, Live, Show}
+use Rattle.pv_app.specs.declared.command.Command.TheVariants.{Run, Make, Big, Live, Over}
 use Rattle.pv_app.specs.declared.command.TheConstants.{MAX_NUMBER}
+use Rattle.pv_app.specs.declared.tour.Tour.{Tour}
+use Rattle.pv_app.specs.declared.tour.Tour.TheVariants.{Show, Upgrade}
 use Rattle.pv_cluster.specs.declared.running.TheConstants.{MAX_WORKERS}
 use Rattle.pv_run.specs.declared.form.Form.{Form}
 use Rattle.pv_run.specs.declared.form.Form.TheVariants.{Text, Json}
@@ -24,10 +26,16 @@ only-is words word other one two = cc
 words-differ : codes "run" ≡ codes "json" → ⊥
 words-differ same = let wrong : ⊥ = cc in wrong
 
-show-differs : (form : Form) → word_of form ≡ codes "show" → ⊥
-unfolding word_of
-show-differs Text same = let wrong : ⊥ = cc in wrong
-show-differs Json same = let first : 106 ≡ 115 = ap (λ (word : List ℕ). get_or word 0 0) same in absurd (omega (arith, first))
+tour-differs : (form : Form) (tour : Tour) → word_of form ≡ word_of_tour tour → ⊥
+unfolding word_of word_of_tour
+tour-differs Text Show same = let wrong : ⊥ = cc in wrong
+tour-differs Text Upgrade same = let wrong : ⊥ = cc in wrong
+tour-differs Json Show same = let first : 106 ≡ 115 = ap (λ (word : List ℕ). get_or word 0 0) same in absurd (omega (arith, first))
+tour-differs Json Upgrade same = let first : 106 ≡ 117 = ap (λ (word : List ℕ). get_or word 0 0) same in absurd (omega (arith, first))
+
+tours-differ : word_of_tour Show ≡ word_of_tour Upgrade → ⊥
+unfolding word_of_tour
+tours-differ same = let wrong : ⊥ = cc in wrong
 
 numbered-differ : codes "make" ≡ codes "big" → ⊥
 numbered-differ same = let wrong : ⊥ = cc in wrong
@@ -53,7 +61,7 @@ no-numbered word text number few is no_make no_big no_live (Big n) so = no_big (
 no-numbered word text number few is no_make no_big no_live (Live n) so =
     let same = decimal_injective number n (omega (arith, few)) (omega (arith, so.2)) (sym is ∙ second-is (word ∷ text ∷ []) word text (codes "live") (decimal n) refl so.0) in
     no_live (first-is (word ∷ text ∷ []) word text (codes "live") (decimal n) refl so.0) (omega (arith, same, so.1)) (omega (arith, same, so.2))
-no-numbered word text number few is no_make no_big no_live Show so = two-are-not-one (word ∷ text ∷ []) (codes "show") word text so refl
+no-numbered word text number few is no_make no_big no_live (Over tour) so = two-are-not-one (word ∷ text ∷ []) (word_of_tour tour) word text so refl
 
 pub one-command : (words : List (List ℕ)) (one other : Command) → IsCommand words one → IsCommand words other → one ≡ other
 unfolding word_of
@@ -82,15 +90,18 @@ one-command words (Live m) (Make n) a b = absurd (make-is-not-live (first-is wor
 one-command words (Big m) (Live n) a b = absurd (big-is-not-live (first-is words (codes "big") (decimal m) (codes "live") (decimal n) a.0 b.0))
 one-command words (Live m) (Big n) a b = absurd (big-is-not-live (first-is words (codes "big") (decimal n) (codes "live") (decimal m) b.0 a.0))
 one-command words (Live m) (Live n) a b = ap Live (same-number words (codes "live") m n (omega (arith, a.2)) (omega (arith, b.2)) a.0 b.0)
-one-command words Show Show a b = refl
-one-command words (Run form) Show a b = absurd (show-differs form (only-is words (word_of form) (codes "show") a b))
-one-command words Show (Run form) a b = absurd (show-differs form (only-is words (word_of form) (codes "show") b a))
-one-command words Show (Make n) a b = absurd (two-are-not-one words (codes "show") (codes "make") (decimal n) a b.0)
-one-command words Show (Big n) a b = absurd (two-are-not-one words (codes "show") (codes "big") (decimal n) a b.0)
-one-command words Show (Live n) a b = absurd (two-are-not-one words (codes "show") (codes "live") (decimal n) a b.0)
-one-command words (Make n) Show a b = absurd (two-are-not-one words (codes "show") (codes "make") (decimal n) b a.0)
-one-command words (Big n) Show a b = absurd (two-are-not-one words (codes "show") (codes "big") (decimal n) b a.0)
-one-command words (Live n) Show a b = absurd (two-are-not-one words (codes "show") (codes "live") (decimal n) b a.0)
+one-command words (Over Show) (Over Show) a b = refl
+one-command words (Over Upgrade) (Over Upgrade) a b = refl
+one-command words (Over Show) (Over Upgrade) a b = absurd (tours-differ (only-is words (word_of_tour Show) (word_of_tour Upgrade) a b))
+one-command words (Over Upgrade) (Over Show) a b = absurd (tours-differ (only-is words (word_of_tour Show) (word_of_tour Upgrade) b a))
+one-command words (Run form) (Over tour) a b = absurd (tour-differs form tour (only-is words (word_of form) (word_of_tour tour) a b))
+one-command words (Over tour) (Run form) a b = absurd (tour-differs form tour (only-is words (word_of form) (word_of_tour tour) b a))
+one-command words (Over tour) (Make n) a b = absurd (two-are-not-one words (word_of_tour tour) (codes "make") (decimal n) a b.0)
+one-command words (Over tour) (Big n) a b = absurd (two-are-not-one words (word_of_tour tour) (codes "big") (decimal n) a b.0)
+one-command words (Over tour) (Live n) a b = absurd (two-are-not-one words (word_of_tour tour) (codes "live") (decimal n) a b.0)
+one-command words (Make n) (Over tour) a b = absurd (two-are-not-one words (word_of_tour tour) (codes "make") (decimal n) b a.0)
+one-command words (Big n) (Over tour) a b = absurd (two-are-not-one words (word_of_tour tour) (codes "big") (decimal n) b a.0)
+one-command words (Live n) (Over tour) a b = absurd (two-are-not-one words (word_of_tour tour) (codes "live") (decimal n) b a.0)
 
 -- The command that was found is the only one.
 pub found-is : (words : List (List ℕ)) (found : Option Command) (command other : Command) → IfSome found (IsCommand words) → found ≡ Some command

@@ -1,3 +1,3 @@
 mod BayLemmas
 mod CommandLemmas
-mod ShowLemmas
+mod TourLemmas

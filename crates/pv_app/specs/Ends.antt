@@ -2,10 +2,10 @@
 use Rattle.std.specs.Bool.{⊤}
 use Rattle.std.specs.Prelude.{◌≡◌, ℕ, List, Result, Ok, Err}
 use Rattle.pv_app.specs.Commands.{usage_text}
-use Rattle.pv_app.specs.ShowEnds.{EndsShow, show_status}
+use Rattle.pv_app.specs.TourEnds.{EndsTour, tour_status}
 use Rattle.pv_app.specs.declared.command.Command.{Command}
-use Rattle.pv_app.specs.declared.command.Command.TheVariants.{Run, Make, Big, Live, Show}
-use Rattle.pv_app.specs.declared.show_end.ShowEnd.{ShowEnd}
+use Rattle.pv_app.specs.declared.command.Command.TheVariants.{Run, Make, Big, Live, Over}
+use Rattle.pv_app.specs.declared.tour_end.TourEnd.{TourEnd}
 use Rattle.pv_base.specs.declared.failure.Failed.{Failed}
 use Rattle.pv_disk.specs.BayModel.{BayModel}
 use Rattle.pv_io.specs.SinkEffects.{WritesAll}
@@ -40,7 +40,7 @@ module _ {R W B V : Type 0} (source : sources.Ghosts R) (sink : sinks.Ghosts W) 
   Ends (Make n) = (ended : Result ⊤ WriteEnd) × (status ≡ make_status ended) × EndsMake sink n before after ended × IsUntouched
   Ends (Big n) = (ended : Result TextEnd LongText) × (status ≡ big_status ended) × EndsBig sink n before after ended × IsUntouched
   Ends (Live workers) = (ended : Result LiveEnd ReadEnd) × (status ≡ live_status ended) × EndsLive source sink M D unread left before after old new ended
-  Ends Show = (ended : Result ShowEnd ReadEnd) × (status ≡ show_status ended) × EndsShow source sink M D unread left before after old new ended
+  Ends (Over tour) = (ended : Result TourEnd ReadEnd) × (status ≡ tour_status ended) × EndsTour source sink M D tour unread left before after old new ended
 
   -- How words end that are no command: the usage line was written, or a beginning of it.
   abbrev pub EndsUsage : Type 0

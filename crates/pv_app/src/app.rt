@@ -5,10 +5,11 @@ ghost use Rattle.std.specs.String.{string_bytes};
 ghost use Rattle.pv_io.specs.SinkEffects.{WritesAll};
 ghost use Rattle.pv_app.specs.Commands.{IsCommand, usage_text};
 ghost use Rattle.pv_app.specs.Ends.{Ends, EndsUsage, usage_status};
+ghost use Rattle.pv_app.specs.declared.tour.Tour.{Tour};
 ghost use Rattle.pv_show.specs.Bays.{IsAtRest};
 
 use crate::command::{Command, command_of, workers_of};
-use crate::showing::{read_and_show, status_of_show};
+use crate::touring::{read_and_tour, status_of_tour};
 use pv_base::Failed;
 use pv_cluster::Gate;
 use pv_disk::Bay;
@@ -22,9 +23,9 @@ use std::alloc::Global;
 use std::sync::Wait;
 use std::thread::Threads;
 
-const USAGE: &[u8] = b"usage: polydb run | json | make N | big N | live W | show\n";
+const USAGE: &[u8] = b"usage: polydb run | json | make N | big N | live W | show | upgrade\n";
 
-/// The program, over any input, output and disks. `words` are those after the program's name. For `live` and `show` no disk of the bay may be out.
+/// The program, over any input, output and disks. `words` are those after the program's name. For `live`, `show` and `upgrade` no disk of the bay may be out.
 ///
 /// - `live W` reads a live script and runs it with W workers on threads of their own, beside a thread for each client, over disks of the bay, all of
 ///   which have to be empty. It writes the schedule that the run came to, what each client heard, and what that schedule prints. It waits for its
@@ -43,7 +44,7 @@ pub fn polydb<T: Threads + Wait + Sync, R: Source, W: Sink, B: Bay, G: Gate + Sy
 ) -> Status
 where
     B::D: Send,
-    requires show { IsCommand (map string_bytes words.now) Command.Show → IsAtRest B.model bay.old }
+    requires tour { (tour : Tour) → IsCommand (map string_bytes words.now) (Command.Over tour) → IsAtRest B.model bay.old }
     requires live { (workers : ℕ) → IsCommand (map string_bytes words.now) (Command.Live workers) → IsAtRest B.model bay.old }
 
     // Words that are a command end as its relation says, and `Ends` names that of each. The relation of `run` has the headline: whatever schedule the
@@ -68,8 +69,8 @@ where
     }
 }
 
-/// The program at words other than `live W`, over any input, output and disks. It waits for nobody. For `show` no disk of the bay may be out; none is
-/// afterwards, where none was before.
+/// The program at words other than `live W`, over any input, output and disks. It waits for nobody. For `show` and `upgrade` no disk of the bay may be
+/// out; none is afterwards, where none was before.
 ///
 /// - `run` reads a schedule from the source to its end, runs it, and writes each event's lines when the event is done; `json` does the same with
 ///   each line as a JSON object. Takes time in proportion to the input, what is printed and what the events send and touch. At [`Status::Done`] the
@@ -78,6 +79,8 @@ where
 ///   anything.
 /// - `show` reads a live script, with or without clients, looks at the bay's disks, and writes of each site what its log holds and how that shows
 ///   the site's items. It changes no disk. Takes time in proportion to the input and the logs, and to the sites times the items.
+/// - `upgrade` reads a live script in the same way, replaces the old spellings in the log on each of the bay's disks by what is written today, all of a disk at one
+///   moment, and writes of each site what came of it. At each moment of it the records of each log are as before. Takes time in proportion to the input and the logs.
 ///
 /// The status says how it ended. After [`Status::WriteFault`] and [`Status::NoMemory`] the sink has taken a beginning of what was to be written.
 pub fn alone<R: Source, W: Sink, B: Bay>(
@@ -88,7 +91,7 @@ pub fn alone<R: Source, W: Sink, B: Bay>(
     bay: &mut B,
 ) -> Status
     requires not_live { (workers : ℕ) → IsCommand (map string_bytes words.now) (Command.Live workers) → ⊥ }
-    requires rest { IsCommand (map string_bytes words.now) Command.Show → IsAtRest B.model bay.old }
+    requires rest { (tour : Tour) → IsCommand (map string_bytes words.now) (Command.Over tour) → IsAtRest B.model bay.old }
 
     // Words that are a command end as its relation says, and other words are answered by the usage line: both as of `polydb`.
     ensures command { (command : Command) → IsCommand (map string_bytes words.now) command →
@@ -101,7 +104,9 @@ pub fn alone<R: Source, W: Sink, B: Bay>(
 {
     match command_of(words) {
         Some(Command::Run(form)) => status_of_run(read_and_run(alloc, form, source, sink, bay)),
-        Some(Command::Show) => status_of_show(read_and_show(alloc, source, sink, bay)),
+        Some(Command::Over(tour)) => {
+            status_of_tour(read_and_tour(alloc, tour, source, sink, bay))
+        }
         Some(Command::Make(number)) => status_of_make(write_made(alloc, number, sink)),
         Some(Command::Big(number)) => status_of_big(write_summary_of_number(alloc, number, sink)),
         Some(Command::Live(_)) => unreachable!(),

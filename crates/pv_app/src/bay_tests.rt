@@ -127,7 +127,7 @@ fn copied(alloc: Global, disk: MemDisk) -> Result<MemDisk, Fail>
 }
 
 // the status, and what was written, of a call over a bay
-fn call_over(
+pub(crate) fn call_over(
     alloc: Global,
     word: &str,
     input: &str,

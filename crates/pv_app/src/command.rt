@@ -3,6 +3,7 @@ ghost use Rattle.std.specs.Prelude.{◌≡◌, ◌^◌, ◌-◌, ℕ, ◌≤◌,
 ghost use Rattle.std.specs.String.{string_bytes};
 ghost use Rattle.pv_app.specs.Commands.{IsCommand};
 
+use crate::tour::Tour;
 use itoa::Buffer;
 use pv_cluster::MAX_WORKERS;
 use pv_run::Form;
@@ -21,8 +22,8 @@ pub enum Command {
     Big(u32),
     /// Read a live script, and run it with so many workers, at least one and at most [`MAX_WORKERS`].
     Live(u32),
-    /// Read a live script, and write what the disks of its sites hold.
-    Show,
+    /// Read a live script, tour the disks of its sites, and write what tells of them.
+    Over(Tour),
 }
 
 /// The command that the words are, or `None` where they are no command.
@@ -60,7 +61,10 @@ fn one_word(word: &str) -> Option<Command>
         return Some(Command::Run(Form::Json));
     }
     if word == "show" {
-        return Some(Command::Show);
+        return Some(Command::Over(Tour::Show));
+    }
+    if word == "upgrade" {
+        return Some(Command::Over(Tour::Upgrade));
     }
     None
 }

@@ -3,8 +3,9 @@
 
 mod app;
 mod command;
-mod show_end;
-mod showing;
+mod tour;
+mod tour_end;
+mod touring;
 
 use crate::app::polydb;
 use pv_cluster::IdleGate;
@@ -64,6 +65,8 @@ mod bay_tests;
 mod live_tests;
 #[cfg(test)]
 mod tests;
+#[cfg(test)]
+mod upgrade_tests;
 #[cfg(test)]
 mod worked_faults;
 #[cfg(test)]

@@ -64,7 +64,7 @@ const REPORTS: &str =
 const REPORTS_OUTPUT: &str =
     "order\ncommitted\nopen\nitem a -1\nend\ntxn 0.1.0\ncommit 0.1.0 certain nothing\norder 0.1.0\ncommitted 0.1.0\nopen\nitem a 1\nend\ntxn 0.1.1\ncommit 0.1.1 certain nothing\n";
 
-const USAGE: &str = "usage: polydb run | json | make N | big N | live W | show\n";
+const USAGE: &str = "usage: polydb run | json | make N | big N | live W | show | upgrade\n";
 
 const FIRST_JSON: &str = "\
 {\"txn\":\"0.1.0\"}
@@ -113,6 +113,7 @@ const OTHER_WORDS: &[&[&str]] = &[
     &["big", "+7"],
     &["make", "2147483648"],
     &["show", "7"],
+    &["upgrade", "7"],
     &["live"],
     &["live", "0"],
     &["live", "04"],

@@ -20,7 +20,7 @@ use Rattle.pv_mail.specs.declared.answer.Answer.{Answer}
 use Rattle.pv_mail.specs.declared.asked.Asker.{Asker}
 use Rattle.pv_post.specs.declared.outlet.Out.{Out}
 use Rattle.pv_protocol.specs.State.{Input, Outgoing, Running}
-use Rattle.pv_protocol.specs.Step.{step_on}
+use Rattle.pv_protocol.specs.Step.{site_step, step_on}
 use Rattle.pv_site.specs.SiteState.{SiteState, here_with, setup_of}
 use Rattle.pv_site.specs.Steps.{Breaks, HasMade, IsReady, Stays, Steps}
 use Rattle.pv_site.specs.Values.{note_of, outgoing_of}
@@ -78,6 +78,12 @@ module _ {W : Type 0} (M : LogModel W) (old new : SiteBox W) (site : SiteState W
   module _ (step : Step) (running : Running) (is : old.site.running ≡ Some running)
       (made : HasMade M old.site site step (step_on (here_with old.site running) (input_of (intake_of taken))))
       (follows : Follows mid new stamp taken asker step) where
+    -- The log has the records as they are written, so this is the step of the definition.
+    plain-made : HasMade M old.site site step (site_step (setup_of old.site.catalog) old.site.me old.site.records running (input_of (intake_of taken)))
+    plain-made =
+        subst (λ (surplus : ℕ). HasMade M old.site site step (step_on (record (here_with old.site running) { surplus = surplus }) (input_of (intake_of taken))))
+        box.stands.surplus made
+
     abbrev entry : Entry
     entry = record { stamp = stamp; input = taken; sends = length step.sends.items; short = follows.short; seen = seen.Done step.notes }
 
@@ -93,7 +99,7 @@ module _ {W : Type 0} (M : LogModel W) (old new : SiteBox W) (site : SiteState W
     count-is = counted entry follows.history
 
     sent-is : sent_by (setup_of old.site.catalog) old.site.me (course_site old.site) (stamped_of entry) ≡ map outgoing_of step.sends.items
-    sent-is = ap (λ (r : Option Running). sent_at (setup_of old.site.catalog) old.site.me old.site.records r (stamped_of entry)) is ∙ sym made.answered.sends
+    sent-is = ap (λ (r : Option Running). sent_at (setup_of old.site.catalog) old.site.me old.site.records r (stamped_of entry)) is ∙ sym plain-made.answered.sends
 
     kept-is : kept_by (setup_of old.site.catalog) old.site.me (course_site old.site) (stamped_of entry)
         ≡ take (length step.sends.items - follows.short) (map outgoing_of step.sends.items)
@@ -108,7 +114,7 @@ module _ {W : Type 0} (M : LogModel W) (old new : SiteBox W) (site : SiteState W
 
     enters : Enters M (kept_of old) (kept_of after) (intake_of taken)
     enters =
-        let as_step = made-follows M old.site site (stamped_of entry) running step made refl refl in
+        let as_step = made-follows M old.site site (stamped_of entry) running step plain-made refl refl in
         record {
           entry = entry;
           answer = Ok step;
@@ -176,6 +182,10 @@ module _ {W : Type 0} (M : LogModel W) (old new : SiteBox W) (site : SiteState W
 
   module _ (running : Running) (is : old.site.running ≡ Some running)
       (breaks : Breaks M old.site site (step_on (here_with old.site running) (input_of (intake_of taken)))) where
+    plain-breaks : Breaks M old.site site (site_step (setup_of old.site.catalog) old.site.me old.site.records running (input_of (intake_of taken)))
+    plain-breaks =
+        subst (λ (surplus : ℕ). Breaks M old.site site (step_on (record (here_with old.site running) { surplus = surplus }) (input_of (intake_of taken)))) box.stands.surplus breaks
+
     abbrev fault_entry : Entry
     fault_entry = record { stamp = stamp; input = taken; sends = 0; short = 0; seen = seen.Fault }
 
@@ -184,7 +194,7 @@ module _ {W : Type 0} (M : LogModel W) (old new : SiteBox W) (site : SiteState W
 
     fault-enters : new.history.items ≡ old.history.items ++ fault_entry ∷ [] → Enters M (kept_of old) (kept_of fault_after) (intake_of taken)
     fault-enters history =
-        let as_step = broken-follows M old.site site (stamped_of fault_entry) running breaks refl refl in
+        let as_step = broken-follows M old.site site (stamped_of fault_entry) running plain-breaks refl refl in
         record {
           entry = fault_entry;
           answer = Err Fault;

@@ -7,8 +7,8 @@ use Rattle.pv_law_histories.specs.Course.{IsStepAt, IsStepUp, left_at, left_up, 
 use Rattle.pv_law_histories.specs.History.{Came, Stamped, done, fault, down}
 use Rattle.pv_protocol.specs.State as state
 use Rattle.pv_protocol.specs.State.{Running}
-use Rattle.pv_protocol.specs.Step.{step_on}
-use Rattle.pv_site.specs.SiteState.{SiteState, here_with, setup_of}
+use Rattle.pv_protocol.specs.Step.{site_step}
+use Rattle.pv_site.specs.SiteState.{SiteState, setup_of}
 use Rattle.pv_site.specs.Steps.{Breaks, HasMade}
 use Rattle.pv_site.specs.Values.{note_of, outgoing_of}
 use Rattle.pv_site.specs.declared.input.Step.{Step}
@@ -27,7 +27,7 @@ module _ {W : Type 0} (M : LogModel W) (old new : SiteState W) (entry : Stamped)
 
   module _ (running : Running) where
     abbrev step : state.Step
-    step = step_on (here_with old running) (input_of entry.intake)
+    step = site_step (setup_of old.catalog) old.me old.records running (input_of entry.intake)
 
     -- the same, of what came of it
     abbrev FollowsAs : Came → Type 0

@@ -1,14 +1,17 @@
 -- A site that was opened on a log in which nothing was found.
-use Rattle.std.proofs.Common.{◌≡◌, ℕ, ◌+◌, true, List, [], ◌∷◌, ◌++◌, length, Some, refl, sym, ap, ◌∙◌, subst, eqb-true}
+use Rattle.std.proofs.Common.{◌≡◌, ℕ, ◌+◌, true, List, [], ◌∷◌, ◌++◌, length, Some, refl, sym, ap, ◌∙◌, subst, eqb-true, arith}
 use Rattle.std.proofs.lemmas.List.{nil_from_length}
 use Rattle.std.specs.Prelude.{⊤}
 use Rattle.pv_base.specs.Catalog.{Declared}
 use Rattle.pv_base.specs.declared.limits.TheConstants.{HELD_NAMES}
 use Rattle.pv_disk_model.specs.LogModel.{LogModel}
-use Rattle.pv_disk_model.specs.Size.{Contents}
+use Rattle.pv_disk_model.specs.Size.{Contents, size_of}
 use Rattle.pv_format.specs.Contents.{SpellRecords, greatest_epoch}
 use Rattle.pv_format.specs.Record.{Record, epoch_begun}
 use Rattle.pv_law_step.proofs.StartLemmas.{start-case}
+use Rattle.pv_law_step.proofs.JournalLemmas.{no-records-long}
+use Rattle.pv_protocol.specs.Records.{journal_bytes}
+use Rattle.pv_site.specs.Surplus.{surplus_of}
 use Rattle.pv_law_step.proofs.WidthLemmas.{no-empty, other-narrow}
 use Rattle.pv_law_step.specs.StartCases.{StartCase, no_epoch_left, no_room, begins}
 use Rattle.pv_protocol.specs.Start.{Started, starts, too_long, no_epoch, just_started, site_start}
@@ -37,11 +40,11 @@ abbrev epoch_in : Started → ℕ
 epoch_in (starts running new) = epoch_of new
 epoch_in other = 0
 
-starts-are : (setup : Setup) (records : List Record) (started : Started) → StartCase setup records started → (running : Running) (epoch : ℕ)
+starts-are : (setup : Setup) (surplus : ℕ) (records : List Record) (started : Started) → StartCase setup surplus records started → (running : Running) (epoch : ℕ)
     → started ≡ starts running (epoch_begun epoch) → (running ≡ just_started (greatest_epoch records + 1)) × (epoch ≡ greatest_epoch records + 1)
-starts-are setup records started (no_epoch_left is) running epoch same = absurd (subst HasBegun (sym same) tt)
-starts-are setup records started (no_room is full) running epoch same = absurd (subst HasBegun (sym same) tt)
-starts-are setup records started (begins is room) running epoch same = (sym (ap running_in same), sym (ap epoch_in same))
+starts-are setup surplus records started (no_epoch_left is) running epoch same = absurd (subst HasBegun (sym same) tt)
+starts-are setup surplus records started (no_room is full) running epoch same = absurd (subst HasBegun (sym same) tt)
+starts-are setup surplus records started (begins is room) running epoch same = (sym (ap running_in same), sym (ap epoch_in same))
 
 nothing-spelled : (records : List Record) (contents : Contents) → contents ≡ [] → SpellRecords records contents → records ≡ []
 nothing-spelled [] contents is spelled = refl
@@ -55,15 +58,17 @@ new-narrow catalog me epoch records none =
 
 module _ {W : Type 0} (M : LogModel W) (log : W) (me : ℕ) (catalog : Declared) (site : SiteState W)
     (first : site.first ≡ true) (opened : HasOpened M log me catalog site) where
+  empty : opened.contents ≡ []
+  empty = nil_from_length opened.contents (eqb-true (length opened.contents) 0 (sym (ap (λ (s : SiteState W). s.first) opened.site) ∙ first))
+
   none : opened.records ≡ []
-  none =
-      nothing-spelled opened.records opened.contents
-      (nil_from_length opened.contents (eqb-true (length opened.contents) 0 (sym (ap (λ (s : SiteState W). s.first) opened.site) ∙ first))) opened.spelled
+  none = nothing-spelled opened.records opened.contents empty opened.spelled
 
   begun : (opened.running ≡ just_started 1) × (opened.epoch ≡ 1)
   begun =
-      let are = starts-are (setup_of catalog) opened.records (site_start (setup_of catalog) opened.records)
-      (start-case (setup_of catalog) opened.records) opened.running opened.epoch opened.starts in
+      let are = starts-are (setup_of catalog) (surplus_of opened.contents opened.records) opened.records
+      (site_start (setup_of catalog) (surplus_of opened.contents opened.records) opened.records)
+      (start-case (setup_of catalog) (surplus_of opened.contents opened.records) opened.records) opened.running opened.epoch opened.starts in
       let one : greatest_epoch opened.records + 1 ≡ 1 = ap (λ (records : List Record). greatest_epoch records + 1) none in
       (are.0 ∙ ap just_started one, are.1 ∙ one)
 
@@ -74,6 +79,7 @@ module _ {W : Type 0} (M : LogModel W) (log : W) (me : ℕ) (catalog : Declared)
         up = refl;
         entries = ap (λ (running : Running). running.entries) begun.0;
         narrow = new-narrow catalog me opened.epoch opened.records none;
+        surplus = omega (arith, no-records-long, ap size_of empty, ap journal_bytes none);
       }
 
   pub new-first : course_site site ≡ first_site

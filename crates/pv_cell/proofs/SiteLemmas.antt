@@ -49,6 +49,7 @@ module _ {W : Type 0} (M : LogModel W) (count : ℕ) (old new : SiteState W) (st
         within = stands.within;
         setup = stands.setup;
         narrow = step-narrow (here_with old running) input stands.narrow;
+        surplus = stands.surplus;
         entered = λ other same. subst (λ (r : Running). length r.entries ≤ count + 1) (ap (λ (o : Option Running). unwrap_or o other) same) entries;
       }
 
@@ -59,6 +60,7 @@ module _ {W : Type 0} (M : LogModel W) (count : ℕ) (old new : SiteState W) (st
         within = stands.within;
         setup = stands.setup;
         narrow = stands.narrow;
+        surplus = stands.surplus;
         entered = λ other same. absurd (subst IsNone same tt);
       }
 
@@ -69,13 +71,14 @@ module _ {W : Type 0} (M : LogModel W) (count : ℕ) (old new : SiteState W) (st
         within = stands.within;
         setup = stands.setup;
         narrow = stands.narrow;
+        surplus = stands.surplus;
         entered = λ running is. let few : length running.entries ≤ count = stands.entered running is in omega arith;
       }
 
   -- where it is as if nothing had come
   pub stands-still : Stays M old new → Stands count new
   stands-still stays =
-      subst (Stands count) (sym stays.site) record { within = stands.within; setup = stands.setup; narrow = stands.narrow; entered = stands.entered }
+      subst (Stands count) (sym stays.site) record { within = stands.within; setup = stands.setup; narrow = stands.narrow; surplus = stands.surplus; entered = stands.entered }
 
   -- A step sends so few messages that they can be counted.
   sends-counted : (answer : Step) (input : Input) → count ≤ MAX_ENTRIES → (running : Option Running) → old.running ≡ running

@@ -22,12 +22,14 @@ use Rattle.pv_cell.specs.declared.site_box.TheConstants.{IDLE_VISITS}
 abbrev pub course_site : {W : Type 0} → SiteState W → state.Site
 course_site site = record { records = site.records; standing = first_standing; arm = None; running = site.running }
 
--- The site can go on in a box that has taken in so many inputs: it is one of its catalog's, its shown values are narrow, and its coordinator works on no
+-- The site can go on in a box that has taken in so many inputs: it is one of its catalog's, its shown values are narrow, its log has its records as they are written,
+-- since the box began with an empty one, and its coordinator works on no
 -- more than was taken in, by which the messages of a tick are counted.
 pub record Stands {W : Type 0} (count : ℕ) (site : SiteState W) : Type 0 where
   pub within : site.me < site.catalog.sites
   pub setup : IsSetupInRange (setup_of site.catalog)
   pub narrow : IsNarrow HELD_NAMES site.catalog site.me site.records
+  pub surplus : site.surplus ≡ 0
   pub entered : (running : Running) → site.running ≡ Some running → length running.entries ≤ count
 
 -- The site could make a step of whatever was taken in: a request can run and has its plan, and a message comes from a site and is spelled.

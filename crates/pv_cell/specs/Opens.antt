@@ -20,9 +20,10 @@ abbrev pub AreFresh : Ends → Type 0
 AreFresh ends =
     All IsFreshIn ends.sites_in.items × All IsFreshOut ends.sites_out.items × All IsFreshIn ends.clients_in.items × All IsFreshOut ends.clients_out.items
 
--- The site is up and works on nothing, as one that was just opened, and its shown values are narrow.
+-- The site is up and works on nothing, as one that was just opened, its shown values are narrow, and its log has its records as they are written.
 pub record IsOpened {W : Type 0} (site : SiteState W) : Type 0 where
   pub running : Running
   pub up : site.running ≡ Some running
   pub entries : running.entries ≡ []
   pub narrow : IsNarrow HELD_NAMES site.catalog site.me site.records
+  pub surplus : site.surplus ≡ 0

@@ -133,10 +133,10 @@ asked_down : (room : ℕ) (log : HostState) (asked : Contents) → (asked_after 
 asked_down room log [] = refl
 asked_down room log (first ∷ later) = refl
 
-holds_still : (old new : HostState) (records : List Record) (running : Option Running) → contents_of new ≡ contents_of old → new.is_down ≡ old.is_down
-    → HoldsWhatRuns host_model old records running → HoldsWhatRuns host_model new records running
-holds_still old new records None same down holds = tt
-holds_still old new records (Some running) same down holds = record {
+holds_still : (old new : HostState) (surplus : ℕ) (records : List Record) (running : Option Running) → contents_of new ≡ contents_of old → new.is_down ≡ old.is_down
+    → HoldsWhatRuns host_model old surplus records running → HoldsWhatRuns host_model new surplus records running
+holds_still old new surplus records None same down holds = tt
+holds_still old new surplus records (Some running) same down holds = record {
   up = down ∙ holds.up;
   size = ap size_of same ∙ holds.size;
   held = λ contents is. holds.held contents (ap Some (sym same) ∙ is);
@@ -153,7 +153,7 @@ module _ (site : SiteState HostState) (log : HostState) (same : IsSameBesideRoom
       record {
         intact = subst (λ (l : Contents). size_of l ≤ MAX_LENGTH) (sym contents_written) ready.intact;
         limit = limit ∙ ready.limit;
-        holds = holds_still site.log log site.records site.running contents_written down ready.holds;
+        holds = holds_still site.log log site.surplus site.records site.running contents_written down ready.holds;
       }
 
 module _ (site : SiteState HostState) (room : ℕ) (log : HostState) (same : log ≡ with_asked room site.log) where
@@ -167,5 +167,5 @@ module _ (site : SiteState HostState) (room : ℕ) (log : HostState) (same : log
       record {
         intact = subst (λ (l : Contents). size_of l ≤ MAX_LENGTH) (sym keeps) ready.intact;
         limit = limit ∙ ready.limit;
-        holds = holds_still site.log log site.records site.running keeps down ready.holds;
+        holds = holds_still site.log log site.surplus site.records site.running keeps down ready.holds;
       }

@@ -1,5 +1,5 @@
 -- What of a site's records stays in its host's file.
-use Rattle.std.proofs.Common.{◌≡◌, inl, inr, ℕ, ◌≤◌, Bool, true, false, List, length, [], ◌∷◌, ◌++◌, Option, Some, None, Result, Ok, Err, map, refl, sym, ◌∙◌, ap, subst, arith}
+use Rattle.std.proofs.Common.{◌≡◌, inl, inr, ℕ, ◌+◌, ◌≤◌, Bool, true, false, List, length, [], ◌∷◌, ◌++◌, Option, Some, None, Result, Ok, Err, map, refl, sym, ◌∙◌, ap, subst, arith}
 use Rattle.std.specs.List.{sum_by}
 use Rattle.std.proofs.lemmas.List.Elements.{All-nil, All-cons}
 use Rattle.std.proofs.lemmas.List.Sums.{sum_by-cons}
@@ -9,7 +9,8 @@ use Rattle.pv_format.specs.Record.{Record}
 use Rattle.pv_disk_model.specs.Calls.{LogCall, Makes, append, reserve}
 use Rattle.pv_disk_model.specs.Size.{Contents, size_of}
 use Rattle.pv_format.specs.Journal.{IsJournal, IsNotOurs}
-use Rattle.pv_protocol.specs.Records.{journal_bytes, record_bytes}
+use Rattle.pv_law_step.proofs.JournalLemmas.{longer-sum}
+use Rattle.pv_protocol.specs.Records.{journal_bytes, record_bytes, longer_journal}
 use Rattle.pv_protocol.specs.State as model
 use Rattle.pv_protocol.specs.Step.{step_on}
 use Rattle.pv_site.specs.OnLog.{Logs}
@@ -27,20 +28,21 @@ use Rattle.pv_embed.specs.Kept.{HoldsStoredRecords, RestOn}
 use Rattle.pv_embed.specs.Outputs.{TakesFrom, outs}
 use Rattle.pv_embed.specs.declared.made.Output.{Output}
 
--- The first of the contents spell the first of the records.
+-- The first of the contents spell the first of the records, and the others the others.
 pub first_spelled : (records : List Record) (contents later : Contents) → SpellRecords records (contents ++ later)
-    → (first : List Record) × (others : List Record) × SpellRecords first contents × (records ≡ first ++ others)
-first_spelled records [] later spelled = ([], records, tt, refl)
+    → (first : List Record) × (others : List Record) × SpellRecords first contents × SpellRecords others later × (records ≡ first ++ others)
+first_spelled records [] later spelled = ([], records, tt, spelled, refl)
 first_spelled [] (content ∷ contents) later spelled = absurd spelled
 first_spelled (record_ ∷ records) (content ∷ contents) later spelled =
     let rest = first_spelled records contents later spelled.1 in
-    (record_ ∷ rest.0, rest.1, (spelled.0, rest.2), ap (λ (l : List Record). record_ ∷ l) rest.3)
+    (record_ ∷ rest.0, rest.1, (spelled.0, rest.2), rest.3, ap (λ (l : List Record). record_ ∷ l) rest.4)
 
 -- A file that holds the first of the log's contents holds the first of the site's records.
-pub records_held : (hosted : HostedState) (running : model.Running) (file : List ℕ) → IsReady host_model hosted.site → hosted.site.running ≡ Some running
+pub records_held : (fronts : (records others : List Record) (contents later : Contents) → SpellRecords others later
+    → size_of contents + journal_bytes (records ++ others) ≤ size_of (contents ++ later) + journal_bytes records) (hosted : HostedState) (running : model.Running) (file : List ℕ) → IsReady host_model hosted.site → hosted.site.running ≡ Some running
     → HoldsStored hosted.site.log file → IsStored hosted.site.log file → HoldsStoredRecords hosted file
-records_held hosted running file ready up held stored =
-    let holds = subst (λ r. HoldsWhatRuns host_model hosted.site.log hosted.site.records r) up ready.holds in
+records_held fronts hosted running file ready up held stored =
+    let holds = subst (λ r. HoldsWhatRuns host_model hosted.site.log hosted.site.surplus hosted.site.records r) up ready.holds in
     let spelled : SpellRecords hosted.site.records (contents_of hosted.site.log) = holds.held (contents_of hosted.site.log) refl in
     let parts = first_spelled hosted.site.records held.contents held.later (subst (SpellRecords hosted.site.records) held.first spelled) in
     record {
@@ -49,8 +51,17 @@ records_held hosted running file ready up held stored =
       records = parts.0;
       spelled = parts.2;
       later = parts.1;
-      first = parts.3;
+      first = parts.4;
       enough = held.enough;
+      most = omega (
+        arith,
+        fronts parts.0 parts.1 held.contents held.later parts.3,
+        holds.size,
+        ap size_of held.first,
+        ap journal_bytes parts.4,
+        longer-sum hosted.site.surplus parts.0,
+        longer-sum hosted.site.surplus hosted.site.records,
+      );
       stored = stored;
     }
 
@@ -81,17 +92,16 @@ begins_with : (front records later others : List Record) → front ++ later ≡ 
 unfolding journal_bytes
 begins_with front records later others same short = begins front records later others same (omega (arith, short))
 
-module _ (tells : (records : List Record) (contents : Contents) → SpellRecords records contents → size_of contents ≡ journal_bytes records) where
-  -- A file that is a journal as long as one of the first of the records begins with these.
-  pub records_whole : (hosted : HostedState) (file : List ℕ) (contents : Contents) (front later : List Record)
-      → HasOneAnswer (λ contents. IsJournal contents file) (IsNotOurs file) → HoldsStoredRecords hosted file → IsJournal contents file
-      → hosted.site.records ≡ front ++ later → journal_bytes front ≤ size_of contents → (others : List Record) × SpellRecords (front ++ others) contents
-  records_whole hosted file contents front later one held journal is short =
-      let same : held.contents ≡ contents = one.one_value held.contents contents held.journal journal in
-      let spelled : SpellRecords held.records contents = subst (SpellRecords held.records) same held.spelled in
-      let within : journal_bytes front ≤ journal_bytes held.records = omega (arith, short, tells held.records contents spelled) in
-      let found = begins_with front held.records later held.later (sym is ∙ held.first) within in
-      (found.0, subst (λ (records : List Record). SpellRecords records contents) found.1 spelled)
+-- A file that is a journal as long as the log was with the first of the records begins with these.
+pub records_whole : (hosted : HostedState) (file : List ℕ) (contents : Contents) (front later : List Record)
+    → HasOneAnswer (λ contents. IsJournal contents file) (IsNotOurs file) → HoldsStoredRecords hosted file → IsJournal contents file
+    → hosted.site.records ≡ front ++ later → longer_journal hosted.site.surplus front ≤ size_of contents → (others : List Record) × SpellRecords (front ++ others) contents
+records_whole hosted file contents front later one held journal is short =
+    let same : held.contents ≡ contents = one.one_value held.contents contents held.journal journal in
+    let spelled : SpellRecords held.records contents = subst (SpellRecords held.records) same held.spelled in
+    let within : journal_bytes front ≤ journal_bytes held.records = omega (arith, short, held.most, ap size_of same, longer-sum hosted.site.surplus front, longer-sum hosted.site.surplus held.records) in
+    let found = begins_with front held.records later held.later (sym is ∙ held.first) within in
+    (found.0, subst (λ (records : List Record). SpellRecords records contents) found.1 spelled)
 
 -- What is let out is in the file as far as the log was in it that it rests on.
 pub out_stored : (old new : HostedState) (first : Held) (later : List Held) (output : Output) → old.held ≡ first ∷ later → TakesNext old new (Some output)
@@ -104,22 +114,22 @@ out_in_file old length file contents one held journal within =
     let same : size_of held.contents ≡ size_of contents = ap size_of (one.one_value held.contents contents held.journal journal) in
     omega (arith, within, held.enough, same)
 
--- What is held with the length of a journal of these records rests on them.
-all_rest : (records : List Record) (length : ℕ) (made : List Out) → length ≡ journal_bytes records → RestOn records (map (λ out. record { length = length; out = out }) made)
-all_rest records length [] is = All-nil (λ (one : Held). one.length ≡ journal_bytes records)
-all_rest records length (out ∷ made) is =
-    All-cons (λ (one : Held). one.length ≡ journal_bytes records) (record { length = length; out = out }) (map (λ out. record { length = length; out = out }) made) is
-    (all_rest records length made is)
+-- What is held with the length of a log of these records rests on them.
+all_rest : (surplus : ℕ) (records : List Record) (length : ℕ) (made : List Out) → length ≡ longer_journal surplus records → RestOn surplus records (map (λ out. record { length = length; out = out }) made)
+all_rest surplus records length [] is = All-nil (λ (one : Held). one.length ≡ longer_journal surplus records)
+all_rest surplus records length (out ∷ made) is =
+    All-cons (λ (one : Held). one.length ≡ longer_journal surplus records) (record { length = length; out = out }) (map (λ out. record { length = length; out = out }) made) is
+    (all_rest surplus records length made is)
 
 -- What a step makes rests on all records that the site has after it.
 pub step_rests : (old new : HostedState) (input : model.Input) → IsReady host_model new.site → HasStepped old new input
-    → (made : List Held) × (new.held ≡ old.held ++ made) × RestOn new.site.records made
+    → (made : List Held) × (new.held ≡ old.held ++ made) × RestOn new.site.surplus new.site.records made
 step_rests old new input ready stepped =
     let step = step_on (here_with old.site stepped.running) input in
     let running : new.site.running ≡ Some step.running = ap (λ (site : SiteState HostState). site.running) stepped.steps.site in
-    let holds = subst (λ r. HoldsWhatRuns host_model new.site.log new.site.records r) running ready.holds in
+    let holds = subst (λ r. HoldsWhatRuns host_model new.site.log new.site.surplus new.site.records r) running ready.holds in
     let made = outs new.site.me step.sends step.notes in
-    (map (λ out. record { length = log_length new; out = out }) made, stepped.held, all_rest new.site.records (log_length new) made holds.size)
+    (map (λ out. record { length = log_length new; out = out }) made, stepped.held, all_rest new.site.surplus new.site.records (log_length new) made holds.size)
 
 -- Calls of the log, one after another, keep its file one that the host may hold.
 pub file_after : (called : (old new : HostState) (call : LogCall) (ok : Bool) (file : List ℕ) → HostGoes old call ok new → IsFile old file → IsFile new file)

@@ -10,7 +10,7 @@ use Rattle.pv_format.specs.Contents.{SpellRecords}
 use Rattle.pv_format.specs.Record.{Record}
 use Rattle.pv_disk_model.specs.Size.{Contents, size_of}
 use Rattle.pv_format.specs.Journal.{IsJournal, IsNotOurs}
-use Rattle.pv_protocol.specs.Records.{journal_bytes}
+use Rattle.pv_protocol.specs.Records.{longer_journal}
 use Rattle.pv_protocol.specs.Step.{step_on}
 use Rattle.pv_site.specs.SiteState.{SiteState, here_with}
 use Rattle.pv_site.specs.Steps.{IsReady}
@@ -68,23 +68,36 @@ records_last old new (one_more mid _ before goes) =
     let then_on = records_once mid new goes in
     (first.0 ++ then_on.0, joined old.site.records mid.site.records new.site.records first.0 then_on.0 first.1 then_on.1)
 
-module _ (tells : (records : List Record) (contents : Contents) → SpellRecords records contents → size_of contents ≡ journal_bytes records) where
-  -- The records that the site had after the step are the first in each such file, once something of the step was let out.
-  pub kept_records : (made now : HostedState) (output : Output) (file : List ℕ) (contents : Contents) → IsReady host_model made.site → WasLetOut made output now
-      → HasOneAnswer (λ contents. IsJournal contents file) (IsNotOurs file) → HoldsStoredRecords now file → IsJournal contents file
-      → (others : List Record) × SpellRecords (made.site.records ++ others) contents
-  kept_records made now output file contents ready out one held journal =
-      let rests = step_rests out.before made out.input ready out.stepped in
-      let all_new : drop (length out.before.held) made.held ≡ rests.0 = ap (drop (length out.before.held)) rests.1 ∙ drop_at out.before.held rests.0 (length out.before.held) refl in
-      let length_is : out.held.length ≡ journal_bytes made.site.records =
-      All-contains (λ (one : Held). one.length ≡ journal_bytes made.site.records) rests.0 out.held rests.2 (subst (λ (new : List Held). Contains new out.held) all_new out.is_new) in
-      let within : out.held.length ≤ stored_length out.at = out_stored out.at out.after out.held out.later output out.next out.taken in
-      let takes_one : Goes out.at out.after = takes (Some output) out.taken in
-      let as_much = stored_once out.at out.after takes_one in
-      let no_less = stored_lasts out.after now out.since in
-      let same : size_of held.contents ≡ size_of contents = ap size_of (one.one_value held.contents contents held.journal journal) in
-      let waited = records_last made out.after (one_more out.at out.after out.waited takes_one) in
-      let since = records_last out.after now out.since in
-      records_whole tells now file contents made.site.records (waited.0 ++ since.0) one held journal
-      (joined made.site.records out.after.site.records now.site.records waited.0 since.0 waited.1 since.1)
-      (omega (arith, length_is, within, as_much, no_less, held.enough, same))
+-- By how many bytes the log is longer than the records make it never changes.
+surplus_once : (old new : HostedState) → Goes old new → new.site.surplus ≡ old.site.surplus
+surplus_once old new (steps input stepped) = ap (λ (site : SiteState HostState). site.surplus) stepped.steps.site
+surplus_once old new (stays same) = ap (λ (hosted : HostedState). hosted.site.surplus) same.1
+surplus_once old new (asks room asked) = ap (λ (hosted : HostedState). hosted.site.surplus) asked.same
+surplus_once old new (writes told) = ap (λ (hosted : HostedState). hosted.site.surplus) told.same
+surplus_once old new (takes result taken) = ap (λ (hosted : HostedState). hosted.site.surplus) taken.1
+
+surplus_last : (old new : HostedState) → GoesOn old new → new.site.surplus ≡ old.site.surplus
+surplus_last old new none = refl
+surplus_last old new (one_more mid _ before goes) = surplus_once mid new goes ∙ surplus_last old mid before
+
+-- The records that the site had after the step are the first in each such file, once something of the step was let out.
+pub kept_records : (made now : HostedState) (output : Output) (file : List ℕ) (contents : Contents) → IsReady host_model made.site → WasLetOut made output now
+    → HasOneAnswer (λ contents. IsJournal contents file) (IsNotOurs file) → HoldsStoredRecords now file → IsJournal contents file
+    → (others : List Record) × SpellRecords (made.site.records ++ others) contents
+kept_records made now output file contents ready out one held journal =
+    let rests = step_rests out.before made out.input ready out.stepped in
+    let all_new : drop (length out.before.held) made.held ≡ rests.0 = ap (drop (length out.before.held)) rests.1 ∙ drop_at out.before.held rests.0 (length out.before.held) refl in
+    let length_is : out.held.length ≡ longer_journal made.site.surplus made.site.records =
+    All-contains (λ (one : Held). one.length ≡ longer_journal made.site.surplus made.site.records) rests.0 out.held rests.2 (subst (λ (new : List Held). Contains new out.held) all_new out.is_new) in
+    let within : out.held.length ≤ stored_length out.at = out_stored out.at out.after out.held out.later output out.next out.taken in
+    let takes_one : Goes out.at out.after = takes (Some output) out.taken in
+    let as_much = stored_once out.at out.after takes_one in
+    let no_less = stored_lasts out.after now out.since in
+    let same : size_of held.contents ≡ size_of contents = ap size_of (one.one_value held.contents contents held.journal journal) in
+    let waited = records_last made out.after (one_more out.at out.after out.waited takes_one) in
+    let since = records_last out.after now out.since in
+    let as_long : now.site.surplus ≡ made.site.surplus =
+    surplus_last out.after now out.since ∙ surplus_last made out.after (one_more out.at out.after out.waited takes_one) in
+    records_whole now file contents made.site.records (waited.0 ++ since.0) one held journal
+    (joined made.site.records out.after.site.records now.site.records waited.0 since.0 waited.1 since.1)
+    (omega (arith, length_is, within, as_much, no_less, held.enough, same, ap (λ (n : ℕ). longer_journal n made.site.records) as_long))

@@ -11,6 +11,7 @@ use Rattle.pv_protocol.specs.Start.{site_start, too_long, no_epoch}
 use Rattle.pv_script.specs.ScriptErrors.{IsMalformedAt, line_cause_of}
 use Rattle.pv_base.specs.declared.limits.TheConstants.{MAX_INPUT}
 use Rattle.pv_site.specs.Opens.{HasOpened}
+use Rattle.pv_site.specs.Surplus.{surplus_of}
 use Rattle.pv_site.specs.SiteState.{setup_of}
 use Rattle.pv_store.specs.Refusals.{too_many_in}
 use Rattle.pv_host.specs.HostLaws.{host_model}
@@ -44,9 +45,9 @@ RefusesContents catalog me contents (fault.BadRecord index) = IsFirstBadContent 
 RefusesContents catalog me contents (fault.TooManyOutcomes count) =
     (records : List Record) × SpellRecords records contents × (too_many_in catalog me records ≡ Some count)
 RefusesContents catalog me contents fault.EpochsSpent =
-    (records : List Record) × SpellRecords records contents × (too_many_in catalog me records ≡ None) × (site_start (setup_of catalog) records ≡ no_epoch)
+    (records : List Record) × SpellRecords records contents × (too_many_in catalog me records ≡ None) × (site_start (setup_of catalog) (surplus_of contents records) records ≡ no_epoch)
 RefusesContents catalog me contents (fault.Full length) =
-    (records : List Record) × SpellRecords records contents × (too_many_in catalog me records ≡ None) × (site_start (setup_of catalog) records ≡ too_long length)
+    (records : List Record) × SpellRecords records contents × (too_many_in catalog me records ≡ None) × (site_start (setup_of catalog) (surplus_of contents records) records ≡ too_long length)
 RefusesContents catalog me contents fault.NoMemory = ⊤
 RefusesContents catalog me contents other = ⊥
 

@@ -1,12 +1,12 @@
 // What is true of sites with hosts. The functions do nothing: each states a law.
-ghost use Rattle.std.specs.Prelude.{◌≡◌, ◌∷◌, ◌++◌, ◌≤◌, ℕ, [], List, Option, Some, None, Result, Ok, Err};
+ghost use Rattle.std.specs.Prelude.{◌≡◌, ◌∷◌, ◌++◌, ◌+◌, ◌≤◌, ℕ, [], List, Option, Some, None, Result, Ok, Err};
 ghost use Rattle.pv_format.specs.Contents.{SpellRecords};
 ghost use Rattle.pv_format.specs.Record.{Record, epoch_begun};
 ghost use Rattle.pv_disk_model.specs.Disk.{overlaid};
 ghost use Rattle.pv_disk_model.specs.Size.{Contents, size_of};
 ghost use Rattle.pv_format.specs.Journal.{IsJournal};
 ghost use Rattle.pv_protocol.specs.State as model;
-ghost use Rattle.pv_protocol.specs.Records.{journal_bytes};
+ghost use Rattle.pv_protocol.specs.Records.{longer_journal};
 ghost use Rattle.pv_site.specs.SiteState.{SiteState};
 ghost use Rattle.pv_site.specs.Steps.{IsReady, Steps};
 ghost use Rattle.pv_site.specs.declared.error.StepError.{StepError};
@@ -32,7 +32,7 @@ use pv_site::{crashes_leave_before_or_after, logs_tell_of_records};
 /// - Each file that it may hold stays one through every call, and is one again once it has written what comes next. So is what a crash leaves.
 /// - Whatever such a file is, it is a journal of the first of the site's records: of as many as the host has told to be in it, or of these and all of the
 /// group that it was asked to write.
-/// - What a step makes rests on all records that the site has after it, and is held with the length of a journal of them. When something is let out, each such
+/// - What a step makes rests on all records that the site has after it, and is held with the length of the log of them. When something is let out, each such
 ///   file is a journal at least as long, and one that is begins with these records.
 /// - So from the moment that something is let out, whatever calls come and whatever a crash leaves, all records on which it rests are in the file (`kept`).
 /// - A site that is opened on it goes on from the records in it, and adds to them that of its epoch alone.
@@ -51,12 +51,12 @@ pub fn files_hold_what_was_let_out()
     ensures held { (hosted : HostedState) (running : model.Running) (file : List ℕ) → IsReady host_model hosted.site → hosted.site.running ≡ Some running →
         IsFile hosted.site.log file → HoldsStoredRecords hosted file }
     ensures rests { (old new : HostedState) (input : model.Input) → IsReady host_model new.site → HasStepped old new input →
-        (made : List Held) × (new.held ≡ old.held ++ made) × RestOn new.site.records made }
+        (made : List Held) × (new.held ≡ old.held ++ made) × RestOn new.site.surplus new.site.records made }
     ensures let_out { (old new : HostedState) (first : Held) (later : List Held) (output : Output) (file : List ℕ) (contents : Contents) → old.held ≡ first ∷ later →
         TakesNext old new (Some output) → IsFile old.site.log file → IsJournal contents file → first.length ≤ size_of contents }
     ensures whole { (hosted : HostedState) (running : model.Running) (file : List ℕ) (contents : Contents) (front later : List Record) → IsReady host_model hosted.site →
         hosted.site.running ≡ Some running → IsFile hosted.site.log file → IsJournal contents file → hosted.site.records ≡ front ++ later →
-        journal_bytes front ≤ size_of contents → (others : List Record) × SpellRecords (front ++ others) contents }
+        longer_journal hosted.site.surplus front ≤ size_of contents → (others : List Record) × SpellRecords (front ++ others) contents }
     ensures kept { (made now : HostedState) (output : Output) (running : model.Running) (file : List ℕ) (contents : Contents) → IsReady host_model made.site →
         WasLetOut made output now → IsReady host_model now.site → now.site.running ≡ Some running → IsFile now.site.log file → IsJournal contents file →
         (others : List Record) × SpellRecords (made.site.records ++ others) contents }

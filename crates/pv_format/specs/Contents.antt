@@ -1,20 +1,27 @@
--- The records that the contents of a journal spell.
+-- The records as which the contents of a journal are read.
 use Rattle.std.specs.Prelude.{◌≡◌, ℕ, max, List, [], ◌∷◌, take, slice_get, Some, ⊤}
 use Rattle.pv_format.specs.Record.{Record, epoch_begun}
-use Rattle.pv_format.specs.RecordSpelling.{SpellsRecord}
+use Rattle.pv_format.specs.RecordSpelling.{IsReadAs, SpellsRecord}
 
--- The bytes spell no record.
+-- The bytes are read as no record.
 abbrev pub IsNoRecord : List ℕ → Type 0
-IsNoRecord bytes = (record_ : Record) → SpellsRecord record_ bytes → ⊥
+IsNoRecord bytes = (record_ : Record) → IsReadAs record_ bytes → ⊥
 
--- There are as many contents as records, and each spells its record.
+-- There are as many contents as records, and each is read as its record.
 abbrev pub SpellRecords : List Record → List (List ℕ) → Type 0
 SpellRecords [] [] = ⊤
 SpellRecords [] (content ∷ contents) = ⊥
 SpellRecords (record_ ∷ records) [] = ⊥
-SpellRecords (record_ ∷ records) (content ∷ contents) = SpellsRecord record_ content × SpellRecords records contents
+SpellRecords (record_ ∷ records) (content ∷ contents) = IsReadAs record_ content × SpellRecords records contents
 
--- The content at this place spells no record, and each before it spells one.
+-- There are as many contents as records, and each is its record as it is written.
+abbrev pub AreWritten : List Record → List (List ℕ) → Type 0
+AreWritten [] [] = ⊤
+AreWritten [] (content ∷ contents) = ⊥
+AreWritten (record_ ∷ records) [] = ⊥
+AreWritten (record_ ∷ records) (content ∷ contents) = SpellsRecord record_ content × AreWritten records contents
+
+-- The content at this place is read as no record, and each before it as one.
 pub record IsFirstBadContent (contents : List (List ℕ)) (place : ℕ) : Type 0 where
   pub content : List ℕ
   pub there : slice_get contents place ≡ Some content

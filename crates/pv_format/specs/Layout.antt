@@ -1,5 +1,7 @@
 -- Layouts: which fields bytes have, in reading order.
 use Rattle.std.specs.Prelude.{ℕ, zero, suc, ◌+◌, Bool, true, nat_le, ◌&&◌, ◌==◌, if◌then◌else◌}
+use Rattle.pv_base.specs.declared.limits.TheConstants.{HELD_NAMES}
+use Rattle.pv_format.specs.Form.{Form, in_tree, in_sure_tree, in_cases}
 use Rattle.pv_format.specs.Spelling.{is_site, is_truth, is_item_from, is_count_from}
 
 -- What comes next in the bytes.
@@ -10,8 +12,8 @@ pub data Layout : Type 0 where
   nothing_more : Layout
   -- a number in so many bytes, one of those that are allowed, and what comes after this number
   number_then : (size : ℕ) (allows : ℕ → Bool) (next : ℕ → Layout) → Layout
-  -- a polyvalue
-  polyvalue_then : (next : Layout) → Layout
+  -- a polyvalue of this form
+  polyvalue_then : (form : Form) (next : Layout) → Layout
 
 -- any number
 abbrev pub any : ℕ → Bool
@@ -50,6 +52,16 @@ entries_layout (suc count) each least next =
 abbrev pub counted_layout : ℕ → (Layout → Layout) → Layout → Layout
 counted_layout fewest each next = number_then 1 (is_count_from fewest) (λ count. entries_layout count each 0 next)
 
+-- a tree: 0 and a value, or 1, a transaction and two trees, which have a test less on each way down at most
+abbrev pub node_layout : ℕ → Layout → Layout
+node_layout zero next = number_then 1 (λ kind. kind == 0) (λ _. number_then 8 any (λ _. next))
+node_layout (suc tests) next =
+    number_then 1 is_truth (λ kind. if kind == 0 then number_then 8 any (λ _. next) else txn_layout (node_layout tests (node_layout tests next)))
+
+-- a count and a tree
+abbrev pub tree_layout : Layout → Layout
+tree_layout next = number_then 2 any (λ _. node_layout HELD_NAMES next)
+
 -- a literal: the outcome that it asks for, and the transaction
 abbrev pub literal_layout : Layout → Layout
 literal_layout next = truth_layout (txn_layout next)
@@ -74,11 +86,13 @@ cause_layout next = number_then 1 is_cause (λ cause. if cause == 1 then next el
 abbrev pub body_layout : ℕ → Layout → Layout
 body_layout kind next =
     if kind == 1 then counted_layout 1 truth_layout next else
-    (if kind == 2 then grant_layout (counted_layout 1 polyvalue_then next) else
+    (if kind == 2 then grant_layout (counted_layout 1 (polyvalue_then in_sure_tree) next) else
+    (if kind == 18 then grant_layout (counted_layout 1 (polyvalue_then in_tree) next) else
     (if kind == 3 then number_then 4 (is_item_from 0) (λ _. txn_layout next) else
-    (if kind == 4 then grant_layout (counted_layout 0 polyvalue_then next) else
+    (if kind == 4 then grant_layout (counted_layout 0 (polyvalue_then in_sure_tree) next) else
+    (if kind == 20 then grant_layout (counted_layout 0 (polyvalue_then in_tree) next) else
     (if kind == 6 then cause_layout next else
-    (if kind == 7 then truth_layout next else next)))))
+    (if kind == 7 then truth_layout next else next)))))))
 
 -- what a message of this kind has after the kind
 abbrev pub message_layout : ℕ → Layout
@@ -86,14 +100,15 @@ message_layout kind = site_layout (site_layout (txn_layout (body_layout kind not
 
 -- The number stands for a kind of record.
 abbrev pub is_record_kind : ℕ → Bool
-is_record_kind number = nat_le 1 number && nat_le number 3
+is_record_kind number = nat_le 1 number && nat_le number 4
 
--- what a record that begins with this byte has after it, with polyvalues laid out in this way
-abbrev pub content_layout : (Layout → Layout) → ℕ → Layout → Layout
-content_layout part kind next =
+-- What a record that begins with this byte has after it. Polyvalues behind a 2 are laid out in cases: those that are sure have the same bytes in both forms.
+abbrev pub content_layout : ℕ → Layout → Layout
+content_layout kind next =
     if kind == 1 then number_then 4 (nat_le 1) (λ _. next) else
-    (if kind == 2 then txn_layout (counted_layout 0 part next) else txn_layout (truth_layout next))
+    (if kind == 2 then txn_layout (counted_layout 0 (polyvalue_then in_cases) next) else
+    (if kind == 3 then txn_layout (truth_layout next) else txn_layout (counted_layout 0 (polyvalue_then in_tree) next)))
 
--- what a record has, with polyvalues laid out in this way
-abbrev pub record_layout : (Layout → Layout) → Layout → Layout
-record_layout part next = number_then 1 is_record_kind (λ kind. content_layout part kind next)
+-- what a record has
+abbrev pub record_layout : Layout → Layout
+record_layout next = number_then 1 is_record_kind (λ kind. content_layout kind next)

@@ -1,18 +1,22 @@
 -- How many bytes a spelling has.
-use Rattle.std.specs.Prelude.{ℕ, ℤ, ◌+◌, ◌*◌, List, length}
+use Rattle.std.specs.Prelude.{ℕ, ℤ, ◌+◌, ◌-◌, ◌*◌, List, length}
 use Rattle.std.specs.List.{sum_by}
 use Rattle.pv_base.specs.Polyvalue.{Case}
 use Rattle.pv_model.specs.Alternatives.{Read}
 use Rattle.pv_format.specs.Message.{Envelope, Message, lock, granted, denied, prepare, vote_yes, vote_no, outcome_reported, ask, NoCause, grant_lost, journal_full}
 use Rattle.pv_format.specs.Record.{Record, epoch_begun, prepared, outcome_known}
 
--- how many bytes a case has: the count of its literals, 10 bytes for each of them, and the value
-abbrev pub case_length : Case ℤ → ℕ
-case_length case = 9 + 10 * length case.when
-
--- how many bytes a polyvalue has: the count of its cases, and the cases
+-- how many bytes a polyvalue has: the count of its cases, 9 for each of them, which is a leaf, and 10 for each test, of which there is one less
 abbrev pub polyvalue_length : List (Case ℤ) → ℕ
-polyvalue_length cases = 2 + sum_by case_length cases
+polyvalue_length cases = 2 + (9 * length cases + 10 * (length cases - 1))
+
+-- how many bytes a case had in an old spelling: the count of its literals, 10 bytes for each of them, and the value
+abbrev pub old_case_length : Case ℤ → ℕ
+old_case_length case = 9 + 10 * length case.when
+
+-- how many bytes a polyvalue had in an old spelling: the count of its cases, and the cases
+abbrev pub old_polyvalue_length : List (Case ℤ) → ℕ
+old_polyvalue_length cases = 2 + sum_by old_case_length cases
 
 -- how many bytes items with their polyvalues have: their count, and for each the item and the polyvalue
 abbrev pub reads_length : List Read → ℕ

@@ -1,14 +1,17 @@
 pub mod Checkpoint
 pub mod Contents
 pub mod FirstFault
+pub mod Form
 pub mod Journal
 pub mod JournalContents
 pub mod Layout
 pub mod Length
 pub mod Message
 pub mod MessageSpelling
+pub mod OldSpelling
 pub mod PolyvalueSpelling
 pub mod Range
 pub mod Record
 pub mod RecordSpelling
 pub mod Spelling
+pub mod Tree

@@ -155,6 +155,15 @@ asks_by room log (first ∷ later) some = refl
 pub asks_again : (room : ℕ) (log : HostState) → (log.asked ≡ [] → ⊥) → with_asked room log ≡ log
 asks_again room log some = asks_by room log log.asked some
 
+asked_keeps_by : (room : ℕ) (log : HostState) (asked : Contents) → log.asked ≡ asked → contents_of (asked_after room log asked) ≡ contents_of log
+asked_keeps_by room log [] is =
+    ap (λ (l : Contents). log.stored ++ l) (group-all room log.pending) ∙ ap (λ (l : Contents). log.stored ++ (l ++ log.pending)) (sym is)
+asked_keeps_by room log (first ∷ later) is = refl
+
+-- What the log holds is the same where the host is asked to write.
+pub asked_keeps : (log : HostState) (room : ℕ) → contents_of (with_asked room log) ≡ contents_of log
+asked_keeps log room = asked_keeps_by room log log.asked refl
+
 -- What waits is the same once a group of it is asked for.
 pub group_keeps : (stored : Contents) (old new : WaitingState) (room : ℕ) → old.asked ≡ [] → new ≡ record old { asked = group_of room old.pending; pending = left_of room old.pending }
     → stored ++ (new.asked ++ new.pending) ≡ stored ++ (old.asked ++ old.pending)

@@ -1,5 +1,5 @@
 -- A site started on an empty disk: what is formatted, opened and read back.
-use Rattle.std.proofs.Common.{◌≡◌, inl, inr, ℕ, ◌≤◌, Bool, true, false, List, [], ◌∷◌, length, Option, Some, None, Result, Ok, Err, arith, refl, sym, ap, ◌∙◌, subst}
+use Rattle.std.proofs.Common.{◌≡◌, inl, inr, ℕ, ◌≤◌, Bool, true, false, List, [], ◌∷◌, length, Option, Some, None, Result, Ok, Err, arith, refl, sym, ap, ap₂, ◌∙◌, subst}
 use Rattle.std.specs.Prelude.{is_err, is_some, slice_get, nat_lt, if◌then◌else◌, option_and_then, ◌==◌}
 use Rattle.std.proofs.lemmas.Bool.Decides.{nat_tests}
 use Rattle.pv_base.specs.Catalog.{Declared}
@@ -17,7 +17,7 @@ use Rattle.pv_disk_model.specs.Disk.{Syncs}
 use Rattle.pv_disk_model.specs.DiskModel.{DiskModel}
 use Rattle.pv_disk_model.specs.Log.{IsBeforeOrAfter, Keeps, MayAdd, StaysUp}
 use Rattle.pv_disk_model.specs.LogModel.{LogModel}
-use Rattle.pv_disk_model.specs.Size.{Contents}
+use Rattle.pv_disk_model.specs.Size.{Contents, size_of}
 use Rattle.pv_format.specs.Contents.{SpellRecords}
 use Rattle.pv_format.specs.Record.{Record, epoch_begun}
 use Rattle.pv_format.specs.RecordSpelling.{SpellsRecord}
@@ -29,6 +29,8 @@ use Rattle.pv_law_checkpoints.proofs.WorkedLemmas.{formatted_is}
 use Rattle.pv_law_checkpoints.proofs.ContentsLemmas.{log_contents_of-is}
 use Rattle.pv_protocol.specs.Records.{journal_bytes}
 use Rattle.pv_protocol.specs.Start.{just_started, site_start, starts, too_long}
+use Rattle.pv_law_step.proofs.JournalLemmas.{no-records-long}
+use Rattle.pv_site.specs.Surplus.{surplus_of}
 use Rattle.pv_site.specs.Opens as sites
 use Rattle.pv_site.specs.Opens.{HasFailed, HasOpened, log_in}
 use Rattle.pv_site.specs.SiteState.{SiteState, setup_of}
@@ -52,7 +54,7 @@ none-there : (contents : Contents) (n : ℕ) → contents ≡ [] → (content : 
 none-there [] n is content there = let wrong : ⊥ = cc in wrong
 none-there (first ∷ contents) n is content there = let wrong : ⊥ = cc in wrong
 
-first-start : (catalog : Declared) → MIN_JOURNAL ≤ catalog.journal → site_start (setup_of catalog) [] ≡ starts (just_started 1) (epoch_begun 1)
+first-start : (catalog : Declared) → MIN_JOURNAL ≤ catalog.journal → site_start (setup_of catalog) 0 [] ≡ starts (just_started 1) (epoch_begun 1)
 unfolding site_start journal_bytes
 first-start catalog least = by (nat_lt catalog.journal 19) (grind (arith, nat_tests, least))
   where
@@ -198,12 +200,14 @@ module _ {D : Type 0} (M : DiskModel D) where
         untold-by (refused.EpochsSpent new) other is empty =
             let read = is.1 in
             let none = nothing-spelled is.0 read.contents (read.read [] empty) read.spelled in
-            let spent = sym (first-start catalog least) ∙ ap (site_start (setup_of catalog)) (sym none) ∙ is.2.1 in
+            let plain : surplus_of read.contents is.0 ≡ 0 = omega (arith, no-records-long, ap size_of (read.read [] empty), ap journal_bytes none) in
+            let spent = sym (first-start catalog least) ∙ ap₂ (λ (surplus : ℕ) (records : List Record). site_start (setup_of catalog) surplus records) (sym plain) (sym none) ∙ is.2.1 in
             let wrong : ⊥ = cc in wrong
         untold-by (refused.Full new size) other is empty =
             let read = is.1 in
             let none = nothing-spelled is.0 read.contents (read.read [] empty) read.spelled in
-            let full = sym (first-start catalog least) ∙ ap (site_start (setup_of catalog)) (sym none) ∙ is.2.1 in
+            let plain : surplus_of read.contents is.0 ≡ 0 = omega (arith, no-records-long, ap size_of (read.read [] empty), ap journal_bytes none) in
+            let full = sym (first-start catalog least) ∙ ap₂ (λ (surplus : ℕ) (records : List Record). site_start (setup_of catalog) surplus records) (sym plain) (sym none) ∙ is.2.1 in
             let wrong : ⊥ = cc in wrong
 
         faults-so : (why : OpenError (CkptLog D)) → IsForWhatWasRead why → sites.Opens L log n catalog (Err why) → M.faults (log_in why).disk ≡ M.faults log.disk

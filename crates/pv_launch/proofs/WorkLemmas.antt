@@ -1,10 +1,10 @@
 -- Which bytes have no work in them: those that are too few for a record, those of an empty log, and those of a log that says only that its site has started.
-use Rattle.std.proofs.Common.{◌≡◌, ℕ, zero, suc, ◌+◌, ◌≤◌, List, [], ◌∷◌, ◌++◌, length, Some, arith, refl, sym, ap, ◌∙◌, subst, length-append, length-drop}
+use Rattle.std.proofs.Common.{◌≡◌, ℕ, zero, suc, ◌+◌, ◌≤◌, List, [], ◌∷◌, ◌++◌, length, Some, arith, inl, refl, sym, ap, ◌∙◌, subst, length-append, length-drop}
 use Rattle.std.specs.Prelude.{Contains}
 use Rattle.pv_disk_model.specs.Size.{Contents}
 use Rattle.pv_format.specs.Journal.{framed, records_of}
 use Rattle.pv_format.specs.Record.{Record, epoch_begun, prepared, outcome_known}
-use Rattle.pv_format.specs.RecordSpelling.{SpellsRecord}
+use Rattle.pv_format.specs.RecordSpelling.{IsReadAs, SpellsRecord}
 use Rattle.pv_law_checkpoints.specs.LogContents.{log_contents_of}
 use Rattle.pv_law_checkpoints.specs.Roots.{place_at, size_at}
 use Rattle.pv_law_checkpoints.specs.TwoAreas.{IsTwoAreas, block_of, formatted}
@@ -63,4 +63,4 @@ empty-idle bytes held contents content entry there among spells work = none-amon
 pub started-idle : (bytes start : List ℕ) (epoch : ℕ) → SpellsRecord (epoch_begun epoch) start → log_contents_of bytes ≡ Some (start ∷ []) → HasNoWork bytes
 started-idle bytes start epoch is held contents content entry there among spells work =
     let one = one-among content start (subst (λ (all : Contents). Contains all content) (same-held bytes contents (start ∷ []) there held) among) in
-    not-work entry epoch (one-record start entry (epoch_begun epoch) (subst (SpellsRecord entry) one spells) is) work
+    not-work entry epoch (one-record start entry (epoch_begun epoch) (subst (IsReadAs entry) one spells) (inl is)) work

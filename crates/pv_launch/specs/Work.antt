@@ -3,7 +3,7 @@ use Rattle.std.specs.Prelude.{◌≡◌, ◌⊎◌, ℕ, ◌≤◌, List, [], So
 use Rattle.pv_disk_model.specs.DiskModel.{DiskModel}
 use Rattle.pv_disk_model.specs.Size.{Contents}
 use Rattle.pv_format.specs.Record.{Record, epoch_begun, prepared, outcome_known}
-use Rattle.pv_format.specs.RecordSpelling.{SpellsRecord}
+use Rattle.pv_format.specs.RecordSpelling.{IsReadAs}
 use Rattle.pv_law_checkpoints.specs.TwoAreas.{IsTwoAreas}
 
 -- The record is of work: it isn't only that the site has started.
@@ -15,7 +15,7 @@ IsWork (outcome_known txn commits) = ⊤
 -- The bytes are no log in two areas that has such a record.
 abbrev pub HasNoWork : List ℕ → Type 0
 HasNoWork bytes =
-    (contents : Contents) (content : List ℕ) (entry : Record) → IsTwoAreas contents bytes → Contains contents content → SpellsRecord entry content → IsWork entry → ⊥
+    (contents : Contents) (content : List ℕ) (entry : Record) → IsTwoAreas contents bytes → Contains contents content → IsReadAs entry content → IsWork entry → ⊥
 
 module _ {D : Type 0} (M : DiskModel D) where
   -- Nothing is made of the disk that has work in it: where it read as empty it is known what it holds now, and that is no work, unless a crash might have left it then.

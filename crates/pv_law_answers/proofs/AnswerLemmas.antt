@@ -57,7 +57,7 @@ completed-records found n arm attempt within = ap (λ (s : Site). s.records) (ge
 module _ (setup : Setup) (world : World) (transition : Transition) (txn : TxnId) (replies : List Reply) (left : World) (noted : IsNoted setup world transition.event (Line.commit txn replies) left)
     (same : (n : ℕ) → records_at transition.world n ≡ records_at left n) (ordered : AreMemoriesInOrder world) (kept : AreKept setup world) (goes : Acts setup world transition.world) where
   abbrev here : Here
-  here = record { me = noted.n; setup = setup; records = records_at world noted.n; running = noted.running }
+  here = record { me = noted.n; setup = setup; records = records_at world noted.n; surplus = 0; running = noted.running }
 
   is-committing : IsCommitting here noted.input txn replies
   is-committing = commit-noted here txn replies noted.input (subst (Contains (step_on here noted.input).notes) (commit-of noted.n noted.note txn replies noted.printed) noted.noted)

@@ -174,7 +174,7 @@ module _ (setup : Setup) (world : World) (line : Line) (decides : IsTxnLine line
 
   opened-quiet : (n : ℕ) (running : Option Running) (lines : List Line) (after : World) → Ends (opened setup world n running) lines after → Contains lines line → ⊥
   opened-quiet n (Some running) lines after ends h = once-quiet (Line.up n ∷ []) world lines after ends (quiet-one (Line.up n) (λ d. d)) h
-  opened-quiet n None lines after ends h = start-quietly n (site_start setup (site_at world n).records) lines after ends h
+  opened-quiet n None lines after ends h = start-quietly n (site_start setup 0 (site_at world n).records) lines after ends h
 
   packing-quietly : (n : ℕ) (standing : Standing) (running : Running) (lines : List Line) (after : World) → Ends (attempts world n (of_checkpoint standing running)) lines after
       → Contains lines line → ⊥

@@ -55,7 +55,7 @@ pub record IsGiven (world after : World) (txn : TxnId) : Type 0 where
 module _ (setup : Setup) (world : World) (transition : Transition) (txn : TxnId) (left : World) (noted : IsNoted setup world transition.event (Line.txn txn) left)
     (records : (n : ℕ) → records_at transition.world n ≡ records_at left n) (memories : (n : ℕ) → memory_at transition.world n ≡ memory_at left n) (recorded : AreEpochsRecorded world) where
   abbrev here : Here
-  here = record { me = noted.n; setup = setup; records = records_at world noted.n; running = noted.running }
+  here = record { me = noted.n; setup = setup; records = records_at world noted.n; surplus = 0; running = noted.running }
 
   begins : IsBeginning here noted.input txn
   begins = begin-noted here txn noted.input (subst (Contains (step_on here noted.input).notes) (began-of noted.n noted.note txn noted.printed) noted.noted)

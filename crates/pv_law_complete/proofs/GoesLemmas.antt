@@ -133,7 +133,7 @@ module _ (setup : Setup) (w : World) where
   opened-goes : (event : Event) (n : ℕ) (running : Option Running) → memory_at w n ≡ running → (lines : List Line) (left : World) → MayCome (opened setup w n running) lines left → Goes setup w event left
   opened-goes event n (Some running) up lines left come = once-goes event _ w lines left come (stays (same-sites w refl) refl)
   opened-goes event n None down lines left (anywhere.by_attempt found' left' n' attempt' lines' ends) =
-      start-goes event n (of_start n (site_start setup (records_at w n))) (start-silent n (site_start setup (records_at w n))) down lines left ends
+      start-goes event n (of_start n (site_start setup 0 (records_at w n))) (start-silent n (site_start setup 0 (records_at w n))) down lines left ends
 
   -- a checkpoint leaves records and memories, or its site down
   packing-goes : (event : Event) (n : ℕ) (was : Standing) (running : Running) → memory_at w n ≡ Some running → (lines : List Line) (left : World)

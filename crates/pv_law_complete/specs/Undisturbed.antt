@@ -24,7 +24,7 @@ use Rattle.pv_protocol.specs.WorldStep.{Transition}
 
 -- what the site of this number looks at in a step
 abbrev pub here_in : Setup → World → ℕ → Running → Here
-here_in setup world n running = record { me = n; setup = setup; records = records_at world n; running = running }
+here_in setup world n running = record { me = n; setup = setup; records = records_at world n; surplus = 0; running = running }
 
 -- The site coordinates the transaction, or takes part in it.
 abbrev pub IsConcerned : Setup → TxnId → Program → ℕ → Type 0

@@ -176,7 +176,7 @@ module _ (setup : Setup) where
         with_record = λ appended is. absurd (none-some _ is);
       }
 
-      pub start-acts : (started : Started) → StartCase setup (records_at w n) started → IsAttemptActs w n (of_start n started)
+      pub start-acts : (started : Started) → StartCase setup 0 (records_at w n) started → IsAttemptActs w n (of_start n started)
       start-acts started (of_starts.no_epoch_left h) = refused-acts _
       start-acts started (of_starts.no_room h i) = refused-acts _
       start-acts started (of_starts.begins h i) =
@@ -279,8 +279,8 @@ module _ (setup : Setup) where
     opened-acts n within (Some running) is = settles _ w (no_act w)
     opened-acts n within None is =
         let count : length w.sites ≡ setup.catalog.sites = acts-count (opening setup) w known.reached ∙ length-replicate setup.catalog.sites first_site in
-        goes_on w n (of_start n (site_start setup (records_at w n))) (no_act w)
-        (start-acts w n (subst (λ m. n < m) (sym count) within) is (site_start setup (records_at w n)) (start-case setup (records_at w n)))
+        goes_on w n (of_start n (site_start setup 0 (records_at w n))) (no_act w)
+        (start-acts w n (subst (λ m. n < m) (sym count) within) is (site_start setup 0 (records_at w n)) (start-case setup 0 (records_at w n)))
 
     packed-acts : (n : ℕ) (running : Option Running) → memory_at w n ≡ running → IsBegunActs w (packed w n running)
     packed-acts n None is = settles _ w (no_act w)

@@ -38,7 +38,7 @@ pub record IsReady (setup : Setup) (w : World) (n : ℕ) (running : Running) : T
 
 -- the site, as its step sees it
 abbrev pub here_at : Setup → World → ℕ → Running → Here
-here_at setup w n running = record { me = n; setup = setup; records = records_at w n; running = running }
+here_at setup w n running = record { me = n; setup = setup; records = records_at w n; surplus = 0; running = running }
 
 module _ (setup : Setup) (w : World) (n : ℕ) where
   -- A step is some acts: they lead to where its record is appended and its memory changed, and then it may send what it sends. Where

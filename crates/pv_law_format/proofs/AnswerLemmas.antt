@@ -1,24 +1,28 @@
 -- Bytes spell one value or have one fault.
-use Rattle.std.proofs.Common.{◌≡◌, ◌⊎◌, ⊎_elim, ℕ, ◌+◌, ◌/◌, ◌%◌, ◌^◌, ◌<◌, List, [], ◌∷◌, ◌++◌, length, inl, inr, refl, sym, ap, subst, ◌∙◌, arith}
-use Rattle.std.specs.Prelude.{ℤ, ◌≢◌}
-use Rattle.std.proofs.lemmas.Bool.{true≢false}
+use Rattle.std.proofs.Common.{◌≡◌, ◌⊎◌, ⊎_elim, ℕ, ◌+◌, ◌<◌, List, [], ◌∷◌, ◌++◌, length, inl, inr, refl, sym, ap, subst, ◌∙◌, arith}
+use Rattle.std.specs.Prelude.{ℤ, ◌≢◌, nat_le, ◌&&◌, IsTrue}
+use Rattle.std.proofs.lemmas.Bool.{true≢false, or_right}
 use Rattle.std.proofs.lemmas.List.{append-nil}
 use Rattle.pv_base.specs.Answer.{HasOneAnswer}
-use Rattle.pv_base.specs.BigEndian.{big_endian, IsNumber, AreBytes}
+use Rattle.pv_base.specs.BigEndian.{AreBytes}
+use Rattle.pv_base.specs.declared.txn.TxnId.{TxnId}
 use Rattle.pv_base.specs.Polyvalue.{Case}
-use Rattle.pv_base.proofs.Basics.{heads, tails}
-use Rattle.pv_format.specs.FirstFault.{Fault, short, bad_kind, extra, HasFault, EndFault, is_extra, is_short, is_refused, is_later, PolyvalueFault, EnvelopeFault, RecordFault, has_no_kind, has_bad_kind, is_in_fields, is_kind}
-use Rattle.pv_format.specs.Layout.{nothing_more, number_then, polyvalue_then, message_layout, record_layout}
+use Rattle.pv_base.proofs.Basics.{heads}
+use Rattle.pv_model.specs.Alternatives.{Read}
+use Rattle.pv_format.specs.FirstFault.{Fault, short, bad_kind, bad_field, extra, HasFault, EndFault, is_extra, is_short, is_refused, is_later, TreeFault, EnvelopeFault, RecordFault, has_no_kind, has_bad_kind, is_in_message, has_only_sure, is_in_record, is_only_sure, is_kind, is_unsure_kind}
+use Rattle.pv_format.specs.Form.{in_tree}
+use Rattle.pv_format.specs.Layout.{nothing_more, number_then, message_layout, record_layout}
 use Rattle.pv_format.specs.Message.{Envelope}
-use Rattle.pv_format.specs.MessageSpelling.{SpellsEnvelope, kind_number}
+use Rattle.pv_format.specs.MessageSpelling.{SpellsEnvelope}
 use Rattle.pv_format.specs.PolyvalueSpelling.{SpellsPolyvalue, BeginsWith}
-use Rattle.pv_format.specs.Record.{Record}
-use Rattle.pv_format.specs.RecordSpelling.{SpellsRecord}
-use Rattle.pv_law_format.proofs.Codes.{Begins, IsCode, IsReadOnce}
-use Rattle.pv_law_format.proofs.EnvelopeCode.{envelope-code, is-kind}
+use Rattle.pv_format.specs.Record.{Record, prepared}
+use Rattle.pv_format.specs.RecordSpelling.{IsReadAs, SpellsContentBy, are_sure}
+use Rattle.pv_law_format.proofs.Bytes.{byte-number, one-byte}
+use Rattle.pv_law_format.proofs.Codes.{Begins, IsReadOnce}
+use Rattle.pv_law_format.proofs.EnvelopeCode as message
 use Rattle.pv_law_format.proofs.OneFault.{one-fault}
-use Rattle.pv_law_format.proofs.PolyvalueCode.{polyvalue-part, polyvalue-code, polyvalue-either}
-use Rattle.pv_law_format.proofs.RecordCode.{record-code}
+use Rattle.pv_law_format.proofs.PolyvalueCode.{polyvalue-part, polyvalue-either}
+use Rattle.pv_law_format.proofs.RecordCode as kept
 
 module _ {X : Type 0} (Spells : X → List ℕ → Type 0) (read : IsReadOnce Spells) where
   -- Where bytes spell a value, those that are longer spell none.
@@ -28,142 +32,203 @@ module _ {X : Type 0} (Spells : X → List ℕ → Type 0) (read : IsReadOnce Sp
   pub one-value : (bytes : List ℕ) (x y : X) → Spells x bytes → Spells y bytes → x ≡ y
   one-value bytes x y s t = (read x y bytes bytes [] [] s t refl).0
 
-  -- Bytes that begin with a spelling and have more spell no value.
-  pub no-more : (x y : X) (bytes front rest : List ℕ) → bytes ≡ front ++ rest → Spells x front → Spells y bytes → rest ≡ []
-  no-more x y bytes front rest whole s t = (read x y front bytes rest [] s t (sym whole ∙ sym (append-nil bytes))).1
-
 empty-or-more : (rest : List ℕ) → (rest ≡ []) ⊎ (rest ≢ [])
 empty-or-more [] = inl refl
 empty-or-more (b ∷ rest) = inr (λ e. let lengths = ap (λ (l : List ℕ). length l) e in omega (arith, lengths))
+
+-- Bytes that are a front and nothing.
+no-rest : (bytes front rest : List ℕ) → bytes ≡ front ++ rest → rest ≡ [] → front ≡ bytes
+no-rest bytes front rest whole empty = sym (whole ∙ ap (λ (r : List ℕ). front ++ r) empty ∙ append-nil front)
+
+no-end-fault : (place : ℕ) (fault : Fault) → EndFault place [] fault → ⊥
+no-end-fault place _ (is_extra more) = more refl
 
 -- Messages.
 
 abbrev Wrong : List ℕ → Fault → Type 0
 Wrong bytes fault = HasFault (number_then 1 is_kind message_layout) 0 bytes fault
 
-one-digit : (number : ℕ) → number < 256 ^ 1 → number / 256 ^ 0 % 256 ≡ number
-one-digit number fits = omega arith
-
-one-byte : (number : ℕ) (front rest bytes : List ℕ) → bytes ≡ front ++ rest → IsNumber 1 number front → bytes ≡ number ∷ rest
-unfolding big_endian
-one-byte number front rest bytes whole is =
-    whole ∙ ap (λ (f : List ℕ). f ++ rest) is.spelled ∙ ap (λ (n : ℕ). n ∷ rest) (one-digit number is.fits)
-
 no-byte : (bytes : List ℕ) → length bytes < 1 → bytes ≡ []
 no-byte [] less = refl
 no-byte (b ∷ bytes) less = absurd (omega (arith, less))
+
+no-bytes : (bytes : List ℕ) (byte : ℕ) (rest : List ℕ) → bytes ≡ [] → bytes ≡ byte ∷ rest → ⊥
+no-bytes bytes byte rest none whole = let lengths = ap (λ (b : List ℕ). length b) (sym none ∙ whole) in omega (arith, lengths)
 
 reported : (bytes : List ℕ) (fault : Fault) → Wrong bytes fault → (other : Fault) × EnvelopeFault bytes other
 reported bytes _ (is_short less) = (short 0, has_no_kind (no-byte bytes less))
 reported bytes _ (is_refused kind front rest whole is refused) = (bad_kind kind, has_bad_kind kind rest (one-byte kind front rest bytes whole is) refused)
 reported bytes _ (is_later kind front rest fault whole is wrong) =
-    (fault, is_in_fields kind rest fault (one-byte kind front rest bytes whole is.spelled) is.allowed wrong)
+    (fault, is_in_message kind rest fault (one-byte kind front rest bytes whole is.spelled) is.allowed wrong)
 
-first-kind : (envelope : Envelope) (bytes : List ℕ) (s : SpellsEnvelope envelope bytes) → bytes ≡ kind_number envelope.message ∷ s.back
-first-kind envelope bytes s = one-byte (kind_number envelope.message) s.front s.back bytes s.whole s.first
+-- A fault after the kind is one of all.
+wrong-here : (bytes : List ℕ) (kind : ℕ) (rest : List ℕ) (fault : Fault) → bytes ≡ kind ∷ rest → IsTrue (is_kind kind) → HasFault (message_layout kind) 1 rest fault
+    → Wrong bytes fault
+wrong-here bytes kind rest fault whole allowed wrong =
+    is_later kind (kind ∷ []) rest fault whole (record { spelled = byte-number kind (message.small kind allowed); allowed = allowed }) wrong
 
-no-end-fault : (place : ℕ) (fault : Fault) → EndFault place [] fault → ⊥
-no-end-fault place _ (is_extra more) = more refl
+-- A kind and what it has are without one.
+no-message-fault : (p : (n : ℕ) × message.Rest n) (bytes : List ℕ) (fault : Fault) → message.SpellsKinded p bytes → Wrong bytes fault → ⊥
+no-message-fault p bytes fault s wrong =
+    no-end-fault (0 + length bytes) fault
+    (message.kinded-code.after p bytes [] nothing_more 0 fault s (subst (λ (b : List ℕ). Wrong b fault) (sym (append-nil bytes)) wrong))
+
+first-kind : (p : (n : ℕ) × message.Rest n) (bytes : List ℕ) (s : message.SpellsKinded p bytes) → bytes ≡ p.0 ∷ s.back
+first-kind p bytes s = one-byte p.0 s.front s.back bytes s.whole s.first.spelled
 
 -- A message has no fault.
 envelope-not-both : (bytes : List ℕ) (envelope : Envelope) (fault : Fault) → SpellsEnvelope envelope bytes → EnvelopeFault bytes fault → ⊥
 envelope-not-both bytes envelope _ s (has_no_kind none) =
-    let lengths = ap (λ (b : List ℕ). length b) (sym none ∙ first-kind envelope bytes s) in omega (arith, lengths)
+    let t = message.written-kinded envelope bytes s in no-bytes bytes (message.written_as envelope).0 t.back none (first-kind (message.written_as envelope) bytes t)
 envelope-not-both bytes envelope _ s (has_bad_kind kind rest whole refused) =
-    let same = heads (sym (first-kind envelope bytes s) ∙ whole) in
-    true≢false (sym (is-kind envelope.message) ∙ ap is_kind same ∙ refused)
-envelope-not-both bytes envelope _ s (is_in_fields kind rest fault whole allowed wrong) =
-    let wrong_here : Wrong bytes fault =
-    is_later (kind_number envelope.message) s.front s.back fault s.whole (record { spelled = s.first; allowed = is-kind envelope.message })
-    (subst (λ (k : ℕ). HasFault (message_layout k) 1 s.back fault) (heads (sym whole ∙ first-kind envelope bytes s))
-    (subst (λ (r : List ℕ). HasFault (message_layout kind) 1 r fault) (tails (sym whole ∙ first-kind envelope bytes s)) wrong)) in
-    no-end-fault (0 + length bytes) fault
-    (envelope-code.after envelope bytes [] nothing_more 0 fault s (subst (λ (b : List ℕ). Wrong b fault) (sym (append-nil bytes)) wrong_here))
+    let t = message.written-kinded envelope bytes s in
+    true≢false (sym t.first.allowed ∙ ap is_kind (heads (sym (first-kind (message.written_as envelope) bytes t) ∙ whole)) ∙ refused)
+envelope-not-both bytes envelope _ s (is_in_message kind rest fault whole allowed wrong) =
+    no-message-fault (message.written_as envelope) bytes fault (message.written-kinded envelope bytes s) (wrong-here bytes kind rest fault whole allowed wrong)
+envelope-not-both bytes envelope _ s (has_only_sure other kind rest whole unsure same there) =
+    let unfit = message.only-sure other kind rest bytes whole unsure same there in
+    unfit.none (subst message.Fits
+    (one-value message.SpellsKinded message.kinded-code.read bytes (message.written_as envelope) unfit.value (message.written-kinded envelope bytes s) unfit.spelled)
+    (message.written-fits envelope))
 
 -- Bytes have one fault at most.
 envelope-one-fault : (bytes : List ℕ) (fault other : Fault) → EnvelopeFault bytes fault → EnvelopeFault bytes other → fault ≡ other
 envelope-one-fault bytes _ _ (has_no_kind none) (has_no_kind none_too) = refl
-envelope-one-fault bytes _ _ (has_no_kind none) (has_bad_kind kind rest whole refused) =
-    let lengths = ap (λ (b : List ℕ). length b) (sym none ∙ whole) in absurd (omega (arith, lengths))
-envelope-one-fault bytes _ _ (has_no_kind none) (is_in_fields kind rest fault whole allowed wrong) =
-    let lengths = ap (λ (b : List ℕ). length b) (sym none ∙ whole) in absurd (omega (arith, lengths))
-envelope-one-fault bytes _ _ (has_bad_kind kind rest whole refused) (has_no_kind none) =
-    let lengths = ap (λ (b : List ℕ). length b) (sym none ∙ whole) in absurd (omega (arith, lengths))
+envelope-one-fault bytes _ _ (has_no_kind none) (has_bad_kind kind rest whole refused) = absurd (no-bytes bytes kind rest none whole)
+envelope-one-fault bytes _ _ (has_no_kind none) (is_in_message kind rest fault whole allowed wrong) = absurd (no-bytes bytes kind rest none whole)
+envelope-one-fault bytes _ _ (has_no_kind none) (has_only_sure envelope kind rest whole unsure same there) = absurd (no-bytes bytes kind rest none whole)
+envelope-one-fault bytes _ _ (has_bad_kind kind rest whole refused) (has_no_kind none) = absurd (no-bytes bytes kind rest none whole)
 envelope-one-fault bytes _ _ (has_bad_kind kind rest whole refused) (has_bad_kind other end whole_too refused_too) = ap bad_kind (heads (sym whole ∙ whole_too))
-envelope-one-fault bytes _ _ (has_bad_kind kind rest whole refused) (is_in_fields other end fault whole_too allowed wrong) =
+envelope-one-fault bytes _ _ (has_bad_kind kind rest whole refused) (is_in_message other end fault whole_too allowed wrong) =
     absurd (true≢false (sym allowed ∙ ap is_kind (heads (sym whole_too ∙ whole)) ∙ refused))
-envelope-one-fault bytes _ _ (is_in_fields kind rest fault whole allowed wrong) (has_no_kind none) =
-    let lengths = ap (λ (b : List ℕ). length b) (sym none ∙ whole) in absurd (omega (arith, lengths))
-envelope-one-fault bytes _ _ (is_in_fields kind rest fault whole allowed wrong) (has_bad_kind other end whole_too refused) =
+envelope-one-fault bytes _ _ (has_bad_kind kind rest whole refused) (has_only_sure envelope other end whole_too unsure same there) =
+    absurd (true≢false (sym (or_right (nat_le 1 other && nat_le other 8) (is_unsure_kind other) unsure) ∙ ap is_kind (heads (sym whole_too ∙ whole)) ∙ refused))
+envelope-one-fault bytes _ _ (is_in_message kind rest fault whole allowed wrong) (has_no_kind none) = absurd (no-bytes bytes kind rest none whole)
+envelope-one-fault bytes _ _ (is_in_message kind rest fault whole allowed wrong) (has_bad_kind other end whole_too refused) =
     absurd (true≢false (sym allowed ∙ ap is_kind (heads (sym whole ∙ whole_too)) ∙ refused))
-envelope-one-fault bytes _ _ (is_in_fields kind rest fault whole allowed wrong) (is_in_fields other end fault_too whole_too allowed_too wrong_too) =
-    one-fault polyvalue-part (message_layout kind) 1 rest fault fault_too wrong
-    (subst (λ (k : ℕ). HasFault (message_layout k) 1 rest fault_too) (heads (sym whole_too ∙ whole))
-    (subst (λ (r : List ℕ). HasFault (message_layout other) 1 r fault_too) (tails (sym whole_too ∙ whole)) wrong_too))
+envelope-one-fault bytes _ _ (is_in_message kind rest fault whole allowed wrong) (is_in_message other end fault_too whole_too allowed_too wrong_too) =
+    one-fault polyvalue-part (number_then 1 is_kind message_layout) 0 bytes fault fault_too
+    (wrong-here bytes kind rest fault whole allowed wrong) (wrong-here bytes other end fault_too whole_too allowed_too wrong_too)
+envelope-one-fault bytes _ _ (is_in_message kind rest fault whole allowed wrong) (has_only_sure envelope other end whole_too unsure same there) =
+    let unfit = message.only-sure envelope other end bytes whole_too unsure same there in
+    absurd (no-message-fault unfit.value bytes fault unfit.spelled (wrong-here bytes kind rest fault whole allowed wrong))
+envelope-one-fault bytes _ _ (has_only_sure envelope kind rest whole unsure same there) (has_no_kind none) = absurd (no-bytes bytes kind rest none whole)
+envelope-one-fault bytes _ _ (has_only_sure envelope kind rest whole unsure same there) (has_bad_kind other end whole_too refused) =
+    absurd (true≢false (sym (or_right (nat_le 1 kind && nat_le kind 8) (is_unsure_kind kind) unsure) ∙ ap is_kind (heads (sym whole ∙ whole_too)) ∙ refused))
+envelope-one-fault bytes _ _ (has_only_sure envelope kind rest whole unsure same there) (is_in_message other end fault whole_too allowed wrong) =
+    let unfit = message.only-sure envelope kind rest bytes whole unsure same there in
+    absurd (no-message-fault unfit.value bytes fault unfit.spelled (wrong-here bytes other end fault whole_too allowed wrong))
+envelope-one-fault bytes _ _ (has_only_sure envelope kind rest whole unsure same there) (has_only_sure other number end whole_too unsure_too same_too there_too) = refl
+
+-- A kind and what it has are a message, or all is right but that no value is one that isn't sure.
+whole-message : (bytes : List ℕ) (p : (n : ℕ) × message.Rest n) → message.SpellsKinded p bytes
+    → ((envelope : Envelope) × SpellsEnvelope envelope bytes) ⊎ ((fault : Fault) × EnvelopeFault bytes fault)
+whole-message bytes p s =
+    ⊎_elim
+    (λ fit. inl (message.envelope_of p, message.read-kinded p bytes fit s))
+    (λ (only : message.IsOnlySure p). inr (
+      bad_field 0,
+      has_only_sure (message.envelope_of p) p.0 s.back (first-kind p bytes s) only.unsure only.kind (message.after-kind p s.back s.second),
+    ))
+    (message.fits-or-only-sure p.0 s.first.allowed p.1)
 
 pub one-envelope-answer : (bytes : List ℕ) → AreBytes bytes → HasOneAnswer (λ envelope. SpellsEnvelope envelope bytes) (EnvelopeFault bytes)
 one-envelope-answer bytes all = record {
   some = ⊎_elim
-      (λ (b : Begins SpellsEnvelope bytes). ⊎_elim
-      (λ empty. inl (b.value, subst (λ (f : List ℕ). SpellsEnvelope b.value f) (sym (b.whole ∙ ap (λ (r : List ℕ). b.front ++ r) empty ∙ append-nil b.front)) b.spelled))
+      (λ (b : Begins message.SpellsKinded bytes). ⊎_elim
+      (λ empty. whole-message bytes b.value (subst (λ (f : List ℕ). message.SpellsKinded b.value f) (no-rest bytes b.front b.rest b.whole empty) b.spelled))
       (λ more. inr (reported bytes (extra (0 + length b.front))
       (subst (λ (f : List ℕ). Wrong f (extra (0 + length b.front))) (sym b.whole)
-      (envelope-code.before b.value b.front b.rest nothing_more 0 (extra (0 + length b.front)) b.spelled (is_extra more)))))
+      (message.kinded-code.before b.value b.front b.rest nothing_more 0 (extra (0 + length b.front)) b.spelled (is_extra more)))))
       (empty-or-more b.rest))
       (λ wrong. inr (reported bytes wrong.0 wrong.1))
-      (envelope-code.either bytes all nothing_more 0);
-  one_value = one-value SpellsEnvelope envelope-code.read bytes;
+      (message.kinded-code.either bytes all nothing_more 0);
+  one_value = one-value SpellsEnvelope message.envelope-read bytes;
   one_fault = envelope-one-fault bytes;
   not_both = envelope-not-both bytes;
 }
 
 -- Records.
 
-pub records : IsCode SpellsPolyvalue PolyvalueFault SpellsRecord (record_layout polyvalue_then)
-records = record-code SpellsPolyvalue PolyvalueFault polyvalue-code
+pub one-record : (bytes : List ℕ) (entry other : Record) → IsReadAs entry bytes → IsReadAs other bytes → entry ≡ other
+one-record = one-value IsReadAs kept.read-once
 
-pub one-record : (bytes : List ℕ) (entry other : Record) → SpellsRecord entry bytes → SpellsRecord other bytes → entry ≡ other
-one-record = one-value SpellsRecord records.read
-
--- A record has no fault.
-pub record-not-both : (bytes : List ℕ) (entry : Record) (fault : Fault) → SpellsRecord entry bytes → RecordFault bytes fault → ⊥
-record-not-both bytes entry fault s wrong =
+-- A kind and what it has are without a fault in the fields.
+no-record-fault : (p : (n : ℕ) × kept.Rest n) (bytes : List ℕ) (fault : Fault) → kept.SpellsKinded p bytes → HasFault (record_layout nothing_more) 0 bytes fault → ⊥
+no-record-fault p bytes fault s wrong =
     no-end-fault (0 + length bytes) fault
-    (records.after entry bytes [] nothing_more 0 fault s (subst (λ (b : List ℕ). RecordFault b fault) (sym (append-nil bytes)) wrong))
+    (kept.kinded-code.after p bytes [] nothing_more 0 fault s (subst (λ (b : List ℕ). HasFault (record_layout nothing_more) 0 b fault) (sym (append-nil bytes)) wrong))
 
-pub one-record-answer : (bytes : List ℕ) → AreBytes bytes → HasOneAnswer (λ entry. SpellsRecord entry bytes) (RecordFault bytes)
+only-sure-kinded : (bytes : List ℕ) (txn : TxnId) (writes : List Read) (rest : List ℕ) → bytes ≡ 4 ∷ rest → SpellsContentBy SpellsPolyvalue (prepared txn writes) rest
+    → kept.SpellsKinded (4, (txn, writes)) bytes
+only-sure-kinded bytes txn writes rest whole there =
+    record { front = 4 ∷ []; back = rest; whole = whole; first = record { spelled = byte-number 4 (omega arith); allowed = refl }; second = there }
+
+-- What is read as a record has no fault.
+pub record-not-both : (bytes : List ℕ) (entry : Record) (fault : Fault) → IsReadAs entry bytes → RecordFault bytes fault → ⊥
+record-not-both bytes entry _ s (is_in_record fault wrong) = let k = kept.kinded entry bytes s in no-record-fault k.value bytes fault k.spelled wrong
+record-not-both bytes entry _ s (is_only_sure txn writes rest whole sure there) =
+    let k = kept.kinded entry bytes s in
+    let fit : kept.Fits (4, (txn, writes)) = subst kept.Fits
+    (one-value kept.SpellsKinded kept.kinded-code.read bytes k.value (4, (txn, writes)) k.spelled (only-sure-kinded bytes txn writes rest whole there)) k.fit in
+    true≢false (sym sure ∙ fit)
+
+record-one-fault : (bytes : List ℕ) (fault other : Fault) → RecordFault bytes fault → RecordFault bytes other → fault ≡ other
+record-one-fault bytes _ _ (is_in_record fault wrong) (is_in_record other wrong_too) =
+    one-fault polyvalue-part (record_layout nothing_more) 0 bytes fault other wrong wrong_too
+record-one-fault bytes _ _ (is_in_record fault wrong) (is_only_sure txn writes rest whole sure there) =
+    absurd (no-record-fault (4, (txn, writes)) bytes fault (only-sure-kinded bytes txn writes rest whole there) wrong)
+record-one-fault bytes _ _ (is_only_sure txn writes rest whole sure there) (is_in_record fault wrong) =
+    absurd (no-record-fault (4, (txn, writes)) bytes fault (only-sure-kinded bytes txn writes rest whole there) wrong)
+record-one-fault bytes _ _ (is_only_sure txn writes rest whole sure there) (is_only_sure other others end whole_too sure_too there_too) = refl
+
+only-sure-fault : (bytes : List ℕ) (txn : TxnId) (writes : List Read) → IsTrue (are_sure writes) → kept.SpellsKinded (4, (txn, writes)) bytes
+    → RecordFault bytes (bad_field 0)
+only-sure-fault bytes txn writes sure s = is_only_sure txn writes s.back (one-byte 4 s.front s.back bytes s.whole s.first.spelled) sure s.second
+
+whole-record : (bytes : List ℕ) (p : (n : ℕ) × kept.Rest n) → kept.SpellsKinded p bytes
+    → ((entry : Record) × IsReadAs entry bytes) ⊎ ((fault : Fault) × RecordFault bytes fault)
+whole-record bytes p s =
+    ⊎_elim
+    (λ fit. inl (kept.record_for p, kept.read-kinded p bytes fit s))
+    (λ (only : kept.IsOnlySure p).
+    inr (bad_field 0, only-sure-fault bytes only.txn only.writes only.sure (subst (λ (q : (n : ℕ) × kept.Rest n). kept.SpellsKinded q bytes) only.is s)))
+    (kept.fits-or-only-sure p s.first.allowed)
+
+pub one-record-answer : (bytes : List ℕ) → AreBytes bytes → HasOneAnswer (λ entry. IsReadAs entry bytes) (RecordFault bytes)
 one-record-answer bytes all = record {
   some = ⊎_elim
-      (λ (b : Begins SpellsRecord bytes). ⊎_elim
-      (λ empty. inl (b.value, subst (λ (f : List ℕ). SpellsRecord b.value f) (sym (b.whole ∙ ap (λ (r : List ℕ). b.front ++ r) empty ∙ append-nil b.front)) b.spelled))
+      (λ (b : Begins kept.SpellsKinded bytes). ⊎_elim
+      (λ empty. whole-record bytes b.value (subst (λ (f : List ℕ). kept.SpellsKinded b.value f) (no-rest bytes b.front b.rest b.whole empty) b.spelled))
       (λ more. inr (
         extra (0 + length b.front),
-        subst (λ (f : List ℕ). RecordFault f (extra (0 + length b.front))) (sym b.whole)
-            (records.before b.value b.front b.rest nothing_more 0 (extra (0 + length b.front)) b.spelled (is_extra more)),
+        is_in_record (extra (0 + length b.front))
+            (subst (λ (f : List ℕ). HasFault (record_layout nothing_more) 0 f (extra (0 + length b.front))) (sym b.whole)
+            (kept.kinded-code.before b.value b.front b.rest nothing_more 0 (extra (0 + length b.front)) b.spelled (is_extra more))),
       ))
       (empty-or-more b.rest))
-      (λ wrong. inr wrong)
-      (records.either bytes all nothing_more 0);
+      (λ wrong. inr (wrong.0, is_in_record wrong.0 wrong.1))
+      (kept.kinded-code.either bytes all nothing_more 0);
   one_value = one-record bytes;
-  one_fault = one-fault polyvalue-part (record_layout polyvalue_then nothing_more) 0 bytes;
+  one_fault = record-one-fault bytes;
   not_both = record-not-both bytes;
 }
 
 -- Polyvalues.
 
 pub one-polyvalue-answer : (bytes : List ℕ) (place : ℕ) → AreBytes bytes
-    → HasOneAnswer (λ (found : List (Case ℤ) × List ℕ). BeginsWith found.0 found.1 bytes) (PolyvalueFault place bytes)
+    → HasOneAnswer (λ (found : List (Case ℤ) × List ℕ). BeginsWith found.0 found.1 bytes) (TreeFault place bytes)
 one-polyvalue-answer bytes place all = record {
   some = ⊎_elim
       (λ (b : Begins SpellsPolyvalue bytes).
       inl ((b.value, b.rest), record { front = b.front; back = b.rest; whole = b.whole; first = b.spelled; second = refl }))
       (λ wrong. inr wrong)
-      (polyvalue-either bytes all place);
+      (polyvalue-either in_tree bytes all place);
   one_value = λ x y s t.
-      let parts = polyvalue-part.read x.0 y.0 s.front t.front s.back t.back s.first t.first (sym s.whole ∙ t.whole) in
+      let parts = polyvalue-part.read in_tree x.0 y.0 s.front t.front s.back t.back s.first t.first (sym s.whole ∙ t.whole) in
       let rests = sym s.second ∙ parts.1 ∙ t.second in
       (λ i. (parts.0 i, rests i));
-  one_fault = polyvalue-part.one place bytes;
+  one_fault = polyvalue-part.one in_tree place bytes;
   not_both = λ x fault s wrong.
-      polyvalue-part.not_both x.0 s.front s.back place fault s.first (subst (λ (b : List ℕ). PolyvalueFault place b fault) s.whole wrong);
+      polyvalue-part.not_both in_tree x.0 s.front s.back place fault s.first (subst (λ (b : List ℕ). TreeFault place b fault) s.whole wrong);
 }

@@ -23,7 +23,7 @@ kept-less true x kept xs less = omega (arith, less)
 kept-less false x kept xs less = omega (arith, less)
 
 -- Where one is left out, fewer are kept.
-filtered-less : {X : Type 0} (p : X → Bool) (xs : List X) (x : X) → Contains xs x → p x ≡ false → length (filter p xs) < length xs
+pub filtered-less : {X : Type 0} (p : X → Bool) (xs : List X) (x : X) → Contains xs x → p x ≡ false → length (filter p xs) < length xs
 filtered-less p [] x here out = absurd (Contains-nil x here)
 filtered-less p (y ∷ ys) x here out =
     ⊎_elim
@@ -32,7 +32,7 @@ filtered-less p (y ∷ ys) x here out =
     (λ later. kept-less (p y) y (filter p ys) ys (filtered-less p ys x later out))
     (Contains-cases y ys x here)
 
-not-before : (txn : TxnId) → precedes txn txn ≡ false
+pub not-before : (txn : TxnId) → precedes txn txn ≡ false
 not-before txn = false_from_ne_true (precedes txn txn) (precedes-irrefl txn)
 
 module _ {V : Type 0} where

@@ -5,6 +5,7 @@ use Rattle.std.proofs.lemmas.List.{length-append}
 use Rattle.pv_base.specs.BigEndian.{AreBytes}
 use Rattle.pv_base.specs.Polyvalue.{Case}
 use Rattle.pv_format.specs.FirstFault.{Fault, HasFaultBy}
+use Rattle.pv_format.specs.Form.{Form}
 use Rattle.pv_format.specs.Layout.{Layout}
 use Rattle.pv_format.specs.Spelling.{◌followed_by◌, IsEmpty}
 use Rattle.pv_law_format.proofs.Bytes.{later-bytes}
@@ -50,7 +51,11 @@ to-right s = record {
 pub with-first : {A B C : List ℕ → Type 0} {bytes : List ℕ} → ((front : List ℕ) → A front → B front) → (A followed_by C) bytes → (B followed_by C) bytes
 with-first to s = record { front = s.front; back = s.back; whole = s.whole; first = to s.front s.first; second = s.second }
 
-module _ (SpellsPart : List (Case ℤ) → List ℕ → Type 0) (PartFault : ℕ → List ℕ → Fault → Type 0) where
+-- The same with another second part.
+pub with-second : {A B C : List ℕ → Type 0} {bytes : List ℕ} → ((back : List ℕ) → B back → C back) → (A followed_by B) bytes → (A followed_by C) bytes
+with-second to s = record { front = s.front; back = s.back; whole = s.whole; first = s.first; second = to s.back s.second }
+
+module _ (SpellsPart : Form → List (Case ℤ) → List ℕ → Type 0) (PartFault : Form → ℕ → List ℕ → Fault → Type 0) where
   abbrev pub Faulty : Layout → ℕ → List ℕ → Fault → Type 0
   Faulty = HasFaultBy SpellsPart PartFault
 
@@ -146,16 +151,16 @@ module _ (SpellsPart : List (Case ℤ) → List ℕ → Type 0) (PartFault : ℕ
       either = both-either;
     }
 
-  -- The same for values that stand for these, and spellings that are these.
+  -- The same for values that stand for these where they are spelled, and spellings that are these.
   module _ {X Y : Type 0} {Spells : X → List ℕ → Type 0} {layout : Layout → Layout} (code : IsCode Spells layout) (SpellsToo : Y → List ℕ → Type 0)
-      (of_value : Y → X) (value_of : X → Y) (back : (y : Y) → value_of (of_value y) ≡ y)
+      (of_value : Y → X) (value_of : X → Y) (back : (y : Y) (front : List ℕ) → SpellsToo y front → value_of (of_value y) ≡ y)
       (so : (y : Y) (front : List ℕ) → SpellsToo y front → Spells (of_value y) front) (too : (x : X) (front : List ℕ) → Spells x front → SpellsToo (value_of x) front) where
-    pub code-of : IsCode SpellsToo layout
-    code-of = record {
+    pub code-where : IsCode SpellsToo layout
+    code-where = record {
       once = λ y front other s t. code.once (of_value y) front other (so y front s) (so y other t);
       read = λ y z front other rest others s t same.
           let parts = code.read (of_value y) (of_value z) front other rest others (so y front s) (so z other t) same in
-          (sym (back y) ∙ ap value_of parts.0 ∙ back z, parts.1);
+          (sym (back y front s) ∙ ap value_of parts.0 ∙ back z other t, parts.1);
       after = λ y front rest next place fault s. code.after (of_value y) front rest next place fault (so y front s);
       before = λ y front rest next place fault s. code.before (of_value y) front rest next place fault (so y front s);
       either = λ bytes all next place.
@@ -170,3 +175,10 @@ module _ (SpellsPart : List (Case ℤ) → List ℕ → Type 0) (PartFault : ℕ
           (λ wrong. inr wrong)
           (code.either bytes all next place);
     }
+
+  -- The same for values that stand for these, spelled or not.
+  module _ {X Y : Type 0} {Spells : X → List ℕ → Type 0} {layout : Layout → Layout} (code : IsCode Spells layout) (SpellsToo : Y → List ℕ → Type 0)
+      (of_value : Y → X) (value_of : X → Y) (back : (y : Y) → value_of (of_value y) ≡ y)
+      (so : (y : Y) (front : List ℕ) → SpellsToo y front → Spells (of_value y) front) (too : (x : X) (front : List ℕ) → Spells x front → SpellsToo (value_of x) front) where
+    pub code-of : IsCode SpellsToo layout
+    code-of = code-where code SpellsToo of_value value_of (λ y front s. back y) so too

@@ -1,5 +1,5 @@
 -- How long spellings are.
-use Rattle.std.proofs.Common.{◌≡◌, ℕ, ◌+◌, ◌*◌, Bool, List, [], ◌∷◌, length, ap, ◌∙◌, arith}
+use Rattle.std.proofs.Common.{◌≡◌, ℕ, zero, suc, ◌+◌, ◌-◌, ◌*◌, Bool, List, [], ◌∷◌, length, ap, ◌∙◌, arith}
 use Rattle.std.specs.Prelude.{ℤ}
 use Rattle.std.specs.List.{sum_by}
 use Rattle.std.proofs.Math.Nat.{mul-suc}
@@ -13,24 +13,28 @@ use Rattle.pv_base.specs.Polyvalue.{Case}
 use Rattle.pv_base.specs.Want.{Want}
 use Rattle.pv_base.proofs.BigEndianLemmas.{IsNumber-length, IsSigned-length}
 use Rattle.pv_model.specs.Alternatives.{Read}
-use Rattle.pv_format.specs.Length.{case_length, polyvalue_length, reads_length, record_length, cause_length, body_length, envelope_length}
+use Rattle.pv_base.specs.declared.limits.TheConstants.{HELD_NAMES}
+use Rattle.pv_format.specs.Length.{old_case_length, old_polyvalue_length, polyvalue_length, reads_length, record_length, cause_length, body_length, envelope_length}
 use Rattle.pv_format.specs.Message.{Envelope, Message, lock, granted, denied, prepare, vote_yes, vote_no, outcome_reported, ask, NoCause, grant_lost, journal_full, txn_of}
 use Rattle.pv_format.specs.MessageSpelling.{SpellsWants, SpellsNoCause, SpellsBody, SpellsEnvelope}
-use Rattle.pv_format.specs.PolyvalueSpelling.{SpellsLiteral, SpellsCase, SpellsCases, SpellsPolyvalue}
+use Rattle.pv_format.specs.OldSpelling.{SpellsLiteral, SpellsCase, SpellsCases}
+use Rattle.pv_format.specs.PolyvalueSpelling.{SpellsNode, SpellsPolyvalue}
 use Rattle.pv_format.specs.Record.{Record, epoch_begun, prepared, outcome_known}
-use Rattle.pv_format.specs.RecordSpelling.{SpellsReads, SpellsRecord}
+use Rattle.pv_format.specs.RecordSpelling.{SpellsReadsBy, SpellsReads, SpellsRecord}
 use Rattle.pv_format.specs.Spelling.{◌followed_by◌, IsAllowed, IsTruth, SpellsTxn, SpellsGrant, SpellsEach, SpellsEntriesFrom}
+use Rattle.pv_format.specs.Tree.{Tree, leaf, test, cases_of}
+use Rattle.pv_law_format.proofs.SureLemmas.{length-test, some-case}
 
-parts-length : {A B : List ℕ → Type 0} {bytes : List ℕ} (s : (A followed_by B) bytes) → length bytes ≡ length s.front + length s.back
+pub parts-length : {A B : List ℕ → Type 0} {bytes : List ℕ} (s : (A followed_by B) bytes) → length bytes ≡ length s.front + length s.back
 parts-length s = ap (λ (b : List ℕ). length b) s.whole ∙ length-append s.front s.back
 
 allowed-length : {size : ℕ} {allows : ℕ → Bool} {n : ℕ} (bytes : List ℕ) → IsAllowed size allows n bytes → length bytes ≡ size
 allowed-length {size} {allows} {n} bytes s = IsNumber-length size n bytes s.spelled
 
-number-length : {size n : ℕ} (bytes : List ℕ) → IsNumber size n bytes → length bytes ≡ size
+pub number-length : {size n : ℕ} (bytes : List ℕ) → IsNumber size n bytes → length bytes ≡ size
 number-length {size} {n} bytes s = IsNumber-length size n bytes s
 
-txn-length : (txn : TxnId) (bytes : List ℕ) → SpellsTxn txn bytes → length bytes ≡ 9
+pub txn-length : (txn : TxnId) (bytes : List ℕ) → SpellsTxn txn bytes → length bytes ≡ 9
 txn-length txn bytes s =
     omega (
       arith,
@@ -65,7 +69,7 @@ sum-same n (x ∷ xs) = let rest = sum-same n xs in omega (arith, rest, sum_by-c
 literal-length : (literal : Literal) (bytes : List ℕ) → SpellsLiteral literal bytes → length bytes ≡ 10
 literal-length literal bytes s = omega (arith, parts-length s, number-length s.front s.first, txn-length literal.txn s.back s.second)
 
-case-length : (case : Case ℤ) (bytes : List ℕ) → SpellsCase case bytes → length bytes ≡ case_length case
+case-length : (case : Case ℤ) (bytes : List ℕ) → SpellsCase case bytes → length bytes ≡ old_case_length case
 case-length case bytes s =
     omega (
       arith,
@@ -77,19 +81,59 @@ case-length case bytes s =
       sum-same 10 case.when,
     )
 
-pub cases-length : (cases : List (Case ℤ)) (bytes : List ℕ) → SpellsCases cases bytes → length bytes ≡ polyvalue_length cases
+pub cases-length : (cases : List (Case ℤ)) (bytes : List ℕ) → SpellsCases cases bytes → length bytes ≡ old_polyvalue_length cases
 cases-length cases bytes s =
-    omega (arith, parts-length s, number-length s.front s.first, each-length SpellsCase case_length case-length cases s.back s.second)
+    omega (arith, parts-length s, number-length s.front s.first, each-length SpellsCase old_case_length case-length cases s.back s.second)
 
-reads-length : (fewest : ℕ) (reads : List Read) (bytes : List ℕ) → SpellsReads fewest reads bytes → length bytes ≡ reads_length reads
-reads-length fewest reads bytes s =
+-- A tree has 9 bytes for each leaf, and 10 for each test, of which there is one less.
+node-length : (tests : ℕ) (tree : Tree) (bytes : List ℕ) → SpellsNode tests tree bytes
+    → length bytes ≡ 9 * length (cases_of tree) + 10 * (length (cases_of tree) - 1)
+node-length tests (leaf value) bytes s =
+    omega (arith, parts-length s, number-length s.front s.first, IsSigned-length value s.back s.second)
+node-length zero (test txn aborted committed) bytes s = absurd s
+node-length (suc tests) (test txn aborted committed) bytes s =
+    let sides = s.second.second in
+    let left = node-length tests aborted sides.front sides.first in
+    let right = node-length tests committed sides.back sides.second in
+    omega (
+      arith,
+      left,
+      right,
+      some-case aborted,
+      some-case committed,
+      length-test txn aborted committed,
+      parts-length s,
+      parts-length s.second,
+      parts-length sides,
+      number-length s.front s.first,
+      txn-length txn s.second.front s.second.first,
+    )
+
+pub polyvalue-length : (cases : List (Case ℤ)) (bytes : List ℕ) → SpellsPolyvalue cases bytes → length bytes ≡ polyvalue_length cases
+polyvalue-length cases bytes s =
+    omega (
+      arith,
+      parts-length s.spelled,
+      number-length s.spelled.front s.spelled.first,
+      node-length HELD_NAMES s.tree s.spelled.back s.spelled.second,
+      ap (λ (cs : List (Case ℤ)). length cs) s.is,
+    )
+
+-- Items with their polyvalues, each of which has this length.
+pub reads-by-length : (Spells : List (Case ℤ) → List ℕ → Type 0) (length_of : List (Case ℤ) → ℕ)
+    → ((cases : List (Case ℤ)) (bytes : List ℕ) → Spells cases bytes → length bytes ≡ length_of cases)
+    → (fewest : ℕ) (reads : List Read) (bytes : List ℕ) → SpellsReadsBy Spells fewest reads bytes → length bytes ≡ 1 + sum_by (λ read. 4 + length_of read.cases) reads
+reads-by-length Spells length_of has fewest reads bytes s =
     omega (
       arith,
       parts-length s,
       allowed-length s.front s.first,
-      entries-length (λ (read : Read). SpellsPolyvalue read.cases) (λ read. polyvalue_length read.cases) (λ read bs t. cases-length read.cases bs t.spelled)
+      entries-length (λ (read : Read). Spells read.cases) (λ read. length_of read.cases) (λ read bs t. has read.cases bs t)
           (λ read. read.item) 0 reads s.back s.second,
     )
+
+reads-length : (fewest : ℕ) (reads : List Read) (bytes : List ℕ) → SpellsReads fewest reads bytes → length bytes ≡ reads_length reads
+reads-length = reads-by-length SpellsPolyvalue polyvalue_length polyvalue-length
 
 wants-length : (fewest : ℕ) (wants : List Want) (bytes : List ℕ) → SpellsWants fewest wants bytes → length bytes ≡ 1 + 5 * length wants
 wants-length fewest wants bytes s =

@@ -6,11 +6,16 @@ pub mod EnvelopeCode
 pub mod LengthLemmas
 pub mod ListCodes
 pub mod NumberCodes
+pub mod OldLengths
 pub mod OneFault
 pub mod PartCodes
+pub mod PartLaws
 pub mod PolyvalueCode
 pub mod PolyvalueDecided
 pub mod RangeLemmas
 pub mod RecordCode
 pub mod ReplayLemmas
 pub mod SpelledBytes
+pub mod SureLemmas
+pub mod TreeCode
+pub mod TreeLemmas

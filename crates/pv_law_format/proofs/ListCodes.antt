@@ -6,6 +6,7 @@ use Rattle.pv_base.specs.BigEndian.{AreBytes}
 use Rattle.pv_base.specs.Polyvalue.{Case}
 use Rattle.pv_base.proofs.BigEndianLemmas.{IsNumber-begins, IsNumber-length}
 use Rattle.pv_format.specs.FirstFault.{Fault, HasFaultBy, is_later}
+use Rattle.pv_format.specs.Form.{Form}
 use Rattle.pv_format.specs.Layout.{Layout, number_then, repeated, entries_layout, counted_layout}
 use Rattle.pv_format.specs.Spelling.{◌followed_by◌, IsAllowed, SpellsEach, SpellsEntriesFrom, SpellsEntries, is_item_from, is_count_from}
 use Rattle.pv_law_format.proofs.Bytes.{later-bytes}
@@ -38,7 +39,7 @@ length-list_of : (X : Type 0) (n : ℕ) (many : Many n X) → length (list_of n 
 length-list_of X zero many = refl
 length-list_of X (suc n) many = let rest = length-list_of X n many.1 in omega (arith, rest)
 
-module _ (SpellsPart : List (Case ℤ) → List ℕ → Type 0) (PartFault : ℕ → List ℕ → Fault → Type 0) where
+module _ (SpellsPart : Form → List (Case ℤ) → List ℕ → Type 0) (PartFault : Form → ℕ → List ℕ → Fault → Type 0) where
   abbrev Faulty : Layout → ℕ → List ℕ → Fault → Type 0
   Faulty = HasFaultBy SpellsPart PartFault
 

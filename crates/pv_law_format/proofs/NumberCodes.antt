@@ -10,12 +10,13 @@ use Rattle.pv_base.specs.BigEndian.{IsNumber, IsSigned, AreBytes, big_endian, nu
 use Rattle.pv_base.specs.Polyvalue.{Case}
 use Rattle.pv_base.proofs.BigEndianLemmas.{IsNumber-begins, IsNumber-length, big_endian-number_of, number_of-lt, twos_complement-lt, twos_complement-cast_signed, twos_complement-injective}
 use Rattle.pv_format.specs.FirstFault.{Fault, HasFaultBy, short, bad_field, NumberFault, is_short, is_refused, is_later}
+use Rattle.pv_format.specs.Form.{Form}
 use Rattle.pv_format.specs.Layout.{Layout, number_then, any, truth_layout}
 use Rattle.pv_format.specs.Spelling.{IsAllowed, IsTruth, is_truth}
 use Rattle.pv_law_format.proofs.Bytes.{parted-at}
 use Rattle.pv_law_format.proofs.Codes.{Begins, IsCode}
 
-module _ (SpellsPart : List (Case ℤ) → List ℕ → Type 0) (PartFault : ℕ → List ℕ → Fault → Type 0) (size : ℕ) (allows : ℕ → Bool) where
+module _ (SpellsPart : Form → List (Case ℤ) → List ℕ → Type 0) (PartFault : Form → ℕ → List ℕ → Fault → Type 0) (size : ℕ) (allows : ℕ → Bool) where
   abbrev Faulty : Layout → ℕ → List ℕ → Fault → Type 0
   Faulty = HasFaultBy SpellsPart PartFault
 
@@ -81,7 +82,7 @@ module _ (SpellsPart : List (Case ℤ) → List ℕ → Type 0) (PartFault : ℕ
   pub allowed-code : IsCode SpellsPart PartFault (IsAllowed size allows) (λ next. number_then size allows (λ _. next))
   allowed-code = number-for-code (IsAllowed size allows) (λ n. n) (λ n front s. s) (λ m n front other s t same. same) (λ n front s. (n, s))
 
-module _ (SpellsPart : List (Case ℤ) → List ℕ → Type 0) (PartFault : ℕ → List ℕ → Fault → Type 0) where
+module _ (SpellsPart : Form → List (Case ℤ) → List ℕ → Type 0) (PartFault : Form → ℕ → List ℕ → Fault → Type 0) where
   pub number-code : (size : ℕ) → IsCode SpellsPart PartFault (IsNumber size) (λ next. number_then size any (λ _. next))
   number-code size =
       number-for-code SpellsPart PartFault size any (IsNumber size) (λ n. n)

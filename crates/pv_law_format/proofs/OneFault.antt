@@ -7,15 +7,17 @@ use Rattle.pv_base.specs.BigEndian.{IsNumber}
 use Rattle.pv_base.specs.Polyvalue.{Case}
 use Rattle.pv_base.proofs.BigEndianLemmas.{IsNumber-begins, IsNumber-length}
 use Rattle.pv_format.specs.FirstFault.{Fault, HasFaultBy, NumberFault, is_short, is_refused, is_later, EndFault, is_extra, PartFault, is_within, is_after}
+use Rattle.pv_format.specs.Form.{Form}
 use Rattle.pv_format.specs.Layout.{Layout, anything, nothing_more, number_then, polyvalue_then}
 use Rattle.pv_format.specs.Spelling.{IsAllowed}
 use Rattle.pv_law_format.proofs.Codes.{IsReadOnce}
 
--- Of a part with faults of its own: one at most, and none where the bytes begin with its spelling.
-pub record IsPart (SpellsPart : List (Case ℤ) → List ℕ → Type 0) (Faults : ℕ → List ℕ → Fault → Type 0) : Type 0 where
-  pub read : IsReadOnce SpellsPart
-  pub one : (place : ℕ) (bytes : List ℕ) (fault other : Fault) → Faults place bytes fault → Faults place bytes other → fault ≡ other
-  pub not_both : (cases : List (Case ℤ)) (front rest : List ℕ) (place : ℕ) (fault : Fault) → SpellsPart cases front → Faults place (front ++ rest) fault → ⊥
+-- Of parts with faults of their own, in each form: one at most, and none where the bytes begin with the part's spelling.
+pub record IsPart (SpellsPart : Form → List (Case ℤ) → List ℕ → Type 0) (Faults : Form → ℕ → List ℕ → Fault → Type 0) : Type 0 where
+  pub read : (form : Form) → IsReadOnce (SpellsPart form)
+  pub one : (form : Form) (place : ℕ) (bytes : List ℕ) (fault other : Fault) → Faults form place bytes fault → Faults form place bytes other → fault ≡ other
+  pub not_both : (form : Form) (cases : List (Case ℤ)) (front rest : List ℕ) (place : ℕ) (fault : Fault) → SpellsPart form cases front
+      → Faults form place (front ++ rest) fault → ⊥
 
 -- A short number isn't whole.
 short-whole : (size value : ℕ) (bytes front rest : List ℕ) → length bytes < size → bytes ≡ front ++ rest → IsNumber size value front → ⊥
@@ -49,17 +51,17 @@ module _ (size : ℕ) (allows : ℕ → Bool) (Later : ℕ → ℕ → List ℕ 
 one-end-fault : (place : ℕ) (bytes : List ℕ) (fault other : Fault) → EndFault place bytes fault → EndFault place bytes other → fault ≡ other
 one-end-fault place bytes _ _ (is_extra more) (is_extra more_too) = refl
 
-module _ {SpellsPart : List (Case ℤ) → List ℕ → Type 0} {Faults : ℕ → List ℕ → Fault → Type 0} (part : IsPart SpellsPart Faults) where
-  one-part-fault : (Later : ℕ → List ℕ → Fault → Type 0) (place : ℕ) (bytes : List ℕ)
+module _ {SpellsPart : Form → List (Case ℤ) → List ℕ → Type 0} {Faults : Form → ℕ → List ℕ → Fault → Type 0} (part : IsPart SpellsPart Faults) where
+  one-part-fault : (form : Form) (Later : ℕ → List ℕ → Fault → Type 0) (place : ℕ) (bytes : List ℕ)
       → ((there : ℕ) (rest : List ℕ) (fault other : Fault) → Later there rest fault → Later there rest other → fault ≡ other)
-      → (fault other : Fault) → PartFault SpellsPart Faults Later place bytes fault → PartFault SpellsPart Faults Later place bytes other → fault ≡ other
-  one-part-fault Later place bytes later-one _ _ (is_within fault wrong) (is_within other wrong_too) = part.one place bytes fault other wrong wrong_too
-  one-part-fault Later place bytes later-one _ _ (is_within fault wrong) (is_after cases front rest other whole is wrong_too) =
-      absurd (part.not_both cases front rest place fault is (subst (λ (b : List ℕ). Faults place b fault) whole wrong))
-  one-part-fault Later place bytes later-one _ _ (is_after cases front rest fault whole is wrong) (is_within other wrong_too) =
-      absurd (part.not_both cases front rest place other is (subst (λ (b : List ℕ). Faults place b other) whole wrong_too))
-  one-part-fault Later place bytes later-one _ _ (is_after cases front rest fault whole is wrong) (is_after others begin end other whole_too is_too wrong_too) =
-      let parts = part.read others cases begin front end rest is_too is (sym whole_too ∙ whole) in
+      → (fault other : Fault) → PartFault SpellsPart Faults form Later place bytes fault → PartFault SpellsPart Faults form Later place bytes other → fault ≡ other
+  one-part-fault form Later place bytes later-one _ _ (is_within fault wrong) (is_within other wrong_too) = part.one form place bytes fault other wrong wrong_too
+  one-part-fault form Later place bytes later-one _ _ (is_within fault wrong) (is_after cases front rest other whole is wrong_too) =
+      absurd (part.not_both form cases front rest place fault is (subst (λ (b : List ℕ). Faults form place b fault) whole wrong))
+  one-part-fault form Later place bytes later-one _ _ (is_after cases front rest fault whole is wrong) (is_within other wrong_too) =
+      absurd (part.not_both form cases front rest place other is (subst (λ (b : List ℕ). Faults form place b other) whole wrong_too))
+  one-part-fault form Later place bytes later-one _ _ (is_after cases front rest fault whole is wrong) (is_after others begin end other whole_too is_too wrong_too) =
+      let parts = part.read form others cases begin front end rest is_too is (sym whole_too ∙ whole) in
       let lengths : length begin ≡ length front = omega (
         arith,
         ap (λ (b : List ℕ). length b) (sym whole_too ∙ whole),
@@ -76,5 +78,5 @@ module _ {SpellsPart : List (Case ℤ) → List ℕ → Type 0} {Faults : ℕ �
   one-fault nothing_more place bytes fault other wrong wrong_too = one-end-fault place bytes fault other wrong wrong_too
   one-fault (number_then size allows next) place bytes fault other wrong wrong_too =
       one-number-fault size allows (λ value. HasFaultBy SpellsPart Faults (next value)) place bytes (λ value. one-fault (next value) (place + size)) fault other wrong wrong_too
-  one-fault (polyvalue_then next) place bytes fault other wrong wrong_too =
-      one-part-fault (HasFaultBy SpellsPart Faults next) place bytes (one-fault next) fault other wrong wrong_too
+  one-fault (polyvalue_then form next) place bytes fault other wrong wrong_too =
+      one-part-fault form (HasFaultBy SpellsPart Faults next) place bytes (one-fault next) fault other wrong wrong_too

@@ -6,16 +6,17 @@ use Rattle.pv_base.specs.Polyvalue.{Case}
 use Rattle.pv_base.specs.Want.{Want}
 use Rattle.pv_model.specs.Alternatives.{Read}
 use Rattle.pv_format.specs.FirstFault.{Fault}
+use Rattle.pv_format.specs.Form.{Form}
 use Rattle.pv_format.specs.Layout.{Layout, any, truth_layout, txn_layout, grant_layout, literal_layout, case_layout, cases_layout, counted_layout}
 use Rattle.pv_format.specs.MessageSpelling.{SpellsWants}
-use Rattle.pv_format.specs.PolyvalueSpelling.{SpellsLiteral, SpellsCase, SpellsCases}
+use Rattle.pv_format.specs.OldSpelling.{SpellsLiteral, SpellsCase, SpellsCases}
 use Rattle.pv_format.specs.RecordSpelling.{SpellsReadsBy}
 use Rattle.pv_format.specs.Spelling.{IsAllowed, is_site, SpellsTxn, SpellsGrant}
 use Rattle.pv_law_format.proofs.Codes.{IsCode, both-code, code-of, to-left, to-right, with-first}
 use Rattle.pv_law_format.proofs.ListCodes.{each-code, entries-code}
 use Rattle.pv_law_format.proofs.NumberCodes.{allowed-code, number-code, truth-code, signed-code}
 
-module _ (SpellsPart : List (Case ℤ) → List ℕ → Type 0) (PartFault : ℕ → List ℕ → Fault → Type 0) where
+module _ (SpellsPart : Form → List (Case ℤ) → List ℕ → Type 0) (PartFault : Form → ℕ → List ℕ → Fault → Type 0) where
   pub txn-code : IsCode SpellsPart PartFault SpellsTxn txn_layout
   txn-code =
       code-of SpellsPart PartFault

@@ -1,31 +1,34 @@
 -- The values that are in range are those that have a spelling.
-use Rattle.std.proofs.Common.{ℕ, zero, suc, ◌+◌, ◌<◌, ◌≤◌, ◌^◌, Bool, true, false, List, [], ◌∷◌, ◌++◌, length, map, refl, arith}
-use Rattle.std.specs.Prelude.{ℤ, nat_lt, nat_le, ◌&&◌, IsTrue, All}
+use Rattle.std.proofs.Common.{⊎_elim, ℕ, zero, suc, ◌+◌, ◌<◌, ◌≤◌, ◌^◌, Bool, true, false, List, [], ◌∷◌, ◌++◌, length, map, refl, sym, subst, arith}
+use Rattle.std.specs.Prelude.{ℤ, nat_lt, nat_le, ◌&&◌, IsTrue, All, if◌then◌else◌}
 use Rattle.std.specs.List.{AllPairs}
 use Rattle.std.specs.Int.{w64}
 use Rattle.std.specs.Int.RustNames.{FitsSigned}
 use Rattle.std.proofs.lemmas.Bool.{and_from, and_parts, lt-ltb, ltb-true, le-leb, leb-true}
 use Rattle.std.proofs.lemmas.List.{length-map}
-use Rattle.std.proofs.lemmas.List.Elements.{All-nil, All-cons, All-head, All-tail}
+use Rattle.std.proofs.lemmas.List.Elements.{All-nil, All-cons, All-head, All-tail, All-append, All-map}
 use Rattle.std.proofs.lemmas.List.Kept.{AllPairs-cons}
 use Rattle.pv_base.specs.BigEndian.{IsNumber, IsSigned, big_endian, twos_complement}
 use Rattle.pv_base.specs.declared.grant.GrantId.{GrantId}
 use Rattle.pv_base.specs.declared.limits.TheConstants.{MAX_SITES, MAX_ITEMS, MAX_PROGRAM_ITEMS, HELD_NAMES}
 use Rattle.pv_base.specs.declared.literal.Literal.{Literal}
 use Rattle.pv_base.specs.declared.txn.TxnId.{TxnId}
-use Rattle.pv_base.specs.Polyvalue.{Case}
+use Rattle.pv_base.specs.Polyvalue.{Case, under}
 use Rattle.pv_base.specs.Want.{Want}
 use Rattle.pv_model.specs.Alternatives.{Read}
 use Rattle.pv_format.specs.Message.{Envelope, Message, lock, granted, denied, prepare, vote_yes, vote_no, outcome_reported, ask, NoCause, grant_lost, journal_full, txn_of}
 use Rattle.pv_format.specs.MessageSpelling.{SpellsWants, SpellsNoCause, SpellsBody, SpellsEnvelope, kind_number}
-use Rattle.pv_format.specs.PolyvalueSpelling.{SpellsLiteral, SpellsCase, SpellsPolyvalue}
+use Rattle.pv_format.specs.OldSpelling.{SpellsLiteral, SpellsCase, SpellsInCases}
+use Rattle.pv_format.specs.PolyvalueSpelling.{SpellsNode, SpellsPolyvalue}
 use Rattle.pv_format.specs.Range.{IsTxnInRange, IsGrantInRange, AreItemsInRange, IsCaseInRange, IsPolyvalueInRange, AreReadsInRange, AreWantsInRange, IsCauseInRange, IsBodyInRange, IsEnvelopeInRange, IsRecordInRange}
 use Rattle.pv_format.specs.Record.{Record, epoch_begun, prepared, outcome_known}
-use Rattle.pv_format.specs.RecordSpelling.{SpellsReads, SpellsRecord}
+use Rattle.pv_format.specs.RecordSpelling.{SpellsReadsBy, SpellsContentBy, SpellsReads, SpellsRecord, SpellsOldRecord, IsReadAs, are_sure}
 use Rattle.pv_format.specs.Spelling.{◌followed_by◌, IsAllowed, IsEmpty, IsSite, IsTruth, SpellsTxn, SpellsGrant, SpellsEach, SpellsEntriesFrom, SpellsEntries, is_site, is_item_from, is_count_from}
+use Rattle.pv_format.specs.Tree.{Tree, leaf, test, cases_of}
 use Rattle.pv_law_format.proofs.Bytes.{within}
 use Rattle.pv_law_format.proofs.CaseCount.{polyvalue-few}
-use Rattle.pv_law_format.proofs.EnvelopeCode.{is-kind}
+use Rattle.pv_law_format.proofs.EnvelopeCode.{is-kind, small}
+use Rattle.pv_law_format.proofs.TreeLemmas.{HasFewTests, behind, first-case, polyvalue-tree}
 
 -- Some bytes are this.
 abbrev pub HasSpelling : (List ℕ → Type 0) → Type 0
@@ -63,11 +66,6 @@ txn-spelled txn is = joined (site txn.site.0 is.site) (joined (number 4 txn.epoc
 grant-spelled : (grant : GrantId) → IsGrantInRange grant → HasSpelling (SpellsGrant grant)
 grant-spelled grant is = joined (number 4 grant.epoch (omega (arith, is.epoch))) (number 4 grant.number (omega (arith, is.number)))
 
-each-spelled : {X : Type 0} (Spells : X → List ℕ → Type 0) (P : X → Type 0) → ((x : X) → P x → HasSpelling (Spells x)) → (xs : List X) → All P xs
-    → HasSpelling (SpellsEach Spells xs)
-each-spelled Spells P some [] all = empty
-each-spelled Spells P some (x ∷ xs) all = joined (some x (All-head P x xs all)) (each-spelled Spells P some xs (All-tail P x xs all))
-
 module _ {X : Type 0} (Spells : X → List ℕ → Type 0) (item_of : X → ℕ) (P : X → Type 0) (some : (x : X) → P x → HasSpelling (Spells x)) where
   entries-from : (least : ℕ) (xs : List X) → AllPairs (λ i later. i < later) (map item_of xs) → All (λ i. i < MAX_ITEMS) (map item_of xs)
       → All (λ i. least ≤ i) (map item_of xs) → All P xs → HasSpelling (SpellsEntriesFrom Spells item_of least xs)
@@ -93,21 +91,61 @@ signed z fits = (big_endian 8 (twos_complement z), record { fits = fits; spelled
 fewer : {X : Type 0} (item_of : X → ℕ) (xs : List X) → length (map item_of xs) ≤ MAX_PROGRAM_ITEMS → length xs ≤ MAX_PROGRAM_ITEMS
 fewer item_of xs few = omega (arith, few, length-map xs item_of)
 
-literal-spelled : (literal : Literal) → IsTxnInRange literal.txn → HasSpelling (SpellsLiteral literal)
-literal-spelled literal is = joined (truth literal.commits) (txn-spelled literal.txn is)
+-- Cases one behind the other, and cases under one more literal.
 
-case-spelled : (case : Case ℤ) → IsCaseInRange case × (length case.when ≤ HELD_NAMES) → HasSpelling (SpellsCase case)
-case-spelled case is =
-    joined (number 1 (length case.when) (omega (arith, is.1)))
-    (joined (each-spelled SpellsLiteral (λ literal. IsTxnInRange literal.txn) literal-spelled case.when is.0.literals)
-    (signed case.value is.0.value))
+all-front : {X : Type 0} (P : X → Type 0) (xs ys : List X) → All P (xs ++ ys) → All P xs
+all-front P [] ys all = All-nil P
+all-front P (x ∷ xs) ys all = All-cons P x xs (All-head P x (xs ++ ys) all) (all-front P xs ys (All-tail P x (xs ++ ys) all))
+
+all-back : {X : Type 0} (P : X → Type 0) (xs ys : List X) → All P (xs ++ ys) → All P ys
+all-back P [] ys all = all
+all-back P (x ∷ xs) ys all = all-back P xs ys (All-tail P x (xs ++ ys) all)
+
+all-under : (txn : TxnId) (outcome : Bool) (cases : List (Case ℤ)) → All IsCaseInRange (under txn outcome cases) → All IsCaseInRange cases
+all-under txn outcome [] all = All-nil IsCaseInRange
+all-under txn outcome (case ∷ cases) all =
+    let first = All-head IsCaseInRange (behind txn outcome case) (under txn outcome cases) all in
+    All-cons IsCaseInRange case cases
+    (record {
+      literals = All-tail (λ (literal : Literal). IsTxnInRange literal.txn) (record { txn = txn; commits = outcome }) case.when first.literals;
+      value = first.value;
+    })
+    (all-under txn outcome cases (All-tail IsCaseInRange (behind txn outcome case) (under txn outcome cases) all))
+
+under-all : (txn : TxnId) (outcome : Bool) (cases : List (Case ℤ)) → IsTxnInRange txn → All IsCaseInRange cases → All IsCaseInRange (under txn outcome cases)
+under-all txn outcome cases is all =
+    All-map IsCaseInRange (behind txn outcome) cases (λ k d inside.
+    let case = all k d inside in
+    record { literals = All-cons (λ (literal : Literal). IsTxnInRange literal.txn) (record { txn = txn; commits = outcome }) _ is case.literals; value = case.value })
+
+-- The transaction of a test whose cases are in range is.
+test-txn : (txn : TxnId) (aborted committed : Tree) → All IsCaseInRange (cases_of (test txn aborted committed)) → IsTxnInRange txn
+test-txn txn aborted committed all =
+    let first = first-case aborted in
+    let case = All-head IsCaseInRange (behind txn false first.0) (under txn false first.1)
+    (subst (λ (cs : List (Case ℤ)). All IsCaseInRange (under txn false cs)) first.2
+    (all-front IsCaseInRange (under txn false (cases_of aborted)) (under txn true (cases_of committed)) all)) in
+    All-head (λ (literal : Literal). IsTxnInRange literal.txn) (record { txn = txn; commits = false }) first.0.when case.literals
+
+node-spelled : (tests : ℕ) (tree : Tree) → HasFewTests tests tree → All IsCaseInRange (cases_of tree) → HasSpelling (SpellsNode tests tree)
+node-spelled tests (leaf value) few all =
+    let case = All-head IsCaseInRange (record { when = []; value = value }) [] all in joined (number 1 0 (omega arith)) (signed value case.value)
+node-spelled zero (test txn aborted committed) few all = absurd few
+node-spelled (suc tests) (test txn aborted committed) few all =
+    joined (number 1 1 (omega arith)) (joined (txn-spelled txn (test-txn txn aborted committed all))
+    (joined
+    (node-spelled tests aborted few.0
+    (all-under txn false (cases_of aborted) (all-front IsCaseInRange (under txn false (cases_of aborted)) (under txn true (cases_of committed)) all)))
+    (node-spelled tests committed few.1
+    (all-under txn true (cases_of committed) (all-back IsCaseInRange (under txn false (cases_of aborted)) (under txn true (cases_of committed)) all)))))
 
 pub polyvalue-spelled : (cases : List (Case ℤ)) → IsPolyvalueInRange cases → HasSpelling (SpellsPolyvalue cases)
 polyvalue-spelled cases is =
     let few = polyvalue-few HELD_NAMES cases is.polyvalue in
-    let found = joined (number 2 (length cases) (omega (arith, few.count)))
-    (each-spelled SpellsCase (λ case. IsCaseInRange case × (length case.when ≤ HELD_NAMES)) case-spelled cases (λ k d inside. (is.each k d inside, few.literals k d inside))) in
-    (found.0, record { polyvalue = is.polyvalue; spelled = found.1 })
+    let found = polyvalue-tree HELD_NAMES cases is.polyvalue in
+    let spelled = joined (number 2 (length cases) (omega (arith, few.count)))
+    (node-spelled HELD_NAMES found.tree found.few (subst (λ (cs : List (Case ℤ)). All IsCaseInRange cs) (sym found.is) is.each)) in
+    (spelled.0, record { tree = found.tree; is = found.is; polyvalue = is.polyvalue; spelled = spelled.1 })
 
 reads-spelled : (fewest : ℕ) (reads : List Read) → AreReadsInRange fewest reads → HasSpelling (SpellsReads fewest reads)
 reads-spelled fewest reads is =
@@ -119,9 +157,13 @@ wants-spelled wants is =
     entries-spelled (λ (want : Want). IsTruth want.exclusive) (λ want. want.item) (λ want. Unit {0}) (λ want is. truth want.exclusive)
     1 wants is.enough (fewer (λ (want : Want). want.item) wants is.items.few) is.items.ascending is.items.each (λ k d inside. tt)
 
+kind-of-writes : (sure : Bool) → HasSpelling (IsNumber 1 (if sure then 2 else 4))
+kind-of-writes true = number 1 2 (omega arith)
+kind-of-writes false = number 1 4 (omega arith)
+
 pub record-spelled : (record_ : Record) → IsRecordInRange record_ → HasSpelling (SpellsRecord record_)
 record-spelled (epoch_begun epoch) is = joined (number 1 1 (omega arith)) (allowed 4 (nat_le 1) epoch (omega (arith, is.1)) (le-leb 1 epoch is.0))
-record-spelled (prepared txn writes) is = joined (number 1 2 (omega arith)) (joined (txn-spelled txn is.0) (reads-spelled 0 writes is.1))
+record-spelled (prepared txn writes) is = joined (kind-of-writes (are_sure writes)) (joined (txn-spelled txn is.0) (reads-spelled 0 writes is.1))
 record-spelled (outcome_known txn commits) is = joined (number 1 3 (omega arith)) (joined (txn-spelled txn is) (truth commits))
 
 cause-spelled : (cause : NoCause) → IsCauseInRange cause → HasSpelling (SpellsNoCause cause)
@@ -139,7 +181,7 @@ body-spelled (outcome_reported txn commits) is = truth commits
 body-spelled (ask txn) is = empty
 
 kind : (message : Message) → HasSpelling (IsNumber 1 (kind_number message))
-kind message = number 1 (kind_number message) (let parts = within 1 8 (kind_number message) (is-kind message) in omega (arith, parts.1))
+kind message = number 1 (kind_number message) (let few = small (kind_number message) (is-kind message) in omega (arith, few))
 
 pub envelope-spelled : (envelope : Envelope) → IsEnvelopeInRange envelope → HasSpelling (SpellsEnvelope envelope)
 envelope-spelled envelope is =
@@ -160,11 +202,6 @@ txn-from txn bytes s = record {
 
 grant-from : (grant : GrantId) (bytes : List ℕ) → SpellsGrant grant bytes → IsGrantInRange grant
 grant-from grant bytes s = record { epoch = omega (arith, s.first.fits); number = omega (arith, s.second.fits) }
-
-each-from : {X : Type 0} (Spells : X → List ℕ → Type 0) (P : X → Type 0) → ((x : X) (bytes : List ℕ) → Spells x bytes → P x) → (xs : List X) (bytes : List ℕ)
-    → SpellsEach Spells xs bytes → All P xs
-each-from Spells P of [] bytes s = All-nil P
-each-from Spells P of (x ∷ xs) bytes s = All-cons P x xs (of x s.front s.first) (each-from Spells P of xs s.back s.second)
 
 item-from : (least n : ℕ) (bytes : List ℕ) → IsAllowed 4 (is_item_from least) n bytes → (least ≤ n) × (n < MAX_ITEMS)
 item-from least n bytes s =
@@ -204,19 +241,32 @@ module _ {X : Type 0} (Spells : X → List ℕ → Type 0) (item_of : X → ℕ)
       let are = entries-in 0 xs s.back s.second in
       (counts.0, record { ascending = are.ascending; each = are.below; few = omega (arith, counts.1, length-map xs item_of) }, are.each)
 
-case-from : (case : Case ℤ) (bytes : List ℕ) → SpellsCase case bytes → IsCaseInRange case
-case-from case bytes s = record {
-  literals = each-from SpellsLiteral (λ literal. IsTxnInRange literal.txn) (λ literal b t. txn-from literal.txn t.back t.second) case.when s.second.front s.second.first;
-  value = s.second.second.fits;
-}
+node-from : (tests : ℕ) (tree : Tree) (bytes : List ℕ) → SpellsNode tests tree bytes → All IsCaseInRange (cases_of tree)
+node-from tests (leaf value) bytes s =
+    All-cons IsCaseInRange (record { when = []; value = value }) []
+    (record { literals = All-nil (λ (literal : Literal). IsTxnInRange literal.txn); value = s.second.fits }) (All-nil IsCaseInRange)
+node-from zero (test txn aborted committed) bytes s = absurd s
+node-from (suc tests) (test txn aborted committed) bytes s =
+    let is = txn-from txn s.second.front s.second.first in
+    let sides = s.second.second in
+    All-append IsCaseInRange (under txn false (cases_of aborted)) (under txn true (cases_of committed))
+    (under-all txn false (cases_of aborted) is (node-from tests aborted sides.front sides.first))
+    (under-all txn true (cases_of committed) is (node-from tests committed sides.back sides.second))
 
 pub polyvalue-from : (cases : List (Case ℤ)) (bytes : List ℕ) → SpellsPolyvalue cases bytes → IsPolyvalueInRange cases
-polyvalue-from cases bytes s = record { polyvalue = s.polyvalue; each = each-from SpellsCase IsCaseInRange case-from cases s.spelled.back s.spelled.second }
+polyvalue-from cases bytes s = record {
+  polyvalue = s.polyvalue;
+  each = subst (λ (cs : List (Case ℤ)). All IsCaseInRange cs) s.is (node-from HELD_NAMES s.tree s.spelled.back s.spelled.second);
+}
+
+reads-by-from : (Spells : List (Case ℤ) → List ℕ → Type 0) → ((cases : List (Case ℤ)) (bytes : List ℕ) → Spells cases bytes → IsPolyvalueInRange cases)
+    → (fewest : ℕ) (reads : List Read) (bytes : List ℕ) → SpellsReadsBy Spells fewest reads bytes → AreReadsInRange fewest reads
+reads-by-from Spells from fewest reads bytes s =
+    let parts = items-in (λ (read : Read). Spells read.cases) (λ read. read.item) (λ read. IsPolyvalueInRange read.cases) (λ read. from read.cases) fewest reads bytes s in
+    record { enough = parts.0; items = parts.1; values = parts.2 }
 
 reads-from : (fewest : ℕ) (reads : List Read) (bytes : List ℕ) → SpellsReads fewest reads bytes → AreReadsInRange fewest reads
-reads-from fewest reads bytes s =
-    let parts = items-in (λ (read : Read). SpellsPolyvalue read.cases) (λ read. read.item) (λ read. IsPolyvalueInRange read.cases) (λ read. polyvalue-from read.cases) fewest reads bytes s in
-    record { enough = parts.0; items = parts.1; values = parts.2 }
+reads-from = reads-by-from SpellsPolyvalue polyvalue-from
 
 wants-from : (wants : List Want) (bytes : List ℕ) → SpellsWants 1 wants bytes → AreWantsInRange wants
 wants-from wants bytes s =
@@ -228,6 +278,36 @@ record-from (epoch_begun epoch) bytes s = (leb-true 1 epoch s.second.allowed, om
 record-from (prepared txn writes) bytes s =
     (txn-from txn s.second.front s.second.first, reads-from 0 writes s.second.back s.second.second)
 record-from (outcome_known txn commits) bytes s = txn-from txn s.second.front s.second.first
+
+-- What is spelled in cases is in range too.
+
+literals-from : (literals : List Literal) (bytes : List ℕ) → SpellsEach SpellsLiteral literals bytes → All (λ literal. IsTxnInRange literal.txn) literals
+literals-from [] bytes s = All-nil (λ (literal : Literal). IsTxnInRange literal.txn)
+literals-from (literal ∷ literals) bytes s =
+    All-cons (λ (l : Literal). IsTxnInRange l.txn) literal literals (txn-from literal.txn s.first.back s.first.second) (literals-from literals s.back s.second)
+
+each-from : (cases : List (Case ℤ)) (bytes : List ℕ) → SpellsEach SpellsCase cases bytes → All IsCaseInRange cases
+each-from [] bytes s = All-nil IsCaseInRange
+each-from (case ∷ cases) bytes s =
+    All-cons IsCaseInRange case cases
+    (record { literals = literals-from case.when s.first.second.front s.first.second.first; value = s.first.second.second.fits })
+    (each-from cases s.back s.second)
+
+cases-from : (cases : List (Case ℤ)) (bytes : List ℕ) → SpellsInCases cases bytes → IsPolyvalueInRange cases
+cases-from cases bytes s = record { polyvalue = s.polyvalue; each = each-from cases s.spelled.back s.spelled.second }
+
+old-from : (txn : TxnId) (writes : List Read) (bytes : List ℕ) → SpellsContentBy SpellsInCases (prepared txn writes) bytes → IsRecordInRange (prepared txn writes)
+old-from txn writes bytes s = (txn-from txn s.front s.first, reads-by-from SpellsInCases cases-from 0 writes s.back s.second)
+
+-- What is read as a record is in range.
+pub read-from : (entry : Record) (bytes : List ℕ) → IsReadAs entry bytes → IsRecordInRange entry
+read-from entry bytes s =
+    ⊎_elim
+    (λ (written : SpellsRecord entry bytes). record-from entry bytes written)
+    (λ (old : SpellsOldRecord entry bytes).
+    subst IsRecordInRange (sym old.is)
+    (old-from old.txn old.writes old.spelled.back (subst (λ (e : Record). SpellsContentBy SpellsInCases e old.spelled.back) old.is old.spelled.second)))
+    s
 
 cause-from : (cause : NoCause) (bytes : List ℕ) → SpellsNoCause cause bytes → IsCauseInRange cause
 cause-from grant_lost bytes s = tt

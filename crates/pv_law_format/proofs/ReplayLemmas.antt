@@ -4,13 +4,13 @@ use Rattle.std.proofs.lemmas.Option.{none-some}
 use Rattle.pv_base.specs.Answer.{HasOneAnswer}
 use Rattle.pv_base.specs.BigEndian.{AreBytes}
 use Rattle.pv_base.proofs.Basics.{Some_inj}
-use Rattle.pv_format.specs.Contents.{IsNoRecord, SpellRecords, IsFirstBadContent}
+use Rattle.pv_format.specs.Contents.{AreWritten, IsNoRecord, SpellRecords, IsFirstBadContent}
 use Rattle.pv_format.specs.Record.{Record}
-use Rattle.pv_format.specs.RecordSpelling.{SpellsRecord}
+use Rattle.pv_format.specs.RecordSpelling.{IsReadAs, SpellsRecord}
 use Rattle.pv_law_format.proofs.AnswerLemmas.{one-record-answer, one-record, record-not-both}
 use Rattle.pv_law_format.proofs.SpelledBytes.{record-bytes, bytes-or-not}
 
-record-or-none : (content : List ℕ) → ((entry : Record) × SpellsRecord entry content) ⊎ IsNoRecord content
+record-or-none : (content : List ℕ) → ((entry : Record) × IsReadAs entry content) ⊎ IsNoRecord content
 record-or-none content =
     ⊎_elim
     (λ (all : AreBytes content). ⊎_elim (λ found. inl found) (λ wrong. inr (λ other t. record-not-both content other wrong.0 t wrong.1)) (one-record-answer content all).some)
@@ -48,7 +48,22 @@ spelled-both (first ∷ records) (content ∷ contents) more others spelled behi
 -- One content more spells one record more.
 pub spelled-more : (records : List Record) (contents : List (List ℕ)) (more : Record) (content : List ℕ) → SpellRecords records contents → SpellsRecord more content
     → SpellRecords (records ++ more ∷ []) (contents ++ content ∷ [])
-spelled-more records contents more content spelled one = spelled-both records contents (more ∷ []) (content ∷ []) spelled (one, tt)
+spelled-more records contents more content spelled one = spelled-both records contents (more ∷ []) (content ∷ []) spelled (inl one, tt)
+
+-- Contents that are written are read as what they are.
+pub written-read : (records : List Record) (contents : List (List ℕ)) → AreWritten records contents → SpellRecords records contents
+written-read [] [] written = tt
+written-read [] (content ∷ contents) written = absurd written
+written-read (entry ∷ records) [] written = absurd written
+written-read (entry ∷ records) (content ∷ contents) written = (inl written.0, written-read records contents written.1)
+
+-- One content more is written where it is one record more as that is written.
+pub written-more : (records : List Record) (contents : List (List ℕ)) (more : Record) (content : List ℕ) → AreWritten records contents → SpellsRecord more content
+    → AreWritten (records ++ more ∷ []) (contents ++ content ∷ [])
+written-more [] [] more content written one = (one, tt)
+written-more [] (first ∷ contents) more content written one = absurd written
+written-more (entry ∷ records) [] more content written one = absurd written
+written-more (entry ∷ records) (first ∷ contents) more content written one = (written.0, written-more records contents more content written.1 one)
 
 -- Contents spell one list of records.
 pub one-replay : (contents : List (List ℕ)) (records others : List Record) → SpellRecords records contents → SpellRecords others contents → records ≡ others
@@ -62,7 +77,7 @@ one-replay (content ∷ contents) (entry ∷ entries) (other ∷ others) s t =
 
 -- Records that the contents up to a place spell, with one more in front.
 first-spelled : (content : List ℕ) (contents : List (List ℕ)) (records : List Record) → SpellRecords records (content ∷ contents)
-    → ((entry : Record) × SpellsRecord entry content)
+    → ((entry : Record) × IsReadAs entry content)
 first-spelled content contents [] s = absurd s
 first-spelled content contents (entry ∷ entries) s = (entry, s.0)
 

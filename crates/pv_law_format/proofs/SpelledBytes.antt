@@ -1,18 +1,21 @@
--- What spells a record is bytes.
-use Rattle.std.proofs.Common.{◌≡◌, ◌⊎◌, ⊎_elim, ℕ, ◌+◌, ◌<◌, ◌≤◌, List, [], ◌∷◌, inl, inr, sym, subst, arith}
+-- What is read as a record is bytes.
+use Rattle.std.proofs.Common.{◌⊎◌, ⊎_elim, ℕ, zero, suc, ◌+◌, ◌<◌, ◌≤◌, List, [], ◌∷◌, inl, inr, sym, subst, arith}
 use Rattle.std.specs.Prelude.{ℤ}
 use Rattle.std.proofs.lemmas.Bool.{cases_lt}
 use Rattle.std.proofs.lemmas.List.Elements.{All-nil, All-cons, All-head, All-tail, All-append}
 use Rattle.pv_base.specs.BigEndian.{twos_complement, AreBytes, IsNumber, IsSigned}
+use Rattle.pv_base.specs.declared.limits.TheConstants.{HELD_NAMES}
 use Rattle.pv_base.specs.declared.literal.Literal.{Literal}
 use Rattle.pv_base.specs.declared.txn.TxnId.{TxnId}
 use Rattle.pv_base.specs.Polyvalue.{Case}
 use Rattle.pv_base.proofs.BigEndianLemmas.{AreBytes-big_endian}
 use Rattle.pv_model.specs.Alternatives.{Read}
-use Rattle.pv_format.specs.PolyvalueSpelling.{SpellsLiteral, SpellsCase, SpellsCases, SpellsPolyvalue}
+use Rattle.pv_format.specs.OldSpelling.{SpellsLiteral, SpellsCase, SpellsInCases}
+use Rattle.pv_format.specs.PolyvalueSpelling.{SpellsNode, SpellsPolyvalue}
 use Rattle.pv_format.specs.Record.{Record, epoch_begun, prepared, outcome_known}
-use Rattle.pv_format.specs.RecordSpelling.{SpellsRecord}
+use Rattle.pv_format.specs.RecordSpelling.{SpellsReadsBy, SpellsContentBy, SpellsRecord, SpellsOldRecord, IsReadAs}
 use Rattle.pv_format.specs.Spelling.{◌followed_by◌, SpellsTxn, SpellsEach, SpellsEntriesFrom}
+use Rattle.pv_format.specs.Tree.{Tree, leaf, test}
 
 parts-bytes : {A B : List ℕ → Type 0} {bytes : List ℕ} (s : (A followed_by B) bytes) → AreBytes s.front → AreBytes s.back → AreBytes bytes
 parts-bytes s front back = subst AreBytes (sym s.whole) (All-append (λ b. b < 256) s.front s.back front back)
@@ -47,22 +50,44 @@ case-bytes case bytes s =
     parts-bytes s (number-bytes s.front s.first)
     (parts-bytes s.second (each-bytes SpellsLiteral literal-bytes case.when s.second.front s.second.first) (signed-bytes case.value s.second.back s.second.second))
 
-cases-bytes : (cases : List (Case ℤ)) (bytes : List ℕ) → SpellsCases cases bytes → AreBytes bytes
-cases-bytes cases bytes s = parts-bytes s (number-bytes s.front s.first) (each-bytes SpellsCase case-bytes cases s.back s.second)
+cases-bytes : (cases : List (Case ℤ)) (bytes : List ℕ) → SpellsInCases cases bytes → AreBytes bytes
+cases-bytes cases bytes s =
+    parts-bytes s.spelled (number-bytes s.spelled.front s.spelled.first) (each-bytes SpellsCase case-bytes cases s.spelled.back s.spelled.second)
 
--- Every item of what spells a record is below 256.
-pub record-bytes : (entry : Record) (bytes : List ℕ) → SpellsRecord entry bytes → AreBytes bytes
-record-bytes (epoch_begun epoch) bytes s = parts-bytes s (number-bytes s.front s.first) (number-bytes s.back s.second.spelled)
-record-bytes (prepared txn writes) bytes s =
-    let reads = s.second.second in
+node-bytes : (tests : ℕ) (tree : Tree) (bytes : List ℕ) → SpellsNode tests tree bytes → AreBytes bytes
+node-bytes tests (leaf value) bytes s = parts-bytes s (number-bytes s.front s.first) (signed-bytes value s.back s.second)
+node-bytes zero (test txn aborted committed) bytes s = absurd s
+node-bytes (suc tests) (test txn aborted committed) bytes s =
+    let sides = s.second.second in
     parts-bytes s (number-bytes s.front s.first)
     (parts-bytes s.second (txn-bytes txn s.second.front s.second.first)
-    (parts-bytes reads (number-bytes reads.front reads.first.spelled)
-    (entries-bytes (λ (read : Read). SpellsPolyvalue read.cases) (λ (read : Read) (part : List ℕ) (is : SpellsPolyvalue read.cases part). cases-bytes read.cases part is.spelled)
-    (λ (read : Read). read.item) 0 writes reads.back reads.second)))
-record-bytes (outcome_known txn commits) bytes s =
-    parts-bytes s (number-bytes s.front s.first)
-    (parts-bytes s.second (txn-bytes txn s.second.front s.second.first) (number-bytes s.second.back s.second.second))
+    (parts-bytes sides (node-bytes tests aborted sides.front sides.first) (node-bytes tests committed sides.back sides.second)))
+
+tree-bytes : (cases : List (Case ℤ)) (bytes : List ℕ) → SpellsPolyvalue cases bytes → AreBytes bytes
+tree-bytes cases bytes s =
+    parts-bytes s.spelled (number-bytes s.spelled.front s.spelled.first) (node-bytes HELD_NAMES s.tree s.spelled.back s.spelled.second)
+
+reads-bytes : (Spells : List (Case ℤ) → List ℕ → Type 0) → ((cases : List (Case ℤ)) (bytes : List ℕ) → Spells cases bytes → AreBytes bytes)
+    → (fewest : ℕ) (reads : List Read) (bytes : List ℕ) → SpellsReadsBy Spells fewest reads bytes → AreBytes bytes
+reads-bytes Spells has fewest reads bytes s =
+    parts-bytes s (number-bytes s.front s.first.spelled)
+    (entries-bytes (λ (read : Read). Spells read.cases) (λ read part is. has read.cases part is) (λ read. read.item) 0 reads s.back s.second)
+
+content-bytes : (Spells : List (Case ℤ) → List ℕ → Type 0) → ((cases : List (Case ℤ)) (bytes : List ℕ) → Spells cases bytes → AreBytes bytes)
+    → (entry : Record) (bytes : List ℕ) → SpellsContentBy Spells entry bytes → AreBytes bytes
+content-bytes Spells has (epoch_begun epoch) bytes s = number-bytes bytes s.spelled
+content-bytes Spells has (prepared txn writes) bytes s = parts-bytes s (txn-bytes txn s.front s.first) (reads-bytes Spells has 0 writes s.back s.second)
+content-bytes Spells has (outcome_known txn commits) bytes s = parts-bytes s (txn-bytes txn s.front s.first) (number-bytes s.back s.second)
+
+-- Every item of what is read as a record is below 256.
+pub record-bytes : (entry : Record) (bytes : List ℕ) → IsReadAs entry bytes → AreBytes bytes
+record-bytes entry bytes s =
+    ⊎_elim
+    (λ (written : SpellsRecord entry bytes).
+    parts-bytes written (number-bytes written.front written.first) (content-bytes SpellsPolyvalue tree-bytes entry written.back written.second))
+    (λ (old : SpellsOldRecord entry bytes).
+    parts-bytes old.spelled (number-bytes old.spelled.front old.spelled.first) (content-bytes SpellsInCases cases-bytes entry old.spelled.back old.spelled.second))
+    s
 
 -- Any list of numbers is bytes or isn't.
 pub bytes-or-not : (bytes : List ℕ) → AreBytes bytes ⊎ (AreBytes bytes → ⊥)

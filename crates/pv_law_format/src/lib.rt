@@ -1,5 +1,5 @@
-//! Laws on the definitions of `pv_format`: messages, records and polyvalues have at most one spelling each, bytes spell one value at most,
-//! and no spelling is the beginning of another. The functions here do nothing: each states a law.
+//! Laws on the definitions of `pv_format`: messages, records and polyvalues have at most one spelling each, and records at most one old one;
+//! bytes are read as one value at most, and none that are read are the beginning of others. The functions here do nothing: each states a law.
 #![tactic(auto)]
 
 mod envelopes;
@@ -15,6 +15,7 @@ pub use polyvalues::{
     some_polyvalue_spelling,
 };
 pub use records::{
-    no_longer_record, one_record, one_record_answer, one_record_spelling, one_replay_answer,
-    record_length, some_record_spelling,
+    no_longer_record, no_spelling_is_old, old_spellings_are_longer, one_old_spelling, one_record,
+    one_record_answer, one_record_spelling, one_replay_answer, read_records_are_in_range,
+    read_records_are_longer, record_length, some_record_spelling,
 };

@@ -3,7 +3,7 @@ ghost use Rattle.std.specs.Prelude.{◌≡◌, ◌↔◌, ℕ, ℤ, List, ◌++�
 ghost use Rattle.pv_base.specs.Answer.{HasOneAnswer};
 ghost use Rattle.pv_base.specs.BigEndian.{AreBytes};
 ghost use Rattle.pv_base.specs.Polyvalue.{Case};
-ghost use Rattle.pv_format.specs.FirstFault.{PolyvalueFault};
+ghost use Rattle.pv_format.specs.FirstFault.{TreeFault};
 ghost use Rattle.pv_format.specs.Length as size;
 ghost use Rattle.pv_format.specs.PolyvalueSpelling.{SpellsPolyvalue, BeginsWith};
 ghost use Rattle.pv_format.specs.Range.{IsPolyvalueInRange};
@@ -32,5 +32,5 @@ pub fn polyvalue_length()
 /// Bytes begin with exactly one polyvalue, or have exactly one first fault.
 pub fn one_polyvalue_answer()
     ensures { (bytes : List ℕ) (place : ℕ) → AreBytes bytes →
-        HasOneAnswer (λ (read : List (Case ℤ) × List ℕ). BeginsWith read.0 read.1 bytes) (PolyvalueFault place bytes) }
+        HasOneAnswer (λ (read : List (Case ℤ) × List ℕ). BeginsWith read.0 read.1 bytes) (TreeFault place bytes) }
 {}

@@ -2,16 +2,18 @@
 use Rattle.std.proofs.Common.{◌≡◌, ℕ, ◌+◌, ◌≤◌, Some, List, [], ◌∷◌, ◌++◌, map, All, append_assoc, append-nil, refl, sym, ap, ◌∙◌, subst, arith}
 use Rattle.std.proofs.lemmas.List.Elements.{All-nil, All-head, All-tail}
 use Rattle.pv_disk_model.specs.Size.{Contents, size_of}
-use Rattle.pv_format.specs.Contents.{SpellRecords}
+use Rattle.pv_format.specs.Contents.{AreWritten}
 use Rattle.pv_format.specs.Record.{Record}
 use Rattle.pv_protocol.specs.Records.{journal_bytes}
 use Rattle.pv_protocol.specs.State.{Setup}
 use Rattle.pv_site.specs.SiteState.{setup_of}
 use Rattle.pv_host.specs.HostFile.{IsFile}
+use Rattle.pv_host.specs.HostLog.{contents_of}
 use Rattle.pv_embed.specs.Held.{Held, Out}
 use Rattle.pv_embed.specs.Hosted.{HostedState, stored_length}
 use Rattle.pv_law_hosted.proofs.GivenLemmas.{held-waits}
 use Rattle.pv_law_hosted.proofs.MirroredLemmas.{Becomes}
+use Rattle.pv_law_hosted.proofs.StoreLemmas.{still-written}
 use Rattle.pv_law_hosted.specs.Deployment.{Deployment, Station, station_at}
 use Rattle.pv_law_hosted.specs.DeploymentEvents.{Stands}
 use Rattle.pv_law_hosted.specs.Given.{Content, MayBeGiven, held_for}
@@ -20,14 +22,16 @@ use Rattle.pv_law_hosted.specs.Mirrored.{FollowsHosted, FollowsProcess}
 module _ (setup : Setup) (d : Deployment) (n : ℕ) where
   -- ## The site is the same but for its log, which stores what it stored; the file may be another one
   pub follows-still : (file left : List ℕ) (site next : HostedState) (content : Content) (rest : List Out) → FollowsHosted setup d n file site content rest
-      → IsFile next.site.log left → Stands next → next.site.log.stored ≡ site.site.log.stored → next ≡ record site { site = record site.site { log = next.site.log } }
-      → FollowsHosted setup d n left next content rest
-  follows-still file left site next content rest f is_file stands stored is = record {
+      → IsFile next.site.log left → Stands next → next.site.log.stored ≡ site.site.log.stored → contents_of next.site.log ≡ contents_of site.site.log
+      → next ≡ record site { site = record site.site { log = next.site.log } } → FollowsHosted setup d n left next content rest
+  follows-still file left site next content rest f is_file stands stored same is = record {
     is_file = is_file;
     stands = stands;
     me = ap (λ (h : HostedState). h.site.me) is ∙ f.me;
     catalog = ap (λ (h : HostedState). setup_of h.site.catalog) is ∙ f.catalog;
-    stored = subst (SpellRecords content.records) (sym stored) f.stored;
+    surplus = ap (λ (h : HostedState). h.site.surplus) is ∙ f.surplus;
+    stored = subst (AreWritten content.records) (sym stored) f.stored;
+    whole = still-written site next is same f.whole;
     waiting = f.waiting;
     allowed = f.allowed;
     first = f.first;
@@ -51,7 +55,7 @@ module _ (setup : Setup) (d : Deployment) (n : ℕ) where
     process = follows;
   }
 
-  module _ (tells : (records : List Record) (contents : Contents) → SpellRecords records contents → size_of contents ≡ journal_bytes records) where
+  module _ (tells : (records : List Record) (contents : Contents) → AreWritten records contents → size_of contents ≡ journal_bytes records) where
     -- ## Something is let out
     -- What can be let out is ready to be.
     first-ready : (file : List ℕ) (site : HostedState) (content : Content) (rest : List Out) (f : FollowsHosted setup d n file site content rest)
@@ -81,7 +85,9 @@ module _ (setup : Setup) (d : Deployment) (n : ℕ) where
       stands = stands;
       me = ap (λ (h : HostedState). h.site.me) is ∙ f.me;
       catalog = ap (λ (h : HostedState). setup_of h.site.catalog) is ∙ f.catalog;
-      stored = subst (SpellRecords content.records) (sym (ap (λ (h : HostedState). h.site.log.stored) is)) f.stored;
+      surplus = ap (λ (h : HostedState). h.site.surplus) is ∙ f.surplus;
+      stored = subst (AreWritten content.records) (sym (ap (λ (h : HostedState). h.site.log.stored) is)) f.stored;
+      whole = subst (λ (h : HostedState). AreWritten h.site.records (contents_of h.site.log)) (sym is) f.whole;
       waiting = f.waiting;
       allowed = f.allowed;
       first = f.first;

@@ -4,12 +4,12 @@ use Rattle.std.proofs.lemmas.List.{get_or-replicate, length-replicate, map-appen
 use Rattle.std.proofs.lemmas.List.Elements.{All-nil, All-get_or}
 use Rattle.pv_base.specs.Catalog.{Declared}
 use Rattle.pv_disk_model.specs.Size.{Contents, size_of}
-use Rattle.pv_format.specs.Contents.{IsFirstBadContent, SpellRecords}
+use Rattle.pv_format.specs.Contents.{AreWritten, IsFirstBadContent, SpellRecords}
 use Rattle.pv_format.specs.Journal.{IsJournal}
 use Rattle.pv_format.specs.Record.{Record}
-use Rattle.pv_law_format.proofs.ReplayLemmas.{no-bad}
+use Rattle.pv_law_format.proofs.ReplayLemmas.{no-bad, written-read}
 use Rattle.pv_model.specs.Events.{Event}
-use Rattle.pv_protocol.specs.Records.{journal_bytes}
+use Rattle.pv_protocol.specs.Records.{journal_bytes, longer_journal}
 use Rattle.pv_protocol.specs.State.{Setup, Running, Site}
 use Rattle.pv_protocol.specs.WellFormed.{IsWellFormed}
 use Rattle.pv_protocol.specs.World.{no_site, first_site, opening, site_at}
@@ -34,12 +34,12 @@ pub seen-up : (content : Content) (site : Site) (running : Running) → IsSeenAs
 seen-up content site running (mirrored.same records present) is = refl
 seen-up content site running unborn is = absurd cc
 
-no-contents : (contents : Contents) → SpellRecords [] contents → contents ≡ []
+no-contents : (contents : Contents) → AreWritten [] contents → contents ≡ []
 no-contents [] spelled = refl
 no-contents (content ∷ contents) spelled = absurd spelled
 
 seen-gone : (file : List ℕ) (content : Content) (site : Site) (rest : List Out) → IsSeenAs content site → FollowsGone file content rest → HoldsSite file site
-seen-gone file content site rest (mirrored.same records present) gone = inl (gone.contents, gone.journal, gone.spelled, gone.down)
+seen-gone file content site rest (mirrored.same records present) gone = inl (gone.contents, gone.journal, written-read records gone.contents gone.spelled, gone.down)
 seen-gone file content site rest unborn gone =
     inr (subst (λ (contents : Contents). IsJournal contents file) (no-contents gone.contents gone.spelled) gone.journal, refl)
 
@@ -52,13 +52,13 @@ journal-left file site (inr left) = ([], [], left.0, tt)
 pub bad-left : (contents others : Contents) (records : List Record) (index : ℕ) → contents ≡ others → SpellRecords records contents → IsFirstBadContent others index → ⊥
 bad-left contents others records index same spelled bad = no-bad others records index (subst (SpellRecords records) same spelled) bad
 
-module _ (tells : (records : List Record) (contents : Contents) → SpellRecords records contents → size_of contents ≡ journal_bytes records) where
+module _ (tells : (records : List Record) (contents : Contents) → AreWritten records contents → size_of contents ≡ journal_bytes records) where
   -- Where all of its log is said to be in the file nothing waits.
   pub settled-waiting : (setup : Setup) (d : Deployment) (n : ℕ) (file : List ℕ) (hosted : HostedState) (content : Content) (rest : List Out)
       → (follows : FollowsHosted setup d n file hosted content rest) → log_length hosted ≤ stored_length hosted → follows.waiting ≡ []
   settled-waiting setup d n file hosted content rest follows le =
-      let holds = subst (λ r. HoldsWhatRuns host_model hosted.site.log hosted.site.records r) follows.stands.up follows.stands.ready.holds in
-      let all : log_length hosted ≡ journal_bytes hosted.site.records = holds.size in
+      let holds = subst (λ r. HoldsWhatRuns host_model hosted.site.log hosted.site.surplus hosted.site.records r) follows.stands.up follows.stands.ready.holds in
+      let all : log_length hosted ≡ journal_bytes hosted.site.records = holds.size ∙ ap (λ (n : ℕ). longer_journal n hosted.site.records) follows.surplus in
       let some : stored_length hosted ≡ journal_bytes content.records = tells content.records hosted.site.log.stored follows.stored in
       let come : journal_bytes (with_all setup n content follows.waiting).records ≡ journal_bytes hosted.site.records =
       ap (λ (c : Content). journal_bytes c.records) follows.come in

@@ -34,7 +34,7 @@ module _ (setup : Setup) (n : ℕ) where
   started-grows content no_epoch = same content.records
 
   opened-grows : (content : Content) (running : Option Running) → Extends content.records (opened_with setup n content running).records
-  opened-grows content None = started-grows content (site_start setup content.records)
+  opened-grows content None = started-grows content (site_start setup 0 content.records)
   opened-grows content (Some running) = same content.records
 
   stepped-grows : (content : Content) (running : Option Running) (given : Input) → Extends content.records (stepped_with setup n content running given).records

@@ -2,9 +2,9 @@
 use Rattle.std.proofs.Common.{◌≡◌, ℕ, ◌≤◌, Option, Some, None, List, [], ◌∷◌, ◌++◌, map, All, append_assoc, append-nil, refl, sym, ap, ap₂, ◌∙◌, subst}
 use Rattle.std.proofs.lemmas.List.Elements.{All-nil, All-cons, All-append}
 use Rattle.pv_disk_model.specs.Size.{Contents, size_of}
-use Rattle.pv_format.specs.Contents.{SpellRecords}
+use Rattle.pv_format.specs.Contents.{AreWritten}
 use Rattle.pv_format.specs.Record.{Record}
-use Rattle.pv_protocol.specs.Records.{journal_bytes}
+use Rattle.pv_protocol.specs.Records.{journal_bytes, longer_journal}
 use Rattle.pv_protocol.specs.State as model
 use Rattle.pv_protocol.specs.State.{Setup, Running}
 use Rattle.pv_protocol.specs.Step.{records_after, site_step, step_on}
@@ -12,13 +12,14 @@ use Rattle.pv_site.specs.SiteState.{SiteState, here_with, setup_of}
 use Rattle.pv_site.specs.Steps.{HoldsWhatRuns}
 use Rattle.pv_host.specs.HostFile.{IsFile}
 use Rattle.pv_host.specs.HostLaws.{host_model}
-use Rattle.pv_host.specs.HostLog.{HostState}
+use Rattle.pv_host.specs.HostLog.{HostState, contents_of}
 use Rattle.pv_embed.specs.Held.{Held, Out}
 use Rattle.pv_embed.specs.Hosted.{HostedState, HasStepped, log_length}
 use Rattle.pv_embed.specs.Outputs.{outs}
 use Rattle.pv_law_hosted.proofs.GivenLemmas.{held_for-append, with_all-append}
 use Rattle.pv_law_hosted.proofs.MirroredLemmas.{Becomes}
 use Rattle.pv_law_hosted.proofs.SplitLemmas.{all-up, parted}
+use Rattle.pv_law_hosted.proofs.StoreLemmas.{logged-written}
 use Rattle.pv_embed.proofs.HostedLemmas.{stored_logged}
 use Rattle.pv_law_hosted.proofs.TakesLemmas.{HasDone, all-parts, done-becomes, now}
 use Rattle.pv_law_hosted.specs.Deployment.{Deployment, Station, station_at}
@@ -28,7 +29,7 @@ use Rattle.pv_law_hosted.specs.Given.{Content, Given, MayBeGiven, WaitsForRecord
 use Rattle.pv_law_hosted.specs.Mirrored.{FollowsHosted}
 
 module _ (setup : Setup) (d : Deployment) (n : ℕ)
-    (tells : (records : List Record) (contents : Contents) → SpellRecords records contents → size_of contents ≡ journal_bytes records)
+    (tells : (records : List Record) (contents : Contents) → AreWritten records contents → size_of contents ≡ journal_bytes records)
     (file : List ℕ) (site next : HostedState) (content : Content) (rest : List Out) (f : FollowsHosted setup d n file site content rest)
     (is_file : IsFile next.site.log file) (stands : Stands next) (input : model.Input) (may : MayTake setup.catalog d n input) (s : HasStepped site next input) where
   abbrev step : model.Step
@@ -36,7 +37,7 @@ module _ (setup : Setup) (d : Deployment) (n : ℕ)
 
   -- the step of the site is the one of the run
   same-step : step_on (here_with site.site s.running) input ≡ step
-  same-step = ap₂ (λ me fixed. step_on (record { me = me; setup = fixed; records = site.site.records; running = s.running }) input) f.me f.catalog
+  same-step = λ i. step_on (record { me = f.me i; setup = f.catalog i; records = site.site.records; surplus = f.surplus i; running = s.running }) input
 
   left : next.site ≡ record site.site { records = records_after site.site.records step; running = Some step.running; log = next.site.log }
   left =
@@ -51,8 +52,18 @@ module _ (setup : Setup) (d : Deployment) (n : ℕ)
       ap (λ (c : Content). with_given setup n c (process.input input)) was-now
       ∙ sym (ap (λ (after : SiteState HostState). record { records = after.records; running = after.running }) left)
 
+  no-surplus : next.site.surplus ≡ 0
+  no-surplus = ap (λ (after : SiteState HostState). after.surplus) left ∙ f.surplus
+
   long : log_length next ≡ journal_bytes next.site.records
-  long = (subst (λ r. HoldsWhatRuns host_model next.site.log next.site.records r) stands.up stands.ready.holds).size
+  long =
+      (subst (λ r. HoldsWhatRuns host_model next.site.log next.site.surplus next.site.records r) stands.up stands.ready.holds).size
+      ∙ ap (λ (n : ℕ). longer_journal n next.site.records) no-surplus
+
+  whole : AreWritten next.site.records (contents_of next.site.log)
+  whole =
+      subst (λ (l : List Record). AreWritten l (contents_of next.site.log)) (sym (ap (λ (after : SiteState HostState). after.records) s.steps.site))
+      (logged-written (step_on (here_with site.site s.running) input).appended site.site.log next.site.log site.site.records s.steps.log f.whole)
 
   abbrev held_now : List Held
   held_now = held_of_given setup n (now setup d n tells site) (process.input input)
@@ -102,7 +113,9 @@ module _ (setup : Setup) (d : Deployment) (n : ℕ)
     stands = stands;
     me = me-next;
     catalog = ap (λ (after : SiteState HostState). setup_of after.catalog) left ∙ f.catalog;
-    stored = subst (λ (l : List Record). SpellRecords l next.site.log.stored) (sym still) (subst (SpellRecords content.records) (sym stored) f.stored);
+    surplus = no-surplus;
+    stored = subst (λ (l : List Record). AreWritten l next.site.log.stored) (sym still) (subst (AreWritten content.records) (sym stored) f.stored);
+    whole = whole;
     allowed = (all-parts (MayBeGiven setup.catalog d n) done left_over (subst (All (MayBeGiven setup.catalog d n)) split allowed)).1;
     first = waits;
     come = sym (ap (with_all setup n content) split) ∙ come;

@@ -3,7 +3,7 @@ use Rattle.std.proofs.Common.{◌≡◌, ℕ, ◌<◌, Some, None, List, [], ◌
 use Rattle.std.proofs.lemmas.List.{length-set, map-append}
 use Rattle.std.proofs.lemmas.List.Elements.{All-nil, All-cons}
 use Rattle.pv_disk_model.specs.Size.{Contents}
-use Rattle.pv_format.specs.Contents.{SpellRecords}
+use Rattle.pv_format.specs.Contents.{AreWritten}
 use Rattle.pv_format.specs.Journal.{IsJournal}
 use Rattle.pv_format.specs.Record.{Record}
 use Rattle.pv_model.specs.Events as events
@@ -69,7 +69,7 @@ module _ (setup : Setup) (n : ℕ) where
   -- ## The process goes, and the file has the records of a site that is up
   pub goes-up : (d : Deployment) (events' : List Event) (m : IsMirrored setup d events') (known : n < setup.catalog.sites) (left : List ℕ) (done : List Given)
       → All (MayBeGiven setup.catalog d n) done → (running : Running) → (with_all setup n (m.each n known).content done).running ≡ Some running
-      → (contents : Contents) → IsJournal contents left → SpellRecords (with_all setup n (m.each n known).content done).records contents
+      → (contents : Contents) → IsJournal contents left → AreWritten (with_all setup n (m.each n known).content done).records contents
       → (more : List Event) × IsMirrored setup (with_station d n (record (station_at d n) { file = left; hosted = None })) (events' ++ more)
   goes-up d events' m known left done may running up contents journal spelled =
       let follows = m.each n known in

@@ -3,10 +3,10 @@ use Rattle.std.proofs.Common.{◌≡◌, ⊎_elim, ℕ, ◌<◌, ◌≤◌, Opti
 use Rattle.std.proofs.lemmas.List.Elements.{All-nil}
 use Rattle.pv_disk_model.specs.Disk.{overlaid}
 use Rattle.pv_disk_model.specs.Size.{Contents, size_of}
-use Rattle.pv_format.specs.Contents.{SpellRecords}
+use Rattle.pv_format.specs.Contents.{AreWritten}
 use Rattle.pv_format.specs.Journal.{IsJournal}
 use Rattle.pv_format.specs.Record.{Record}
-use Rattle.pv_format.specs.RecordSpelling.{SpellsRecord}
+use Rattle.pv_format.specs.RecordSpelling.{IsReadAs}
 use Rattle.pv_model.specs.Events.{Event, Schedule}
 use Rattle.pv_model.specs.Schedule.{IsSchedule}
 use Rattle.pv_protocol.specs.Records.{journal_bytes}
@@ -14,8 +14,8 @@ use Rattle.pv_protocol.specs.State as model
 use Rattle.pv_protocol.specs.State.{Setup, Running}
 use Rattle.pv_site.specs.SiteState.{setup_of}
 use Rattle.pv_host.specs.HostFile.{IsFile, IsStored, MayLeave}
-use Rattle.pv_host.specs.HostLog.{HostState, HostWrite, next_write}
-use Rattle.pv_embed.proofs.HostedLemmas.{stored_asked}
+use Rattle.pv_host.specs.HostLog.{HostState, HostWrite, contents_of, next_write, with_asked}
+use Rattle.pv_embed.proofs.HostedLemmas.{contents_written, stored_asked}
 use Rattle.pv_embed.specs.Held.{Held, Out}
 use Rattle.pv_embed.specs.Hosted.{AsksForGroup, HasStepped, HostedState, Stays, Writes, stored_length}
 use Rattle.pv_embed.specs.Opening.{Configures, HasOpenedOn}
@@ -33,11 +33,12 @@ use Rattle.pv_law_hosted.specs.Mirrored.{FollowsHosted, FollowsProcess, IsMirror
 
 -- What the laws below say that this rests on.
 pub record Laws : Type 0 where
-  pub tells : (records : List Record) (contents : Contents) → SpellRecords records contents → size_of contents ≡ journal_bytes records
-  pub one_record : (entry other : Record) (bytes : List ℕ) → SpellsRecord entry bytes → SpellsRecord other bytes → entry ≡ other
+  pub tells : (records : List Record) (contents : Contents) → AreWritten records contents → size_of contents ≡ journal_bytes records
+  pub one_record : (entry other : Record) (bytes : List ℕ) → IsReadAs entry bytes → IsReadAs other bytes → entry ≡ other
   pub one_journal : (bytes : List ℕ) (contents others : Contents) → IsJournal contents bytes → IsJournal others bytes → contents ≡ others
   pub one_schedule : (text : List ℕ) (schedule other : Schedule) → IsSchedule text schedule → IsSchedule text other → schedule ≡ other
   pub journals : (log : HostState) (file : List ℕ) → IsFile log file → IsStored log file
+  pub keeps : (log : HostState) (room : ℕ) → contents_of (with_asked room log) ≡ contents_of log
   pub opened : (config file : List ℕ) (me : ℕ) (hosted : HostedState) → HasOpenedOn config me file hosted → IsFile hosted.site.log file
   pub stepped : (old new : HostedState) (input : model.Input) (file : List ℕ) → HasStepped old new input → IsFile old.site.log file → IsFile new.site.log file
   pub stayed : (old new : HostedState) (file : List ℕ) → Stays old new → IsFile old.site.log file → IsFile new.site.log file
@@ -111,17 +112,17 @@ module _ (laws : Laws) (config : List ℕ) (schedule : Schedule) (configures : C
         by (record old { hosted = Some next })
         (becomes-still setup d n content rest (record old { hosted = Some next }) refl
         (follows-still setup d n old.file old.file site next content rest f (laws.stayed site next old.file same f.is_file) (stands next refl)
-        (ap (λ (log : HostState). log.stored) same.0) same.1))
+        (ap (λ (log : HostState). log.stored) same.0) (ap contents_of same.0) same.1))
     happens new here (asks next room asked) stands =
         by (record old { hosted = Some next })
         (becomes-still setup d n content rest (record old { hosted = Some next }) refl
         (follows-still setup d n old.file old.file site next content rest f (laws.asked site next room old.file asked f.is_file) (stands next refl)
-        (stored_asked site.site room next.site.log asked.log) asked.same))
+        (stored_asked site.site room next.site.log asked.log) (ap contents_of asked.log ∙ laws.keeps site.site.log room) asked.same))
     happens new here (is_writing left may) stands =
         by (record old { file = left })
         (becomes-still setup d n content rest (record old { file = left }) refl
         (subst (λ (h : Option HostedState). FollowsProcess setup d n left h content rest) (sym here)
-        (follows-still setup d n old.file left site site content rest f (laws.crashed site old.file left f.is_file may) f.stands refl refl)))
+        (follows-still setup d n old.file left site site content rest f (laws.crashed site old.file left f.is_file may) f.stands refl refl refl)))
     happens new here (writes next write is wrote) stands =
         let file = overlaid old.file write.place write.bytes in
         let is_file = laws.written site next write old.file wrote is f.is_file in
@@ -129,15 +130,15 @@ module _ (laws : Laws) (config : List ℕ) (schedule : Schedule) (configures : C
         (⊎_elim
         (λ still.
         becomes-still setup d n content rest (record old { file = file; hosted = Some next }) refl
-        (follows-still setup d n old.file file site next content rest f is_file (stands next refl) still wrote.same))
+        (follows-still setup d n old.file file site next content rest f is_file (stands next refl) still (contents_written site.site next.site.log wrote.log) wrote.same))
         (λ one.
-        becomes-written setup d n laws.tells old.file file site next content rest f is_file (stands next refl) one wrote.same (record old { file = file; hosted = Some next }) refl)
+        becomes-written setup d n laws.tells old.file file site next content rest f is_file (stands next refl) one wrote.same (contents_written site.site next.site.log wrote.log) (record old { file = file; hosted = Some next }) refl)
         (write-stores site.site.log next.site.log write is wrote.log))
     happens new here (idles next none wrote) stands =
         by (record old { hosted = Some next })
         (becomes-still setup d n content rest (record old { hosted = Some next }) refl
         (follows-still setup d n old.file old.file site next content rest f (laws.idle site next old.file wrote none f.is_file) (stands next refl)
-        (idle-stored site.site.log next.site.log none wrote.log) wrote.same))
+        (idle-stored site.site.log next.site.log none wrote.log) (contents_written site.site next.site.log wrote.log) wrote.same))
     happens new here (lets_out next first later held within is) stands = next-out next first later held within is (stands next refl)
     happens new here (goes left may) stands =
         ⊎_elim (λ journal. gone-stored left content.running refl journal) (λ journal. gone-more left site.site.log.asked refl journal)
@@ -150,7 +151,7 @@ module _ (laws : Laws) (config : List ℕ) (schedule : Schedule) (configures : C
   happens-at new None here (site, o, is) gone stands =
       subst GoesOn (sym is)
       (by (record old { hosted = Some site })
-      (becomes-opened laws.one_record laws.one_journal config schedule d n old site content rest gone o
+      (becomes-opened laws.one_record laws.tells laws.one_journal config schedule d n old site content rest gone o
       (laws.one_schedule config o.schedule schedule o.configured.0 configures.0)
       (laws.opened config old.file n site o) (stands site (ap (λ (s : Station). s.hosted) is)) refl))
 

@@ -103,7 +103,9 @@ module _ (setup : Setup) (d : Deployment) (events : List Event) (m : IsMirrored 
         stands = f.stands;
         me = f.me;
         catalog = f.catalog;
+        surplus = f.surplus;
         stored = f.stored;
+        whole = f.whole;
         waiting = f.waiting;
         allowed = All-weaker (MayBeGiven setup.catalog d k) (MayBeGiven setup.catalog later k) (λ given may. given-later k given may) f.waiting f.allowed;
         first = f.first;

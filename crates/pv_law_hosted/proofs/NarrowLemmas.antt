@@ -38,7 +38,7 @@ module _ (catalog : Declared) (site : ℕ) (records : List Record) where
 
   -- What is asked of a site's items, whatever it has in memory.
   abbrev here : Here
-  here = record { me = site; setup = setup_of catalog; records = records; running = record { epoch = 0; next_txn = 0; next_grant = 0; entries = []; grants = [] } }
+  here = record { me = site; setup = setup_of catalog; records = records; surplus = 0; running = record { epoch = 0; next_txn = 0; next_grant = 0; entries = []; grants = [] } }
 
   abbrev items : List ℕ
   items = site_items catalog site

@@ -14,7 +14,8 @@ use Rattle.pv_disk_model.specs.Size.{Contents}
 use Rattle.pv_format.specs.Contents.{SpellRecords, greatest_epoch}
 use Rattle.pv_format.specs.Journal.{IsJournal}
 use Rattle.pv_format.specs.Record.{Record, epoch_begun, prepared, outcome_known}
-use Rattle.pv_format.specs.RecordSpelling.{SpellsRecord}
+use Rattle.pv_format.specs.RecordSpelling.{IsReadAs}
+use Rattle.pv_law_format.proofs.ReplayLemmas.{written-read}
 use Rattle.pv_law_hosted.proofs.GivenLemmas.{all-grows}
 use Rattle.pv_law_hosted.proofs.MirroredLemmas.{no-member}
 use Rattle.pv_law_hosted.proofs.NumberLemmas.{All-front, first-gone, first-later, first-same, first-stepped, kept-front, parted}
@@ -37,6 +38,7 @@ use Rattle.pv_protocol.specs.State.{Entry, Running, Setup, began}
 use Rattle.pv_protocol.specs.World.{World, no_site, site_at}
 use Rattle.pv_site.specs.SiteState.{SiteState, setup_of}
 use Rattle.pv_site.specs.Steps.{HoldsWhatRuns}
+use Rattle.pv_site.specs.Surplus.{surplus_of}
 use Rattle.pv_host.specs.HostFile.{HoldsStored, IsFile, MayLeave}
 use Rattle.pv_host.specs.HostLaws.{host_model}
 use Rattle.pv_host.specs.HostLog.{HostState, contents_of}
@@ -46,17 +48,17 @@ use Rattle.pv_embed.specs.Opening.{Configures, HasOpenedOn}
 
 -- What the laws below say that this rests on.
 pub record NumberLaws : Type 0 where
-  pub one_record : (entry other : Record) (bytes : List ℕ) → SpellsRecord entry bytes → SpellsRecord other bytes → entry ≡ other
+  pub one_record : (entry other : Record) (bytes : List ℕ) → IsReadAs entry bytes → IsReadAs other bytes → entry ≡ other
   pub one_journal : (bytes : List ℕ) (contents others : Contents) → IsJournal contents bytes → IsJournal others bytes → contents ≡ others
   pub holds : (log : HostState) (file : List ℕ) → IsFile log file → HoldsStored log file
   pub crashed : (hosted : HostedState) (file left : List ℕ) → IsFile hosted.site.log file → MayLeave hosted.site.log file left → IsFile hosted.site.log left
 
 -- ## A site that has started works on nothing
-idle-start : (setup : Setup) (records : List Record) (started : Started) → StartCase setup records started → (running : Running) (kept : Record)
+idle-start : (setup : Setup) (surplus : ℕ) (records : List Record) (started : Started) → StartCase setup surplus records started → (running : Running) (kept : Record)
     → started ≡ starts running kept → running.entries ≡ []
-idle-start setup records started (no_epoch_left h) running kept is = absurd (let wrong : ⊥ = cc in wrong)
-idle-start setup records started (no_room h i) running kept is = absurd (let wrong : ⊥ = cc in wrong)
-idle-start setup records started (begins h i) running kept is =
+idle-start setup surplus records started (no_epoch_left h) running kept is = absurd (let wrong : ⊥ = cc in wrong)
+idle-start setup surplus records started (no_room h i) running kept is = absurd (let wrong : ⊥ = cc in wrong)
+idle-start setup surplus records started (begins h i) running kept is =
     let same : just_started (greatest_epoch records + 1) ≡ running = cc in
     ap (λ (r : Running). r.entries) (sym same)
 
@@ -113,7 +115,7 @@ module _ (laws : NumberLaws) (config : List ℕ) (schedule : Schedule) (d : Depl
           let stored = laws.holds site.site.log left (laws.crashed site old.file left f.is_file may) in
           let contents-same : contents ≡ stored.contents = laws.one_journal left contents stored.contents journal stored.journal in
           let whole : SpellRecords site.site.records (contents_of site.site.log) =
-          (subst (λ r. HoldsWhatRuns host_model site.site.log site.site.records r) f.stands.up f.stands.ready.holds).held (contents_of site.site.log) refl in
+          (subst (λ r. HoldsWhatRuns host_model site.site.log site.site.surplus site.site.records r) f.stands.up f.stands.ready.holds).held (contents_of site.site.log) refl in
           kept-front txn asked laws.one_record records site.site.records stored.contents stored.later (subst (SpellRecords records) contents-same spelled)
           (subst (SpellRecords site.site.records) stored.first whole) has.0
 
@@ -151,7 +153,7 @@ module _ (laws : NumberLaws) (config : List ℕ) (schedule : Schedule) (d : Depl
       works-nothing running up =
           let same : o.opened.running ≡ running = cc in
           let none : running.entries ≡ [] =
-          ap (λ (r : Running). r.entries) (sym same) ∙ idle-start (setup_of o.schedule.catalog) o.opened.records _ (start-case (setup_of o.schedule.catalog) o.opened.records) o.opened.running (epoch_begun o.opened.epoch) o.opened.starts in
+          ap (λ (r : Running). r.entries) (sym same) ∙ idle-start (setup_of o.schedule.catalog) (surplus_of o.opened.contents o.opened.records) o.opened.records _ (start-case (setup_of o.schedule.catalog) (surplus_of o.opened.contents o.opened.records) o.opened.records) o.opened.running (epoch_begun o.opened.epoch) o.opened.starts in
           subst (All (IsNumbered txn (outs_of old))) (sym none) (All-nil (IsNumbered txn (outs_of old)))
 
       opened-first : IsNumberFirst txn asked n (record old { hosted = Some site })
@@ -258,7 +260,7 @@ module _ (setup : Setup) (d : Deployment) (events : List Event) (m : IsMirrored 
   -- The records that the run's site has are the first of those that the process has.
   content-kept : (n : ℕ) (content : Content) (rest out : List Out) (file : List ℕ) (hosted : Option HostedState) → FollowsProcess setup d n file hosted content rest
       → HasNumbers txn votes out file hosted → All (IsKept txn votes) content.records
-  content-kept n content rest out file None gone left = left content.records gone.contents gone.journal gone.spelled
+  content-kept n content rest out file None gone left = left content.records gone.contents gone.journal (written-read content.records gone.contents gone.spelled)
   content-kept n content rest out file (Some hosted) f has =
       let grown = all-grows setup n content f.waiting in
       All-front (IsKept txn votes) content.records grown.0

@@ -15,7 +15,7 @@ use Rattle.pv_format.specs.Contents.{SpellRecords}
 use Rattle.pv_format.specs.Journal.{IsJournal}
 use Rattle.pv_format.specs.Message.{Envelope}
 use Rattle.pv_format.specs.Record.{Record, epoch_begun}
-use Rattle.pv_format.specs.RecordSpelling.{SpellsRecord}
+use Rattle.pv_format.specs.RecordSpelling.{IsReadAs}
 use Rattle.pv_law_hosted.proofs.MirroredLemmas.{contains-mapped}
 use Rattle.pv_law_hosted.proofs.NumberSteps.{IsGivenWell, IsItsOwn, IsSentWell, IsTold, IsWorkedOn, step-told}
 use Rattle.pv_law_hosted.proofs.TimeLemmas.{outs-of-held}
@@ -66,7 +66,7 @@ all-some P (Some x) is = All-cons P x [] is (All-nil P)
 
 module _ (txn : TxnId) (asked : Type 0) where
   -- ## Records
-  module _ (one_record : (entry other : Record) (bytes : List ℕ) → SpellsRecord entry bytes → SpellsRecord other bytes → entry ≡ other) where
+  module _ (one_record : (entry other : Record) (bytes : List ℕ) → IsReadAs entry bytes → IsReadAs other bytes → entry ≡ other) where
     -- Records at the beginning of what spells others are the first of these.
     pub kept-front : (records all : List Record) (contents later : Contents) → SpellRecords records contents → SpellRecords all (contents ++ later)
         → All (IsKept txn asked) all → All (IsKept txn asked) records

@@ -42,7 +42,7 @@ either-way : (P : Started → Type 0) (test : Bool) (x y : Started) → P x → 
 either-way P true x y one other = one
 either-way P false x y one other = other
 
-seen-born : (setup : Setup) → IsSeenAs (started_with nothing_there (site_start setup [])) first_site
+seen-born : (setup : Setup) → IsSeenAs (started_with nothing_there (site_start setup 0 [])) first_site
 unfolding site_start
 seen-born setup =
     let P = λ (started : Started). IsSeenAs (started_with nothing_there started) first_site in
@@ -61,7 +61,7 @@ module _ (setup : Setup) (n : ℕ) where
   by-nothing world content site stands seen = ([], settles-nothing setup n world content (subst (IsSeenAs content) (sym stands) seen))
 
   -- ## An opening
-  at-start : (world : World) (records : List Record) (started : Started) → site_start setup records ≡ started → site_at world n ≡ plain_site records None
+  at-start : (world : World) (records : List Record) (started : Started) → site_start setup 0 records ≡ started → site_at world n ≡ plain_site records None
       → n < length world.sites → n < setup.catalog.sites → IsSettled world (started_with (record { records = records; running = None }) started) []
   at-start world records (starts running epoch) is stands below known = (
     events.start n ∷ [],
@@ -76,11 +76,11 @@ module _ (setup : Setup) (n : ℕ) where
 
   opening-settled : (world : World) (content : Content) (site : Site) → site_at world n ≡ site → IsSeenAs content site → n < length world.sites → n < setup.catalog.sites
       → IsSettled world (with_given setup n content process.opened) []
-  opening-settled world content site stands (mirrored.same records None) below known = at-start world records (site_start setup records) refl stands below known
+  opening-settled world content site stands (mirrored.same records None) below known = at-start world records (site_start setup 0 records) refl stands below known
   opening-settled world content site stands (mirrored.same records (Some running)) below known =
       by-nothing world (record { records = records; running = Some running }) (plain_site records (Some running)) stands (mirrored.same records (Some running))
   opening-settled world content site stands unborn below known =
-      by-nothing world (started_with nothing_there (site_start setup [])) first_site stands (seen-born setup)
+      by-nothing world (started_with nothing_there (site_start setup 0 [])) first_site stands (seen-born setup)
 
   -- ## An input
   up-settled : (d : Deployment) (world : World) (records : List Record) (running : Running) (given : Input) → MayTake setup.catalog d n given → HasSent d world

@@ -1,16 +1,20 @@
 -- A station gets a process: its site is opened on the file, and its epoch waits for its record.
-use Rattle.std.proofs.Common.{◌≡◌, ℕ, ◌≤◌, true, Some, List, [], ◌∷◌, ◌++◌, length, append-nil, refl, sym, ap, ap₂, ◌∙◌, subst}
+use Rattle.std.proofs.Common.{◌≡◌, ℕ, ◌≤◌, true, Some, List, [], ◌∷◌, ◌++◌, length, append-nil, refl, sym, ap, ap₂, ◌∙◌, subst, arith}
 use Rattle.std.proofs.lemmas.List.Elements.{All-nil, All-cons}
 use Rattle.pv_disk_model.specs.Calls.{read_all, reserve, append}
-use Rattle.pv_disk_model.specs.Size.{Contents}
-use Rattle.pv_format.specs.Contents.{SpellRecords}
+use Rattle.pv_disk_model.specs.Size.{Contents, size_of}
+use Rattle.pv_format.specs.Contents.{AreWritten, SpellRecords}
 use Rattle.pv_format.specs.Journal.{IsJournal}
 use Rattle.pv_format.specs.Record.{Record, epoch_begun}
-use Rattle.pv_format.specs.RecordSpelling.{SpellsRecord}
+use Rattle.pv_format.specs.RecordSpelling.{IsReadAs}
 use Rattle.pv_model.specs.Events.{Schedule}
+use Rattle.pv_law_format.proofs.ReplayLemmas.{written-more, written-read}
+use Rattle.pv_protocol.specs.Records.{journal_bytes}
 use Rattle.pv_protocol.specs.Start.{starts, site_start}
 use Rattle.pv_protocol.specs.State.{Setup}
+use Rattle.pv_base.proofs.Basics.{Some_inj}
 use Rattle.pv_site.specs.SiteState.{SiteState, setup_of}
+use Rattle.pv_site.specs.Surplus.{surplus_of}
 use Rattle.pv_host.specs.HostFile.{IsFile}
 use Rattle.pv_host.specs.HostLog.{HostState, contents_of}
 use Rattle.pv_embed.specs.Held.{Held, Out}
@@ -25,7 +29,7 @@ use Rattle.pv_law_hosted.specs.Given as process
 use Rattle.pv_law_hosted.specs.Given.{Content, Given, MayBeGiven, opened_with, started_with, with_given}
 use Rattle.pv_law_hosted.specs.Mirrored.{FollowsGone, FollowsHosted}
 
-module _ (one_record : (entry other : Record) (bytes : List ℕ) → SpellsRecord entry bytes → SpellsRecord other bytes → entry ≡ other) where
+module _ (one_record : (entry other : Record) (bytes : List ℕ) → IsReadAs entry bytes → IsReadAs other bytes → entry ≡ other) where
   one-records : (records others : List Record) (contents : Contents) → SpellRecords records contents → SpellRecords others contents → records ≡ others
   one-records [] [] [] a b = refl
   one-records [] (other ∷ others) [] a b = absurd b
@@ -35,7 +39,8 @@ module _ (one_record : (entry other : Record) (bytes : List ℕ) → SpellsRecor
   one-records (entry ∷ records) (other ∷ others) (content ∷ contents) a b =
       ap₂ (λ (x : Record) (l : List Record). x ∷ l) (one_record entry other content a.0 b.0) (one-records records others contents a.1 b.1)
 
-  module _ (one_journal : (bytes : List ℕ) (contents others : Contents) → IsJournal contents bytes → IsJournal others bytes → contents ≡ others)
+  module _ (tells : (records : List Record) (contents : Contents) → AreWritten records contents → size_of contents ≡ journal_bytes records)
+      (one_journal : (bytes : List ℕ) (contents others : Contents) → IsJournal contents bytes → IsJournal others bytes → contents ≡ others)
       (config : List ℕ) (schedule : Schedule) (d : Deployment) (n : ℕ) (old : Station) (site : HostedState) (content : Content) (rest : List Out)
       (gone : FollowsGone old.file content rest) (o : HasOpenedOn config n old.file site) (one_schedule : o.schedule ≡ schedule)
       (is_file : IsFile site.site.log old.file) (stands : Stands site) where
@@ -53,11 +58,19 @@ module _ (one_record : (entry other : Record) (bytes : List ℕ) → SpellsRecor
 
     same-records : o.opened.records ≡ content.records
     same-records =
-        one-records o.opened.records content.records gone.contents (subst (SpellRecords o.opened.records) were-read o.opened.spelled) gone.spelled
+        one-records o.opened.records content.records gone.contents (subst (SpellRecords o.opened.records) were-read o.opened.spelled)
+        (written-read content.records gone.contents gone.spelled)
 
-    starts-so : site_start setup content.records ≡ starts o.opened.running (epoch_begun o.opened.epoch)
+    -- The log is as long as its records make it.
+    no-surplus : surplus_of o.opened.contents o.opened.records ≡ 0
+    no-surplus =
+        let long : size_of gone.contents ≡ journal_bytes content.records = tells content.records gone.contents gone.spelled in
+        omega (arith, long, ap size_of were-read, ap journal_bytes same-records)
+
+    starts-so : site_start setup 0 content.records ≡ starts o.opened.running (epoch_begun o.opened.epoch)
     starts-so =
-        ap₂ (λ (s : Schedule) (records : List Record). site_start (setup_of s.catalog) records) (sym one_schedule) (sym same-records) ∙ o.opened.starts
+        ap₂ (λ (s : Schedule) (records : List Record). site_start (setup_of s.catalog) 0 records) (sym one_schedule) (sym same-records)
+        ∙ ap (λ (n : ℕ). site_start (setup_of o.schedule.catalog) n o.opened.records) (sym no-surplus) ∙ o.opened.starts
 
     given-so : with_given setup n content process.opened ≡ record { records = content.records ++ epoch_begun o.opened.epoch ∷ []; running = Some o.opened.running }
     given-so =
@@ -72,13 +85,24 @@ module _ (one_record : (entry other : Record) (bytes : List ℕ) → SpellsRecor
     still-stored =
         stored_after (read_all ∷ reserve (length o.opened.content) ∷ append o.opened.content ∷ []) o.log site.site.log true o.opened.calls ∙ log-stored
 
+    all-written : AreWritten site.site.records (contents_of site.site.log)
+    all-written =
+        let holds : contents_of site.site.log ≡ gone.contents ++ o.opened.content ∷ [] = Some_inj (o.opened.log.contents (contents_of o.log) refl) ∙ ap (λ (l : Contents). l ++ o.opened.content ∷ []) log-all in
+        let has : site.site.records ≡ content.records ++ epoch_begun o.opened.epoch ∷ [] =
+        ap (λ (s : SiteState HostState). s.records) o.opened.site ∙ ap (λ (l : List Record). l ++ epoch_begun o.opened.epoch ∷ []) same-records in
+        subst (λ (l : List Record). AreWritten l (contents_of site.site.log)) (sym has)
+        (subst (AreWritten (content.records ++ epoch_begun o.opened.epoch ∷ [])) (sym holds)
+        (written-more content.records gone.contents (epoch_begun o.opened.epoch) o.opened.content gone.spelled o.opened.content_is))
+
     opened-follows : FollowsHosted setup d n old.file site content []
     opened-follows = record {
       is_file = is_file;
       stands = stands;
       me = ap (λ (s : SiteState HostState). s.me) o.opened.site;
       catalog = ap (λ (s : SiteState HostState). setup_of s.catalog) o.opened.site ∙ ap (λ (s : Schedule). setup_of s.catalog) one_schedule;
-      stored = subst (SpellRecords content.records) (sym still-stored) gone.spelled;
+      surplus = ap (λ (s : SiteState HostState). s.surplus) o.opened.site ∙ no-surplus;
+      stored = subst (AreWritten content.records) (sym still-stored) gone.spelled;
+      whole = all-written;
       waiting = process.opened ∷ [];
       allowed = All-cons (MayBeGiven schedule.catalog d n) process.opened [] tt (All-nil (MayBeGiven schedule.catalog d n));
       first = (epoch_begun o.opened.epoch, ap (λ (c : Content). c.records) given-so);

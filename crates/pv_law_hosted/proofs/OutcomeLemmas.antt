@@ -139,7 +139,7 @@ module _ (setup : Setup) (w : World) (n : ℕ) (hosted : HostedState) (running :
       → known hosted.site.records txn ≢ Some true → works_on running txn ≡ false → IsDead w txn
   dead-told reached recorded ordered issued unknown idle =
       never-dead setup w n running memory-is reached recorded ordered txn
-      (subst (λ (m : ℕ). is_issued (record { me = m; setup = setup; records = records_at w n; running = running }) txn ≡ true) me issued)
+      (subst (λ (m : ℕ). is_issued (record { me = m; setup = setup; records = records_at w n; surplus = 0; running = running }) txn ≡ true) me issued)
       (λ says. unknown (sym (ap (λ (rs : List Record). known rs txn) records-are) ∙ says)) idle
 
   pub works-told : works_on running txn ≡ true → (entry : Entry) × (entry_of w txn ≡ Some entry)

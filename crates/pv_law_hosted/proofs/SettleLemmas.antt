@@ -96,7 +96,7 @@ module _ (setup : Setup) (n : ℕ) where
   transition_by event end = record { event = event; lines = end.0; world = end.1 }
 
   abbrev start_of : List Record → Attempt
-  start_of records = of_start n (site_start setup records)
+  start_of records = of_start n (site_start setup 0 records)
 
   pub start-run : (world : World) (records : List Record) → site_at world n ≡ plain_site records None
       → run setup world (events.start n ∷ []) ≡ whole world (events.start n) (start_of records) ∷ []

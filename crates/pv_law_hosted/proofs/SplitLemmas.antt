@@ -3,7 +3,7 @@ use Rattle.std.proofs.Common.{◌≡◌, ◌⊎◌, inl, inr, ⊎_elim, ℕ, ◌
 use Rattle.std.specs.Prelude.{option_to_list}
 use Rattle.std.proofs.lemmas.List.{map-append}
 use Rattle.std.proofs.lemmas.List.Elements.{All-nil, All-cons, All-append}
-use Rattle.pv_format.specs.Contents.{SpellRecords}
+use Rattle.pv_format.specs.Contents.{AreWritten}
 use Rattle.pv_format.specs.Record.{Record}
 use Rattle.pv_protocol.specs.Records.{journal_bytes}
 use Rattle.pv_protocol.specs.Start.{Started, starts, too_long, no_epoch, site_start}
@@ -12,20 +12,20 @@ use Rattle.pv_embed.specs.Held.{Held, Out}
 use Rattle.pv_law_hosted.proofs.GivenLemmas.{all-longer}
 use Rattle.pv_law_hosted.specs.Given.{Content, Given, opened, input, started_with, opened_with, stepped_with, step_with, with_given, outs_of_given, with_all, outs_of_all, held_of_given, held_for, WaitsForRecord}
 
--- ## Spelled records
--- The contents that are as many as the first records spell these.
-pub spelled-front : (records more : List Record) (contents later : List (List ℕ)) → length records ≡ length contents → SpellRecords (records ++ more) (contents ++ later)
-    → SpellRecords records contents
-spelled-front [] more [] later same spelled = tt
-spelled-front [] more (content ∷ contents) later same spelled = absurd (omega (arith, same))
-spelled-front (one ∷ records) more [] later same spelled = absurd (omega (arith, same))
-spelled-front (one ∷ records) more (content ∷ contents) later same spelled = (spelled.0, spelled-front records more contents later (omega (arith, same)) spelled.1)
+-- ## Written records
+-- The contents that are as many as the first records are these as they are written.
+pub written-front : (records more : List Record) (contents later : List (List ℕ)) → length records ≡ length contents → AreWritten (records ++ more) (contents ++ later)
+    → AreWritten records contents
+written-front [] more [] later same spelled = tt
+written-front [] more (content ∷ contents) later same spelled = absurd (omega (arith, same))
+written-front (one ∷ records) more [] later same spelled = absurd (omega (arith, same))
+written-front (one ∷ records) more (content ∷ contents) later same spelled = (spelled.0, written-front records more contents later (omega (arith, same)) spelled.1)
 
-pub spelled-length : (records : List Record) (contents : List (List ℕ)) → SpellRecords records contents → length records ≡ length contents
-spelled-length [] [] spelled = refl
-spelled-length [] (content ∷ contents) spelled = absurd spelled
-spelled-length (one ∷ records) [] spelled = absurd spelled
-spelled-length (one ∷ records) (content ∷ contents) spelled = let rest = spelled-length records contents spelled.1 in omega (arith, rest)
+pub written-length : (records : List Record) (contents : List (List ℕ)) → AreWritten records contents → length records ≡ length contents
+written-length [] [] spelled = refl
+written-length [] (content ∷ contents) spelled = absurd spelled
+written-length (one ∷ records) [] spelled = absurd spelled
+written-length (one ∷ records) (content ∷ contents) spelled = let rest = written-length records contents spelled.1 in omega (arith, rest)
 
 -- ## What is held
 held-at : (long : ℕ) (outs : List Out) → map (λ (one : Held). one.out) (map (λ out. record { length = long; out = out }) outs) ≡ outs
@@ -71,7 +71,7 @@ module _ (setup : Setup) (n : ℕ) where
 
   opened-either : (content : Content) (running : Option Running)
       → ((opened_with setup n content running).records ≡ content.records) ⊎ GrowsByOne content (opened_with setup n content running)
-  opened-either content None = started-either content (site_start setup content.records)
+  opened-either content None = started-either content (site_start setup 0 content.records)
   opened-either content (Some running) = inl refl
 
   appended-either : (records : List Record) (running : Running) (appended : Option Record)

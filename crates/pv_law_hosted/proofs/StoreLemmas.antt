@@ -1,7 +1,15 @@
--- What a write of the host stores.
-use Rattle.std.proofs.Common.{◌≡◌, ◌⊎◌, inl, inr, ℕ, Bool, true, false, List, [], ◌∷◌, ◌++◌, Some, None, refl, ap, ◌∙◌}
+-- What a write of the host stores, and that what a log holds stays as it is written.
+use Rattle.std.proofs.Common.{◌≡◌, ◌⊎◌, inl, inr, ℕ, Bool, true, false, Option, List, [], ◌∷◌, ◌++◌, Some, None, append-nil, refl, sym, ap, subst, ◌∙◌}
+use Rattle.std.specs.Prelude.{option_to_list}
+use Rattle.pv_base.proofs.Basics.{Some_inj}
 use Rattle.pv_disk_model.specs.Size.{Contents}
-use Rattle.pv_host.specs.HostLog.{HostState, HostWrite, IsSameBesideRoom, next_write, with_written, write_after, written_to}
+use Rattle.pv_format.specs.Contents.{AreWritten}
+use Rattle.pv_format.specs.Record.{Record}
+use Rattle.pv_law_format.proofs.ReplayLemmas.{written-more}
+use Rattle.pv_site.specs.OnLog.{Logs}
+use Rattle.pv_host.specs.HostLaws.{host_model}
+use Rattle.pv_host.specs.HostLog.{HostState, HostWrite, IsSameBesideRoom, contents_of, next_write, with_written, write_after, written_to}
+use Rattle.pv_embed.specs.Hosted.{HostedState}
 
 -- All of the group is stored that the host was asked to write.
 abbrev pub StoresGroup : HostState → HostState → Type 0
@@ -32,3 +40,20 @@ idle-stores log (first ∷ later) true is = absurd cc
 
 pub idle-stored : (old new : HostState) → next_write old ≡ None → IsSameBesideRoom (with_written old) new → new.stored ≡ old.stored
 idle-stored old new is same = ap (λ (log : HostState). log.stored) same ∙ idle-stores old old.asked old.behind_gate is
+
+-- ## What the log holds
+-- Where a site is the same but for its log, which holds what it held, that is written still.
+pub still-written : (site next : HostedState) → next ≡ record site { site = record site.site { log = next.site.log } } → contents_of next.site.log ≡ contents_of site.site.log
+    → AreWritten site.site.records (contents_of site.site.log) → AreWritten next.site.records (contents_of next.site.log)
+still-written site next is same whole =
+    subst (λ (l : List Record). AreWritten l (contents_of next.site.log)) (sym (ap (λ (h : HostedState). h.site.records) is))
+    (subst (AreWritten site.site.records) (sym same) whole)
+
+-- What a step appends is written.
+pub logged-written : (appended : Option Record) (old new : HostState) (records : List Record) → Logs host_model old new appended → AreWritten records (contents_of old)
+    → AreWritten (records ++ option_to_list appended) (contents_of new)
+logged-written None old new records same written =
+    subst (λ (l : List Record). AreWritten l (contents_of new)) (sym (append-nil records)) (subst (λ (log : HostState). AreWritten records (contents_of log)) (sym same) written)
+logged-written (Some more) old new records logs written =
+    let content = logs.1.0 in
+    subst (AreWritten (records ++ more ∷ [])) (sym (Some_inj (logs.1.2.contents (contents_of old) refl))) (written-more records (contents_of old) more content written logs.1.1)

@@ -4,21 +4,19 @@ use Rattle.std.proofs.lemmas.List.{map-append}
 use Rattle.std.proofs.lemmas.List.Elements.{All-nil, All-cons, All-head, All-tail, All-append, All-weaker}
 use Rattle.std.proofs.lemmas.List.Sums.{sum_by-append}
 use Rattle.pv_disk_model.specs.Size.{Contents, size_of}
-use Rattle.pv_format.specs.Contents.{SpellRecords}
+use Rattle.pv_format.specs.Contents.{AreWritten}
 use Rattle.pv_format.specs.Record.{Record}
 use Rattle.pv_protocol.specs.Records.{journal_bytes}
 use Rattle.pv_protocol.specs.State.{Setup}
 use Rattle.pv_site.specs.SiteState.{setup_of}
-use Rattle.pv_site.specs.Steps.{HoldsWhatRuns}
 use Rattle.pv_host.specs.HostFile.{IsFile}
-use Rattle.pv_host.specs.HostLaws.{host_model}
 use Rattle.pv_host.specs.HostLog.{contents_of}
 use Rattle.pv_embed.specs.Held.{Held, Out}
 use Rattle.pv_embed.specs.Hosted.{HostedState, stored_length}
 use Rattle.pv_law_hosted.proofs.GivenLemmas.{all-grows, held_for-append, with_all-append}
 use Rattle.pv_law_hosted.proofs.MirroredLemmas.{Becomes}
-use Rattle.pv_law_hosted.proofs.SplitLemmas.{IsUp, all-up, given-either, held-within, outs-held, parted, spelled-front, spelled-length}
-use Rattle.pv_law_hosted.proofs.StoreLemmas.{StoresGroup}
+use Rattle.pv_law_hosted.proofs.SplitLemmas.{IsUp, all-up, given-either, held-within, outs-held, parted, written-front, written-length}
+use Rattle.pv_law_hosted.proofs.StoreLemmas.{StoresGroup, still-written}
 use Rattle.pv_law_hosted.specs.Deployment.{Deployment, Station, station_at}
 use Rattle.pv_law_hosted.specs.DeploymentEvents.{Stands}
 use Rattle.pv_law_hosted.specs.Given.{Content, Given, MayBeGiven, WaitsForRecord, held_for, outs_of_all, with_all, with_given}
@@ -30,7 +28,7 @@ all-parts P (x ∷ xs) ys all =
     let rest = all-parts P xs ys (All-tail P x (xs ++ ys) all) in (All-cons P x xs (All-head P x (xs ++ ys) all) rest.0, rest.1)
 
 module _ (setup : Setup) (d : Deployment) (n : ℕ)
-    (tells : (records : List Record) (contents : Contents) → SpellRecords records contents → size_of contents ≡ journal_bytes records) where
+    (tells : (records : List Record) (contents : Contents) → AreWritten records contents → size_of contents ≡ journal_bytes records) where
   -- what is there now
   abbrev pub now : HostedState → Content
   now hosted = record { records = hosted.site.records; running = hosted.site.running }
@@ -41,7 +39,9 @@ module _ (setup : Setup) (d : Deployment) (n : ℕ)
     pub stands : Stands next
     pub me : next.site.me ≡ n
     pub catalog : setup_of next.site.catalog ≡ setup
-    pub stored : SpellRecords (with_all setup n content done).records next.site.log.stored
+    pub surplus : next.site.surplus ≡ 0
+    pub stored : AreWritten (with_all setup n content done).records next.site.log.stored
+    pub whole : AreWritten next.site.records (contents_of next.site.log)
     pub allowed : All (MayBeGiven setup.catalog d n) left
     pub first : WaitsForRecord setup n (with_all setup n content done) left
     pub come : with_all setup n content (done ++ left) ≡ now next
@@ -59,7 +59,9 @@ module _ (setup : Setup) (d : Deployment) (n : ℕ)
         stands = has.stands;
         me = has.me;
         catalog = has.catalog;
+        surplus = has.surplus;
         stored = has.stored;
+        whole = has.whole;
         waiting = left;
         allowed = has.allowed;
         first = has.first;
@@ -147,27 +149,23 @@ module _ (setup : Setup) (d : Deployment) (n : ℕ)
         first = subst (λ (c : Content). WaitsForRecord setup n c rest.left) (sym done) rest.first;
       }
 
-  -- What waits is cut behind the records that the contents of a group spell, and behind all that appends nothing after them.
+  -- What waits is cut behind the records that the contents of a group are, and behind all that appends nothing after them.
   pub record Cut (content : Content) (waiting : List Given) (stored group : Contents) : Type 0 where
     pub done : List Given
     pub left : List Given
     pub split : waiting ≡ done ++ left
     pub may : All (MayBeGiven setup.catalog d n) done
     pub allowed : All (MayBeGiven setup.catalog d n) left
-    pub spelled : SpellRecords (with_all setup n content done).records (stored ++ group)
+    pub spelled : AreWritten (with_all setup n content done).records (stored ++ group)
     pub up : IsUp (with_all setup n content done)
     pub first : WaitsForRecord setup n (with_all setup n content done) left
 
   module _ (file : List ℕ) (site : HostedState) (content : Content) (rest : List Out) (f : FollowsHosted setup d n file site content rest)
       (one : List ℕ) (others : Contents) (asked : site.site.log.asked ≡ one ∷ others) where
-    all-spelled : SpellRecords site.site.records (contents_of site.site.log)
-    all-spelled =
-        (subst (λ r. HoldsWhatRuns host_model site.site.log site.site.records r) f.stands.up f.stands.ready.holds).held (contents_of site.site.log) refl
-
     group-waits : length content.records + suc (length others) ≤ length (with_all setup n content f.waiting).records
     group-waits =
-        let stored = spelled-length content.records site.site.log.stored f.stored in
-        let all = spelled-length site.site.records (contents_of site.site.log) all-spelled in
+        let stored = written-length content.records site.site.log.stored f.stored in
+        let all = written-length site.site.records (contents_of site.site.log) f.whole in
         let records = ap (λ (c : Content). length c.records) f.come in
         omega (
           arith,
@@ -191,22 +189,22 @@ module _ (setup : Setup) (d : Deployment) (n : ℕ)
         let contents : contents_of site.site.log ≡ (site.site.log.stored ++ one ∷ others) ++ site.site.log.pending =
         ap (λ (l : Contents). site.site.log.stored ++ (l ++ site.site.log.pending)) asked ∙ sym (append_assoc site.site.log.stored (one ∷ others) site.site.log.pending) in
         let long : length settled.records ≡ length (site.site.log.stored ++ one ∷ others) =
-        omega (arith, at.long, length-append site.site.log.stored (one ∷ others), spelled-length content.records site.site.log.stored f.stored) in
+        omega (arith, at.long, length-append site.site.log.stored (one ∷ others), written-length content.records site.site.log.stored f.stored) in
         record {
           done = at.done;
           left = at.left;
           split = at.split;
           may = may.0;
           allowed = may.1;
-          spelled = spelled-front settled.records grown.0 (site.site.log.stored ++ one ∷ others) site.site.log.pending long
-              (subst (SpellRecords (settled.records ++ grown.0)) contents (subst (λ (l : List Record). SpellRecords l (contents_of site.site.log)) rest_is all-spelled));
+          spelled = written-front settled.records grown.0 (site.site.log.stored ++ one ∷ others) site.site.log.pending long
+              (subst (AreWritten (settled.records ++ grown.0)) contents (subst (λ (l : List Record). AreWritten l (contents_of site.site.log)) rest_is f.whole));
           up = at.up;
           first = at.first;
         }
 
   module _ (file left : List ℕ) (site next : HostedState) (content : Content) (rest : List Out) (f : FollowsHosted setup d n file site content rest)
       (is_file : IsFile next.site.log left) (stands : Stands next) (one : StoresGroup site.site.log next.site.log)
-      (is : next ≡ record site { site = record site.site { log = next.site.log } }) where
+      (is : next ≡ record site { site = record site.site { log = next.site.log } }) (same : contents_of next.site.log ≡ contents_of site.site.log) where
     cut : Cut content f.waiting site.site.log.stored (one.0 ∷ one.1.0)
     cut = cut-group file site content rest f one.0 one.1.0 one.1.1
 
@@ -216,7 +214,9 @@ module _ (setup : Setup) (d : Deployment) (n : ℕ)
       stands = stands;
       me = ap (λ (h : HostedState). h.site.me) is ∙ f.me;
       catalog = ap (λ (h : HostedState). setup_of h.site.catalog) is ∙ f.catalog;
-      stored = subst (SpellRecords (with_all setup n content cut.done).records) (sym one.1.2) cut.spelled;
+      surplus = ap (λ (h : HostedState). h.site.surplus) is ∙ f.surplus;
+      stored = subst (AreWritten (with_all setup n content cut.done).records) (sym one.1.2) cut.spelled;
+      whole = still-written site next is same f.whole;
       allowed = cut.allowed;
       first = cut.first;
       come = sym (ap (with_all setup n content) cut.split) ∙ f.come ∙ sym (ap now is);

@@ -70,7 +70,7 @@ module _ (setup : Setup) (d : Deployment) (events : List Event) (m : IsMirrored 
   step = site_step setup n site.site.records s.running input
 
   same-step : step_on (here_with site.site s.running) input ≡ step
-  same-step = ap₂ (λ me fixed. step_on (record { me = me; setup = fixed; records = site.site.records; running = s.running }) input) f.me f.catalog
+  same-step = λ i. step_on (record { me = f.me i; setup = f.catalog i; records = site.site.records; surplus = f.surplus i; running = s.running }) input
 
   same-me : next.site.me ≡ n
   same-me = ap (λ (after : SiteState HostState). after.me) s.steps.site ∙ f.me

@@ -10,7 +10,7 @@ use Rattle.pv_embed.specs.Opening.{Configures, HasOpenedOn}
 use Rattle.pv_format.specs.Contents.{SpellRecords}
 use Rattle.pv_format.specs.Journal.{IsJournal, end_of, framed}
 use Rattle.pv_format.specs.Record.{Record, epoch_begun}
-use Rattle.pv_format.specs.RecordSpelling.{SpellsRecord}
+use Rattle.pv_format.specs.RecordSpelling.{IsReadAs, SpellsRecord}
 use Rattle.pv_host.specs.HostLaws.{host_model}
 use Rattle.pv_host.specs.HostLog.{HostState, WasHeld, contents_of}
 use Rattle.pv_law_hosted.proofs.CallLemmas.{ask-happens, going-happens, opening-happens, some-same, write-happens}
@@ -95,7 +95,7 @@ adds-epoch = record {
   durable = λ was is left may. may ∙ subst (λ (l : Contents). Some (first_epoch ∷ []) ≡ Some (l ++ first_epoch ∷ [])) (some-same is) refl;
 }
 
-starts-first : site_start (setup_of catalog) [] ≡ starts (just_started 1) (epoch_begun 1)
+starts-first : site_start (setup_of catalog) 0 [] ≡ starts (just_started 1) (epoch_begun 1)
 unfolding site_start journal_bytes
 starts-first = refl
 
@@ -104,6 +104,7 @@ unfolding too_many_in
 none-too-many = refl
 
 opened-site : HasOpened host_model opened_log 0 catalog (begun begun_log).site
+unfolding journal_bytes
 opened-site = record {
   contents = [];
   records = [];
@@ -147,7 +148,7 @@ stands log has up limit = record {
     holds = record {
       up = up;
       size = ap size_of has;
-      held = λ contents is. subst (SpellRecords begun_records) (sym has ∙ some-same is) (spelled-epoch, tt);
+      held = λ contents is. subst (SpellRecords begun_records) (sym has ∙ some-same is) (inl spelled-epoch, tt);
     };
   };
   running = just_started 1;
@@ -200,11 +201,11 @@ found-journal = record {
 }
 
 -- ## What the law says of it
-module _ (one_record : (entry other : Record) (bytes : List ℕ) → SpellsRecord entry bytes → SpellsRecord other bytes → entry ≡ other)
+module _ (one_record : (entry other : Record) (bytes : List ℕ) → IsReadAs entry bytes → IsReadAs other bytes → entry ≡ other)
     (one_journal : (bytes : List ℕ) (contents others : Contents) → IsJournal contents bytes → IsJournal others bytes → contents ≡ others) where
   one-epoch : (records : List Record) → SpellRecords records (first_epoch ∷ []) → records ≡ begun_records
   one-epoch [] spelled = absurd spelled
-  one-epoch (entry ∷ []) spelled = ap (λ (r : Record). r ∷ []) (one_record entry (epoch_begun 1) first_epoch spelled.0 spelled-epoch)
+  one-epoch (entry ∷ []) spelled = ap (λ (r : Record). r ∷ []) (one_record entry (epoch_begun 1) first_epoch spelled.0 (inl spelled-epoch))
   one-epoch (entry ∷ other ∷ records) spelled = absurd spelled.1
 
   -- The world's site has the record that is found, and is down.

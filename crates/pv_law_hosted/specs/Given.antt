@@ -39,7 +39,7 @@ module _ (setup : Setup) (n : ℕ) where
 
   -- A site that is down is opened; one that is up takes inputs.
   abbrev pub opened_with : Content → Option Running → Content
-  opened_with content None = started_with content (site_start setup content.records)
+  opened_with content None = started_with content (site_start setup 0 content.records)
   opened_with content (Some running) = content
 
   abbrev pub stepped_with : Content → Option Running → Input → Content

@@ -2,7 +2,7 @@
 use Rattle.std.specs.Prelude.{◌≡◌, ℕ, ◌<◌, ◌≤◌, Option, Some, None, List, [], ◌++◌, length, map, All}
 use Rattle.pv_disk_model.specs.Size.{Contents}
 use Rattle.pv_format.specs.Checkpoint.{first_standing}
-use Rattle.pv_format.specs.Contents.{SpellRecords}
+use Rattle.pv_format.specs.Contents.{AreWritten}
 use Rattle.pv_format.specs.Journal.{IsJournal}
 use Rattle.pv_format.specs.Record.{Record}
 use Rattle.pv_model.specs.Events.{Event}
@@ -12,6 +12,7 @@ use Rattle.pv_protocol.specs.WellFormed.{IsWellFormed}
 use Rattle.pv_protocol.specs.World.{World, first_site, opening, site_at}
 use Rattle.pv_site.specs.SiteState.{setup_of}
 use Rattle.pv_host.specs.HostFile.{IsFile}
+use Rattle.pv_host.specs.HostLog.{contents_of}
 use Rattle.pv_embed.specs.Held.{Held, Out}
 use Rattle.pv_embed.specs.Hosted.{HostedState, stored_length}
 use Rattle.pv_law_hosted.specs.Deployment.{Deployment, station_at}
@@ -40,7 +41,9 @@ pub record FollowsHosted (setup : Setup) (d : Deployment) (n : ℕ) (file : List
   pub stands : Stands hosted
   pub me : hosted.site.me ≡ n
   pub catalog : setup_of hosted.site.catalog ≡ setup
-  pub stored : SpellRecords content.records hosted.site.log.stored
+  pub surplus : hosted.site.surplus ≡ 0
+  pub stored : AreWritten content.records hosted.site.log.stored
+  pub whole : AreWritten hosted.site.records (contents_of hosted.site.log)
   pub waiting : List Given
   pub allowed : All (MayBeGiven setup.catalog d n) waiting
   pub first : WaitsForRecord setup n content waiting
@@ -55,7 +58,7 @@ pub record FollowsHosted (setup : Setup) (d : Deployment) (n : ℕ) (file : List
 pub record FollowsGone (file : List ℕ) (content : Content) (rest : List Out) : Type 0 where
   pub contents : Contents
   pub journal : IsJournal contents file
-  pub spelled : SpellRecords content.records contents
+  pub spelled : AreWritten content.records contents
   pub down : content.running ≡ None
   pub silent : rest ≡ []
 

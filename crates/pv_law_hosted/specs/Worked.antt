@@ -62,6 +62,7 @@ begun log = record {
     running = Some (just_started 1);
     epoch = 1;
     first = true;
+    surplus = 0;
     log = log;
   };
   held = [];

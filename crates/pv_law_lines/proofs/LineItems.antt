@@ -26,7 +26,7 @@ use Rattle.pv_protocol.specs.Pump.{deliveries, next_fresh, enough, with_fresh}
 use Rattle.pv_protocol.specs.Report.{Reading, cases, locked, down, item_line, item_lines, readings_from, reading_of, total_from, total_of, report_of, sent_from, sent_lines, readings, txns_in_order}
 use Rattle.pv_protocol.specs.Run.{transitions_of, lines_of_transitions}
 use Rattle.pv_protocol.specs.Start.{Started, starts, too_long, no_epoch, site_start}
-use Rattle.pv_protocol.specs.State.{Setup, Running, Input, receive, committed, full, spent}
+use Rattle.pv_protocol.specs.State.{Setup, Running, Input, receive}
 use Rattle.pv_protocol.specs.Step.{site_step, step_on}
 use Rattle.pv_protocol.specs.World.{World, site_at, with_done}
 use Rattle.pv_protocol.specs.WorldStep.{transition_of, ended}
@@ -41,7 +41,7 @@ module _ (setup : Setup) where
 
   step-fine : (n : ℕ) (records : List Record) (running : Running) (input : Input) → All Fine (lines_of n (site_step setup n records running input).notes)
   step-fine n records running input =
-      let here : Here = record { me = n; setup = setup; records = records; running = running } in
+      let here : Here = record { me = n; setup = setup; records = records; surplus = 0; running = running } in
       All-map Fine (line_of n) (step_on here input).notes (all-from (λ note. Fine (line_of n note)) (step_on here input).notes (note-fine here input n))
 
   -- Reports, totals and lists of messages.
@@ -139,8 +139,8 @@ module _ (setup : Setup) where
   opened-fine : (world : World) (n : ℕ) (running : Option Running) → EndsFine (opened setup world n running)
   opened-fine world n (Some running) = fine-one (Line.up n) tt
   opened-fine world n None =
-      let attempt = of_start n (site_start setup (site_at world n).records) in
-      attempted-fine world n attempt (reached (calls_of attempt) (site_at world n).arm) (start-fine n (site_start setup (site_at world n).records))
+      let attempt = of_start n (site_start setup 0 (site_at world n).records) in
+      attempted-fine world n attempt (reached (calls_of attempt) (site_at world n).arm) (start-fine n (site_start setup 0 (site_at world n).records))
 
   packed-fine : (world : World) (n : ℕ) (running : Option Running) → EndsFine (packed world n running)
   packed-fine world n None = fine-one (Line.down n) tt

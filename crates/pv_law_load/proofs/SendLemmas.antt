@@ -157,6 +157,6 @@ module _ (here : Here) (few : HasFewSites here.setup.catalog) (items : length he
   sends-few (receive from message) =
       let sends = (step_on here (receive from message)).sends in
       let count : length sends ≤ weight_sent sends = weight-counts sends in
-      let light : weight_sent sends < weight message = message-light here.setup few here.me here.records here.running from message in
+      let light : weight_sent sends < weight message = message-light here few from message in
       let bound : weight message ≤ 83521 = weight-bound message in omega arith
   sends-few tick = let few : length (step_on here tick).sends ≤ 16 * length here.running.entries + 61440 = tick-few in omega arith

@@ -8,7 +8,7 @@ use base.Growing.{prefix_trans}
 use mathlib.Core.List.Sublist.{trans as sublist-trans, append as sublist-append, refl as sublist-refl}
 use Rattle.pv_format.specs.MessageSpelling.{SpellsEnvelope}
 use Rattle.pv_law_format.proofs.AnswerLemmas.{one-value}
-use Rattle.pv_law_format.proofs.EnvelopeCode.{envelope-code}
+use Rattle.pv_law_format.proofs.EnvelopeCode.{envelope-read}
 use Rattle.pv_law_histories.specs.Fitting.{history_of}
 use Rattle.pv_law_histories.specs.History.{Intake, request, parcel, tick, Stamped}
 use Rattle.pv_law_histories.specs.Posting.{Parcel, posted_to, WasPosted, PassMessages}
@@ -36,7 +36,7 @@ pub one-parcel : (from to : ℕ) (sealed : Sealed) (one other : Parcel) → Seal
 one-parcel from to sealed one other is too =
     let stamp = sym is.0 ∙ too.0 in
     let place = sym is.1 ∙ too.1 in
-    let envelope = one-value SpellsEnvelope envelope-code.read sealed.bytes _ _ is.2 too.2 in
+    let envelope = one-value SpellsEnvelope envelope-read sealed.bytes _ _ is.2 too.2 in
     λ i. record { stamp = stamp i; place = place i; message = (envelope i).message }
 
 module _ (setup : Setup) (histories : List (List Stamped)) (rings : ℕ → ℕ → Ring) (go : GoByRings setup histories rings) (to : ℕ) (there : to < length histories) where

@@ -35,7 +35,7 @@ spelled-contents records (Some contents) spelled = (contents, refl, spelled)
 
 -- The log of a site that is up holds its records.
 pub up-holds : {W : Type 0} (M : LogModel W) (site : SiteState W) (running : Running) (up : IsUp M site running) → SpellRecords site.records up.contents
-up-holds M site running up = (subst (HoldsWhatRuns M site.log site.records) up.up up.ready.holds).held up.contents up.known
+up-holds M site running up = (subst (HoldsWhatRuns M site.log site.surplus site.records) up.up up.ready.holds).held up.contents up.known
 
 -- What a crash leaves of a log on which a site is being opened.
 module _ {W : Type 0} (M : LogModel W) (log : W) (contents : Contents) (intact : M.is_intact log) (up : M.is_down log ≡ false) (known : M.contents log ≡ Some contents) where

@@ -174,7 +174,7 @@ module _ (setup : Setup) (earlier : List Transition) (transition : Transition) (
   world = world_after (opening setup) earlier
 
   abbrev here : Here
-  here = record { me = n; setup = setup; records = records_at world n; running = running }
+  here = record { me = n; setup = setup; records = records_at world n; surplus = 0; running = running }
 
   module _ (up : memory_at world n ≡ Some running) (ordered : AreMemoriesInOrder world) (txn : TxnId) (own_home : home_of txn ≡ n) where
     entry-there : (asked : TxnId) (entry : Entry) → of_txn (λ (e : Entry). e.txn) asked running.entries ≡ Some entry → entry.txn ≡ txn → entry_of world txn ≡ Some entry

@@ -98,7 +98,7 @@ module _ (setup : Setup) (w : World) (event : Event) where
         → BeginsMove (attempts (record w { fresh = fresh }) n (of_step n (site_step setup n (records_at w n) running input)))
     packs : (n : ℕ) (standing : Standing) (running : Running) → memory_at w n ≡ Some running → ((m : ℕ) → is_tick_of m event ≡ false)
         → BeginsMove (attempts w n (of_checkpoint standing running))
-    opens : (n : ℕ) (started : Started) → StartCase setup (records_at w n) started → ((m : ℕ) → is_tick_of m event ≡ false) → BeginsMove (attempts w n (of_start n started))
+    opens : (n : ℕ) (started : Started) → StartCase setup 0 (records_at w n) started → ((m : ℕ) → is_tick_of m event ≡ false) → BeginsMove (attempts w n (of_start n started))
 
   -- nothing is sent, and each memory is as it was, or is empty
   silent : (after : World) → after.sent ≡ w.sent → ((m : ℕ) → After m (memory_at after m)) → IsMove setup w event after
@@ -138,7 +138,7 @@ module _ (setup : Setup) (w : World) (event : Event) where
 
   opened-makes : (n : ℕ) → ((m : ℕ) → is_tick_of m event ≡ false) → (running : Option Running) → BeginsMove (opened setup w n running)
   opened-makes n untimed (Some running) = settles _ w (untouched w refl refl untimed)
-  opened-makes n untimed None = opens n (site_start setup (records_at w n)) (start-case setup (records_at w n)) untimed
+  opened-makes n untimed None = opens n (site_start setup 0 (records_at w n)) (start-case setup 0 (records_at w n)) untimed
 
   packed-makes : (n : ℕ) → ((m : ℕ) → is_tick_of m event ≡ false) → (running : Option Running) → memory_at w n ≡ running → BeginsMove (packed w n running)
   packed-makes n untimed None is = settles _ w (untouched w refl refl untimed)
@@ -180,7 +180,7 @@ module _ (setup : Setup) (w : World) (event : Event) where
       (record { records = records_at w n ++ option_to_list attempt.appended; standing = standing_made attempt.packs (site_at w n).standing; arm = arm; running = attempt.running })
       new (λ m apart. untimed m))
 
-  whole-start : (n : ℕ) (started : Started) → StartCase setup (records_at w n) started → ((m : ℕ) → is_tick_of m event ≡ false) → (arm : Option Arm)
+  whole-start : (n : ℕ) (started : Started) → StartCase setup 0 (records_at w n) started → ((m : ℕ) → is_tick_of m event ≡ false) → (arm : Option Arm)
       → IsMove setup w event (completed w n (of_start n started) arm)
   whole-start n started (of_starts.no_epoch_left h) untimed arm = start-move n (of_start n no_epoch) arm refl (empty n) untimed
   whole-start n started (of_starts.no_room h i) untimed arm = start-move n (of_start n started) arm refl (empty n) untimed
@@ -202,7 +202,7 @@ module _ (setup : Setup) (w : World) (event : Event) where
   attempted-steps fresh n running input takes untimed (waits arm) = whole-step fresh n running input takes untimed arm
   attempted-steps fresh n running input takes untimed (fires arm) = broken-move fresh n _ _ untimed
 
-  attempted-opens : (n : ℕ) (started : Started) → StartCase setup (records_at w n) started → ((m : ℕ) → is_tick_of m event ≡ false) → (left : Reached) → IsMove setup w event (attempted w n (of_start n started) left).1
+  attempted-opens : (n : ℕ) (started : Started) → StartCase setup 0 (records_at w n) started → ((m : ℕ) → is_tick_of m event ≡ false) → (left : Reached) → IsMove setup w event (attempted w n (of_start n started) left).1
   attempted-opens n started case untimed (waits arm) = whole-start n started case untimed arm
   attempted-opens n started case untimed (fires arm) = broken-move w.fresh n _ _ (λ m apart. untimed m)
 
@@ -224,7 +224,7 @@ module _ (setup : Setup) (w : World) (event : Event) where
   end-steps fresh n running input takes untimed lines after (anywhere.without stops some standing may) = broken-move fresh n None standing untimed
   end-steps fresh n running input takes untimed lines after (anywhere.with_record stops appended is standing may) = broken-move fresh n (Some appended) standing untimed
 
-  end-opens : (n : ℕ) (started : Started) → StartCase setup (records_at w n) started → ((m : ℕ) → is_tick_of m event ≡ false)
+  end-opens : (n : ℕ) (started : Started) → StartCase setup 0 (records_at w n) started → ((m : ℕ) → is_tick_of m event ≡ false)
       → (lines : List Line) (after : World) → MayEnd w n (of_start n started) lines after → IsMove setup w event after
   end-opens n started case untimed lines after anywhere.whole = whole-start n started case untimed None
   end-opens n started case untimed lines after (anywhere.without stops some standing may) = broken-move w.fresh n None standing (λ m apart. untimed m)

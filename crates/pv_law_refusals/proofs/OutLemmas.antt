@@ -47,7 +47,7 @@ module _ (setup : Setup) (world : World) (transition : Transition) (txn : TxnId)
     (same_records : (n : ℕ) → records_at transition.world n ≡ records_at left n) (same_memory : (n : ℕ) → memory_at transition.world n ≡ memory_at left n) (ordered : AreMemoriesInOrder world)
     (settled : IsSettled setup world) (goes : Acts setup world transition.world) where
   abbrev pub here : Here
-  here = record { me = noted.n; setup = setup; records = records_at world noted.n; running = noted.running }
+  here = record { me = noted.n; setup = setup; records = records_at world noted.n; surplus = 0; running = noted.running }
 
   pub refuses : Refuses here txn noted.input cause
   refuses = refusal-noted here txn cause noted.input (subst (Contains (step_on here noted.input).notes) (refusal-of noted.n noted.note txn cause noted.printed) noted.noted)

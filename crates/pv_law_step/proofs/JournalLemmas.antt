@@ -1,5 +1,5 @@
 -- How long a journal is with one more record.
-use Rattle.std.proofs.Common.{◌≡◌, ℕ, ℤ, ◌+◌, ◌*◌, ◌<◌, ◌≤◌, ◌^◌, List, [], ◌∷◌, ◌++◌, length, map, arith}
+use Rattle.std.proofs.Common.{◌≡◌, refl, ℕ, zero, suc, ℤ, ◌+◌, ◌*◌, ◌<◌, ◌≤◌, ◌^◌, List, [], ◌∷◌, ◌++◌, length, map, arith}
 use Rattle.std.specs.Prelude.{All}
 use Rattle.std.specs.List.{sum_by}
 use Rattle.std.proofs.lemmas.List.Elements.{All-contains}
@@ -9,19 +9,32 @@ use Rattle.std.proofs.Math.Nat.{mul-suc}
 use Rattle.pv_base.specs.declared.limits.TheConstants.{HELD_NAMES}
 use Rattle.pv_base.specs.declared.txn.TxnId.{TxnId}
 use Rattle.pv_base.specs.Polyvalue.{Case}
-use Rattle.pv_format.specs.Length.{case_length, polyvalue_length}
+use Rattle.pv_format.specs.Length.{polyvalue_length}
 use Rattle.pv_format.specs.Range.{IsPolyvalueWithin, AreReadsWithin}
 use Rattle.pv_format.specs.Record.{Record, prepared}
 use Rattle.pv_law_format.proofs.CaseCount.{polyvalue-few}
 use Rattle.pv_law_step.proofs.Lists.{all-from, all-head, all-tail}
 use Rattle.pv_model.specs.Alternatives.{Read}
 use Rattle.pv_protocol.specs.Here.{Here, length_with}
-use Rattle.pv_protocol.specs.Records.{record_bytes, journal_bytes}
+use Rattle.pv_protocol.specs.Records.{record_bytes, journal_bytes, longer_journal}
 use Rattle.pv_protocol.specs.Sound.{IsHereInRange}
 
 pub journal-more : (records : List Record) (more : Record) → journal_bytes (records ++ more ∷ []) ≡ journal_bytes records + record_bytes more
 unfolding journal_bytes
 journal-more records more = omega (arith, sum_by-append record_bytes records (more ∷ []))
+
+-- A journal without records.
+pub no-records-long : journal_bytes [] ≡ 9
+unfolding journal_bytes
+no-records-long = omega arith
+
+-- The same of a journal that is longer than its records make it.
+pub longer-sum : (surplus : ℕ) (records : List Record) → longer_journal surplus records ≡ surplus + journal_bytes records
+longer-sum zero records = omega arith
+longer-sum (suc more) records = refl
+
+pub longer-more : (surplus : ℕ) (records : List Record) (more : Record) → longer_journal surplus (records ++ more ∷ []) ≡ longer_journal surplus records + record_bytes more
+longer-more surplus records more = omega (arith, longer-sum surplus (records ++ more ∷ []), longer-sum surplus records, journal-more records more)
 
 -- A sum of small numbers is small.
 sum-small : {X : Type 0} (f : X → ℕ) (most : ℕ) (xs : List X) → All (λ x. f x ≤ most) xs → sum_by f xs ≤ most * length xs
@@ -31,16 +44,11 @@ sum-small f most (x ∷ xs) small =
     let first = all-head (λ y. f y ≤ most) x xs small in
     omega (arith, rest, first, sum_by-cons f x xs, mul-suc most (length xs))
 
-case-short : (case : Case ℤ) → length case.when ≤ HELD_NAMES → case_length case ≤ 2559
-case-short case few = let small : length case.when ≤ 255 = omega (arith, few) in omega (arith, small)
-
 polyvalue-short : (sites : ℕ) (cases : List (Case ℤ)) → IsPolyvalueWithin sites cases → polyvalue_length cases ≤ 200000000
 polyvalue-short sites cases is =
     let few = polyvalue-few HELD_NAMES cases is.polyvalue in
     let count : length cases ≤ 65535 = omega (arith, few.count) in
-    let each : All (λ case. case_length case ≤ 2559) cases =
-    all-from (λ case. case_length case ≤ 2559) cases (λ case h. case-short case (All-contains (λ case. length case.when ≤ HELD_NAMES) cases case few.literals h)) in
-    omega (arith, count, sum-small case_length 2559 cases each)
+    omega (arith, count)
 
 module _ (sites : ℕ) (here : Here) (sound : IsHereInRange sites here) where
   pub length-short : (txn : TxnId) (writes : List Read) → AreReadsWithin sites 0 writes → length_with here (prepared txn writes) < 2 ^ 64

@@ -8,31 +8,31 @@ use Rattle.pv_base.specs.declared.limits.TheConstants.{MAX_SITES, NEVER_GIVEN}
 use Rattle.pv_format.specs.Contents.{greatest_epoch}
 use Rattle.pv_format.specs.Range.{IsRecordWithin}
 use Rattle.pv_format.specs.Record.{Record, epoch_begun}
-use Rattle.pv_law_step.proofs.JournalLemmas.{journal-more}
+use Rattle.pv_law_step.proofs.JournalLemmas.{longer-more}
 use Rattle.pv_law_step.proofs.StepCases.{if_case}
 use Rattle.pv_law_step.proofs.WidthLemmas.{other-narrow}
 use Rattle.pv_law_step.specs.StartCases.{StartCase, no_epoch_left, no_room, begins}
-use Rattle.pv_protocol.specs.Records.{record_bytes, journal_bytes}
+use Rattle.pv_protocol.specs.Records.{record_bytes, longer_journal}
 use Rattle.pv_protocol.specs.Sound.{IsSetupInRange, IsHeldInRange, IsEntryInRange, IsHereInRange}
 use Rattle.pv_protocol.specs.Start.{Started, starts, just_started, site_start}
 use Rattle.pv_protocol.specs.State.{Setup, Running}
 use Rattle.pv_protocol.specs.Width.{IsNarrow}
 
-pub start-case : (setup : Setup) (records : List Record) → StartCase setup records (site_start setup records)
+pub start-case : (setup : Setup) (surplus : ℕ) (records : List Record) → StartCase setup surplus records (site_start setup surplus records)
 unfolding site_start
-start-case setup records =
-    if_case (StartCase setup records) (nat_le NEVER_GIVEN (greatest_epoch records + 1)) no_epoch_left
-    (λ left. if_case (StartCase setup records) (nat_lt setup.catalog.journal (journal_bytes records + record_bytes (epoch_begun (greatest_epoch records + 1))))
+start-case setup surplus records =
+    if_case (StartCase setup surplus records) (nat_le NEVER_GIVEN (greatest_epoch records + 1)) no_epoch_left
+    (λ left. if_case (StartCase setup surplus records) (nat_lt setup.catalog.journal (longer_journal surplus records + record_bytes (epoch_begun (greatest_epoch records + 1))))
     (no_room left) (begins left))
 
-module _ (sites : ℕ) (setup : Setup) (bound : setup.catalog.sites ≤ sites) (most : sites ≤ MAX_SITES) (me : ℕ) (records : List Record) (fine : IsSetupInRange setup) (here : me < setup.catalog.sites) (all : All (IsRecordWithin sites) records)
+module _ (sites : ℕ) (setup : Setup) (bound : setup.catalog.sites ≤ sites) (most : sites ≤ MAX_SITES) (me : ℕ) (surplus : ℕ) (records : List Record) (fine : IsSetupInRange setup) (here : me < setup.catalog.sites) (all : All (IsRecordWithin sites) records)
     (narrow : IsNarrow setup.held_names setup.catalog me records) where
   -- The site with its new record and this memory is sound.
   abbrev Sound : Running → Record → Type 0
-  Sound running new = IsHereInRange sites (record { me = me; setup = setup; records = records ++ new ∷ []; running = running })
+  Sound running new = IsHereInRange sites (record { me = me; setup = setup; records = records ++ new ∷ []; surplus = surplus; running = running })
 
   started-sound : nat_le NEVER_GIVEN (greatest_epoch records + 1) ≡ false
-      → nat_lt setup.catalog.journal (journal_bytes records + record_bytes (epoch_begun (greatest_epoch records + 1))) ≡ false
+      → nat_lt setup.catalog.journal (longer_journal surplus records + record_bytes (epoch_begun (greatest_epoch records + 1))) ≡ false
       → Sound (just_started (greatest_epoch records + 1)) (epoch_begun (greatest_epoch records + 1))
   started-sound left room =
       let epoch = greatest_epoch records + 1 in
@@ -45,11 +45,11 @@ module _ (sites : ℕ) (setup : Setup) (bound : setup.catalog.sites ≤ sites) (
         records = All-append (IsRecordWithin sites) records (epoch_begun (greatest_epoch records + 1) ∷ []) all
             (All-cons (IsRecordWithin sites) (epoch_begun (greatest_epoch records + 1)) [] (omega arith, omega (arith, below)) (All-nil (IsRecordWithin sites)));
         narrow = other-narrow setup.catalog setup.held_names me records narrow (epoch_begun (greatest_epoch records + 1)) (λ txn writes same. cc);
-        room = omega (arith, journal-more records (epoch_begun (greatest_epoch records + 1)), ltb-false _ _ room);
+        room = omega (arith, longer-more surplus records (epoch_begun (greatest_epoch records + 1)), ltb-false _ _ room);
         running = record { epoch = below; next_txn = omega arith; next_grant = omega arith; grants = All-nil (IsHeldInRange sites setup.catalog me); entries = All-nil (IsEntryInRange sites setup.catalog) };
       }
 
-  pub start-sound : (started : Started) → StartCase setup records started → (running : Running) (new : Record) → started ≡ starts running new → Sound running new
+  pub start-sound : (started : Started) → StartCase setup surplus records started → (running : Running) (new : Record) → started ≡ starts running new → Sound running new
   start-sound started (no_epoch_left h) running new same = absurd (let wrong : ⊥ = cc in wrong)
   start-sound started (no_room h i) running new same = absurd (let wrong : ⊥ = cc in wrong)
   start-sound started (begins left room) running new same =

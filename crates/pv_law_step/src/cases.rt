@@ -70,5 +70,5 @@ pub fn ask_cases()
 
 /// A start finds no epoch left or no room, or begins.
 pub fn start_cases()
-    ensures { (setup : Setup) (records : List Record) → StartCase setup records (site_start setup records) }
+    ensures { (setup : Setup) (surplus : ℕ) (records : List Record) → StartCase setup surplus records (site_start setup surplus records) }
 {}

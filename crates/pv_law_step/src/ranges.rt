@@ -54,9 +54,9 @@ pub fn steps_stay_sound()
 
 /// A site that starts is sound where its records are in range and narrow.
 pub fn starts_are_sound()
-    ensures { (sites : ℕ) (setup : Setup) → setup.catalog.sites ≤ sites → sites ≤ MAX_SITES → (me : ℕ) (records : List Record) → IsSetupInRange setup → me < setup.catalog.sites → All (IsRecordWithin sites) records →
-        IsNarrow setup.held_names setup.catalog me records → (running : Running) (new : Record) → site_start setup records ≡ starts running new →
-        IsHereInRange sites (record { me = me; setup = setup; records = records ++ new ∷ []; running = running }) }
+    ensures { (sites : ℕ) (setup : Setup) → setup.catalog.sites ≤ sites → sites ≤ MAX_SITES → (me surplus : ℕ) (records : List Record) → IsSetupInRange setup → me < setup.catalog.sites → All (IsRecordWithin sites) records →
+        IsNarrow setup.held_names setup.catalog me records → (running : Running) (new : Record) → site_start setup surplus records ≡ starts running new →
+        IsHereInRange sites (record { me = me; setup = setup; records = records ++ new ∷ []; surplus = surplus; running = running }) }
 {}
 
 /// Each message that a site sends has a spelling, where what it holds and what it is given is in range.

@@ -2,10 +2,10 @@
 use Rattle.std.proofs.Common.{◌≡◌, ℕ, ◌<◌, Some, None, Option, [], length, ap}
 use Rattle.std.specs.Prelude.{nat_lt}
 use Rattle.std.proofs.lemmas.List.{get_or-set_same}
-use Rattle.pv_format.specs.Checkpoint.{Standing, done, greatest_number}
+use Rattle.pv_format.specs.Checkpoint.{done, greatest_number}
 use Rattle.pv_law_step.proofs.StepCases.{if_case}
 use Rattle.pv_model.specs.Events.{Event}
-use Rattle.pv_protocol.specs.Arms.{Reached, waits, fires, reached, calls_of, completed, attempted}
+use Rattle.pv_protocol.specs.Arms.{Reached, waits, fires, reached, calls_of, attempted}
 use Rattle.pv_protocol.specs.Attempt.{Begun, begun, packed, of_checkpoint}
 use Rattle.pv_protocol.specs.State.{Setup, Running, Site}
 use Rattle.pv_protocol.specs.World.{World, no_site, site_at}

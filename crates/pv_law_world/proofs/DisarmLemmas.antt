@@ -1,5 +1,5 @@
 -- A world without armed faults does what the same world does with them, but for where they fire.
-use Rattle.std.proofs.Common.{arith, ◌≡◌, ◌⊎◌, inl, inr, ℕ, zero, suc, ◌<◌, Bool, true, false, Some, None, Option, List, [], ◌∷◌, ◌++◌, map, refl, sym, ap, ◌∙◌, subst}
+use Rattle.std.proofs.Common.{arith, ◌≡◌, inl, inr, ℕ, zero, suc, ◌<◌, Bool, true, false, Some, None, Option, List, [], ◌∷◌, ◌++◌, map, refl, sym, ap, ◌∙◌, subst}
 use Rattle.std.specs.Prelude.{set, slice_get, option_to_list, replicate, nat_lt, ◌+◌, ◌&&◌, filter, if◌then◌else◌, All}
 use Rattle.std.specs.List.{list_all}
 use Rattle.std.proofs.lemmas.List.{map-set}
@@ -142,7 +142,7 @@ module _ (setup : Setup) where
   opened-same : (world : World) (n : ℕ) (running : Option Running) → AreSame (opened setup world n running) (opened setup (disarmed world) n running)
   opened-same world n (Some running) = both_settle _ world (disarmed world) (disarmed-twice world)
   opened-same world n None =
-      subst (λ (records : List Record). AreSame (opened setup world n None) (attempts (disarmed world) n (of_start n (site_start setup records))))
+      subst (λ (records : List Record). AreSame (opened setup world n None) (attempts (disarmed world) n (of_start n (site_start setup 0 records))))
       (records-same world n) (both_attempt world n _)
 
   -- the same test decides in both

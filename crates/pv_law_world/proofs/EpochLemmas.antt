@@ -1,5 +1,5 @@
 -- A site that is up is in the epoch that it recorded last, and its memory stands in order.
-use Rattle.std.proofs.Common.{arith, ◌≡◌, ℕ, ◌+◌, Some, None, Option, List, ◌++◌, refl, sym, ap, ◌∙◌, subst}
+use Rattle.std.proofs.Common.{arith, ◌≡◌, ℕ, ◌+◌, Option, List, ◌++◌, refl, sym, ap, ◌∙◌, subst}
 use Rattle.std.specs.Prelude.{option_to_list}
 use Rattle.std.proofs.lemmas.List.{append-nil}
 use Rattle.std.proofs.lemmas.Option.{none-some}
@@ -30,7 +30,7 @@ appended-epoch here more (a_promise txn writes is room) = epoch-stays here.recor
 abbrev pub IsRecorded : ℕ → List Record → Running → Type 0
 IsRecorded n records running = running.epoch ≡ greatest_epoch records
 
-started-recorded : (n : ℕ) (setup : Setup) (records : List Record) (started : Started) → StartCase setup records started
+started-recorded : (n : ℕ) (setup : Setup) (records : List Record) (started : Started) → StartCase setup 0 records started
     → WhereUp IsRecorded n (records ++ option_to_list (of_start n started).appended) (of_start n started).running
 started-recorded n setup records started (no_epoch_left h) up is = absurd (none-some _ is)
 started-recorded n setup records started (no_room h i) up is = absurd (none-some _ is)
@@ -41,9 +41,9 @@ pub epochs-kept : (setup : Setup) → IsKept setup (WhereUp IsRecorded)
 epochs-kept setup = record {
   stops = λ n records running is up none. absurd (none-some _ none);
   steps = λ n records running input is up now.
-      let here : Here = record { me = n; setup = setup; records = records; running = running } in
+      let here : Here = record { me = n; setup = setup; records = records; surplus = 0; running = running } in
       ap (λ (after : Running). after.epoch) (sym (Some_inj now)) ∙ ((steady here input).rises.epoch ∙ (is running refl ∙ sym (appended-epoch here _ (steady here input).appends)));
-  begins = λ n records none. started-recorded n setup records (site_start setup records) (start-case setup records);
+  begins = λ n records none. started-recorded n setup records (site_start setup 0 records) (start-case setup 0 records);
   first = λ n up is. ap (λ (running : Running). running.epoch) (sym (Some_inj is));
 }
 
@@ -54,7 +54,7 @@ IsOrdered n records running = IsInOrder running
 fresh-ordered : (epoch : ℕ) → IsInOrder (just_started epoch)
 fresh-ordered epoch = record { grants = none-ascend; entries = none-ascend }
 
-started-ordered : (n : ℕ) (records : List Record) (setup : Setup) (started : Started) → StartCase setup records started
+started-ordered : (n : ℕ) (records : List Record) (setup : Setup) (started : Started) → StartCase setup 0 records started
     → WhereUp IsOrdered n (records ++ option_to_list (of_start n started).appended) (of_start n started).running
 started-ordered n records setup started (no_epoch_left h) up is = absurd (none-some _ is)
 started-ordered n records setup started (no_room h i) up is = absurd (none-some _ is)
@@ -65,7 +65,7 @@ order-kept setup = record {
   stops = λ n records running is up none. absurd (none-some _ none);
   steps = λ n records running input is up now.
       subst IsInOrder (Some_inj now)
-      (stays-in-order (record { me = n; setup = setup; records = records; running = running }) (is running refl) input);
-  begins = λ n records none. started-ordered n records setup (site_start setup records) (start-case setup records);
+      (stays-in-order (record { me = n; setup = setup; records = records; surplus = 0; running = running }) (is running refl) input);
+  begins = λ n records none. started-ordered n records setup (site_start setup 0 records) (start-case setup 0 records);
   first = λ n up is. subst IsInOrder (Some_inj is) (fresh-ordered 1);
 }

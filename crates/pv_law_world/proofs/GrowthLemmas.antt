@@ -101,7 +101,7 @@ module _ (setup : Setup) (world : World) where
 
   opened-leaves : (n : ℕ) (running : Option Running) → Leaves world (Some n) (opened setup world n running)
   opened-leaves n (Some running) = settles _ world keeps-all
-  opened-leaves n None = goes_on world n _ refl refl refl refl refl (inr (start-silent n (site_start setup (site_at world n).records)))
+  opened-leaves n None = goes_on world n _ refl refl refl refl refl (inr (start-silent n (site_start setup 0 (site_at world n).records)))
 
   packed-leaves : (n : ℕ) (running : Option Running) → Leaves world (Some n) (packed world n running)
   packed-leaves n None = settles _ world keeps-all

@@ -67,7 +67,7 @@ module _ (setup : Setup) (world : World) where
   stepped-later n records running input is = record {
     up = λ before after was now.
         subst (λ (r : Running). Rises r after) (Some_inj (sym is ∙ was))
-        (subst (Rises running) (Some_inj now) (steady (record { me = n; setup = setup; records = records; running = running }) input).rises);
+        (subst (Rises running) (Some_inj now) (steady (record { me = n; setup = setup; records = records; surplus = 0; running = running }) input).rises);
     start = λ after was now. absurd (none-some _ (sym was ∙ is));
   }
 
@@ -89,7 +89,7 @@ module _ (setup : Setup) (world : World) where
   halted-rising n None = rising-same _
   halted-rising n (Some running) = settles _ _ (put-later world.sites n _ (down-later (site_at world n)))
 
-  started-later : (n : ℕ) → (site_at world n).running ≡ None → IsLater (site_at world n) (of_start n (site_start setup (site_at world n).records)).running
+  started-later : (n : ℕ) → (site_at world n).running ≡ None → IsLater (site_at world n) (of_start n (site_start setup 0 (site_at world n).records)).running
   unfolding site_start
   started-later n is =
       if_case (λ (s : Started). IsLater (site_at world n) (of_start n s).running) (nat_le NEVER_GIVEN (greatest_epoch (site_at world n).records + 1))

@@ -117,7 +117,7 @@ module _ (setup : Setup) (few : HasFewSites setup.catalog) (world : World) (mark
     given-lighter (Some running) =
         attempted-lighter envelope.to
         (of_step envelope.to (site_step setup envelope.to (site_at (with_done world n) envelope.to).records running (receive envelope.from envelope.message)))
-        (message-light setup few envelope.to (site_at (with_done world n) envelope.to).records running envelope.from envelope.message) _
+        (message-light (record { me = envelope.to; setup = setup; records = (site_at (with_done world n) envelope.to).records; surplus = 0; running = running }) few envelope.from envelope.message) _
 
   -- The least fresh message is one that was sent.
   next-sent : (n : ℕ) → next_fresh world ≡ Some n → (n < length world.sent) × (get_or world.fresh n false ≡ true)

@@ -114,7 +114,7 @@ module _ (setup : Setup) where
 
 -- the running site of a world
 abbrev here_at : Setup → World → ℕ → Running → Here
-here_at setup world n running = record { me = n; setup = setup; records = (site_at world n).records; running = running }
+here_at setup world n running = record { me = n; setup = setup; records = (site_at world n).records; surplus = 0; running = running }
 
 module _ (sends_stay : SendsInRange) (sound_stays : StaysSound) (setup : Setup) (setup_fine : IsSetupInRange setup) (world : World) (fine : IsWorldInRange setup world) where
   -- a running site of a world in range
@@ -162,10 +162,10 @@ module _ (sends_stay : SendsInRange) (sound_stays : StaysSound) (setup : Setup) 
 -- what holds of a start
 abbrev pub StartsSound : Type 0
 StartsSound =
-    (sites : ℕ) (setup : Setup) → setup.catalog.sites ≤ sites → sites ≤ MAX_SITES → (me : ℕ) (records : List Record) → IsSetupInRange setup
+    (sites : ℕ) (setup : Setup) → setup.catalog.sites ≤ sites → sites ≤ MAX_SITES → (me surplus : ℕ) (records : List Record) → IsSetupInRange setup
     → me < setup.catalog.sites → All (IsRecordWithin sites) records
-    → IsNarrow setup.held_names setup.catalog me records → (running : Running) (new : Record) → site_start setup records ≡ starts running new
-    → IsHereInRange sites (record { me = me; setup = setup; records = records ++ new ∷ []; running = running })
+    → IsNarrow setup.held_names setup.catalog me records → (running : Running) (new : Record) → site_start setup surplus records ≡ starts running new
+    → IsHereInRange sites (record { me = me; setup = setup; records = records ++ new ∷ []; surplus = surplus; running = running })
 
 module _ (sends_stay : SendsInRange) (sound_stays : StaysSound) (starts_sound : StartsSound) (setup : Setup) (setup_fine : IsSetupInRange setup)
     (world : World) (fine : IsWorldInRange setup world) where
@@ -196,12 +196,12 @@ module _ (sends_stay : SendsInRange) (sound_stays : StaysSound) (starts_sound : 
   halted-range n None = settles _ world fine
   halted-range n (Some running) = settles _ _ (changed-range n _ (λ site. down-in-range site _ refl refl))
 
-  started-range : (n : ℕ) (started : Started) → site_start setup (site_at world n).records ≡ started → n < length world.sites
+  started-range : (n : ℕ) (started : Started) → site_start setup 0 (site_at world n).records ≡ started → n < length world.sites
       → IsSiteInRange setup n (site_at world n) → IsAttemptInRange setup (site_at world n) n (of_start n started)
   started-range n (starts running new) is within site = record {
     whole = λ whole records memory.
-        let sound : IsHereInRange setup.catalog.sites (record { me = n; setup = setup; records = (site_at world n).records ++ new ∷ []; running = running })
-        = starts_sound setup.catalog.sites setup (omega arith) setup_fine.sites n (site_at world n).records setup_fine (subst (λ (count : ℕ). n < count) fine.count within) site.records site.narrow running new is in
+        let sound : IsHereInRange setup.catalog.sites (record { me = n; setup = setup; records = (site_at world n).records ++ new ∷ []; surplus = 0; running = running })
+        = starts_sound setup.catalog.sites setup (omega arith) setup_fine.sites n 0 (site_at world n).records setup_fine (subst (λ (count : ℕ). n < count) fine.count within) site.records site.narrow running new is in
         record {
           records = rw records sound.records;
           narrow = subst (IsNarrow setup.held_names setup.catalog n) (sym records) sound.narrow;
@@ -227,7 +227,7 @@ module _ (sends_stay : SendsInRange) (sound_stays : StaysSound) (starts_sound : 
   opened-range : (n : ℕ) (running : Option Running) → IsBegunInRange setup (opened setup world n running)
   opened-range n (Some running) = settles _ world fine
   opened-range n None =
-      goes_on world n _ fine (started-range n (site_start setup (site_at world n).records) refl) (start-silent n (site_start setup (site_at world n).records))
+      goes_on world n _ fine (started-range n (site_start setup 0 (site_at world n).records) refl) (start-silent n (site_start setup 0 (site_at world n).records))
 
   packed-range : (n : ℕ) (running : Option Running) → (site_at world n).running ≡ running → IsBegunInRange setup (packed world n running)
   packed-range n None is = settles _ world fine

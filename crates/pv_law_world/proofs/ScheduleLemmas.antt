@@ -1,5 +1,5 @@
 -- The events of a schedule's text are well formed.
-use Rattle.std.proofs.Common.{arith, ◌≡◌, inl, inr, ℕ, ◌<◌, ◌≤◌, true, false, Option, Some, None, List, [], ◌∷◌, length, length-append, le_trans, lt_of_lt_of_le, sym, subst, ◌∙◌}
+use Rattle.std.proofs.Common.{arith, ◌≡◌, inl, inr, ℕ, ◌<◌, ◌≤◌, true, false, Option, Some, List, [], ◌∷◌, length, length-append, le_trans, lt_of_lt_of_le, sym, subst, ◌∙◌}
 use Rattle.std.specs.Prelude.{get_or, All, IsTrue}
 use Rattle.pv_base.specs.Catalog.{Declared}
 use Rattle.std.proofs.lemmas.List.Elements.{All-nil, All-cons, All-get_or}

@@ -32,7 +32,7 @@ pub record IsKept (setup : Setup) (P : ℕ → List Record → Option Running �
   pub steps : (n : ℕ) (records : List Record) (running : Running) (input : Input) → P n records (Some running)
       → P n (records ++ option_to_list (site_step setup n records running input).appended) (Some (site_step setup n records running input).running)
   pub begins : (n : ℕ) (records : List Record) → P n records None
-      → P n (records ++ option_to_list (of_start n (site_start setup records)).appended) (of_start n (site_start setup records)).running
+      → P n (records ++ option_to_list (of_start n (site_start setup 0 records)).appended) (of_start n (site_start setup 0 records)).running
   pub first : (n : ℕ) → P n (epoch_begun 1 ∷ []) (Some (just_started 1))
 
 module _ (setup : Setup) (P : ℕ → List Record → Option Running → Type 0) (kept : IsKept setup P) where

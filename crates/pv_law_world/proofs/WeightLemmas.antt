@@ -5,7 +5,6 @@ use Rattle.pv_base.specs.declared.grant.GrantId.{GrantId}
 use Rattle.pv_base.specs.declared.txn.TxnId.{TxnId}
 use Rattle.pv_base.specs.Want.{Want}
 use Rattle.pv_format.specs.Message.{Message, lock, granted, denied, prepare, vote_yes, vote_no, outcome_reported, ask, NoCause}
-use Rattle.pv_format.specs.Record.{Record}
 use Rattle.pv_law_step.proofs.StepCases.{lock-case, granted-case, denied-case, prepare-case, yes-case, no-case, outcome-case, ask-case}
 use Rattle.pv_law_step.specs.GrantCases as grants
 use Rattle.pv_law_step.specs.LockCases as locks
@@ -17,8 +16,8 @@ use Rattle.pv_model.specs.Alternatives.{Read}
 use Rattle.pv_protocol.specs.Granted.{taking, taken_from, prepare_under, prepare_sends}
 use Rattle.pv_protocol.specs.Here.{Here, outcome_sends, participants}
 use Rattle.pv_protocol.specs.Pump.{weight}
-use Rattle.pv_protocol.specs.State.{Setup, Entry, Taken, Running, receive, Outgoing, Step}
-use Rattle.pv_protocol.specs.Step.{site_step}
+use Rattle.pv_protocol.specs.State.{Entry, Taken, receive, Outgoing, Step}
+use Rattle.pv_protocol.specs.Step.{step_on}
 use Rattle.pv_protocol.specs.Vote.{others_than}
 
 -- the weights of what is sent
@@ -44,23 +43,20 @@ prepares-weight here entry (site ∷ sites) = one-more (taken_from entry site) (
     one-more None rest = omega arith
     one-more (Some taken) rest = omega arith
 
-module _ (setup : Setup) (few : HasFewSites setup.catalog) (me : ℕ) (records : List Record) (running : Running) (from : ℕ) where
-  abbrev here : Here
-  here = record { me = me; setup = setup; records = records; running = running }
-
+module _ (here : Here) (few : HasFewSites here.setup.catalog) (from : ℕ) where
   refusals-weight : (entry : Entry) (commits : Bool) → weight_sent (outcome_sends entry.txn commits (participants here entry)) ≤ 16
-  refusals-weight entry commits = rw (outcomes-weight entry.txn commits (participants here entry)) (few-participants setup.catalog entry.program few)
+  refusals-weight entry commits = rw (outcomes-weight entry.txn commits (participants here entry)) (few-participants here.setup.catalog entry.program few)
 
-  others-weight : (entry : Entry) → weight_sent (outcome_sends entry.txn true (others_than me (participants here entry))) ≤ 16
+  others-weight : (entry : Entry) → weight_sent (outcome_sends entry.txn true (others_than here.me (participants here entry))) ≤ 16
   others-weight entry =
-      let fewer : length (others_than me (participants here entry)) ≤ length (participants here entry) = others-few me (participants here entry) in
-      let all : length (participants here entry) ≤ 16 = few-participants setup.catalog entry.program few in
-      rw (outcomes-weight entry.txn true (others_than me (participants here entry))) (omega arith)
+      let fewer : length (others_than here.me (participants here entry)) ≤ length (participants here entry) = others-few here.me (participants here entry) in
+      let all : length (participants here entry) ≤ 16 = few-participants here.setup.catalog entry.program few in
+      rw (outcomes-weight entry.txn true (others_than here.me (participants here entry))) (omega arith)
 
   votes-weight : (entry : Entry) → weight_sent (prepare_sends here entry) ≤ 4624
   votes-weight entry =
       let each : weight_sent (prepare_sends here entry) ≤ 289 * length (participants here entry) = prepares-weight here entry (participants here entry) in
-      let all : length (participants here entry) ≤ 16 = few-participants setup.catalog entry.program few in omega arith
+      let all : length (participants here entry) ≤ 16 = few-participants here.setup.catalog entry.program few in omega arith
 
   lock-light : (txn : TxnId) (wants : List Want) {step : Step} → locks.LockCase here from txn wants step → weight_sent step.sends < 83521
   lock-light txn wants (locks.ignored ignored) = omega arith
@@ -121,7 +117,7 @@ module _ (setup : Setup) (few : HasFewSites setup.catalog) (me : ℕ) (records :
   ask-light txn (outcomes.will_not_commit issued isnt works) = omega arith
 
   -- What a site sends on a message weighs less than the message.
-  pub message-light : (message : Message) → weight_sent (site_step setup me records running (receive from message)).sends < weight message
+  pub message-light : (message : Message) → weight_sent (step_on here (receive from message)).sends < weight message
   message-light (lock txn wants) = lock-light txn wants (lock-case here from txn wants)
   message-light (granted txn grant values) = granted-light txn grant values (granted-case here from txn grant values)
   message-light (denied txn item holder) = denied-light txn item holder (denied-case here from txn item holder)

@@ -92,10 +92,10 @@ some-of : {A : Type 0} (content : Option A) → is_some content ≡ true → (he
 some-of None is = absurd (let wrong : ⊥ = cc in wrong)
 some-of (Some held) is = (held, refl)
 
-held-up : {W : Type 0} (M : LogModel W) (log : W) (records : List Record) (running : Option Running) → is_some running ≡ true → HoldsWhatRuns M log records running
-    → HoldsRecords M log records
-held-up M log records None up holds = absurd (let wrong : ⊥ = cc in wrong)
-held-up M log records (Some running) up holds = holds
+held-up : {W : Type 0} (M : LogModel W) (log : W) (surplus : ℕ) (records : List Record) (running : Option Running) → is_some running ≡ true
+    → HoldsWhatRuns M log surplus records running → HoldsRecords M log surplus records
+held-up M log surplus records None up holds = absurd (let wrong : ⊥ = cc in wrong)
+held-up M log surplus records (Some running) up holds = holds
 
 -- A count of faults that rose isn't 0, and the count of a site rises by it.
 counted-so : (given failed before now : ℕ) → Rose given failed → now ≡ (if failed == 0 then before else risen before) → Rose before now
@@ -181,7 +181,7 @@ module _ {B V : Type 0} (M : BayModel B) (D : DiskModel V) where
     holds-so tells none =
         let up : is_some box.site.running ≡ true =
         ap (λ (s : Site). is_some s.running) closed.stands ∙ up-without (setup_of catalog) n first_site (history_in box) refl none in
-        let holds = held-up (ckpt_model D) box.site.log box.site.records box.site.running up closed.is_box.ready.holds in
+        let holds = held-up (ckpt_model D) box.site.log box.site.surplus box.site.records box.site.running up closed.is_box.ready.holds in
         let contents = some-of (contents_now D box.site.log) (kept.0 ∙ known-at-first catalog old n site launched tells) in
         let bytes = log_bytes (D.content box.site.log.disk) contents.0 contents.1 in
         subst (IsLogOf box.site.records) (sym (back.1 tells bytes.0 bytes.1)) (contents.0, log_contents_of-log contents.0 bytes.0 bytes.2, holds.held contents.0 contents.1)

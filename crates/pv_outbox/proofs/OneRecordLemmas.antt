@@ -5,7 +5,7 @@ use Rattle.pv_base.specs.declared.txn.TxnId.{TxnId}
 use Rattle.pv_base.proofs.BigEndianLemmas.{IsNumber-begins}
 use Rattle.pv_disk_model.specs.Size.{Contents}
 use Rattle.pv_format.specs.FirstFault.{PolyvalueFault}
-use Rattle.pv_format.specs.PolyvalueSpelling.{SpellsPolyvalue}
+use Rattle.pv_format.specs.Form.{SpellsIn, in_tree}
 use Rattle.pv_law_format.proofs.Codes.{both-code}
 use Rattle.pv_law_format.proofs.NumberCodes.{number-code, truth-code}
 use Rattle.pv_law_format.proofs.PartCodes.{txn-code}
@@ -16,11 +16,11 @@ use Rattle.pv_outbox.specs.Spelling.{kind_of, SpellsContent, SpellsRecord, Spell
 one-content : (entry other : Record) (bytes : List ℕ) → kind_of entry ≡ kind_of other → SpellsContent entry bytes → SpellsContent other bytes → entry ≡ other
 one-content (held output when) (held other others) bytes same s t =
     ap (λ (p : ℕ × List (Case ℤ)). held p.0 p.1)
-    ((both-code SpellsPolyvalue PolyvalueFault (number-code SpellsPolyvalue PolyvalueFault 4) polyvalue-code).read
+    ((both-code SpellsIn PolyvalueFault (number-code SpellsIn PolyvalueFault 4) (polyvalue-code in_tree)).read
     (output, when) (other, others) bytes bytes [] [] s t refl).0
 one-content (learnt txn commits) (learnt other others) bytes same s t =
     ap (λ (p : TxnId × Bool). learnt p.0 p.1)
-    ((both-code SpellsPolyvalue PolyvalueFault (txn-code SpellsPolyvalue PolyvalueFault) (truth-code SpellsPolyvalue PolyvalueFault)).read
+    ((both-code SpellsIn PolyvalueFault (txn-code SpellsIn PolyvalueFault) (truth-code SpellsIn PolyvalueFault)).read
     (txn, commits) (other, others) bytes bytes [] [] s t refl).0
 one-content (taken output) (taken other) bytes same s t = ap taken (IsNumber-begins 4 output other bytes bytes [] [] s t refl).0
 one-content (held output when) (learnt txn commits) bytes same s t = absurd (omega (arith, same))

@@ -8,7 +8,7 @@ use Rattle.pv_base.specs.Polyvalue.{Case}
 use Rattle.pv_base.specs.declared.txn.TxnId.{TxnId}
 use Rattle.pv_bytes.specs.Reading.{Rest}
 use Rattle.pv_fields.specs.Decoding.{Passes, Stops}
-use Rattle.pv_format.specs.FirstFault.{Fault, short, bad_field, bad_poly, extra, is_extra, HasFault, PolyvalueFault}
+use Rattle.pv_format.specs.FirstFault.{Fault, short, bad_field, bad_poly, extra, is_extra, HasFault, TreeFault}
 use Rattle.pv_format.specs.Layout.{Layout, nothing_more, txn_layout, truth_layout}
 use Rattle.pv_format.specs.PolyvalueSpelling.{BeginsWith}
 use Rattle.pv_format.specs.Spelling.{IsTruth, SpellsTxn}
@@ -67,10 +67,10 @@ module _ (content : List ℕ) (rest : Rest) (all : rest ≡ record { place = 0; 
 
 -- An output and its condition.
 module _ (content left : List ℕ) (output : ℕ) (fits : output < 2 ^ 32) (read : content ≡ big_endian 4 output ++ left) (place : ℕ)
-    (one : HasOneAnswer (λ (found : List (Case ℤ) × List ℕ). BeginsWith found.0 found.1 left) (PolyvalueFault place left)) where
-  pub no-condition : (e : PolyError) → (e ≡ NoMemory → ⊥) → IfSome (fault_of e) (PolyvalueFault place left) → IsNoContent 17 content
+    (one : HasOneAnswer (λ (found : List (Case ℤ) × List ℕ). BeginsWith found.0 found.1 left) (TreeFault place left)) where
+  pub no-condition : (e : PolyError) → (e ≡ NoMemory → ⊥) → IfSome (fault_of e) (TreeFault place left) → IsNoContent 17 content
   no-condition e memory is = λ entry spelled.
-      let found = found-fault {P = PolyvalueFault place left} e memory is in
+      let found = found-fault {P = TreeFault place left} e memory is in
       let begins = condition-left content left output fits read entry spelled in
       one.not_both (begins.0, []) found.0 begins.1 found.1
 

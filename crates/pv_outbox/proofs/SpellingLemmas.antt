@@ -9,6 +9,7 @@ use Rattle.pv_base.specs.declared.limits.TheConstants.{MAX_SITES}
 use Rattle.pv_base.specs.declared.txn.TxnId.{TxnId}
 use Rattle.pv_base.proofs.BigEndianLemmas.{IsNumber-begins, IsNumber-length}
 use Rattle.pv_format.specs.FirstFault.{Fault, EndFault, is_extra, HasFault, PolyvalueFault}
+use Rattle.pv_format.specs.Form.{SpellsIn}
 use Rattle.pv_format.specs.Layout.{Layout, nothing_more, txn_layout, truth_layout}
 use Rattle.pv_format.specs.PolyvalueSpelling.{SpellsPolyvalue, BeginsWith}
 use Rattle.pv_format.specs.Spelling.{◌followed_by◌, IsTruth, SpellsTxn, is_site}
@@ -198,6 +199,6 @@ pub no-outcome : (content : List ℕ) (fault : Fault) → HasFault (outcome_layo
 no-outcome content fault has entry is =
     let found = learnt-by entry content is in
     no-end-fault (0 + length content) fault
-    ((both-code SpellsPolyvalue PolyvalueFault (txn-code SpellsPolyvalue PolyvalueFault) (truth-code SpellsPolyvalue PolyvalueFault)).after
+    ((both-code SpellsIn PolyvalueFault (txn-code SpellsIn PolyvalueFault) (truth-code SpellsIn PolyvalueFault)).after
     (found.0, found.1.0) content [] nothing_more 0 fault found.1.1
     (subst (λ (b : List ℕ). HasFault (outcome_layout nothing_more) 0 b fault) (sym (append-nil content)) has))

@@ -81,7 +81,7 @@ halted world n (Some running) = at_once (Line.stopped n ∷ []) (with_site world
 -- a site that is down is started
 abbrev pub opened : Setup → World → ℕ → Option Running → Begun
 opened setup world n (Some running) = at_once (Line.up n ∷ []) world
-opened setup world n None = attempts world n (of_start n (site_start setup (site_at world n).records))
+opened setup world n None = attempts world n (of_start n (site_start setup 0 (site_at world n).records))
 
 -- what a site that is up is about to do in a checkpoint: its log, which stands so, is written anew, and nothing else changes
 abbrev pub of_checkpoint : Standing → Running → Attempt

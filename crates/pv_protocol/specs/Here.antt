@@ -6,14 +6,16 @@ use Rattle.pv_format.specs.Message.{Message, outcome_reported}
 use Rattle.pv_format.specs.Record.{Record}
 use Rattle.pv_model.specs.Plan.{participants_of}
 use Rattle.pv_protocol.specs.Keyed.{of_txn, with_one, without}
-use Rattle.pv_protocol.specs.Records.{record_bytes, journal_bytes}
+use Rattle.pv_protocol.specs.Records.{record_bytes, longer_journal}
 use Rattle.pv_protocol.specs.State.{Setup, Grant, Entry, Running, Cause, Note, refused, Outgoing, Step}
 
--- A running site: its number, what is fixed, its records, and what it has in memory.
+-- A running site: its number, what is fixed, its records, by how many bytes its journal is longer than these make it since some stand in old spellings, and what it has
+-- in memory.
 pub record Here : Type 0 where
   pub me : ℕ
   pub setup : Setup
   pub records : List Record
+  pub surplus : ℕ
   pub running : Running
 
 -- The site's memory changes, and nothing else happens.
@@ -80,7 +82,7 @@ refusing here entry cause = record {
 
 -- the length of the journal with one more record
 abbrev pub length_with : Here → Record → ℕ
-length_with here more = journal_bytes here.records + record_bytes more
+length_with here more = longer_journal here.surplus here.records + record_bytes more
 
 -- The journal has no room for the record.
 abbrev pub is_full : Here → Record → Bool

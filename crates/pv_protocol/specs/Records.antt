@@ -1,5 +1,5 @@
 -- What a site's records say: outcomes, promises, and how long the journal is that holds them.
-use Rattle.std.specs.Prelude.{ℕ, ◌+◌, Bool, false, ◌||◌, List, [], ◌∷◌, filter, Option, Some, None, is_none, if◌then◌else◌}
+use Rattle.std.specs.Prelude.{ℕ, zero, suc, ◌+◌, Bool, false, ◌||◌, List, [], ◌∷◌, filter, Option, Some, None, is_none, if◌then◌else◌}
 use Rattle.std.specs.List.{sum_by}
 use Rattle.pv_base.specs.declared.txn.TxnId.{TxnId}
 use Rattle.pv_base.specs.Assignment.{is_same_txn, with_outcome}
@@ -39,3 +39,9 @@ record_bytes kept = 5 + record_length kept
 -- how many bytes a journal of these records has: its header, the records, and the gate at its end
 unfoldable pub journal_bytes : List Record → ℕ
 journal_bytes records = 9 + sum_by record_bytes records
+
+-- The same of a journal that is by so many bytes longer than the records make it as they are written, since some stand in old spellings. It is by cases, so that it computes
+-- where all are as they are written.
+abbrev pub longer_journal : ℕ → List Record → ℕ
+longer_journal zero records = journal_bytes records
+longer_journal (suc more) records = suc more + journal_bytes records

@@ -8,7 +8,7 @@ use Rattle.pv_format.specs.Range.{IsTxnWithin, IsGrantInRange, AreReadsWithin, A
 use Rattle.pv_protocol.specs.Here.{Here}
 use Rattle.pv_protocol.specs.Keyed.{AreInOrder}
 use Rattle.pv_protocol.specs.Lock.{is_home}
-use Rattle.pv_protocol.specs.Records.{journal_bytes}
+use Rattle.pv_protocol.specs.Records.{longer_journal}
 use Rattle.pv_protocol.specs.State.{Setup, Grant, Taken, Entry, Running, Input, submit, receive, tick, Outgoing}
 use Rattle.pv_protocol.specs.WellFormed.{CanRun}
 use Rattle.pv_protocol.specs.Width.{IsNarrow}
@@ -61,7 +61,7 @@ module _ (sites : ℕ) where
     pub setup : IsSetupInRange here.setup
     pub records : All (IsRecordWithin sites) here.records
     pub narrow : IsNarrow here.setup.held_names here.setup.catalog here.me here.records
-    pub room : journal_bytes here.records ≤ here.setup.catalog.journal
+    pub room : longer_journal here.surplus here.records ≤ here.setup.catalog.journal
     pub running : IsRunningInRange here.setup.catalog here.me here.running
 
   -- What a site is given is in range.

@@ -28,9 +28,9 @@ step_on here (submit program) = on_submit here program
 step_on here (receive from message) = on_message here from message
 step_on here tick = on_tick here
 
--- The step of the site of this number, with these records and this memory.
+-- The step of the site of this number, with these records, as they are written, and this memory.
 abbrev pub site_step : Setup → ℕ → List Record → Running → Input → Step
-site_step setup me records running input = step_on (record { me = me; setup = setup; records = records; running = running }) input
+site_step setup me records running input = step_on (record { me = me; setup = setup; records = records; surplus = 0; running = running }) input
 
 -- the records after a step
 abbrev pub records_after : List Record → Step → List Record

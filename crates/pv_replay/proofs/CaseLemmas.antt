@@ -9,13 +9,14 @@ use Rattle.pv_base.specs.Polyvalue.{Case, IsPolyvalue, sure, value_at}
 use Rattle.pv_bytes.specs.Reading.{Rest, HasTaken}
 use Rattle.pv_cases.specs.JoinedCases.{IsKept}
 use Rattle.pv_format.specs.FirstFault.{Fault, bad_poly}
+use Rattle.pv_format.specs.Form.{in_cases}
 use Rattle.pv_format.specs.Layout.{Layout, any, repeated, case_layout, cases_layout, polyvalue_then}
-use Rattle.pv_format.specs.PolyvalueSpelling.{SpellsCase, SpellsCases, SpellsPolyvalue}
+use Rattle.pv_format.specs.OldSpelling.{SpellsCase, SpellsCases, SpellsInCases}
 use Rattle.pv_format.specs.Spelling.{◌followed_by◌, SpellsEach}
 use Rattle.pv_fields.specs.Decoding.{IsTaken, Passes, Stops}
 use Rattle.pv_fields.proofs.ListLemmas.{reading_starts, reading_goes_on, reading_stops, reading_ends}
 use Rattle.pv_fields.proofs.PartLemmas.{number_any, passes_after_number, stops_after_number}
-use Rattle.pv_fields.proofs.PolyvalueLemmas.{passes_poly, stops_poly}
+use Rattle.pv_fields.proofs.PolyvalueLemmas.{passes_cases, stops_no_cases}
 use Rattle.pv_law_polyvalues.proofs.PolyvalueLemmas.{one-canonical}
 use Rattle.pv_replay.specs.Faults.{fault_of}
 use Rattle.pv_replay.specs.Refused.{IsRefused}
@@ -54,16 +55,16 @@ module _ (count : ℕ) (old mid : Rest) (counted : HasTaken (big_endian 2 count)
 
 -- What becomes of cases that were read.
 module _ (cases : List (Case ℤ)) (old new : Rest) (read : Passes (SpellsCases cases) cases_layout old new) where
-  pub kept_passes : (result : Result (List (Case ℤ)) PolyError) → IfOk result (IsKept HELD_NAMES cases) → IfOk result (λ poly. Passes (SpellsPolyvalue poly) polyvalue_then old new)
-  kept_passes (Ok poly) is = passes_poly poly old new (subst (λ (those : List (Case ℤ)). IsTaken (SpellsCases those) old new) (sym is.kept) read.taken) is.polyvalue
+  pub kept_passes : (result : Result (List (Case ℤ)) PolyError) → IfOk result (IsKept HELD_NAMES cases) → IfOk result (λ poly. Passes (SpellsInCases poly) (polyvalue_then in_cases) old new)
+  kept_passes (Ok poly) is = passes_cases poly old new (subst (λ (those : List (Case ℤ)). IsTaken (SpellsCases those) old new) (sym is.kept) read.taken) is.polyvalue
   kept_passes (Err e) is = tt
 
   pub refused_stops : (place : ℕ) (result : Result (List (Case ℤ)) PolyError) → place ≡ old.place → IfErr result (IsRefused cases place)
-      → IfErr result (λ e. Stops polyvalue_then old (fault_of e))
+      → IfErr result (λ e. Stops (polyvalue_then in_cases) old (fault_of e))
   refused_stops place (Ok poly) here is = tt
   refused_stops place (Err e) here is =
       ⊎_elim
-      (λ none. subst (λ (other : PolyError). Stops polyvalue_then old (fault_of other)) (sym none) tt)
-      (λ bad. subst (λ (other : PolyError). Stops polyvalue_then old (fault_of other)) (sym bad.0)
-      (subst (λ (at : ℕ). Stops polyvalue_then old (Some (bad_poly at))) (sym here) (stops_poly cases old new read.taken bad.1)))
+      (λ none. subst (λ (other : PolyError). Stops (polyvalue_then in_cases) old (fault_of other)) (sym none) tt)
+      (λ bad. subst (λ (other : PolyError). Stops (polyvalue_then in_cases) old (fault_of other)) (sym bad.0)
+      (subst (λ (at : ℕ). Stops (polyvalue_then in_cases) old (Some (bad_poly at))) (sym here) (stops_no_cases cases old new read.taken bad.1)))
       is

@@ -1,52 +1,70 @@
 -- Contents and their records, one after another.
-use Rattle.std.proofs.Common.{◌≡◌, ◌≢◌, ℕ, ◌+◌, ◌<◌, max, List, [], ◌∷◌, ◌++◌, length, take, get_or, Option, Some, None, IsSome, MatchOption, sym, ap, subst, ◌∙◌, arith}
+use Rattle.std.proofs.Common.{◌≡◌, ◌≢◌, inl, inr, refl, ℕ, ◌+◌, ◌<◌, max, List, [], ◌∷◌, ◌++◌, length, take, get_or, Option, Some, None, IsSome, MatchOption, sym, ap, subst, ◌∙◌, arith}
 use Rattle.std.specs.Global.{Vec}
 use Rattle.std.proofs.lemmas.List.{append-nil, map-append, take_more, get_or-map, length-map}
 use Rattle.std.proofs.lemmas.Option.{slice_get-get_or}
+use Rattle.pv_base.specs.BigEndian.{IsNumber}
+use Rattle.pv_base.proofs.BigEndianLemmas.{big_endian-one}
 use Rattle.pv_bytes.specs.Reading.{Rest}
 use Rattle.pv_format.specs.Contents.{IsNoRecord, IsFirstBadContent, SpellRecords, greatest_epoch}
-use Rattle.pv_format.specs.FirstFault.{Fault, extra, HasFault, RecordFault, is_extra}
-use Rattle.pv_format.specs.Layout.{nothing_more, polyvalue_then, record_layout}
+use Rattle.pv_format.specs.FirstFault.{Fault, bad_field, extra, HasFault, RecordFault, is_extra, is_in_record, is_only_sure}
+use Rattle.pv_format.specs.Layout.{nothing_more, record_layout}
 use Rattle.pv_format.specs.Record as model
 use Rattle.pv_format.specs.Record.{epoch_begun, prepared, outcome_known}
-use Rattle.pv_format.specs.RecordSpelling.{SpellsRecord}
-use Rattle.pv_fields.specs.Decoding.{Passes, Stops}
+use Rattle.pv_format.specs.RecordSpelling.{IsReadAs}
+use Rattle.pv_fields.specs.Decoding.{Passes}
 use Rattle.pv_law_format.proofs.AnswerLemmas.{record-not-both}
-use Rattle.pv_law_format.proofs.ReplayLemmas.{spelled-more}
+use Rattle.pv_law_format.proofs.ReplayLemmas.{spelled-both}
+use Rattle.pv_replay.specs.Content.{IsOnlySure, IsStopped}
 use Rattle.pv_replay.specs.Faults.{fault_of}
 use Rattle.pv_replay.specs.Values.{contents_of, record_of, records_of}
 use Rattle.pv_replay.specs.declared.error.PolyError.{PolyError}
 use Rattle.pv_replay.specs.declared.record.Record.{Record}
 
--- Bytes with a fault are no record.
+-- Bytes with a fault are read as no record.
 no_record : (content : List ℕ) (fault : Fault) → RecordFault content fault → IsNoRecord content
 no_record content fault has = λ value spelled. record-not-both content value fault spelled has
 
-module _ (content : List ℕ) (start : Rest) (begins : start ≡ record { place = 0; left = content }) where
-  at_start : (fault : Fault) → Stops (record_layout polyvalue_then) start (Some fault) → IsNoRecord content
-  at_start fault stops = no_record content fault (subst (λ (rest : Rest). Stops (record_layout polyvalue_then) rest (Some fault)) begins stops nothing_more)
+-- The bytes of a promise under the kind of others.
+only_four : (front back bytes : List ℕ) → bytes ≡ front ++ back → IsNumber 1 4 front → bytes ≡ 4 ∷ back
+only_four front back bytes whole is = whole ∙ ap (λ (b : List ℕ). b ++ back) (is.spelled ∙ big_endian-one 4 is.fits)
 
-  no_record_told : (told : Option Fault) → IsSome told → Stops (record_layout polyvalue_then) start told → IsNoRecord content
-  no_record_told (Some fault) some stops = at_start fault stops
-  no_record_told None some stops = cc
+module _ (content : List ℕ) (start : Rest) (begins : start ≡ record { place = 0; left = content }) where
+  at_start : (fault : Fault) → HasFault (record_layout nothing_more) start.place start.left fault → IsNoRecord content
+  at_start fault has = no_record content fault (is_in_record fault (subst (λ (rest : Rest). HasFault (record_layout nothing_more) rest.place rest.left fault) begins has))
+
+  -- A record that promises sure values alone under the kind of others.
+  unsure_read : (new : Rest) (left : List ℕ) → new.left ≡ left → IsOnlySure start new → IsNoRecord content
+  unsure_read new [] none only =
+      let taken = only.passes.taken in
+      let whole : content ≡ taken.front =
+      sym (ap (λ (rest : Rest). rest.left) begins) ∙ taken.taken.bytes ∙ ap (λ rest. taken.front ++ rest) none ∙ append-nil taken.front in
+      no_record content (bad_field 0)
+      (is_only_sure only.txn only.writes taken.is.back (whole ∙ only_four taken.is.front taken.is.back taken.front taken.is.whole taken.is.first) only.sure taken.is.second)
+  unsure_read new (byte ∷ left) more only =
+      at_start (extra new.place)
+      (only.passes.later nothing_more (extra new.place) (is_extra (λ none. let lengths = ap (λ (l : List ℕ). length l) (sym more ∙ none) in omega (arith, lengths))))
+
+  no_record_told : (new : Rest) (told : Option Fault) → IsSome told → IsStopped start new told → IsNoRecord content
+  no_record_told new (Some fault) some (inl stops) = at_start fault (stops nothing_more)
+  no_record_told new (Some fault) some (inr only) = unsure_read new new.left refl only
+  no_record_told new None some stops = cc
 
   -- Bytes that aren't read are no record.
-  pub no_record_read : (e : PolyError) → IsSome (fault_of e) → Stops (record_layout polyvalue_then) start (fault_of e) → IsNoRecord content
-  no_record_read e some stops = no_record_told (fault_of e) some stops
+  pub no_record_read : (new : Rest) (e : PolyError) → IsSome (fault_of e) → IsStopped start new (fault_of e) → IsNoRecord content
+  no_record_read new e some stops = no_record_told new (fault_of e) some stops
 
-  -- A record was read. It is what the bytes are, if nothing is left; else they are no record.
-  pub record_read : (read : Record) (new : Rest) (left : List ℕ) → left ≡ new.left → Passes (SpellsRecord (record_of read)) (record_layout polyvalue_then) start new
+  -- A record was read. It is what the bytes are read as, if nothing is left; else they are no record.
+  pub record_read : (read : Record) (new : Rest) (left : List ℕ) → left ≡ new.left → Passes (IsReadAs (record_of read)) record_layout start new
       → (found : Option Record) → MatchOption found (left ≢ []) (λ value. (value ≡ read) × (left ≡ []))
-      → MatchOption found (IsNoRecord content) (λ value. SpellsRecord (record_of value) content)
+      → MatchOption found (IsNoRecord content) (λ value. IsReadAs (record_of value) content)
   record_read read new left is passes (Some value) found =
       let whole : content ≡ passes.taken.front =
       sym (ap (λ (rest : Rest). rest.left) begins) ∙ passes.taken.taken.bytes
       ∙ ap (λ rest. passes.taken.front ++ rest) (sym is ∙ found.1) ∙ append-nil passes.taken.front in
-      subst (λ (v : Record). SpellsRecord (record_of v) content) (sym found.0) (subst (SpellsRecord (record_of read)) (sym whole) passes.taken.is)
+      subst (λ (v : Record). IsReadAs (record_of v) content) (sym found.0) (subst (IsReadAs (record_of read)) (sym whole) passes.taken.is)
   record_read read new left is passes None found =
-      no_record content (extra new.place)
-      (subst (λ (rest : Rest). HasFault (record_layout polyvalue_then nothing_more) rest.place rest.left (extra new.place)) begins
-      (passes.later nothing_more (extra new.place) (is_extra (subst (λ rest. rest ≢ []) is found))))
+      at_start (extra new.place) (passes.later nothing_more (extra new.place) (is_extra (subst (λ rest. rest ≢ []) is found)))
 
 max_assoc : (a b c : ℕ) → max a (max b c) ≡ max (max a b) c
 max_assoc a b c = omega arith
@@ -83,9 +101,9 @@ module _ (contents : List (Vec ℕ)) (i : ℕ) (content : Vec ℕ) (inside : i <
   }
 
   -- One more record was read.
-  pub records_more : (records : List Record) (read : Record) → SpellRecords (records_of records) (take i (contents_of contents)) → SpellsRecord (record_of read) content.items
+  pub records_more : (records : List Record) (read : Record) → SpellRecords (records_of records) (take i (contents_of contents)) → IsReadAs (record_of read) content.items
       → SpellRecords (records_of (records ++ read ∷ [])) (take (i + 1) (contents_of contents))
   records_more records read before one =
       subst (λ rs. SpellRecords rs (take (i + 1) (contents_of contents))) (sym (map-append record_of records (read ∷ [])))
       (subst (SpellRecords (records_of records ++ record_of read ∷ [])) (sym contents_more)
-      (spelled-more (records_of records) (take i (contents_of contents)) (record_of read) content.items before one))
+      (spelled-both (records_of records) (take i (contents_of contents)) (record_of read ∷ []) (content.items ∷ []) before (one, tt)))

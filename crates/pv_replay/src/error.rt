@@ -16,7 +16,8 @@ pub enum PolyError {
     /// The field at this place is read, and isn't in the range or order that is asked for there.
     #[error("the field at {0} is out of range")]
     BadField(usize),
-    /// The polyvalue that begins at this place is read whole, and its cases aren't canonical or name too many outcomes.
+    /// The polyvalue that begins at this place is read whole. Its count isn't that of its cases, they aren't canonical or name too many outcomes, or it isn't
+    /// sure where it has to be.
     #[error("the cases at {0} are no polyvalue")]
     BadPoly(usize),
     /// There was no memory.
@@ -27,7 +28,7 @@ pub enum PolyError {
 /// Why contents aren't the records of a journal.
 #[derive(Clone, Copy, Debug, PartialEq, Eq, Error)]
 pub enum ReplayError {
-    /// The content with this index, from 0, is no record's spelling, and those before it are.
+    /// The content with this index, from 0, is read as no record, and those before it are read as some.
     #[error("content {0} is no record")]
     BadRecord(u64),
     /// There was no memory.

@@ -11,12 +11,9 @@ fn poly_length(value: &Poly<i64>) -> usize
     requires { polyvalue_length value.now < 2 ^ 63 }
     ensures { result ≡ polyvalue_length value.now }
 {
-    let cases = value.cases();
-    let mut length = 2;
-    for case in cases {
-        length += 9 + 10 * case.when.len();
-    }
-    length
+    // There is a case at least.
+    let leaves = value.cases().len();
+    2 + 9 * leaves + 10 * leaves.saturating_sub(1)
 }
 
 /// How many bytes items with their polyvalues take.

@@ -1,34 +1,29 @@
-// Polyvalues as bytes: the count of the cases, and for each case the count of its literals, the literals and the value.
-ghost use Rattle.std.specs.Prelude.{◌≡◌, ◌++◌, ◌∷◌, [], ◌<◌, ◌^◌, ◌≤◌, ℕ, ℤ, List, length, map, All, MatchOption, IfOk, IfErr, OnOk};
-ghost use Rattle.std.specs.List.{sum};
+// Polyvalues as bytes: the count of the leaves, and the tree from its root on, each test once.
+ghost use Rattle.std.specs.Prelude.{◌≡◌, ◌++◌, ◌∷◌, [], ◌≤◌, ℕ, ℤ, List, map, length, not, IfOk, IfErr, OnOk};
+ghost use Rattle.std.specs.List.{list_all};
 ghost use Rattle.std.specs.Io.{StartsWith};
 ghost use Rattle.pv_base.specs.Answer.{Answers};
-ghost use Rattle.pv_base.specs.CaseFaults.{fault_of as case_fault_of};
 ghost use Rattle.pv_base.specs.declared.limits.TheConstants.{HELD_NAMES};
-ghost use Rattle.pv_base.specs.declared.literal.Literal.{Literal};
 ghost use Rattle.pv_base.specs.Polyvalue as model;
-ghost use Rattle.pv_cases.specs.JoinedCases.{IsKept};
-ghost use Rattle.pv_format.specs.FirstFault.{PolyvalueFault};
-ghost use Rattle.pv_format.specs.Layout.{case_layout, literal_layout, polyvalue_then, repeated};
-ghost use Rattle.pv_format.specs.PolyvalueSpelling.{BeginsWith, SpellsCase, SpellsLiteral, SpellsPolyvalue};
-ghost use Rattle.pv_format.specs.Spelling.{SpellsEach};
+ghost use Rattle.pv_format.specs.FirstFault.{TreeFault};
+ghost use Rattle.pv_format.specs.Form.{in_sure_tree, in_tree};
+ghost use Rattle.pv_format.specs.Layout.{node_layout, polyvalue_then};
+ghost use Rattle.pv_format.specs.PolyvalueSpelling.{BeginsWith, SpellsNode, SpellsPolyvalue, SpellsSure};
 ghost use Rattle.pv_fields.specs.Decoding.{Passes, Stops};
 ghost use Rattle.pv_replay.specs.Faults.{fault_of};
 ghost use Rattle.pv_replay.specs.Left.{HasGoneOn};
-ghost use Rattle.pv_replay.specs.Refused.{IsRefused};
+ghost use Rattle.pv_replay.specs.Nodes.{leaf_bytes, leaves_bytes, test_bytes, tests_bytes, IsNodeRead};
 
 use crate::PolyError;
-use crate::choice::{choice_of, chosen};
-use crate::fields::{take_truth, take_txn, txn_bytes};
-use crate::order::look_canonical;
-use crate::room::{with_room, with_room_for_few};
-use pv_base::{Case, CaseError, Literal, NoMemory};
+use crate::fields::{take_txn, txn_bytes};
+use crate::made::poly_of;
+use crate::room::with_room_for_few;
+use pv_base::{Case, HELD_NAMES, Literal, NoMemory, TxnId};
 use pv_bytes::{Put, Take};
-use pv_cases::no_canonical_fault;
 use pv_tree::Poly;
 use std::alloc::Global;
 
-/// Writes a polyvalue that some bytes spell. Takes time in proportion to these bytes. After a refusal the `Put` holds a part of them, and is to
+/// Writes a polyvalue that some bytes spell. Takes time in proportion to its literals. After a refusal the `Put` holds a part of them, and is to
 /// be dropped.
 pub fn put_poly(put: &mut Put, value: &Poly<i64>) -> Result<(), NoMemory>
     requires { (bytes : List ℕ) × SpellsPolyvalue value.now bytes }
@@ -37,67 +32,76 @@ pub fn put_poly(put: &mut Put, value: &Poly<i64>) -> Result<(), NoMemory>
 {
     let cases = value.cases();
     put.u16(cases.len() as u16)?;
-    put_cases(put, cases)
+    put_leaves(put, cases)
 }
 
-// Writes the cases, one after another.
-fn put_cases(put: &mut Put, cases: &[Case<i64>]) -> Result<(), NoMemory>
-    requires { All (λ case. length case.when < 256) cases.now }
-    ensures written { (bytes : List ℕ) → SpellsEach SpellsCase cases.now bytes → OnOk result (put.new.bytes ≡ put.old.bytes ++ bytes) }
+// Writes the leaves, from left to right, each behind the tests that come between it and the leaf before it.
+fn put_leaves(put: &mut Put, cases: &[Case<i64>]) -> Result<(), NoMemory>
+    ensures written { OnOk result (put.new.bytes ≡ put.old.bytes ++ leaves_bytes cases.now) }
     ensures kept { StartsWith put.new.bytes put.old.bytes }
 {
     for case in cases {
-        put_case(put, case)?;
+        put_tests(put, &case.when)?;
+        put_leaf(put, case.value)?;
     }
     Ok(())
 }
 
-// Writes a case.
-fn put_case(put: &mut Put, case: &Case<i64>) -> Result<(), NoMemory>
-    requires { length case.now.when < 256 }
-    ensures written { (bytes : List ℕ) → SpellsCase case.now bytes → OnOk result (put.new.bytes ≡ put.old.bytes ++ bytes) }
+// Writes the tests whose first leaf it is that stands under these literals: those behind the last one that asks for a commit, where the other side of a test begins.
+fn put_tests(put: &mut Put, when: &[Literal]) -> Result<(), NoMemory>
+    ensures written { OnOk result (put.new.bytes ≡ put.old.bytes ++ tests_bytes when.now) }
     ensures kept { StartsWith put.new.bytes put.old.bytes }
 {
-    put.u8(case.when.len() as u8)?;
-    put_literals(put, &case.when)?;
-    put.i64(case.value)
-}
-
-// Writes the literals, one after another.
-fn put_literals(put: &mut Put, when: &[Literal]) -> Result<(), NoMemory>
-    ensures written { (bytes : List ℕ) → SpellsEach SpellsLiteral when.now bytes → OnOk result (put.new.bytes ≡ put.old.bytes ++ bytes) }
-    ensures kept { StartsWith put.new.bytes put.old.bytes }
-{
-    for literal in when {
-        put_literal(put, *literal)?;
+    let mut rest = when;
+    while let [literal, later @ ..] = rest {
+        if begins_here(rest) {
+            put_test(put, literal.txn)?;
+        }
+        rest = later;
     }
     Ok(())
 }
 
-// Writes a literal.
-fn put_literal(put: &mut Put, literal: Literal) -> Result<(), NoMemory>
-    ensures written { (bytes : List ℕ) → SpellsLiteral literal bytes → OnOk result (put.new.bytes ≡ put.old.bytes ++ bytes) }
+// Whether none of the literals asks for a commit.
+fn begins_here(literals: &[Literal]) -> bool
+    ensures { result ≡ list_all (λ literal. not literal.commits) literals.now }
+{
+    literals.iter().all(|literal| !literal.commits)
+}
+
+// Writes the front of a test.
+fn put_test(put: &mut Put, txn: TxnId) -> Result<(), NoMemory>
+    ensures written { OnOk result (put.new.bytes ≡ put.old.bytes ++ test_bytes txn) }
     ensures kept { StartsWith put.new.bytes put.old.bytes }
 {
-    put.bytes(&literal_bytes(literal))
+    let [a, b, c, d, e, f, g, h, i] = txn_bytes(txn);
+    put.bytes(&[1, a, b, c, d, e, f, g, h, i])
 }
 
-// The bytes of a literal, to be written at once.
-fn literal_bytes(literal: Literal) -> [u8; 10]
-    ensures { (bytes : List ℕ) → SpellsLiteral literal bytes → result ≡ bytes }
+// Writes a leaf.
+fn put_leaf(put: &mut Put, value: i64) -> Result<(), NoMemory>
+    ensures written { OnOk result (put.new.bytes ≡ put.old.bytes ++ leaf_bytes value) }
+    ensures kept { StartsWith put.new.bytes put.old.bytes }
 {
-    let [a, b, c, d, e, f, g, h, i] = txn_bytes(literal.txn);
-    [u8::from(literal.commits), a, b, c, d, e, f, g, h, i]
+    put.bytes(&leaf_bytes(value))
 }
 
-/// Reads a polyvalue. A refusal is the first fault in reading order: a field that isn't whole, or isn't in its range; or, where all of the
-/// fields are read, that they are no polyvalue in canonical form. Takes time in proportion to the bytes that it reads. After a refusal the `Take`
-/// stands somewhere within them, and is to be dropped.
+// The bytes of a leaf, to be written at once.
+fn leaf_bytes(value: i64) -> [u8; 9]
+    ensures { result ≡ leaf_bytes value }
+{
+    let [a, b, c, d, e, f, g, h] = value.to_be_bytes();
+    [0, a, b, c, d, e, f, g, h]
+}
+
+/// Reads a polyvalue. A refusal is the first fault in reading order: a field that isn't whole, or isn't in its range; a test below as many others as a polyvalue may
+/// name; or, where all of it is read, that its count isn't that of its leaves or that it is no polyvalue in canonical form. Takes time in proportion to the bytes that it
+/// reads. After a refusal the `Take` stands somewhere within them, and is to be dropped.
 pub fn take_poly(alloc: Global, take: &mut Take<'_>) -> Result<Poly<i64>, PolyError>
-    ensures answer { Answers (λ (read : List (model.Case ℤ) × List ℕ). BeginsWith read.0 read.1 take.old.left) (PolyvalueFault take.old.place take.old.left)
+    ensures answer { Answers (λ (read : List (model.Case ℤ) × List ℕ). BeginsWith read.0 read.1 take.old.left) (TreeFault take.old.place take.old.left)
         (λ poly. (poly, take.new.left)) fault_of result }
-    ensures passes { IfOk result (λ poly. Passes (SpellsPolyvalue poly) polyvalue_then take.old take.new) }
-    ensures stops { IfErr result (λ e. Stops polyvalue_then take.old (fault_of e)) }
+    ensures passes { IfOk result (λ poly. Passes (SpellsPolyvalue poly) (polyvalue_then in_tree) take.old take.new) }
+    ensures stops { IfErr result (λ e. Stops (polyvalue_then in_tree) take.old (fault_of e)) }
     ensures left { HasGoneOn take.old take.new }
 {
     // Only bytes have exactly one answer, as the contract says. That what is left is bytes, `place` promises, and nothing else shows it here.
@@ -105,118 +109,111 @@ pub fn take_poly(alloc: Global, take: &mut Take<'_>) -> Result<Poly<i64>, PolyEr
     read_poly(alloc, take)
 }
 
+/// Reads a polyvalue that is to be sure. That it isn't is a fault of it, where it is read whole.
+pub(crate) fn take_sure_poly(alloc: Global, take: &mut Take<'_>) -> Result<Poly<i64>, PolyError>
+    ensures passes { IfOk result (λ poly. Passes (SpellsSure poly) (polyvalue_then in_sure_tree) take.old take.new) }
+    ensures stops { IfErr result (λ e. Stops (polyvalue_then in_sure_tree) take.old (fault_of e)) }
+    ensures left { HasGoneOn take.old take.new }
+{
+    let place = take.place();
+    let value = read_poly(alloc, take)?;
+    if value.cases().len() != 1 {
+        return Err(PolyError::BadPoly(place));
+    }
+    Ok(value)
+}
+
 // Reads a polyvalue, as a part of what is to be read.
 fn read_poly(alloc: Global, take: &mut Take<'_>) -> Result<Poly<i64>, PolyError>
-    ensures passes { IfOk result (λ poly. Passes (SpellsPolyvalue poly) polyvalue_then take.old take.new) }
-    ensures stops { IfErr result (λ e. Stops polyvalue_then take.old (fault_of e)) }
+    ensures passes { IfOk result (λ poly. Passes (SpellsPolyvalue poly) (polyvalue_then in_tree) take.old take.new) }
+    ensures stops { IfErr result (λ e. Stops (polyvalue_then in_tree) take.old (fault_of e)) }
     ensures left { HasGoneOn take.old take.new }
 {
     let place = take.place();
     let count = take.u16()?;
-    if count == 1 {
-        // Most values depend on no outcome, and are spelled as one case.
-        let case = take_case(alloc, take)?;
-        return poly_of_case(alloc, case, place);
+    let mut cases = with_room_for_few(alloc, usize::from(count))?;
+    let mut way = with_room_for_few(alloc, HELD_NAMES as usize)?;
+    take_node(alloc, take, HELD_NAMES, &mut way, &mut cases)?;
+    if cases.len() != usize::from(count) {
+        return Err(PolyError::BadPoly(place));
     }
-    let cases = take_counted_cases(alloc, take, count)?;
     poly_of(alloc, cases, place)
 }
 
-// The polyvalue of the only case of the polyvalue at this place. Where it is always met, no list of cases is made.
-fn poly_of_case(alloc: Global, case: Case<i64>, place: usize) -> Result<Poly<i64>, PolyError>
-    requires { length case.when < 256 }
-    ensures kept { IfOk result (IsKept HELD_NAMES (case ∷ [])) }
-    ensures refused { IfErr result (IsRefused (case ∷ []) place) }
-{
-    if case.when.is_empty() {
-        return Ok(Poly::sure(alloc, case.value)?);
-    }
-    let mut only = with_room(alloc, 1)?;
-    only.push(case)?;
-    poly_of(alloc, only, place)
-}
-
-// The polyvalue of these cases of the polyvalue at this place, as they were read.
-fn poly_of(alloc: Global, cases: Vec<Case<i64>>, place: usize) -> Result<Poly<i64>, PolyError>
-    requires few_cases { length cases.items < 2 ^ 32 }
-    requires few_literals { sum (map (λ case. length case.when) cases.items) < 2 ^ 32 }
-    ensures kept { IfOk result (IsKept HELD_NAMES cases.items) }
-    ensures refused { IfErr result (IsRefused cases.items place) }
-{
-    if let Some(choice) = choice_of(&cases) {
-        return Ok(chosen(alloc, choice)?);
-    }
-    if !look_canonical(&cases) {
-        return Err(PolyError::BadPoly(place));
-    }
-    no_canonical_fault::<i64>();
-    match Poly::from_cases(alloc, cases) {
-        Ok(poly) => Ok(poly),
-        Err(e) => Err(refusal(&e, place)),
-    }
-}
-
-// The refusal of the polyvalue at this place, where its cases are refused for this cause.
-fn refusal(cause: &CaseError, place: usize) -> PolyError
-    ensures { MatchOption (case_fault_of cause.now) (result ≡ PolyError.NoMemory) (λ _. result ≡ PolyError.BadPoly place) }
-{
-    match cause {
-        CaseError::NoMemory => PolyError::NoMemory,
-        _ => PolyError::BadPoly(place),
-    }
-}
-
-// Reads so many cases, whether or not they are a polyvalue.
-fn take_counted_cases(
+// Reads a node with all below it, where so many tests may still come on each way down, and appends its cases, each behind the literals of the way to the node. The way is as it
+// was afterwards. It goes no deeper than so many calls.
+#[cycle(node)]
+fn take_node(
     alloc: Global,
     take: &mut Take<'_>,
-    count: u16,
-) -> Result<Vec<Case<i64>>, PolyError>
-    ensures counted { IfOk result (λ cases. length cases.items ≡ count) }
-    ensures passes { IfOk result (λ cases. Passes (SpellsEach SpellsCase cases.items) (repeated count case_layout) take.old take.new) }
-    ensures stops { IfErr result (λ e. Stops (repeated count case_layout) take.old (fault_of e)) }
+    tests: u32,
+    way: &mut Vec<Literal>,
+    cases: &mut Vec<Case<i64>>,
+) -> Result<(), PolyError>
+    requires { tests ≤ HELD_NAMES }
+    ensures read { OnOk result (IsNodeRead tests way.old.items cases.old.items cases.new.items take.old take.new) }
+    ensures way { OnOk result (way.new.items ≡ way.old.items) }
+    ensures stops { IfErr result (λ e. Stops (node_layout tests) take.old (fault_of e)) }
     ensures left { HasGoneOn take.old take.new }
 {
-    let mut cases = with_room_for_few(alloc, usize::from(count))?;
-    while cases.len() < usize::from(count) {
-        cases.push(take_case(alloc, take)?)?;
+    let place = take.place();
+    let kind = take.u8()?;
+    if kind == 0 {
+        let value = take.i64()?;
+        let when = copied(alloc, way)?;
+        cases.push(Case { when, value })?;
+        return Ok(());
     }
-    Ok(cases)
-}
-
-// Reads a case.
-fn take_case(alloc: Global, take: &mut Take<'_>) -> Result<Case<i64>, PolyError>
-    ensures passes { IfOk result (λ case. Passes (SpellsCase case) case_layout take.old take.new) }
-    ensures stops { IfErr result (λ e. Stops case_layout take.old (fault_of e)) }
-    ensures left { HasGoneOn take.old take.new }
-{
-    let count = take.u8()?;
-    let when = take_literals(alloc, take, count)?;
-    let value = take.i64()?;
-    Ok(Case { when, value })
-}
-
-// Reads so many literals.
-fn take_literals(alloc: Global, take: &mut Take<'_>, count: u8) -> Result<Vec<Literal>, PolyError>
-    ensures counted { IfOk result (λ when. length when.items ≡ count) }
-    ensures passes { IfOk result (λ when. Passes (SpellsEach SpellsLiteral when.items) (repeated count literal_layout) take.old take.new) }
-    ensures stops { IfErr result (λ e. Stops (repeated count literal_layout) take.old (fault_of e)) }
-    ensures left { HasGoneOn take.old take.new }
-{
-    let mut when = with_room_for_few(alloc, usize::from(count))?;
-    while when.len() < usize::from(count) {
-        when.push(take_literal(take)?)?;
+    if kind != 1 || tests == 0 {
+        return Err(PolyError::BadField(place));
     }
-    Ok(when)
-}
-
-// Reads a literal.
-fn take_literal(take: &mut Take<'_>) -> Result<Literal, PolyError>
-    ensures passes { IfOk result (λ literal. Passes (SpellsLiteral literal) literal_layout take.old take.new) }
-    ensures stops { IfErr result (λ e. Stops literal_layout take.old (fault_of e)) }
-    ensures left { HasGoneOn take.old take.new }
-{
-    let commits = take_truth(take)?;
     let txn = take_txn(take)?;
-    Ok(Literal { txn, commits })
+    take_side(
+        alloc,
+        take,
+        tests - 1,
+        Literal {
+            txn,
+            commits: false,
+        },
+        way,
+        cases,
+    )?;
+    take_side(
+        alloc,
+        take,
+        tests - 1,
+        Literal { txn, commits: true },
+        way,
+        cases,
+    )
+}
+
+// The literals of a way, for the case that it leads to.
+fn copied(alloc: Global, way: &[Literal]) -> Result<Vec<Literal>, NoMemory>
+    ensures { IfOk result (λ when. when.items ≡ way.now) }
+{
+    Ok(Vec::from_slice(alloc, way)?)
+}
+
+// Reads a side of a test, likewise.
+#[cycle(node)]
+fn take_side(
+    alloc: Global,
+    take: &mut Take<'_>,
+    tests: u32,
+    literal: Literal,
+    way: &mut Vec<Literal>,
+    cases: &mut Vec<Case<i64>>,
+) -> Result<(), PolyError>
+    requires { tests ≤ HELD_NAMES }
+    ensures read { OnOk result (IsNodeRead tests (way.old.items ++ literal ∷ []) cases.old.items cases.new.items take.old take.new) }
+    ensures way { OnOk result (way.new.items ≡ way.old.items) }
+    ensures stops { IfErr result (λ e. Stops (node_layout tests) take.old (fault_of e)) }
+    ensures left { HasGoneOn take.old take.new }
+{
+    way.push(literal)?;
+    take_node(alloc, take, tests, way, cases)?;
+    way.pop();
+    Ok(())
 }

@@ -1,6 +1,6 @@
-// Worked records and polyvalues, byte for byte; each record with every beginning and many changed bytes; and many cases that overlap.
+// Worked records and polyvalues, byte for byte; each record with every beginning and many changed bytes; old spellings; and many cases that overlap.
 ghost use Rattle.std.specs.Prelude.{IfOk, IfSome};
-ghost use Rattle.pv_format.specs.RecordSpelling.{SpellsRecord};
+ghost use Rattle.pv_format.specs.RecordSpelling.{IsReadAs};
 ghost use Rattle.pv_replay.specs.Values.{record_of};
 
 use pv_base::NoMemory;
@@ -11,7 +11,7 @@ use std::alloc::{AllocFailed, Global};
 use std::test::Fail;
 
 // Records of each kind, worked by hand from the format: the bytes in hexadecimal, and the record.
-const RECORDS: [(&str, &str); 5] = [
+const RECORDS: [(&str, &str); 6] = [
     ("01 00000001", "Epoch(1)"),
     (
         "02 00 00000001 00000000 01 00000000 0001 00 0000000000000065",
@@ -22,9 +22,10 @@ const RECORDS: [(&str, &str); 5] = [
         "Prepared { txn: TxnId { site: SiteId(1), epoch: 2, number: 3 }, writes: [] }",
     ),
     (
-        "02 00 00000001 00000000 02 00000001 0001 00 ffffffffffffffff 000003ff 0002 01 00 01 00000001 00000000 0000000000000032 01 01 01 00000001 00000000 000000000000003c",
+        "04 00 00000001 00000000 02 00000001 0001 00 ffffffffffffffff 000003ff 0002 01 01 00000001 00000000 00 0000000000000032 00 000000000000003c",
         "Prepared { txn: TxnId { site: SiteId(0), epoch: 1, number: 0 }, writes: [Read { item: ItemId(1), value: Poly { tree: Tree { held: One([Case { when: [], value: -1 }]) } } }, Read { item: ItemId(1023), value: Poly { tree: Tree { held: Two([Case { when: [Literal { txn: TxnId { site: SiteId(1), epoch: 1, number: 0 }, commits: false }], value: 50 }, Case { when: [Literal { txn: TxnId { site: SiteId(1), epoch: 1, number: 0 }, commits: true }], value: 60 }]) } } }] }",
     ),
+    (UNSURE, UNSURE_TEXT),
     (
         "03 00 00000001 00000000 01",
         "Outcome { txn: TxnId { site: SiteId(0), epoch: 1, number: 0 }, commits: true }",
@@ -33,6 +34,16 @@ const RECORDS: [(&str, &str); 5] = [
 
 // The second of them.
 const PROMISE: &str = "02 00 00000001 00000000 01 00000000 0001 00 0000000000000065";
+
+// A promise of a value that depends on one outcome, the record that it is, and its old spelling.
+const UNSURE: &str =
+    "04 00 00000001 00000001 01 00000000 0002 01 00 00000001 00000000 00 0000000000000032 00 000000000000003c";
+
+const UNSURE_TEXT: &str =
+    "Prepared { txn: TxnId { site: SiteId(0), epoch: 1, number: 1 }, writes: [Read { item: ItemId(0), value: Poly { tree: Tree { held: Two([Case { when: [Literal { txn: TxnId { site: SiteId(0), epoch: 1, number: 0 }, commits: false }], value: 50 }, Case { when: [Literal { txn: TxnId { site: SiteId(0), epoch: 1, number: 0 }, commits: true }], value: 60 }]) } } }] }";
+
+const OLD: &str =
+    "02 00 00000001 00000001 01 00000000 0002 01 00 00 00000001 00000000 0000000000000032 01 01 00 00000001 00000000 000000000000003c";
 
 // The value of a hexadecimal digit.
 fn digit(text: u8) -> Option<u8> {
@@ -62,7 +73,7 @@ fn bytes_of(alloc: Global, text: &str) -> Result<Vec<u8>, AllocFailed<u8>> {
 
 // The record that the content is, if it is one.
 fn decode_record(alloc: Global, content: &[u8]) -> Result<Option<Record>, NoMemory>
-    ensures { IfOk result (λ found. IfSome found (λ value. SpellsRecord (record_of value) content.now)) }
+    ensures { IfOk result (λ found. IfSome found (λ value. IsReadAs (record_of value) content.now)) }
 {
     let mut contents = Vec::new(alloc);
     contents.push(content.to_vec(alloc)?)?;
@@ -93,6 +104,54 @@ fn each_kind_of_record_is_read_and_written(rt: HostRuntime) -> Result<(), Fail> 
         assert!(rt;
             again(alloc, &bytes)?.is_some_and(|written| written.as_slice() == bytes.as_slice())
         );
+    }
+    Ok(())
+}
+
+#[test]
+fn an_old_spelling_is_read_and_spelled_anew(rt: HostRuntime) -> Result<(), Fail> {
+    let alloc = rt.alloc();
+    let old = bytes_of(alloc, OLD)?;
+    let new = bytes_of(alloc, UNSURE)?;
+    assert_eq!(rt; old.len(), 55);
+    assert_eq!(rt; new.len(), 45);
+    let record = decode_record(alloc, &old)?;
+    assert!(rt;
+        format!(in alloc; "{record:?}")?.as_str()
+            == format!(in alloc; "Some({UNSURE_TEXT})")?.as_str()
+    );
+    assert!(rt;
+        respelled(alloc, &old)?.is_some_and(|written| written.as_slice() == new.as_slice())
+    );
+    Ok(())
+}
+
+#[test]
+fn only_old_spellings_are_spelled_anew(rt: HostRuntime) -> Result<(), Fail> {
+    let alloc = rt.alloc();
+    for (hex, _) in RECORDS {
+        assert!(rt; respelled(alloc, &bytes_of(alloc, hex)?)?.is_none());
+    }
+    for hex in ["", "04", "02 00"] {
+        assert!(rt; respelled(alloc, &bytes_of(alloc, hex)?)?.is_none());
+    }
+    Ok(())
+}
+
+// Bytes that are no record: a tree of a test under the kind of promises of sure values, a promise of a sure value under the kind of others, and promises of
+// a value with equal sides, in either spelling.
+const NO_RECORDS: [&str; 4] = [
+    "02 00 00000001 00000001 01 00000000 0002 01 00 00000001 00000000 00 0000000000000032 00 000000000000003c",
+    "04 00 00000001 00000000 01 00000000 0001 00 0000000000000065",
+    "04 00 00000001 00000001 01 00000000 0002 01 00 00000001 00000000 00 0000000000000032 00 0000000000000032",
+    "02 00 00000001 00000001 01 00000000 0002 01 00 00 00000001 00000000 0000000000000032 01 01 00 00000001 00000000 0000000000000032",
+];
+
+#[test]
+fn other_promises_are_no_records(rt: HostRuntime) -> Result<(), Fail> {
+    let alloc = rt.alloc();
+    for hex in NO_RECORDS {
+        assert!(rt; decode_record(alloc, &bytes_of(alloc, hex)?)?.is_none());
     }
     Ok(())
 }
@@ -179,13 +238,19 @@ fn a_sure_value_is_the_end_of_its_promise(rt: HostRuntime) -> Result<(), Fail> {
 // Bytes that begin with no polyvalue, and their first fault.
 const FAULTS: &[(&str, PolyError)] = &[
     ("", PolyError::Short(0)),
-    // No case.
-    ("0000", PolyError::BadPoly(0)),
-    // A truth value of 2, and then a site of 16.
-    ("0001 01 02 10", PolyError::BadField(3)),
-    // Both outcomes in the other order.
+    ("0000", PolyError::Short(2)),
+    // No leaf is counted, and there is one; three are, and there are two.
+    ("0000 00 0000000000000065", PolyError::BadPoly(0)),
     (
-        "0002 01 01 00 00000001 00000000 000000000000003c 01 00 00 00000001 00000000 0000000000000032",
+        "0003 01 00 00000001 00000000 00 0000000000000032 00 000000000000003c",
+        PolyError::BadPoly(0),
+    ),
+    // A node that is neither a leaf nor a test, and then a site of 16.
+    ("0001 02 10", PolyError::BadField(2)),
+    ("0002 01 10", PolyError::BadField(3)),
+    // Both sides are equal.
+    (
+        "0002 01 00 00000001 00000000 00 0000000000000032 00 0000000000000032",
         PolyError::BadPoly(0),
     ),
 ];
@@ -201,10 +266,41 @@ fn the_first_fault_is_answered(rt: HostRuntime) -> Result<(), Fail> {
     Ok(())
 }
 
-// So many cases: twelve that ask for the outcome of one transaction each, and then cases that are always met. They name twelve transactions, and
-// each overlaps each other one.
+// So many tests, each on the side of the one before it where that one's transaction aborts.
+fn deep_tests(alloc: Global, count: u32) -> Result<Put, NoMemory> {
+    let mut put = Put::new(alloc);
+    put.u16(2)?;
+    for number in 0..count {
+        put.u8(1)?;
+        put.u8(0)?;
+        put.u32(1)?;
+        put.u32(number)?;
+    }
+    Ok(put)
+}
+
+#[test]
+fn a_test_below_twelve_others_is_a_fault(rt: HostRuntime) -> Result<(), Fail> {
+    let alloc = rt.alloc();
+    let bytes = deep_tests(alloc, 13)?.done();
+    let mut take = Take::new(&bytes);
+    assert!(rt; take_poly(alloc, &mut take).err() == Some(PolyError::BadField(122)));
+    let enough = deep_tests(alloc, 12)?.done();
+    let mut rest = Take::new(&enough);
+    assert!(rt; take_poly(alloc, &mut rest).err() == Some(PolyError::Short(122)));
+    Ok(())
+}
+
+// A promise in an old spelling of a value of so many cases: twelve that ask for the outcome of one transaction each, and then cases that are always met. They
+// name twelve transactions, and each overlaps each other one.
 fn many_cases(alloc: Global, count: u16) -> Result<Vec<u8>, NoMemory> {
     let mut put = Put::new(alloc);
+    put.u8(2)?;
+    put.u8(0)?;
+    put.u32(1)?;
+    put.u32(0)?;
+    put.u8(1)?;
+    put.u32(0)?;
     put.u16(count)?;
     for number in 0..u32::from(count) {
         if number < 12 {
@@ -223,11 +319,12 @@ fn many_cases(alloc: Global, count: u16) -> Result<Vec<u8>, NoMemory> {
 
 // Whether so many cases are refused, each of twenty times. `bench/cases` times the two tests that follow.
 fn are_refused(alloc: Global, count: u16) -> Result<bool, NoMemory> {
-    let bytes = many_cases(alloc, count)?;
+    let mut contents = Vec::new(alloc);
+    contents.push(many_cases(alloc, count)?)?;
     for _ in 0..20 {
-        let mut take = Take::new(&bytes);
-        if take_poly(alloc, &mut take).err() != Some(PolyError::BadPoly(0)) {
-            return Ok(false);
+        match replay(alloc, &contents) {
+            Err(ReplayError::BadRecord(0)) => {}
+            _ => return Ok(false),
         }
     }
     Ok(true)

@@ -33,7 +33,7 @@ module _ {B V : Type 0} (M : BayModel B) (D : DiskModel V) where
   module _ (old out new : B) (site : ℕ) (taken given : V) (looked : Looked) (hands_out : HandsOut M D old out site taken) (looks : LooksBy D taken given looked)
       (takes_back : TakesBack M D out new site given) where
     pub read-by : ReadsDisk M D old new site taken given
-    read-by = record { out = out; hands_out = hands_out; reads = looks-read taken given looked looks; takes_back = takes_back }
+    read-by = record { out = out; hands_out = hands_out; uses = looks-read taken given looked looks; takes_back = takes_back }
 
   -- What is told of a look at the disk is told of the site.
   pub site-shown : (catalog : Declared) (old new : B) (site : ℕ) (taken given : V) (read : ReadsDisk M D old new site taken given) (looked : Looked) (part : List ℕ)

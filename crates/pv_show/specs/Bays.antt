@@ -1,4 +1,4 @@
--- What reading the disks of a bay does to it.
+-- What it does to a bay to use its disks, one after another, and to read them.
 use Rattle.std.specs.Prelude.{◌≡◌, ℕ, ◌<◌, false, Result, Err}
 use Rattle.pv_base.specs.Fault.{Rose}
 use Rattle.pv_disk.specs.BayAnswers.{Asks, HandsOut, TakesBack}
@@ -19,16 +19,25 @@ module _ {B : Type 0} (M : BayModel B) where
   RisesAtBayFault old new (Err BayFault) = Rose (M.faults old) (M.faults new)
   RisesAtBayFault old new result = M.faults new ≡ M.faults old
 
-module _ {B V : Type 0} (M : BayModel B) (D : DiskModel V) where
-  -- The disk of a site was handed out, then only read, and then handed back.
-  pub record ReadsDisk (old new : B) (site : ℕ) (taken given : V) : Type 0 where
+module _ {B V : Type 0} (M : BayModel B) (D : DiskModel V) (Uses : V → V → Type 0) where
+  -- The disk of a site was handed out, then used so, and then handed back.
+  pub record UsesDisk (old new : B) (site : ℕ) (taken given : V) : Type 0 where
     pub out : B
     pub hands_out : HandsOut M D old out site taken
-    pub reads : OnlyReads D.goes taken given
+    pub uses : Uses taken given
     pub takes_back : TakesBack M D out new site given
 
-  -- Disks of sites below this number were so read, one after another. Others of such sites were asked for and not handed out.
-  pub data OnlyReadsDisks (sites : ℕ) (old : B) : B → Type 0 where
-    none : OnlyReadsDisks sites old old
-    one_more : (mid new : B) (site : ℕ) (taken given : V) → site < sites → OnlyReadsDisks sites old mid → ReadsDisk mid new site taken given → OnlyReadsDisks sites old new
-    not_handed_out : (mid new : B) (site : ℕ) (e : BayError) → site < sites → OnlyReadsDisks sites old mid → Asks M D mid new site (Err e) → OnlyReadsDisks sites old new
+  -- Disks of sites below this number were so used, one after another. Others of such sites were asked for and not handed out.
+  pub data UsesDisks (sites : ℕ) (old : B) : B → Type 0 where
+    none : UsesDisks sites old old
+    one_more : (mid new : B) (site : ℕ) (taken given : V) → site < sites → UsesDisks sites old mid → UsesDisk mid new site taken given → UsesDisks sites old new
+    not_handed_out : (mid new : B) (site : ℕ) (e : BayError) → site < sites → UsesDisks sites old mid → Asks M D mid new site (Err e) → UsesDisks sites old new
+
+module _ {B V : Type 0} (M : BayModel B) (D : DiskModel V) where
+  -- The disk of a site was only read.
+  abbrev pub ReadsDisk : (old new : B) (site : ℕ) (taken given : V) → Type 0
+  ReadsDisk = UsesDisk M D (OnlyReads D.goes)
+
+  -- Disks of sites below this number were only read.
+  abbrev pub OnlyReadsDisks : (sites : ℕ) → B → B → Type 0
+  OnlyReadsDisks = UsesDisks M D (OnlyReads D.goes)

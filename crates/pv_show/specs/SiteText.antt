@@ -29,13 +29,17 @@ IsFoundIn bytes (no_log place) = MatchBool (bytes_eq (take 8 bytes) start) (two_
 abbrev pub site_line : ℕ → List ℕ → List ℕ
 site_line site rest = codes "site " ++ (decimal site ++ rest)
 
--- the line of a site whose items aren't shown: why, with a number
+-- the line of a site that tells one thing, with a number: why its items aren't shown
 unfoldable pub refusal_text : ℕ → List ℕ → ℕ → List ℕ
 refusal_text site why number = site_line site (codes " " ++ (why ++ (codes " " ++ (decimal number ++ line_feed))))
 
+-- the line of a site that tells one thing: a word
+unfoldable pub word_text : ℕ → List ℕ → List ℕ
+word_text site word = site_line site (codes " " ++ (word ++ line_feed))
+
 -- the line of a site whose disk failed
-unfoldable pub failure_text : ℕ → List ℕ
-failure_text site = site_line site (codes " fault\n")
+abbrev pub failure_text : ℕ → List ℕ
+failure_text site = word_text site (codes "fault")
 
 -- the line of a site whose items are shown: the greatest epoch that is recorded, and how many records there are
 unfoldable pub head_text : ℕ → ℕ → ℕ → List ℕ

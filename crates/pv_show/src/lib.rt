@@ -8,5 +8,6 @@ mod show_error;
 mod site;
 mod sites;
 
+pub use pieces::{line_of_word, line_with_number};
 pub use show_error::ShowError;
 pub use sites::show;

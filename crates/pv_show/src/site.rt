@@ -10,7 +10,7 @@ ghost use Rattle.pv_show.specs.SiteText.{IsTold, log, records_text};
 use crate::ShowError;
 use crate::items::push_items;
 use crate::look::look;
-use crate::pieces::{push_failure, push_head, push_refusal};
+use crate::pieces::{push_head, push_refusal, push_word};
 use pv_base::{Catalog, NoMemory, SiteId};
 use pv_disk::{Bay, BayError, LookError};
 use pv_replay::{Past, ReplayError, replay};
@@ -57,7 +57,7 @@ fn push_look(
     match looked {
         Ok(contents) => push_contents(alloc, site, catalog, &contents, text),
         Err(LookError::NotOurs(place)) => push_refusal(text, site, b"not-ours", place),
-        Err(LookError::Failed) => push_failure(text, site),
+        Err(LookError::Failed) => push_word(text, site, b"fault"),
         Err(LookError::NoMemory) => Err(NoMemory),
     }
 }

@@ -68,8 +68,8 @@ module _ {W : Type 0} (M : LogModel W) where
         (either-spelled records contents fails.appended fails.content left spelled fails.spelled ((fails.log.any_moment contents known).each left since))
 
   module _ (old new : SiteState W) (running : Running) (input : Input) (is_up : IsUp M old running) where
-    holds : HoldsRecords M old.log old.records
-    holds = subst (HoldsWhatRuns M old.log old.records) is_up.up is_up.ready.holds
+    holds : HoldsRecords M old.log old.surplus old.records
+    holds = subst (HoldsWhatRuns M old.log old.surplus old.records) is_up.up is_up.ready.holds
 
     spelled : SpellRecords old.records is_up.contents
     spelled = holds.held is_up.contents is_up.known

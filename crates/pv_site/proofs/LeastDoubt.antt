@@ -1,8 +1,8 @@
 -- The least item of the reads that has to be certain and isn't is the least of the catalog.
-use Rattle.std.proofs.Common.{◌≡◌, ◌⊎◌, ⊎_elim, inl, inr, ℕ, ◌+◌, ◌<◌, ◌≤◌, ℤ, pos, Bool, true, false, Option, Some, None, List, [], ◌∷◌, length, refl, sym, ap, subst, ◌∙◌, arith}
-use Rattle.std.specs.Prelude.{◌==◌, ◌&&◌, ◌||◌, find, nat_lt, if◌then◌else◌, IsTrue}
+use Rattle.std.proofs.Common.{◌≡◌, ◌⊎◌, ⊎_elim, inl, inr, ℕ, ◌<◌, ◌≤◌, ℤ, Bool, true, false, Option, Some, None, List, [], ◌∷◌, length, refl, sym, ap, subst, ◌∙◌, arith}
+use Rattle.std.specs.Prelude.{◌==◌, ◌&&◌, ◌||◌, find, nat_lt, if◌then◌else◌}
 use Rattle.std.specs.List.{Contains}
-use Rattle.std.proofs.lemmas.Bool.{and_from, and_parts, eq-eqb, eqb-true, false≢true, ltb-false, ltb-true, or_cases, or_left, or_right}
+use Rattle.std.proofs.lemmas.Bool.{and_parts, eq-eqb, false≢true, ltb-false, ltb-true, or_cases, or_left, or_right}
 use Rattle.std.proofs.lemmas.Option.{none-some}
 use Rattle.pv_base.proofs.Basics.{Some_inj}
 use Rattle.pv_base.proofs.ContainsLemmas.{Contains-behind, Contains-cases, Contains-first, Contains-nil}
@@ -26,7 +26,7 @@ use Rattle.pv_protocol.specs.State.{Entry}
 use Rattle.pv_site.proofs.LockPoint.{number-there}
 use Rattle.pv_site.specs.declared.doubting.Doubt.{Doubt}
 use Rattle.pv_site.specs.Doubts.{doubt_in, is_doubtful, least_from, lesser, names_left}
-use Rattle.pv_site.specs.LockPoint.{HasItsReads, IsRead, ReadApart}
+use Rattle.pv_site.specs.LockPoint.{HasItsReads, ReadApart}
 
 -- A value with the known outcomes put in is the settled one, and so they name the same.
 module _ (records : List Record) (before after : List (Case ℤ)) (polyvalue : IsPolyvalue HELD_NAMES after)

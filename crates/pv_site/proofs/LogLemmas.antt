@@ -7,13 +7,13 @@ use Rattle.pv_format.specs.Contents.{SpellRecords}
 use Rattle.pv_format.specs.Record.{Record}
 use Rattle.pv_format.specs.RecordSpelling.{SpellsRecord}
 use Rattle.pv_disk_model.specs.Calls.{Makes, reserve, append}
-use Rattle.pv_disk_model.specs.Log.{Keeps, Adds, MayAdd, StaysUp, GoesDown}
+use Rattle.pv_disk_model.specs.Log.{Keeps, Adds, StaysUp}
 use Rattle.pv_disk_model.specs.LogModel.{LogModel}
 use Rattle.pv_disk_model.specs.Size.{Contents}
 use Rattle.pv_disk_model.proofs.LogLemmas.{Keeps-refl, StaysUp-trans, StaysUp-GoesDown, keeping_may_add}
 use Rattle.pv_law_format.proofs.LengthLemmas.{record-length}
 use Rattle.pv_law_format.proofs.ReplayLemmas.{spelled-more}
-use Rattle.pv_law_step.proofs.JournalLemmas.{journal-more}
+use Rattle.pv_law_step.proofs.JournalLemmas.{longer-more}
 use Rattle.pv_site.specs.Calls.{append_calls, FailsToAppend, MayReserve}
 use Rattle.pv_site.specs.OnLog.{HoldsRecords, Logs}
 use Rattle.pv_site.specs.Room.{MakesRoomFor, Writes}
@@ -49,37 +49,37 @@ module _ {W : Type 0} (M : LogModel W) (old new : W) where
   unmade entry intact up NoMemory made = made
 
   -- The log holds the records that it held.
-  pub holds-kept : (records : List Record) → StaysUp M old new → Keeps M old new → HoldsRecords M old records → HoldsRecords M new records
-  holds-kept records up kept holds = record {
+  pub holds-kept : (surplus : ℕ) (records : List Record) → StaysUp M old new → Keeps M old new → HoldsRecords M old surplus records → HoldsRecords M new surplus records
+  holds-kept surplus records up kept holds = record {
     up = up.is_up;
     size = kept.size ∙ holds.size;
     held = λ contents is. holds.held contents (sym kept.contents ∙ is);
   }
 
-  held-more : (was : Option Contents) → M.contents old ≡ was → (records : List Record) (more : Record) (content : List ℕ) → Adds M old new content
-      → HoldsRecords M old records → SpellsRecord more content
+  held-more : (was : Option Contents) → M.contents old ≡ was → (surplus : ℕ) (records : List Record) (more : Record) (content : List ℕ) → Adds M old new content
+      → HoldsRecords M old surplus records → SpellsRecord more content
       → (contents : Contents) → M.contents new ≡ Some contents → SpellRecords (records ++ more ∷ []) contents
-  held-more (Some was) is records more content adds holds spelled contents now =
+  held-more (Some was) is surplus records more content adds holds spelled contents now =
       let same : contents ≡ was ++ content ∷ [] = let both : Some contents ≡ Some (was ++ content ∷ []) = sym now ∙ adds.contents was is in cc in
       subst (SpellRecords (records ++ more ∷ [])) (sym same) (spelled-more records was more content (holds.held was is) spelled)
-  held-more None is records more content adds holds spelled contents now =
+  held-more None is surplus records more content adds holds spelled contents now =
       absurd (true≢false (sym (ap is_some now) ∙ (adds.known ∙ ap is_some is)))
 
   -- The log holds one record more.
-  pub holds-more : (records : List Record) (more : Record) (content : List ℕ) → StaysUp M old new → Adds M old new content → SpellsRecord more content
-      → HoldsRecords M old records → HoldsRecords M new (records ++ more ∷ [])
-  holds-more records more content up adds spelled holds = record {
+  pub holds-more : (surplus : ℕ) (records : List Record) (more : Record) (content : List ℕ) → StaysUp M old new → Adds M old new content → SpellsRecord more content
+      → HoldsRecords M old surplus records → HoldsRecords M new surplus (records ++ more ∷ [])
+  holds-more surplus records more content up adds spelled holds = record {
     up = up.is_up;
-    size = omega (arith, adds.size, holds.size, journal-more records more, record-length more content spelled);
-    held = held-more (M.contents old) refl records more content adds holds spelled;
+    size = omega (arith, adds.size, holds.size, longer-more surplus records more, record-length more content spelled);
+    held = held-more (M.contents old) refl surplus records more content adds holds spelled;
   }
 
   -- The log holds the records after a step.
-  pub holds-after : (records : List Record) (appended : Option Record) → Logs M old new appended → HoldsRecords M old records
-      → HoldsRecords M new (records ++ option_to_list appended)
-  holds-after records None same holds =
-      subst (λ log. HoldsRecords M log (records ++ [])) (sym same) (subst (HoldsRecords M old) (sym (append-nil records)) holds)
-  holds-after records (Some more) logged holds = holds-more records more logged.1.0 logged.0 logged.1.2 logged.1.1 holds
+  pub holds-after : (surplus : ℕ) (records : List Record) (appended : Option Record) → Logs M old new appended → HoldsRecords M old surplus records
+      → HoldsRecords M new surplus (records ++ option_to_list appended)
+  holds-after surplus records None same holds =
+      subst (λ log. HoldsRecords M log surplus (records ++ [])) (sym same) (subst (HoldsRecords M old surplus) (sym (append-nil records)) holds)
+  holds-after surplus records (Some more) logged holds = holds-more surplus records more logged.1.0 logged.0 logged.1.2 logged.1.1 holds
 
   -- Its limit is what it was.
   pub limit-after : (appended : Option Record) → Logs M old new appended → M.limit new ≡ M.limit old

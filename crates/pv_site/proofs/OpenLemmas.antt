@@ -1,60 +1,80 @@
 -- What a site starts from: its records, and that they are in range and narrow.
-use Rattle.std.proofs.Common.{◌≡◌, refl, sym, subst, ap, ◌∙◌, ⊎_elim, ℕ, zero, suc, ◌+◌, ◌<◌, ◌≤◌, Bool, true, false, List, [], ◌∷◌, ◌++◌, length, Option, Some, None, arith}
-use Rattle.std.specs.Prelude.{All, IsTrue, slice_get, nat_lt, ◌==◌, if◌then◌else◌, min, is_some, ◌^◌, ◌-◌, sum_by}
+use Rattle.std.proofs.Common.{◌≡◌, inl, inr, refl, sym, subst, ap, ◌∙◌, ⊎_elim, ℕ, zero, suc, ◌+◌, ◌<◌, ◌≤◌, Bool, true, false, List, [], ◌∷◌, ◌++◌, length, Option, Some, None, arith}
+use Rattle.std.specs.Prelude.{IsTrue, slice_get, nat_lt, ◌==◌, if◌then◌else◌, min, is_some, ◌^◌, ◌-◌, sum_by}
 use Rattle.std.specs.List.{Contains}
 use Rattle.std.specs.Option.{option_or}
 use Rattle.std.proofs.lemmas.Bool.{false≢true, ltb-false}
 use Rattle.std.proofs.lemmas.List.{append_assoc, append-nil}
-use Rattle.std.proofs.lemmas.List.Sums.{sum_by-cons}
+use Rattle.std.proofs.lemmas.List.Sums.{sum_by-append, sum_by-cons}
 use Rattle.pv_base.proofs.ContainsLemmas.{Contains-first, Contains-behind, Contains-nil, Contains-cases}
 use Rattle.pv_base.specs.Catalog.{Declared, Item}
 use Rattle.pv_base.specs.declared.limits.TheConstants.{HELD_NAMES}
 use Rattle.pv_base.specs.declared.txn.TxnId.{TxnId}
-use Rattle.pv_format.specs.Contents.{SpellRecords}
+use Rattle.pv_format.specs.Contents.{AreWritten, SpellRecords}
+use Rattle.pv_format.specs.Length.{record_length}
 use Rattle.pv_format.specs.Range.{IsRecordInRange}
-use Rattle.pv_format.specs.RecordSpelling.{SpellsRecord}
+use Rattle.pv_format.specs.RecordSpelling.{IsReadAs, SpellsRecord}
 use Rattle.std.proofs.lemmas.Bool.Decides.{nat_tests}
 use Rattle.pv_format.specs.Record.{Record, epoch_begun, prepared, outcome_known}
 use Rattle.pv_disk_model.specs.Size.{Contents, size_of}
 use Rattle.pv_disk_model.specs.LogModel.{LogModel}
 use Rattle.pv_law_format.proofs.LengthLemmas.{record-length}
-use Rattle.pv_law_format.proofs.RangeLemmas.{record-from, record-spelled}
+use Rattle.pv_law_format.proofs.OldLengths.{old-longer}
+use Rattle.pv_law_format.proofs.RangeLemmas.{read-from, record-spelled}
 use Rattle.pv_model.specs.Alternatives.{Read}
 use Rattle.pv_protocol.specs.Lock.{is_home, is_of_site}
 use Rattle.pv_protocol.specs.Outcome.{items_from}
 use Rattle.pv_protocol.specs.Records.{journal_bytes, record_bytes}
 use Rattle.pv_protocol.specs.Shown.{shown_within}
 use Rattle.pv_protocol.specs.Width.{IsNarrow}
-use Rattle.pv_base.specs.declared.txn.SiteId.{SiteId}
-use Rattle.pv_coord.specs.Coordinator.{Coordinator}
-use Rattle.pv_coord.specs.Work.{txn_of}
-use Rattle.pv_locks.specs.LockTable.{LockTable}
-use Rattle.pv_protocol.specs.Keyed.{AreInOrder}
-use Rattle.pv_protocol.specs.Start.{just_started}
-use Rattle.pv_site.specs.SiteParts.{here_of, running_of, AreTied, IsWorkOf}
-use Rattle.pv_site.specs.SiteState.{setup_of}
-use Rattle.pv_site.specs.declared.parts.SiteParts.{SiteParts}
 use Rattle.pv_store.specs.Refusals.{first_too_many, first_too_many_after, if_too_many, names_count, site_items, too_many_in, width}
 
-sizes : (records : List Record) (contents : Contents) → SpellRecords records contents
+sizes : (records : List Record) (contents : Contents) → AreWritten records contents
     → sum_by (λ (content : List ℕ). 5 + length content) contents ≡ sum_by record_bytes records
-sizes [] [] spelled = refl
-sizes [] (content ∷ contents) spelled = absurd spelled
-sizes (first ∷ records) [] spelled = absurd spelled
-sizes (first ∷ records) (content ∷ contents) spelled =
-    omega (arith, sizes records contents spelled.1, record-length first content spelled.0, sum_by-cons (λ (content : List ℕ). 5 + length content) content contents, sum_by-cons record_bytes first records)
+sizes [] [] written = refl
+sizes [] (content ∷ contents) written = absurd written
+sizes (first ∷ records) [] written = absurd written
+sizes (first ∷ records) (content ∷ contents) written =
+    omega (arith, sizes records contents written.1, record-length first content written.0, sum_by-cons (λ (content : List ℕ). 5 + length content) content contents, sum_by-cons record_bytes first records)
 
--- A log of records is as long as the records make it.
-pub size-journal : (records : List Record) (contents : Contents) → SpellRecords records contents → size_of contents ≡ journal_bytes records
+-- A log of records as they are written is as long as the records make it.
+pub size-journal : (records : List Record) (contents : Contents) → AreWritten records contents → size_of contents ≡ journal_bytes records
 unfolding journal_bytes
-size-journal records contents spelled = omega (arith, sizes records contents spelled)
+size-journal records contents written = omega (arith, sizes records contents written)
 
--- Records that are spelled are in range.
+-- What is read as a record is at least as long as it is as it's written.
+content-least : (entry : Record) (content : List ℕ) → IsReadAs entry content → record_length entry ≤ length content
+content-least entry content (inl spelled) = omega (arith, record-length entry content spelled)
+content-least entry content (inr old) =
+    let written = record-spelled entry (read-from entry content (inr old)) in
+    omega (arith, record-length entry written.0 written.1, (old-longer entry written.0 content written.1 old).0)
+
+sizes-least : (records : List Record) (contents : Contents) → SpellRecords records contents
+    → sum_by record_bytes records ≤ sum_by (λ (content : List ℕ). 5 + length content) contents
+sizes-least [] [] spelled = omega arith
+sizes-least [] (content ∷ contents) spelled = absurd spelled
+sizes-least (first ∷ records) [] spelled = absurd spelled
+sizes-least (first ∷ records) (content ∷ contents) spelled =
+    omega (arith, sizes-least records contents spelled.1, content-least first content spelled.0, sum_by-cons (λ (content : List ℕ). 5 + length content) content contents, sum_by-cons record_bytes first records)
+
+-- So a log is at least as long as its records make it as they are written.
+pub journal-least : (records : List Record) (contents : Contents) → SpellRecords records contents → journal_bytes records ≤ size_of contents
+unfolding journal_bytes
+journal-least records contents spelled = omega (arith, sizes-least records contents spelled)
+
+-- The front of a log isn't longer than its records make it by more than the whole log is.
+pub front-shorter : (records others : List Record) (contents later : Contents) → SpellRecords others later
+    → size_of contents + journal_bytes (records ++ others) ≤ size_of (contents ++ later) + journal_bytes records
+unfolding journal_bytes
+front-shorter records others contents later spelled =
+    omega (arith, sizes-least others later spelled, sum_by-append record_bytes records others, sum_by-append (λ (content : List ℕ). 5 + length content) contents later)
+
+-- What is read as records is in range.
 pub records-in-range : (records : List Record) (contents : Contents) → SpellRecords records contents → (one : Record) → Contains records one → IsRecordInRange one
 records-in-range [] contents spelled one there = absurd (Contains-nil one there)
 records-in-range (first ∷ records) [] spelled one there = absurd spelled
 records-in-range (first ∷ records) (content ∷ contents) spelled one there =
-    ⊎_elim (λ same. subst IsRecordInRange same (record-from first content spelled.0)) (λ behind. records-in-range records contents spelled.1 one behind)
+    ⊎_elim (λ same. subst IsRecordInRange same (read-from first content spelled.0)) (λ behind. records-in-range records contents spelled.1 one behind)
     (Contains-cases first records one there)
 
 -- An item of the site is listed.
@@ -167,40 +187,3 @@ up-to P n below here i within = by (nat_lt i n) refl where
   by : (b : Bool) → nat_lt i n ≡ b → P i
   by true is = below i (grind (arith, nat_tests, is))
   by false is = let same : i ≡ n = omega (arith, within, ltb-false i n is) in subst P (sym same) here
-
--- A site that has just begun, with a catalog, locks, a coordinator and a store that are made of these.
-module _ (me : SiteId) (epoch : ℕ) (declared : Declared) (recorded : List Record) (parts : SiteParts) where
-  pub record HaveBegun : Type 0 where
-    pub me_is : parts.me ≡ me
-    pub catalog : parts.catalog ≡ declared
-    pub locks : parts.locks ≡ record { epoch = epoch; next = 0; grants = []; room = record { grants = 0; wants = 0 } }
-    pub coord : parts.coord.contents ≡ record { site = me.0; epoch = epoch; next = 0; entries = [] }
-    pub records : parts.store.records ≡ recorded
-    pub store_site : parts.store.site ≡ me.0
-    pub store_catalog : parts.store.catalog ≡ declared
-
-  pub begun-here : HaveBegun
-      → here_of parts ≡ record { me = me.0; setup = setup_of declared; records = recorded; running = just_started epoch }
-  begun-here begun =
-      ap (λ (m : SiteId). record { me = m.0; setup = setup_of parts.catalog; records = parts.store.records; running = running_of parts.locks parts.coord.contents }) begun.me_is
-      ∙ (ap (λ (c : Declared). record { me = me.0; setup = setup_of c; records = parts.store.records; running = running_of parts.locks parts.coord.contents }) begun.catalog
-      ∙ (ap (λ (rs : List Record). record { me = me.0; setup = setup_of declared; records = rs; running = running_of parts.locks parts.coord.contents }) begun.records
-      ∙ (ap (λ (l : LockTable). record { me = me.0; setup = setup_of declared; records = recorded; running = running_of l parts.coord.contents }) begun.locks
-      ∙ ap (λ (c : Coordinator). record {
-        me = me.0;
-        setup = setup_of declared;
-        records = recorded;
-        running = running_of (record { epoch = epoch; next = 0; grants = []; room = record { grants = 0; wants = 0 } }) c;
-      }) begun.coord)))
-
-  pub begun-tied : HaveBegun → AreTied parts
-  begun-tied begun =
-      let entries : parts.coord.contents.entries ≡ [] = ap (λ (c : Coordinator). c.entries) begun.coord in
-      record {
-        store_site = begun.store_site ∙ sym (ap (λ (m : SiteId). m.0) begun.me_is);
-        store_catalog = begun.store_catalog ∙ sym begun.catalog;
-        coord_site = ap (λ (c : Coordinator). c.site) begun.coord ∙ sym (ap (λ (m : SiteId). m.0) begun.me_is);
-        epochs = ap (λ (c : Coordinator). c.epoch) begun.coord ∙ sym (ap (λ (l : LockTable). l.epoch) begun.locks);
-        order = subst (AreInOrder txn_of) (sym entries) (λ i j d before within. absurd (omega (arith, within)));
-        works = subst (All (IsWorkOf parts.catalog parts.store.records)) (sym entries) (λ k d within. absurd (omega (arith, within)));
-      }

@@ -40,24 +40,25 @@ running_on log parts epoch first = record {
   running = Some (here_of parts).running;
   epoch = epoch;
   first = first;
+  surplus = parts.surplus;
   log = log;
 }
 
 module _ {W : Type 0} (M : LogModel W) (old new : W) (left : Remains) (can : CanResume M old left) where
   -- No epoch is left.
-  pub has-none : NEVER_GIVEN ≤ next_epoch left.records → site_start (setup_of left.catalog) left.records ≡ no_epoch
-  has-none most = starts-not (setup_of left.catalog) left.records most
+  pub has-none : NEVER_GIVEN ≤ next_epoch left.records → site_start (setup_of left.catalog) left.surplus left.records ≡ no_epoch
+  has-none most = starts-not (setup_of left.catalog) left.surplus left.records most
 
   module _ (numbered : next_epoch left.records < NEVER_GIVEN) where
     starts-fitting : M.size old + record_bytes (epoch_begun (next_epoch left.records)) ≤ M.limit old
-        → site_start (setup_of left.catalog) left.records ≡ starts (just_started (next_epoch left.records)) (epoch_begun (next_epoch left.records))
-    starts-fitting fits = starts-room (setup_of left.catalog) left.records numbered (omega (arith, fits, can.holds.size, can.limit))
+        → site_start (setup_of left.catalog) left.surplus left.records ≡ starts (just_started (next_epoch left.records)) (epoch_begun (next_epoch left.records))
+    starts-fitting fits = starts-room (setup_of left.catalog) left.surplus left.records numbered (omega (arith, fits, can.holds.size, can.limit))
 
     -- The journal has no room.
     pub has-no-room : (length : ℕ) → Writes M old new (epoch_begun (next_epoch left.records)) (Ok (written.Full length))
-        → site_start (setup_of left.catalog) left.records ≡ too_long length
+        → site_start (setup_of left.catalog) left.surplus left.records ≡ too_long length
     has-no-room length wrote =
-        starts-full (setup_of left.catalog) left.records numbered length
+        starts-full (setup_of left.catalog) left.surplus left.records numbered length
         (wrote.1 ∙ ap (λ n. n + record_bytes (epoch_begun (next_epoch left.records))) can.holds.size) (subst (λ n. n < length) can.limit wrote.2)
 
     -- The log failed at the record.
@@ -80,6 +81,7 @@ module _ {W : Type 0} (M : LogModel W) (old new : W) (left : Remains) (can : Can
         me = left.me;
         setup = setup_of left.catalog;
         records = left.records ++ epoch_begun (next_epoch left.records) ∷ [];
+        surplus = left.surplus;
         running = just_started (next_epoch left.records);
       }
       begun-next =
@@ -88,6 +90,7 @@ module _ {W : Type 0} (M : LogModel W) (old new : W) (left : Remains) (can : Can
             me = left.me;
             setup = setup_of left.catalog;
             records = left.records ++ epoch_begun (next_epoch left.records) ∷ [];
+            surplus = left.surplus;
             running = just_started epoch;
           }) (advanced-epoch left)
 
@@ -101,7 +104,7 @@ module _ {W : Type 0} (M : LogModel W) (old new : W) (left : Remains) (can : Can
         epoch = next_epoch left.records;
         content = wrote.2.0;
         starts = starts-fitting wrote.0;
-        site = ap (λ (now : Here). record { me = now.me; catalog = now.setup.catalog; records = now.records; running = Some now.running; epoch = epoch; first = first; log = new }) begun-next
+        site = ap (λ (now : Here). record { me = now.me; catalog = now.setup.catalog; records = now.records; running = Some now.running; epoch = epoch; first = first; surplus = now.surplus; log = new }) begun-next
             ∙ ap (λ (number : ℕ). record {
               me = left.me;
               catalog = left.catalog;
@@ -109,6 +112,7 @@ module _ {W : Type 0} (M : LogModel W) (old new : W) (left : Remains) (can : Can
               running = Some (just_started (next_epoch left.records));
               epoch = number;
               first = first;
+              surplus = left.surplus;
               log = new;
             }) (next-is epoch last);
         content_is = wrote.2.1;
@@ -122,16 +126,16 @@ module _ {W : Type 0} (M : LogModel W) (old new : W) (left : Remains) (can : Can
       resumed-ready epoch first still = record {
         intact = still;
         limit = wrote.2.2.limit ∙ (can.limit ∙ sym (ap (λ (now : Here). now.setup.catalog.journal) begun-next));
-        holds = subst (HoldsRecords M new) (sym (ap (λ (now : Here). now.records) begun-next))
-            (holds-more M old new left.records (epoch_begun (next_epoch left.records)) wrote.2.0 wrote.1 wrote.2.2 wrote.2.1 can.holds);
+        holds = subst (λ (now : Here). HoldsRecords M new now.surplus now.records) (sym begun-next)
+            (holds-more M old new left.surplus left.records (epoch_begun (next_epoch left.records)) wrote.2.0 wrote.1 wrote.2.2 wrote.2.1 can.holds);
       }
 
       -- Its parts are sound.
       pub resumed-sound : AreTied parts → IsSetupInRange (setup_of left.catalog) → All IsRecordInRange left.records
           → IsNarrow HELD_NAMES left.catalog left.me left.records
           → ((running : Running) (more : Record) → All (IsRecordWithin MAX_SITES) left.records → IsNarrow HELD_NAMES left.catalog left.me left.records
-          → site_start (setup_of left.catalog) left.records ≡ starts running more
-          → IsHereInRange MAX_SITES (record { me = left.me; setup = setup_of left.catalog; records = left.records ++ more ∷ []; running = running }))
+          → site_start (setup_of left.catalog) left.surplus left.records ≡ starts running more
+          → IsHereInRange MAX_SITES (record { me = left.me; setup = setup_of left.catalog; records = left.records ++ more ∷ []; surplus = left.surplus; running = running }))
           → AreSound parts
       resumed-sound tied setup fine narrow law = record {
         tied = tied;
@@ -144,11 +148,11 @@ module _ {W : Type 0} (M : LogModel W) (old new : W) (left : Remains) (can : Can
       resumed-recorded epoch last = ap (λ (now : Here). greatest_epoch now.records) here ∙ last
 
 module _ {W : Type 0} (M : LogModel W) (site : SiteState W) where
-  up-holds : (running : Option Running) → is_some running ≡ true → HoldsWhatRuns M site.log site.records running → HoldsRecords M site.log site.records
+  up-holds : (running : Option Running) → is_some running ≡ true → HoldsWhatRuns M site.log site.surplus site.records running → HoldsRecords M site.log site.surplus site.records
   up-holds None none holds = absurd (true≢false (sym none))
   up-holds (Some running) some holds = holds
 
   -- A site that is up can go on once it has left.
   pub left-ready : IsReady M site → is_some site.running ≡ true → site.me < site.catalog.sites
-      → CanResume M site.log (record { me = site.me; catalog = site.catalog; records = site.records })
+      → CanResume M site.log (record { me = site.me; catalog = site.catalog; records = site.records; surplus = site.surplus })
   left-ready ready up here = record { intact = ready.intact; limit = ready.limit; holds = up-holds site.running up ready.holds; site = here }

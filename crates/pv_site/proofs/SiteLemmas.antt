@@ -91,7 +91,8 @@ module _ {W : Type 0} (M : LogModel W) (inside : Inside W) (log : W) (parts : Si
   ready-by false is up stepped logged intact ready = record {
     intact = intact;
     limit = limit-after M inside.log log step.appended logged ∙ (ready.limit ∙ sym (ap (λ (here : Here). here.setup.catalog.journal) stepped.here));
-    holds = subst (HoldsRecords M log) (sym (ap (λ (here : Here). here.records) stepped.here)) (holds-after M inside.log log inside.parts.store.records step.appended logged ready.holds);
+    holds = subst (λ (here : Here). HoldsRecords M log here.surplus here.records) (sym stepped.here)
+        (holds-after M inside.log log inside.parts.surplus inside.parts.store.records step.appended logged ready.holds);
   }
   ready-by true is up stepped logged intact ready = absurd (true≢false up)
 

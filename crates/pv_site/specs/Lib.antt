@@ -21,5 +21,6 @@ pub mod SiteParts
 pub mod SiteState
 pub mod SiteView
 pub mod Steps
+pub mod Surplus
 pub mod Values
 pub mod Written

@@ -7,7 +7,7 @@ use Rattle.pv_disk_model.specs.Calls.{Makes}
 use Rattle.pv_disk_model.specs.Log.{Keeps, Adds, MayAdd, StaysUp, GoesDown}
 use Rattle.pv_disk_model.specs.LogModel.{LogModel}
 use Rattle.pv_disk_model.specs.Size.{Contents}
-use Rattle.pv_protocol.specs.Records.{journal_bytes}
+use Rattle.pv_protocol.specs.Records.{longer_journal}
 use Rattle.pv_protocol.specs.State as model
 use Rattle.pv_site.specs.Answer.{IsAnswer}
 use Rattle.pv_site.specs.Calls.{append_calls, FailsToAppend, MayReserve}
@@ -18,17 +18,17 @@ use Rattle.pv_site.specs.declared.input.Step.{Step}
 use Rattle.pv_site.specs.declared.parts.SiteParts.{SiteParts}
 
 module _ {W : Type 0} (M : LogModel W) where
-  -- The log isn't down, is as long as the records make it, and holds them, where it is known what it holds.
-  pub record HoldsRecords (log : W) (records : List Record) : Type 0 where
+  -- The log isn't down, is by so many bytes longer than the records make it, and holds them, where it is known what it holds.
+  pub record HoldsRecords (log : W) (surplus : ℕ) (records : List Record) : Type 0 where
     pub up : M.is_down log ≡ false
-    pub size : M.size log ≡ journal_bytes records
+    pub size : M.size log ≡ longer_journal surplus records
     pub held : (contents : Contents) → M.contents log ≡ Some contents → SpellRecords records contents
 
   -- The log is as the site left it, and the parts are sound: a step can begin.
   pub record AreReady (log : W) (parts : SiteParts) : Type 0 where
     pub intact : M.is_intact log
     pub limit : M.limit log ≡ parts.catalog.journal
-    pub holds : HoldsRecords log parts.store.records
+    pub holds : HoldsRecords log parts.surplus parts.store.records
     pub sound : AreSound parts
 
   -- What a step makes of the log: it isn't called, or it was to append the step's record, and holds it.

@@ -13,6 +13,7 @@ use Rattle.pv_protocol.specs.State.{Running}
 use Rattle.pv_store.specs.Refusals.{too_many_in}
 use Rattle.pv_site.specs.Calls.{append_calls, AsksFor, FailsToAppend}
 use Rattle.pv_site.specs.SiteState.{SiteState, setup_of}
+use Rattle.pv_site.specs.Surplus.{surplus_of}
 use Rattle.pv_replay.specs.Values.{records_of}
 use Rattle.pv_site.specs.declared.opening.Found.{Found}
 use Rattle.pv_site.specs.declared.opening.Loaded.{Loaded}
@@ -45,11 +46,11 @@ module _ {W : Type 0} (M : LogModel W) where
     pub log : Keeps M old new
     pub call : M.goes old read_all true new
 
-  -- Records were read, the greatest epoch among them is this one, and it is said whether there were none.
+  -- Records were read, the greatest epoch among them is this one, and it is said whether there were none, and by how many bytes the log is longer than they make it.
   abbrev pub HasFound : W → W → Found → Type 0
   HasFound old new found =
       let records = records_of found.past.records.items in
-      ((read : ReadsRecords old new records) × (found.first ≡ (length read.contents == 0))) × (found.past.epoch ≡ greatest_epoch records)
+      ((read : ReadsRecords old new records) × (found.first ≡ (length read.contents == 0)) × (found.surplus ≡ surplus_of read.contents records)) × (found.past.epoch ≡ greatest_epoch records)
 
   -- What comes of reading the records, by the answer.
   abbrev pub ReadsPast : W → W → Result Found Refusal → Type 0
@@ -73,7 +74,7 @@ module _ {W : Type 0} (M : LogModel W) where
     pub size : M.size old ≡ size_of contents
     pub spelled : SpellRecords records contents
     pub narrow : too_many_in catalog me records ≡ None
-    pub starts : site_start (setup_of catalog) records ≡ starts running (epoch_begun epoch)
+    pub starts : site_start (setup_of catalog) (surplus_of contents records) records ≡ starts running (epoch_begun epoch)
     pub site : opened ≡ record {
       me = me;
       catalog = catalog;
@@ -81,6 +82,7 @@ module _ {W : Type 0} (M : LogModel W) where
       running = Some running;
       epoch = epoch;
       first = length contents == 0;
+      surplus = surplus_of contents records;
       log = opened.log;
     }
     pub content_is : SpellsRecord (epoch_begun epoch) content
@@ -105,7 +107,7 @@ module _ {W : Type 0} (M : LogModel W) where
     pub size : M.size old ≡ size_of contents
     pub spelled : SpellRecords records contents
     pub narrow : too_many_in catalog me records ≡ None
-    pub starts : site_start (setup_of catalog) records ≡ starts running (epoch_begun epoch)
+    pub starts : site_start (setup_of catalog) (surplus_of contents records) records ≡ starts running (epoch_begun epoch)
     pub content_is : SpellsRecord (epoch_begun epoch) content
     pub down : GoesDown M old new
     pub log : MayAdd M old new content
@@ -120,8 +122,8 @@ module _ {W : Type 0} (M : LogModel W) where
   HasFailed old me catalog new = FailsToRead old new ⊎ FailsToBegin old me catalog new
 
   -- Why a site with these records is refused, once they were read.
-  abbrev pub RefusesRecords : W → ℕ → Declared → W → (List Record → Type 0) → Type 0
-  RefusesRecords old me catalog new IsCause = (records : List Record) × ReadsRecords old new records × IsCause records
+  abbrev pub RefusesRecords : W → ℕ → Declared → W → (Contents → List Record → Type 0) → Type 0
+  RefusesRecords old me catalog new IsCause = (records : List Record) × (read : ReadsRecords old new records) × IsCause read.contents records
 
   -- An opening, by its answer.
   abbrev pub Opens : W → ℕ → Declared → Result (SiteState W) (OpenError W) → Type 0
@@ -132,11 +134,11 @@ module _ {W : Type 0} (M : LogModel W) where
   Opens old me catalog (Err (BadRecord log index)) =
       StaysUp M old log × Keeps M old log × ((contents : Contents) × WereRead old contents × IsFirstBadContent contents index) × M.goes old read_all true log
   Opens old me catalog (Err (TooManyOutcomes log count)) =
-      RefusesRecords old me catalog log (λ records. too_many_in catalog me records ≡ Some count)
+      RefusesRecords old me catalog log (λ contents records. too_many_in catalog me records ≡ Some count)
   Opens old me catalog (Err (EpochsSpent log)) =
-      RefusesRecords old me catalog log (λ records. (too_many_in catalog me records ≡ None) × (site_start (setup_of catalog) records ≡ no_epoch))
+      RefusesRecords old me catalog log (λ contents records. (too_many_in catalog me records ≡ None) × (site_start (setup_of catalog) (surplus_of contents records) records ≡ no_epoch))
   Opens old me catalog (Err (Full log length)) =
-      RefusesRecords old me catalog log (λ records. (too_many_in catalog me records ≡ None) × (site_start (setup_of catalog) records ≡ too_long length))
+      RefusesRecords old me catalog log (λ contents records. (too_many_in catalog me records ≡ None) × (site_start (setup_of catalog) (surplus_of contents records) records ≡ too_long length))
   Opens old me catalog (Err (NoMemory log)) = StaysUp M old log × Keeps M old log × AsksFor M old log
 
 -- the refusal, with which the log comes back
@@ -162,8 +164,9 @@ log_in (NoMemory log) = log
 -- What the records of a log say, or why a site with this log isn't opened.
 abbrev pub Loads : {W : Type 0} → LogModel W → W → W → ℕ → Declared → Result Loaded Refusal → Type 0
 Loads M old new me catalog (Ok loaded) =
-    (records : List Record) × (loaded.left ≡ record { me = me; catalog = catalog; records = records })
-    × ((read : ReadsRecords M old new records) × (loaded.first ≡ (length read.contents == 0))) × (too_many_in catalog me records ≡ None)
+    (records : List Record)
+    × ((read : ReadsRecords M old new records) × (loaded.first ≡ (length read.contents == 0))
+    × (loaded.left ≡ record { me = me; catalog = catalog; records = records; surplus = surplus_of read.contents records })) × (too_many_in catalog me records ≡ None)
 Loads M old new me catalog (Err reason) = Opens M old me catalog (Err (refused_with new reason))
 
 -- why the site isn't opened, where it doesn't go on from what was read

@@ -8,7 +8,7 @@ use Rattle.pv_site.specs.Recovered.{Remains}
 use Rattle.pv_site.specs.declared.recovered.Recovered.TheInside.{Inside}
 
 abbrev pub remains_of : Inside → Remains
-remains_of inside = record { me = inside.me.0; catalog = inside.catalog; records = inside.store.records }
+remains_of inside = record { me = inside.me.0; catalog = inside.catalog; records = inside.store.records; surplus = inside.surplus }
 
 -- The store is the site's, of its catalog, and the epoch is the greatest of the records. These are in range, and no value names too many outcomes.
 pub record IsRecovered (inside : Inside) : Type 0 where

@@ -27,10 +27,10 @@ use Rattle.pv_site.specs.declared.recovered.Advanced.{Advanced}
 use Rattle.pv_site.specs.declared.recovered.Advanced.TheVariants as advanced
 
 -- What is left of a site with these records, or why the records aren't taken.
-abbrev pub Recovers : ℕ → Declared → List Record → Result Remains StoreError → Type 0
-Recovers me catalog records (Ok left) = (left ≡ record { me = me; catalog = catalog; records = records }) × (too_many_in catalog me records ≡ None)
-Recovers me catalog records (Err (store.TooManyOutcomes count)) = too_many_in catalog me records ≡ Some count
-Recovers me catalog records (Err store.NoMemory) = ⊤
+abbrev pub Recovers : ℕ → Declared → ℕ → List Record → Result Remains StoreError → Type 0
+Recovers me catalog surplus records (Ok left) = (left ≡ record { me = me; catalog = catalog; records = records; surplus = surplus }) × (too_many_in catalog me records ≡ None)
+Recovers me catalog surplus records (Err (store.TooManyOutcomes count)) = too_many_in catalog me records ≡ Some count
+Recovers me catalog surplus records (Err store.NoMemory) = ⊤
 
 -- the epoch after the last one of these records
 abbrev pub next_epoch : List Record → ℕ
@@ -46,6 +46,7 @@ here_begun left = record {
   me = left.me;
   setup = setup_of left.catalog;
   records = left.records;
+  surplus = left.surplus;
   running = just_started (greatest_epoch left.records);
 }
 
@@ -54,7 +55,7 @@ module _ {W : Type 0} (M : LogModel W) where
   pub record CanResume (log : W) (left : Remains) : Type 0 where
     pub intact : M.is_intact log
     pub limit : M.limit log ≡ left.catalog.journal
-    pub holds : HoldsRecords M log left.records
+    pub holds : HoldsRecords M log left.surplus left.records
     pub site : left.me < left.catalog.sites
 
   -- The site runs: it has recorded the epoch after the last one, and has nothing else in memory.
@@ -62,7 +63,7 @@ module _ {W : Type 0} (M : LogModel W) where
     pub running : Running
     pub epoch : ℕ
     pub content : List ℕ
-    pub starts : site_start (setup_of left.catalog) left.records ≡ starts running (epoch_begun epoch)
+    pub starts : site_start (setup_of left.catalog) left.surplus left.records ≡ starts running (epoch_begun epoch)
     pub site : resumed ≡ record {
       me = left.me;
       catalog = left.catalog;
@@ -70,6 +71,7 @@ module _ {W : Type 0} (M : LogModel W) where
       running = Some running;
       epoch = epoch;
       first = was_empty;
+      surplus = left.surplus;
       log = resumed.log;
     }
     pub content_is : SpellsRecord (epoch_begun epoch) content
@@ -82,7 +84,7 @@ module _ {W : Type 0} (M : LogModel W) where
     pub running : Running
     pub epoch : ℕ
     pub content : List ℕ
-    pub starts : site_start (setup_of left.catalog) left.records ≡ starts running (epoch_begun epoch)
+    pub starts : site_start (setup_of left.catalog) left.surplus left.records ≡ starts running (epoch_begun epoch)
     pub content_is : SpellsRecord (epoch_begun epoch) content
     pub down : GoesDown M old new
     pub log : MayAdd M old new content
@@ -94,9 +96,9 @@ module _ {W : Type 0} (M : LogModel W) where
   Resumes old left was_empty (Ok site) = HasResumed old left was_empty site
   Resumes old left was_empty (Err (Failed log back)) = (back ≡ left) × FailsToResume old left log
   Resumes old left was_empty (Err (Full log back length)) =
-      (log ≡ old) × (back ≡ left) × (site_start (setup_of left.catalog) left.records ≡ too_long length)
+      (log ≡ old) × (back ≡ left) × (site_start (setup_of left.catalog) left.surplus left.records ≡ too_long length)
   Resumes old left was_empty (Err (EpochsSpent log back)) =
-      (log ≡ old) × (back ≡ left) × (site_start (setup_of left.catalog) left.records ≡ no_epoch)
+      (log ≡ old) × (back ≡ left) × (site_start (setup_of left.catalog) left.surplus left.records ≡ no_epoch)
   Resumes old left was_empty (Err (NoMemory log back)) = (back ≡ left) × StaysUp M old log × Keeps M old log × MayReserve M old log
 
   -- The next epoch of what is left, by the answer: it is written and recorded; the log would be too long with it; none is left; or why it

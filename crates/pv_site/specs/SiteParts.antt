@@ -43,6 +43,7 @@ here_of parts = record {
   me = parts.me.0;
   setup = setup_of parts.catalog;
   records = parts.store.records;
+  surplus = parts.surplus;
   running = running_of parts.locks parts.coord.contents;
 }
 

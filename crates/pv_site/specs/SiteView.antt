@@ -19,6 +19,7 @@ state_of inside = record {
   running = running_unless inside.down (here_of inside.parts).running;
   epoch = inside.epoch;
   first = inside.first;
+  surplus = inside.parts.surplus;
   log = inside.log;
 }
 

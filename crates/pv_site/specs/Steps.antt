@@ -1,5 +1,5 @@
 -- What a step of a site does, by its answer.
-use Rattle.std.specs.Prelude.{◌≡◌, List, Option, Some, None, Result, Ok, Err, ⊤}
+use Rattle.std.specs.Prelude.{◌≡◌, ℕ, List, Option, Some, None, Result, Ok, Err, ⊤}
 use Rattle.pv_format.specs.Record.{Record}
 use Rattle.pv_disk_model.specs.Log.{Keeps, StaysUp}
 use Rattle.pv_disk_model.specs.LogModel.{LogModel}
@@ -16,15 +16,15 @@ use Rattle.pv_site.specs.declared.input.Step.{Step}
 
 module _ {W : Type 0} (M : LogModel W) where
   -- The log holds the records of the site, unless the site is down.
-  abbrev pub HoldsWhatRuns : W → List Record → Option Running → Type 0
-  HoldsWhatRuns log records None = ⊤
-  HoldsWhatRuns log records (Some running) = HoldsRecords M log records
+  abbrev pub HoldsWhatRuns : W → ℕ → List Record → Option Running → Type 0
+  HoldsWhatRuns log surplus records None = ⊤
+  HoldsWhatRuns log surplus records (Some running) = HoldsRecords M log surplus records
 
   -- The site's log is as the site left it.
   pub record IsReady (site : SiteState W) : Type 0 where
     pub intact : M.is_intact site.log
     pub limit : M.limit site.log ≡ site.catalog.journal
-    pub holds : HoldsWhatRuns site.log site.records site.running
+    pub holds : HoldsWhatRuns site.log site.surplus site.records site.running
 
   -- The site has made this step.
   pub record HasMade (old new : SiteState W) (answer : Step) (step : model.Step) : Type 0 where

@@ -4,6 +4,7 @@ ghost use Rattle.pv_site.specs.contracts.parts.SiteParts.{the_row as parts_row};
 ghost use Rattle.pv_site.specs.contracts.site.Site.{the_row as site_row};
 
 use crate::Site;
+use crate::surplus::Surplus;
 use pv_base::Catalog;
 use pv_coord::Coord;
 use pv_disk::Log;
@@ -32,6 +33,7 @@ fn parts_cross_threads()
     sends::<Locks>();
     sends::<Coord>();
     sends::<Store>();
+    sends::<Surplus>();
 }
 
 // What may cross threads fits here, and nothing else.

@@ -21,6 +21,7 @@ mod recovered;
 mod refusing;
 mod site;
 mod sure;
+mod surplus;
 mod taking;
 mod ticking;
 

@@ -1,6 +1,6 @@
 // What a site that is opened reads of its log, and why it isn't opened.
-ghost use Rattle.std.specs.Prelude.{◌≡◌, ◌+◌, ◌-◌, ◌^◌, min, length, false, All, List};
-ghost use Rattle.pv_format.specs.Contents.{SpellRecords};
+ghost use Rattle.std.specs.Prelude.{◌≡◌, ◌+◌, ◌-◌, ◌^◌, ◌≤◌, ◌++◌, min, length, false, All, List};
+ghost use Rattle.pv_format.specs.Contents.{AreWritten, SpellRecords};
 ghost use Rattle.pv_format.specs.Range.{IsRecordInRange};
 ghost use Rattle.pv_format.specs.Record.{Record};
 ghost use Rattle.pv_disk_model.specs.Size.{Contents, size_of};
@@ -10,6 +10,7 @@ ghost use Rattle.pv_replay.specs.Values.{contents_of};
 ghost use Rattle.pv_site.specs.Opens.{Loads, ReadsPast, refused_with, unopened};
 ghost use Rattle.pv_site.specs.SiteState.{setup_of};
 
+use crate::surplus::Surplus;
 use crate::{OpenError, Recovered, ResumeError};
 use pv_base::{Catalog, SiteId};
 use pv_disk::{Log, LogError};
@@ -54,12 +55,14 @@ impl Refusal {
 }
 
 // What was read from a log.
-#[derive(Debug, Drop)]
+#[derive(Drop)]
 pub(crate) struct Found {
     /// The records, and the greatest epoch.
     pub(crate) past: Past,
     /// Whether there are none.
     pub(crate) first: bool,
+    /// By how many bytes the log is longer than they make it, for the proof.
+    pub(crate) surplus: Surplus,
 }
 
 // What the records of a log say.
@@ -91,8 +94,9 @@ fn read_past<L: Log>(log: &mut L, alloc: Global) -> Result<Found, Refusal>
     }
     match replay(alloc, &contents) {
         Ok(past) => Ok(Found {
-            past,
+            surplus: Surplus::of(&contents, &past.records),
             first: contents.is_empty(),
+            past,
         }),
         Err(ReplayError::BadRecord(index)) => Err(Refusal::BadRecord(index)),
         Err(ReplayError::NoMemory) => Err(Refusal::NoMemory),
@@ -129,15 +133,16 @@ pub(crate) fn load<L: Log>(
     ensures loaded { Loads L.model log.old log.new site.0 catalog.now result }
     ensures intact { L.model.is_intact log.new }
 {
-    let found = match read_past(log, alloc) {
+    let Found {
+        past,
+        first,
+        surplus,
+    } = match read_past(log, alloc) {
         Ok(found) => found,
         Err(refusal) => return Err(refusal),
     };
-    match Recovered::of(alloc, site, catalog, &found.past) {
-        Ok(left) => Ok(Loaded {
-            left,
-            first: found.first,
-        }),
+    match Recovered::of_longer(alloc, site, catalog, &past, surplus) {
+        Ok(left) => Ok(Loaded { left, first }),
         Err(StoreError::TooManyOutcomes(count)) => Err(Refusal::TooManyOutcomes(count)),
         Err(StoreError::NoMemory) => Err(Refusal::NoMemory),
     }
@@ -164,8 +169,14 @@ pub fn setup_is_in_range(catalog: &Catalog)
     catalog.len();
 }
 
-/// Shows of contents that spell records: a log with them is as long as the records make it, and the records are in range. It computes nothing.
+/// Shows of contents that are read as records: a log with them is at least as long as the records make it as they are written, a front of it isn't longer than that by more than
+/// the whole, and the records are in range. Where each is
+/// as it is written, the contents are read as them, and the log is exactly so long. It computes nothing.
 pub fn logs_tell_of_records()
-    ensures size { (records : List Record) (contents : Contents) → SpellRecords records contents → size_of contents ≡ journal_bytes records }
+    ensures size { (records : List Record) (contents : Contents) → AreWritten records contents → size_of contents ≡ journal_bytes records }
+    ensures read { (records : List Record) (contents : Contents) → AreWritten records contents → SpellRecords records contents }
+    ensures least { (records : List Record) (contents : Contents) → SpellRecords records contents → journal_bytes records ≤ size_of contents }
+    ensures front { (records others : List Record) (contents later : Contents) → SpellRecords others later →
+        size_of contents + journal_bytes (records ++ others) ≤ size_of (contents ++ later) + journal_bytes records }
     ensures range { (records : List Record) (contents : Contents) → SpellRecords records contents → All IsRecordInRange records }
 {}

@@ -2,6 +2,7 @@
 ghost use Rattle.std.specs.Prelude.{◌≡◌, ◌↔◌, false, []};
 ghost use Rattle.pv_site.specs.SiteParts.{AreSound};
 
+use crate::surplus::Surplus;
 use pv_base::{Catalog, SiteId};
 use pv_coord::Coord;
 use pv_locks::Locks;
@@ -21,6 +22,8 @@ pub(crate) struct SiteParts {
     pub(crate) coord: Coord,
     /// What its records say.
     pub(crate) store: Store,
+    /// By how many bytes the log is longer than the records make it, for the proof.
+    pub(crate) surplus: Surplus,
 }
 
 impl SiteParts {
@@ -31,6 +34,7 @@ impl SiteParts {
         ensures me { self.new.me ≡ self.old.me }
         ensures catalog { self.new.catalog ≡ self.old.catalog }
         ensures store { self.new.store ≡ self.old.store }
+        ensures surplus { self.new.surplus ≡ self.old.surplus }
         ensures epoch { self.new.locks.epoch ≡ epoch }
         ensures grants { self.new.locks.grants ≡ [] }
         ensures entries { self.new.coord.contents.entries ≡ [] }

@@ -10,6 +10,7 @@ ghost use Rattle.pv_site.specs.Resumes.{here_begun, Advances, Recovers};
 use crate::StepError;
 use crate::appending::{Written, write};
 use crate::parts::SiteParts;
+use crate::surplus::Surplus;
 use pv_base::{Catalog, NEVER_GIVEN, NoMemory, SiteId, TxnId};
 use pv_coord::Coord;
 use pv_disk::Log;
@@ -33,6 +34,8 @@ pub struct Recovered {
     pub(crate) store: Store,
     /// The greatest epoch among them, or 0.
     pub(crate) epoch: u32,
+    /// By how many bytes the log is longer than the records make it, for the proof.
+    pub(crate) surplus: Surplus,
 }
 
 impl Model for Recovered {
@@ -68,7 +71,7 @@ pub(crate) struct Begun {
 impl Recovered {
     /// What there is of a site without records. Takes time in proportion to the catalog's items.
     pub fn new(alloc: Global, site: SiteId, catalog: &Catalog) -> Result<Recovered, NoMemory>
-        ensures { IfOk result (λ left. left ≡ record { me = site.0; catalog = catalog.now; records = [] }) }
+        ensures { IfOk result (λ left. left ≡ record { me = site.0; catalog = catalog.now; records = []; surplus = 0 }) }
     {
         no_records_are_narrow();
         Ok(Recovered {
@@ -76,12 +79,14 @@ impl Recovered {
             catalog: catalog.copy()?,
             store: Store::new(alloc, catalog, site)?,
             epoch: 0,
+            surplus: Surplus::none(alloc),
         })
     }
 
     /// What there is of a site with these records, as `replay` answers them with the greatest epoch: what is spelled is in range. `TooManyOutcomes` comes exactly where after
     /// some prepared record, all outcomes being known that any record has, a value of the site names more outcomes than it may: at the first
-    /// such record, for the least such item. Takes time in proportion to the records, the cases in them, and the catalog's items.
+    /// such record, for the least such item. Its log has these records as they are written. Takes time in proportion to the records, the cases in them, and the catalog's
+    /// items.
     pub fn of(
         alloc: Global,
         site: SiteId,
@@ -90,31 +95,53 @@ impl Recovered {
     ) -> Result<Recovered, StoreError>
         requires epoch { past.now.epoch ≡ greatest_epoch (records_of past.now.records.items) }
         requires range { All IsRecordInRange (records_of past.now.records.items) }
-        ensures { Recovers site.0 catalog.now (records_of past.now.records.items) result }
+        ensures { Recovers site.0 catalog.now 0 (records_of past.now.records.items) result }
     {
-        Recovered::over(alloc, site, catalog.copy()?, past)
+        Recovered::over(alloc, site, catalog.copy()?, past, Surplus::none(alloc))
     }
 
-    /// What there is of the same site with these records in place of its own, as [`of`](Recovered::of) makes it, by the catalog that is here.
+    // The same of a log that is by so many bytes longer.
+    pub(crate) fn of_longer(
+        alloc: Global,
+        site: SiteId,
+        catalog: &Catalog,
+        past: &Past,
+        surplus: Surplus,
+    ) -> Result<Recovered, StoreError>
+        requires epoch { past.now.epoch ≡ greatest_epoch (records_of past.now.records.items) }
+        requires range { All IsRecordInRange (records_of past.now.records.items) }
+        ensures { Recovers site.0 catalog.now surplus (records_of past.now.records.items) result }
+    {
+        Recovered::over(alloc, site, catalog.copy()?, past, surplus)
+    }
+
+    /// What there is of the same site with these records in place of its own, as [`of`](Recovered::of) makes it, by the catalog that is here, and of a log that is
+    /// longer by as many bytes as its own.
     pub fn again(self, alloc: Global, past: &Past) -> Result<Recovered, StoreError>
         requires epoch { past.now.epoch ≡ greatest_epoch (records_of past.now.records.items) }
         requires range { All IsRecordInRange (records_of past.now.records.items) }
-        ensures { Recovers self.me self.catalog (records_of past.now.records.items) result }
+        ensures { Recovers self.me self.catalog self.surplus (records_of past.now.records.items) result }
     {
-        let Recovered { me, catalog, .. } = self;
-        Recovered::over(alloc, me, catalog, past)
+        let Recovered {
+            me,
+            catalog,
+            surplus,
+            ..
+        } = self;
+        Recovered::over(alloc, me, catalog, past, surplus)
     }
 
-    // What there is of a site with these records, by its catalog.
+    // What there is of a site with these records, by its catalog. Its log is by so many bytes longer than they make it.
     fn over(
         alloc: Global,
         me: SiteId,
         catalog: Catalog,
         past: &Past,
+        surplus: Surplus,
     ) -> Result<Recovered, StoreError>
         requires epoch { past.now.epoch ≡ greatest_epoch (records_of past.now.records.items) }
         requires range { All IsRecordInRange (records_of past.now.records.items) }
-        ensures { Recovers me.0 catalog (records_of past.now.records.items) result }
+        ensures { Recovers me.0 catalog surplus (records_of past.now.records.items) result }
     {
         let mut store = Store::new(alloc, &catalog, me)?;
         match store.load(past) {
@@ -123,6 +150,7 @@ impl Recovered {
                 catalog,
                 store,
                 epoch: past.epoch,
+                surplus,
             }),
             Err(error) => Err(error),
         }
@@ -181,6 +209,7 @@ impl Recovered {
             catalog,
             store,
             epoch,
+            surplus,
         } = self;
         Begun {
             parts: SiteParts {
@@ -189,6 +218,7 @@ impl Recovered {
                 locks: Locks::new(alloc, epoch, 0),
                 coord: Coord::new(alloc, me, epoch, 0),
                 store,
+                surplus,
             },
             epoch,
         }

@@ -308,7 +308,7 @@ impl<L: Log> Site<L> {
     /// that is down it says what the records were before the log failed.
     pub fn leave(self) -> (L, Recovered)
         ensures log { result.0 ≡ self.log }
-        ensures left { result.1 ≡ record { me = self.me; catalog = self.catalog; records = self.records } }
+        ensures left { result.1 ≡ record { me = self.me; catalog = self.catalog; records = self.records; surplus = self.surplus } }
     {
         let Site {
             log,
@@ -320,6 +320,7 @@ impl<L: Log> Site<L> {
             me,
             catalog,
             store,
+            surplus,
             ..
         } = parts;
         (
@@ -329,6 +330,7 @@ impl<L: Log> Site<L> {
                 catalog,
                 store,
                 epoch,
+                surplus,
             },
         )
     }

@@ -421,6 +421,7 @@ module _ (catalog : Declared) (site : ℕ) (records front : List Record) (txn : 
     me = site;
     setup = record { catalog = catalog; read_names = 0; held_names = 0 };
     records = records;
+    surplus = 0;
     running = record { epoch = 0; next_txn = 0; next_grant = 0; grants = []; entries = [] };
   }
 

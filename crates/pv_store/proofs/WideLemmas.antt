@@ -70,6 +70,7 @@ module _ (kept : Kept) (narrow : (item : ℕ) → IsTrue (is_home kept.catalog k
         me = kept.site;
         setup = record { catalog = kept.catalog; read_names = 0; held_names = 0 };
         records = [];
+        surplus = 0;
         running = record { epoch = 0; next_txn = 0; next_grant = 0; grants = []; entries = [] };
       }) item h
 

@@ -1,5 +1,5 @@
 -- Bytes that spell a message, and their faults.
-use Rattle.std.proofs.Common.{◌≡◌, ◌≢◌, ℕ, ◌+◌, ◌<◌, List, [], ◌∷◌, ◌++◌, length, Option, Some, None, IfSome, IsTrue, IsFalse, Ok, Err, refl, sym, ap, subst, ◌∙◌, arith}
+use Rattle.std.proofs.Common.{◌≡◌, ◌≢◌, ◌⊎◌, true, false, ℕ, ◌+◌, ◌<◌, List, [], ◌∷◌, ◌++◌, length, Option, Some, None, IfSome, IsTrue, IsFalse, Ok, Err, refl, sym, ap, subst, ◌∙◌, arith}
 use Rattle.std.proofs.lemmas.List.{append-nil}
 use Rattle.pv_base.specs.Answer.{Answers}
 use Rattle.pv_base.specs.BigEndian.{big_endian, AreBytes}
@@ -7,17 +7,18 @@ use Rattle.pv_base.proofs.AnswerLemmas.{answered}
 use Rattle.pv_base.proofs.BigEndianLemmas.{big_endian-one, length-big_endian}
 use Rattle.pv_bytes.specs.Reading.{Rest, HasTaken, IsShort}
 use Rattle.pv_bytes.specs.declared.short.Short.{Short}
-use Rattle.pv_format.specs.FirstFault.{Fault, bad_kind, short, extra, EnvelopeFault, has_no_kind, has_bad_kind, is_in_fields, is_kind, HasFault, is_extra}
+use Rattle.pv_format.specs.FirstFault.{Fault, bad_field, bad_kind, short, extra, EnvelopeFault, has_no_kind, has_bad_kind, is_in_message, has_only_sure as only_sure_fault, is_kind, is_unsure_kind, HasFault, is_extra}
 use Rattle.pv_format.specs.Layout.{nothing_more, message_layout}
 use Rattle.pv_format.specs.Message as model
-use Rattle.pv_format.specs.MessageSpelling.{SpellsEnvelope}
+use Rattle.pv_format.specs.MessageSpelling.{SpellsAfterKind, SpellsEnvelope}
 use Rattle.pv_fields.specs.Decoding.{Stops}
 use Rattle.pv_law_format.proofs.AnswerLemmas.{one-envelope-answer}
+use Rattle.pv_wire.proofs.BodyLemmas.{only_sure, own_kind}
 use Rattle.pv_replay.specs.Faults.{fault_of as part_fault_of}
 use Rattle.pv_replay.specs.declared.error.PolyError.{PolyError}
 use Rattle.pv_replay.specs.declared.error.PolyError.TheVariants as part
 use Rattle.pv_wire.specs.Faults.{fault_of, wire_error}
-use Rattle.pv_wire.specs.Reading.{PassesEnvelope, after_kind}
+use Rattle.pv_wire.specs.Reading.{PassesEnvelope, after_kind, has_only_sure}
 use Rattle.pv_wire.specs.Values.{envelope_of}
 use Rattle.pv_wire.specs.declared.error.WireError.{WireError}
 use Rattle.pv_wire.specs.declared.message.Envelope.{Envelope}
@@ -66,7 +67,7 @@ module _ (bytes : List ℕ) (all : AreBytes bytes) where
 
       module _ (allowed : IsTrue (is_kind kind)) where
         in_fields : (fault : Fault) → HasFault (message_layout kind) mid.place mid.left fault → EnvelopeFault bytes fault
-        in_fields fault has = is_in_fields kind mid.left fault first_byte allowed (subst (λ place. HasFault (message_layout kind) place mid.left fault) at_one has)
+        in_fields fault has = is_in_message kind mid.left fault first_byte allowed (subst (λ place. HasFault (message_layout kind) place mid.left fault) at_one has)
 
         faulty : (told : Option Fault) → Stops (after_kind kind) mid told → IfSome told (EnvelopeFault bytes)
         faulty (Some fault) stops = in_fields fault (stops nothing_more)
@@ -81,15 +82,24 @@ module _ (bytes : List ℕ) (all : AreBytes bytes) where
         pub more_bytes : (envelope : model.Envelope) (new : Rest) → PassesEnvelope kind envelope mid new → new.left ≢ [] → EnvelopeFault bytes (extra new.place)
         more_bytes envelope new envelope_is some = in_fields (extra new.place) (envelope_is.passes.later nothing_more (extra new.place) (is_extra some))
 
-        -- No byte follows the message.
-        pub whole_envelope : (envelope : model.Envelope) (new : Rest) → PassesEnvelope kind envelope mid new → new.left ≡ [] → SpellsEnvelope envelope bytes
-        whole_envelope envelope new envelope_is none =
-            let taken_rest = envelope_is.passes.taken in
-            record {
-              front = big_endian 1 kind;
-              back = taken_rest.front;
-              whole = sym all_left ∙ taken.bytes
-                  ∙ ap (λ rest. big_endian 1 kind ++ rest) (taken_rest.taken.bytes ∙ ap (λ left. taken_rest.front ++ left) none ∙ append-nil taken_rest.front);
-              first = record { fits = subst (λ n. n < 256) (sym envelope_is.kind_is) fits; spelled = ap (big_endian 1) (sym envelope_is.kind_is) };
-              second = taken_rest.is;
-            }
+        module _ (envelope : model.Envelope) (new : Rest) (envelope_is : PassesEnvelope kind envelope mid new) (none : new.left ≡ []) where
+          after_first : SpellsAfterKind envelope mid.left
+          after_first =
+              let taken_rest = envelope_is.passes.taken in
+              subst (SpellsAfterKind envelope) (sym (taken_rest.taken.bytes ∙ ap (λ left. taken_rest.front ++ left) none ∙ append-nil taken_rest.front)) taken_rest.is
+
+          -- No byte follows the message, whose kind says that one of its values isn't sure, though all are.
+          pub only_sure_values : IsTrue (is_unsure_kind kind) → has_only_sure envelope.message ≡ true → EnvelopeFault bytes (bad_field 0)
+          only_sure_values unsure sure = only_sure_fault envelope kind mid.left first_byte unsure (only_sure kind envelope.message envelope_is.kind_is unsure sure) after_first
+
+          -- No byte follows the message, and its kind is its own.
+          pub whole_envelope : (is_unsure_kind kind ≡ false) ⊎ (has_only_sure envelope.message ≡ false) → SpellsEnvelope envelope bytes
+          whole_envelope right =
+              let own = own_kind kind envelope.message envelope_is.kind_is right in
+              record {
+                front = big_endian 1 kind;
+                back = mid.left;
+                whole = sym all_left ∙ taken.bytes;
+                first = record { fits = subst (λ n. n < 256) own fits; spelled = ap (big_endian 1) own };
+                second = after_first;
+              }

@@ -1,9 +1,11 @@
 // What a message has after its transaction.
-ghost use Rattle.std.specs.Prelude.{IsTrue, IfOk, IfErr};
-ghost use Rattle.pv_format.specs.FirstFault.{is_kind};
+ghost use Rattle.std.specs.Prelude.{◌≡◌, ◌⊎◌, if◌then◌else◌, IsTrue, IfOk, IfErr};
+ghost use Rattle.pv_format.specs.FirstFault.{is_kind, is_unsure_kind};
+ghost use Rattle.pv_format.specs.Form.{in_sure_tree, in_tree};
 ghost use Rattle.pv_format.specs.Layout.{body_layout};
-ghost use Rattle.pv_fields.specs.Decoding.{Stops};
+ghost use Rattle.pv_fields.specs.Decoding.{Passes, Stops};
 ghost use Rattle.pv_replay.specs.Faults.{fault_of};
+ghost use Rattle.pv_replay.specs.Values.{form_of};
 ghost use Rattle.pv_wire.specs.Reading.{PassesBody};
 ghost use Rattle.pv_wire.specs.Values.{message_of};
 
@@ -12,7 +14,7 @@ use crate::fields::{take_cause, take_grant};
 use crate::wants::take_wants;
 use pv_base::TxnId;
 use pv_bytes::Take;
-use pv_replay::{PolyError, take_item, take_reads, take_truth, take_txn};
+use pv_replay::{Form, PolyError, take_item, take_reads, take_truth, take_txn};
 use std::alloc::Global;
 
 /// Reads what a message of this kind and transaction has besides, and answers the message.
@@ -29,14 +31,14 @@ pub fn take_body(
     if kind == 1 {
         return take_lock(alloc, take, txn);
     }
-    if kind == 2 {
-        return take_granted(alloc, take, txn);
+    if kind == 2 || kind == 18 {
+        return take_granted(alloc, take, kind, txn);
     }
     if kind == 3 {
         return take_denied(take, txn);
     }
-    if kind == 4 {
-        return take_prepare(alloc, take, txn);
+    if kind == 4 || kind == 20 {
+        return take_prepare(alloc, take, kind, txn);
     }
     if kind == 5 {
         return Ok(Message::Yes { txn });
@@ -59,13 +61,29 @@ fn take_lock(alloc: Global, take: &mut Take<'_>, txn: TxnId) -> Result<Message, 
     Ok(Message::Lock { txn, wants })
 }
 
+// The form of the values in a message of this kind.
+fn form_for(kind: u8) -> Form
+    ensures { form_of result ≡ (if is_unsure_kind kind then in_tree else in_sure_tree) }
+{
+    if kind == 18 || kind == 20 {
+        return Form::Tree;
+    }
+    Form::SureTree
+}
+
 // Reads the grant and the values.
-fn take_granted(alloc: Global, take: &mut Take<'_>, txn: TxnId) -> Result<Message, PolyError>
-    ensures passes { IfOk result (λ message. PassesBody 2 txn (message_of message) take.old take.new) }
-    ensures stops { IfErr result (λ e. Stops (body_layout 2) take.old (fault_of e)) }
+fn take_granted(
+    alloc: Global,
+    take: &mut Take<'_>,
+    kind: u8,
+    txn: TxnId,
+) -> Result<Message, PolyError>
+    requires { (kind ≡ 2) ⊎ (kind ≡ 18) }
+    ensures passes { IfOk result (λ message. PassesBody kind txn (message_of message) take.old take.new) }
+    ensures stops { IfErr result (λ e. Stops (body_layout kind) take.old (fault_of e)) }
 {
     let grant = take_grant(take)?;
-    let values = take_reads(alloc, take, 1)?;
+    let values = take_reads(alloc, take, 1, form_for(kind))?;
     Ok(Message::Granted { txn, grant, values })
 }
 
@@ -80,12 +98,18 @@ fn take_denied(take: &mut Take<'_>, txn: TxnId) -> Result<Message, PolyError>
 }
 
 // Reads the grant and the new values.
-fn take_prepare(alloc: Global, take: &mut Take<'_>, txn: TxnId) -> Result<Message, PolyError>
-    ensures passes { IfOk result (λ message. PassesBody 4 txn (message_of message) take.old take.new) }
-    ensures stops { IfErr result (λ e. Stops (body_layout 4) take.old (fault_of e)) }
+fn take_prepare(
+    alloc: Global,
+    take: &mut Take<'_>,
+    kind: u8,
+    txn: TxnId,
+) -> Result<Message, PolyError>
+    requires { (kind ≡ 4) ⊎ (kind ≡ 20) }
+    ensures passes { IfOk result (λ message. PassesBody kind txn (message_of message) take.old take.new) }
+    ensures stops { IfErr result (λ e. Stops (body_layout kind) take.old (fault_of e)) }
 {
     let grant = take_grant(take)?;
-    let writes = take_reads(alloc, take, 0)?;
+    let writes = take_reads(alloc, take, 0, form_for(kind))?;
     Ok(Message::Prepare { txn, grant, writes })
 }
 

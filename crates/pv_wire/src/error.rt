@@ -16,10 +16,12 @@ pub enum WireError {
     /// The message ends before this place, and there are more bytes.
     #[error("the message ends before {0}")]
     Extra(usize),
-    /// The field at this place is read, and isn't in the range or order that is asked for there.
+    /// The field at this place is read, and isn't in the range or order that is asked for there. It is the kind where that tells of a value that isn't sure,
+    /// and nothing is wrong but that all values are.
     #[error("the field at {0} is out of range")]
     BadField(usize),
-    /// The polyvalue that begins at this place is read whole, and its cases aren't canonical or name too many outcomes.
+    /// The polyvalue that begins at this place is read whole. Its count isn't that of its cases, they aren't canonical or name too many outcomes, or it isn't
+    /// sure under the kind of those that are.
     #[error("the cases at {0} are no polyvalue")]
     BadPoly(usize),
     /// There was no memory.

@@ -5,6 +5,7 @@ ghost use Rattle.pv_format.specs.MessageSpelling.{kind_number};
 ghost use Rattle.pv_wire.specs.Values.{message_of};
 
 use pv_base::{GrantId, ItemId, SiteId, TxnId, Want};
+use pv_replay::are_sure;
 use pv_tree::Read;
 
 /// A message on its way.
@@ -90,15 +91,15 @@ pub enum NoCause {
     JournalFull(u64),
 }
 
-/// The number of the message's kind, from 1 to 8.
+/// The number of the message's kind: from 1 to 8, or 18 or 20 where one of its values isn't sure.
 pub fn kind_number(message: &Message) -> u8
     ensures { result ≡ kind_number (message_of message.now) }
 {
     match message {
         Message::Lock { .. } => 1,
-        Message::Granted { .. } => 2,
+        Message::Granted { values, .. } => if are_sure(values) { 2 } else { 18 },
         Message::Denied { .. } => 3,
-        Message::Prepare { .. } => 4,
+        Message::Prepare { writes, .. } => if are_sure(writes) { 4 } else { 20 },
         Message::Yes { .. } => 5,
         Message::No { .. } => 6,
         Message::Outcome { .. } => 7,

@@ -5,14 +5,22 @@ use std::alloc::{AllocFailed, Global};
 use std::test::Fail;
 
 // Messages of each kind, worked by hand from the format: the bytes in hexadecimal, and the message.
-const MESSAGES: [(&str, &str); 11] = [
+const MESSAGES: [(&str, &str); 13] = [
     (
         "01 00 01 00 00000001 00000000 02 00000000 01 00000003 00",
         "Envelope { from: SiteId(0), to: SiteId(1), message: Lock { txn: TxnId { site: SiteId(0), epoch: 1, number: 0 }, wants: [Want { item: ItemId(0), exclusive: true }, Want { item: ItemId(3), exclusive: false }] } }",
     ),
     (
-        "02 01 00 00 00000001 00000000 00000001 00000002 01 00000003 0002 01 00 01 00000001 00000000 0000000000000032 01 01 01 00000001 00000000 000000000000003c",
+        "12 01 00 00 00000001 00000000 00000001 00000002 01 00000003 0002 01 01 00000001 00000000 00 0000000000000032 00 000000000000003c",
         "Envelope { from: SiteId(1), to: SiteId(0), message: Granted { txn: TxnId { site: SiteId(0), epoch: 1, number: 0 }, grant: GrantId { epoch: 1, number: 2 }, values: [Read { item: ItemId(3), value: Poly { tree: Tree { held: Two([Case { when: [Literal { txn: TxnId { site: SiteId(1), epoch: 1, number: 0 }, commits: false }], value: 50 }, Case { when: [Literal { txn: TxnId { site: SiteId(1), epoch: 1, number: 0 }, commits: true }], value: 60 }]) } } }] } }",
+    ),
+    (
+        "02 01 00 00 00000001 00000000 00000001 00000002 01 00000003 0001 00 0000000000000032",
+        "Envelope { from: SiteId(1), to: SiteId(0), message: Granted { txn: TxnId { site: SiteId(0), epoch: 1, number: 0 }, grant: GrantId { epoch: 1, number: 2 }, values: [Read { item: ItemId(3), value: Poly { tree: Tree { held: One([Case { when: [], value: 50 }]) } } }] } }",
+    ),
+    (
+        "14 00 01 00 00000001 00000000 00000001 00000000 01 00000000 0002 01 01 00000001 00000000 00 0000000000000032 00 000000000000003c",
+        "Envelope { from: SiteId(0), to: SiteId(1), message: Prepare { txn: TxnId { site: SiteId(0), epoch: 1, number: 0 }, grant: GrantId { epoch: 1, number: 0 }, writes: [Read { item: ItemId(0), value: Poly { tree: Tree { held: Two([Case { when: [Literal { txn: TxnId { site: SiteId(1), epoch: 1, number: 0 }, commits: false }], value: 50 }, Case { when: [Literal { txn: TxnId { site: SiteId(1), epoch: 1, number: 0 }, commits: true }], value: 60 }]) } } }] } }",
     ),
     (
         "03 01 00 00 00000001 00000000 000003ff 01 00000001 00000007",
@@ -168,10 +176,30 @@ fn the_first_fault_is_answered(rt: HostRuntime) -> Result<(), Fail> {
             "06 01 00 00 00000001 00000000 02 00000000000000",
             WireError::Short(13),
         ),
-        // Cases in the other order; then a byte too many, which comes later.
+        // Kinds between those of sure values and those of others.
+        ("11", WireError::BadKind(17)),
+        ("13", WireError::BadKind(19)),
+        // A value that isn't sure under the kind of those that are; equal sides; each with a byte too many, which comes later.
         (
-            "04 00 01 00 00000001 00000000 00000001 00000000 01 00000000 0002 01 01 01 00000001 00000000 000000000000003c 01 00 01 00000001 00000000 0000000000000032 00",
+            "04 00 01 00 00000001 00000000 00000001 00000000 01 00000000 0002 01 01 00000001 00000000 00 0000000000000032 00 000000000000003c 00",
             WireError::BadPoly(25),
+        ),
+        (
+            "14 00 01 00 00000001 00000000 00000001 00000000 01 00000000 0002 01 01 00000001 00000000 00 0000000000000032 00 0000000000000032 00",
+            WireError::BadPoly(25),
+        ),
+        // Sure values alone under the kind of others; with a byte too many, which comes before that.
+        (
+            "14 00 01 00 00000001 00000000 00000001 00000000 01 00000000 0001 00 0000000000000032",
+            WireError::BadField(0),
+        ),
+        (
+            "14 00 01 00 00000001 00000000 00000001 00000000 00",
+            WireError::BadField(0),
+        ),
+        (
+            "14 00 01 00 00000001 00000000 00000001 00000000 00 00",
+            WireError::Extra(21),
         ),
         (
             "04 00 01 00 00000001 00000000 00000001 00000000 00 00",

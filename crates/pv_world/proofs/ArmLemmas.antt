@@ -34,10 +34,10 @@ abbrev pub rearmed-journal : CkptLog MemState → Option model.Arm → CkptLog M
 rearmed-journal journal armed = record journal { disk = rearmed journal.disk armed }
 
 module _ (catalog : Declared) (n : ℕ) (is : model.Site) (armed : Option model.Arm) where
-  holds-rearmed : (journal : CkptLog MemState) (records : List Record) (running : Option Running)
-      → HoldsWhatRuns (ckpt_model mem_model) journal records running → HoldsWhatRuns (ckpt_model mem_model) (rearmed-journal journal armed) records running
-  holds-rearmed journal records None holds = tt
-  holds-rearmed journal records (Some running) holds = record { up = holds.up; size = holds.size; held = holds.held }
+  holds-rearmed : (journal : CkptLog MemState) (surplus : ℕ) (records : List Record) (running : Option Running)
+      → HoldsWhatRuns (ckpt_model mem_model) journal surplus records running → HoldsWhatRuns (ckpt_model mem_model) (rearmed-journal journal armed) surplus records running
+  holds-rearmed journal surplus records None holds = tt
+  holds-rearmed journal surplus records (Some running) holds = record { up = holds.up; size = holds.size; held = holds.held }
 
   -- A site that is up, on whose disk this is armed.
   pub up-rearmed : (up : SiteState (CkptLog MemState)) → IsUp catalog n up is
@@ -46,6 +46,7 @@ module _ (catalog : Declared) (n : ℕ) (is : model.Site) (armed : Option model.
     me = stands.me;
     catalog = stands.catalog;
     records = stands.records;
+    surplus = stands.surplus;
     runs = stands.runs;
     running = stands.running;
     ready = record {
@@ -62,7 +63,7 @@ module _ (catalog : Declared) (n : ℕ) (is : model.Site) (armed : Option model.
         durable = stands.ready.intact.durable;
       };
       limit = stands.ready.limit;
-      holds = holds-rearmed up.log up.records up.running stands.ready.holds;
+      holds = holds-rearmed up.log up.surplus up.records up.running stands.ready.holds;
     };
     disk = spells-rearmed is.records is.standing is.arm armed None up.log.disk stands.disk;
   }
@@ -83,6 +84,7 @@ module _ (catalog : Declared) (n : ℕ) (is : model.Site) (armed : Option model.
     me = stands.me;
     catalog = stands.catalog;
     records = stands.records;
+    surplus = stands.surplus;
     down = stands.down;
     disk = spells-rearmed is.records is.standing is.arm armed None disk stands.disk;
   }

@@ -1,5 +1,5 @@
 -- What becomes of a cell in a step and a stop, and what it shows.
-use Rattle.std.proofs.Common.{◌≡◌, ◌⊎◌, inl, inr, ℕ, ℤ, ◌++◌, Bool, true, List, Option, Some, None, Result, Ok, Err, refl, sym, ap, subst, ◌∙◌}
+use Rattle.std.proofs.Common.{◌≡◌, ◌⊎◌, inl, inr, ℕ, ◌+◌, ℤ, ◌++◌, Bool, true, List, Option, Some, None, Result, Ok, Err, refl, sym, ap, ap₂, subst, ◌∙◌}
 use Rattle.std.specs.Prelude.{All, IfOk, is_some, option_to_list}
 use Rattle.std.proofs.lemmas.Bool.{true≢false}
 use Rattle.std.proofs.lemmas.List.{append-nil}
@@ -19,7 +19,7 @@ use Rattle.pv_protocol.specs.Arms.{Reached, calls_of, fires, reached, record_lef
 use Rattle.pv_protocol.specs.Attempt.{of_step}
 use Rattle.pv_protocol.specs.Committed.{holder_of}
 use Rattle.pv_protocol.specs.Here.{Here}
-use Rattle.pv_protocol.specs.Records.{journal_bytes}
+use Rattle.pv_protocol.specs.Records.{journal_bytes, longer_journal}
 use Rattle.pv_protocol.specs.Report as report
 use Rattle.pv_protocol.specs.Report.{reading_at, shown_unless_held}
 use Rattle.pv_protocol.specs.Shown.{shown}
@@ -55,22 +55,20 @@ module _ (catalog : Declared) (n : ℕ) (old : SiteState (CkptLog MemState)) (is
   pub not-down : (X : Type 0) → old.running ≡ None → X
   not-down X none = absurd (true≢false (sym up.runs ∙ ap (λ (running : Option Running). is_some running) none))
 
-  here-same : (running : Running) → here_with old running ≡ record { me = n; setup = setup_of catalog; records = is.records; running = running }
+  here-same : (running : Running) → here_with old running ≡ record { me = n; setup = setup_of catalog; records = is.records; surplus = 0; running = running }
   here-same running =
-      ap (λ (me : ℕ). record { me = me; setup = setup_of old.catalog; records = old.records; running = running }) up.me
-      ∙ (ap (λ (declared : Declared). record { me = n; setup = setup_of declared; records = old.records; running = running }) up.catalog
-      ∙ ap (λ (records : List Record). record { me = n; setup = setup_of catalog; records = records; running = running }) up.records)
+      λ i. record { me = up.me i; setup = setup_of (up.catalog i); records = up.records i; surplus = up.surplus i; running = running }
 
   -- What outlives its memory.
-  pub old-left : left_by old ≡ record { me = n; catalog = catalog; records = is.records }
-  old-left = λ i. record { me = up.me i; catalog = up.catalog i; records = up.records i }
+  pub old-left : left_by old ≡ record { me = n; catalog = catalog; records = is.records; surplus = 0 }
+  old-left = λ i. record { me = up.me i; catalog = up.catalog i; records = up.records i; surplus = up.surplus i }
 
   -- Its journal is as long as its records make it.
   pub size-known : old.log.length ≡ journal_bytes is.records
-  size-known = by old.running up.runs up.ready.holds ∙ ap journal_bytes up.records
+  size-known = by old.running up.runs up.ready.holds ∙ ap₂ (λ (surplus : ℕ) (records : List Record). longer_journal surplus records) up.surplus up.records
     where
-      by : (running : Option Running) → is_some running ≡ true → HoldsWhatRuns (ckpt_model mem_model) old.log old.records running
-          → old.log.length ≡ journal_bytes old.records
+      by : (running : Option Running) → is_some running ≡ true → HoldsWhatRuns (ckpt_model mem_model) old.log old.surplus old.records running
+          → old.log.length ≡ longer_journal old.surplus old.records
       by None none holds = absurd (true≢false (sym none))
       by (Some running) some holds = holds.size
 
@@ -90,6 +88,7 @@ module _ (catalog : Declared) (n : ℕ) (old : SiteState (CkptLog MemState)) (is
             catalog = ap (λ (site : SiteState (CkptLog MemState)). site.catalog) made.site ∙ up.catalog;
             records = ap (λ (site : SiteState (CkptLog MemState)). site.records) made.site
                 ∙ ap (λ (records : List Record). records ++ option_to_list step.appended) up.records;
+            surplus = ap (λ (site : SiteState (CkptLog MemState)). site.surplus) made.site ∙ up.surplus;
             runs = ap (λ (site : SiteState (CkptLog MemState)). is_some site.running) made.site;
             running = ap (λ (site : SiteState (CkptLog MemState)). site.running) made.site;
             ready = ready;
@@ -131,13 +130,13 @@ module _ (catalog : Declared) (n : ℕ) (old : SiteState (CkptLog MemState)) (is
 
     -- Its memory is outlived by what was there before the step.
     left-is : (running : Running) (input : model.Input) → Breaks (ckpt_model mem_model) old new (step_on (here_with old running) input)
-        → record { me = n; catalog = catalog; records = is.records } ≡ left_by new
+        → record { me = n; catalog = catalog; records = is.records; surplus = 0 } ≡ left_by new
     left-is running input breaks = sym (ap (λ (site : SiteState (CkptLog MemState)). left_by site) breaks.site ∙ old-left)
 
     -- With its disk.
     up-over : (running : Running) (input : model.Input) → Breaks (ckpt_model mem_model) old new (step_on (here_with old running) input)
         → (added : Option Record) (armed : Option Arm) (fired : Option Bool) → Spells (is.records ++ option_to_list added) is.standing armed fired new.log.disk
-        → IsUpOver (record { me = n; catalog = catalog; records = is.records }) added is.standing armed fired (Up new)
+        → IsUpOver (record { me = n; catalog = catalog; records = is.records; surplus = 0 }) added is.standing armed fired (Up new)
     up-over running input breaks added armed fired disk = (left-is running input breaks, disk)
 
     -- Nothing more is on the disk.
@@ -154,7 +153,7 @@ module _ (catalog : Declared) (n : ℕ) (old : SiteState (CkptLog MemState)) (is
             → CanBeReplayed (setup_of catalog) n (site_after_input catalog n is (Some running) input).records
             → BreaksOff (site_step (setup_of catalog) n is.records running input) → CanFall length (Up new)
         from running breaks then (inl (fired, reaches, disk)) = record {
-          left = record { me = n; catalog = catalog; records = is.records };
+          left = record { me = n; catalog = catalog; records = is.records; surplus = 0 };
           added = record_left 0 (site_step (setup_of catalog) n is.records running input).appended fired;
           standing = is.standing;
           armed = None;
@@ -162,9 +161,10 @@ module _ (catalog : Declared) (n : ℕ) (old : SiteState (CkptLog MemState)) (is
           over = up-over running input breaks (record_left 0 (site_step (setup_of catalog) n is.records running input).appended fired) None (Some fired.stops) disk;
           size = asked ∙ size-known;
           replayable = subst (λ (r : Reached). CanBeReplayed (setup_of catalog) n (site_after is (of_step n (site_step (setup_of catalog) n is.records running input)) r).records) reaches then;
+          surplus = refl;
         }
         from running breaks then (inr disk) = record {
-          left = record { me = n; catalog = catalog; records = is.records };
+          left = record { me = n; catalog = catalog; records = is.records; surplus = 0 };
           added = None;
           standing = is.standing;
           armed = is.arm;
@@ -172,6 +172,7 @@ module _ (catalog : Declared) (n : ℕ) (old : SiteState (CkptLog MemState)) (is
           over = up-over running input breaks None is.arm None (none-more disk);
           size = asked ∙ size-known;
           replayable = subst (CanBeReplayed (setup_of catalog) n) (sym (append-nil is.records)) replayable;
+          surplus = refl;
         }
 
         by : (was : Option Running) → old.running ≡ was → Steps (ckpt_model mem_model) old new was input (Err step_error.Fault) → CanFall length (Up new)
@@ -189,7 +190,7 @@ module _ (catalog : Declared) (n : ℕ) (old : SiteState (CkptLog MemState)) (is
     has-broken input cell stops steps fell = by old.running refl steps
       where
         left : Remains
-        left = record { me = n; catalog = catalog; records = is.records }
+        left = record { me = n; catalog = catalog; records = is.records; surplus = 0 }
 
         from : (running : Running) → Breaks (ckpt_model mem_model) old new (step_on (here_with old running) input)
             → BreaksOff (site_step (setup_of catalog) n is.records running input) → HasStepped catalog n (Up old) cell is (Some running) input (stepped.Broke stops)
@@ -218,7 +219,7 @@ module _ (catalog : Declared) (n : ℕ) (old : SiteState (CkptLog MemState)) (is
   -- A stop.
 
   -- It has stopped.
-  pub has-stopped : (disk : MemState) (left : Remains) → disk ≡ old.log.disk → left ≡ record { me = old.me; catalog = old.catalog; records = old.records }
+  pub has-stopped : (disk : MemState) (left : Remains) → disk ≡ old.log.disk → left ≡ record { me = old.me; catalog = old.catalog; records = old.records; surplus = old.surplus }
       → HasStopped catalog n (Up old) (Down disk left) is is.running true
   has-stopped disk left same leaves = by old.running refl
     where
@@ -231,6 +232,7 @@ module _ (catalog : Declared) (n : ℕ) (old : SiteState (CkptLog MemState)) (is
               me = ap (λ (was : Remains). was.me) leaves ∙ up.me;
               catalog = ap (λ (was : Remains). was.catalog) leaves ∙ up.catalog;
               records = ap (λ (was : Remains). was.records) leaves ∙ up.records;
+              surplus = ap (λ (was : Remains). was.surplus) leaves ∙ up.surplus;
               down = refl;
               disk = subst (Spells is.records is.standing is.arm None) (sym same) up.disk;
             },

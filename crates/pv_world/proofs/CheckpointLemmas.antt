@@ -19,9 +19,10 @@ use Rattle.pv_disk.specs.declared.arms.Arm as disk
 use Rattle.pv_disk_model.specs.Size.{Contents}
 use Rattle.pv_format.specs.Checkpoint as checkpoint
 use Rattle.pv_format.specs.Checkpoint.{Standing, greatest_number, done, part_of, left_by}
-use Rattle.pv_format.specs.Contents.{SpellRecords}
+use Rattle.pv_format.specs.Contents.{AreWritten, SpellRecords}
 use Rattle.pv_format.specs.Record.{Record}
 use Rattle.pv_law_events.specs.Replays.{CanBeReplayed}
+use Rattle.pv_law_format.proofs.ReplayLemmas.{written-read}
 use Rattle.pv_protocol.specs.Arms.{calls_of, is_kept, fires, reached, waits}
 use Rattle.pv_protocol.specs.Attempt.{of_checkpoint}
 use Rattle.pv_protocol.specs.Records.{journal_bytes}
@@ -88,7 +89,7 @@ module _ (catalog : Declared) (n : ℕ) (old : SiteState (CkptLog MemState)) (is
   log-up : old.log.down ≡ false
   log-up = by old.running up.runs up.ready.holds
     where
-      by : (running : Option Running) → is_some running ≡ true → HoldsWhatRuns (ckpt_model mem_model) old.log old.records running → old.log.down ≡ false
+      by : (running : Option Running) → is_some running ≡ true → HoldsWhatRuns (ckpt_model mem_model) old.log old.surplus old.records running → old.log.down ≡ false
       by None none holds = absurd (true≢false (sym none))
       by (Some running) some holds = holds.up
 
@@ -129,7 +130,7 @@ module _ (catalog : Declared) (n : ℕ) (old : SiteState (CkptLog MemState)) (is
                 let (armed, waiting, holds) = comes-through more made left new.disk is.arm
                 (subst (λ (calls : ℕ). ComesTo calls arms made left true new.disk) count comes) in
                 let calls : Attempted running ≡ suc more = (let same : checkpoint.calls_of is.standing.other_open + 0 ≡ checkpoint.calls_of is.standing.other_open = omega arith in same ∙ count) in
-                let spelled = subst (λ (all : List Record). SpellRecords all held) (sym (append-nil is.records)) up.disk.spelled in
+                let spelled = subst (λ (all : List Record). AreWritten all held) (sym (append-nil is.records)) up.disk.spelled in
                 record {
                   armed = armed;
                   waits = ap (λ (c : ℕ). reached c is.arm) calls ∙ waiting;
@@ -137,6 +138,7 @@ module _ (catalog : Declared) (n : ℕ) (old : SiteState (CkptLog MemState)) (is
                     me = up.me;
                     catalog = up.catalog;
                     records = up.records ∙ sym (append-nil is.records);
+                    surplus = up.surplus;
                     runs = up.runs;
                     running = runs running at;
                     ready = record {
@@ -148,8 +150,8 @@ module _ (catalog : Declared) (n : ℕ) (old : SiteState (CkptLog MemState)) (is
                   };
                 }
               where
-                still-holds : (memory : Option Running) → HoldsWhatRuns (ckpt_model mem_model) old.log old.records memory → (armed : Option Arm)
-                    → Holds held (done is.standing) (option_map armed_as armed) None new.disk → HoldsWhatRuns (ckpt_model mem_model) new old.records memory
+                still-holds : (memory : Option Running) → HoldsWhatRuns (ckpt_model mem_model) old.log old.surplus old.records memory → (armed : Option Arm)
+                    → Holds held (done is.standing) (option_map armed_as armed) None new.disk → HoldsWhatRuns (ckpt_model mem_model) new old.surplus old.records memory
                 still-holds None was armed holds = tt
                 still-holds (Some memory) was armed holds = record {
                   up = finished.up;
@@ -157,7 +159,7 @@ module _ (catalog : Declared) (n : ℕ) (old : SiteState (CkptLog MemState)) (is
                   held = λ contents told.
                       subst (SpellRecords old.records)
                       (Some_inj (sym (holds-contents held (done is.standing) (option_map armed_as armed) None new holds) ∙ told))
-                      (subst (λ (all : List Record). SpellRecords all held) (sym up.records) up.disk.spelled);
+                      (subst (λ (all : List Record). SpellRecords all held) (sym up.records) (written-read is.records held up.disk.spelled));
                 }
 
     -- The number in force is the greatest.
@@ -173,8 +175,8 @@ module _ (catalog : Declared) (n : ℕ) (old : SiteState (CkptLog MemState)) (is
     abbrev BreaksOff : Type 0
     BreaksOff = HasFired ⊎ Spells (is.records ++ option_to_list None) is.standing is.arm None new.disk
 
-    spelled-still : SpellRecords (is.records ++ option_to_list None) held
-    spelled-still = subst (λ (all : List Record). SpellRecords all held) (sym (append-nil is.records)) up.disk.spelled
+    spelled-still : AreWritten (is.records ++ option_to_list None) held
+    spelled-still = subst (λ (all : List Record). AreWritten all held) (sym (append-nil is.records)) up.disk.spelled
 
     breaks-off : Checkpoints mem_model {X = Unit {0}} old.log new (Err refused.Failed) → BreaksOff
     breaks-off (keeps, failed, makes, number) = by (packs held is.standing arms old.log new false up.ready.intact holds-up (within-limit room) number makes)
@@ -198,7 +200,7 @@ module _ (catalog : Declared) (n : ℕ) (old : SiteState (CkptLog MemState)) (is
 
     -- Its memory is outlived by what was there before.
     abbrev left : Remains
-    left = record { me = n; catalog = catalog; records = is.records }
+    left = record { me = n; catalog = catalog; records = is.records; surplus = 0 }
 
     up-over : (standing : Standing) (armed : Option Arm) (fired : Option Bool) → Spells (is.records ++ option_to_list None) standing armed fired new.disk
         → IsUpOver left None standing armed fired (Up after)
@@ -222,6 +224,7 @@ module _ (catalog : Declared) (n : ℕ) (old : SiteState (CkptLog MemState)) (is
           over = up-over _ None (Some fired.fault.stops) fired.disk;
           size = asked ∙ size-known catalog n old is up;
           replayable = still;
+          surplus = refl;
         }
         by (inr disk) = record {
           left = left;
@@ -232,6 +235,7 @@ module _ (catalog : Declared) (n : ℕ) (old : SiteState (CkptLog MemState)) (is
           over = up-over is.standing is.arm None disk;
           size = asked ∙ size-known catalog n old is up;
           replayable = still;
+          surplus = refl;
         }
 
     -- Once it is, the checkpoint is broken off.

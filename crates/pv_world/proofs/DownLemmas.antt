@@ -44,27 +44,29 @@ module _ (laws : Laws) (on : MemState) (journal : CkptLog MemState) (limit : ℕ
 
 -- Where it is as long as it was, what was left is still so.
 pub down-as-left : (laws : Laws) (sizes : Sizes) (on : MemState) (journal : CkptLog MemState) (limit : ℕ) → opening.Opens mem_model on limit (Ok journal)
-    → (left : Remains) (length : ℕ) → length ≡ journal_bytes left.records → journal.length ≡ length
+    → (left : Remains) (length : ℕ) → length ≡ journal_bytes left.records → journal.length ≡ length → left.surplus ≡ 0
     → (added : Option Record) (standing : Standing) → Spells (left.records ++ option_to_list added) standing None None on
     → StandsForSite left.catalog left.me (Down journal.disk left) (record { records = left.records ++ option_to_list added; standing = standing; arm = None; running = None })
-down-as-left laws sizes on journal limit opened left length was as_long added standing spells =
+down-as-left laws sizes on journal limit opened left length was as_long plain added standing spells =
     let none : added ≡ None = none-added left.records added
     (sym (opened-long laws on journal limit opened (left.records ++ option_to_list added) standing spells sizes) ∙ (as_long ∙ was)) in
     record {
       me = refl;
       catalog = refl;
       records = sym (ap (λ (more : Option Record). left.records ++ option_to_list more) none ∙ append-nil left.records);
+      surplus = plain;
       down = refl;
       disk = still-spells laws on journal limit opened (left.records ++ option_to_list added) standing spells;
     }
 
 -- Where the records were read, what is left has them.
-pub down-again : (on : MemState) (left now : Remains) (records : List Record) (standing : Standing) → now ≡ record left { records = records } → Spells records standing None None on
+pub down-again : (on : MemState) (left now : Remains) (records : List Record) (standing : Standing) → now ≡ record left { records = records } → left.surplus ≡ 0 → Spells records standing None None on
     → StandsForSite left.catalog left.me (Down on now) (record { records = records; standing = standing; arm = None; running = None })
-down-again on left now records standing same spells = record {
+down-again on left now records standing same plain spells = record {
   me = ap (λ (r : Remains). r.me) same;
   catalog = ap (λ (r : Remains). r.catalog) same;
   records = ap (λ (r : Remains). r.records) same;
+  surplus = ap (λ (r : Remains). r.surplus) same ∙ plain;
   down = refl;
   disk = spells;
 }

@@ -179,7 +179,7 @@ heard-new here from values entry heard =
 -- The site tells the grants of a transaction that its step has brought to its lock point.
 module _ (setup : Setup) (world : World) (n : ℕ) (running : Running) (orderly : IsOrderly setup world) (up : (site_at world n).running ≡ Some running) (input : Input) where
   abbrev here-of : Here
-  here-of = record { me = n; setup = setup; records = (site_at world n).records; running = running }
+  here-of = record { me = n; setup = setup; records = (site_at world n).records; surplus = 0; running = running }
 
   works-of : (txn : TxnId) (entry : Entry) → of_txn (λ (e : Entry). e.txn) txn running.entries ≡ Some entry → WorksAgeless world n txn (record entry { age = 0 })
   works-of txn entry found =

@@ -7,6 +7,7 @@ use Rattle.std.proofs.lemmas.List.{append-nil, length-map}
 use Rattle.std.proofs.lemmas.Option.{none-some}
 use Rattle.pv_format.specs.Message.{Envelope, Message, lock, granted, denied, prepare, vote_yes, vote_no, outcome_reported, ask}
 use Rattle.pv_format.specs.MessageSpelling.{SpellsEnvelope, kind_number}
+use Rattle.pv_format.specs.RecordSpelling.{are_sure}
 use Rattle.pv_base.specs.BigEndian.{IsNumber, big_endian}
 use Rattle.pv_law_world.proofs.GrowthLemmas.{transition-grown}
 use Rattle.pv_law_world.proofs.PumpLemmas.{IsLighter, delivery-lighter, more-fuel, none-left}
@@ -200,8 +201,8 @@ module _ (entry now : World) (before after : List Line) (most left : Option ℕ)
 abbrev pub kind_weight : ℕ → ℕ
 kind_weight kind =
     if kind == 1 then 17 ^ 4 else
-    (if kind == 2 || kind == 3 then 17 ^ 3 else
-    (if kind == 4 then 17 ^ 2 else
+    (if kind == 2 || (kind == 3 || kind == 18) then 17 ^ 3 else
+    (if kind == 4 || kind == 20 then 17 ^ 2 else
     (if kind == 7 then 1 else 17)))
 
 -- the weights of the fresh messages, by the first byte of each
@@ -217,11 +218,16 @@ unfolding big_endian
 first-byte number front rest bytes whole is =
     ap (λ (b : List ℕ). get_or b 0 0) (whole ∙ ap (λ (f : List ℕ). f ++ rest) is.spelled) ∙ one-digit number is.fits
 
+-- of the two kinds of a message that has values
+of-both : (sure : Bool) (own other weighs : ℕ) → kind_weight own ≡ weighs → kind_weight other ≡ weighs → kind_weight (if sure then own else other) ≡ weighs
+of-both true own other weighs first second = first
+of-both false own other weighs first second = second
+
 message-weight : (message : Message) → kind_weight (kind_number message) ≡ weight message
 message-weight (lock txn wants) = refl
-message-weight (granted txn grant values) = refl
+message-weight (granted txn grant values) = of-both (are_sure values) 2 18 (17 ^ 3) refl refl
 message-weight (denied txn item holder) = refl
-message-weight (prepare txn grant writes) = refl
+message-weight (prepare txn grant writes) = of-both (are_sure writes) 4 20 (17 ^ 2) refl refl
 message-weight (vote_yes txn) = refl
 message-weight (vote_no txn cause) = refl
 message-weight (outcome_reported txn commits) = refl

@@ -41,7 +41,7 @@ module _ (catalog : Declared) (site : ℕ) (records : List Record) (narrow : IsN
   few-after before (prepared txn writes ∷ rest) split =
       ap (λ (one : Option ℕ). option_or one (first_too_many_after catalog records (site_items catalog site) (before ++ prepared txn writes ∷ []) rest))
       (few-among before rest txn writes split (site_items catalog site)
-      (λ item there. items-home (record { me = site; setup = setup_of catalog; records = records; running = just_started 1 }) item there))
+      (λ item there. items-home (record { me = site; setup = setup_of catalog; records = records; surplus = 0; running = just_started 1 }) item there))
       ∙ few-after (before ++ prepared txn writes ∷ []) rest (split ∙ sym (append_assoc before (prepared txn writes ∷ []) rest))
   few-after before (epoch_begun epoch ∷ rest) split =
       few-after (before ++ epoch_begun epoch ∷ []) rest (split ∙ sym (append_assoc before (epoch_begun epoch ∷ []) rest))

@@ -9,7 +9,7 @@ use Rattle.pv_base.specs.declared.mode.Mode.TheVariants.{Lost, Kept, Torn}
 use Rattle.pv_disk.specs.MemDisk.{MemState}
 use Rattle.pv_disk.specs.MemLaws.{mem_model}
 use Rattle.pv_disk.specs.declared.arms.Arm as disk
-use Rattle.pv_format.specs.Contents.{SpellRecords}
+use Rattle.pv_format.specs.Contents.{AreWritten}
 use Rattle.pv_format.specs.Record.{Record}
 use Rattle.pv_format.specs.RecordSpelling.{SpellsRecord}
 use Rattle.pv_ckpt.specs.Armed.{Holds}
@@ -17,7 +17,7 @@ use Rattle.pv_journal.specs.Armed.{contents_left, opened_in}
 use Rattle.pv_ckpt.specs.CkptLog.{contents_now}
 use Rattle.pv_ckpt.specs.declared.ckpt_log.CkptLog.{CkptLog}
 use Rattle.pv_disk_model.specs.Size.{Contents}
-use Rattle.pv_law_format.proofs.ReplayLemmas.{spelled-more}
+use Rattle.pv_law_format.proofs.ReplayLemmas.{written-more}
 use Rattle.pv_law_checkpoints.proofs.ContentsLemmas.{log_contents_of-is}
 use Rattle.pv_law_checkpoints.specs.Stages.{Stands}
 use Rattle.pv_law_checkpoints.specs.TwoAreas.{IsTwoAreas}
@@ -38,9 +38,9 @@ holds-contents contents standing armed fired journal holds =
 
 -- Contents that are read of the disk spell the records.
 pub look-spells : (records : List Record) (standing : Standing) (armed : Option Arm) (fired : Option Bool) (on : MemState) (read : Contents) → Spells records standing armed fired on
-    → ((contents : Contents) → IsTwoAreas contents on.image.content → read ≡ contents) → SpellRecords records read
+    → ((contents : Contents) → IsTwoAreas contents on.image.content → read ≡ contents) → AreWritten records read
 look-spells records standing armed fired on read spells is =
-    subst (SpellRecords records) (sym (is spells.contents (checkpointed spells.contents standing on.image.content spells.holds.stands))) spells.spelled
+    subst (AreWritten records) (sym (is spells.contents (checkpointed spells.contents standing on.image.content spells.holds.stands))) spells.spelled
 
 -- A disk that is mended holds what it held.
 pub spells-mended : (records : List Record) (standing : Standing) (armed : Option Arm) (fired : Option Bool) (on : MemState) → Spells records standing armed fired on
@@ -52,21 +52,21 @@ spells-mended records standing armed fired on spells = record {
 }
 
 -- What an append leaves that fires spells the record more exactly where the definitions say so.
-module _ (records : List Record) (contents : Contents) (more : Record) (content : List ℕ) (spelled : SpellRecords records contents) (one : SpellsRecord more content) where
-  spell-kept : (mode : Mode) → SpellRecords (records ++ option_to_list (if is_kept mode then Some more else None)) (opened_in mode contents content)
-  spell-kept Kept = spelled-more records contents more content spelled one
-  spell-kept Lost = subst (λ (all : List Record). SpellRecords all contents) (sym (append-nil records)) spelled
-  spell-kept Torn = subst (λ (all : List Record). SpellRecords all contents) (sym (append-nil records)) spelled
+module _ (records : List Record) (contents : Contents) (more : Record) (content : List ℕ) (spelled : AreWritten records contents) (one : SpellsRecord more content) where
+  spell-kept : (mode : Mode) → AreWritten (records ++ option_to_list (if is_kept mode then Some more else None)) (opened_in mode contents content)
+  spell-kept Kept = written-more records contents more content spelled one
+  spell-kept Lost = subst (λ (all : List Record). AreWritten all contents) (sym (append-nil records)) spelled
+  spell-kept Torn = subst (λ (all : List Record). AreWritten all contents) (sym (append-nil records)) spelled
 
   pub spell-opened : (late : Bool) (mode : Mode)
-      → SpellRecords (records ++ option_to_list (if late && is_kept mode then Some more else None)) (if late then opened_in mode contents content else contents)
+      → AreWritten (records ++ option_to_list (if late && is_kept mode then Some more else None)) (if late then opened_in mode contents content else contents)
   spell-opened true mode = spell-kept mode
-  spell-opened false mode = subst (λ (all : List Record). SpellRecords all contents) (sym (append-nil records)) spelled
+  spell-opened false mode = subst (λ (all : List Record). AreWritten all contents) (sym (append-nil records)) spelled
 
   -- So many syncs come before the append, and what fires in it is nearer by them.
   pub spell-left : (syncs : ℕ) (first : Arm) → syncs < first.call
-      → SpellRecords (records ++ option_to_list (record_left syncs (Some more) first)) (contents_left contents content (armed_as (later_by syncs first)))
+      → AreWritten (records ++ option_to_list (record_left syncs (Some more) first)) (contents_left contents content (armed_as (later_by syncs first)))
   spell-left syncs first late =
       let same : nat_lt (syncs + 2) first.call ≡ nat_lt 2 (first.call - syncs) = grind (arith, nat_tests, late) in
-      subst (λ (b : Bool). SpellRecords (records ++ option_to_list (if b && is_kept first.mode then Some more else None)) (contents_left contents content (armed_as (later_by syncs first))))
+      subst (λ (b : Bool). AreWritten (records ++ option_to_list (if b && is_kept first.mode then Some more else None)) (contents_left contents content (armed_as (later_by syncs first))))
       (sym same) (spell-opened (nat_lt 2 (first.call - syncs)) first.mode)

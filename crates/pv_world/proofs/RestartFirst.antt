@@ -29,7 +29,7 @@ use Rattle.pv_world.specs.declared.cell.Start.TheVariants as start
 use Rattle.pv_world.specs.declared.cell.Start.{Start}
 
 module _ (catalog : Declared) (least : MIN_JOURNAL ≤ catalog.journal) where
-  first-start : site_start (setup_of catalog) [] ≡ starts (just_started 1) (epoch_begun 1)
+  first-start : site_start (setup_of catalog) 0 [] ≡ starts (just_started 1) (epoch_begun 1)
   unfolding site_start journal_bytes
   first-start = by (nat_lt catalog.journal 19) (grind (arith, nat_tests, least))
     where
@@ -58,12 +58,13 @@ module _ (catalog : Declared) (least : MIN_JOURNAL ≤ catalog.journal) where
       absurd (let wrong : ⊥ = cc in wrong)
 
   -- Before it the site is down and has no records.
-  pub stands-empty : (n : ℕ) (on : MemState) (left : Remains) → Spells [] first_standing None None on → left ≡ record { me = n; catalog = catalog; records = [] }
+  pub stands-empty : (n : ℕ) (on : MemState) (left : Remains) → Spells [] first_standing None None on → left ≡ record { me = n; catalog = catalog; records = []; surplus = 0 }
       → IsDown catalog n on left no_site
   stands-empty n on left disk empty = record {
     me = ap (λ (now : Remains). now.me) empty;
     catalog = ap (λ (now : Remains). now.catalog) empty;
     records = ap (λ (now : Remains). now.records) empty;
+    surplus = ap (λ (now : Remains). now.surplus) empty;
     down = refl;
     disk = disk;
   }
@@ -86,7 +87,7 @@ module _ (catalog : Declared) (least : MIN_JOURNAL ≤ catalog.journal) where
       narrow = narrow_then;
     }
 
-    pub can-start : (on : MemState) (left : Remains) → Spells [] first_standing None None on → left ≡ record { me = n; catalog = catalog; records = [] }
+    pub can-start : (on : MemState) (left : Remains) → Spells [] first_standing None None on → left ≡ record { me = n; catalog = catalog; records = []; surplus = 0 }
         → CanStart catalog n (Down on left)
     can-start on left disk empty = record {
       is = no_site;

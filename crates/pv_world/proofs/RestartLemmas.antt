@@ -13,7 +13,7 @@ use Rattle.pv_base.specs.declared.limits.TheConstants.{NEVER_GIVEN}
 use Rattle.pv_disk.specs.MemDisk.{MemGoes, MemState}
 use Rattle.pv_disk.specs.MemLaws.{mem_model}
 use Rattle.pv_disk.specs.declared.arms.Arm as disk
-use Rattle.pv_format.specs.Contents.{SpellRecords, greatest_epoch}
+use Rattle.pv_format.specs.Contents.{AreWritten, SpellRecords, greatest_epoch}
 use Rattle.pv_format.specs.Record.{Record, epoch_begun}
 use Rattle.pv_format.specs.RecordSpelling.{SpellsRecord}
 use Rattle.pv_ckpt.specs.Armed.{AppendsArmed, Holds, HoldsUp, SyncsArmed, PacksArmed}
@@ -30,7 +30,7 @@ use Rattle.pv_law_events.specs.Replays.{CanBeReplayed}
 use Rattle.pv_protocol.specs.Arms.{Reached, calls_of, fires, reached, record_left, standing_left}
 use Rattle.pv_protocol.specs.Attempt.{Attempt, of_start, refused_start}
 use Rattle.pv_protocol.specs.Lines as protocol
-use Rattle.pv_protocol.specs.Records.{journal_bytes, record_bytes}
+use Rattle.pv_protocol.specs.Records.{journal_bytes, record_bytes, longer_journal}
 use Rattle.pv_protocol.specs.Start.{Started, just_started, site_start, starts, too_long, no_epoch}
 use Rattle.pv_protocol.specs.State as model
 use Rattle.pv_protocol.specs.State.{Arm, Running, Setup}
@@ -41,7 +41,7 @@ use Rattle.pv_site.specs.SiteState.{SiteState, setup_of}
 use Rattle.pv_site.specs.Steps.{IsReady}
 use Rattle.pv_site.specs.declared.error.ResumeError.TheVariants as refused
 use Rattle.pv_world.proofs.RestartArms.{FiresLate, comes-fired, comes-through, fires-early, fires-late, fires-within, later_by, waits-both}
-use Rattle.pv_law_format.proofs.ReplayLemmas.{spelled-more}
+use Rattle.pv_law_format.proofs.ReplayLemmas.{written-more, written-read}
 use Rattle.pv_world.proofs.RestartDisks.{holds-contents, spell-left}
 use Rattle.pv_world.specs.Cells.{CanBeRead, CanStart, HasBegun, HasStarted, IsDone, KeepsRecords, broken_site, site_after, site_after_start, start_attempt}
 use Rattle.pv_world.specs.Disks.{Spells, armed_as}
@@ -82,14 +82,14 @@ Laws = record {
       → opening.Opens mem_model old limit (Err (unopened.NotOurs new place)) → ⊥;
 }
 
--- A log with contents that spell records is as long as these make it.
+-- A log with contents that are records as they are written is as long as these make it.
 abbrev pub Sizes : Type 0
-Sizes = (records : List Record) (contents : Contents) → SpellRecords records contents → size_of contents ≡ journal_bytes records
+Sizes = (records : List Record) (contents : Contents) → AreWritten records contents → size_of contents ≡ journal_bytes records
 
 -- What outlived the memory of the site, as one record.
 pub keeps-is : (catalog : Declared) (n : ℕ) (records : List Record) (left : Remains) → KeepsRecords catalog n records left
-    → left ≡ record { me = n; catalog = catalog; records = records }
-keeps-is catalog n records left keeps = λ i. record { me = keeps.site i; catalog = keeps.catalog i; records = keeps.records i }
+    → left ≡ record { me = n; catalog = catalog; records = records; surplus = 0 }
+keeps-is catalog n records left keeps = λ i. record { me = keeps.site i; catalog = keeps.catalog i; records = keeps.records i; surplus = keeps.surplus i }
 
 -- Where a start fails.
 
@@ -114,7 +114,7 @@ module _ (catalog : Declared) (n : ℕ) (is : model.Site) where
   can-be-read left on keeps fails replayable after =
       subst (λ (now : Remains). (armed : Option Arm) × (fired : Option Bool) × CanBeRead now armed fired on) (sym (keeps-is catalog n is.records left keeps)) (by fails)
     where
-      by : StartFails on → (armed : Option Arm) × (fired : Option Bool) × CanBeRead (record { me = n; catalog = catalog; records = is.records }) armed fired on
+      by : StartFails on → (armed : Option Arm) × (fired : Option Bool) × CanBeRead (record { me = n; catalog = catalog; records = is.records; surplus = 0 }) armed fired on
       by (inl fired) = (
         None,
         Some fired.fault.stops,
@@ -123,12 +123,13 @@ module _ (catalog : Declared) (n : ℕ) (is : model.Site) where
           is.standing,
           fired.disk,
           subst (λ (r : Reached). CanBeReplayed (setup_of catalog) n (site_after is (start_attempt catalog n is) r).records) fired.fires after,
+          refl,
         ),
       )
       by (inr (armed, spells)) = (
         armed,
         None,
-        (None, is.standing, none-more armed on spells, subst (CanBeReplayed (setup_of catalog) n) (sym (append-nil is.records)) replayable),
+        (None, is.standing, none-more armed on spells, subst (CanBeReplayed (setup_of catalog) n) (sym (append-nil is.records)) replayable, refl),
       )
 
   -- A site that fell then, as what fired says, has broken off its start.
@@ -157,7 +158,7 @@ module _ (catalog : Declared) (n : ℕ) (is : model.Site) where
             kind = Some_inj has.0;
             stands = subst
                 (λ (standing : Standing). StandsForSite catalog n cell (record { records = is.records ++ option_to_list added; standing = standing; arm = None; running = None }))
-                (sym (start-leaves n (site_start (setup_of catalog) is.records) fired.fault is.standing)) has.1;
+                (sym (start-leaves n (site_start (setup_of catalog) 0 is.records) fired.fault is.standing)) has.1;
           }
       by (inr (armed, spells)) fell = absurd (none-some stops (fell None is.standing armed None (none-more armed on spells)).0)
 
@@ -181,27 +182,28 @@ module _ (catalog : Declared) (n : ℕ) (is : model.Site) where
           me = keeps.site;
           catalog = keeps.catalog;
           records = keeps.records ∙ sym (ap (λ (added : Option Record). is.records ++ option_to_list added) none ∙ append-nil is.records);
+          surplus = keeps.surplus;
           down = refl;
           disk = subst (λ (standing : Standing). Spells (broken_site is (start_attempt catalog n is) fired.fault).records standing None None now)
-              (sym (start-leaves n (site_start (setup_of catalog) is.records) fired.fault is.standing)) mended.1;
+              (sym (start-leaves n (site_start (setup_of catalog) 0 is.records) fired.fault is.standing)) mended.1;
         };
       }
   is-broken-early left on now stops keeps (inr (armed, spells)) mends = absurd (none-some stops (mends is.records is.standing armed None spells).0)
 
   -- The sync that comes first.
-  module _ (contents : Contents) (on : MemState) (spelled : SpellRecords is.records contents) where
+  module _ (contents : Contents) (on : MemState) (spelled : AreWritten is.records contents) where
     pub sync-fails : SyncsArmed contents is.standing (option_map armed_as is.arm) false on ⊎ SyncsArmed contents is.standing (option_map armed_as is.arm) true on → FailsEarly on
     sync-fails (inl fired) =
         let (fault, armed, near, holds) = comes-fired 0 (contents, is.standing) (λ arm. (contents, is.standing)) on is.arm fired in
-        let early = fires-early n (site_start (setup_of catalog) is.records) fault near in
+        let early = fires-early n (site_start (setup_of catalog) 0 is.records) fault near in
         inl (
           record {
             fault = fault;
             fires = ap (λ (arm : Option Arm). reached (calls_of (start_attempt catalog n is)) arm) armed ∙ early.0;
             disk = record {
               contents = contents;
-              spelled = subst (λ (left : Option Record). SpellRecords (is.records ++ option_to_list left) contents) (sym early.1)
-                  (subst (λ (all : List Record). SpellRecords all contents) (sym (append-nil is.records)) spelled);
+              spelled = subst (λ (left : Option Record). AreWritten (is.records ++ option_to_list left) contents) (sym early.1)
+                  (subst (λ (all : List Record). AreWritten all contents) (sym (append-nil is.records)) spelled);
               holds = holds;
             };
           },
@@ -235,7 +237,7 @@ module _ (catalog : Declared) (n : ℕ) (on : MemState) (left : Remains) (is : m
       → IsSynced catalog n journal left is
   is-synced laws journal limit within opens =
       sync-passes catalog n is down.disk.contents journal.disk down.disk.spelled journal left refl
-      (record { site = down.me; catalog = down.catalog; records = down.records }) opens.3 opens.4 (opens.5 ∙ within)
+      (record { site = down.me; catalog = down.catalog; records = down.records; surplus = down.surplus }) opens.3 opens.4 (opens.5 ∙ within)
       (laws.opens down.disk.contents is.standing down_arms on limit journal down.disk.holds opens)
 
   pub not-opened : (laws : Laws) (new : MemState) (limit : ℕ) → opening.Opens mem_model on limit (Err (unopened.Failed new)) → FailsEarly catalog n is new
@@ -260,13 +262,13 @@ replayable-after catalog n on left can =
 
 -- The epoch that is recorded.
 
-module _ (setup : Setup) (records : List Record) (running : Running) (epoch : ℕ) where
+module _ (setup : Setup) (surplus : ℕ) (records : List Record) (running : Running) (epoch : ℕ) where
   -- The epoch that is recorded is the one that runs.
-  epoch-runs : site_start setup records ≡ starts running (epoch_begun epoch) → running.epoch ≡ epoch
+  epoch-runs : site_start setup surplus records ≡ starts running (epoch_begun epoch) → running.epoch ≡ epoch
   unfolding site_start
-  epoch-runs is = by (nat_le NEVER_GIVEN (greatest_epoch records + 1)) (nat_lt setup.catalog.journal (journal_bytes records + record_bytes (epoch_begun (greatest_epoch records + 1)))) is
+  epoch-runs is = by (nat_le NEVER_GIVEN (greatest_epoch records + 1)) (nat_lt setup.catalog.journal (longer_journal surplus records + record_bytes (epoch_begun (greatest_epoch records + 1)))) is
     where
-      by : (spent full : Bool) → (if spent then no_epoch else (if full then too_long (journal_bytes records + record_bytes (epoch_begun (greatest_epoch records + 1)))
+      by : (spent full : Bool) → (if spent then no_epoch else (if full then too_long (longer_journal surplus records + record_bytes (epoch_begun (greatest_epoch records + 1)))
           else starts (just_started (greatest_epoch records + 1)) (epoch_begun (greatest_epoch records + 1)))) ≡ starts running (epoch_begun epoch) → running.epoch ≡ epoch
       by true full same = absurd (let wrong : ⊥ = cc in wrong)
       by false true same = absurd (let wrong : ⊥ = cc in wrong)
@@ -292,14 +294,14 @@ module _ (laws : Laws) (catalog : Declared) (n : ℕ) (journal : CkptLog MemStat
   holds-up = laws.intact held is.standing arms journal synced.intact synced.up synced.disk.holds
 
   -- The journal holds the site's records.
-  holds-records : Sizes → HoldsRecords (ckpt_model mem_model) journal is.records
+  holds-records : Sizes → HoldsRecords (ckpt_model mem_model) journal 0 is.records
   holds-records sizes = record {
     up = synced.up;
     size = (ckpt_model mem_model).size_is journal held synced.intact synced.up known ∙ sizes is.records held synced.disk.spelled;
-    held = λ contents told. subst (SpellRecords is.records) (Some_inj (sym known ∙ told)) synced.disk.spelled;
+    held = λ contents told. subst (SpellRecords is.records) (Some_inj (sym known ∙ told)) (written-read is.records held synced.disk.spelled);
   }
 
-  left-is : left ≡ record { me = n; catalog = catalog; records = is.records }
+  left-is : left ≡ record { me = n; catalog = catalog; records = is.records; surplus = 0 }
   left-is = keeps-is catalog n is.records left synced.keeps
 
   -- It is as long as these make it.
@@ -311,8 +313,8 @@ module _ (laws : Laws) (catalog : Declared) (n : ℕ) (journal : CkptLog MemStat
   can-resume sizes within =
       subst (CanResume (ckpt_model mem_model) journal) (sym left-is) (record { intact = synced.intact; limit = synced.limit; holds = holds-records sizes; site = within })
 
-  start-is : (started : Started) → site_start (setup_of left.catalog) left.records ≡ started → start_attempt catalog n is ≡ of_start n started
-  start-is started begins = ap (λ (now : Remains). of_start n (site_start (setup_of now.catalog) now.records)) (sym left-is) ∙ ap (of_start n) begins
+  start-is : (started : Started) → site_start (setup_of left.catalog) left.surplus left.records ≡ started → start_attempt catalog n is ≡ of_start n started
+  start-is started begins = ap (λ (now : Remains). of_start n (site_start (setup_of now.catalog) now.surplus now.records)) (sym left-is) ∙ ap (of_start n) begins
 
   -- The site runs.
   after-append : (content : List ℕ) (new : CkptLog MemState) → Makes (LogGoes mem_model) journal (reserve (length content) ∷ append content ∷ []) true new
@@ -330,7 +332,7 @@ module _ (laws : Laws) (catalog : Declared) (n : ℕ) (journal : CkptLog MemStat
       (after-append resumed.content up.log resumed.calls) in (
         ap (λ (a : Attempt). a.lines) attempt
             ∙ ap (λ (epoch : ℕ). protocol.Line.started n epoch ∷ [])
-            (epoch-runs (setup_of left.catalog) left.records resumed.running resumed.epoch resumed.starts ∙ sym (ap (λ (s : SiteState (CkptLog MemState)). s.epoch) resumed.site)),
+            (epoch-runs (setup_of left.catalog) left.surplus left.records resumed.running resumed.epoch resumed.starts ∙ sym (ap (λ (s : SiteState (CkptLog MemState)). s.epoch) resumed.site)),
         subst (IsDone catalog n (Up up) is) (sym attempt)
             (record {
               armed = later;
@@ -340,12 +342,13 @@ module _ (laws : Laws) (catalog : Declared) (n : ℕ) (journal : CkptLog MemStat
                 catalog = ap (λ (s : SiteState (CkptLog MemState)). s.catalog) resumed.site ∙ synced.keeps.catalog;
                 records = ap (λ (s : SiteState (CkptLog MemState)). s.records) resumed.site
                     ∙ ap (λ (all : List Record). all ++ epoch_begun resumed.epoch ∷ []) synced.keeps.records;
+                surplus = ap (λ (s : SiteState (CkptLog MemState)). s.surplus) resumed.site ∙ synced.keeps.surplus;
                 runs = ap (λ (s : SiteState (CkptLog MemState)). is_some s.running) resumed.site;
                 running = ap (λ (s : SiteState (CkptLog MemState)). s.running) resumed.site;
                 ready = ready;
                 disk = record {
                   contents = held ++ resumed.content ∷ [];
-                  spelled = spelled-more is.records held (epoch_begun resumed.epoch) resumed.content synced.disk.spelled resumed.content_is;
+                  spelled = written-more is.records held (epoch_begun resumed.epoch) resumed.content synced.disk.spelled resumed.content_is;
                   holds = holds;
                 };
               };
@@ -365,10 +368,11 @@ module _ (laws : Laws) (catalog : Declared) (n : ℕ) (journal : CkptLog MemStat
             me = synced.keeps.site;
             catalog = synced.keeps.catalog;
             records = synced.keeps.records ∙ sym (append-nil is.records);
+            surplus = synced.keeps.surplus;
             down = refl;
             disk = record {
               contents = held;
-              spelled = subst (λ (all : List Record). SpellRecords all held) (sym (append-nil is.records)) synced.disk.spelled;
+              spelled = subst (λ (all : List Record). AreWritten all held) (sym (append-nil is.records)) synced.disk.spelled;
               holds = synced.disk.holds;
             };
           };
@@ -392,7 +396,7 @@ module _ (laws : Laws) (catalog : Declared) (n : ℕ) (journal : CkptLog MemStat
   has-no-epoch new back (same, given, cause) = come-back new back start.Spent same given (is-refused (protocol.Line.spent n) (start-is no_epoch cause))
 
   append-fires : (running : Running) (epoch : ℕ) (content : List ℕ) (new : CkptLog MemState)
-      → site_start (setup_of left.catalog) left.records ≡ starts running (epoch_begun epoch)
+      → site_start (setup_of left.catalog) left.surplus left.records ≡ starts running (epoch_begun epoch)
       → SpellsRecord (epoch_begun epoch) content → AppendsArmed held is.standing content arms false new.disk → HasFired catalog n is new.disk
   append-fires running epoch content new begins one fired =
       let (fault, armed, near, holds) = comes-fired 3 (held ++ content ∷ [], is.standing) (λ fault. (contents_left held content fault, is.standing)) new.disk synced.armed fired in

@@ -56,4 +56,4 @@ module _ (is : World) (n : ℕ) where
     opened-done armed line down waiting prints =
         opened-down down
         ∙ ap (attempted is n (start_attempt catalog n (site_at is n))) waiting
-        ∙ ap₂ (λ (lines : List protocol.Line) (world : World). (lines, world)) prints (started-site is n (site_start (setup_of catalog) (site_at is n).records) armed)
+        ∙ ap₂ (λ (lines : List protocol.Line) (world : World). (lines, world)) prints (started-site is n (site_start (setup_of catalog) 0 (site_at is n).records) armed)

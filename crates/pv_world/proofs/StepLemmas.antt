@@ -8,7 +8,7 @@ use Rattle.pv_format.specs.Checkpoint.{Standing}
 use Rattle.pv_disk.specs.MemDisk.{MemState}
 use Rattle.pv_disk.specs.MemLaws.{mem_model}
 use Rattle.pv_disk.specs.declared.arms.Arm as disk
-use Rattle.pv_format.specs.Contents.{SpellRecords}
+use Rattle.pv_format.specs.Contents.{AreWritten}
 use Rattle.pv_format.specs.Record.{Record}
 use Rattle.pv_format.specs.RecordSpelling.{SpellsRecord}
 use Rattle.pv_ckpt.specs.Armed.{AppendsArmed, Holds, HoldsUp}
@@ -22,19 +22,19 @@ use Rattle.pv_protocol.specs.Arms.{calls_of_append, fires, reached, record_left,
 use Rattle.pv_protocol.specs.State.{Arm, Step}
 use Rattle.pv_site.specs.OnLog.{Fails, Logs}
 use Rattle.pv_world.proofs.RestartArms.{comes-fired, comes-through, fires-within}
-use Rattle.pv_law_format.proofs.ReplayLemmas.{spelled-more}
+use Rattle.pv_law_format.proofs.ReplayLemmas.{written-more}
 use Rattle.pv_world.proofs.RestartDisks.{spell-opened}
 use Rattle.pv_world.specs.Disks.{Spells, armed_as}
 
 -- An append to a journal that holds these records.
-module _ (records : List Record) (contents : Contents) (appended : Record) (content : List ℕ) (spelled : SpellRecords records contents) (one : SpellsRecord appended content)
+module _ (records : List Record) (contents : Contents) (appended : Record) (content : List ℕ) (spelled : AreWritten records contents) (one : SpellsRecord appended content)
     (standing : Standing) (on : MemState) where
   -- It succeeds: nothing fires in its four calls.
   append-made : (arm : Option Arm) → AppendsArmed contents standing content (option_map armed_as arm) true on
       → (armed : Option Arm) × (reached 4 arm ≡ waits armed) × Spells (records ++ appended ∷ []) standing armed None on
   append-made arm comes =
       let (armed, waiting, holds) = comes-through 3 (contents ++ content ∷ [], standing) (λ fired. (contents_left contents content fired, standing)) on arm comes in
-      (armed, waiting, record { contents = contents ++ content ∷ []; spelled = spelled-more records contents appended content spelled one; holds = holds })
+      (armed, waiting, record { contents = contents ++ content ∷ []; spelled = written-more records contents appended content spelled one; holds = holds })
 
   -- It fails, by a fault that fires.
   append-broken : (arm : Option Arm) → AppendsArmed contents standing content (option_map armed_as arm) false on

@@ -62,7 +62,7 @@ step_attempt catalog n is running input = of_step n (site_step (setup_of catalog
 
 -- what it attempts in a start
 abbrev pub start_attempt : Declared → ℕ → model.Site → Attempt
-start_attempt catalog n is = of_start n (site_start (setup_of catalog) is.records)
+start_attempt catalog n is = of_start n (site_start (setup_of catalog) 0 is.records)
 
 -- The site after an input. One that is down takes none.
 abbrev pub site_after_input : Declared → ℕ → model.Site → Option Running → model.Input → model.Site
@@ -103,11 +103,11 @@ pub record CanStart (catalog : Declared) (n : ℕ) (cell : Cell) : Type 0 where
 abbrev pub CanBeRead : Remains → Option Arm → Option Bool → MemState → Type 0
 CanBeRead left armed fired disk =
     (added : Option Record) × (standing : Standing) × Spells (left.records ++ option_to_list added) standing armed fired disk
-    × CanBeReplayed (setup_of left.catalog) left.me (left.records ++ option_to_list added)
+    × CanBeReplayed (setup_of left.catalog) left.me (left.records ++ option_to_list added) × (left.surplus ≡ 0)
 
 -- what outlives the memory of the site
 abbrev pub left_by : SiteState (CkptLog MemState) → Remains
-left_by up = record { me = up.me; catalog = up.catalog; records = up.records }
+left_by up = record { me = up.me; catalog = up.catalog; records = up.records; surplus = up.surplus }
 
 -- The cell's site is in memory, which this outlives, and its disk holds the records of it and this one, if it is one, in a log that stands so. This is armed there, and
 -- this has fired.
@@ -125,12 +125,14 @@ pub record CanFall (length : ℕ) (cell : Cell) : Type 0 where
   pub over : IsUpOver left added standing armed fired cell
   pub size : length ≡ journal_bytes left.records
   pub replayable : CanBeReplayed (setup_of left.catalog) left.me (left.records ++ option_to_list added)
+  pub surplus : left.surplus ≡ 0
 
--- What outlived the memory of the site of this number is of these records.
+-- What outlived the memory of the site of this number is of these records, as they are written.
 pub record KeepsRecords (declared : Declared) (n : ℕ) (recorded : List Record) (left : Remains) : Type 0 where
   pub site : left.me ≡ n
   pub catalog : left.catalog ≡ declared
   pub records : left.records ≡ recorded
+  pub surplus : left.surplus ≡ 0
 
 -- what a start prints
 abbrev pub start_line : ℕ → Start → protocol.Line

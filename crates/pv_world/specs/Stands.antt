@@ -22,21 +22,23 @@ use Rattle.pv_world.specs.declared.order.Placed.{Placed}
 use Rattle.pv_world.specs.declared.order.TakenGrant.{TakenGrant}
 use Rattle.pv_world.specs.declared.world.World.{World}
 
--- The site that runs is this one, and its disk holds its records.
+-- The site that runs is this one, and its disk holds its records, as they are written.
 pub record IsUp (declared : Declared) (n : ℕ) (up : SiteState (CkptLog MemState)) (site : state.Site) : Type 0 where
   pub me : up.me ≡ n
   pub catalog : up.catalog ≡ declared
   pub records : up.records ≡ site.records
+  pub surplus : up.surplus ≡ 0
   pub runs : is_some up.running ≡ true
   pub running : up.running ≡ site.running
   pub ready : IsReady (ckpt_model mem_model) up
   pub disk : Spells site.records site.standing site.arm None up.log.disk
 
--- The site is down. Its disk holds its records, and what outlived its memory is of these.
+-- The site is down. Its disk holds its records, as they are written, and what outlived its memory is of these.
 pub record IsDown (declared : Declared) (n : ℕ) (on : MemState) (left : Remains) (site : state.Site) : Type 0 where
   pub me : left.me ≡ n
   pub catalog : left.catalog ≡ declared
   pub records : left.records ≡ site.records
+  pub surplus : left.surplus ≡ 0
   pub down : site.running ≡ None
   pub disk : Spells site.records site.standing site.arm None on
 

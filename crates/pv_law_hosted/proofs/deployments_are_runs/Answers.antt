@@ -14,6 +14,7 @@ returns-clause-event c =
       one_journal = λ bytes contents others first other. (c.one_journal.ensures bytes).one_value contents others first other;
       one_schedule = c.one_schedule.ensures;
       journals = c.files_are_journals.ensures.journals;
+      keeps = c.files_are_journals.ensures.keeps;
       opened = c.files_hold_what_was_let_out.ensures.opened;
       stepped = c.files_hold_what_was_let_out.ensures.stepped;
       stayed = c.files_hold_what_was_let_out.ensures.stayed;

@@ -2,7 +2,7 @@
 use Rattle.std.proofs.Common.{map, Some, refl, ap, ◌∙◌, subst}
 use Rattle.std.specs.String.{string_bytes}
 use Rattle.pv_app.specs.Ends.{Ends}
-use Rattle.pv_app.specs.declared.command.Command.TheVariants.{Run, Make, Big, Show}
+use Rattle.pv_app.specs.declared.command.Command.TheVariants.{Run, Make, Big, Over}
 use Rattle.pv_run.specs.KeptDisks.{last_world}
 use Rattle.pv_run.specs.Statuses.{run_status}
 use Rattle.pv_run.specs.declared.text_end.TextEnd.TheVariants as text
@@ -40,16 +40,16 @@ returns-in-Some-Big-clause-command g c = λ command is.
     (ap Big c.in-Some-Big.number-is ∙ found-is (map string_bytes c.args.words.now) c.command_of.result (Big c.in-Some-Big.number) command c.command_of.ensures.some (c.in-Some-Big.is ∙ ap Some c.in-Some-Big.field-0-is) is)
     (c.write_summary_of_number.result, c.status_of_big.ensures, c.write_summary_of_number.ensures, (refl, refl))
 
-pub returns-in-Some-Show-clause-command : goal.returns-in-Some-Show-clause-command
-returns-in-Some-Show-clause-command g c = λ command is.
-    subst (Ends g.R.Source g.W.Sink g.B.Bay.model g.B.D.Disk.model c.args.source.now c.read_and_show.new.source c.args.sink.now c.read_and_show.new.sink c.args.bay.now
-    c.read_and_show.new.bay c.status_of_show.result)
-    (found-is (map string_bytes c.args.words.now) c.command_of.result Show command c.command_of.ensures.some (c.in-Some-Show.is ∙ ap Some c.in-Some-Show.field-0-is) is)
-    (c.read_and_show.result, c.status_of_show.ensures, c.read_and_show.ensures.ends)
+pub returns-in-Some-Over-clause-command : goal.returns-in-Some-Over-clause-command
+returns-in-Some-Over-clause-command g c = λ command is.
+    subst (Ends g.R.Source g.W.Sink g.B.Bay.model g.B.D.Disk.model c.args.source.now c.read_and_tour.new.source c.args.sink.now c.read_and_tour.new.sink c.args.bay.now
+    c.read_and_tour.new.bay c.status_of_tour.result)
+    (ap Over c.in-Some-Over.tour-is ∙ found-is (map string_bytes c.args.words.now) c.command_of.result (Over c.in-Some-Over.tour) command c.command_of.ensures.some (c.in-Some-Over.is ∙ ap Some c.in-Some-Over.field-0-is) is)
+    (c.read_and_tour.result, c.status_of_tour.ensures, c.read_and_tour.ensures.ends)
 
-pub read_and_show-requires : goal.read_and_show-requires
-read_and_show-requires g c = record {
-  rest = c.requires.rest (found-command (map string_bytes c.args.words.now) c.command_of.result Show c.command_of.ensures.some (c.in-Some-Show.is ∙ ap Some c.in-Some-Show.field-0-is));
+pub read_and_tour-requires : goal.read_and_tour-requires
+read_and_tour-requires g c = record {
+  rest = c.requires.rest c.in-Some-Over.tour (found-command (map string_bytes c.args.words.now) c.command_of.result (Over c.in-Some-Over.tour) c.command_of.ensures.some (c.in-Some-Over.is ∙ ap Some c.in-Some-Over.field-0-is));
 }
 
 pub returns-in-None-clause-command : goal.returns-in-None-clause-command

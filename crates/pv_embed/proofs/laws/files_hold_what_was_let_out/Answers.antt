@@ -42,7 +42,7 @@ returns-clause-crashed c = λ hosted file left is_file may. c.files_are_journals
 
 pub returns-clause-held : goal.returns-clause-held
 returns-clause-held c = λ hosted running file ready up is_file.
-    records_held hosted running file ready up (c.files_are_journals.ensures.holds hosted.site.log file is_file) (c.files_are_journals.ensures.journals hosted.site.log file is_file)
+    records_held c.logs_tell_of_records.ensures.front hosted running file ready up (c.files_are_journals.ensures.holds hosted.site.log file is_file) (c.files_are_journals.ensures.journals hosted.site.log file is_file)
 
 pub returns-clause-rests : goal.returns-clause-rests
 returns-clause-rests c = step_rests
@@ -55,14 +55,14 @@ returns-clause-let_out c = λ old new first later output file contents is takes 
 pub returns-clause-whole : goal.returns-clause-whole
 returns-clause-whole c = λ hosted running file contents front later ready up is_file journal is short.
     let held =
-    records_held hosted running file ready up (c.files_are_journals.ensures.holds hosted.site.log file is_file) (c.files_are_journals.ensures.journals hosted.site.log file is_file) in
-    records_whole c.logs_tell_of_records.ensures.size hosted file contents front later (c.one_journal.ensures file) held journal is short
+    records_held c.logs_tell_of_records.ensures.front hosted running file ready up (c.files_are_journals.ensures.holds hosted.site.log file is_file) (c.files_are_journals.ensures.journals hosted.site.log file is_file) in
+    records_whole hosted file contents front later (c.one_journal.ensures file) held journal is short
 
 pub returns-clause-kept : goal.returns-clause-kept
 returns-clause-kept c = λ made now output running file contents was_ready out ready up is_file journal.
     let held =
-    records_held now running file ready up (c.files_are_journals.ensures.holds now.site.log file is_file) (c.files_are_journals.ensures.journals now.site.log file is_file) in
-    kept_records c.logs_tell_of_records.ensures.size made now output file contents was_ready out (c.one_journal.ensures file) held journal
+    records_held c.logs_tell_of_records.ensures.front now running file ready up (c.files_are_journals.ensures.holds now.site.log file is_file) (c.files_are_journals.ensures.journals now.site.log file is_file) in
+    kept_records made now output file contents was_ready out (c.one_journal.ensures file) held journal
 
 pub returns-clause-reopened : goal.returns-clause-reopened
 returns-clause-reopened c = λ config file me hosted contents records opened journal spelled.

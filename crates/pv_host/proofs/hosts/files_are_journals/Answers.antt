@@ -1,5 +1,5 @@
 use Rattle.pv_host.proofs.FileLemmas.{file_asked, file_opened, file_called, file_written, file_left, file_journal, file_holds}
-use Rattle.pv_host.proofs.HostLemmas.{called_stores}
+use Rattle.pv_host.proofs.HostLemmas.{asked_keeps, called_stores}
 use Rattle.pv_host.proofs.hosts.files_are_journals.Goals as goal
 
 pub returns-clause-opened : goal.returns-clause-opened
@@ -25,3 +25,6 @@ returns-clause-asked c = λ log room file is_file. file_asked log file is_file r
 
 pub returns-clause-stores : goal.returns-clause-stores
 returns-clause-stores c = called_stores
+
+pub returns-clause-keeps : goal.returns-clause-keeps
+returns-clause-keeps c = asked_keeps

@@ -3,4 +3,4 @@ use Rattle.pv_law_format.proofs.LengthLemmas as lemmas
 use Rattle.pv_law_format.proofs.polyvalues.polyvalue_length.Goals as goal
 
 pub returns : goal.returns
-returns c = λ cases bytes s. lemmas.cases-length cases bytes s.spelled
+returns c = λ cases bytes s. lemmas.polyvalue-length cases bytes s

@@ -5,21 +5,21 @@ use Rattle.std.proofs.lemmas.Bool.{ltb-false}
 use Rattle.std.proofs.lemmas.List.{append-nil}
 use Rattle.pv_format.specs.Record.{Record}
 use Rattle.pv_law_step.proofs.Appended.{steady}
-use Rattle.pv_law_step.proofs.JournalLemmas.{journal-more}
+use Rattle.pv_law_step.proofs.JournalLemmas.{longer-more}
 use Rattle.pv_law_step.proofs.SoundSteps.{all-records, safe}
 use Rattle.pv_law_step.proofs.WidthSteps.{step-narrow}
 use Rattle.pv_law_step.proofs.ranges.steps_stay_sound.Goals as goal
 use Rattle.pv_law_step.specs.Appends.{Appends, nothing_at_all, an_outcome, a_promise}
 use Rattle.pv_protocol.specs.Here.{Here, is_full, length_with}
-use Rattle.pv_protocol.specs.Records.{journal_bytes}
+use Rattle.pv_protocol.specs.Records.{longer_journal}
 use Rattle.pv_protocol.specs.Sound.{IsHereInRange}
 
 module _ (sites : ℕ) (here : Here) (sound : IsHereInRange sites here) where
-  with-room : (more : Record) → is_full here more ≡ false → journal_bytes (here.records ++ more ∷ []) ≤ here.setup.catalog.journal
-  with-room more room = omega (arith, journal-more here.records more, ltb-false here.setup.catalog.journal (length_with here more) room)
+  with-room : (more : Record) → is_full here more ≡ false → longer_journal here.surplus (here.records ++ more ∷ []) ≤ here.setup.catalog.journal
+  with-room more room = omega (arith, longer-more here.surplus here.records more, ltb-false here.setup.catalog.journal (length_with here more) room)
 
-  room-left : (more : Option Record) → Appends here more → journal_bytes (here.records ++ option_to_list more) ≤ here.setup.catalog.journal
-  room-left more nothing_at_all = subst (λ records. journal_bytes records ≤ here.setup.catalog.journal) (sym (append-nil here.records)) sound.room
+  room-left : (more : Option Record) → Appends here more → longer_journal here.surplus (here.records ++ option_to_list more) ≤ here.setup.catalog.journal
+  room-left more nothing_at_all = subst (λ records. longer_journal here.surplus records ≤ here.setup.catalog.journal) (sym (append-nil here.records)) sound.room
   room-left more (an_outcome txn commits room) = with-room _ room
   room-left more (a_promise txn writes is room) = with-room _ room
 

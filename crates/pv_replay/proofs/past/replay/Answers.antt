@@ -8,7 +8,7 @@ use Rattle.pv_format.specs.Contents.{IsFirstBadContent, IsNoRecord, SpellRecords
 use Rattle.pv_law_format.proofs.ReplayLemmas.{one-replay-answer}
 use Rattle.pv_replay.specs.Values.{contents_of, index_of, record_of, records_of}
 use Rattle.pv_replay.specs.declared.error.ReplayError.TheVariants.{BadRecord, NoMemory}
-use Rattle.pv_format.specs.RecordSpelling.{SpellsRecord}
+use Rattle.pv_format.specs.RecordSpelling.{IsReadAs}
 use Rattle.pv_replay.specs.declared.record.Record.{Record}
 use Rattle.pv_replay.specs.declared.past.Past.{Past}
 use Rattle.pv_replay.proofs.ReplayLemmas.{first_bad, records_more, greatest_epoch-more}
@@ -16,7 +16,7 @@ use Rattle.pv_replay.proofs.past.replay.Goals as goal
 
 -- A record was found, or none.
 abbrev Found : List ℕ → Option Record → Type 0
-Found content found = MatchOption found (IsNoRecord content) (λ value. SpellsRecord (record_of value) content)
+Found content found = MatchOption found (IsNoRecord content) (λ value. IsReadAs (record_of value) content)
 
 found : (content : List ℕ) (told is : Option Record) → told ≡ is → Found content told → Found content is
 found content told is same what = subst (Found content) same what
@@ -54,7 +54,7 @@ returns-in-None-clause-answer c =
 
 pub loop-content-preserved : goal.loop-content-preserved
 loop-content-preserved c =
-    let one = subst (SpellsRecord (record_of c.in-Some.record)) c.deref.ensures.value (found c.deref.result.now c.in_ok-record.field-0 (Some c.in-Some.record) c.in-Some.is c.in_ok-record.ensures) in
+    let one = subst (IsReadAs (record_of c.in-Some.record)) c.deref.ensures.value (found c.deref.result.now c.in_ok-record.field-0 (Some c.in-Some.record) c.in-Some.is c.in_ok-record.ensures) in
     rw c.in_ok-push-in-Some.ensures.items
     record {
       counted = let more = length-append c.loop-content.records.items (c.in-Some.record ∷ []) in let so_far = c.loop-content.invariant.counted in omega arith;

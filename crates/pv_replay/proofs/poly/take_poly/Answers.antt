@@ -5,7 +5,8 @@ use Rattle.pv_base.specs.BigEndian.{AreBytes}
 use Rattle.pv_base.specs.Polyvalue.{Case}
 use Rattle.pv_base.proofs.AnswerLemmas.{answered}
 use Rattle.pv_bytes.specs.Reading.{Rest}
-use Rattle.pv_format.specs.FirstFault.{Fault, PolyvalueFault, PartFault, is_within, is_after, HasFault}
+use Rattle.pv_format.specs.FirstFault.{Fault, TreeFault}
+use Rattle.pv_format.specs.Form.{in_tree}
 use Rattle.pv_format.specs.Layout.{anything, polyvalue_then}
 use Rattle.pv_format.specs.PolyvalueSpelling.{BeginsWith, SpellsPolyvalue}
 use Rattle.pv_fields.specs.Decoding.{Passes, Stops}
@@ -13,26 +14,23 @@ use Rattle.pv_law_format.proofs.AnswerLemmas.{one-polyvalue-answer}
 use Rattle.pv_tree.specs.declared.poly.Poly.{Poly}
 use Rattle.pv_replay.specs.Faults.{fault_of}
 use Rattle.pv_replay.specs.declared.error.PolyError.{PolyError}
+use Rattle.pv_replay.proofs.PolyLemmas.{within_tree}
 use Rattle.pv_replay.proofs.poly.take_poly.Goals as goal
 
--- What is wrong before anything is wrong within the polyvalue.
-within : (place : ℕ) (bytes : List ℕ) (fault : Fault) → PartFault SpellsPolyvalue PolyvalueFault (HasFault anything) place bytes fault → PolyvalueFault place bytes fault
-within place bytes fault (is_within told has) = has
-within place bytes fault (is_after cases front rest told whole spelled later) = absurd later
-
 module _ (old new : Rest) (all : AreBytes old.left) where
-  told : (told : Option Fault) → Stops polyvalue_then old told → IfSome told (PolyvalueFault old.place old.left)
-  told (Some fault) stops = within old.place old.left fault (stops anything)
+  told : (told : Option Fault) → Stops (polyvalue_then in_tree) old told → IfSome told (TreeFault old.place old.left)
+  told (Some fault) stops = within_tree old.place old.left fault (stops anything)
   told None stops = tt
 
-  answers : (result : Result (Poly ℤ) PolyError) → IfOk result (λ poly. Passes (SpellsPolyvalue poly) polyvalue_then old new) → IfErr result (λ e. Stops polyvalue_then old (fault_of e))
-      → Answers (λ (read : List (Case ℤ) × List ℕ). BeginsWith read.0 read.1 old.left) (PolyvalueFault old.place old.left) (λ (poly : Poly ℤ). (poly, new.left)) fault_of result
+  answers : (result : Result (Poly ℤ) PolyError) → IfOk result (λ poly. Passes (SpellsPolyvalue poly) (polyvalue_then in_tree) old new)
+      → IfErr result (λ e. Stops (polyvalue_then in_tree) old (fault_of e))
+      → Answers (λ (read : List (Case ℤ) × List ℕ). BeginsWith read.0 read.1 old.left) (TreeFault old.place old.left) (λ (poly : Poly ℤ). (poly, new.left)) fault_of result
   answers (Ok poly) passes stops =
-      answered (λ (read : List (Case ℤ) × List ℕ). BeginsWith read.0 read.1 old.left) (PolyvalueFault old.place old.left) (one-polyvalue-answer old.left old.place all)
+      answered (λ (read : List (Case ℤ) × List ℕ). BeginsWith read.0 read.1 old.left) (TreeFault old.place old.left) (one-polyvalue-answer old.left old.place all)
       (λ (poly : Poly ℤ). (poly, new.left)) fault_of (Ok poly)
       (record { front = passes.taken.front; back = new.left; whole = passes.taken.taken.bytes; first = passes.taken.is; second = refl }) tt
   answers (Err e) passes stops =
-      answered (λ (read : List (Case ℤ) × List ℕ). BeginsWith read.0 read.1 old.left) (PolyvalueFault old.place old.left) (one-polyvalue-answer old.left old.place all)
+      answered (λ (read : List (Case ℤ) × List ℕ). BeginsWith read.0 read.1 old.left) (TreeFault old.place old.left) (one-polyvalue-answer old.left old.place all)
       (λ (poly : Poly ℤ). (poly, new.left)) fault_of (Err e) tt (told (fault_of e) stops)
 
 pub returns-clause-answer : goal.returns-clause-answer

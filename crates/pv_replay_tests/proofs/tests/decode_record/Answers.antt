@@ -1,14 +1,14 @@
--- The one record that was replayed is what its content spells.
+-- The one record that was replayed is the one as which its content is read.
 use Rattle.std.proofs.Common.{◌≡◌, IfSome, ℕ, List, [], ◌∷◌, ◌++◌, Option, Some, None, ap, ◌∙◌, subst, rules}
 use Rattle.std.specs.Option.{option_to_list}
 use Rattle.pv_format.specs.Contents.{SpellRecords}
-use Rattle.pv_format.specs.RecordSpelling.{SpellsRecord}
+use Rattle.pv_format.specs.RecordSpelling.{IsReadAs}
 use Rattle.pv_replay.specs.Values.{contents_of, record_of, records_of}
 use Rattle.pv_replay.specs.declared.record.Record.{Record}
 use Rattle.pv_replay_tests.proofs.tests.decode_record.Goals as goal
 
 popped : (front : List Record) (last : Option Record) (content : List ℕ) → SpellRecords (records_of (front ++ option_to_list last)) (content ∷ [])
-    → IfSome last (λ value. SpellsRecord (record_of value) content)
+    → IfSome last (λ value. IsReadAs (record_of value) content)
 popped [] None content spelled = tt
 popped [] (Some value) content spelled = spelled.0
 popped (first ∷ []) None content spelled = tt

@@ -7,3 +7,4 @@ returns c = parts_send
     (record { owned = c.sends-2.ensures.owned; leaving = λ k x w. tt })
     (record { owned = c.sends-3.ensures.owned; leaving = λ k x w. tt })
     (record { owned = c.sends-4.ensures.owned; leaving = λ k x w. tt })
+    (record { owned = c.sends-5.ensures.owned; leaving = λ k x w. tt })

@@ -41,6 +41,7 @@ returns-in-Ok-replay-clause-read g c =
           call = c.in-Ok.ensures.goes;
         },
         c.is_empty.ensures ∙ ap (λ n. n == 0) (sym length_is),
+        c.of.ensures,
       ),
       c.in-Ok-replay.ensures.epoch,
     )

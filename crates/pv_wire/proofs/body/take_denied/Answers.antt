@@ -1,5 +1,5 @@
 -- The item, and then its holder.
-use Rattle.std.proofs.Common.{refl}
+use Rattle.std.proofs.Common.{inl, refl}
 use Rattle.std.proofs.lemmas.Result.{err_from_is_err_and}
 use Rattle.pv_format.specs.Layout.{Layout, number_then, txn_layout}
 use Rattle.pv_format.specs.Spelling.{IsAllowed, SpellsTxn, is_item_from}
@@ -24,7 +24,7 @@ returns-in_err-holder-clause-stops c =
 
 pub returns-clause-passes : goal.returns-clause-passes
 returns-clause-passes c = record {
-  kind_is = refl;
+  kind_is = inl refl;
   txn_is = refl;
   passes = passes_both (IsAllowed 4 (is_item_from 0) c.in_ok-item.item.0) (SpellsTxn c.in_ok-holder.holder) item_layout txn_layout c.args.take.now c.take_item.new.take c.take_txn.new.take
       (passes_part (IsAllowed 4 (is_item_from 0) c.in_ok-item.item.0) 4 (is_item_from 0) c.in_ok-item.item.0 c.args.take.now c.take_item.new.take c.in_ok-item.ensures.passes)

@@ -18,16 +18,17 @@ returns-then-now-length c = λ added standing spells.
     subst (λ (on : MemState). StandsForSite c.args.left.catalog c.args.left.me (Down on c.args.left) (record { records = records; standing = standing; arm = None; running = None }))
     (sym c.close-disk.ensures)
     (down-as-left c.armed_logs.ensures c.logs_tell_of_records.ensures.size c.args.disk c.in-Ok.log _ c.in-Ok.ensures c.args.left c.args.length c.requires.length
-    (sym c.length-now.ensures ∙ c.if-now-length.true) added standing spells)
+    (sym c.length-now.ensures ∙ c.if-now-length.true) c.requires.readable.4 added standing spells)
 
 pub read_again-requires : goal.read_again-requires
 read_again-requires c =
-    let (added, standing, spells, replayable) = c.requires.readable in
+    let (added, standing, spells, replayable, plain) = c.requires.readable in
     let records : List Record = c.args.left.records ++ option_to_list added in (
       added,
       standing,
       subst (Spells records standing None None) (sym c.close-disk.ensures) (still-spells c.armed_logs.ensures c.args.disk c.in-Ok.log _ c.in-Ok.ensures records standing spells),
       replayable,
+      plain,
     )
 
 pub returns-in_ok-left-in-Ok : goal.returns-in_ok-left-in-Ok
@@ -35,11 +36,11 @@ returns-in_ok-left-in-Ok c = λ added standing spells.
     let records : List Record = c.args.left.records ++ option_to_list added in
     let before : Spells records standing None None c.close-disk.result =
     subst (Spells records standing None None) (sym c.close-disk.ensures) (still-spells c.armed_logs.ensures c.args.disk c.in-Ok.log _ c.in-Ok.ensures records standing spells) in
-    down-again c.read_again.new.disk c.args.left c.in_ok-left-in-Ok.left records standing (c.in_ok-left-in-Ok.ensures.left records standing before)
+    down-again c.read_again.new.disk c.args.left c.in_ok-left-in-Ok.left records standing (c.in_ok-left-in-Ok.ensures.left records standing before) c.requires.readable.4
     (subst (Spells records standing None None) (sym c.in_ok-left-in-Ok.ensures.same) before)
 
 pub unreachable-requires : goal.unreachable-requires
 unreachable-requires c =
-    let (added, standing, spells, replayable) = c.requires.readable in
+    let (added, standing, spells, replayable, plain) = c.requires.readable in
     c.armed_logs.ensures.ours spells.contents standing None c.args.disk MAX_JOURNAL c.in-Err-NotOurs.field-0-0 c.in-Err-NotOurs.field-0-1 spells.holds
     (subst (λ (e : OpenCkpt MemState). Opens mem_model c.args.disk MAX_JOURNAL (Err e)) c.in-Err-NotOurs.field-0-is c.in-Err-NotOurs.ensures)

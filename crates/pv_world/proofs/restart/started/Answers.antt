@@ -30,7 +30,7 @@ returns-in_ok-disk-in-Err-Failed c = λ is down.
     subst (λ (now : Option Running). HasStarted c.args.catalog.now c.args.site.0 (Down c.args.disk c.args.left) (Down c.in_ok-disk-in-Err-Failed.disk c.args.left) is now (start.Broke c.in_ok-disk-in-Err-Failed.stops))
     (sym down.down)
     (is-broken-early c.args.catalog.now c.args.site.0 is c.args.left _ c.in_ok-disk-in-Err-Failed.disk c.in_ok-disk-in-Err-Failed.stops
-    (record { site = down.me; catalog = down.catalog; records = down.records })
+    (record { site = down.me; catalog = down.catalog; records = down.records; surplus = down.surplus })
     (subst (FailsEarly c.args.catalog.now c.args.site.0 is) (sym c.in-Err-Failed.disk-is)
     (not-opened c.args.catalog.now c.args.site.0 c.args.disk c.args.left is down c.armed_logs.ensures c.in-Err-Failed.disk c.journal.result
     (subst (λ (e : OpenCkpt MemState). Opens mem_model c.args.disk c.journal.result (Err e)) c.in-Err-Failed.field-0-is c.in-Err-Failed.ensures)))

@@ -49,10 +49,10 @@ returns-in-Ok-Done-clause-advanced g c =
     (subst (λ (w : Written). Writes g.L.Log.model c.args.log.now c.write.new.log (record_of c.record.result.now) (Ok w)) c.in-Ok-Done.field-0-is c.in-Ok-Done.ensures.written) in
     let grown : c.apply.new.self.records ≡ c.self.inside.store.records ++ epoch_begun (next_epoch c.self.inside.store.records) ∷ [] =
     ap (λ (kept : Kept). kept.records) c.apply.ensures ∙ ap (λ (more : Record). c.self.inside.store.records ++ more ∷ []) planned in
-    let after : Remains = record { me = c.self.inside.me.0; catalog = c.self.inside.catalog; records = c.apply.new.self.records } in
+    let after : Remains = record { me = c.self.inside.me.0; catalog = c.self.inside.catalog; records = c.apply.new.self.records; surplus = c.self.inside.surplus } in
     subst (λ (left : Remains). (after ≡ advanced_from left) × (next_epoch left.records < NEVER_GIVEN)
     × Writes g.L.Log.model c.args.log.now c.write.new.log (epoch_begun (next_epoch left.records)) (Ok written.Done)) c.self.view_is (
-      ap (λ (records : List Record). record { me = c.self.inside.me.0; catalog = c.self.inside.catalog; records = records }) grown,
+      ap (λ (records : List Record). record { me = c.self.inside.me.0; catalog = c.self.inside.catalog; records = records; surplus = c.self.inside.surplus }) grown,
       omega (arith, c.if-self.false, c.self.invariant.epoch),
       wrote,
     )

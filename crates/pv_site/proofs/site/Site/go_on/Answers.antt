@@ -25,7 +25,7 @@ invariant_of-result g c =
       sound = resumed-sound g.L.Log.model c.args.log c.advance.new.log c.args.left c.requires goes.1 goes.2 c.advance.new.self goes.0 c.begin-parts.result.parts begun.here begun.tied setup
           (subst (λ (left : Remains). All IsRecordInRange left.records) c.left.view_is c.left.invariant.range)
           (subst (λ (left : Remains). IsNarrow HELD_NAMES left.catalog left.me left.records) c.left.view_is c.left.invariant.narrow)
-          (λ running more fine narrow starts. c.starts_are_sound.ensures MAX_SITES (setup_of declared) setup.sites (omega arith) c.args.left.me c.args.left.records
+          (λ running more fine narrow starts. c.starts_are_sound.ensures MAX_SITES (setup_of declared) setup.sites (omega arith) c.args.left.me c.args.left.surplus c.args.left.records
           setup c.requires.site fine narrow running more starts);
       epoch = begun.locks;
       recorded = resumed-recorded g.L.Log.model c.args.log c.advance.new.log c.args.left c.requires goes.1 goes.2 c.advance.new.self goes.0 c.begin-parts.result.parts begun.here

@@ -27,7 +27,7 @@ fallen-requires-clause-readable c =
     subst (λ (now : Remains). (armed : Option Arm) × (fired : Option Bool) × CanBeRead now armed fired c.close.result) (can.over.0 ∙ sym c.leave-log.ensures.left) (
       can.armed,
       can.fired,
-      (can.added, can.standing, subst (Spells (can.left.records ++ option_to_list can.added) can.standing can.armed can.fired) (sym same) can.over.1, can.replayable),
+      (can.added, can.standing, subst (Spells (can.left.records ++ option_to_list can.added) can.standing can.armed can.fired) (sym same) can.over.1, can.replayable, can.surplus),
     )
 
 pub returns : goal.returns

@@ -1,0 +1,6 @@
+mod FindLemmas
+mod KeepLemmas
+mod RenewLemmas
+mod RenewedLemmas
+mod RewriteLemmas
+mod SiteLemmas
