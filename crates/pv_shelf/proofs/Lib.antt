@@ -1,0 +1,5 @@
+pub mod FaceLemmas
+pub mod ItemLemmas
+pub mod LogLemmas
+pub mod PlaceLemmas
+pub mod RuleLemmas
