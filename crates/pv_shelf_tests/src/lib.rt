@@ -1,0 +1,5 @@
+//! The tests of pv_shelf.
+#![tactic(auto)]
+
+#[cfg(test)]
+mod tests;
