@@ -1,5 +1,5 @@
 -- Each step on a shelf keeps its rule.
-use Rattle.std.proofs.Common.{◌≡◌, ◌≢◌, ℕ, List, [], ◌∷◌, ◌++◌, set, refl, sym, subst, ⊎_elim}
+use Rattle.std.proofs.Common.{◌≡◌, ◌≢◌, ℕ, ◌+◌, List, [], ◌∷◌, ◌++◌, set, refl, sym, subst, ⊎_elim}
 use mathlib.Core.Option.{some, some-ne-none}
 use mathlib.Core.List.{IsPrefix}
 use base.Growing.{prefix_refl, prefix_trans}
@@ -44,13 +44,14 @@ admits shown views kept = record { log = kept.log; seen = seen-push shown.parts.
 pub finds : (place : ℕ) (v : View) (x y : Side) → (IsLog x.parts.items → IsLog y.parts.items) → IsPrefix x.parts.items y.parts.items
     → TurnsAt Kept place v x y (λ before _ shown after. Finds before shown.parts.items after)
 finds place v x y log grows views kept at =
-    let now = y.parts.items in (
-      having_seen now,
+    let now = y.parts.items in
+    let view : View = record { seen = now; looks = v.looks + 1 } in (
+      view,
       record {
         log = log kept.log;
-        seen = seen-set now views place (having_seen now) (λ other u there. prefix_trans u.seen x.parts.items now (kept.seen other u there) grows) (prefix_refl now);
+        seen = seen-set now views place view (λ other u there. prefix_trans u.seen x.parts.items now (kept.seen other u there) grows) (prefix_refl now);
       },
-      record { log = log kept.log; grows = prefix_trans v.seen x.parts.items now (kept.seen place v at) grows; seen = refl },
+      record { log = log kept.log; grows = prefix_trans v.seen x.parts.items now (kept.seen place v at) grows; seen = refl; looks = refl },
     )
 
 -- The writer tells what it has seen.

@@ -24,6 +24,10 @@ known shelf = (view shelf.writer.desk.place).seen
 abbrev pub seen : ShelfReader → List Part
 seen reader = (view reader.reader.place).seen
 
+-- how often it has looked
+abbrev pub look_count : ShelfReader → ℕ
+look_count reader = (view reader.reader.place).looks
+
 -- the items of the site, whose faces it looks at
 abbrev pub items_of : ShelfReader → List ℕ
 items_of reader = reader.items.items

@@ -16,7 +16,7 @@ use std::alloc::Global;
 
 /// It looks at what is published. It may go to a thread of its own.
 ///
-/// Contracts see the list that its last look found (`seen`), and the items of the site (`items_of`).
+/// Contracts see the list that its last look found (`seen`), how often it has looked (`look_count`), and the items of the site (`items_of`).
 #[derive(Drop)]
 pub struct ShelfReader {
     pub(crate) reader: Reader<Side, View, Published>,
@@ -33,11 +33,11 @@ pub struct ShelfReader {
 }
 
 impl ShelfReader {
-    ghost use Rattle.std.specs.Prelude.{◌≤◌, ℕ, Some, slice_get, MatchResult};
+    ghost use Rattle.std.specs.Prelude.{◌≤◌, ◌+◌, ℕ, Some, slice_get, MatchResult, OnOk};
     ghost use Rattle.std.specs.List.{Contains};
     ghost use mathlib.Core.List.{IsPrefix};
     ghost use Rattle.pv_shelf.specs.Peeks.{IsAnswer, IsAnswerAt};
-    ghost use Rattle.pv_shelf.specs.Shelves.{seen, items_of};
+    ghost use Rattle.pv_shelf.specs.Shelves.{seen, look_count, items_of};
 
     /// Looks at what is published, and tells what the site shows of its item there, after at least so many steps.
     ///
@@ -53,6 +53,7 @@ impl ShelfReader {
         ensures grows { IsPrefix (seen self.old) (seen self.new) }
         ensures rises { steps_of (seen self.old) ≤ steps_of (seen self.new) }
         ensures answer { IsAnswer (items_of self.new) (seen self.new) item.0 least result }
+        ensures looked { OnOk result (look_count self.new ≡ look_count self.old + 1) }
     {
         let place = place_of(&self.items, item);
         replace_with(
@@ -61,7 +62,8 @@ impl ShelfReader {
             |reader: ShelfReader, asked: (usize, u64)| -> (ShelfReader, Result<Peek, PeekError>)
                 requires { asked.0 < length (items_of reader) }
                 ensures { (items_of result.0 ≡ items_of reader) × IsPrefix (seen reader) (seen result.0)
-                    × (steps_of (seen reader) ≤ steps_of (seen result.0)) × IsAnswerAt (seen result.0) asked.0 asked.1 result.1 }
+                    × (steps_of (seen reader) ≤ steps_of (seen result.0)) × IsAnswerAt (seen result.0) asked.0 asked.1 result.1
+                    × OnOk result.1 (look_count result.0 ≡ look_count reader + 1) }
             { reader.read_at(asked.0, asked.1) },
         )
     }
@@ -73,6 +75,7 @@ impl ShelfReader {
         ensures grows { IsPrefix (seen self) (seen result.0) }
         ensures rises { steps_of (seen self) ≤ steps_of (seen result.0) }
         ensures answer { IsAnswerAt (seen result.0) place least result.1 }
+        ensures looked { OnOk result.1 (look_count result.0 ≡ look_count self + 1) }
     {
         let ShelfReader {
             reader,
