@@ -1,0 +1,26 @@
+-- The words behind the first are a site and an epoch.
+use Rattle.std.proofs.Common.{ℕ, List, [], ◌∷◌, refl, sym, ap₂, ◌∙◌, arith}
+use Rattle.std.specs.Fmt.{decimal}
+use Rattle.pv_audit.proofs.CutLemmas.{same-head}
+use Rattle.pv_audit.proofs.PartsLemmas.{behind}
+use Rattle.pv_audit.proofs.printed.started_line.Goals as goal
+
+pub returns-in_err-first : goal.returns-in_err-first
+returns-in_err-first c = rw c.from_residual.ensures (λ catalog x has. c.in_err-first.ensures.none (decimal x.0) (decimal x.1) has.are)
+
+pub returns-in_err-site : goal.returns-in_err-site
+returns-in_err-site c = rw c.from_residual-in_err-site.ensures (λ catalog x has. c.in_err-site.ensures.none x.0 has.within.0 (same-head (sym c.in_ok-first.ensures.some ∙ has.are)))
+
+pub returns-in_err-epoch : goal.returns-in_err-epoch
+returns-in_err-epoch c = rw c.from_residual-in_err-epoch.ensures (λ catalog x has. c.in_err-epoch.ensures.none x.1 has.within.1 (same-head (behind (sym c.in_ok-first.ensures.some ∙ has.are))))
+
+pub returns : goal.returns
+returns c = λ catalog. (
+  (c.in_ok-site.site.0, c.in_ok-epoch.epoch),
+  record {
+    are = c.in_ok-first.ensures.some ∙ ap₂ (λ (first second : List ℕ). first ∷ (second ∷ [])) c.in_ok-site.ensures.site c.in_ok-epoch.ensures.number;
+    items = tt;
+    within = (c.in_ok-site.ensures.within, omega arith);
+  },
+  refl,
+)

@@ -1,0 +1,7 @@
+-- The number is that of the digits so far.
+use Rattle.std.proofs.Common.{◌≡◌, take}
+use Rattle.std.specs.Str.Parse.{digits_value}
+use Rattle.pv_audit.proofs.sums.digits_in.Given as goal
+
+abbrev pub invariant-loop-byte : goal.invariant-loop-byte
+invariant-loop-byte l = l.number ≡ digits_value 10 (take l.byte-index l.word)

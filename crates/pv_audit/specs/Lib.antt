@@ -1,0 +1,12 @@
+pub mod Digits
+pub mod Entries
+pub mod EntriesLeft
+pub mod EntryView
+pub mod ErrorView
+pub mod FirstWords
+pub mod Printed
+pub mod Reading
+pub mod TraceFaults
+pub mod Traces
+pub mod Views
+pub mod Words
