@@ -1,0 +1,5 @@
+//! The tests of pv_audit.
+#![tactic(auto)]
+
+#[cfg(test)]
+mod tests;
