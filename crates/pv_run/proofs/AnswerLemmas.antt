@@ -23,7 +23,7 @@ use Rattle.pv_run.specs.declared.status.Status.TheVariants.{Done, Malformed, Wri
 use Rattle.pv_run.specs.declared.text_end.TextEnd.{TextEnd}
 use Rattle.pv_run.specs.declared.text_end.TextEnd.TheVariants as at
 use Rattle.pv_run.specs.Summary.{summary_of, summary_text}
-use Rattle.pv_run.specs.InputAnswers.{IsAnswer, IsRunAnswer, IsSummaryAnswer, GivesUp, GrowsBySome, fault_text, output_within, within_limit}
+use Rattle.pv_run.specs.InputAnswers.{IsAnswer, IsRunAnswer, IsSummaryAnswer, GivesUp, GrowsBySome, fault_text, within_limit, written_within}
 use Rattle.pv_run.specs.Statuses.{end_of_refusal, end_of_run, end_within, text_status}
 use Rattle.pv_run.specs.declared.form.Form.{Form}
 use Rattle.pv_run.specs.declared.write_end.WriteEnd.{WriteEnd}
@@ -32,7 +32,7 @@ use Rattle.pv_run.specs.WriteEndView.{IsWriteFault}
 use Rattle.pv_protocol.specs.Lines.{Line}
 use Rattle.pv_protocol.specs.Run.{printed}
 use Rattle.pv_site.specs.SiteState.{setup_of}
-use Rattle.pv_run.proofs.LimitLemmas.{output-within}
+use Rattle.pv_run.proofs.LimitLemmas.{written-is-within}
 use Rattle.pv_run.proofs.OutputLemmas.{AppendsPrefix-whole}
 
 -- a list of one element
@@ -176,23 +176,23 @@ output_at_limit whole within input status old new schedule answered says is =
 
 -- What has to be written of a run, and the status with it.
 pub answer_of_run : (form : Form) (input : List ℕ) (schedule : Schedule) → length input ≤ MAX_INPUT → IsSchedule input schedule
-    → IsRunAnswer form input (text_status (end_within (within_limit schedule).over)) (output_within form schedule)
+    → IsRunAnswer form input (text_status (end_within (within_limit schedule).over)) (written_within form input schedule)
 answer_of_run form input schedule short says = go (within_limit schedule).over refl
   where
-    go : (over : Option ℕ) → (within_limit schedule).over ≡ over → IsRunAnswer form input (text_status (end_within over)) (output_within form schedule)
-    go None is = (short, schedule, says, is, output-within form schedule is)
+    go : (over : Option ℕ) → (within_limit schedule).over ≡ over → IsRunAnswer form input (text_status (end_within over)) (written_within form input schedule)
+    go None is = (short, schedule, says, is, written-is-within form input schedule is)
     go (Some total) is = (short, schedule, says, total, is, refl)
 
 -- Where a schedule was run, that is the input's answer, or it gave up.
 pub answered_run : (form : Form) (input : List ℕ) (schedule : Schedule) (ran : Result (Option ℕ) WriteEnd) (old new : Option (List ℕ))
     → length input ≤ MAX_INPUT → IsSchedule input schedule → IfOk ran (λ over. over ≡ (within_limit schedule).over)
-    → OnOk ran (Appends old new (output_within form schedule))
+    → OnOk ran (Appends old new (written_within form input schedule))
     → GivesUp (text_status (end_of_run ran)) ⊎ GrowsBySome old new (IsRunAnswer form input (text_status (end_of_run ran)))
 answered_run form input schedule (Ok over) old new short says is written =
     inr (
-      output_within form schedule,
+      written_within form input schedule,
       written,
-      subst (λ (o : Option ℕ). IsRunAnswer form input (text_status (end_within o)) (output_within form schedule)) (sym is) (answer_of_run form input schedule short says),
+      subst (λ (o : Option ℕ). IsRunAnswer form input (text_status (end_within o)) (written_within form input schedule)) (sym is) (answer_of_run form input schedule short says),
     )
 answered_run form input schedule (Err end.WriteFault) old new short says is written = inl tt
 answered_run form input schedule (Err end.NoMemory) old new short says is written = inl tt

@@ -10,7 +10,7 @@ use Rattle.pv_model.specs.Events.{Schedule}
 use Rattle.pv_model.specs.Schedule.{IsSchedule}
 use Rattle.pv_run.specs.Ends.{AnswersRun}
 use Rattle.pv_run.specs.Headline.{KeepsPromises}
-use Rattle.pv_run.specs.InputAnswers.{Answers, GivesUp, output_of, output_within}
+use Rattle.pv_run.specs.InputAnswers.{Answers, GivesUp, written_of, written_within}
 use Rattle.pv_run.specs.Statuses.{unread_status}
 use Rattle.pv_run.specs.declared.form.Form.{Form}
 use Rattle.pv_run.specs.declared.status.Status.{Status}
@@ -36,7 +36,7 @@ module _ {W B : Type 0} (sink : Ghosts W) (M : BayModel B) (form : Form) (same :
   -- The input is too long.
   too-long : MAX_INPUT < length input → AnswersRun sink M form same same bay bay TooLong input
   too-long long =
-      let answered : Answers sink (output_of form) (output_within form) input TooLong same same = inr ([], Appends-nil (sink.held same), (long, refl)) in
+      let answered : Answers sink (written_of form input) (written_within form input) input TooLong same same = inr ([], Appends-nil (sink.held same), (long, refl)) in
       record {
         promises = promises;
         done = λ is. absurd (let wrong : ⊥ = cc in wrong);
@@ -45,7 +45,7 @@ module _ {W B : Type 0} (sink : Ghosts W) (M : BayModel B) (form : Form) (same :
         limit = λ schedule says is. absurd (let wrong : ⊥ = cc in wrong);
         answered = answered;
         exact = λ answer output is. (
-          status_of_answer (output_of form) (output_within form) input TooLong answer (sink.held same) (sink.held same) output answered is,
+          status_of_answer (written_of form input) (written_within form input) input TooLong answer (sink.held same) (sink.held same) output answered is,
           (0, Appends-nil (sink.held same)),
           λ fault. absurd (let wrong : ⊥ = cc in wrong),
         );

@@ -4,4 +4,6 @@ mod KeepLemmas
 mod LimitLemmas
 mod OutputLemmas
 mod RunLemmas
+mod SaidLemmas
 mod SummaryLemmas
+mod TraceLemmas

@@ -1,15 +1,15 @@
 -- A run, event by event.
-use Rattle.std.proofs.Common.{◌≡◌, ℕ, ◌≤◌, ◌<◌, zero, suc, All, List, [], ◌∷◌, ◌++◌, map, length, drop, drop-cons, take, get_or, Option, Some, None, refl, sym, ap, ◌∙◌, subst, arith}
+use Rattle.std.proofs.Common.{◌≡◌, ℕ, ◌≤◌, ◌<◌, zero, suc, All, List, [], ◌∷◌, ◌++◌, ◌-◌, map, length, drop, drop-cons, take, get_or, Option, Some, None, refl, sym, ap, ◌∙◌, subst, arith}
 use Rattle.std.specs.Io.KnownBytes.{Appends}
 use Rattle.std.proofs.KnownBytes.{Appends-trans}
 use Rattle.std.proofs.lemmas.List.{append_assoc, drop-map}
 use Rattle.std.proofs.lemmas.List.Elements.{All-append, All-nil}
-use Rattle.std.proofs.lemmas.Grind.{flat_map-append}
 use Rattle.pv_base.specs.Catalog.{Declared}
 use Rattle.pv_base.specs.declared.limits.TheConstants.{MAX_SENT}
 use Rattle.pv_io.specs.Stream.{AppendsPrefix, KnownAlike}
 use Rattle.pv_io.specs.declared.sink.Sink.{Ghosts}
 use Rattle.pv_model.specs.Events.{Schedule, Event}
+use Rattle.pv_model.specs.Text.{TextLine}
 use Rattle.pv_protocol.specs.Limit.{Output, over_limit, run_within, unless_over}
 use Rattle.pv_protocol.specs.Lines.{Line}
 use Rattle.pv_protocol.specs.Run.{lines_of_transitions, transitions_of, world_after}
@@ -23,9 +23,10 @@ use Rattle.pv_site.specs.SiteState.{setup_of}
 use Rattle.pv_world.specs.Stands.{StandsFor}
 use Rattle.pv_world.specs.Steps.{IsSameBeside}
 use Rattle.pv_world.specs.declared.world.World.{World}
-use Rattle.pv_run.specs.Forms.{line_in, lines_in}
-use Rattle.pv_run.specs.InputAnswers.{output_within, within_limit}
+use Rattle.pv_run.specs.InputAnswers.{within_limit, written_within}
+use Rattle.pv_run.specs.Traced.{event_text, said_in, said_texts, text_unless, text_within}
 use Rattle.pv_run.specs.declared.form.Form.{Form}
+use Rattle.pv_run.proofs.LimitLemmas.{written-begins}
 use Rattle.pv_run.proofs.OutputLemmas.{AppendsPrefix-front, AppendsPrefix-after, both-empty}
 
 -- the world after an event, and after several
@@ -54,16 +55,18 @@ pub record IsInCourse (schedule : Schedule) (world : World) (done : ℕ) : Type 
   pub limit : world.mail.limit ≡ MAX_SENT
   pub over : (left_at schedule done).over ≡ (within_limit schedule).over
 
--- And what is left to be printed ends where all that is to be printed ends. Where that is nothing, the sink is as it was.
-pub record IsUnderWay {W : Type 0} (sink : Ghosts W) (form : Form) (first now : W) (schedule : Schedule) (world : World) (done : ℕ) : Type 0 where
+-- what is left to be written then, where these lines of the schedule are left
+abbrev pub text_at : Form → Schedule → List TextLine → ℕ → List ℕ
+text_at form schedule said done = text_within form MAX_SENT (setup_for schedule) (world_at schedule done) said (drop done schedule.events)
+
+-- And what is left to be written ends where all that is to be written ends. Where that is nothing, the sink is as it was.
+pub record IsUnderWay {W : Type 0} (sink : Ghosts W) (form : Form) (all : List ℕ) (first now : W) (schedule : Schedule) (world : World) (said : List TextLine) (done : ℕ) : Type 0 where
   pub course : IsInCourse schedule world done
-  pub whole : (end : Option (List ℕ)) → Appends (sink.held now) end (lines_in form schedule.catalog (left_at schedule done).lines)
-      → Appends (sink.held first) end (output_within form schedule)
-  pub prefix : (end : Option (List ℕ)) → AppendsPrefix (sink.held now) end (lines_in form schedule.catalog (left_at schedule done).lines)
-      → AppendsPrefix (sink.held first) end (output_within form schedule)
+  pub whole : (end : Option (List ℕ)) → Appends (sink.held now) end (text_at form schedule said done) → Appends (sink.held first) end all
+  pub prefix : (end : Option (List ℕ)) → AppendsPrefix (sink.held now) end (text_at form schedule said done) → AppendsPrefix (sink.held first) end all
   pub known : KnownAlike (sink.held first) (sink.held now)
   pub counted : sink.faults first ≤ sink.faults now
-  pub none : output_within form schedule ≡ [] → (lines_in form schedule.catalog (left_at schedule done).lines ≡ []) × (now ≡ first)
+  pub none : all ≡ [] → (text_at form schedule said done ≡ []) × (now ≡ first)
 
 -- And the lines so far, each of which can be printed, are what was to be printed before what is left.
 pub record HasCollected (schedule : Schedule) (world : World) (done : ℕ) (so_far : List Line) : Type 0 where
@@ -113,6 +116,13 @@ left-at-end schedule items done same end =
     ap (λ (events : List Event). run_within MAX_SENT (setup_for schedule) (world_at schedule done) events)
     (ap (drop done) same ∙ drop-map event_of done items ∙ ap events_of (drop-end items done end))
 
+-- Nor is anything left to be written.
+pub text-at-end : (form : Form) (schedule : Schedule) (said : List TextLine) (items : List code.Event) (done : ℕ) → schedule.events ≡ events_of items → length items ≤ done
+    → text_at form schedule said done ≡ []
+text-at-end form schedule said items done same end =
+    ap (λ (events : List Event). text_within form MAX_SENT (setup_for schedule) (world_at schedule done) said events)
+    (ap (drop done) same ∙ drop-map event_of done items ∙ ap events_of (drop-end items done end))
+
 -- the world after one event more
 after-next : (setup : Setup) (world : model.World) (events : List Event) (i : ℕ) (event : Event) (rest : List Event) → drop i events ≡ event ∷ rest
     → after_events setup world (take (suc i) events) ≡ after_event setup (after_events setup world (take i events)) event
@@ -126,17 +136,32 @@ pub course-start : (schedule : Schedule) (world : World)
 unfolding within_limit
 course-start schedule world stands catalog limit = record { stands = stands; catalog = catalog; limit = limit; over = refl }
 
-pub start : {W : Type 0} (sink : Ghosts W) (form : Form) (first : W) (schedule : Schedule) (world : World)
-    → StandsFor world (opening (setup_for schedule)) → world.catalog ≡ schedule.catalog → world.mail.limit ≡ MAX_SENT → IsUnderWay sink form first first schedule world 0
-unfolding within_limit
-start sink form first schedule world stands catalog limit = record {
-  course = course-start schedule world stands catalog limit;
-  whole = λ end p. p;
-  prefix = λ end p. p;
-  known = refl;
-  counted = omega arith;
-  none = λ none. (none, refl);
-}
+-- What is written is the lines that declare something, where they are written, and then the events.
+pub opens : (form : Form) (input : List ℕ) (schedule : Schedule) (said : List TextLine) (last : ℕ) → said ≡ said_in form input → last ≡ length schedule.events
+    → written_within form input schedule ≡ said_texts (take (length said - last) said) ++ text_at form schedule (drop (length said - last) said) 0
+opens form input schedule said last are count =
+    let all = sym are in
+    let events = sym count in
+    written-begins form input schedule
+    ∙ (λ i. said_texts (take (length (all i) - events i) (all i))
+    ++ text_within form MAX_SENT (setup_for schedule) (opening (setup_for schedule)) (drop (length (all i) - events i) (all i)) schedule.events)
+
+-- The first of these were written, and then the events come.
+pub start : {W : Type 0} (sink : Ghosts W) (form : Form) (all front : List ℕ) (first now : W) (schedule : Schedule) (world : World) (left said : List TextLine)
+    → IsInCourse schedule world 0 → all ≡ front ++ text_at form schedule left 0 → said ≡ left → Appends (sink.held first) (sink.held now) front
+    → KnownAlike (sink.held first) (sink.held now) → sink.faults first ≤ sink.faults now → (front ≡ [] → now ≡ first)
+    → IsUnderWay sink form all first now schedule world said 0
+start sink form all front first now schedule world left said course begins rest written known counted same =
+    let more = text_at form schedule said 0 in
+    let both : all ≡ front ++ more = begins ∙ ap (λ (ls : List TextLine). front ++ text_at form schedule ls 0) (sym rest) in
+    record {
+      course = course;
+      whole = λ end p. subst (Appends (sink.held first) end) (sym both) (Appends-trans (sink.held first) (sink.held now) end front more written p);
+      prefix = λ end p. subst (AppendsPrefix (sink.held first) end) (sym both) (AppendsPrefix-after (sink.held first) (sink.held now) end front more written p);
+      known = known;
+      counted = counted;
+      none = λ none. let empty = both-empty front more (sym both ∙ none) in (empty.1, same empty.0);
+    }
 
 pub collect-start : (schedule : Schedule) (world : World)
     → StandsFor world (opening (setup_for schedule)) → world.catalog ≡ schedule.catalog → world.mail.limit ≡ MAX_SENT → HasCollected schedule world 0 []
@@ -173,6 +198,13 @@ module _ (schedule : Schedule) (world : World) (done : ℕ) (event : Event)
   rest-is : left_at schedule (suc done) ≡ rest
   rest-is = ap (λ (w : model.World). run_within MAX_SENT setup w (drop (suc done) schedule.events)) next-world
 
+  abbrev text-rest : Form → List TextLine → List ℕ
+  text-rest form said = text_within form MAX_SENT setup after (drop 1 said) (drop (suc done) schedule.events)
+
+  text-is : (form : Form) (said : List TextLine)
+      → text_at form schedule said done ≡ text_unless (over_limit MAX_SENT after) (event_text form schedule.catalog said lines ++ text-rest form said)
+  text-is form said = ap (λ (events : List Event). text_within form MAX_SENT setup is said events) split
+
   -- What a step says of the world in memory, said of the schedule's own catalog and limit.
 
   pub printed-by : (printed : List Line) → printed ≡ lines_of_transitions (transitions_of (setup_of world.catalog) is event) → printed ≡ lines
@@ -190,7 +222,13 @@ module _ (schedule : Schedule) (world : World) (done : ℕ) (event : Event)
       subst (λ (limit : ℕ). over_limit limit after ≡ Some total) course.limit
       (subst (λ (catalog : Declared). over_limit world.mail.limit (after_event (setup_of catalog) is event) ≡ Some total) course.catalog over)
 
-  -- The limit is passed in this event, and nothing is left to be printed.
+  -- The limit is passed in this event, and nothing is left to be written.
+  pub text-none : (form : Form) (said : List TextLine) (total : ℕ) → over_limit world.mail.limit (after_event (setup_of world.catalog) is event) ≡ Some total
+      → text_at form schedule said done ≡ []
+  text-none form said total passed =
+      text-is form said ∙ ap (λ (o : Option ℕ). text_unless o (event_text form schedule.catalog said lines ++ text-rest form said)) (over-after total passed)
+
+  -- Nor is anything left to be printed.
   pub passes : (total : ℕ) → over_limit world.mail.limit (after_event (setup_of world.catalog) is event) ≡ Some total
       → (Some total ≡ (within_limit schedule).over) × ((left_at schedule done).lines ≡ [])
   passes total passed =
@@ -207,11 +245,11 @@ module _ (schedule : Schedule) (world : World) (done : ℕ) (event : Event)
     pub lines-within : (left_at schedule done).lines ≡ lines ++ (left_at schedule (suc done)).lines
     lines-within = ap (λ (o : Output). o.lines) left-within
 
-    pub text-within : (form : Form) → lines_in form schedule.catalog (left_at schedule done).lines
-        ≡ lines_in form schedule.catalog lines ++ lines_in form schedule.catalog (left_at schedule (suc done)).lines
-    text-within form =
-        ap (lines_in form schedule.catalog) lines-within
-        ∙ flat_map-append (line_in form schedule.catalog) lines (left_at schedule (suc done)).lines
+    pub text-one : (form : Form) (said : List TextLine)
+        → text_at form schedule said done ≡ event_text form schedule.catalog said lines ++ text_at form schedule (drop 1 said) (suc done)
+    text-one form said =
+        text-is form said ∙ ap (λ (o : Option ℕ). text_unless o (event_text form schedule.catalog said lines ++ text-rest form said)) within
+        ∙ ap (λ (w : model.World). event_text form schedule.catalog said lines ++ text_within form MAX_SENT setup w (drop 1 said) (drop (suc done) schedule.events)) (sym next-world)
 
     -- The next event comes.
     pub course-on : (new : World) → StandsFor new after → IsSameBeside world new → IsInCourse schedule new (suc done)
@@ -222,18 +260,19 @@ module _ (schedule : Schedule) (world : World) (done : ℕ) (event : Event)
       over = sym (ap (λ (o : Output). o.over) left-within) ∙ course.over;
     }
 
--- The event's lines are written, and the next event comes.
-pub go_on : {W : Type 0} (sink : Ghosts W) (form : Form) (first now next : W) (schedule : Schedule) (world : World) (done : ℕ) (event : Event)
-    (way : IsUnderWay sink form first now schedule world done) (split : drop done schedule.events ≡ event ∷ drop (suc done) schedule.events)
+-- The event is written, and the next one comes.
+pub go_on : {W : Type 0} (sink : Ghosts W) (form : Form) (all : List ℕ) (first now next : W) (schedule : Schedule) (world : World) (said : List TextLine) (done : ℕ) (event : Event)
+    (way : IsUnderWay sink form all first now schedule world said done) (split : drop done schedule.events ≡ event ∷ drop (suc done) schedule.events)
     (within : over_limit MAX_SENT (after schedule world done event way.course split) ≡ None)
     (new : World) → StandsFor new (after schedule world done event way.course split) → IsSameBeside world new
-    → Appends (sink.held now) (sink.held next) (lines_in form schedule.catalog (lines schedule world done event way.course split))
+    → Appends (sink.held now) (sink.held next) (event_text form schedule.catalog said (lines schedule world done event way.course split))
     → KnownAlike (sink.held now) (sink.held next) → sink.faults now ≤ sink.faults next
-    → (lines_in form schedule.catalog (lines schedule world done event way.course split) ≡ [] → next ≡ now) → IsUnderWay sink form first next schedule new (suc done)
-go_on sink form first now next schedule world done event way split within new stands beside written known counted same =
-    let text = lines_in form schedule.catalog (lines schedule world done event way.course split) in
-    let more = lines_in form schedule.catalog (left_at schedule (suc done)).lines in
-    let both = text-within schedule world done event way.course split within form in
+    → (event_text form schedule.catalog said (lines schedule world done event way.course split) ≡ [] → next ≡ now)
+    → IsUnderWay sink form all first next schedule new (drop 1 said) (suc done)
+go_on sink form all first now next schedule world said done event way split within new stands beside written known counted same =
+    let text = event_text form schedule.catalog said (lines schedule world done event way.course split) in
+    let more = text_at form schedule (drop 1 said) (suc done) in
+    let both = text-one schedule world done event way.course split within form said in
     record {
       course = course-on schedule world done event way.course split within new stands beside;
       whole = λ end p. way.whole end (subst (Appends (sink.held now) end) (sym both) (Appends-trans (sink.held now) (sink.held next) end text more written p));
@@ -243,25 +282,25 @@ go_on sink form first now next schedule world done event way split within new st
       none = λ none. let empty = both-empty text more (sym both ∙ (way.none none).0) in (empty.1, same empty.0 ∙ (way.none none).1);
     }
 
--- A beginning of the event's lines is written.
-pub give_up : {W : Type 0} (sink : Ghosts W) (form : Form) (first now next : W) (schedule : Schedule) (world : World) (done : ℕ) (event : Event)
-    (way : IsUnderWay sink form first now schedule world done) (split : drop done schedule.events ≡ event ∷ drop (suc done) schedule.events)
+-- A beginning of the event is written.
+pub give_up : {W : Type 0} (sink : Ghosts W) (form : Form) (all : List ℕ) (first now next : W) (schedule : Schedule) (world : World) (said : List TextLine) (done : ℕ) (event : Event)
+    (way : IsUnderWay sink form all first now schedule world said done) (split : drop done schedule.events ≡ event ∷ drop (suc done) schedule.events)
     → over_limit MAX_SENT (after schedule world done event way.course split) ≡ None
-    → AppendsPrefix (sink.held now) (sink.held next) (lines_in form schedule.catalog (lines schedule world done event way.course split))
-    → AppendsPrefix (sink.held first) (sink.held next) (output_within form schedule)
-give_up sink form first now next schedule world done event way split within written =
-    way.prefix (sink.held next) (subst (AppendsPrefix (sink.held now) (sink.held next)) (sym (text-within schedule world done event way.course split within form))
-    (AppendsPrefix-front (sink.held now) (sink.held next) (lines_in form schedule.catalog (lines schedule world done event way.course split))
-    (lines_in form schedule.catalog (left_at schedule (suc done)).lines) written))
+    → AppendsPrefix (sink.held now) (sink.held next) (event_text form schedule.catalog said (lines schedule world done event way.course split))
+    → AppendsPrefix (sink.held first) (sink.held next) all
+give_up sink form all first now next schedule world said done event way split within written =
+    way.prefix (sink.held next) (subst (AppendsPrefix (sink.held now) (sink.held next)) (sym (text-one schedule world done event way.course split within form said))
+    (AppendsPrefix-front (sink.held now) (sink.held next) (event_text form schedule.catalog said (lines schedule world done event way.course split))
+    (text_at form schedule (drop 1 said) (suc done)) written))
 
--- Where nothing is printed in all, nothing is printed of the event.
-pub no_lines : {W : Type 0} (sink : Ghosts W) (form : Form) (first now : W) (schedule : Schedule) (world : World) (done : ℕ) (event : Event)
-    (way : IsUnderWay sink form first now schedule world done) (split : drop done schedule.events ≡ event ∷ drop (suc done) schedule.events)
-    → over_limit MAX_SENT (after schedule world done event way.course split) ≡ None → output_within form schedule ≡ []
-    → lines_in form schedule.catalog (lines schedule world done event way.course split) ≡ []
-no_lines sink form first now schedule world done event way split within none =
-    (both-empty (lines_in form schedule.catalog (lines schedule world done event way.course split)) (lines_in form schedule.catalog (left_at schedule (suc done)).lines)
-    (sym (text-within schedule world done event way.course split within form) ∙ (way.none none).0)).0
+-- Where nothing is written in all, nothing is written of the event.
+pub no_text : {W : Type 0} (sink : Ghosts W) (form : Form) (all : List ℕ) (first now : W) (schedule : Schedule) (world : World) (said : List TextLine) (done : ℕ) (event : Event)
+    (way : IsUnderWay sink form all first now schedule world said done) (split : drop done schedule.events ≡ event ∷ drop (suc done) schedule.events)
+    → over_limit MAX_SENT (after schedule world done event way.course split) ≡ None → all ≡ []
+    → event_text form schedule.catalog said (lines schedule world done event way.course split) ≡ []
+no_text sink form all first now schedule world said done event way split within none =
+    (both-empty (event_text form schedule.catalog said (lines schedule world done event way.course split)) (text_at form schedule (drop 1 said) (suc done))
+    (sym (text-one schedule world done event way.course split within form said) ∙ (way.none none).0)).0
 
 -- The event's lines are collected, and the next event comes.
 pub collect_on : (schedule : Schedule) (world : World) (done : ℕ) (so_far : List Line) (event : Event)

@@ -14,7 +14,7 @@ use Rattle.pv_io.specs.declared.source.Source as sources
 use Rattle.pv_model.specs.Events.{Schedule}
 use Rattle.pv_model.specs.Schedule.{IsSchedule}
 use Rattle.pv_run.specs.Headline.{KeepsPromises}
-use Rattle.pv_run.specs.InputAnswers.{Answers, GivesUpOr, IsRunAnswer, IsSummaryAnswer, output_of, output_within}
+use Rattle.pv_run.specs.InputAnswers.{Answers, GivesUpOr, IsRunAnswer, IsSummaryAnswer, written_of, written_within}
 use Rattle.pv_run.specs.KeptDisks.{KeepsSites, last_world}
 use Rattle.pv_run.specs.Statuses.{big_status, run_status}
 use Rattle.pv_run.specs.Summary.{summary_of}
@@ -34,16 +34,16 @@ module _ {W B : Type 0} (sink : sinks.Ghosts W) (M : BayModel B) (form : Form) (
   pub record AnswersRun (input : List ℕ) : Type 0 where
     -- The headline. Whatever schedule the input is, and in whatever writes and syncs its sites stop or fail, its run keeps the promises.
     pub promises : (schedule : Schedule) → IsSchedule input schedule → KeepsPromises (setup_of schedule.catalog) schedule.events
-    -- It is done only where the input is a schedule, and exactly what the run of that prints was written.
-    pub done : status ≡ Done → (schedule : Schedule) × IsSchedule input schedule × Writes sink before after (output_of form schedule)
-    -- However it ends, what was written of a schedule is a beginning of exactly what its run prints.
-    pub prefix : (schedule : Schedule) → IsSchedule input schedule → WritesPrefix sink before after (output_of form schedule)
+    -- It is done only where the input is a schedule, and exactly what there is to be written of its run was.
+    pub done : status ≡ Done → (schedule : Schedule) × IsSchedule input schedule × Writes sink before after (written_of form input schedule)
+    -- However it ends, what was written of a schedule is a beginning of exactly that.
+    pub prefix : (schedule : Schedule) → IsSchedule input schedule → WritesPrefix sink before after (written_of form input schedule)
     -- Where it is done that is the whole.
-    pub whole : (schedule : Schedule) → IsSchedule input schedule → status ≡ Done → Writes sink before after (output_of form schedule)
+    pub whole : (schedule : Schedule) → IsSchedule input schedule → status ≡ Done → Writes sink before after (written_of form input schedule)
     -- At `SentLimit` it is all up to the event in which the messages pass the limit.
-    pub limit : (schedule : Schedule) → IsSchedule input schedule → status ≡ SentLimit → Writes sink before after (output_within form schedule)
+    pub limit : (schedule : Schedule) → IsSchedule input schedule → status ≡ SentLimit → Writes sink before after (written_within form input schedule)
     -- It gave up, or wrote the input's one answer, whose status this is: `IsRunAnswer` says when each comes.
-    pub answered : Answers sink (output_of form) (output_within form) input status before after
+    pub answered : Answers sink (written_of form input) (written_within form input) input status before after
     -- Whatever the answer to the input is, it gave up or ended with the status of that, and wrote a beginning of it. Where that is empty, no write has failed.
     pub exact : (answer : Status) (output : List ℕ) → IsRunAnswer form input answer output → GivesUpOr sink status answer output before after
     -- Where it is done the bay keeps a disk for each site of the run's last world, which holds the site's log there.
@@ -56,7 +56,7 @@ module _ {R : Type 0} (source : sources.Ghosts R) (unread left : R) (input : Lis
     pub given : Appends (source.given unread) (source.given left) input
     pub told : is_some (source.left unread) ≡ false → (is_some (source.given unread) ≡ true) × (is_some (source.given left) ≡ true)
 
--- How `run` and `json` end: as the text does that was read, or with why none was.
+-- How `run`, `json` and `trace` end: as the text does that was read, or with why none was.
 module _ {R W B : Type 0} (source : sources.Ghosts R) (sink : sinks.Ghosts W) (M : BayModel B) (form : Form) (unread left : R) (before after : W) (old new : B)
     (ended : Result TextEnd ReadEnd) where
   pub record EndsRun : Type 0 where

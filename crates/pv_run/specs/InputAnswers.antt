@@ -5,12 +5,14 @@ use Rattle.pv_base.specs.declared.limits.TheConstants.{MAX_INPUT, MAX_SENT}
 use Rattle.pv_io.specs.SinkEffects.{WritesPrefix}
 use Rattle.pv_io.specs.declared.sink.Sink.{Ghosts}
 use Rattle.pv_run.specs.declared.status.Status.{Status}
-use Rattle.pv_run.specs.declared.status.Status.TheVariants.{Done, Usage, Malformed, ReadFault, WriteFault, TooLong, NoMemory, SentLimit, BayFault, NotEmpty}
+use Rattle.pv_run.specs.declared.status.Status.TheVariants.{Done, Usage, Malformed, ReadFault, WriteFault, TooLong, NoMemory, SentLimit, BayFault, NotEmpty, Refuted, Limit}
 use Rattle.pv_model.specs.LineCauses.{LineCause}
 use Rattle.pv_model.specs.Events.{Schedule}
 use Rattle.pv_script.specs.CauseTexts.{refused_text}
 use Rattle.pv_run.specs.Forms.{lines_in}
+use Rattle.pv_run.specs.Traced.{trace_of, trace_within}
 use Rattle.pv_run.specs.declared.form.Form.{Form}
+use Rattle.pv_run.specs.declared.form.Form.TheVariants.{Text, Json, Trace}
 use Rattle.pv_model.specs.ReplyText.{line_feed}
 use Rattle.pv_model.specs.Schedule.{IsSchedule, IsMalformedSchedule}
 use Rattle.pv_protocol.specs.Limit.{Output, run_within}
@@ -35,6 +37,18 @@ output_of form schedule = lines_in form schedule.catalog (printed (setup_of sche
 abbrev pub output_within : Form → Schedule → List ℕ
 output_within form schedule = lines_in form schedule.catalog (within_limit schedule).lines
 
+-- all that is written of it, where the schedule is this text, whose lines a trace has too
+abbrev pub written_of : Form → List ℕ → Schedule → List ℕ
+written_of Text text schedule = output_of Text schedule
+written_of Json text schedule = output_of Json schedule
+written_of Trace text schedule = trace_of text schedule
+
+-- and what is written of it within the limit
+abbrev pub written_within : Form → List ℕ → Schedule → List ℕ
+written_within Text text schedule = output_within Text schedule
+written_within Json text schedule = output_within Json schedule
+written_within Trace text schedule = trace_within text schedule
+
 -- What has to be answered to a text that is to be a schedule, and the status with it. Where it is one, that is the `whole` of its run; where the
 -- messages of an event pass the limit, what there is of it `within` the limit. Where it is malformed, it is the first line at fault and why. To a text
 -- that is longer than it may be it is nothing at all.
@@ -49,9 +63,9 @@ IsAnswer whole within input Malformed output =
 IsAnswer whole within input TooLong output = (MAX_INPUT < length input) × (output ≡ [])
 IsAnswer whole within input _ output = ⊥
 
--- What a run answers to its input: the lines of the run in this form, and those of the events before the limit is passed.
+-- What a run answers to its input: what is written of the run in this form, and of the events before the limit is passed.
 abbrev pub IsRunAnswer : Form → List ℕ → Status → List ℕ → Type 0
-IsRunAnswer form = IsAnswer (output_of form) (output_within form)
+IsRunAnswer form input = IsAnswer (written_of form input) (written_within form input) input
 
 -- What is answered to a made schedule: the summary of its run, and nothing where the limit is passed.
 abbrev pub IsSummaryAnswer : List ℕ → Status → List ℕ → Type 0
@@ -89,3 +103,5 @@ exit_code NoMemory = 7
 exit_code SentLimit = 8
 exit_code BayFault = 9
 exit_code NotEmpty = 10
+exit_code Refuted = 11
+exit_code Limit = 12

@@ -5,4 +5,5 @@ pub mod InputAnswers
 pub mod KeptDisks
 pub mod Statuses
 pub mod Summary
+pub mod Traced
 pub mod WriteEndView

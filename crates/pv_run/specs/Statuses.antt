@@ -30,7 +30,7 @@ abbrev pub unwritten_status : WriteEnd → Status
 unwritten_status unwritten.WriteFault = WriteFault
 unwritten_status unwritten.NoMemory = NoMemory
 
--- of `run` and `json`
+-- of `run`, `json` and `trace`
 abbrev pub run_status : Result TextEnd ReadEnd → Status
 run_status (Ok end) = text_status end
 run_status (Err why) = unread_status why

@@ -6,11 +6,12 @@ ghost use Rattle.pv_model.specs.Schedule.{IsSchedule};
 ghost use Rattle.pv_protocol.specs.WellFormed.{IsWellFormed};
 ghost use Rattle.pv_run.specs.Ends.{AnswersRun, EndsBig};
 ghost use Rattle.pv_run.specs.Headline.{KeepsPromises};
-ghost use Rattle.pv_run.specs.InputAnswers.{Answers, IsRunAnswer, IsSummaryAnswer, output_of, output_within, fault_text};
+ghost use Rattle.pv_run.specs.InputAnswers.{Answers, IsRunAnswer, IsSummaryAnswer, fault_text, written_of, written_within};
 ghost use Rattle.pv_run.specs.KeptDisks.{KeepsSites, last_world};
 ghost use Rattle.pv_run.specs.Statuses as ends;
 ghost use Rattle.pv_run.specs.Statuses.{text_status};
 ghost use Rattle.pv_run.specs.Summary.{summary_of};
+ghost use Rattle.pv_run.specs.Traced.{IsTraced, trace_of};
 ghost use Rattle.pv_run.specs.WriteEndView.{IsWriteFault};
 ghost use Rattle.pv_run.specs.declared.status.Status.{Status};
 ghost use Rattle.pv_script.specs.ScheduleView.{HasPlan, schedule_of};
@@ -32,7 +33,7 @@ use pv_law_world::schedules_are_well_formed;
 use pv_script::{LineCause, Schedule, ScriptError, make, read_schedule};
 use std::alloc::Global;
 
-/// Runs the schedule that the text is, and writes what that prints in this form, or the first line at fault. Takes time in proportion to the text,
+/// Runs the schedule that the text is, and writes what that prints in this form, a trace with the text's own lines, or the first line at fault. Takes time in proportion to the text,
 /// what is printed and what the events send and touch. At [`TextEnd::Done`] the bay is given the disk of each site to keep, as the run left it.
 pub fn run_text<W: Sink, B: Bay>(
     alloc: Global,
@@ -59,7 +60,7 @@ fn answer<W: Sink, B: Bay>(
     bay: &mut B,
 ) -> TextEnd
     requires { length input.now ≤ MAX_INPUT }
-    ensures answered { Answers W.Sink (output_of form) (output_within form) input.now (text_status result) sink.old sink.new }
+    ensures answered { Answers W.Sink (written_of form input.now) (written_within form input.now) input.now (text_status result) sink.old sink.new }
     ensures prefix { (status : Status) (output : List ℕ) → IsRunAnswer form input.now status output →
         WritesPrefix W.Sink sink.old sink.new output }
     ensures some { (status : Status) (output : List ℕ) → IsRunAnswer form input.now status output → result ≡ TextEnd.WriteFault → output ≢ [] }
@@ -70,7 +71,7 @@ fn answer<W: Sink, B: Bay>(
 {
     schedules_are_well_formed();
     match read_schedule(alloc, input) {
-        Ok(schedule) => end_of_run(run(alloc, &schedule, form, sink, bay)),
+        Ok(schedule) => end_of_run(run(alloc, input, &schedule, form, sink, bay)),
         Err(ScriptError::Malformed { line, cause }) => {
             end_of_refusal(refuse(alloc, line, cause, sink))
         }
@@ -209,6 +210,11 @@ pub fn promises_are_kept()
     texts_answer();
     texts_refuse_for_causes();
 }
+
+/// The trace of each schedule is that of its text, line by line.
+pub fn traces_have_each_line()
+    ensures { (input : List ℕ) (schedule : model.Schedule) → IsSchedule input schedule → IsTraced (setup_of schedule.catalog) input (trace_of input schedule) }
+{}
 
 /// A text has one answer in each form: one status, and one output with it.
 pub fn answers_are_one()

@@ -14,6 +14,8 @@ pub enum Form {
     Text,
     /// Each as a JSON object.
     Json,
+    /// Each as text, and before those of each event the line of the schedule that it is.
+    Trace,
 }
 
 impl Form {
@@ -33,6 +35,7 @@ impl Form {
         match self {
             Form::Text => push_line(text, line, catalog),
             Form::Json => push_json(text, line, catalog),
+            Form::Trace => push_line(text, line, catalog),
         }
     }
 }

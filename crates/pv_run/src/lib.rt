@@ -1,4 +1,4 @@
-//! What a run of a schedule in memory writes, and the promises that it keeps: its lines as text or as JSON, or their summary, and the status.
+//! What a run of a schedule in memory writes, and the promises that it keeps: its lines as text or as JSON, alone or in a trace, or their summary, and the status.
 #![tactic(auto)]
 
 mod answers;
@@ -6,6 +6,7 @@ mod commands;
 mod form;
 mod printed;
 mod running;
+mod said;
 mod status;
 mod summary;
 mod text_end;
@@ -13,7 +14,7 @@ mod write_end;
 
 pub use answers::{
     answers_are_one, answers_exist, promises_are_kept, refuse, run_text, summaries_are_one,
-    write_summary_of_number,
+    traces_have_each_line, write_summary_of_number,
 };
 pub use commands::{
     read_and_run, status_of_big, status_of_make, status_of_run, status_of_unread, write_made,

@@ -25,6 +25,10 @@ pub enum Status {
     BayFault = 9,
     /// A disk on which a site was to start isn't empty. Nothing was written.
     NotEmpty = 10,
+    /// A trace is refuted: a report in it doesn't agree with the serial run of its order. Which one was written, and where.
+    Refuted = 11,
+    /// A trace isn't judged to its end, since too many outcomes are open together. At which report, and how many, was written.
+    Limit = 12,
 }
 
 impl Status {

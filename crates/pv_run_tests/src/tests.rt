@@ -1,4 +1,4 @@
-// A run of a text in memory, the disks that it leaves, and what is written where a read, a write or a request for memory fails.
+// A run of a text in memory, its trace, the disks that it leaves, and what is written where a read, a write or a request for memory fails.
 use pv_base::SiteId;
 use pv_disk::MemBay;
 use pv_io::{MemSink, MemSource};
@@ -24,6 +24,40 @@ fn a_text_is_run_and_its_disks_are_kept(rt: HostRuntime) -> Result<(), Fail> {
     assert!(rt; bay.kept(SiteId(0)).is_some());
     assert!(rt; bay.kept(SiteId(1)).is_some());
     assert!(rt; bay.kept(SiteId(2)).is_none());
+    Ok(())
+}
+
+// The same schedule with what doesn't count: a comment, an empty line, blanks at the ends of lines, carriage returns, no line feed at the end.
+const SPACED: &str =
+    "# a transfer\n\tsites 2  \r\nitem a 0 100\n\n item b 1 50\nsubmit 0 a := a - 10 ; b := b + 10\t\r\n  pump\nreport ";
+
+const DECLARED: &str = "> sites 2\n> item a 0 100\n> item b 1 50\n";
+
+const TRACED: &str =
+    "> submit 0 a := a - 10 ; b := b + 10\ntxn 0.1.0\n> pump\ncommit 0.1.0 certain nothing\n> report\norder 0.1.0\ncommitted 0.1.0\nopen\nitem a 90\nitem b 60\nend\n";
+
+#[test]
+fn a_trace_has_the_lines_of_its_schedule(rt: HostRuntime) -> Result<(), Fail> {
+    let alloc = rt.alloc();
+    let mut sink = MemSink::new(alloc, Vec::new(alloc));
+    let mut bay = MemBay::new(Vec::new(alloc))?;
+    let end = run_text(alloc, SPACED.as_bytes(), Form::Trace, &mut sink, &mut bay);
+    assert_eq!(rt; end, TextEnd::Done);
+    assert!(rt; sink.bytes().starts_with(DECLARED.as_bytes()));
+    assert!(rt; sink.bytes().ends_with(TRACED.as_bytes()));
+    assert!(rt; sink.bytes().len() == DECLARED.len().wrapping_add(TRACED.len()));
+    Ok(())
+}
+
+// The lines that declare something are written before the first event is, so they stand there where that can't be written.
+#[test]
+fn what_is_declared_is_written_first(rt: HostRuntime) -> Result<(), Fail> {
+    let alloc = rt.alloc();
+    let mut sink = MemSink::new(alloc, [1].as_slice().to_vec(alloc)?);
+    let mut bay = MemBay::new(Vec::new(alloc))?;
+    let end = run_text(alloc, SPACED.as_bytes(), Form::Trace, &mut sink, &mut bay);
+    assert_eq!(rt; end, TextEnd::WriteFault);
+    assert_eq!(rt; sink.bytes(), DECLARED.as_bytes());
     Ok(())
 }
 

@@ -1,11 +1,13 @@
 -- Each event's step is one step of the run.
-use Rattle.std.proofs.Common.{◌≡◌, ◌≢◌, ◌≤◌, rules, arith, [], Err, Some, ℕ, All, List, refl, sym, ap, length, map, ◌∙◌, subst, add-one}
+use Rattle.std.proofs.Common.{◌≡◌, ◌≢◌, ◌≤◌, ◌-◌, ◌++◌, rules, arith, [], Err, Some, ℕ, suc, All, List, drop, refl, sym, ap, length, map, take, vec_len, ◌∙◌, subst, add-one}
 use Rattle.std.proofs.KnownBytes.{Appends-nil}
+use Rattle.std.proofs.lemmas.List.{length-map}
 use Rattle.std.specs.Io.KnownBytes.{Appends}
 use Rattle.pv_base.specs.Catalog.{Declared}
 use Rattle.pv_io.specs.Stream.{AppendsPrefix}
 use Rattle.pv_law_lines.proofs.LineItems.{lines-name-items}
-use Rattle.pv_protocol.specs.Limit.{Output}
+use Rattle.pv_model.specs.Schedule.{significant}
+use Rattle.pv_model.specs.Text.{TextLine}
 use Rattle.pv_protocol.specs.Lines.{Line}
 use Rattle.pv_protocol.specs.WellFormed.{IsWellFormed}
 use Rattle.pv_report.specs.NamesOnlyItems.{NamesOnlyItems}
@@ -14,18 +16,56 @@ use Rattle.pv_script.specs.ScheduleView.{event_of, schedule_of}
 use Rattle.pv_site.specs.SiteState.{setup_of}
 use Rattle.pv_world.specs.Steps.{Steps}
 use Rattle.pv_world.specs.declared.error.WorldError.{WorldError}
-use Rattle.pv_run.specs.Forms.{lines_in}
-use Rattle.pv_run.specs.InputAnswers.{output_within}
+use Rattle.pv_run.specs.InputAnswers.{written_within}
+use Rattle.pv_run.specs.Traced.{event_text, said_texts}
 use Rattle.pv_run.specs.KeptDisks.{KeepsSites}
 use Rattle.pv_protocol.specs.World as model
 use Rattle.pv_run.proofs.KeepLemmas.{hold-count, last-is}
-use Rattle.pv_run.proofs.OutputLemmas.{AppendsPrefix-none, on_any_err}
-use Rattle.pv_run.proofs.RunLemmas.{IsUnderWay, All-next, drop-events_of, left_at, left-at-end, no_lines, start, world_at, go_on, give_up, passes, printed-by, stands-after, within-after}
+use Rattle.pv_run.proofs.OutputLemmas.{AppendsPrefix-front, AppendsPrefix-none, both-empty, on_any_err}
+use Rattle.pv_run.proofs.RunLemmas.{IsUnderWay, All-next, course-start, drop-events_of, give_up, go_on, no_text, opens, passes, printed-by, stands-after, start, text-at-end, text-none, text_at, within-after, world_at}
 use Rattle.pv_run.proofs.running.run.Goals as goal
 
 pub loop-event-init : goal.loop-event-init
 loop-event-init g c =
-    start g.W.Sink c.args.form c.args.sink.now (schedule_of c.args.schedule.now) c.in_ok-world.world c.in_ok-world.ensures.stands c.in_ok-world.ensures.catalog c.in_ok-world.ensures.limit
+    let form = c.args.form in
+    let input = c.args.input.now in
+    let schedule = schedule_of c.args.schedule.now in
+    let world = c.in_ok-world.ensures in
+    let all = significant c.said_in-all.result.now in
+    let count : vec_len c.args.schedule.now.events ≡ length c.args.schedule.now.events.items = search rules in
+    let last = c.len.result in
+    let front = length all - last in
+    let writes = c.in_ok-said.ensures.writes in
+    start g.W.Sink form (written_within form input schedule) (said_texts (take front all)) c.args.sink.now c.write_front.new.sink schedule c.in_ok-world.world
+    (drop front all) (significant c.in_ok-said.said.now) (course-start schedule c.in_ok-world.world world.stands world.catalog world.limit)
+    (opens form input schedule all last c.said_in-all.ensures (c.len.ensures ∙ count ∙ sym (length-map c.args.schedule.now.events.items event_of)))
+    c.in_ok-said.ensures.rest writes.written writes.known writes.counted writes.none
+
+pub returns-in_err-said-clause-writes : goal.returns-in_err-said-clause-writes
+returns-in_err-said-clause-writes g c =
+    let form = c.args.form in
+    let input = c.args.input.now in
+    let schedule = schedule_of c.args.schedule.now in
+    let old = g.W.Sink.held c.args.sink.now in
+    let new = g.W.Sink.held c.write_front.new.sink in
+    let all = significant c.said_in-all.result.now in
+    let count : vec_len c.args.schedule.now.events ≡ length c.args.schedule.now.events.items = search rules in
+    let last = c.len.result in
+    let front = said_texts (take (length all - last) all) in
+    let rest = text_at form schedule (drop (length all - last) all) 0 in
+    let both : written_within form input schedule ≡ front ++ rest =
+    opens form input schedule all last c.said_in-all.ensures (c.len.ensures ∙ count ∙ sym (length-map c.args.schedule.now.events.items event_of)) in
+    let failed = c.in_err-said.ensures.writes in
+    let more : front ≢ [] → written_within form input schedule ≢ [] = λ some none. some (both-empty front rest (sym both ∙ none)).0 in
+    record {
+      written = search rules;
+      prefix = on_any_err c.from_residual-in_err-said.result _ (subst (AppendsPrefix old new) (sym both) (AppendsPrefix-front old new front rest failed.prefix));
+      known = failed.known;
+      fault = search rules;
+      counted = failed.counted;
+      none = λ none. failed.none (both-empty front rest (sym both ∙ none)).0;
+      some = search (rules, more, failed.some);
+    }
 
 pub step-requires-clause-event : goal.step-requires-clause-event
 step-requires-clause-event g c =
@@ -37,8 +77,8 @@ step-requires-clause-event g c =
     subst (λ (catalog : Declared). IsWellFormed catalog (event_of event)) (sym c.loop-event.invariant.course.catalog)
     (All-next (IsWellFormed schedule.catalog) schedule.events i (event_of event) _ c.requires.well_formed split)
 
-pub write_lines-requires : goal.write_lines-requires
-write_lines-requires g c =
+pub write_event-requires : goal.write_event-requires
+write_event-requires g c =
     let world = c.loop-event.world in
     let is = world_at (schedule_of c.args.schedule.now) c.loop-event.event-index in
     let event = event_of c.event-item.result in
@@ -48,9 +88,11 @@ write_lines-requires g c =
 
 pub loop-event-preserved : goal.loop-event-preserved
 loop-event-preserved g c =
+    let form = c.args.form in
     let first = c.args.sink.now in
     let now = c.loop-event.sink in
-    let next = c.write_lines.new.sink in
+    let said = significant c.loop-event.said.now in
+    let next = c.write_event.new.sink in
     let schedule = schedule_of c.args.schedule.now in
     let events = c.deref-event-items.result.now in
     let world = c.loop-event.world in
@@ -58,21 +100,25 @@ loop-event-preserved g c =
     let i = c.loop-event.event-index in
     let event = event_of c.event-item.result in
     let way = c.loop-event.invariant in
+    let all = written_within form c.args.input.now schedule in
     let split = drop-events_of events c.args.schedule.now.events.items c.deref-event-items.ensures.value i c.event-item.result c.loop-event-test.true c.event-item.is in
     let steps = c.in-Ok.ensures (world_at schedule i) way.course.stands in
     let printed = printed-by schedule world i event way.course split (map line_of c.deref.result.now) (ap (map line_of) c.deref.ensures.value ∙ steps.2) in
-    let writes = c.in_ok-write_lines-in-Ok.ensures in
-    let written = subst (λ (ls : List Line). Appends (g.W.Sink.held now) (g.W.Sink.held next) (lines_in c.args.form schedule.catalog ls)) printed writes.written in
-    let same = subst (λ (ls : List Line). lines_in c.args.form schedule.catalog ls ≡ [] → next ≡ now) printed writes.none in
-    subst (λ (k : ℕ). IsUnderWay g.W.Sink c.args.form first next schedule new k) (sym (add-one i))
-    (go_on g.W.Sink c.args.form first now next schedule world i event way split (within-after schedule world i event way.course split new steps.0 steps.1)
-    new (stands-after schedule world i event way.course split new steps.0) steps.1 written writes.known writes.counted same)
+    let writes = c.in_ok-said-in-Ok.ensures.writes in
+    let written = subst (λ (ls : List Line). Appends (g.W.Sink.held now) (g.W.Sink.held next) (event_text form schedule.catalog said ls)) printed writes.written in
+    let same = subst (λ (ls : List Line). event_text form schedule.catalog said ls ≡ [] → next ≡ now) printed writes.none in
+    subst (λ (k : ℕ). IsUnderWay g.W.Sink form all first next schedule new (significant c.in_ok-said-in-Ok.said.now) k) (sym (add-one i))
+    (subst (λ (left : List TextLine). IsUnderWay g.W.Sink form all first next schedule new left (suc i)) (sym c.in_ok-said-in-Ok.ensures.rest)
+    (go_on g.W.Sink form all first now next schedule world said i event way split (within-after schedule world i event way.course split new steps.0 steps.1)
+    new (stands-after schedule world i event way.course split new steps.0) steps.1 written writes.known writes.counted same))
 
-pub returns-in_err-write_lines-in-Ok-clause-writes : goal.returns-in_err-write_lines-in-Ok-clause-writes
-returns-in_err-write_lines-in-Ok-clause-writes g c =
+pub returns-in_err-said-in-Ok-clause-writes : goal.returns-in_err-said-in-Ok-clause-writes
+returns-in_err-said-in-Ok-clause-writes g c =
+    let form = c.args.form in
     let first = c.args.sink.now in
     let now = c.loop-event.sink in
-    let next = c.write_lines.new.sink in
+    let said = significant c.loop-event.said.now in
+    let next = c.write_event.new.sink in
     let schedule = schedule_of c.args.schedule.now in
     let events = c.deref-event-items.result.now in
     let world = c.loop-event.world in
@@ -80,19 +126,20 @@ returns-in_err-write_lines-in-Ok-clause-writes g c =
     let i = c.loop-event.event-index in
     let event = event_of c.event-item.result in
     let way = c.loop-event.invariant in
+    let all = written_within form c.args.input.now schedule in
     let split = drop-events_of events c.args.schedule.now.events.items c.deref-event-items.ensures.value i c.event-item.result c.loop-event-test.true c.event-item.is in
     let steps = c.in-Ok.ensures (world_at schedule i) way.course.stands in
     let printed = printed-by schedule world i event way.course split (map line_of c.deref.result.now) (ap (map line_of) c.deref.ensures.value ∙ steps.2) in
-    let failed = c.in_err-write_lines-in-Ok.ensures in
-    let written = subst (λ (ls : List Line). AppendsPrefix (g.W.Sink.held now) (g.W.Sink.held next) (lines_in c.args.form schedule.catalog ls)) printed failed.prefix in
-    let same = subst (λ (ls : List Line). lines_in c.args.form schedule.catalog ls ≡ [] → next ≡ now) printed failed.none in
-    let empty = no_lines g.W.Sink c.args.form first now schedule world i event way split (within-after schedule world i event way.course split new steps.0 steps.1) in
-    let more : lines_in c.args.form schedule.catalog (map line_of c.deref.result.now) ≢ [] → output_within c.args.form schedule ≢ [] =
-    λ some none. some (ap (lines_in c.args.form schedule.catalog) printed ∙ empty none) in
+    let failed = c.in_err-said-in-Ok.ensures.writes in
+    let written = subst (λ (ls : List Line). AppendsPrefix (g.W.Sink.held now) (g.W.Sink.held next) (event_text form schedule.catalog said ls)) printed failed.prefix in
+    let same = subst (λ (ls : List Line). event_text form schedule.catalog said ls ≡ [] → next ≡ now) printed failed.none in
+    let empty = no_text g.W.Sink form all first now schedule world said i event way split (within-after schedule world i event way.course split new steps.0 steps.1) in
+    let more : event_text form schedule.catalog said (map line_of c.deref.result.now) ≢ [] → all ≢ [] =
+    λ some none. some (ap (event_text form schedule.catalog said) printed ∙ empty none) in
     record {
       written = search rules;
-      prefix = on_any_err c.from_residual-in_err-write_lines-in-Ok.result _
-          (give_up g.W.Sink c.args.form first now next schedule world i event way split (within-after schedule world i event way.course split new steps.0 steps.1) written);
+      prefix = on_any_err c.from_residual-in_err-said-in-Ok.result _
+          (give_up g.W.Sink form all first now next schedule world said i event way split (within-after schedule world i event way.course split new steps.0 steps.1) written);
       known = failed.known ∙ way.known;
       fault = search rules;
       counted = omega (arith, way.counted, failed.counted);
@@ -122,9 +169,9 @@ returns-in-Err-SentLimit-clause-writes g c =
     let split = drop-events_of events c.args.schedule.now.events.items c.deref-event-items.ensures.value i c.event-item.result c.loop-event-test.true c.event-item.is in
     let steps = subst (λ (e : WorldError). Steps c.loop-event.world c.step.new.self (event_of c.event-item.result) (world_at schedule i) (Err e)) c.in-Err-SentLimit.field-0-is
     (c.in-Err-SentLimit.ensures (world_at schedule i) way.course.stands) in
-    let none = (passes schedule c.loop-event.world i (event_of c.event-item.result) way.course split c.in-Err-SentLimit.total steps).1 in
+    let none = text-none schedule c.loop-event.world i (event_of c.event-item.result) way.course split c.args.form (significant c.loop-event.said.now) c.in-Err-SentLimit.total steps in
     record {
-      written = way.whole now (subst (λ (ls : List Line). Appends now now (lines_in c.args.form schedule.catalog ls)) (sym none) (Appends-nil now));
+      written = way.whole now (subst (Appends now now) (sym none) (Appends-nil now));
       prefix = tt;
       known = way.known;
       fault = tt;
@@ -140,7 +187,7 @@ returns-in-Err-NoMemory-clause-writes g c =
     let way = c.loop-event.invariant in
     record {
       written = tt;
-      prefix = way.prefix now (AppendsPrefix-none now (lines_in c.args.form schedule.catalog (left_at schedule c.loop-event.event-index).lines));
+      prefix = way.prefix now (AppendsPrefix-none now (text_at c.args.form schedule (significant c.loop-event.said.now) c.loop-event.event-index));
       known = way.known;
       fault = search rules;
       counted = way.counted;
@@ -156,9 +203,9 @@ returns-clause-writes g c =
     let same = ap length c.deref-event-items.ensures.value in
     let end : length items ≤ c.loop-event.event-index = omega (arith, same, c.loop-event-test.false) in
     let way = c.loop-event.invariant in
-    let none = ap (λ (o : Output). o.lines) (left-at-end schedule items c.loop-event.event-index refl end) in
+    let none = text-at-end c.args.form schedule (significant c.loop-event.said.now) items c.loop-event.event-index refl end in
     record {
-      written = way.whole now (subst (λ (ls : List Line). Appends now now (lines_in c.args.form schedule.catalog ls)) (sym none) (Appends-nil now));
+      written = way.whole now (subst (Appends now now) (sym none) (Appends-nil now));
       prefix = tt;
       known = way.known;
       fault = tt;
