@@ -1,5 +1,5 @@
 -- What a call comes to, by where it ends.
-use Rattle.std.proofs.Common.{◌≡◌, ℕ, ℤ, Bool, true, false, Result, Ok, Err, List, refl, sym, ap, subst, ◌∙◌}
+use Rattle.std.proofs.Common.{◌≡◌, ℕ, ℤ, Bool, true, false, Result, Ok, Err, List, inl, inr, refl, sym, ap, subst, ◌∙◌}
 use Rattle.pv_disk_model.specs.Log.{Keeps, StaysUp}
 use Rattle.pv_disk_model.specs.LogModel.{LogModel}
 use Rattle.pv_disk_model.proofs.LogLemmas.{Keeps-refl, keeping_may_add}
@@ -42,6 +42,7 @@ module _ {W : Type 0} (M : LogModel W) (old : OutboxState W) (usable : IsUsable 
       outbox = same-box new (record old { is_down = true; log = new.log }) state down refl;
       down = room.0;
       log = keeping_may_add M old.log new.log bytes usable.intact (usable.up up) room.1;
+      asked = record { within = room.2; calls = inl (refl, room.3) };
     }
     fails-room X new Down room down state = absurd room
     fails-room X new (Full with_it) room down state = record {
@@ -71,13 +72,14 @@ module _ {W : Type 0} (M : LogModel W) (old : OutboxState W) (usable : IsUsable 
       fails-append Y new Again done down state = absurd done
       fails-append Y new (Known outcome) done down state = absurd done
       fails-append Y new Failed done down state =
-          let failed = may-add-after M old.log mid new.log bytes usable.intact room.0 room.1 done in
+          let failed = may-add-after M old.log mid new.log bytes usable.intact room.0 room.1 (done.0, done.1) in
           record {
             bytes = bytes;
             spelled = spelled;
             outbox = same-box new (record old { is_down = true; log = new.log }) state down refl;
             down = failed.0;
             log = failed.1;
+            asked = record { within = room.3; calls = inr (mid, room.4, inl (refl, done.2)) };
           }
       fails-append Y new Down done down state = absurd done
       fails-append Y new (Full with_it) done down state = absurd done
@@ -86,7 +88,7 @@ module _ {W : Type 0} (M : LogModel W) (old : OutboxState W) (usable : IsUsable 
       pub written-append : (new : OutboxState W) {Y : Type 0} (y : Y) → AppendsBytes M mid new.log bytes (Ok y) → new.is_down ≡ false
           → new.state ≡ after old.state entry → Writes M old new entry
       written-append new y done down state =
-          let added = adds-after M old.log mid new.log bytes usable.intact room.0 room.1 done in
+          let added = adds-after M old.log mid new.log bytes usable.intact room.0 room.1 (done.0, done.1) in
           record {
             bytes = bytes;
             spelled = spelled;
@@ -94,6 +96,7 @@ module _ {W : Type 0} (M : LogModel W) (old : OutboxState W) (usable : IsUsable 
             is_up = down;
             up = added.0;
             log = added.1;
+            asked = record { within = room.3; calls = inr (mid, room.4, inr (new.log, done.2, (refl, refl))) };
           }
 
 -- A call that is refused because its record isn't written comes to the same, by its error.

@@ -1,8 +1,9 @@
 -- What the calls of an outbox do, by their answers.
-use Rattle.std.specs.Prelude.{◌≡◌, ℕ, ℤ, ◌+◌, ◌<◌, Bool, true, false, List, length, Option, Some, None, Result, Ok, Err}
+use Rattle.std.specs.Prelude.{◌≡◌, ℕ, ℤ, ◌+◌, ◌<◌, Bool, true, false, List, [], ◌∷◌, length, Option, Some, None, Result, Ok, Err}
 use Rattle.pv_base.specs.Polyvalue.{Case}
 use Rattle.pv_base.specs.declared.txn.TxnId.{TxnId}
-use Rattle.pv_disk_model.specs.Log.{Keeps, Adds, MayAdd, StaysUp, GoesDown}
+use Rattle.pv_disk_model.specs.Calls.{Makes, append, reserve}
+use Rattle.pv_disk_model.specs.Log.{Keeps, Adds, MayAdd, StaysUp, GoesDown, IsWithin}
 use Rattle.pv_disk_model.specs.LogModel.{LogModel}
 use Rattle.pv_law_outbox.specs.Ready.{NoneReady}
 use Rattle.pv_law_outbox.specs.Runs.{MayWrite}
@@ -13,6 +14,11 @@ use Rattle.pv_outbox.specs.declared.error.BoxError.{BoxError}
 use Rattle.pv_outbox.specs.declared.error.BoxError.TheVariants.{Again, Known, Failed, Full, NoMemory}
 
 module _ {W : Type 0} (M : LogModel W) where
+  -- Of a log that has room within its limit, the calls by which these bytes are appended, and whether all of them succeed. For those who know what the log is.
+  pub record IsAsked (old new : W) (bytes : List ℕ) (ok : Bool) : Type 0 where
+    pub within : IsWithin M old (length bytes)
+    pub calls : Makes M.goes old (reserve (length bytes) ∷ append bytes ∷ []) ok new
+
   -- The record is in the log, by bytes that spell it, and the outbox knows what it says. What a crash leaves at each moment is said with `Adds`.
   pub record Writes (old new : OutboxState W) (entry : Record) : Type 0 where
     pub bytes : List ℕ
@@ -21,6 +27,7 @@ module _ {W : Type 0} (M : LogModel W) where
     pub is_up : new.is_down ≡ false
     pub up : StaysUp M old.log new.log
     pub log : Adds M old.log new.log bytes
+    pub asked : IsAsked old.log new.log bytes true
 
   -- The log failed at the record, which it holds or doesn't, and the outbox is down.
   pub record Breaks (old new : OutboxState W) (entry : Record) : Type 0 where
@@ -29,6 +36,7 @@ module _ {W : Type 0} (M : LogModel W) where
     pub outbox : new ≡ record old { is_down = true; log = new.log }
     pub down : GoesDown M old.log new.log
     pub log : MayAdd M old.log new.log bytes
+    pub asked : IsAsked old.log new.log bytes false
 
   -- With the record the log would have this length, above its limit, and nothing changed.
   pub record IsFull (old new : OutboxState W) (entry : Record) (with_it : ℕ) : Type 0 where

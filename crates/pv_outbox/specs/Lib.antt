@@ -1,5 +1,6 @@
 pub mod Calls
 pub mod Covers
+pub mod Lending
 pub mod Life
 pub mod MemoryView
 pub mod Next

@@ -24,6 +24,13 @@ pub fn records_follow_calls<L: Log>()
         StandsFor L.model old entries contents → Stays L.model old new → StandsFor L.model new entries contents }
 {}
 
+/// Contents spell the records of one outbox at most, and with a record more they have its bytes more.
+pub fn contents_tell_records()
+    ensures one { (entries others : List Record) (contents : Contents) → SpellRecords entries contents → SpellRecords others contents → entries ≡ others }
+    ensures more { (entries : List Record) (contents : Contents) (entry : Record) (bytes : List ℕ) → SpellRecords entries contents → SpellsRecord entry bytes →
+        SpellRecords (entries ++ entry ∷ []) (contents ++ bytes ∷ []) }
+{}
+
 /// Where it is known what the log holds, a crash at any moment of a call that writes a record, whether the log fails or not, leaves the contents
 /// from before, or these with the record's; and after a call that is answered with `Ok` it leaves the record's.
 pub fn a_stop_leaves_the_record_or_not<L: Log>()

@@ -14,5 +14,7 @@ mod waiting;
 mod writing;
 
 pub use error::{BoxError, OpenOutbox};
-pub use laws::{a_stop_leaves_the_record_or_not, lives_are_runs, records_follow_calls};
+pub use laws::{
+    a_stop_leaves_the_record_or_not, contents_tell_records, lives_are_runs, records_follow_calls,
+};
 pub use outbox::Outbox;

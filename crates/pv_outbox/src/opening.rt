@@ -1,5 +1,6 @@
 // What an outbox that is opened reads of its log, and why it isn't opened.
-ghost use Rattle.std.specs.Prelude.{◌≡◌, ◌+◌, ◌-◌, ◌^◌, min, length, false};
+ghost use Rattle.std.specs.Prelude.{◌≡◌, ◌+◌, ◌-◌, ◌^◌, min, length, true, false, IfOk};
+ghost use Rattle.pv_disk_model.specs.Calls.{read_all};
 ghost use Rattle.pv_disk_model.specs.Size.{size_of};
 ghost use Rattle.pv_outbox.specs.Opens.{Loads, Reads, refused_with};
 ghost use Rattle.pv_outbox.specs.Values.{contents_of};
@@ -54,6 +55,7 @@ pub(crate) fn load<L: Log>(log: &mut L, alloc: Global) -> Result<Facts, Refusal>
     requires intact { L.model.is_intact log.old }
     requires up { L.model.is_down log.old ≡ false }
     ensures loaded { Loads L.model log.old log.new result }
+    ensures reads { IfOk result (λ facts. L.model.goes log.old read_all true log.new) }
     ensures intact { L.model.is_intact log.new }
 {
     let contents = match log.read_all() {

@@ -1,6 +1,7 @@
 // An outbox over a log: what it holds, learns and releases.
 ghost use Rattle.std.specs.Prelude.{◌≡◌, ◌<◌, ℕ, true, false, List, Err, IfOk, IfErr};
 ghost use Rattle.pv_base.specs.declared.limits.TheConstants.{MAX_SITES};
+ghost use Rattle.pv_disk_model.specs.Calls.{read_all};
 ghost use Rattle.pv_format.specs.PolyvalueSpelling.{SpellsPolyvalue};
 ghost use Rattle.pv_outbox.specs.Calls.{Holds, Learns, Takes};
 ghost use Rattle.pv_outbox.specs.Opens.{Opens, log_in};
@@ -45,6 +46,10 @@ impl<L: Log> Model for Outbox<L> {
 }
 
 impl<L: Log> Outbox<L> {
+    ghost use Rattle.std.specs.Borrow.{Lends, sem};
+    ghost use Rattle.pv_outbox.specs.contracts.outbox.Outbox.{the_row};
+    ghost use Rattle.pv_outbox.specs.Lending.{with_log};
+
     /// Opens an outbox on its log. Takes time in proportion to the log.
     ///
     /// The log isn't down. It comes back in each refusal, of which the first one is answered that there is:
@@ -58,6 +63,7 @@ impl<L: Log> Outbox<L> {
         requires up { L.model.is_down log ≡ false }
         ensures opened { Opens L.model log result }
         ensures usable { IfOk result (IsUsable L.model) }
+        ensures reads { IfOk result (λ outbox. L.model.goes log read_all true outbox.log) }
         ensures intact { IfErr result (λ refused. L.model.is_intact (log_in refused)) }
     {
         let mut log = log;
@@ -152,6 +158,15 @@ impl<L: Log> Outbox<L> {
         append(&mut self.log, &mut self.down, &bytes)?;
         self.memory.take(output);
         Ok(Some(output))
+    }
+
+    /// The log, lent, so that who knows what it stands on can arm that and mend it. Whoever adds to it breaks the outbox: its calls that come after need
+    /// the log as it was.
+    pub fn log(&mut self) -> &mut L
+        ensures* lends { sem 𝓛 (Lends (the_row L.row L.Log) L.row self.entry result (with_log self.old)) }
+        ensures value { result.now ≡ self.old.log }
+    {
+        &mut self.log
     }
 
     /// The log, also of an outbox that is down; to be opened again, it mustn't be down itself. Takes constant time and no memory.
