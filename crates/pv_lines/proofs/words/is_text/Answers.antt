@@ -1,0 +1,9 @@
+-- A line is text where each byte is.
+use Rattle.std.proofs.Common.{rules, tests}
+use Rattle.std.proofs.lemmas.Iterator.{YieldsList-from_slice}
+use Rattle.std.proofs.lemmas.Iterator.Search.{all_from_yields_List}
+use Rattle.pv_model.specs.Text.{is_text_byte}
+use Rattle.pv_lines.proofs.words.is_text.Goals as goal
+
+pub returns : goal.returns
+returns c = all_from_yields_List is_text_byte _ _ c.all.result c.all.ensures.ran (YieldsList-from_slice c.args.line.now cc) (λ x b q k. search (rules, tests))
