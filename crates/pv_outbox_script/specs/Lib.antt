@@ -1,0 +1,5 @@
+pub mod Cases
+pub mod CasesView
+pub mod Held
+pub mod Script
+pub mod Words
