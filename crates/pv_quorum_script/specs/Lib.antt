@@ -1,0 +1,4 @@
+pub mod Fits
+pub mod Reads
+pub mod Script
+pub mod Words
