@@ -204,7 +204,7 @@ module _ {W : Type 0} (M : LogModel W) (me count : ℕ) (down : Bool) (log : W) 
               size = omega (arith, wrote.2.size, stands.size, length-more here.records (record_of entry));
               held = held-more (M.contents log) refl;
             });
-            log = subst (Logs M log new) (sym appends) (wrote.1, wrote.2);
+            log = subst (Logs M log new) (sym appends) (wrote.1, wrote.2, wrote.3);
           }) where
             range : IsInRange (record_of entry)
             range = fits (subst (λ (t : TxnId). t.site.0 < MAX_SITES) (sym of-txn) site)
@@ -235,14 +235,16 @@ module _ {W : Type 0} (M : LogModel W) (me count : ℕ) (down : Bool) (log : W) 
 
       -- The log failed, or there was no memory.
       pub made-broken : (error : QuorumError) (new : W) → Writes M log new (record_of entry) (Err error) → (same_pairs : List (TxnId × Known)) → same_pairs ≡ pairs
-          → (down_now : Bool) → (error ≡ Fault → down_now ≡ true) → (error ≡ NoMemory → down_now ≡ down)
+          → ((txn_in (record_of entry)).site.0 < MAX_SITES → IsInRange (record_of entry)) → (txn_of input).site.0 < MAX_SITES → (down_now : Bool) → (error ≡ Fault → down_now ≡ true) → (error ≡ NoMemory → down_now ≡ down)
           → Steps M before (record before { known = same_pairs; log = new; is_down = down_now }) here (input_of input) (Err error)
-      made-broken Fault new wrote same_pairs same down_now falls stays = record {
+      made-broken Fault new wrote same_pairs same fits site down_now falls stays = record {
         entry = record_of entry;
         was_to = within-appended;
+        range = fits (subst (λ (t : TxnId). t.site.0 < MAX_SITES) (sym of-txn) site);
         decider = λ i. record before { known = same i; log = new; is_down = falls refl i };
         down = wrote.1;
         log = wrote.2;
+        calls = wrote.3;
       } where
         within-appended : (step setup here (input_of input)).appended ≡ Some (record_of entry)
         within-appended =
@@ -250,8 +252,8 @@ module _ {W : Type 0} (M : LogModel W) (me count : ℕ) (down : Bool) (log : W) 
             (λ (b : Bool). if b then record { entries = here.entries; appended = None; sends = []; lines = full here.me (length_of (here.records ++ record_of entry ∷ [])) ∷ [] } else answer)
             (not-below (M.limit log) (length_of (here.records ++ record_of entry ∷ [])) _ refl (omega (arith, length-more here.records (record_of entry), stands.size, wrote.0))))
             ∙ appends
-      made-broken Down new wrote same_pairs same down_now falls stays = absurd wrote
-      made-broken NoMemory new wrote same_pairs same down_now falls stays = record {
+      made-broken Down new wrote same_pairs same fits site down_now falls stays = absurd wrote
+      made-broken NoMemory new wrote same_pairs same fits site down_now falls stays = record {
         decider = λ i. record before { known = same i; log = new; is_down = stays refl i };
         up = wrote.0;
         log = wrote.1;

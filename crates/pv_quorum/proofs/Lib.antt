@@ -9,3 +9,4 @@ pub mod MapLemmas
 pub mod ProposalLemmas
 pub mod SpellingLemmas
 pub mod StepLemmas
+pub mod TellLemmas

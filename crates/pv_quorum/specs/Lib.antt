@@ -1,5 +1,6 @@
 pub mod DeciderState
 pub mod Knows
+pub mod Lending
 pub mod Makes
 pub mod MemoryView
 pub mod Opens

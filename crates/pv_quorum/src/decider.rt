@@ -1,5 +1,6 @@
 // A decider over a log: what it makes of an input.
 ghost use Rattle.std.specs.Prelude.{◌≡◌, ◌<◌, ◌≤◌, [], None, Some, true, false, All, IfOk, IfErr, Err};
+ghost use Rattle.pv_disk_model.specs.Calls.{read_all};
 ghost use Rattle.pv_law_quorum.specs.Decider as rules;
 ghost use Rattle.pv_quorum.specs.DeciderState.{IsInput, IsReady, StandsFor};
 ghost use Rattle.pv_quorum.specs.Knows.{Knows};
@@ -56,6 +57,10 @@ impl<L: Log> Model for Decider<L> {
 }
 
 impl<L: Log> Decider<L> {
+    ghost use Rattle.std.specs.Borrow.{Lends, sem};
+    ghost use Rattle.pv_quorum.specs.contracts.decider.Decider.{the_row};
+    ghost use Rattle.pv_quorum.specs.Lending.{with_log};
+
     /// Opens the decider on its log: it reads its records, and proposes nothing. There are `count` deciders, three to five, and this one has the number
     /// `me`, from 0. Takes time in proportion to the log.
     ///
@@ -73,6 +78,7 @@ impl<L: Log> Decider<L> {
         requires me { me < count }
         ensures opened { Opens L.model log me count result }
         ensures ready { IfOk result (IsReady L.model) }
+        ensures reads { IfOk result (λ decider. L.model.goes log read_all true decider.log) }
         ensures intact { IfErr result (λ refused. L.model.is_intact (log_in refused)) }
     {
         let mut log = log;
@@ -153,6 +159,15 @@ impl<L: Log> Decider<L> {
             // The log isn't down.
             Err(QuorumError::Down) => unreachable!(),
         }
+    }
+
+    /// The log, lent, so that who knows what it stands on can arm that and mend it. Whoever adds to it breaks the decider: its steps that come after
+    /// need the log as it was.
+    pub fn log(&mut self) -> &mut L
+        ensures* lends { sem 𝓛 (Lends (the_row L.row L.Log) L.row self.entry result (with_log self.old)) }
+        ensures value { result.now ≡ self.old.log }
+    {
+        &mut self.log
     }
 
     /// The log, also of a decider that is down; to be opened again, it mustn't be down itself. What the decider proposes is forgotten. Takes

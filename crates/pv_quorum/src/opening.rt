@@ -1,5 +1,6 @@
 // What a decider that is opened reads of its log, and why it isn't opened.
-ghost use Rattle.std.specs.Prelude.{◌≡◌, ◌+◌, ◌-◌, ◌^◌, ◌++◌, ◌∷◌, [], min, length, false, All, List, OnOk};
+ghost use Rattle.std.specs.Prelude.{◌≡◌, ◌+◌, ◌-◌, ◌^◌, ◌++◌, ◌∷◌, [], min, length, true, false, All, List, IfOk, OnOk};
+ghost use Rattle.pv_disk_model.specs.Calls.{read_all};
 ghost use Rattle.pv_disk_model.specs.Size.{size_of};
 ghost use Rattle.pv_law_quorum.specs.Record as records;
 ghost use Rattle.pv_quorum.specs.Opens.{Loads, Reads, Remembers, contents_of, refused_with};
@@ -56,6 +57,7 @@ pub(crate) fn load<L: Log>(log: &mut L, alloc: Global) -> Result<Memory, Refusal
     requires intact { L.model.is_intact log.old }
     requires up { L.model.is_down log.old ≡ false }
     ensures loaded { Loads L.model log.old log.new result }
+    ensures reads { IfOk result (λ memory. L.model.goes log.old read_all true log.new) }
     ensures intact { L.model.is_intact log.new }
 {
     let contents = match log.read_all() {

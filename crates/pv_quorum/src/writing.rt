@@ -1,5 +1,7 @@
 // How a record gets into a decider's log. Its memory is taken before the log is called, and nothing is sent or reported until the append has succeeded.
-ghost use Rattle.std.specs.Prelude.{◌≡◌, false, length};
+ghost use Rattle.std.specs.Prelude.{◌≡◌, ◌<◌, false, length};
+ghost use Rattle.pv_base.specs.declared.limits.TheConstants.{MAX_SITES};
+ghost use Rattle.pv_quorum.specs.Spelling.{IsInRange, txn_in};
 ghost use Rattle.pv_quorum.specs.Values.{record_of};
 ghost use Rattle.pv_quorum.specs.Writing.{AppendsBytes, Writes};
 
@@ -26,6 +28,7 @@ pub(crate) fn write<L: Log>(
     requires intact { L.model.is_intact log.old }
     requires up { L.model.is_down log.old ≡ false }
     ensures written { Writes L.model log.old log.new (record_of entry) result }
+    ensures range { (txn_in (record_of entry)).site.0 < MAX_SITES → IsInRange (record_of entry) }
     ensures intact { L.model.is_intact log.new }
 {
     let bytes = encode_record(alloc, entry)?;

@@ -96,7 +96,7 @@ returns-in-Err-Fault-clause-step g c =
     (c.in_ok-made.ensures (setup_of inside.count (g.L.Log.model.limit inside.log)) here refl stands.me stands.range
     (subst (Knows here (txn_of c.args.input.now)) (sym found) (stands.knows (txn_of c.args.input.now))))
     c.in-Some.entry c.in-Some.is Fault c.write.new.log (subst (λ (e : QuorumError). Writes g.L.Log.model inside.log c.write.new.log (record_of c.in-Some.entry) (Err e)) c.in-Err-Fault.field-0-is c.in-Err-Fault.ensures.written)
-    c.reserve.new.self.known c.reserve.ensures.same true (λ same. refl) (λ wrong. absurd (cc)))
+    c.reserve.new.self.known c.reserve.ensures.same c.write.ensures.range c.requires.input.site true (λ same. refl) (λ wrong. absurd (cc)))
 
 pub returns-in-Err-NoMemory-clause-step : goal.returns-in-Err-NoMemory-clause-step
 returns-in-Err-NoMemory-clause-step g c =
@@ -113,4 +113,4 @@ returns-in-Err-NoMemory-clause-step g c =
     (c.in_ok-made.ensures (setup_of inside.count (g.L.Log.model.limit inside.log)) here refl stands.me stands.range
     (subst (Knows here (txn_of c.args.input.now)) (sym found) (stands.knows (txn_of c.args.input.now))))
     c.in-Some.entry c.in-Some.is NoMemory c.write.new.log (subst (λ (e : QuorumError). Writes g.L.Log.model inside.log c.write.new.log (record_of c.in-Some.entry) (Err e)) c.in-Err-NoMemory.field-0-is c.in-Err-NoMemory.ensures.written)
-    c.reserve.new.self.known c.reserve.ensures.same inside.down (λ wrong. absurd (cc)) (λ same. refl))
+    c.reserve.new.self.known c.reserve.ensures.same c.write.ensures.range c.requires.input.site inside.down (λ wrong. absurd (cc)) (λ same. refl))
