@@ -1,15 +1,14 @@
 -- Words are one command at most, the one that is found of them.
-use Rattle.std.proofs.Common.{◌≡◌, ℕ, ◌≤◌, List, [], ◌∷◌, codes, decimal, get_or, Option, Some, IfSome, refl, sym, ap, ◌∙◌, subst, arith}
+use Rattle.std.proofs.Common.{◌≡◌, ℕ, ◌≤◌, ◌⊎◌, inl, inr, ⊎_elim, List, [], ◌∷◌, codes, cond, decimal, get_or, Option, None, Some, IfSome, refl, sym, ap, ◌∙◌, subst, arith}
+use Rattle.std.specs.Prelude.{◌==◌}
 use Rattle.std.proofs.lemmas.Fmt.{decimal_injective}
-use Rattle.pv_app.specs.Commands.{IsCommand, word_of, word_of_tour}
+use Rattle.pv_app.specs.Commands.{AreNumbered, IsCommand, word_of}
 use Rattle.pv_app.specs.declared.command.Command.{Command}
 use Rattle.pv_app.specs.declared.command.Command.TheVariants.{Run, Make, Big, Live, Over}
 use Rattle.pv_app.specs.declared.command.TheConstants.{MAX_NUMBER}
-use Rattle.pv_app.specs.declared.tour.Tour.{Tour}
 use Rattle.pv_app.specs.declared.tour.Tour.TheVariants.{Show, Upgrade}
 use Rattle.pv_cluster.specs.declared.running.TheConstants.{MAX_WORKERS}
-use Rattle.pv_run.specs.declared.form.Form.{Form}
-use Rattle.pv_run.specs.declared.form.Form.TheVariants.{Text, Json}
+use Rattle.pv_run.specs.declared.form.Form.TheVariants.{Text, Json, Trace}
 
 two-are-not-one : (words : List (List ℕ)) (word first second : List ℕ) → words ≡ word ∷ [] → words ≡ first ∷ second ∷ [] → ⊥
 two-are-not-one words word first second one two = let wrong : ⊥ = cc in wrong
@@ -23,87 +22,119 @@ second-is words first second other more one two = cc
 only-is : (words : List (List ℕ)) (word other : List ℕ) → words ≡ word ∷ [] → words ≡ other ∷ [] → word ≡ other
 only-is words word other one two = cc
 
-words-differ : codes "run" ≡ codes "json" → ⊥
-words-differ same = let wrong : ⊥ = cc in wrong
+-- ---- no two words begin with the same byte
 
-tour-differs : (form : Form) (tour : Tour) → word_of form ≡ word_of_tour tour → ⊥
-unfolding word_of word_of_tour
-tour-differs Text Show same = let wrong : ⊥ = cc in wrong
-tour-differs Text Upgrade same = let wrong : ⊥ = cc in wrong
-tour-differs Json Show same = let first : 106 ≡ 115 = ap (λ (word : List ℕ). get_or word 0 0) same in absurd (omega (arith, first))
-tour-differs Json Upgrade same = let first : 106 ≡ 117 = ap (λ (word : List ℕ). get_or word 0 0) same in absurd (omega (arith, first))
+abbrev first_byte : List ℕ → ℕ
+first_byte word = get_or word 0 0
 
-tours-differ : word_of_tour Show ≡ word_of_tour Upgrade → ⊥
-unfolding word_of_tour
-tours-differ same = let wrong : ⊥ = cc in wrong
+-- the command of one word whose word begins with this byte
+abbrev alone_by : ℕ → Option Command
+alone_by b =
+    cond (b == 114) (Some (Run Text))
+    (cond (b == 106) (Some (Run Json))
+    (cond (b == 116) (Some (Run Trace))
+    (cond (b == 115) (Some (Over Show))
+    (cond (b == 117) (Some (Over Upgrade)) None))))
 
-numbered-differ : codes "make" ≡ codes "big" → ⊥
-numbered-differ same = let wrong : ⊥ = cc in wrong
+-- and the one of this number
+abbrev numbered_by : ℕ → ℕ → Option Command
+numbered_by b n =
+    cond (b == 109) (Some (Make n))
+    (cond (b == 98) (Some (Big n))
+    (cond (b == 108) (Some (Live n)) None))
 
-make-is-not-live : codes "make" ≡ codes "live" → ⊥
-make-is-not-live same = let first : 109 ≡ 108 = ap (λ (word : List ℕ). get_or word 0 0) same in absurd (omega (arith, first))
+-- The words are one word, which is known by its first byte.
+record IsAlone (words : List (List ℕ)) (command : Command) : Type 0 where
+  is : words ≡ word_of command ∷ []
+  known : alone_by (first_byte (word_of command)) ≡ Some command
 
-big-is-not-live : codes "big" ≡ codes "live" → ⊥
-big-is-not-live same = let wrong : ⊥ = cc in wrong
+-- They are a word and a number, and known by both.
+record IsNumbered (words : List (List ℕ)) (command : Command) : Type 0 where
+  number : ℕ
+  most : number ≤ MAX_NUMBER
+  is : AreNumbered words (word_of command) number
+  known : numbered_by (first_byte (word_of command)) number ≡ Some command
 
-same-number : (words : List (List ℕ)) (word : List ℕ) (m n : ℕ) → m ≤ MAX_NUMBER → n ≤ MAX_NUMBER → words ≡ word ∷ decimal m ∷ [] → words ≡ word ∷ decimal n ∷ [] → m ≡ n
-same-number words word m n few small one two =
-    decimal_injective m n (omega (arith, few)) (omega (arith, small)) (second-is words word (decimal m) word (decimal n) one two)
+kind : (words : List (List ℕ)) (command : Command) → IsCommand words command → IsAlone words command ⊎ IsNumbered words command
+unfolding word_of
+kind words (Run Text) is = inl (record { is = is; known = refl })
+kind words (Run Json) is = inl (record { is = is; known = refl })
+kind words (Run Trace) is = inl (record { is = is; known = refl })
+kind words (Over Show) is = inl (record { is = is; known = refl })
+kind words (Over Upgrade) is = inl (record { is = is; known = refl })
+kind words (Make n) is = inr (record { number = n; most = is.1; is = is.0; known = refl })
+kind words (Big n) is = inr (record { number = n; most = is.1; is = is.0; known = refl })
+kind words (Live n) is = inr (record { number = n; most = omega (arith, is.2); is = is.0; known = refl })
+
+some-is : {A : Type 0} (x y : A) → Some x ≡ Some y → x ≡ y
+some-is x y same = cc
+
+one-alone : (words : List (List ℕ)) (one other : Command) → IsAlone words one → IsAlone words other → one ≡ other
+one-alone words one other a b =
+    some-is one other (sym a.known ∙ ap (λ (word : List ℕ). alone_by (first_byte word)) (only-is words (word_of one) (word_of other) a.is b.is) ∙ b.known)
+
+one-numbered : (words : List (List ℕ)) (one other : Command) → IsNumbered words one → IsNumbered words other → one ≡ other
+one-numbered words one other a b =
+    let word = first-is words (word_of one) (decimal a.number) (word_of other) (decimal b.number) a.is b.is in
+    let text = second-is words (word_of one) (decimal a.number) (word_of other) (decimal b.number) a.is b.is in
+    let number = decimal_injective a.number b.number (omega (arith, a.most)) (omega (arith, b.most)) text in
+    some-is one other (sym a.known ∙ (λ i. numbered_by (first_byte (word i)) (number i)) ∙ b.known)
+
+pub one-command : (words : List (List ℕ)) (one other : Command) → IsCommand words one → IsCommand words other → one ≡ other
+one-command words one other a b =
+    ⊎_elim
+    (λ (alone : IsAlone words one). ⊎_elim (λ (too : IsAlone words other). one-alone words one other alone too)
+    (λ (numbered : IsNumbered words other). absurd (two-are-not-one words (word_of one) (word_of other) (decimal numbered.number) alone.is numbered.is)) (kind words other b))
+    (λ (numbered : IsNumbered words one). ⊎_elim
+    (λ (alone : IsAlone words other). absurd (two-are-not-one words (word_of other) (word_of one) (decimal numbered.number) alone.is numbered.is))
+    (λ (too : IsNumbered words other). one-numbered words one other numbered too) (kind words other b))
+    (kind words one a)
+
+-- ---- words that are found, or not
+
+-- how a table spells a command of one word; others are spelled in any way
+abbrev pub spelled_or : List ℕ → Command → List ℕ
+spelled_or other (Make n) = other
+spelled_or other (Big n) = other
+spelled_or other (Live n) = other
+spelled_or other command = word_of command
+
+two-spellings : (first : ℕ) → [] ≡ first ∷ [] → ⊥
+two-spellings first same = let wrong : ⊥ = cc in wrong
+
+-- Where a word is spelled like what was found, however others are spelled, it is no other.
+pub found-alone : (word : List ℕ) (found : Option Command) → IfSome found (λ command. word ≡ spelled_or [] command)
+    → IfSome found (λ command. word ≡ spelled_or (0 ∷ []) command) → IfSome found (IsCommand (word ∷ []))
+found-alone word None one other = tt
+found-alone word (Some (Make n)) one other = absurd (two-spellings 0 (sym one ∙ other))
+found-alone word (Some (Big n)) one other = absurd (two-spellings 0 (sym one ∙ other))
+found-alone word (Some (Live n)) one other = absurd (two-spellings 0 (sym one ∙ other))
+found-alone word (Some (Run form)) one other = ap (λ (w : List ℕ). w ∷ []) one
+found-alone word (Some (Over tour)) one other = ap (λ (w : List ℕ). w ∷ []) one
+
+-- A word alone that is a command is the command's.
+pub alone-is : (word : List ℕ) (command : Command) → IsCommand (word ∷ []) command → word ≡ spelled_or [] command
+alone-is word (Make n) is = absurd (two-are-not-one (word ∷ []) word (word_of (Make n)) (decimal n) refl is.0)
+alone-is word (Big n) is = absurd (two-are-not-one (word ∷ []) word (word_of (Big n)) (decimal n) refl is.0)
+alone-is word (Live n) is = absurd (two-are-not-one (word ∷ []) word (word_of (Live n)) (decimal n) refl is.0)
+alone-is word (Run form) is = only-is (word ∷ []) word (word_of (Run form)) refl is
+alone-is word (Over tour) is = only-is (word ∷ []) word (word_of (Over tour)) refl is
 
 -- A word and a number that are neither `make` nor `big` nor, with this number, `live` are no command.
 pub no-numbered : (word text : List ℕ) (number : ℕ) → number ≤ MAX_NUMBER → text ≡ decimal number → (word ≡ codes "make" → ⊥) → (word ≡ codes "big" → ⊥)
     → (word ≡ codes "live" → 1 ≤ number → number ≤ MAX_WORKERS → ⊥) → (command : Command) → IsCommand (word ∷ text ∷ []) command → ⊥
 unfolding word_of
-no-numbered word text number few is no_make no_big no_live (Run Text) so = two-are-not-one (word ∷ text ∷ []) (codes "run") word text so refl
-no-numbered word text number few is no_make no_big no_live (Run Json) so = two-are-not-one (word ∷ text ∷ []) (codes "json") word text so refl
 no-numbered word text number few is no_make no_big no_live (Make n) so = no_make (first-is (word ∷ text ∷ []) word text (codes "make") (decimal n) refl so.0)
 no-numbered word text number few is no_make no_big no_live (Big n) so = no_big (first-is (word ∷ text ∷ []) word text (codes "big") (decimal n) refl so.0)
 no-numbered word text number few is no_make no_big no_live (Live n) so =
     let same = decimal_injective number n (omega (arith, few)) (omega (arith, so.2)) (sym is ∙ second-is (word ∷ text ∷ []) word text (codes "live") (decimal n) refl so.0) in
     no_live (first-is (word ∷ text ∷ []) word text (codes "live") (decimal n) refl so.0) (omega (arith, same, so.1)) (omega (arith, same, so.2))
-no-numbered word text number few is no_make no_big no_live (Over tour) so = two-are-not-one (word ∷ text ∷ []) (word_of_tour tour) word text so refl
+no-numbered word text number few is no_make no_big no_live (Run form) so = two-are-not-one (word ∷ text ∷ []) (word_of (Run form)) word text so refl
+no-numbered word text number few is no_make no_big no_live (Over tour) so = two-are-not-one (word ∷ text ∷ []) (word_of (Over tour)) word text so refl
 
-pub one-command : (words : List (List ℕ)) (one other : Command) → IsCommand words one → IsCommand words other → one ≡ other
-unfolding word_of
-one-command words (Run Text) (Run Text) a b = refl
-one-command words (Run Text) (Run Json) a b = absurd (words-differ (only-is words (codes "run") (codes "json") a b))
-one-command words (Run Json) (Run Text) a b = absurd (words-differ (only-is words (codes "run") (codes "json") b a))
-one-command words (Run Json) (Run Json) a b = refl
-one-command words (Run Text) (Make n) a b = absurd (two-are-not-one words (codes "run") (codes "make") (decimal n) a b.0)
-one-command words (Run Text) (Big n) a b = absurd (two-are-not-one words (codes "run") (codes "big") (decimal n) a b.0)
-one-command words (Run Json) (Make n) a b = absurd (two-are-not-one words (codes "json") (codes "make") (decimal n) a b.0)
-one-command words (Run Json) (Big n) a b = absurd (two-are-not-one words (codes "json") (codes "big") (decimal n) a b.0)
-one-command words (Make n) (Run Text) a b = absurd (two-are-not-one words (codes "run") (codes "make") (decimal n) b a.0)
-one-command words (Big n) (Run Text) a b = absurd (two-are-not-one words (codes "run") (codes "big") (decimal n) b a.0)
-one-command words (Make n) (Run Json) a b = absurd (two-are-not-one words (codes "json") (codes "make") (decimal n) b a.0)
-one-command words (Big n) (Run Json) a b = absurd (two-are-not-one words (codes "json") (codes "big") (decimal n) b a.0)
-one-command words (Make m) (Make n) a b = ap Make (same-number words (codes "make") m n a.1 b.1 a.0 b.0)
-one-command words (Big m) (Big n) a b = ap Big (same-number words (codes "big") m n a.1 b.1 a.0 b.0)
-one-command words (Make m) (Big n) a b = absurd (numbered-differ (first-is words (codes "make") (decimal m) (codes "big") (decimal n) a.0 b.0))
-one-command words (Big m) (Make n) a b = absurd (numbered-differ (first-is words (codes "make") (decimal n) (codes "big") (decimal m) b.0 a.0))
-one-command words (Run Text) (Live n) a b = absurd (two-are-not-one words (codes "run") (codes "live") (decimal n) a b.0)
-one-command words (Run Json) (Live n) a b = absurd (two-are-not-one words (codes "json") (codes "live") (decimal n) a b.0)
-one-command words (Live n) (Run Text) a b = absurd (two-are-not-one words (codes "run") (codes "live") (decimal n) b a.0)
-one-command words (Live n) (Run Json) a b = absurd (two-are-not-one words (codes "json") (codes "live") (decimal n) b a.0)
-one-command words (Make m) (Live n) a b = absurd (make-is-not-live (first-is words (codes "make") (decimal m) (codes "live") (decimal n) a.0 b.0))
-one-command words (Live m) (Make n) a b = absurd (make-is-not-live (first-is words (codes "make") (decimal n) (codes "live") (decimal m) b.0 a.0))
-one-command words (Big m) (Live n) a b = absurd (big-is-not-live (first-is words (codes "big") (decimal m) (codes "live") (decimal n) a.0 b.0))
-one-command words (Live m) (Big n) a b = absurd (big-is-not-live (first-is words (codes "big") (decimal n) (codes "live") (decimal m) b.0 a.0))
-one-command words (Live m) (Live n) a b = ap Live (same-number words (codes "live") m n (omega (arith, a.2)) (omega (arith, b.2)) a.0 b.0)
-one-command words (Over Show) (Over Show) a b = refl
-one-command words (Over Upgrade) (Over Upgrade) a b = refl
-one-command words (Over Show) (Over Upgrade) a b = absurd (tours-differ (only-is words (word_of_tour Show) (word_of_tour Upgrade) a b))
-one-command words (Over Upgrade) (Over Show) a b = absurd (tours-differ (only-is words (word_of_tour Show) (word_of_tour Upgrade) b a))
-one-command words (Run form) (Over tour) a b = absurd (tour-differs form tour (only-is words (word_of form) (word_of_tour tour) a b))
-one-command words (Over tour) (Run form) a b = absurd (tour-differs form tour (only-is words (word_of form) (word_of_tour tour) b a))
-one-command words (Over tour) (Make n) a b = absurd (two-are-not-one words (word_of_tour tour) (codes "make") (decimal n) a b.0)
-one-command words (Over tour) (Big n) a b = absurd (two-are-not-one words (word_of_tour tour) (codes "big") (decimal n) a b.0)
-one-command words (Over tour) (Live n) a b = absurd (two-are-not-one words (word_of_tour tour) (codes "live") (decimal n) a b.0)
-one-command words (Make n) (Over tour) a b = absurd (two-are-not-one words (word_of_tour tour) (codes "make") (decimal n) b a.0)
-one-command words (Big n) (Over tour) a b = absurd (two-are-not-one words (word_of_tour tour) (codes "big") (decimal n) b a.0)
-one-command words (Live n) (Over tour) a b = absurd (two-are-not-one words (word_of_tour tour) (codes "live") (decimal n) b a.0)
+-- ---- the command that was found
 
--- The command that was found is the only one.
+-- It is the only one.
 pub found-is : (words : List (List ℕ)) (found : Option Command) (command other : Command) → IfSome found (IsCommand words) → found ≡ Some command
     → IsCommand words other → command ≡ other
 found-is words found command other some is so =

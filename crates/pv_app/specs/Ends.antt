@@ -1,6 +1,6 @@
 -- How the program ends, by its words: each command has one relation, which says all of how it ends, of a type that has the ways in which it can.
 use Rattle.std.specs.Bool.{⊤}
-use Rattle.std.specs.Prelude.{◌≡◌, ℕ, List, Result, Ok, Err}
+use Rattle.std.specs.Prelude.{◌≡◌, Result, Ok, Err}
 use Rattle.pv_app.specs.Commands.{usage_text}
 use Rattle.pv_app.specs.TourEnds.{EndsTour, tour_status}
 use Rattle.pv_app.specs.declared.command.Command.{Command}

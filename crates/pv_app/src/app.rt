@@ -23,7 +23,8 @@ use std::alloc::Global;
 use std::sync::Wait;
 use std::thread::Threads;
 
-const USAGE: &[u8] = b"usage: polydb run | json | make N | big N | live W | show | upgrade\n";
+const USAGE: &[u8] =
+    b"usage: polydb run | json | make N | big N | live W | show | upgrade | trace\n";
 
 /// The program, over any input, output and disks. `words` are those after the program's name. For `live`, `show` and `upgrade` no disk of the bay may be out.
 ///
@@ -73,7 +74,7 @@ where
 /// out; none is afterwards, where none was before.
 ///
 /// - `run` reads a schedule from the source to its end, runs it, and writes each event's lines when the event is done; `json` does the same with
-///   each line as a JSON object. Takes time in proportion to the input, what is printed and what the events send and touch. At [`Status::Done`] the
+///   each line as a JSON object, and `trace` with each line of the schedule before what it printed. Takes time in proportion to the input, what is printed and what the events send and touch. At [`Status::Done`] the
 ///   bay is given the disks on which the sites kept their logs, each as the run left it, to keep.
 /// - `make N` writes the long schedule of this number, and `big N` makes it, runs it, and writes the summary of what it prints. Neither reads
 ///   anything.

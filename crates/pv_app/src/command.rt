@@ -7,6 +7,7 @@ use crate::tour::Tour;
 use itoa::Buffer;
 use pv_cluster::MAX_WORKERS;
 use pv_run::Form;
+use pv_script::look_up;
 
 /// The greatest number of a schedule that is made. The generator's states are below the number after it, so a greater one would make nothing new.
 pub const MAX_NUMBER: u32 = 2_147_483_647;
@@ -25,6 +26,15 @@ pub enum Command {
     /// Read a live script, tour the disks of its sites, and write what tells of them.
     Over(Tour),
 }
+
+// The commands of one word, each with its word.
+const ONE_WORD: [(&[u8], Command); 5] = [
+    (b"run", Command::Run(Form::Text)),
+    (b"json", Command::Run(Form::Json)),
+    (b"show", Command::Over(Tour::Show)),
+    (b"upgrade", Command::Over(Tour::Upgrade)),
+    (b"trace", Command::Run(Form::Trace)),
+];
 
 /// The command that the words are, or `None` where they are no command.
 pub fn command_of(words: &[String]) -> Option<Command>
@@ -54,19 +64,7 @@ fn one_word(word: &str) -> Option<Command>
     ensures some { IfSome result (IsCommand (word.now ∷ [])) }
     ensures none { result ≡ None → (command : Command) → IsCommand (word.now ∷ []) command → ⊥ }
 {
-    if word == "run" {
-        return Some(Command::Run(Form::Text));
-    }
-    if word == "json" {
-        return Some(Command::Run(Form::Json));
-    }
-    if word == "show" {
-        return Some(Command::Over(Tour::Show));
-    }
-    if word == "upgrade" {
-        return Some(Command::Over(Tour::Upgrade));
-    }
-    None
+    look_up(word.as_bytes(), &ONE_WORD)
 }
 
 // The command of a word and a number.

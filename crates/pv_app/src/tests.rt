@@ -5,7 +5,7 @@ use crate::worked_faults::{
     ARMED_TWICE, COMMIT, COMMIT_STOPS, Group, PROMISE, PROMISE_FAULTS, REFUSED_START,
     REFUSED_START_STOPS, SECOND_ARMS, START, START_STOPS,
 };
-use crate::worked_runs::RUNS;
+use crate::worked_runs::{DOUBT, DOUBT_TRACE, RUNS};
 use pv_io::{MemSink, MemSource};
 use std::process::Abort;
 use std::test::Fail;
@@ -64,7 +64,7 @@ const REPORTS: &str =
 const REPORTS_OUTPUT: &str =
     "order\ncommitted\nopen\nitem a -1\nend\ntxn 0.1.0\ncommit 0.1.0 certain nothing\norder 0.1.0\ncommitted 0.1.0\nopen\nitem a 1\nend\ntxn 0.1.1\ncommit 0.1.1 certain nothing\n";
 
-const USAGE: &str = "usage: polydb run | json | make N | big N | live W | show | upgrade\n";
+const USAGE: &str = "usage: polydb run | json | make N | big N | live W | show | upgrade | trace\n";
 
 const FIRST_JSON: &str = "\
 {\"txn\":\"0.1.0\"}
@@ -94,6 +94,21 @@ const TEXTS: &[(&str, Status, &str)] = &[
         "sites 1\nstop 0\nfail 0 1 kept\nnothing\n",
         Status::Malformed,
         "line 4: unknown word\n",
+    ),
+];
+
+// The same of `trace`: the lines of the schedule stand before what they print, without blanks at their ends.
+const TRACE_TEXTS: &[(&str, Status, &str)] = &[
+    (DOUBT, Status::Done, DOUBT_TRACE),
+    (
+        "# a comment\n\tsites 1 \n\ntick 0",
+        Status::Done,
+        "> sites 1\n> tick 0\n",
+    ),
+    (
+        "sites 1\nreport\nitem a 0 1\n",
+        Status::Malformed,
+        "line 3: too late\n",
     ),
 ];
 
@@ -204,6 +219,14 @@ fn assert_prints(
     for (line, output) in cases {
         let schedule = format!(in rt.alloc(); "{}{line}{}", group.before, group.after)?;
         assert_ends(rt, &["run"], schedule.as_str(), Status::Done, output)?;
+    }
+    Ok(())
+}
+
+#[test]
+fn a_trace_has_each_line_before_what_it_printed(rt: HostRuntime) -> Result<(), Fail> {
+    for (input, status, output) in TRACE_TEXTS {
+        assert_ends(&rt, &["trace"], input, *status, output)?;
     }
     Ok(())
 }

@@ -31,8 +31,8 @@ item b 60
 end
 ";
 
-// The outcome doesn't reach site 1, which shows both values then.
-const DOUBT: &str = "\
+/// The outcome doesn't reach site 1, which shows both values then.
+pub(crate) const DOUBT: &str = "\
 sites 2
 item a 0 100
 item b 1 50
@@ -56,6 +56,31 @@ open
 item a 90
 item b 50 if -0.1.0 ; 60 if +0.1.0
 end
+no message 10
+";
+
+/// Its trace.
+pub(crate) const DOUBT_TRACE: &str = "\
+> sites 2
+> item a 0 100
+> item b 1 50
+> submit 0 a := a - 10 ; b := b + 10
+txn 0.1.0
+> pump 8
+commit 0.1.0 certain nothing
+> lose 8
+> tick 1
+> tick 1
+> tick 1
+> lose 9
+> report
+order 0.1.0
+committed 0.1.0
+open
+item a 90
+item b 50 if -0.1.0 ; 60 if +0.1.0
+end
+> lose 10
 no message 10
 ";
 

@@ -1,51 +1,41 @@
--- Each word is compared by its bytes.
-use Rattle.std.proofs.Common.{◌≡◌, ℕ, List, [], ◌∷◌, codes, ap, sym, ◌∙◌}
+-- The table has each command of one word, and no other.
+use Rattle.std.proofs.Common.{◌≡◌, ℕ, Bool, false, true, Option, None, Some, IfNone, IfSome, List, [], ◌∷◌, refl, sym, ap, ◌∙◌, subst}
+use Rattle.std.specs.List.{list_any}
+use Rattle.std.specs.Str.{bytes_eq}
 use Rattle.std.proofs.lemmas.Bool.{false≢true}
-use Rattle.std.proofs.lemmas.Bool.Decides.{Decides-eqb}
-use Rattle.std.proofs.lemmas.Slice.Eq.{slice_eq-Decides}
-use Rattle.pv_app.specs.Commands.{IsCommand, word_of, word_of_tour}
+use Rattle.pv_app.specs.Commands.{IsCommand, word_of}
 use Rattle.pv_app.specs.declared.command.Command.{Command}
 use Rattle.pv_app.specs.declared.command.Command.TheVariants.{Run, Make, Big, Live, Over}
+use Rattle.pv_app.specs.declared.command.TheConstants.{ONE_WORD}
 use Rattle.pv_app.specs.declared.tour.Tour.TheVariants.{Show, Upgrade}
-use Rattle.pv_run.specs.declared.form.Form.TheVariants.{Text, Json}
+use Rattle.pv_run.specs.declared.form.Form.TheVariants.{Text, Json, Trace}
+use Rattle.pv_app.proofs.CommandLemmas.{alone-is, found-alone, spelled_or}
 use Rattle.pv_app.proofs.command.one_word.Goals as goal
 
-pub returns-then-eq-clause-some : goal.returns-then-eq-clause-some
+abbrev is_listed : List ℕ → Bool
+is_listed word = list_any (λ entry. bytes_eq word entry.0.now) ONE_WORD
+
+listed : (word : List ℕ) (command : Command) → IsCommand (word ∷ []) command → is_listed word ≡ true
 unfolding word_of
-returns-then-eq-clause-some c =
-    ap (λ (w : List ℕ). w ∷ []) ((slice_eq-Decides Decides-eqb c.args.word.now (codes "run") c.eq.result c.eq.ensures).0 c.if-eq.true)
+listed word (Run Text) is = ap is_listed (alone-is word (Run Text) is)
+listed word (Run Json) is = ap is_listed (alone-is word (Run Json) is)
+listed word (Run Trace) is = ap is_listed (alone-is word (Run Trace) is)
+listed word (Over Show) is = ap is_listed (alone-is word (Over Show) is)
+listed word (Over Upgrade) is = ap is_listed (alone-is word (Over Upgrade) is)
+listed word (Make n) is = let one = is.0 in let wrong : ⊥ = cc in absurd wrong
+listed word (Big n) is = let one = is.0 in let wrong : ⊥ = cc in absurd wrong
+listed word (Live n) is = let one = is.0 in let wrong : ⊥ = cc in absurd wrong
 
-pub returns-then-eq-2-clause-some : goal.returns-then-eq-2-clause-some
+unlisted : (word : List ℕ) (found : Option Command) (command : Command) → IfNone found (is_listed word ≡ false) → found ≡ None → IsCommand (word ∷ []) command → ⊥
+unlisted word None command none is so = false≢true (sym none ∙ listed word command so)
+unlisted word (Some other) command none is so = let wrong : ⊥ = cc in wrong
+
+pub returns-clause-some : goal.returns-clause-some
 unfolding word_of
-returns-then-eq-2-clause-some c =
-    ap (λ (w : List ℕ). w ∷ []) ((slice_eq-Decides Decides-eqb c.args.word.now (codes "json") c.eq-2.result c.eq-2.ensures).0 c.if-eq-2.true)
-
-pub returns-then-eq-3-clause-some : goal.returns-then-eq-3-clause-some
-unfolding word_of_tour
-returns-then-eq-3-clause-some c =
-    ap (λ (w : List ℕ). w ∷ []) ((slice_eq-Decides Decides-eqb c.args.word.now (codes "show") c.eq-3.result c.eq-3.ensures).0 c.if-eq-3.true)
-
-pub returns-then-eq-4-clause-some : goal.returns-then-eq-4-clause-some
-unfolding word_of_tour
-returns-then-eq-4-clause-some c =
-    ap (λ (w : List ℕ). w ∷ []) ((slice_eq-Decides Decides-eqb c.args.word.now (codes "upgrade") c.eq-4.result c.eq-4.ensures).0 c.if-eq-4.true)
-
--- A word that is none of the four is no command.
-no-command : (word : List ℕ) → (word ≡ codes "run" → ⊥) → (word ≡ codes "json" → ⊥) → (word ≡ codes "show" → ⊥) → (word ≡ codes "upgrade" → ⊥) → (command : Command) → IsCommand (word ∷ []) command → ⊥
-unfolding word_of word_of_tour
-no-command word no_run no_json no_show no_upgrade (Run Text) is = no_run (let same : word ≡ codes "run" = cc in same)
-no-command word no_run no_json no_show no_upgrade (Run Json) is = no_json (let same : word ≡ codes "json" = cc in same)
-no-command word no_run no_json no_show no_upgrade (Make n) is = let one = is.0 in let wrong : ⊥ = cc in wrong
-no-command word no_run no_json no_show no_upgrade (Big n) is = let one = is.0 in let wrong : ⊥ = cc in wrong
-no-command word no_run no_json no_show no_upgrade (Live n) is = let one = is.0 in let wrong : ⊥ = cc in wrong
-no-command word no_run no_json no_show no_upgrade (Over Show) is = no_show (let same : word ≡ codes "show" = cc in same)
-no-command word no_run no_json no_show no_upgrade (Over Upgrade) is = no_upgrade (let same : word ≡ codes "upgrade" = cc in same)
+returns-clause-some c =
+    let spelled : (other : List ℕ) → IfSome c.look_up.result (λ command. c.as_bytes.result.now ≡ spelled_or other command) → IfSome c.look_up.result (λ command. c.args.word.now ≡ spelled_or other command) =
+    λ other. subst (λ (word : List ℕ). IfSome c.look_up.result (λ command. word ≡ spelled_or other command)) c.as_bytes.ensures.value in
+    found-alone c.args.word.now c.look_up.result (spelled [] (c.look_up.ensures.spelled (spelled_or []) refl)) (spelled (0 ∷ []) (c.look_up.ensures.spelled (spelled_or (0 ∷ [])) refl))
 
 pub returns-clause-none : goal.returns-clause-none
-returns-clause-none c = λ none command is.
-    let run = slice_eq-Decides Decides-eqb c.args.word.now (codes "run") c.eq.result c.eq.ensures in
-    let json = slice_eq-Decides Decides-eqb c.args.word.now (codes "json") c.eq-2.result c.eq-2.ensures in
-    let show = slice_eq-Decides Decides-eqb c.args.word.now (codes "show") c.eq-3.result c.eq-3.ensures in
-    let upgrade = slice_eq-Decides Decides-eqb c.args.word.now (codes "upgrade") c.eq-4.result c.eq-4.ensures in
-    no-command c.args.word.now (λ same. false≢true (sym c.if-eq.false ∙ run.1 same)) (λ same. false≢true (sym c.if-eq-2.false ∙ json.1 same))
-    (λ same. false≢true (sym c.if-eq-3.false ∙ show.1 same)) (λ same. false≢true (sym c.if-eq-4.false ∙ upgrade.1 same)) command is
+returns-clause-none c = λ none command is. unlisted c.args.word.now c.look_up.result command (subst (λ (word : List ℕ). IfNone c.look_up.result (is_listed word ≡ false)) c.as_bytes.ensures.value c.look_up.ensures.unlisted) none is
