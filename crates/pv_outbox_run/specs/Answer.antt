@@ -1,0 +1,23 @@
+-- What the command answers to its input.
+use Rattle.std.specs.Prelude.{◌≡◌, ℕ, List}
+use Rattle.pv_lines.specs.Refusals.{refusal_text}
+use Rattle.pv_lines.specs.declared.cause.Cause.{Cause}
+use Rattle.pv_lines.specs.declared.end.ScriptEnd.{ScriptEnd}
+use Rattle.pv_lines.specs.declared.end.ScriptEnd.TheVariants.{Done, Malformed}
+use Rattle.pv_outbox_run.specs.Box.{Box, first_box}
+use Rattle.pv_outbox_run.specs.Does.{Runs}
+use Rattle.pv_outbox_run.specs.Outputs.{AreOnce}
+use Rattle.pv_outbox_run.specs.ToldText.{told_texts}
+use Rattle.pv_outbox_run.specs.declared.told.Told.{Told}
+use Rattle.pv_outbox_script.specs.Script.{IsRefused, IsScript}
+use Rattle.pv_outbox_script.specs.declared.event.Event.{Event}
+
+-- The text is what these events print, from the beginning on, and no output is released twice in it.
+abbrev pub IsPrintedBy : List Event → List ℕ → Type 0
+IsPrintedBy events text = (says : List Told) × (last : Box) × Runs first_box events says last × (text ≡ told_texts says) × AreOnce says
+
+-- To a script it is exactly the lines of its events; to another text it is the first line at fault and why.
+abbrev pub IsAnswer : List ℕ → ScriptEnd → List ℕ → Type 0
+IsAnswer input Done answer = (events : List Event) × IsScript input events × IsPrintedBy events answer
+IsAnswer input Malformed answer = (number : ℕ) × (cause : Cause) × IsRefused input number cause × (answer ≡ refusal_text number cause)
+IsAnswer input _ answer = ⊥
