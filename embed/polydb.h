@@ -237,9 +237,9 @@ void polydb_world_close(polydb_world *world);
  *
  * A message may be lost, may come late and may come twice: the protocol is made for that. That sites of several hosts agree is a law: whatever happens to them, there is one
  * run of all sites together, a list of events, in which what they have let out was sent or printed, and what they show is shown; and it goes on as they do. It asks for what
- * these calls are proved to do (docs/EMBEDDING.md has both side by side), and of hosts for what stands below. Not promised: that the run's programs are the texts of the
- * requests, as a schedule for `polydb run` has them; nor any run once the configuration has grown, be it one across or one of what comes then, since the law begins with new
- * files (docs/EMBEDDING.md, What isn't said).
+ * these calls are proved to do (docs/EMBEDDING.md has both side by side), and of hosts for what stands below. The run's programs are those
+ * that hosts gave to their sites, each under the number that was let out for it. Not promised: that its requests have the texts that a schedule for `polydb run` has; nor any run once
+ * the configuration has grown, be it one across or one of what comes then, since the law begins with new files (docs/EMBEDDING.md, What isn't said).
  * Time is the host's: a site that waits for an answer gives up at its third tick, lets go of
  * its locks at their third, and then asks again at each tick; and never without one.
  *

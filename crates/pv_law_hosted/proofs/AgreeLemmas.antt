@@ -6,6 +6,7 @@ use mathlib.Core.Logic.{dite}
 use native.Mathlib.Decide.{dec_le}
 use Rattle.std.proofs.lemmas.List.{get_or_past}
 use Rattle.std.proofs.lemmas.List.Elements.{All-nil, All-cons, All-head, All-tail, All-append, All-contains, All-contains_itself, All-weaker, Contains-append_left, Contains-append_right}
+use Rattle.pv_base.proofs.MapLemmas.{Contains-map}
 use Rattle.pv_base.specs.Catalog.{Item}
 use Rattle.pv_base.specs.declared.txn.TxnId.{TxnId}
 use Rattle.pv_format.specs.Message.{Envelope}
@@ -23,7 +24,6 @@ use Rattle.pv_protocol.specs.World.{World, opening, site_at}
 use Rattle.pv_protocol.specs.WorldStep.{Transition}
 use Rattle.pv_embed.specs.Held.{note}
 use Rattle.pv_embed.specs.Hosted.{HostedState}
-use Rattle.pv_law_hosted.proofs.MirroredLemmas.{contains-mapped}
 use Rattle.pv_law_hosted.proofs.WithinLemmas.{within-made}
 use Rattle.pv_law_hosted.specs.Deployment.{Deployment, Station, no_station, station_at}
 use Rattle.pv_law_hosted.specs.Made.{Made, sends, prints, is_of, made_as, made_by, made_from, made_in}
@@ -75,7 +75,7 @@ out-printed setup d events n reported mirrored below there =
     let all = map (made_as n) (out ++ follows.rest) in
     let made : Contains (made_by setup n events) (prints (line_of n reported)) =
     All-contains (Contains (made_by setup n events)) all (prints (line_of n reported)) (within-made n all (made_by setup n events) follows.within)
-    (contains-mapped (made_as n) (out ++ follows.rest) (note reported) (Contains-append_left out follows.rest (note reported) there)) in
+    (Contains-map (made_as n) (out ++ follows.rest) (note reported) (Contains-append_left out follows.rest (note reported) there)) in
     All-contains (IsPrinted (lines_of_transitions (run setup (opening setup) events))) (made_by setup n events) (prints (line_of n reported))
     (from-printed n (opening setup) (run setup (opening setup) events)) made
 

@@ -1,5 +1,5 @@
 -- What the calls of a site make of it is something that may happen in the deployment.
-use Rattle.std.proofs.Common.{arith, ◌≡◌, ℕ, zero, suc, ◌<◌, ◌≤◌, Bool, true, false, Option, Some, None, Result, Ok, Err, List, [], ◌∷◌, ◌++◌, append-nil, length, refl, sym, ap, ◌∙◌, subst}
+use Rattle.std.proofs.Common.{arith, ◌≡◌, ℕ, zero, suc, ◌<◌, ◌≤◌, Bool, true, false, Option, Some, None, Result, Ok, Err, List, [], ◌∷◌, ◌++◌, append-nil, drop, length, refl, sym, ap, ◌∙◌, subst}
 use Rattle.std.specs.Prelude.{get_or, IsTrue, nat_lt, option_to_list, ⊤}
 use Rattle.std.specs.Option.{option_map}
 use Rattle.std.proofs.lemmas.Bool.{ltb-false}
@@ -25,7 +25,8 @@ use Rattle.pv_embed.specs.declared.fault.SubmitFault.TheVariants as submitting
 use Rattle.pv_embed.specs.declared.made.Output.{Output}
 use Rattle.pv_host.specs.HostFile.{MayLeave}
 use Rattle.pv_host.specs.HostLog.{HostWrite, next_write}
-use Rattle.pv_law_hosted.specs.Calls.{HasSite, IsFromASite}
+use Rattle.pv_law_hosted.specs.Asked.{Asked, begun_of}
+use Rattle.pv_law_hosted.specs.Calls.{BeginsAsked, HasSite, IsFromASite}
 use Rattle.pv_law_hosted.specs.Deployment.{Deployment, Station, station_at, with_station}
 use Rattle.pv_law_hosted.specs.DeploymentEvents.{Happens, HappensAt, HappensTo, Stands, asks, carried, goes, idles, is_writing, lets_out, request, stays, takes, time, writes}
 use Rattle.pv_law_programs.proofs.DeclaredItems.{declared-items}
@@ -101,20 +102,32 @@ module _ (config : List ℕ) (catalog : Declared) (d : Deployment) (n : ℕ) (si
   next-happens next stands happens =
       here-happens (record old { hosted = Some next }) happens (λ s is. subst Stands (some-same is) stands)
 
-  submits-to : {X : Type 0} (items_of : (program : Program) → (items : List ℕ) × AreItems program items) (next : HostedState) (text : List ℕ) (query : Bool) (result : Result X SubmitFault)
-      → SubmitsBy site next text query result → HappensTo catalog d n site old (record old { hosted = Some next })
-  submits-to items_of next text query (Ok done) by =
+  -- A refused request begins nothing.
+  refused-request : (next : HostedState) → Stands next → Stays site next
+      → (asked : List Asked) × (asked ≡ []) × Happens config catalog d (with_station d n (record old { hosted = Some next; asked = old.asked ++ asked }))
+  refused-request next stands same = (
+    [],
+    refl,
+    subst (λ (asked : List Asked). Happens config catalog d (with_station d n (record old { hosted = Some next; asked = asked }))) (sym (append-nil old.asked))
+        (next-happens next stands (stays next same)),
+  )
+
+  pub submit-happens : {X : Type 0} (items_of : (program : Program) → (items : List ℕ) × AreItems program items) (next : HostedState) (text : List ℕ) (query : Bool) (result : Result X SubmitFault)
+      → Stands next → SubmitsBy site next text query result
+      → (asked : List Asked) × BeginsAsked catalog site next text result asked × Happens config catalog d (with_station d n (record old { hosted = Some next; asked = old.asked ++ asked }))
+  submit-happens items_of next text query (Ok done) stands by =
       let items = items_of by.0 in
       let may : CanRun catalog by.0 =
       subst (λ (c : Declared). CanRun c by.0) has.declared (accepted-runs site.site.catalog text by.0 query items.0 by.1 items.1 (by.2 items.0 items.1)) in
-      takes next (submit by.0) (request by.0 may) by.3
-  submits-to items_of next text query (Err (submitting.Text error)) by = stays next (as-it-was site next by.0)
-  submits-to items_of next text query (Err (submitting.Program error)) by = stays next (as-it-was site next by.0)
-  submits-to items_of next text query (Err submitting.NoMemory) by = stays next by
-
-  pub submit-happens : {X : Type 0} (items_of : (program : Program) → (items : List ℕ) × AreItems program items) (next : HostedState) (text : List ℕ) (query : Bool) (result : Result X SubmitFault)
-      → Stands next → SubmitsBy site next text query result → Happens config catalog d (with_station d n (record old { hosted = Some next }))
-  submit-happens items_of next text query result stands by = next-happens next stands (submits-to items_of next text query result by)
+      let asked = begun_of by.0 (drop (length site.held) next.held) in (
+        asked,
+        (by.0, subst (λ (c : Declared). IsProgramText c text by.0) has.declared by.1, refl),
+        here-happens (record old { hosted = Some next; asked = old.asked ++ asked }) (takes next (submit by.0) (request by.0 may) by.3)
+            (λ s is. subst Stands (some-same is) stands),
+      )
+  submit-happens items_of next text query (Err (submitting.Text error)) stands by = refused-request next stands (as-it-was site next by.0)
+  submit-happens items_of next text query (Err (submitting.Program error)) stands by = refused-request next stands (as-it-was site next by.0)
+  submit-happens items_of next text query (Err submitting.NoMemory) stands by = refused-request next stands by
 
   receives-to : (next : HostedState) (bytes : List ℕ) (result : Result ⊤ ReceiveFault) → IsFromASite d bytes
       → ReceivesBy site next bytes result → HappensTo catalog d n site old (record old { hosted = Some next })
@@ -214,6 +227,6 @@ pub mirrored-has : (catalog : Declared) (d : Deployment) (events : List Event) (
     → (station_at d n).hosted ≡ Some site → HasSite catalog d n site × Stands site
 mirrored-has catalog d events n site mirrored known is =
     let follows = mirrored.each n known in
-    let process : FollowsHosted (setup_of catalog) d n (station_at d n).file site follows.content follows.rest =
-    subst (λ (h : Option HostedState). FollowsProcess (setup_of catalog) d n (station_at d n).file h follows.content follows.rest) is follows.process in
+    let process : FollowsHosted (setup_of catalog) d n (station_at d n).asked (station_at d n).file site follows.content follows.rest =
+    subst (λ (h : Option HostedState). FollowsProcess (setup_of catalog) d n (station_at d n).asked (station_at d n).file h follows.content follows.rest) is follows.process in
     (record { known = known; here = is; me = process.me; declared = ap (λ (setup : Setup). setup.catalog) process.catalog }, process.stands)

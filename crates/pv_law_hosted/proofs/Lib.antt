@@ -1,3 +1,4 @@
+mod AskedLemmas
 mod AgreeLemmas
 mod BegunLemmas
 mod CallLemmas
@@ -15,8 +16,10 @@ mod NumberSteps
 mod OneByOneLemmas
 mod OpensLemmas
 mod OutcomeLemmas
+mod ProgramSteps
 mod ReportLemmas
 mod RunLemmas
+mod SaidLemmas
 mod SettleLemmas
 mod SplitLemmas
 mod StoreLemmas

@@ -1,5 +1,5 @@
 -- Whatever happens in a deployment, numbers are let out first; and what commits in the run that mirrors it has had its number let out.
-use Rattle.std.proofs.Common.{◌≡◌, ◌≢◌, ◌⊎◌, ⊎_elim, ℕ, ◌+◌, ◌<◌, ◌≤◌, true, Option, Some, None, List, [], ◌∷◌, ◌++◌, length, map, All, IsTrue, append_assoc, append-nil, get_or-set_same, get_or-set_other, refl, sym, ap, ◌∙◌, subst, arith}
+use Rattle.std.proofs.Common.{◌≡◌, ◌≢◌, ⊎_elim, ℕ, ◌+◌, ◌<◌, true, Option, Some, None, List, [], ◌∷◌, ◌++◌, drop, length, map, All, IsTrue, append_assoc, append-nil, get_or-set_same, get_or-set_other, refl, sym, ap, ◌∙◌, subst, arith}
 use Rattle.std.specs.List.{Contains, list_any}
 use mathlib.Core.Logic.{dite}
 use native.Mathlib.Decide.{ℕ_discrete, dec_le}
@@ -11,16 +11,18 @@ use Rattle.pv_base.specs.Assignment.{is_same_txn}
 use Rattle.pv_base.specs.Catalog.{Declared}
 use Rattle.pv_base.specs.declared.txn.TxnId.{TxnId}
 use Rattle.pv_disk_model.specs.Size.{Contents}
-use Rattle.pv_format.specs.Contents.{SpellRecords, greatest_epoch}
+use Rattle.pv_format.specs.Contents.{SpellRecords}
 use Rattle.pv_format.specs.Journal.{IsJournal}
 use Rattle.pv_format.specs.Record.{Record, epoch_begun, prepared, outcome_known}
 use Rattle.pv_format.specs.RecordSpelling.{IsReadAs}
 use Rattle.pv_law_format.proofs.ReplayLemmas.{written-read}
 use Rattle.pv_law_hosted.proofs.GivenLemmas.{all-grows}
 use Rattle.pv_law_hosted.proofs.MirroredLemmas.{no-member}
+use Rattle.pv_law_hosted.proofs.OneByOneLemmas.{idle-start}
 use Rattle.pv_law_hosted.proofs.NumberLemmas.{All-front, first-gone, first-later, first-same, first-stepped, kept-front, parted}
 use Rattle.pv_law_hosted.proofs.NumberSteps.{IsGivenWell}
-use Rattle.pv_law_hosted.specs.Deployment.{Deployment, IsCarried, IsNew, IsNewStation, Station, no_station, station_at, with_station}
+use Rattle.pv_law_hosted.specs.Asked.{Asked, asked_after}
+use Rattle.pv_law_hosted.specs.Deployment.{Deployment, IsNew, IsNewStation, Station, no_station, station_at, with_station}
 use Rattle.pv_law_hosted.specs.DeploymentEvents.{Happens, HappensAt, HappensTo, MayTake, request, carried, time, takes, stays, asks, is_writing, writes, idles, lets_out, goes}
 use Rattle.pv_law_hosted.specs.Given.{Content}
 use Rattle.pv_law_hosted.specs.Mirrored as mirrored
@@ -28,14 +30,12 @@ use Rattle.pv_law_hosted.specs.Mirrored.{FollowsHosted, FollowsProcess, IsMirror
 use Rattle.pv_law_hosted.specs.Numbers.{AreNumbersFirst, HasNumbers, IsKept, IsNumberFirst, IsNumbered, IsSaying, WereVotesAsked, held_by, outs_of}
 use Rattle.pv_law_step.proofs.Lists.{all-head, all-tail}
 use Rattle.pv_law_step.proofs.StartLemmas.{start-case}
-use Rattle.pv_law_step.specs.StartCases.{StartCase, no_epoch_left, no_room, begins}
 use Rattle.pv_law_world.proofs.GrowthLemmas.{Extends, same}
 use Rattle.pv_model.specs.Events.{Event, Schedule}
 use Rattle.pv_protocol.specs.Committed.{home_of, is_committed, says_yes}
-use Rattle.pv_protocol.specs.Start.{Started, starts, just_started, site_start}
 use Rattle.pv_protocol.specs.State as model
 use Rattle.pv_protocol.specs.State.{Entry, Running, Setup, began}
-use Rattle.pv_protocol.specs.World.{World, no_site, site_at}
+use Rattle.pv_protocol.specs.World.{no_site, site_at}
 use Rattle.pv_site.specs.SiteState.{SiteState, setup_of}
 use Rattle.pv_site.specs.Steps.{HoldsWhatRuns}
 use Rattle.pv_site.specs.Surplus.{surplus_of}
@@ -44,7 +44,7 @@ use Rattle.pv_host.specs.HostLaws.{host_model}
 use Rattle.pv_host.specs.HostLog.{HostState, contents_of}
 use Rattle.pv_embed.specs.Held.{Held, Out, message, note}
 use Rattle.pv_embed.specs.Hosted.{HostedState}
-use Rattle.pv_embed.specs.Opening.{Configures, HasOpenedOn}
+use Rattle.pv_embed.specs.Opening.{HasOpenedOn}
 
 -- What the laws below say that this rests on.
 pub record NumberLaws : Type 0 where
@@ -53,14 +53,10 @@ pub record NumberLaws : Type 0 where
   pub holds : (log : HostState) (file : List ℕ) → IsFile log file → HoldsStored log file
   pub crashed : (hosted : HostedState) (file left : List ℕ) → IsFile hosted.site.log file → MayLeave hosted.site.log file left → IsFile hosted.site.log left
 
--- ## A site that has started works on nothing
-idle-start : (setup : Setup) (surplus : ℕ) (records : List Record) (started : Started) → StartCase setup surplus records started → (running : Running) (kept : Record)
-    → started ≡ starts running kept → running.entries ≡ []
-idle-start setup surplus records started (no_epoch_left h) running kept is = absurd (let wrong : ⊥ = cc in wrong)
-idle-start setup surplus records started (no_room h i) running kept is = absurd (let wrong : ⊥ = cc in wrong)
-idle-start setup surplus records started (begins h i) running kept is =
-    let same : just_started (greatest_epoch records + 1) ≡ running = cc in
-    ap (λ (r : Running). r.entries) (sym same)
+-- What was asked for has no part in it.
+asked-first : (txn : TxnId) (votes : Type 0) (n : ℕ) (station : Station) (asked : List Asked) → IsNumberFirst txn votes n station
+    → IsNumberFirst txn votes n (record station { asked = asked })
+asked-first txn votes n station asked is = record { first = is.first; own = is.own; says = is.says; process = is.process }
 
 module _ (laws : NumberLaws) (config : List ℕ) (schedule : Schedule) (d : Deployment) (events : List Event)
     (m : IsMirrored (setup_of schedule.catalog) d events) (firsts : AreNumbersFirst (setup_of schedule.catalog) d) (n : ℕ) (known : n < schedule.catalog.sites) where
@@ -94,7 +90,7 @@ module _ (laws : NumberLaws) (config : List ℕ) (schedule : Schedule) (d : Depl
     given-well input time = tt
 
     -- ## A process is there
-    module _ (site : HostedState) (here : old.hosted ≡ Some site) (f : FollowsHosted setup d n old.file site (m.each n known).content (m.each n known).rest) where
+    module _ (site : HostedState) (here : old.hosted ≡ Some site) (f : FollowsHosted setup d n old.asked old.file site (m.each n known).content (m.each n known).rest) where
       has : HasNumbers txn asked (outs_of old) old.file (Some site)
       has = subst (HasNumbers txn asked (outs_of old) old.file) here is.process
 
@@ -120,7 +116,9 @@ module _ (laws : NumberLaws) (config : List ℕ) (schedule : Schedule) (d : Depl
           (subst (SpellRecords site.site.records) stored.first whole) has.0
 
       happens : (new : Station) → HappensTo schedule.catalog d n site old new → IsNumberFirst txn asked n new
-      happens new (takes next input may stepped) = first-stepped txn asked n old is site next here f.me input (given-well input may) stepped
+      happens new (takes next input may stepped) =
+          asked-first txn asked n (record old { hosted = Some next }) (asked_after old.asked input (drop (length site.held) next.held))
+          (first-stepped txn asked n old is site next here f.me input (given-well input may) stepped)
       happens new (stays next still) = still-first next old.file still.1
       happens new (asks next room asked_so) = still-first next old.file asked_so.same
       happens new (is_writing left may) =
@@ -168,7 +166,7 @@ module _ (laws : NumberLaws) (config : List ℕ) (schedule : Schedule) (d : Depl
           ))
 
     happens-at : (new : Station) (hosted : Option HostedState) → old.hosted ≡ hosted → HappensAt config schedule.catalog d n old hosted new
-        → FollowsProcess setup d n old.file hosted (m.each n known).content (m.each n known).rest → IsNumberFirst txn asked n new
+        → FollowsProcess setup d n old.asked old.file hosted (m.each n known).content (m.each n known).rest → IsNumberFirst txn asked n new
     happens-at new (Some site) here at f = happens site here f new at
     happens-at new None here at f = subst (IsNumberFirst txn asked n) (sym at.2) (opened-first at.0 here at.1)
 
@@ -258,10 +256,10 @@ module _ (setup : Setup) (d : Deployment) (events : List Event) (m : IsMirrored 
   votes = WereVotesAsked d txn
 
   -- The records that the run's site has are the first of those that the process has.
-  content-kept : (n : ℕ) (content : Content) (rest out : List Out) (file : List ℕ) (hosted : Option HostedState) → FollowsProcess setup d n file hosted content rest
+  content-kept : (n : ℕ) (content : Content) (rest out : List Out) (requests : List Asked) (file : List ℕ) (hosted : Option HostedState) → FollowsProcess setup d n requests file hosted content rest
       → HasNumbers txn votes out file hosted → All (IsKept txn votes) content.records
-  content-kept n content rest out file None gone left = left content.records gone.contents gone.journal (written-read content.records gone.contents gone.spelled)
-  content-kept n content rest out file (Some hosted) f has =
+  content-kept n content rest out requests file None gone left = left content.records gone.contents gone.journal (written-read content.records gone.contents gone.spelled)
+  content-kept n content rest out requests file (Some hosted) f has =
       let grown = all-grows setup n content f.waiting in
       All-front (IsKept txn votes) content.records grown.0
       (subst (All (IsKept txn votes)) (sym (ap (λ (c : Content). c.records) f.come) ∙ grown.1) has.0)
@@ -291,7 +289,7 @@ module _ (setup : Setup) (d : Deployment) (events : List Event) (m : IsMirrored 
       let follows = m.each n (omega (arith, below)) in
       committed-asked (site_at world n).records
       (seen-kept follows.content (site_at world n) follows.seen
-      (content-kept n follows.content follows.rest (outs_of (station_at d n)) (station_at d n).file (station_at d n).hosted follows.process (firsts txn n (omega (arith, below))).process))
+      (content-kept n follows.content follows.rest (outs_of (station_at d n)) (station_at d n).asked (station_at d n).file (station_at d n).hosted follows.process (firsts txn n (omega (arith, below))).process))
       says)
       (λ beyond.
       absurd (false≢true (subst (λ (s : model.Site). list_any (says_yes txn) s.records ≡ true) (get_or_past world.sites n no_site (let all = m.sites in omega (arith, all, beyond))) says)))

@@ -1,28 +1,22 @@
 -- Whatever happens in a deployment, numbers are let out first.
-use Rattle.std.proofs.Common.{◌≡◌, ◌≢◌, ◌⊎◌, inl, inr, ⊎_elim, ℕ, ◌+◌, ◌<◌, ◌≤◌, true, Option, Some, None, List, [], ◌∷◌, ◌++◌, length, map, All, append_assoc, append-nil, get_or-set_same, get_or-set_other, refl, sym, ap, ap₂, ◌∙◌, subst, arith}
+use Rattle.std.proofs.Common.{◌≡◌, ◌⊎◌, inl, inr, ⊎_elim, ℕ, Option, Some, None, List, [], ◌∷◌, ◌++◌, map, All, append_assoc, append-nil, refl, sym, ap, ap₂, ◌∙◌, subst}
 use Rattle.std.specs.List.{Contains}
 use Rattle.std.specs.Option.{option_to_list}
-use mathlib.Core.Logic.{dite}
-use native.Mathlib.Decide.{ℕ_discrete, dec_le}
-use Rattle.std.proofs.lemmas.List.{get_or_past, map-append}
+use Rattle.std.proofs.lemmas.List.{map-append}
 use Rattle.std.proofs.lemmas.List.Elements.{All-append, All-cons, All-contains, All-map, All-nil, All-weaker, Contains-append_cases, Contains-append_left, Contains-append_right}
 use Rattle.pv_base.proofs.Basics.{Some_inj}
 use Rattle.pv_base.proofs.ContainsLemmas.{Contains-cases, Contains-first, Contains-nil}
-use Rattle.pv_base.specs.Catalog.{Declared}
+use Rattle.pv_base.proofs.MapLemmas.{Contains-map}
 use Rattle.pv_base.specs.declared.txn.TxnId.{TxnId}
 use Rattle.pv_disk_model.specs.Size.{Contents}
 use Rattle.pv_format.specs.Contents.{SpellRecords}
-use Rattle.pv_format.specs.Journal.{IsJournal}
-use Rattle.pv_format.specs.Message.{Envelope}
-use Rattle.pv_format.specs.Record.{Record, epoch_begun}
+use Rattle.pv_format.specs.Record.{Record}
 use Rattle.pv_format.specs.RecordSpelling.{IsReadAs}
-use Rattle.pv_law_hosted.proofs.MirroredLemmas.{contains-mapped}
 use Rattle.pv_law_hosted.proofs.NumberSteps.{IsGivenWell, IsItsOwn, IsSentWell, IsTold, IsWorkedOn, step-told}
-use Rattle.pv_law_hosted.proofs.TimeLemmas.{outs-of-held}
-use Rattle.pv_law_hosted.specs.Deployment.{Deployment, Station, no_station, station_at, with_station}
-use Rattle.pv_law_hosted.specs.Numbers.{HasNumbers, IsAsking, IsKept, IsNumberFirst, IsNumbered, IsSaying, WereVotesAsked, held_by, outs_of}
+use Rattle.pv_law_hosted.proofs.AskedLemmas.{outs-of-held}
+use Rattle.pv_law_hosted.specs.Deployment.{Station}
+use Rattle.pv_law_hosted.specs.Numbers.{HasNumbers, IsAsking, IsKept, IsNumberFirst, IsNumbered, IsSaying, held_by, outs_of}
 use Rattle.pv_law_step.proofs.Lists.{OfSome, all-from, all-head, all-tail}
-use Rattle.pv_law_world.proofs.GrowthLemmas.{Extends}
 use Rattle.pv_protocol.specs.Committed.{home_of}
 use Rattle.pv_protocol.specs.State as model
 use Rattle.pv_protocol.specs.State.{Entry, Running, began}
@@ -176,7 +170,7 @@ module _ (txn : TxnId) (asked : Type 0) where
       among : Contains step.notes (began txn) → Contains more (note (began txn))
       among there =
           Contains-append_right (map (λ (sent : model.Outgoing). message (record { from = n; to = sent.to; message = sent.message })) step.sends) (map note step.notes)
-          (note (began txn)) (contains-mapped note step.notes (began txn) there)
+          (note (began txn)) (Contains-map note step.notes (began txn) there)
 
       works-new : (running : Running) → next.site.running ≡ Some running → All (IsNumbered txn (outs_of old ++ more)) running.entries
       works-new running up =

@@ -1,6 +1,6 @@
 -- A step asks for votes on a transaction only where its number was let out before, or is held, and speaks of votes only where some were asked for.
-use Rattle.std.proofs.Common.{◌≡◌, ◌⊎◌, inl, inr, ℕ, Bool, true, false, Some, None, Option, List, [], ◌∷◌, map, refl, sym, ◌∙◌, ◌+◌, ap, subst}
-use Rattle.std.specs.Prelude.{All, ◌&&◌, ◌==◌, not, nat_lt, if◌then◌else◌, ⊤}
+use Rattle.std.proofs.Common.{◌≡◌, ◌⊎◌, inl, inr, ℕ, Bool, true, false, Some, None, Option, List, [], ◌∷◌, refl, sym, ◌∙◌, ◌+◌, ap, subst}
+use Rattle.std.specs.Prelude.{All, ◌&&◌, not, nat_lt, if◌then◌else◌, ⊤}
 use Rattle.std.specs.List.{Contains}
 use Rattle.std.proofs.lemmas.Bool.{and_parts}
 use Rattle.std.proofs.lemmas.List.Elements.{All-append, All-cons, All-filter, All-map, All-nil, All-weaker}
@@ -11,7 +11,7 @@ use Rattle.pv_base.specs.Want.{Want}
 use Rattle.pv_base.specs.declared.grant.GrantId.{GrantId}
 use Rattle.pv_base.specs.declared.limits.TheConstants.{TICKS}
 use Rattle.pv_base.specs.declared.txn.TxnId.{TxnId}
-use Rattle.pv_format.specs.Message.{Message, lock, granted, denied, prepare, vote_yes, vote_no, outcome_reported, ask, NoCause, grant_lost, journal_full}
+use Rattle.pv_format.specs.Message.{Message, lock, granted, denied, prepare, vote_yes, vote_no, outcome_reported, ask, NoCause, grant_lost}
 use Rattle.pv_format.specs.Record.{Record, epoch_begun, prepared, outcome_known}
 use Rattle.pv_law_step.proofs.Appended.{found-passes, grant-txn}
 use Rattle.pv_law_step.proofs.Kept.{find-of, with-one-all, without-all, filter-map-all}
@@ -28,13 +28,13 @@ use Rattle.pv_model.specs.Syntax.{Program}
 use Rattle.pv_protocol.specs.Committed.{home_of}
 use Rattle.pv_protocol.specs.Coordinate.{locking_entry, voting_entry, is_locking}
 use Rattle.pv_protocol.specs.Granted.{taking, taken_from, prepare_under, at_lock_point}
-use Rattle.pv_protocol.specs.Here.{Here, nothing, remembering, sending, noting, with_grant, with_entry, without_entry, participants, outcome_sends, refusing}
+use Rattle.pv_protocol.specs.Here.{Here, nothing, remembering, sending, noting, with_entry, without_entry, participants, outcome_sends, refusing}
 use Rattle.pv_protocol.specs.Lock.{next_txn, lock_sends}
 use Rattle.pv_protocol.specs.Outcome.{named_here}
 use Rattle.pv_protocol.specs.Records.{known}
 use Rattle.pv_protocol.specs.State.{Taken, locking, voting, Entry, Running, Cause, Input, submit, receive, tick, Note, began, Outgoing, Step}
 use Rattle.pv_protocol.specs.Step.{on_message, step_on}
-use Rattle.pv_protocol.specs.Tick.{older_entries, expired_entries, expiry_sends, expiry_notes, awaited, ask_sends, older, ungranted, on_tick}
+use Rattle.pv_protocol.specs.Tick.{older_entries, expired_entries, expiry_sends, ask_sends, older, ungranted, on_tick}
 use Rattle.pv_protocol.specs.Vote.{others_than, committing}
 use Rattle.pv_law_hosted.specs.Numbers.{AsksForVote, IsKept, SaysVoted}
 

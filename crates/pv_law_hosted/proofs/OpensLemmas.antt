@@ -1,6 +1,6 @@
 -- A station gets a process: its site is opened on the file, and its epoch waits for its record.
 use Rattle.std.proofs.Common.{◌≡◌, ℕ, ◌≤◌, true, Some, List, [], ◌∷◌, ◌++◌, length, append-nil, refl, sym, ap, ap₂, ◌∙◌, subst, arith}
-use Rattle.std.proofs.lemmas.List.Elements.{All-nil, All-cons}
+use Rattle.std.proofs.lemmas.List.Elements.{All-nil}
 use Rattle.pv_disk_model.specs.Calls.{read_all, reserve, append}
 use Rattle.pv_disk_model.specs.Size.{Contents, size_of}
 use Rattle.pv_format.specs.Contents.{AreWritten, SpellRecords}
@@ -26,7 +26,7 @@ use Rattle.pv_embed.proofs.HostedLemmas.{stored_after}
 use Rattle.pv_law_hosted.specs.Deployment.{Deployment, Station, station_at}
 use Rattle.pv_law_hosted.specs.DeploymentEvents.{Stands}
 use Rattle.pv_law_hosted.specs.Given as process
-use Rattle.pv_law_hosted.specs.Given.{Content, Given, MayBeGiven, opened_with, started_with, with_given}
+use Rattle.pv_law_hosted.specs.Given.{Content, Given, opened_with, started_with, with_given}
 use Rattle.pv_law_hosted.specs.Mirrored.{FollowsGone, FollowsHosted}
 
 module _ (one_record : (entry other : Record) (bytes : List ℕ) → IsReadAs entry bytes → IsReadAs other bytes → entry ≡ other) where
@@ -94,7 +94,7 @@ module _ (one_record : (entry other : Record) (bytes : List ℕ) → IsReadAs en
         (subst (AreWritten (content.records ++ epoch_begun o.opened.epoch ∷ [])) (sym holds)
         (written-more content.records gone.contents (epoch_begun o.opened.epoch) o.opened.content gone.spelled o.opened.content_is))
 
-    opened-follows : FollowsHosted setup d n old.file site content []
+    opened-follows : FollowsHosted setup d n old.asked old.file site content []
     opened-follows = record {
       is_file = is_file;
       stands = stands;
@@ -104,7 +104,7 @@ module _ (one_record : (entry other : Record) (bytes : List ℕ) → IsReadAs en
       stored = subst (AreWritten content.records) (sym still-stored) gone.spelled;
       whole = all-written;
       waiting = process.opened ∷ [];
-      allowed = All-cons (MayBeGiven schedule.catalog d n) process.opened [] tt (All-nil (MayBeGiven schedule.catalog d n));
+      allowed = (tt, tt);
       first = (epoch_begun o.opened.epoch, ap (λ (c : Content). c.records) given-so);
       come = sym now-so;
       ready = [];

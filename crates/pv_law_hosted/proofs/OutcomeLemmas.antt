@@ -112,8 +112,8 @@ pub number-is : (setup : Setup) (d : Deployment) (events : List Event) (n : ℕ)
     → (station_at d n).hosted ≡ Some hosted → hosted.site.me ≡ n
 number-is setup d events n hosted mirrored known is =
     let follows = mirrored.each n known in
-    let process : FollowsHosted setup d n (station_at d n).file hosted follows.content follows.rest =
-    subst (λ (h : Option HostedState). FollowsProcess setup d n (station_at d n).file h follows.content follows.rest) is follows.process in
+    let process : FollowsHosted setup d n (station_at d n).asked (station_at d n).file hosted follows.content follows.rest =
+    subst (λ (h : Option HostedState). FollowsProcess setup d n (station_at d n).asked (station_at d n).file h follows.content follows.rest) is follows.process in
     process.me
 
 some-found : (found : Option Entry) → is_some found ≡ true → (entry : Entry) × (found ≡ Some entry)

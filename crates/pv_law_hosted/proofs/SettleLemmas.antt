@@ -1,10 +1,14 @@
 -- What is given to a process is an event of the run, and what is given one after another are events one after another.
 use Rattle.std.proofs.Common.{◌≡◌, ◌≢◌, ℕ, zero, suc, ◌+◌, ◌<◌, Bool, true, false, if◌then◌else◌, Option, Some, None, List, [], ◌∷◌, ◌++◌, length, map, set, get_or, All, append_assoc, append-nil, get_or-set_same, get_or-set_other, refl, sym, ap, ap₂, ◌∙◌, subst}
 use Rattle.std.specs.Prelude.{slice_get, option_to_list}
+use Rattle.std.specs.List.{Contains}
 use Rattle.std.proofs.lemmas.List.{length-set, map-append}
-use Rattle.std.proofs.lemmas.List.Elements.{All-nil, All-cons, All-append}
+use Rattle.std.proofs.lemmas.List.Elements.{All-nil, All-cons, All-append, All-weaker, Contains-append_left}
+use Rattle.pv_base.specs.declared.txn.TxnId.{TxnId}
 use Rattle.pv_format.specs.Message.{Envelope}
 use Rattle.pv_format.specs.Record.{Record}
+use Rattle.pv_law_step.proofs.Lists.{OfSome}
+use Rattle.pv_law_world.proofs.AppendLemmas.{run-append}
 use Rattle.pv_law_world.proofs.GrowthLemmas.{Extends, same}
 use Rattle.pv_law_world.specs.Transitions.{site_of}
 use Rattle.pv_model.specs.Events as events
@@ -15,7 +19,7 @@ use Rattle.pv_protocol.specs.Attempt.{Attempt, attempts, begun, given, delivered
 use Rattle.pv_protocol.specs.Lines.{Line, line_of, lines_of}
 use Rattle.pv_protocol.specs.Run.{run, transitions_of, world_after}
 use Rattle.pv_protocol.specs.Start.{site_start}
-use Rattle.pv_protocol.specs.State.{Setup, Site, Arm, Running, Input, Outgoing, Note, submit, receive, tick}
+use Rattle.pv_protocol.specs.State.{Setup, Site, Arm, Placed, Running, Input, Outgoing, Note, submit, receive, tick}
 use Rattle.pv_protocol.specs.Step.{site_step}
 use Rattle.pv_protocol.specs.WellFormed.{IsWellFormed}
 use Rattle.pv_protocol.specs.World.{World, no_site, site_at, with_done, from_site}
@@ -24,14 +28,48 @@ use Rattle.pv_embed.specs.Held.{Out, message, note}
 use Rattle.pv_embed.specs.Outputs.{outs}
 use Rattle.pv_law_hosted.proofs.RunLemmas.{after-append, made-append, made-own, made-other}
 use Rattle.pv_law_hosted.proofs.WithinLemmas.{within-same, within-append}
+use Rattle.pv_law_hosted.specs.Asked.{Asked, asked_as}
 use Rattle.pv_law_hosted.specs.Given.{Content}
 use Rattle.pv_law_hosted.specs.Made.{Made, IsWithin, sends, prints, made_as, made_in, made_from}
 use Rattle.pv_law_hosted.specs.Made as made
 use Rattle.pv_law_hosted.specs.Mirrored as mirrored
-use Rattle.pv_law_hosted.specs.Mirrored.{IsSeenAs, plain_site, unborn}
+use Rattle.pv_law_hosted.specs.Mirrored.{IsBegunIn, IsSeenAs, WorksAsBegun, plain_site, unborn}
+
+-- What a request begins in the transition was asked of this site.
+abbrev pub IsAskedOf : ℕ → List Asked → Transition → Type 0
+IsAskedOf n asked transition =
+    (m : ℕ) (query : Bool) (text : List ℕ) (program : Program) (txn : TxnId) → transition.event ≡ events.submit m query text program
+    → Contains transition.lines (Line.txn txn) → (m ≡ n) × (asked_as asked txn ≡ Some program)
+
+-- What the site works on has begun in these transitions; and what it puts into the order.
+abbrev pub WorksOn : ℕ → List Transition → World → Type 0
+WorksOn n transitions world = (running : Running) → (site_at world n).running ≡ Some running → All (WorksAsBegun transitions n) running.entries
+
+abbrev pub IsPlacedOf : ℕ → List Transition → Placed → Type 0
+IsPlacedOf n transitions placed = IsBegunIn transitions n placed.txn placed.program
+
+abbrev pub PlacesOnly : ℕ → List Transition → World → World → Type 0
+PlacesOnly n transitions world after = (more : List Placed) × ((after.order ≡ world.order ++ more) × All (IsPlacedOf n transitions) more)
+
+-- What has begun has, where more came after it.
+pub begun-more : (transitions more : List Transition) (n : ℕ) (txn : TxnId) (program : Program) → IsBegunIn transitions n txn program
+    → IsBegunIn (transitions ++ more) n txn program
+begun-more transitions more n txn program is = record {
+  home = is.home;
+  transition = is.transition;
+  there = Contains-append_left transitions more is.transition is.there;
+  query = is.query;
+  text = is.text;
+  event = is.event;
+  printed = is.printed;
+}
+
+all-placed : (P : Placed → Type 0) (placed : Option Placed) → OfSome P placed → All P (option_to_list placed)
+all-placed P None of = All-nil P
+all-placed P (Some placed) of = All-cons P placed [] of (All-nil P)
 
 -- After these events the site stands for this content, and this is what it made; for the other sites nothing has happened.
-pub record Settles (setup : Setup) (world : World) (n : ℕ) (content : Content) (out : List Out) (more : List Event) : Type 0 where
+pub record Settles (setup : Setup) (world : World) (n : ℕ) (asked : List Asked) (content : Content) (out : List Out) (more : List Event) : Type 0 where
   pub well : All (IsWellFormed setup.catalog) more
   pub width : length (world_after world (run setup world more)).sites ≡ length world.sites
   pub seen : IsSeenAs content (site_at (world_after world (run setup world more)) n)
@@ -39,11 +77,15 @@ pub record Settles (setup : Setup) (world : World) (n : ℕ) (content : Content)
   pub own : IsWithin n (map (made_as n) out) (made_from n world (run setup world more))
   pub silent : (m : ℕ) → n ≢ m → made_from m world (run setup world more) ≡ []
   pub sent : Extends world.sent (world_after world (run setup world more)).sent
+  pub asked_for : All (IsAskedOf n asked) (run setup world more)
+  pub programs : (before : List Transition) → WorksOn n before world
+      → WorksOn n (before ++ run setup world more) (world_after world (run setup world more))
+      × PlacesOnly n (before ++ run setup world more) world (world_after world (run setup world more))
 
 module _ (setup : Setup) (n : ℕ) where
   -- nothing happens
-  pub settles-nothing : (world : World) (content : Content) → IsSeenAs content (site_at world n) → Settles setup world n content [] []
-  settles-nothing world content seen = record {
+  pub settles-nothing : (asked : List Asked) (world : World) (content : Content) → IsSeenAs content (site_at world n) → Settles setup world n asked content [] []
+  settles-nothing asked world content seen = record {
     well = All-nil (IsWellFormed setup.catalog);
     width = refl;
     seen = seen;
@@ -51,12 +93,15 @@ module _ (setup : Setup) (n : ℕ) where
     own = made.none;
     silent = λ m apart. refl;
     sent = same world.sent;
+    asked_for = All-nil (IsAskedOf n asked);
+    programs = λ before own.
+        (subst (λ (l : List Transition). WorksOn n l world) (sym (append-nil before)) own, ([], (sym (append-nil world.order), All-nil (IsPlacedOf n (before ++ [])))));
   }
 
   -- some events and then more
-  pub settles-then : (world : World) (content later : Content) (out out_more : List Out) (events more : List Event) → Settles setup world n content out events
-      → Settles setup (world_after world (run setup world events)) n later out_more more → Settles setup world n later (out ++ out_more) (events ++ more)
-  settles-then world content later out out_more events more first then_on =
+  pub settles-then : (asked : List Asked) (world : World) (content later : Content) (out out_more : List Out) (events more : List Event) → Settles setup world n asked content out events
+      → Settles setup (world_after world (run setup world events)) n asked later out_more more → Settles setup world n asked later (out ++ out_more) (events ++ more)
+  settles-then asked world content later out out_more events more first then_on =
       let mid = world_after world (run setup world events) in
       let end = world_after mid (run setup mid more) in
       let is : world_after world (run setup world (events ++ more)) ≡ end = after-append setup world events more in
@@ -75,6 +120,29 @@ module _ (setup : Setup) (n : ℕ) where
           ap (λ (w : World). w.sent) is ∙ then_on.sent.1 ∙ ap (λ (l : List Envelope). l ++ then_on.sent.0) first.sent.1
               ∙ append_assoc world.sent first.sent.0 then_on.sent.0,
         );
+        asked_for = subst (All (IsAskedOf n asked)) (sym (run-append setup world events more))
+            (All-append (IsAskedOf n asked) (run setup world events) (run setup mid more) first.asked_for then_on.asked_for);
+        programs = λ before own.
+            let first_run = run setup world events in
+            let second_run = run setup mid more in
+            let a = first.programs before own in
+            let b = then_on.programs (before ++ first_run) a.0 in
+            let all : (before ++ first_run) ++ second_run ≡ before ++ run setup world (events ++ more) =
+            append_assoc before first_run second_run ∙ ap (λ (l : List Transition). before ++ l) (sym (run-append setup world events more)) in (
+              subst (λ (l : List Transition). WorksOn n l (world_after world (run setup world (events ++ more)))) all
+                  (subst (WorksOn n ((before ++ first_run) ++ second_run)) (sym is) b.0),
+              (
+                a.1.0 ++ b.1.0,
+                (
+                  ap (λ (w : World). w.order) is ∙ b.1.1.0 ∙ ap (λ (l : List Placed). l ++ b.1.0) a.1.1.0 ∙ append_assoc world.order a.1.0 b.1.0,
+                  subst (λ (l : List Transition). All (IsPlacedOf n l) (a.1.0 ++ b.1.0)) all
+                      (All-append (IsPlacedOf n ((before ++ first_run) ++ second_run)) a.1.0 b.1.0
+                      (All-weaker (IsPlacedOf n (before ++ first_run)) (IsPlacedOf n ((before ++ first_run) ++ second_run))
+                      (λ placed it. begun-more (before ++ first_run) second_run n placed.txn placed.program it) a.1.0 a.1.1.1)
+                      b.1.1.1),
+                ),
+              ),
+            );
       }
 
   -- ## An attempt in a world without armed faults
@@ -139,12 +207,16 @@ module _ (setup : Setup) (n : ℕ) where
       (given-ended (with_done world number) records running (receive envelope.from envelope.message) stands)
 
   -- ## What it does
-  pub settles-attempt : (world before : World) (event : Event) (attempt : Attempt) (records : List Record) (was : Option Running) (out : List Out)
+  pub settles-attempt : (asked : List Asked) (world before : World) (event : Event) (attempt : Attempt) (records : List Record) (was : Option Running) (out : List Out)
       → run setup world (event ∷ []) ≡ whole before event attempt ∷ [] → before.sites ≡ world.sites → before.sent ≡ world.sent → site_of world event ≡ Some n
       → site_at world n ≡ plain_site records was → attempt.packs ≡ false → n < length world.sites → IsWellFormed setup.catalog event
-      → IsWithin n (map (made_as n) out) (map sends (from_site n attempt.sends) ++ map prints attempt.lines)
-      → Settles setup world n (record { records = records ++ option_to_list attempt.appended; running = attempt.running }) out (event ∷ [])
-  settles-attempt world before event attempt records was out is sites sent of stands plain below well within =
+      → IsWithin n (map (made_as n) out) (map sends (from_site n attempt.sends) ++ map prints attempt.lines) → IsAskedOf n asked (whole before event attempt)
+      → before.order ≡ world.order
+      → ((before_it : List Transition) → ((running : Running) → was ≡ Some running → All (WorksAsBegun before_it n) running.entries)
+      → ((running : Running) → attempt.running ≡ Some running → All (WorksAsBegun (before_it ++ whole before event attempt ∷ []) n) running.entries)
+      × OfSome (IsPlacedOf n (before_it ++ whole before event attempt ∷ [])) attempt.placed)
+      → Settles setup world n asked (record { records = records ++ option_to_list attempt.appended; running = attempt.running }) out (event ∷ [])
+  settles-attempt asked world before event attempt records was out is sites sent of stands plain below well within asked_for order works =
       let t = whole before event attempt in
       let left : Site = plain_site (records ++ option_to_list attempt.appended) attempt.running in
       let new : t.world.sites ≡ set world.sites n left =
@@ -180,6 +252,22 @@ module _ (setup : Setup) (n : ℕ) where
             (sym (ap (made_from n world) is ∙ append-nil (made_in n world t) ∙ made-own n world t (from_site n attempt.sends) of grown)) within;
         silent = λ m apart. ap (made_from m world) is ∙ append-nil (made_in m world t) ∙ made-other n m world t of apart;
         sent = (from_site n attempt.sends, ap (λ (w : World). w.sent) after ∙ grown);
+        asked_for = subst (All (IsAskedOf n asked)) (sym is) (All-cons (IsAskedOf n asked) t [] asked_for (All-nil (IsAskedOf n asked)));
+        programs = λ before_it own.
+            let leaves = works before_it (λ now up. own now (ap (λ (s : Site). s.running) stands ∙ up)) in
+            let all : before_it ++ t ∷ [] ≡ before_it ++ run setup world (event ∷ []) = ap (λ (l : List Transition). before_it ++ l) (sym is) in (
+              (λ now up.
+                  subst (λ (l : List Transition). All (WorksAsBegun l n) now.entries) all
+                  (leaves.0 now (sym (ap (λ (w : World). (site_at w n).running) after ∙ ap (λ (s : Site). s.running) here) ∙ up))),
+              (
+                option_to_list attempt.placed,
+                (
+                  ap (λ (w : World). w.order) after ∙ ap (λ (l : List Placed). l ++ option_to_list attempt.placed) order,
+                  subst (λ (l : List Transition). All (IsPlacedOf n l) (option_to_list attempt.placed)) all
+                      (all-placed (IsPlacedOf n (before_it ++ t ∷ [])) attempt.placed leaves.1),
+                ),
+              ),
+            );
       }
 
   -- ## What was made of a step

@@ -1,7 +1,7 @@
 -- A site takes something, or its host has written a record: what is done by then is settled, and the rest waits.
 use Rattle.std.proofs.Common.{◌≡◌, ⊎_elim, ℕ, zero, suc, ◌+◌, ◌≤◌, Some, None, List, [], ◌∷◌, ◌++◌, length, length-append, map, All, append_assoc, append-nil, refl, sym, ap, ap₂, ◌∙◌, subst, arith}
 use Rattle.std.proofs.lemmas.List.{map-append}
-use Rattle.std.proofs.lemmas.List.Elements.{All-nil, All-cons, All-head, All-tail, All-append, All-weaker}
+use Rattle.std.proofs.lemmas.List.Elements.{All-append, All-weaker}
 use Rattle.std.proofs.lemmas.List.Sums.{sum_by-append}
 use Rattle.pv_disk_model.specs.Size.{Contents, size_of}
 use Rattle.pv_format.specs.Contents.{AreWritten}
@@ -13,21 +13,18 @@ use Rattle.pv_host.specs.HostFile.{IsFile}
 use Rattle.pv_host.specs.HostLog.{contents_of}
 use Rattle.pv_embed.specs.Held.{Held, Out}
 use Rattle.pv_embed.specs.Hosted.{HostedState, stored_length}
+use Rattle.pv_law_hosted.proofs.AskedLemmas.{may-parts}
 use Rattle.pv_law_hosted.proofs.GivenLemmas.{all-grows, held_for-append, with_all-append}
 use Rattle.pv_law_hosted.proofs.MirroredLemmas.{Becomes}
 use Rattle.pv_law_hosted.proofs.SplitLemmas.{IsUp, all-up, given-either, held-within, outs-held, parted, written-front, written-length}
 use Rattle.pv_law_hosted.proofs.StoreLemmas.{StoresGroup, still-written}
+use Rattle.pv_law_hosted.specs.Asked.{Asked}
 use Rattle.pv_law_hosted.specs.Deployment.{Deployment, Station, station_at}
 use Rattle.pv_law_hosted.specs.DeploymentEvents.{Stands}
-use Rattle.pv_law_hosted.specs.Given.{Content, Given, MayBeGiven, WaitsForRecord, held_for, outs_of_all, with_all, with_given}
+use Rattle.pv_law_hosted.specs.Given.{Content, Given, MayAllBeGiven, WaitsForRecord, held_for, outs_of_all, with_all, with_given}
 use Rattle.pv_law_hosted.specs.Mirrored.{FollowsHosted}
 
-pub all-parts : {X : Type 0} (P : X → Type 0) (xs ys : List X) → All P (xs ++ ys) → All P xs × All P ys
-all-parts P [] ys all = (All-nil P, all)
-all-parts P (x ∷ xs) ys all =
-    let rest = all-parts P xs ys (All-tail P x (xs ++ ys) all) in (All-cons P x xs (All-head P x (xs ++ ys) all) rest.0, rest.1)
-
-module _ (setup : Setup) (d : Deployment) (n : ℕ)
+module _ (setup : Setup) (d : Deployment) (n : ℕ) (asked : List Asked)
     (tells : (records : List Record) (contents : Contents) → AreWritten records contents → size_of contents ≡ journal_bytes records) where
   -- what is there now
   abbrev pub now : HostedState → Content
@@ -42,7 +39,7 @@ module _ (setup : Setup) (d : Deployment) (n : ℕ)
     pub surplus : next.site.surplus ≡ 0
     pub stored : AreWritten (with_all setup n content done).records next.site.log.stored
     pub whole : AreWritten next.site.records (contents_of next.site.log)
-    pub allowed : All (MayBeGiven setup.catalog d n) left
+    pub allowed : MayAllBeGiven setup n d asked (with_all setup n content done) left
     pub first : WaitsForRecord setup n (with_all setup n content done) left
     pub come : with_all setup n content (done ++ left) ≡ now next
     pub held : next.held ≡ before ++ held_for setup n content (done ++ left)
@@ -50,7 +47,7 @@ module _ (setup : Setup) (d : Deployment) (n : ℕ)
     pub unopened : (with_all setup n content done).running ≡ None → before ++ held_for setup n content done ≡ []
 
   pub done-follows : (file : List ℕ) (next : HostedState) (content : Content) (before : List Held) (done left : List Given) → HasDone file next content before done left
-      → FollowsHosted setup d n file next (with_all setup n content done) (map (λ (one : Held). one.out) (before ++ held_for setup n content done))
+      → FollowsHosted setup d n asked file next (with_all setup n content done) (map (λ (one : Held). one.out) (before ++ held_for setup n content done))
   done-follows file next content before done left has =
       let settled = with_all setup n content done in
       let long : stored_length next ≡ journal_bytes settled.records = tells settled.records next.site.log.stored has.stored in
@@ -76,8 +73,9 @@ module _ (setup : Setup) (d : Deployment) (n : ℕ)
       }
 
   pub done-becomes : (file : List ℕ) (next : HostedState) (content : Content) (rest : List Out) (before : List Held) (done left : List Given) (new : Station)
-      → All (MayBeGiven setup.catalog d n) done → HasDone file next content before done left → rest ≡ map (λ (one : Held). one.out) before
-      → new ≡ record { file = file; hosted = Some next; let_out = (station_at d n).let_out } → Becomes setup d n content rest new
+      → MayAllBeGiven setup n d asked content done → HasDone file next content before done left
+      → rest ≡ map (λ (one : Held). one.out) before
+      → new ≡ record { file = file; hosted = Some next; let_out = (station_at d n).let_out; asked = asked } → Becomes setup d n content rest new
   done-becomes file next content rest before done left new may has is here =
       let out = (station_at d n).let_out in
       let ready = map (λ (one : Held). one.out) (before ++ held_for setup n content done) in
@@ -154,14 +152,14 @@ module _ (setup : Setup) (d : Deployment) (n : ℕ)
     pub done : List Given
     pub left : List Given
     pub split : waiting ≡ done ++ left
-    pub may : All (MayBeGiven setup.catalog d n) done
-    pub allowed : All (MayBeGiven setup.catalog d n) left
+    pub may : MayAllBeGiven setup n d asked content done
+    pub allowed : MayAllBeGiven setup n d asked (with_all setup n content done) left
     pub spelled : AreWritten (with_all setup n content done).records (stored ++ group)
     pub up : IsUp (with_all setup n content done)
     pub first : WaitsForRecord setup n (with_all setup n content done) left
 
-  module _ (file : List ℕ) (site : HostedState) (content : Content) (rest : List Out) (f : FollowsHosted setup d n file site content rest)
-      (one : List ℕ) (others : Contents) (asked : site.site.log.asked ≡ one ∷ others) where
+  module _ (file : List ℕ) (site : HostedState) (content : Content) (rest : List Out) (f : FollowsHosted setup d n asked file site content rest)
+      (one : List ℕ) (others : Contents) (group : site.site.log.asked ≡ one ∷ others) where
     group-waits : length content.records + suc (length others) ≤ length (with_all setup n content f.waiting).records
     group-waits =
         let stored = written-length content.records site.site.log.stored f.stored in
@@ -172,7 +170,7 @@ module _ (setup : Setup) (d : Deployment) (n : ℕ)
           stored,
           all,
           records,
-          ap (λ (l : Contents). length l) asked,
+          ap (λ (l : Contents). length l) group,
           length-append site.site.log.stored (site.site.log.asked ++ site.site.log.pending),
           length-append site.site.log.asked site.site.log.pending,
         )
@@ -181,13 +179,13 @@ module _ (setup : Setup) (d : Deployment) (n : ℕ)
     cut-group =
         let at = cut-at (length others) content f.waiting f.first group-waits in
         let settled = with_all setup n content at.done in
-        let may = all-parts (MayBeGiven setup.catalog d n) at.done at.left (subst (All (MayBeGiven setup.catalog d n)) at.split f.allowed) in
+        let may = may-parts setup n d asked content at.done at.left (subst (MayAllBeGiven setup n d asked content) at.split f.allowed) in
         let come : with_all setup n settled at.left ≡ now site =
         sym (with_all-append setup n content at.done at.left) ∙ sym (ap (with_all setup n content) at.split) ∙ f.come in
         let grown = all-grows setup n settled at.left in
         let rest_is : site.site.records ≡ settled.records ++ grown.0 = sym (ap (λ (c : Content). c.records) come) ∙ grown.1 in
         let contents : contents_of site.site.log ≡ (site.site.log.stored ++ one ∷ others) ++ site.site.log.pending =
-        ap (λ (l : Contents). site.site.log.stored ++ (l ++ site.site.log.pending)) asked ∙ sym (append_assoc site.site.log.stored (one ∷ others) site.site.log.pending) in
+        ap (λ (l : Contents). site.site.log.stored ++ (l ++ site.site.log.pending)) group ∙ sym (append_assoc site.site.log.stored (one ∷ others) site.site.log.pending) in
         let long : length settled.records ≡ length (site.site.log.stored ++ one ∷ others) =
         omega (arith, at.long, length-append site.site.log.stored (one ∷ others), written-length content.records site.site.log.stored f.stored) in
         record {
@@ -202,7 +200,7 @@ module _ (setup : Setup) (d : Deployment) (n : ℕ)
           first = at.first;
         }
 
-  module _ (file left : List ℕ) (site next : HostedState) (content : Content) (rest : List Out) (f : FollowsHosted setup d n file site content rest)
+  module _ (file left : List ℕ) (site next : HostedState) (content : Content) (rest : List Out) (f : FollowsHosted setup d n asked file site content rest)
       (is_file : IsFile next.site.log left) (stands : Stands next) (one : StoresGroup site.site.log next.site.log)
       (is : next ≡ record site { site = record site.site { log = next.site.log } }) (same : contents_of next.site.log ≡ contents_of site.site.log) where
     cut : Cut content f.waiting site.site.log.stored (one.0 ∷ one.1.0)
@@ -228,5 +226,5 @@ module _ (setup : Setup) (d : Deployment) (n : ℕ)
       unopened = λ down. let wrong : Some cut.up.0 ≡ None = sym cut.up.1 ∙ down in cc;
     }
 
-    pub becomes-written : (new : Station) → new ≡ record { file = left; hosted = Some next; let_out = (station_at d n).let_out } → Becomes setup d n content rest new
+    pub becomes-written : (new : Station) → new ≡ record { file = left; hosted = Some next; let_out = (station_at d n).let_out; asked = asked } → Becomes setup d n content rest new
     becomes-written new here = done-becomes left next content rest f.ready cut.done cut.left new cut.may one-done f.rest_is here

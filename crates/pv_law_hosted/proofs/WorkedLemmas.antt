@@ -159,7 +159,7 @@ stands log has up limit = record {
 pub is-new : IsNew catalog fresh
 is-new = record {
   count = refl;
-  each = All-cons IsNewStation (record { file = new_file; hosted = None; let_out = [] }) [] (record { file = new-journal; gone = refl; silent = refl }) (All-nil IsNewStation);
+  each = All-cons IsNewStation (record { file = new_file; hosted = None; let_out = []; asked = [] }) [] (record { file = new-journal; gone = refl; silent = refl; unasked = refl }) (All-nil IsNewStation);
 }
 
 pub opens : Happens config catalog fresh up

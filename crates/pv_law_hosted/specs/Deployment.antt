@@ -6,16 +6,19 @@ use Rattle.pv_format.specs.Journal.{IsJournal}
 use Rattle.pv_format.specs.Message.{Envelope}
 use Rattle.pv_embed.specs.Held.{Out, message}
 use Rattle.pv_embed.specs.Hosted.{HostedState}
+use Rattle.pv_law_hosted.specs.Asked.{Asked}
 
--- A site's file; the site on it, while its process is there; and all that its processes have let out, the oldest first.
+-- A site's file; the site on it, while its process is there; all that its processes have let out, the oldest first; and what they were asked to run, with the numbers
+-- that they gave to it.
 pub record Station : Type 0 where
   pub file : List ℕ
   pub hosted : Option HostedState
   pub let_out : List Out
+  pub asked : List Asked
 
 -- a station that isn't there
 abbrev pub no_station : Station
-no_station = record { file = []; hosted = None; let_out = [] }
+no_station = record { file = []; hosted = None; let_out = []; asked = [] }
 
 -- the stations of all sites, by the sites' numbers
 abbrev pub Deployment : Type 0
@@ -38,6 +41,7 @@ pub record IsNewStation (station : Station) : Type 0 where
   pub file : IsJournal [] station.file
   pub gone : station.hosted ≡ None
   pub silent : station.let_out ≡ []
+  pub unasked : station.asked ≡ []
 
 -- A deployment of this catalog in which nothing has happened.
 pub record IsNew (catalog : Declared) (d : Deployment) : Type 0 where

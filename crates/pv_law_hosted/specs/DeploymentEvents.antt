@@ -1,5 +1,5 @@
 -- What may happen in a deployment.
-use Rattle.std.specs.Prelude.{◌≡◌, ℕ, ◌<◌, ◌≤◌, Option, Some, None, List, [], ◌∷◌, ◌++◌}
+use Rattle.std.specs.Prelude.{◌≡◌, ℕ, ◌<◌, ◌≤◌, Option, Some, None, List, [], ◌∷◌, ◌++◌, drop, length}
 use Rattle.pv_base.specs.Catalog.{Declared}
 use Rattle.pv_disk_model.specs.Disk.{overlaid}
 use Rattle.pv_format.specs.Message.{Envelope}
@@ -14,6 +14,7 @@ use Rattle.pv_host.specs.HostLog.{HostWrite, next_write}
 use Rattle.pv_embed.specs.Held.{Held}
 use Rattle.pv_embed.specs.Hosted.{AsksForGroup, HostedState, HasStepped, Stays, Writes, stored_length}
 use Rattle.pv_embed.specs.Opening.{HasOpenedOn}
+use Rattle.pv_law_hosted.specs.Asked.{asked_after}
 use Rattle.pv_law_hosted.specs.Deployment.{Deployment, Station, IsCarried, station_at, with_station}
 
 -- What the site of this number may be given: a request for a program that can run, a message that was let out and goes to it, and time.
@@ -31,9 +32,9 @@ pub record Stands (hosted : HostedState) : Type 0 where
 
 -- What may happen to a station whose process is there, with its site so.
 pub data HappensTo (catalog : Declared) (d : Deployment) (n : ℕ) (site : HostedState) (old : Station) : Station → Type 0 where
-  -- it takes something
+  -- it takes something; where that is a request, what begins by it was asked for
   takes : (next : HostedState) (input : model.Input) → MayTake catalog d n input → HasStepped site next input
-      → HappensTo catalog d n site old (record old { hosted = Some next })
+      → HappensTo catalog d n site old (record old { hosted = Some next; asked = asked_after old.asked input (drop (length site.held) next.held) })
   -- a call is refused, or changes nothing
   stays : (next : HostedState) → Stays site next → HappensTo catalog d n site old (record old { hosted = Some next })
   -- the host is asked to write a group of what waits, which stays as it is until the host has said that it is written

@@ -1,13 +1,15 @@
 -- What a process is given, and what its site makes of it.
 use Rattle.std.specs.Prelude.{◌≡◌, ℕ, Option, Some, None, List, [], ◌∷◌, ◌++◌, map, ⊤}
-use Rattle.pv_base.specs.Catalog.{Declared}
+use Rattle.std.specs.List.{Contains}
+use Rattle.pv_base.specs.declared.txn.TxnId.{TxnId}
 use Rattle.pv_format.specs.Record.{Record}
 use Rattle.pv_protocol.specs.Records.{journal_bytes}
 use Rattle.pv_protocol.specs.Start.{Started, starts, too_long, no_epoch, site_start}
-use Rattle.pv_protocol.specs.State.{Setup, Running, Input, Step}
+use Rattle.pv_protocol.specs.State.{Setup, Running, Input, Step, submit, receive, tick, began}
 use Rattle.pv_protocol.specs.Step.{site_step, records_after}
 use Rattle.pv_embed.specs.Held.{Held, Out}
 use Rattle.pv_embed.specs.Outputs.{outs}
+use Rattle.pv_law_hosted.specs.Asked.{Asked, asked_as}
 use Rattle.pv_law_hosted.specs.Deployment.{Deployment}
 use Rattle.pv_law_hosted.specs.DeploymentEvents.{MayTake}
 
@@ -20,11 +22,6 @@ pub record Content : Type 0 where
 pub data Given : Type 0 where
   opened : Given
   input : Input → Given
-
--- An opening may be given at any time, and an input as a site may take it.
-abbrev pub MayBeGiven : Declared → Deployment → ℕ → Given → Type 0
-MayBeGiven catalog d n opened = ⊤
-MayBeGiven catalog d n (input given) = MayTake catalog d n given
 
 -- ## One thing
 abbrev pub started_with : Content → Started → Content
@@ -52,6 +49,19 @@ module _ (setup : Setup) (n : ℕ) where
   with_given content opened = opened_with content content.running
   with_given content (input given) = stepped_with content content.running given
 
+  -- what begins by an input is among what was asked for
+  abbrev pub IsAskedFor : List Asked → Content → Option Running → Input → Type 0
+  IsAskedFor asked content None given = ⊤
+  IsAskedFor asked content (Some running) (submit program) =
+      (txn : TxnId) → Contains (step_with content running (submit program)).notes (began txn) → asked_as asked txn ≡ Some program
+  IsAskedFor asked content (Some running) (receive from message) = ⊤
+  IsAskedFor asked content (Some running) tick = ⊤
+
+  -- An opening may be given at any time; and an input as a site may take it, where what begins by it was asked for.
+  abbrev pub MayBeGiven : Deployment → List Asked → Content → Given → Type 0
+  MayBeGiven d asked content opened = ⊤
+  MayBeGiven d asked content (input given) = MayTake setup.catalog d n given × IsAskedFor asked content content.running given
+
   abbrev pub outs_with : Content → Option Running → Input → List Out
   outs_with content None given = []
   outs_with content (Some running) given = let step = step_with content running given in outs n step.sends step.notes
@@ -65,6 +75,11 @@ module _ (setup : Setup) (n : ℕ) where
   abbrev pub with_all : Content → List Given → Content
   with_all content [] = content
   with_all content (given ∷ later) = with_all (with_given content given) later
+
+  -- each may be given as it comes
+  abbrev pub MayAllBeGiven : Deployment → List Asked → Content → List Given → Type 0
+  MayAllBeGiven d asked content [] = ⊤
+  MayAllBeGiven d asked content (given ∷ later) = MayBeGiven d asked content given × MayAllBeGiven d asked (with_given content given) later
 
   -- what is to be let out of them
   abbrev pub outs_of_all : Content → List Given → List Out

@@ -1,3 +1,4 @@
+pub mod Asked
 pub mod Calls
 pub mod Claims
 pub mod Deployment
@@ -6,4 +7,5 @@ pub mod Given
 pub mod Made
 pub mod Mirrored
 pub mod Numbers
+pub mod OneOutcome
 pub mod Worked

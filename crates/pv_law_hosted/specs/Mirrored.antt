@@ -1,23 +1,30 @@
 -- When the run of some events mirrors a deployment.
-use Rattle.std.specs.Prelude.{◌≡◌, ℕ, ◌<◌, ◌≤◌, Option, Some, None, List, [], ◌++◌, length, map, All}
+use Rattle.std.specs.Prelude.{◌≡◌, ℕ, ◌<◌, ◌≤◌, Bool, Option, Some, None, List, [], ◌++◌, length, map, All}
+use Rattle.std.specs.List.{Contains}
+use Rattle.pv_base.specs.declared.txn.TxnId.{TxnId}
 use Rattle.pv_disk_model.specs.Size.{Contents}
 use Rattle.pv_format.specs.Checkpoint.{first_standing}
 use Rattle.pv_format.specs.Contents.{AreWritten}
 use Rattle.pv_format.specs.Journal.{IsJournal}
 use Rattle.pv_format.specs.Record.{Record}
-use Rattle.pv_model.specs.Events.{Event}
+use Rattle.pv_model.specs.Events.{Event, submit}
+use Rattle.pv_model.specs.Syntax.{Program}
+use Rattle.pv_protocol.specs.Committed.{home_of}
+use Rattle.pv_protocol.specs.Lines.{Line}
 use Rattle.pv_protocol.specs.Run.{run, world_after}
-use Rattle.pv_protocol.specs.State.{Setup, Running, Site}
+use Rattle.pv_protocol.specs.State.{Entry, Placed, Setup, Running, Site}
 use Rattle.pv_protocol.specs.WellFormed.{IsWellFormed}
 use Rattle.pv_protocol.specs.World.{World, first_site, opening, site_at}
+use Rattle.pv_protocol.specs.WorldStep.{Transition}
 use Rattle.pv_site.specs.SiteState.{setup_of}
 use Rattle.pv_host.specs.HostFile.{IsFile}
 use Rattle.pv_host.specs.HostLog.{contents_of}
 use Rattle.pv_embed.specs.Held.{Held, Out}
 use Rattle.pv_embed.specs.Hosted.{HostedState, stored_length}
+use Rattle.pv_law_hosted.specs.Asked.{Asked, asked_as}
 use Rattle.pv_law_hosted.specs.Deployment.{Deployment, station_at}
 use Rattle.pv_law_hosted.specs.DeploymentEvents.{Stands}
-use Rattle.pv_law_hosted.specs.Given.{Content, Given, MayBeGiven, WaitsForRecord, held_for, with_all}
+use Rattle.pv_law_hosted.specs.Given.{Content, Given, MayAllBeGiven, WaitsForRecord, held_for, with_all}
 use Rattle.pv_law_hosted.specs.Made.{Made, IsWithin, made_as, made_by}
 
 -- the world after the run of these events
@@ -36,7 +43,7 @@ pub data IsSeenAs : Content → Site → Type 0 where
 
 -- The world's site has made all that the host has told to be in the file, and what comes after it waits: for a record that isn't said to be there. What was made and
 -- not let out is of those steps that are in the file, and then of those that wait; and of none that are in the file, where the process's own opening waits.
-pub record FollowsHosted (setup : Setup) (d : Deployment) (n : ℕ) (file : List ℕ) (hosted : HostedState) (content : Content) (rest : List Out) : Type 0 where
+pub record FollowsHosted (setup : Setup) (d : Deployment) (n : ℕ) (asked : List Asked) (file : List ℕ) (hosted : HostedState) (content : Content) (rest : List Out) : Type 0 where
   pub is_file : IsFile hosted.site.log file
   pub stands : Stands hosted
   pub me : hosted.site.me ≡ n
@@ -45,7 +52,7 @@ pub record FollowsHosted (setup : Setup) (d : Deployment) (n : ℕ) (file : List
   pub stored : AreWritten content.records hosted.site.log.stored
   pub whole : AreWritten hosted.site.records (contents_of hosted.site.log)
   pub waiting : List Given
-  pub allowed : All (MayBeGiven setup.catalog d n) waiting
+  pub allowed : MayAllBeGiven setup n d asked content waiting
   pub first : WaitsForRecord setup n content waiting
   pub come : with_all setup n content waiting ≡ record { records = hosted.site.records; running = hosted.site.running }
   pub ready : List Held
@@ -62,9 +69,9 @@ pub record FollowsGone (file : List ℕ) (content : Content) (rest : List Out) :
   pub down : content.running ≡ None
   pub silent : rest ≡ []
 
-abbrev pub FollowsProcess : Setup → Deployment → ℕ → List ℕ → Option HostedState → Content → List Out → Type 0
-FollowsProcess setup d n file None content rest = FollowsGone file content rest
-FollowsProcess setup d n file (Some hosted) content rest = FollowsHosted setup d n file hosted content rest
+abbrev pub FollowsProcess : Setup → Deployment → ℕ → List Asked → List ℕ → Option HostedState → Content → List Out → Type 0
+FollowsProcess setup d n asked file None content rest = FollowsGone file content rest
+FollowsProcess setup d n asked file (Some hosted) content rest = FollowsHosted setup d n asked file hosted content rest
 
 -- The world's site stands for the station of this number. What the station has let out, and what it is ready to let out, is within what the site made in the run.
 pub record Follows (setup : Setup) (d : Deployment) (n : ℕ) (site : Site) (made : List Made) : Type 0 where
@@ -72,11 +79,40 @@ pub record Follows (setup : Setup) (d : Deployment) (n : ℕ) (site : Site) (mad
   pub seen : IsSeenAs content site
   pub rest : List Out
   pub within : IsWithin n (map (made_as n) ((station_at d n).let_out ++ rest)) made
-  pub process : FollowsProcess setup d n (station_at d n).file (station_at d n).hosted content rest
+  pub process : FollowsProcess setup d n (station_at d n).asked (station_at d n).file (station_at d n).hosted content rest
+
+-- What a request begins in the transition was asked of a process of that site, which gave this number to it.
+abbrev pub IsAskedIn : Deployment → Transition → Type 0
+IsAskedIn d transition =
+    (n : ℕ) (query : Bool) (text : List ℕ) (program : Program) (txn : TxnId) → transition.event ≡ submit n query text program
+    → Contains transition.lines (Line.txn txn) → asked_as (station_at d n).asked txn ≡ Some program
+
+-- One of these transitions begins the transaction by a request for this program, at its own site, which is this one.
+pub record IsBegunIn (transitions : List Transition) (n : ℕ) (txn : TxnId) (program : Program) : Type 0 where
+  pub home : home_of txn ≡ n
+  pub transition : Transition
+  pub there : Contains transitions transition
+  pub query : Bool
+  pub text : List ℕ
+  pub event : transition.event ≡ submit n query text program
+  pub printed : Contains transition.lines (Line.txn txn)
+
+abbrev pub WorksAsBegun : List Transition → ℕ → Entry → Type 0
+WorksAsBegun transitions n entry = IsBegunIn transitions n entry.txn entry.program
+
+abbrev pub IsPlacedAsBegun : List Transition → Placed → Type 0
+IsPlacedAsBegun transitions placed = IsBegunIn transitions (home_of placed.txn) placed.txn placed.program
+
+-- All that the sites of the world work on, and all of its order, began so.
+pub record RunsAsBegun (sites : ℕ) (transitions : List Transition) (world : World) : Type 0 where
+  pub works : (n : ℕ) (running : Running) → n < sites → (site_at world n).running ≡ Some running → All (WorksAsBegun transitions n) running.entries
+  pub order : All (IsPlacedAsBegun transitions) world.order
 
 -- The run of these events mirrors the deployment.
 pub record IsMirrored (setup : Setup) (d : Deployment) (events : List Event) : Type 0 where
   pub well : All (IsWellFormed setup.catalog) events
   pub stations : length d ≡ setup.catalog.sites
   pub sites : length (world_of setup events).sites ≡ setup.catalog.sites
+  pub asked : All (IsAskedIn d) (run setup (opening setup) events)
+  pub programs : RunsAsBegun setup.catalog.sites (run setup (opening setup) events) (world_of setup events)
   pub each : (n : ℕ) → n < setup.catalog.sites → Follows setup d n (site_at (world_of setup events) n) (made_by setup n events)

@@ -71,20 +71,20 @@ begun log = record {
 -- ## The deployment
 -- no process, and a new file: at first, and once the first process is gone
 abbrev pub fresh : Deployment
-fresh = record { file = new_file; hosted = None; let_out = [] } ∷ []
+fresh = record { file = new_file; hosted = None; let_out = []; asked = [] } ∷ []
 
 -- a process on a new file
 abbrev pub up : Deployment
-up = record { file = new_file; hosted = Some (begun begun_log); let_out = [] } ∷ []
+up = record { file = new_file; hosted = Some (begun begun_log); let_out = []; asked = [] } ∷ []
 
 -- its host was asked to write the record
 abbrev pub asked : Deployment
-asked = record { file = new_file; hosted = Some (begun (asked_log false)); let_out = [] } ∷ []
+asked = record { file = new_file; hosted = Some (begun (asked_log false)); let_out = []; asked = [] } ∷ []
 
 -- the record is in the file, and the gate is to be opened
 abbrev pub writing : Deployment
-writing = record { file = written_file; hosted = Some (begun (asked_log true)); let_out = [] } ∷ []
+writing = record { file = written_file; hosted = Some (begun (asked_log true)); let_out = []; asked = [] } ∷ []
 
 -- the process is gone, and left the gate open
 abbrev pub found : Deployment
-found = record { file = found_file; hosted = None; let_out = [] } ∷ []
+found = record { file = found_file; hosted = None; let_out = []; asked = [] } ∷ []

@@ -27,25 +27,29 @@ ghost use Rattle.pv_embed.specs.declared.made.Output.{Output};
 ghost use Rattle.pv_format.specs.Message.{Envelope, outcome_reported};
 ghost use Rattle.pv_host.specs.HostFile.{MayLeave};
 ghost use Rattle.pv_host.specs.HostLog.{HostWrite, next_write};
-ghost use Rattle.pv_law_hosted.specs.Calls.{HasSite, IsFromASite};
+ghost use Rattle.pv_law_hosted.specs.Asked.{Asked, asked_as};
+ghost use Rattle.pv_law_hosted.specs.Calls.{BeginsAsked, HasSite, IsFromASite};
 ghost use Rattle.pv_law_hosted.specs.Claims.{HoldsSite, IsAnswered, IsRefused};
 ghost use Rattle.pv_law_hosted.specs.Deployment.{Deployment, IsNew, station_at, with_station};
 ghost use Rattle.pv_law_hosted.specs.DeploymentEvents.{Happens, MayTake, Stands};
 ghost use Rattle.pv_law_hosted.specs.Made.{IsLetOutOf, made_as, made_by};
 ghost use Rattle.pv_law_hosted.specs.Mirrored.{IsMirrored, plain_site, world_of};
 ghost use Rattle.pv_law_hosted.specs.Numbers.{AreNumbersFirst};
+ghost use Rattle.pv_law_hosted.specs.OneOutcome.{IsSaid};
 ghost use Rattle.pv_law_hosted.specs.Worked as worked;
 ghost use Rattle.pv_law_outcomes.specs.Decided.{IsCutTo};
-ghost use Rattle.pv_model.specs.Events.{Event, Schedule};
+ghost use Rattle.pv_model.specs.Events.{Event, Schedule, submit};
 ghost use Rattle.pv_model.specs.Meaning.{value_in};
+ghost use Rattle.pv_model.specs.Syntax.{Program};
 ghost use Rattle.pv_protocol.specs.Committed.{Fits, entry_of, home_of, is_committed, is_readable, serial_rows};
-ghost use Rattle.pv_protocol.specs.Lines.{line_of};
+ghost use Rattle.pv_protocol.specs.Lines.{Line, line_of};
 ghost use Rattle.pv_protocol.specs.Outcomes.{IsOut};
-ghost use Rattle.pv_protocol.specs.Run.{printed};
+ghost use Rattle.pv_protocol.specs.Places.{Place};
+ghost use Rattle.pv_protocol.specs.Run.{printed, run};
 ghost use Rattle.pv_protocol.specs.Shown.{item_value};
-ghost use Rattle.pv_protocol.specs.State.{Cause, Entry, Input, Note, Setup, began, committed, refused, tick};
+ghost use Rattle.pv_protocol.specs.State.{Cause, Entry, Input, Note, Placed, Setup, began, committed, refused, tick};
 ghost use Rattle.pv_protocol.specs.WellFormed.{IsWellFormed};
-ghost use Rattle.pv_protocol.specs.World.{site_at};
+ghost use Rattle.pv_protocol.specs.World.{opening, site_at};
 ghost use Rattle.pv_site.specs.SiteState.{setup_of};
 
 use pv_embed::files_hold_what_was_let_out;
@@ -73,6 +77,7 @@ pub fn deployments_are_runs()
     files_are_journals();
     files_hold_what_was_let_out();
     logs_tell_of_records();
+    no_txn_is_begun_twice();
     one_journal();
     one_record();
     one_schedule();
@@ -96,7 +101,7 @@ pub fn calls_happen()
         (station_at d n).hosted ≡ Some site → HasSite catalog d n site × Stands site }
     ensures submitted { (config : List ℕ) (catalog : Declared) (d : Deployment) (n : ℕ) (site next : HostedState)
         (text : List ℕ) (query : Bool) (result : Result ⊤ SubmitFault) → HasSite catalog d n site → Stands next → SubmitsBy site next text query result →
-        Happens config catalog d (with_station d n (record (station_at d n) { hosted = Some next })) }
+        (asked : List Asked) × BeginsAsked catalog site next text result asked × Happens config catalog d (with_station d n (record (station_at d n) { hosted = Some next; asked = (station_at d n).asked ++ asked })) }
     ensures received { (config : List ℕ) (catalog : Declared) (d : Deployment) (n : ℕ) (site next : HostedState)
         (bytes : List ℕ) (result : Result ⊤ ReceiveFault) → HasSite catalog d n site → Stands next → IsFromASite d bytes → ReceivesBy site next bytes result →
         Happens config catalog d (with_station d n (record (station_at d n) { hosted = Some next })) }
@@ -208,6 +213,20 @@ pub fn hosted_time_is_kept()
     no_txn_is_begun_twice();
 }
 
+/// The run's programs are those that hosts have given to their sites:
+///
+/// - Whatever a request begins in the run has the program that a process of its site was asked for last under its number (`begun`). So where the number was let out, it is the program of the
+///   request that has the number: only one whose number came into no file is given to another request, and from when it is let out on it never is (`hosted_time_is_kept`).
+/// - So each transaction of the order, by whose programs all that is shown and answered goes, has the program that was asked for under its number
+///   (`order`). So what each program that hosts ask for keeps, the serial run keeps.
+pub fn hosted_programs_are_asked_for()
+    ensures begun { (setup : Setup) (d : Deployment) (events : List Event) (n : ℕ) (query : Bool) (text : List ℕ) (program : Program) (txn : TxnId)
+        (place : Place (run setup (opening setup) events)) → IsMirrored setup d events → place.transition.event ≡ submit n query text program →
+        Contains place.transition.lines (Line.txn txn) → asked_as (station_at d n).asked txn ≡ Some program }
+    ensures order { (setup : Setup) (d : Deployment) (events : List Event) (placed : Placed) → IsMirrored setup d events → Contains (world_of setup events).order placed →
+        asked_as (station_at d (home_of placed.txn)).asked placed.txn ≡ Some placed.program }
+{}
+
 /// What a site has shown stays right, whatever happens later. An assignment that fits a later world, cut to the transactions that were in the order when the item was shown, is
 /// one at which it was shown the value that the serial run of that order leaves: none that couldn't commit any more does later.
 pub fn hosted_readings_last()
@@ -278,6 +297,23 @@ pub fn hosted_outcomes_hold()
     outcomes_are_decided();
     outcomes_are_for_ever();
     no_two_outcomes();
+}
+
+/// Whatever sites say of a transaction's outcome, they say one: in messages and in reports that were let out, and to their hosts that ask (`now`). And what was said once is so
+/// whatever happens later: so nothing else is said then, by whichever process (`later`).
+pub fn hosted_sites_tell_one_outcome()
+    ensures now { (setup : Setup) (d : Deployment) (events : List Event) (txn : TxnId) (commits other : Bool) → IsMirrored setup d events → IsSaid setup d txn commits →
+        IsSaid setup d txn other → commits ≡ other }
+    ensures later { (setup : Setup) (d later : Deployment) (events more : List Event) (txn : TxnId) (commits other : Bool) → IsMirrored setup d events →
+        IsMirrored setup later (events ++ more) → IsSaid setup d txn commits → IsSaid setup later txn other → commits ≡ other }
+{
+    hosted_sites_agree();
+    hosted_reports_hold();
+    hosted_outcomes_hold();
+    runs_are_reached();
+    outcomes_are_decided();
+    outcomes_are_for_ever();
+    refusals_hold();
 }
 
 /// A transaction that commits has had its number let out, by the site that has begun it: so a host that keeps what it has of its requests by their numbers, as they are

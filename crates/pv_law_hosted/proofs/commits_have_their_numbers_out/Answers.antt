@@ -1,4 +1,4 @@
-use Rattle.pv_law_hosted.proofs.NumberEvents.{NumberLaws, has-number-out, new-numbers, numbers-stay-first}
+use Rattle.pv_law_hosted.proofs.NumberEvents.{has-number-out, new-numbers, numbers-stay-first}
 use Rattle.pv_law_hosted.proofs.commits_have_their_numbers_out.Goals as goal
 
 pub returns-clause-new : goal.returns-clause-new

@@ -13,6 +13,7 @@ returns-clause-event c =
       one_record = c.one_record.ensures;
       one_journal = λ bytes contents others first other. (c.one_journal.ensures bytes).one_value contents others first other;
       one_schedule = c.one_schedule.ensures;
+      new_numbers = c.no_txn_is_begun_twice.ensures.run;
       journals = c.files_are_journals.ensures.journals;
       keeps = c.files_are_journals.ensures.keeps;
       opened = c.files_hold_what_was_let_out.ensures.opened;
