@@ -9,6 +9,8 @@ use Rattle.pv_base.specs.declared.limits.TheConstants.{MAX_PROGRAM_ITEMS}
 use Rattle.pv_base.specs.declared.txn.TxnId.{TxnId}
 use Rattle.pv_check.specs.CheckRefusal.{check_refusal}
 use Rattle.pv_disk_model.specs.Disk.{overlaid}
+use Rattle.pv_disk_model.specs.Size.{Contents}
+use Rattle.pv_format.specs.Journal.{IsJournal}
 use Rattle.pv_embed.specs.Held.{Held, Out}
 use Rattle.pv_embed.specs.Hosted.{AsksForGroup, Gives, HostedState, Stays, TakesNext, Writes, stored_length}
 use Rattle.pv_embed.specs.Opening.{HasOpenedOn}
@@ -28,7 +30,7 @@ use Rattle.pv_host.specs.HostLog.{HostWrite, next_write}
 use Rattle.pv_law_hosted.specs.Asked.{Asked, begun_of}
 use Rattle.pv_law_hosted.specs.Calls.{BeginsAsked, HasSite, IsFromASite}
 use Rattle.pv_law_hosted.specs.Deployment.{Deployment, Station, station_at, with_station}
-use Rattle.pv_law_hosted.specs.DeploymentEvents.{Happens, HappensAt, HappensTo, Stands, asks, carried, goes, idles, is_writing, lets_out, request, stays, takes, time, writes}
+use Rattle.pv_law_hosted.specs.DeploymentEvents.{Happens, HappensAt, HappensTo, HoldTheSame, Stands, asks, carried, goes, idles, is_writing, lets_out, request, stays, takes, time, writes}
 use Rattle.pv_law_programs.proofs.DeclaredItems.{declared-items}
 use Rattle.pv_law_world.proofs.NumeralLemmas.{small-numbers}
 use Rattle.pv_law_hosted.specs.Mirrored.{FollowsHosted, FollowsProcess, IsMirrored}
@@ -208,19 +210,50 @@ module _ (config : List ℕ) (catalog : Declared) (d : Deployment) (n : ℕ) (si
   pub going-happens : (left : List ℕ) → MayLeave site.site.log old.file left → Happens config catalog d (with_station d n (record old { file = left; hosted = None }))
   going-happens left may = here-happens (record old { file = left; hosted = None }) (goes left may) (λ s is. absurd cc)
 
--- A site is opened on the file that the last process has left.
-pub opening-happens : (config : List ℕ) (catalog : Declared) (d : Deployment) (n : ℕ) (site : HostedState) → n < catalog.sites → (station_at d n).hosted ≡ None
-    → HasOpenedOn config n (station_at d n).file site → Stands site → Happens config catalog d (with_station d n (record (station_at d n) { hosted = Some site }))
-opening-happens config catalog d n site known gone opened stands = record {
-  n = n;
-  known = known;
-  new = record (station_at d n) { hosted = Some site };
-  at =
-      subst (λ (hosted : Option HostedState). HappensAt config catalog d n (station_at d n) hosted (record (station_at d n) { hosted = Some site })) (sym gone)
-      (site, opened, refl);
-  stands = λ s is. subst Stands (some-same is) stands;
-  after = refl;
-}
+-- A site is opened on bytes that hold the same as the file that the last process has left, and the file holds the same then.
+module _ (config : List ℕ) (catalog : Declared) (d : Deployment) (n : ℕ) (site : HostedState) (known : n < catalog.sites) (gone : (station_at d n).hosted ≡ None) (stands : Stands site) where
+  opens-on : (left : List ℕ) → HoldTheSame (station_at d n).file left → HasOpenedOn config n left site
+      → Happens config catalog d (with_station d n (record (station_at d n) { file = left; hosted = Some site }))
+  opens-on left same opened = record {
+    n = n;
+    known = known;
+    new = record (station_at d n) { file = left; hosted = Some site };
+    at =
+        subst (λ (hosted : Option HostedState). HappensAt config catalog d n (station_at d n) hosted (record (station_at d n) { file = left; hosted = Some site })) (sym gone)
+        (site, left, same, opened, refl);
+    stands = λ s is. subst Stands (some-same is) stands;
+    after = refl;
+  }
+
+  -- on the file itself
+  pub opening-happens : HasOpenedOn config n (station_at d n).file site → Happens config catalog d (with_station d n (record (station_at d n) { hosted = Some site }))
+  opening-happens opened = opens-on (station_at d n).file (opened.log.stored, opened.opened_on.journal, opened.opened_on.journal) opened
+
+  pub beside-happens : ((bytes : List ℕ) (contents others : Contents) → IsJournal contents bytes → IsJournal others bytes → contents ≡ others)
+      → (bytes left : List ℕ) → HoldTheSame (station_at d n).file bytes → HoldTheSame (station_at d n).file left → HasOpenedOn config n bytes site
+      → Happens config catalog d (with_station d n (record (station_at d n) { file = left; hosted = Some site }))
+  beside-happens one_journal bytes left read still opened =
+      let file = (station_at d n).file in
+      let stored : still.0 ≡ opened.log.stored =
+      one_journal file still.0 read.0 still.1 read.1 ∙ one_journal bytes read.0 opened.log.stored read.2 opened.opened_on.journal in
+      opens-on left still
+      record {
+        schedule = opened.schedule;
+        configured = opened.configured;
+        known = opened.known;
+        log = opened.log;
+        opened_on = record {
+          journal = subst (λ (l : Contents). IsJournal l left) stored still.2;
+          asked = opened.opened_on.asked;
+          pending = opened.opened_on.pending;
+          behind_gate = opened.opened_on.behind_gate;
+          limit_is = opened.opened_on.limit_is;
+          up = opened.opened_on.up;
+          unread = opened.opened_on.unread;
+        };
+        opened = opened.opened;
+        held = opened.held;
+      }
 
 -- The site of a mirrored deployment has its number and its catalog, and stands ready.
 pub mirrored-has : (catalog : Declared) (d : Deployment) (events : List Event) (n : ℕ) (site : HostedState) → IsMirrored (setup_of catalog) d events → n < catalog.sites

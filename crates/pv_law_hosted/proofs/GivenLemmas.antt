@@ -9,7 +9,7 @@ use Rattle.pv_protocol.specs.Records.{journal_bytes, record_bytes}
 use Rattle.pv_protocol.specs.Start.{Started, starts, too_long, no_epoch, site_start}
 use Rattle.pv_protocol.specs.State.{Setup, Running, Input}
 use Rattle.pv_embed.specs.Held.{Held, Out}
-use Rattle.pv_law_hosted.specs.Given.{Content, Given, opened, input, started_with, opened_with, stepped_with, step_with, with_given, outs_of_all, outs_of_given, with_all, held_of_given, held_for, WaitsForRecord}
+use Rattle.pv_law_hosted.specs.Given.{Content, Given, opened, input, started_with, opened_with, stepped_with, step_with, with_given, outs_of_given, with_all, held_of_given, held_for, WaitsForRecord}
 
 -- ## Lengths
 pub journal-grows : (front more : List Record) → journal_bytes front ≤ journal_bytes (front ++ more)
@@ -61,14 +61,6 @@ module _ (setup : Setup) (n : ℕ) where
   pub with_all-append : (content : Content) (front back : List Given) → with_all setup n content (front ++ back) ≡ with_all setup n (with_all setup n content front) back
   with_all-append content [] back = refl
   with_all-append content (given ∷ front) back = with_all-append (with_given setup n content given) front back
-
-  pub outs_of_all-append : (content : Content) (front back : List Given)
-      → outs_of_all setup n content (front ++ back) ≡ outs_of_all setup n content front ++ outs_of_all setup n (with_all setup n content front) back
-  outs_of_all-append content [] back = refl
-  outs_of_all-append content (given ∷ front) back =
-      let next = with_given setup n content given in
-      ap (λ (all : List Out). outs_of_given setup n content given ++ all) (outs_of_all-append next front back)
-      ∙ sym (append_assoc (outs_of_given setup n content given) (outs_of_all setup n next front) (outs_of_all setup n (with_all setup n next front) back))
 
   pub held_for-append : (content : Content) (front back : List Given)
       → held_for setup n content (front ++ back) ≡ held_for setup n content front ++ held_for setup n (with_all setup n content front) back

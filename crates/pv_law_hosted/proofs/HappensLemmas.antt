@@ -35,7 +35,7 @@ use Rattle.pv_law_hosted.specs.Asked.{Asked, asked_after, asked_as}
 use Rattle.pv_law_hosted.specs.Deployment.{Deployment, Station, station_at, with_station}
 use Rattle.pv_law_hosted.specs.DeploymentEvents.{Happens, HappensAt, HappensTo, Stands, takes, stays, asks, is_writing, writes, idles, lets_out, goes}
 use Rattle.pv_law_hosted.specs.Given.{Content}
-use Rattle.pv_law_hosted.specs.Mirrored.{FollowsHosted, FollowsProcess, IsMirrored}
+use Rattle.pv_law_hosted.specs.Mirrored.{FollowsGone, FollowsHosted, FollowsProcess, IsMirrored}
 
 -- What the laws below say that this rests on.
 pub record Laws : Type 0 where
@@ -166,12 +166,14 @@ module _ (laws : Laws) (config : List ℕ) (schedule : Schedule) (configures : C
   pub happens-at : (new : Station) (hosted : Option HostedState) → old.hosted ≡ hosted → HappensAt config schedule.catalog d n old hosted new
       → FollowsProcess setup d n old.asked old.file hosted content rest → ((s : HostedState) → new.hosted ≡ Some s → Stands s) → GoesOn new
   happens-at new (Some site) here at f stands = happens site f new here at stands
-  happens-at new None here (site, o, is) gone stands =
+  happens-at new None here (site, left, same, o, is) gone stands =
+      let journal : IsJournal gone.contents left = subst (λ (l : Contents). IsJournal l left) (sym (laws.one_journal old.file gone.contents same.0 gone.journal same.1)) same.2 in
+      let still : FollowsGone left content rest = record { contents = gone.contents; journal = journal; spelled = gone.spelled; down = gone.down; silent = gone.silent } in
       subst GoesOn (sym is)
-      (by (record old { hosted = Some site }) refl
-      (becomes-opened laws.one_record laws.tells laws.one_journal config schedule d n old site content rest gone o
+      (by (record old { file = left; hosted = Some site }) refl
+      (becomes-opened laws.one_record laws.tells laws.one_journal config schedule d n (record old { file = left }) site content rest still o
       (laws.one_schedule config o.schedule schedule o.configured.0 configures.0)
-      (laws.opened config old.file n site o) (stands site (ap (λ (s : Station). s.hosted) is)) refl))
+      (laws.opened config left n site o) (stands site (ap (λ (s : Station). s.hosted) is)) refl))
 
 pub goes-on : (laws : Laws) (config : List ℕ) (schedule : Schedule) (d later : Deployment) (events : List Event) → Configures config schedule
     → IsMirrored (setup_of schedule.catalog) d events → Happens config schedule.catalog d later

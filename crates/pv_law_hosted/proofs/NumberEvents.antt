@@ -23,7 +23,7 @@ use Rattle.pv_law_hosted.proofs.NumberLemmas.{All-front, first-gone, first-later
 use Rattle.pv_law_hosted.proofs.NumberSteps.{IsGivenWell}
 use Rattle.pv_law_hosted.specs.Asked.{Asked, asked_after}
 use Rattle.pv_law_hosted.specs.Deployment.{Deployment, IsNew, IsNewStation, Station, no_station, station_at, with_station}
-use Rattle.pv_law_hosted.specs.DeploymentEvents.{Happens, HappensAt, HappensTo, MayTake, request, carried, time, takes, stays, asks, is_writing, writes, idles, lets_out, goes}
+use Rattle.pv_law_hosted.specs.DeploymentEvents.{Happens, HappensAt, HappensTo, HoldTheSame, MayTake, request, carried, time, takes, stays, asks, is_writing, writes, idles, lets_out, goes}
 use Rattle.pv_law_hosted.specs.Given.{Content}
 use Rattle.pv_law_hosted.specs.Mirrored as mirrored
 use Rattle.pv_law_hosted.specs.Mirrored.{FollowsHosted, FollowsProcess, IsMirrored, IsSeenAs, world_of}
@@ -135,7 +135,7 @@ module _ (laws : NumberLaws) (config : List ℕ) (schedule : Schedule) (d : Depl
       happens new (goes left may) = first-gone txn asked n old is left (left-kept left may)
 
     -- ## A site is opened
-    module _ (site : HostedState) (here : old.hosted ≡ None) (o : HasOpenedOn config n old.file site) where
+    module _ (site : HostedState) (here : old.hosted ≡ None) (left : List ℕ) (same_journal : HoldTheSame old.file left) (o : HasOpenedOn config n left site) where
       left-file : HasNumbers txn asked (outs_of old) old.file None
       left-file = subst (HasNumbers txn asked (outs_of old) old.file) here is.process
 
@@ -144,7 +144,8 @@ module _ (laws : NumberLaws) (config : List ℕ) (schedule : Schedule) (d : Depl
 
       read-kept : All (IsKept txn asked) o.opened.records
       read-kept =
-          left-file o.opened.records o.log.stored o.opened_on.journal
+          left-file o.opened.records o.log.stored
+          (subst (λ (l : Contents). IsJournal l old.file) (laws.one_journal left same_journal.0 o.log.stored same_journal.2 o.opened_on.journal) same_journal.1)
           (subst (SpellRecords o.opened.records) (o.opened.read (contents_of o.log) refl ∙ log-all) o.opened.spelled)
 
       works-nothing : (running : Running) → Some o.opened.running ≡ Some running → All (IsNumbered txn (outs_of old)) running.entries
@@ -154,9 +155,9 @@ module _ (laws : NumberLaws) (config : List ℕ) (schedule : Schedule) (d : Depl
           ap (λ (r : Running). r.entries) (sym same) ∙ idle-start (setup_of o.schedule.catalog) (surplus_of o.opened.contents o.opened.records) o.opened.records _ (start-case (setup_of o.schedule.catalog) (surplus_of o.opened.contents o.opened.records) o.opened.records) o.opened.running (epoch_begun o.opened.epoch) o.opened.starts in
           subst (All (IsNumbered txn (outs_of old))) (sym none) (All-nil (IsNumbered txn (outs_of old)))
 
-      opened-first : IsNumberFirst txn asked n (record old { hosted = Some site })
+      opened-first : IsNumberFirst txn asked n (record old { file = left; hosted = Some site })
       opened-first =
-          first-same txn asked n old is (record old { hosted = Some site })
+          first-same txn asked n old is (record old { file = left; hosted = Some site })
           (ap (λ (l : List Held). old.let_out ++ map (λ (one : Held). one.out) l) o.held ∙ ap (λ (h : Option HostedState). old.let_out ++ held_by h) (sym here))
           (subst (λ (s : SiteState HostState). All (IsKept txn asked) s.records × ((running : Running) → s.running ≡ Some running → All (IsNumbered txn (outs_of old)) running.entries))
           (sym o.opened.site) (
@@ -168,7 +169,7 @@ module _ (laws : NumberLaws) (config : List ℕ) (schedule : Schedule) (d : Depl
     happens-at : (new : Station) (hosted : Option HostedState) → old.hosted ≡ hosted → HappensAt config schedule.catalog d n old hosted new
         → FollowsProcess setup d n old.asked old.file hosted (m.each n known).content (m.each n known).rest → IsNumberFirst txn asked n new
     happens-at new (Some site) here at f = happens site here f new at
-    happens-at new None here at f = subst (IsNumberFirst txn asked n) (sym at.2) (opened-first at.0 here at.1)
+    happens-at new None here at f = subst (IsNumberFirst txn asked n) (sym at.4) (opened-first at.0 here at.1 at.2 at.3)
 
   -- ## At all stations
   grows-to : (site : HostedState) (new : Station) → HappensTo schedule.catalog d n site old new → Extends old.let_out new.let_out
@@ -183,7 +184,7 @@ module _ (laws : NumberLaws) (config : List ℕ) (schedule : Schedule) (d : Depl
 
   grows-at : (new : Station) (hosted : Option HostedState) → HappensAt config schedule.catalog d n old hosted new → Extends old.let_out new.let_out
   grows-at new (Some site) at = grows-to site new at
-  grows-at new None at = subst (λ (s : Station). Extends old.let_out s.let_out) (sym at.2) (same old.let_out)
+  grows-at new None at = subst (λ (s : Station). Extends old.let_out s.let_out) (sym at.4) (same old.let_out)
 
   module _ (new : Station) (grows : Extends old.let_out new.let_out) where
     abbrev later : Deployment

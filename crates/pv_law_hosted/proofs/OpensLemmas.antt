@@ -114,7 +114,7 @@ module _ (one_record : (entry other : Record) (bytes : List ℕ) → IsReadAs en
       unopened = λ down. refl;
     }
 
-    pub becomes-opened : old ≡ station_at d n → Becomes setup d n content rest (record old { hosted = Some site })
+    pub becomes-opened : old.let_out ≡ (station_at d n).let_out → Becomes setup d n content rest (record old { hosted = Some site })
     becomes-opened here =
         subst (λ (l : List Out). Becomes setup d n content l (record old { hosted = Some site })) (sym gone.silent)
-        (becomes-still setup d n content [] (record old { hosted = Some site }) (ap (λ (s : Station). s.let_out) here) opened-follows)
+        (becomes-still setup d n content [] (record old { hosted = Some site }) here opened-follows)

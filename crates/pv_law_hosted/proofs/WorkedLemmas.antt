@@ -163,7 +163,7 @@ is-new = record {
 }
 
 pub opens : Happens config catalog fresh up
-opens = opening-happens config catalog fresh 0 (begun begun_log) (omega arith) refl opened-on (stands begun_log refl refl refl)
+opens = opening-happens config catalog fresh 0 (begun begun_log) (omega arith) refl (stands begun_log refl refl refl) opened-on
 
 has-site : HasSite catalog up 0 (begun begun_log)
 has-site = record { known = omega arith; here = refl; me = refl; declared = refl }

@@ -2,6 +2,8 @@
 use Rattle.std.specs.Prelude.{◌≡◌, ℕ, ◌<◌, ◌≤◌, Option, Some, None, List, [], ◌∷◌, ◌++◌, drop, length}
 use Rattle.pv_base.specs.Catalog.{Declared}
 use Rattle.pv_disk_model.specs.Disk.{overlaid}
+use Rattle.pv_disk_model.specs.Size.{Contents}
+use Rattle.pv_format.specs.Journal.{IsJournal}
 use Rattle.pv_format.specs.Message.{Envelope}
 use Rattle.pv_model.specs.Syntax.{Program}
 use Rattle.pv_protocol.specs.State as model
@@ -52,11 +54,15 @@ pub data HappensTo (catalog : Declared) (d : Deployment) (n : ℕ) (site : Hoste
   -- the process goes: by a crash, by a kill, or closed; and the file is, as the next opening finds it, one that this may leave
   goes : (left : List ℕ) → MayLeave site.site.log old.file left → HappensTo catalog d n site old (record old { file = left; hosted = None })
 
--- What may happen to a station. One without a process gets one: the site is opened on the file that the last one left.
+-- Both are journals of the same contents. So they differ in no more than what stands behind a journal's end.
+abbrev pub HoldTheSame : List ℕ → List ℕ → Type 0
+HoldTheSame file left = (contents : Contents) × IsJournal contents file × IsJournal contents left
+
+-- What may happen to a station. One without a process gets one: the site is opened on the file that the last one left, or on another one that holds the same, and has that then.
 abbrev pub HappensAt : List ℕ → Declared → Deployment → ℕ → Station → Option HostedState → Station → Type 0
 HappensAt config catalog d n old (Some site) new = HappensTo catalog d n site old new
 HappensAt config catalog d n old None new =
-    (site : HostedState) × HasOpenedOn config n old.file site × (new ≡ record old { hosted = Some site })
+    (site : HostedState) × (left : List ℕ) × HoldTheSame old.file left × HasOpenedOn config n left site × (new ≡ record old { file = left; hosted = Some site })
 
 -- One thing happens, at one station. The site that its process has then stands ready, as it does between any two calls.
 pub record Happens (config : List ℕ) (catalog : Declared) (d later : Deployment) : Type 0 where

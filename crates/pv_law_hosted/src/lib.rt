@@ -31,7 +31,7 @@ ghost use Rattle.pv_law_hosted.specs.Asked.{Asked, asked_as};
 ghost use Rattle.pv_law_hosted.specs.Calls.{BeginsAsked, HasSite, IsFromASite};
 ghost use Rattle.pv_law_hosted.specs.Claims.{HoldsSite, IsAnswered, IsRefused};
 ghost use Rattle.pv_law_hosted.specs.Deployment.{Deployment, IsNew, station_at, with_station};
-ghost use Rattle.pv_law_hosted.specs.DeploymentEvents.{Happens, MayTake, Stands};
+ghost use Rattle.pv_law_hosted.specs.DeploymentEvents.{Happens, HoldTheSame, MayTake, Stands};
 ghost use Rattle.pv_law_hosted.specs.Made.{IsLetOutOf, made_as, made_by};
 ghost use Rattle.pv_law_hosted.specs.Mirrored.{IsMirrored, plain_site, world_of};
 ghost use Rattle.pv_law_hosted.specs.Numbers.{AreNumbersFirst};
@@ -90,7 +90,8 @@ pub fn deployments_are_runs()
 /// - It says that a write is in the file only where it is (`wrote`).
 /// - A write that hasn't ended, or has failed, leaves the file with any bytes in its range, and so does the end of a process (`is_writing`, `gone`).
 /// - It opens a site, of a number that has no process, on the file that the last process of that number has left, as it is found then: what a write of that process still leaves
-///   is part of `gone` (`opened`).
+///   is part of `gone` (`opened`). What stands behind the journal's end has no part in that: the bytes that it reads may be without, and it may leave another file that holds
+///   the same, before any other call (`opened_beside`).
 /// - At first each file is a journal without records and no process is there ([`deployments_are_runs`]), and each configuration declares the one catalog.
 ///
 /// [`HostedSite::stands_ready`](pv_embed::HostedSite::stands_ready) shows that the site stands after a call. Before it, it has its number, its catalog and what
@@ -136,8 +137,13 @@ pub fn calls_happen()
     ensures opened { (config : List ℕ) (catalog : Declared) (d : Deployment) (n : ℕ) (site : HostedState) →
         n < catalog.sites → (station_at d n).hosted ≡ None → HasOpenedOn config n (station_at d n).file site → Stands site →
         Happens config catalog d (with_station d n (record (station_at d n) { hosted = Some site })) }
+    ensures opened_beside { (config : List ℕ) (catalog : Declared) (d : Deployment) (n : ℕ) (site : HostedState) (bytes left : List ℕ) →
+        n < catalog.sites → (station_at d n).hosted ≡ None → HoldTheSame (station_at d n).file bytes → HoldTheSame (station_at d n).file left →
+        HasOpenedOn config n bytes site → Stands site →
+        Happens config catalog d (with_station d n (record (station_at d n) { file = left; hosted = Some site })) }
 {
     some_items();
+    one_journal();
 }
 
 /// What holds of a deployment that a run mirrors:

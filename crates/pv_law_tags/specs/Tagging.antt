@@ -26,7 +26,7 @@ pub record IsTagged (tagging : Tagging) (site : ByteState) : Type 0 where
   pub kept : tagging.given ≡ tagging.told ++ site.tags
   pub numbers : map (λ (tag : Tag). tag.txn) site.tags ≡ numbers_of site.hosted.held
 
--- with what reports no number no tag goes
+-- What reports no number goes with the tag 0.
 abbrev pub IsOfReport : Option TxnId → ℕ → Type 0
 IsOfReport None tag = tag ≡ 0
 IsOfReport (Some txn) tag = ⊤

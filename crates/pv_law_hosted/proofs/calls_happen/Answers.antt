@@ -1,4 +1,4 @@
-use Rattle.pv_law_hosted.proofs.CallLemmas.{ask-happens, give-happens, going-happens, idle-happens, mirrored-has, opening-happens, receive-happens, submit-happens, take-happens, tell-happens, tick-happens, write-happens, writing-happens}
+use Rattle.pv_law_hosted.proofs.CallLemmas.{ask-happens, beside-happens, give-happens, going-happens, idle-happens, mirrored-has, opening-happens, receive-happens, submit-happens, take-happens, tell-happens, tick-happens, write-happens, writing-happens}
 use Rattle.pv_law_hosted.proofs.calls_happen.Goals as goal
 
 pub returns-clause-has : goal.returns-clause-has
@@ -39,4 +39,8 @@ pub returns-clause-gone : goal.returns-clause-gone
 returns-clause-gone c config catalog d n site left has may = going-happens config catalog d n site has left may
 
 pub returns-clause-opened : goal.returns-clause-opened
-returns-clause-opened c config catalog d n site known gone opened stands = opening-happens config catalog d n site known gone opened stands
+returns-clause-opened c config catalog d n site known gone opened stands = opening-happens config catalog d n site known gone stands opened
+
+pub returns-clause-opened_beside : goal.returns-clause-opened_beside
+returns-clause-opened_beside c config catalog d n site bytes left known gone read still opened stands =
+    beside-happens config catalog d n site known gone stands (λ at contents others first other. (c.one_journal.ensures at).one_value contents others first other) bytes left read still opened
