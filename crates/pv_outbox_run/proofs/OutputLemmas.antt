@@ -1,5 +1,5 @@
 -- What scripts keep of outputs: no output is released twice, and what was held and learnt is said to the end.
-use Rattle.std.proofs.Common.{◌≡◌, ◌⊎◌, inl, inr, ℕ, ◌≤◌, ◌<◌, ℤ, Bool, true, false, List, [], ◌∷◌, ◌++◌, Option, Some, None, MatchBool, refl, sym, ap, subst, ◌∙◌, arith}
+use Rattle.std.proofs.Common.{◌≡◌, ◌⊎◌, inl, inr, ℕ, ℤ, Bool, true, false, List, [], ◌∷◌, ◌++◌, Some, MatchBool, refl, sym, ap, subst, ◌∙◌, arith}
 use Rattle.std.specs.Prelude.{◌≢◌, All, if◌then◌else◌}
 use Rattle.std.specs.List.{AllPairs}
 use Rattle.std.proofs.lemmas.Bool.{true≢false}
@@ -7,17 +7,16 @@ use Rattle.std.proofs.lemmas.List.{append_assoc}
 use Rattle.std.proofs.lemmas.List.Elements.{All-cons, All-nil}
 use Rattle.std.proofs.lemmas.List.Kept.{AllPairs-cons}
 use Rattle.pv_base.specs.Polyvalue.{Case}
-use Rattle.pv_base.specs.declared.limits.TheConstants.{MAX_JOURNAL}
 use Rattle.pv_base.specs.declared.txn.TxnId.{TxnId}
 use Rattle.pv_law_outbox.specs.Ready.{IsNext, NoneReady}
 use Rattle.pv_law_outbox.specs.Runs as law
 use Rattle.pv_law_outbox.specs.Runs.{Happens, IsKept, IsWritten, MayWrite, breaks, has_none, holds, holds_already, knows_already, learns, passes, releases}
-use Rattle.pv_law_outbox.specs.State.{Record, held, learnt, taken, State, after, condition_of, is_taken, outcome_of, state_of}
+use Rattle.pv_law_outbox.specs.State.{Record, held, learnt, taken, State, condition_of, is_taken, outcome_of, state_of}
 use Rattle.pv_law_outbox.proofs.RunLemmas.{kept-by}
 use Rattle.pv_law_outbox.proofs.StateLemmas.{after-held, after-learnt, after-taken, kept-refl, kept-trans, state_of-last}
 use Rattle.pv_moored.specs.Reached.{Reached, reached, waits, fires}
-use Rattle.pv_outbox_run.specs.Box.{AppendsBy, Box, HasLength, Writes, entries_left, is_left_by}
-use Rattle.pv_outbox_run.specs.Does.{Answers, Arms, Does, DoesDown, DoesUp, Runs, StartsBy, Tells}
+use Rattle.pv_outbox_run.specs.Box.{AppendsBy, Box, Writes, is_left_by}
+use Rattle.pv_outbox_run.specs.Does.{Does, DoesDown, DoesUp, Runs, StartsBy}
 use Rattle.pv_outbox_run.specs.Outputs.{AreOnce, IsNever, IsTakenOrNot, out_of, outs}
 use Rattle.pv_outbox_run.specs.ToldText.{broke}
 use Rattle.pv_outbox_run.specs.declared.told.Told.{Told}

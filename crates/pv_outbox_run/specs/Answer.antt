@@ -1,5 +1,9 @@
 -- What the command answers to its input.
-use Rattle.std.specs.Prelude.{◌≡◌, ℕ, List}
+use Rattle.std.specs.Prelude.{◌≡◌, ℕ, List, Result}
+use Rattle.pv_commands.specs.Ends.{EndsScript}
+use Rattle.pv_io.specs.declared.read_end.ReadEnd.{ReadEnd}
+use Rattle.pv_io.specs.declared.sink.Sink as sinks
+use Rattle.pv_io.specs.declared.source.Source as sources
 use Rattle.pv_lines.specs.Refusals.{refusal_text}
 use Rattle.pv_lines.specs.declared.cause.Cause.{Cause}
 use Rattle.pv_lines.specs.declared.end.ScriptEnd.{ScriptEnd}
@@ -21,3 +25,8 @@ abbrev pub IsAnswer : List ℕ → ScriptEnd → List ℕ → Type 0
 IsAnswer input Done answer = (events : List Event) × IsScript input events × IsPrintedBy events answer
 IsAnswer input Malformed answer = (number : ℕ) × (cause : Cause) × IsRefused input number cause × (answer ≡ refusal_text number cause)
 IsAnswer input _ answer = ⊥
+
+-- The command read its input, and ended by that.
+module _ {R W : Type 0} (source : sources.Ghosts R) (sink : sinks.Ghosts W) (unread left : R) (before after : W) (ended : Result ScriptEnd ReadEnd) where
+  abbrev pub EndsOutbox : Type 0
+  EndsOutbox = EndsScript source sink IsAnswer unread left before after ended

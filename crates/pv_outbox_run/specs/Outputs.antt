@@ -1,17 +1,11 @@
 -- What is promised of the outputs of a script: each is released at most once, when it is ready, and what was held or learnt is never lost.
-use Rattle.std.specs.Prelude.{◌≡◌, ◌≢◌, ◌⊎◌, ℕ, ℤ, Bool, true, List, [], ◌∷◌, ◌++◌, Some, All}
+use Rattle.std.specs.Prelude.{◌≡◌, ◌≢◌, ◌⊎◌, ℕ, List, [], ◌∷◌, ◌++◌, All}
 use Rattle.std.specs.List.{AllPairs}
-use Rattle.pv_base.specs.Polyvalue.{Case}
-use Rattle.pv_base.specs.declared.txn.TxnId.{TxnId}
-use Rattle.pv_law_outbox.specs.Ready.{IsNext, NoneReady}
-use Rattle.pv_law_outbox.specs.State.{condition_of, is_taken, outcome_of, state_of, taken}
-use Rattle.pv_outbox_run.specs.Box.{Box, first_box}
-use Rattle.pv_outbox_run.specs.Does.{Does, Runs}
-use Rattle.pv_outbox_run.specs.ToldText.{broke}
+use Rattle.pv_law_outbox.specs.Ready.{IsNext}
+use Rattle.pv_law_outbox.specs.State.{state_of, taken}
+use Rattle.pv_outbox_run.specs.Box.{Box}
 use Rattle.pv_outbox_run.specs.declared.told.Told.{Told}
-use Rattle.pv_outbox_run.specs.declared.told.Told.TheVariants.{Held, Learnt, Out, Nothing}
-use Rattle.pv_outbox_script.specs.declared.event.Event.{Event}
-use Rattle.pv_outbox_script.specs.declared.event.Event.TheVariants.{Hold, Learn, Take}
+use Rattle.pv_outbox_run.specs.declared.told.Told.TheVariants.{Out}
 
 -- the output of a line `out N`
 abbrev pub out_of : Told → List ℕ

@@ -1,7 +1,7 @@
 // The command: it reads a script and writes what that prints.
 ghost use Rattle.std.specs.Prelude.{◌≡◌, ◌⊎◌, ◌≤◌, length};
-ghost use Rattle.pv_commands.specs.Ends.{Answered, EndsScript};
-ghost use Rattle.pv_outbox_run.specs.Answer.{IsAnswer};
+ghost use Rattle.pv_commands.specs.Ends.{Answered};
+ghost use Rattle.pv_outbox_run.specs.Answer.{EndsOutbox, IsAnswer};
 ghost use Rattle.pv_script.specs.declared.lines.TheConstants.{MAX_SCHEDULE};
 
 use crate::run::run;
@@ -21,7 +21,7 @@ pub fn read_and_run<R: Source, W: Sink>(
     source: &mut R,
     sink: &mut W,
 ) -> Result<ScriptEnd, ReadEnd>
-    ensures { EndsScript R.Source W.Sink IsAnswer source.old source.new sink.old sink.new result }
+    ensures { EndsOutbox R.Source W.Sink source.old source.new sink.old sink.new result }
 {
     match read_all(alloc, source, MAX_INPUT) {
         Ok(input) => Ok(answer(alloc, &input, sink)),

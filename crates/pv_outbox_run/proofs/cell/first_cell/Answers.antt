@@ -1,5 +1,5 @@
 -- An outbox that was never up is started.
-use Rattle.std.proofs.Common.{false, [], None, refl, subst}
+use Rattle.std.proofs.Common.{false, [], refl, subst}
 use Rattle.pv_format.specs.Checkpoint.{first_standing}
 use Rattle.pv_outbox_run.specs.Box.{Box, first_box}
 use Rattle.pv_outbox_run.specs.Stands.{Stands}

@@ -1,14 +1,12 @@
 -- What holding an output comes to.
-use Rattle.std.proofs.Common.{◌≡◌, true, Err, inl, inr, refl, subst, sym}
+use Rattle.std.proofs.Common.{◌≡◌, true, Err, inl, inr, refl, subst}
 use Rattle.std.specs.Prelude.{⊤}
 use Rattle.pv_disk.specs.MemLaws.{mem_model}
 use Rattle.pv_ckpt.specs.CkptModel.{ckpt_model}
 use Rattle.pv_law_outbox.specs.Runs.{MayWrite}
-use Rattle.pv_law_outbox.specs.State.{State, held, is_held, state_of}
+use Rattle.pv_law_outbox.specs.State.{State, held, is_held}
 use Rattle.pv_outbox.specs.Calls.{Holds}
 use Rattle.pv_outbox.specs.declared.error.BoxError.{BoxError}
-use Rattle.pv_outbox_run.specs.Does.{DoesUp, Tells}
-use Rattle.pv_outbox_run.specs.Box.{Box, Writes}
 use Rattle.pv_outbox_run.specs.declared.told.Told.TheVariants as told
 use Rattle.pv_outbox_script.specs.declared.event.Event.TheVariants.{Hold}
 use Rattle.pv_outbox_run.proofs.CellLemmas.{told-fallen, told-full, told-same, told-written}

@@ -1,6 +1,6 @@
 -- What releasing an output comes to.
-use Rattle.std.proofs.Common.{Err, Ok, None, inl, inr, refl, subst}
-use Rattle.std.specs.Prelude.{ℕ, Option, Some}
+use Rattle.std.proofs.Common.{Err, Ok, inl, inr, refl, subst}
+use Rattle.std.specs.Prelude.{ℕ, Option}
 use Rattle.pv_disk.specs.MemLaws.{mem_model}
 use Rattle.pv_ckpt.specs.CkptModel.{ckpt_model}
 use Rattle.pv_law_outbox.specs.Ready.{NoneReady}

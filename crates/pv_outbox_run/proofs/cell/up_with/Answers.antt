@@ -4,7 +4,7 @@ use Rattle.pv_outbox_run.specs.Does.{Does}
 use Rattle.pv_outbox_run.specs.Stands.{Comes}
 use Rattle.pv_outbox_run.proofs.CellLemmas.{does-up, stops-up}
 use Rattle.pv_outbox_script.specs.declared.event.Event.{Event}
-use Rattle.pv_outbox_script.specs.declared.event.Event.TheVariants.{Arm, Mend, Stop, Start}
+use Rattle.pv_outbox_script.specs.declared.event.Event.TheVariants.{Arm, Mend, Start}
 use Rattle.pv_outbox_run.specs.declared.cell.Cell.TheVariants.{Up, Down}
 use Rattle.pv_outbox_run.specs.declared.told.Told.TheVariants as told
 use Rattle.pv_outbox_run.proofs.cell.up_with.Goals as goal
