@@ -7,7 +7,7 @@ use Rattle.pv_disk_model.specs.Size.{Contents}
 use Rattle.pv_format.specs.Checkpoint.{Standing}
 use Rattle.pv_ckpt.specs.Armed.{Holds, HoldsUp}
 use Rattle.pv_ckpt.specs.CkptLog.{IsIntact}
-use Rattle.pv_moored.specs.Reached.{Reached, reached, waits, fires}
+use Rattle.pv_moored.specs.Reached.{reached, waits, fires}
 use Rattle.pv_moored.specs.declared.moored.Opened.{Opened}
 use Rattle.pv_moored.specs.declared.moored.Opened.TheVariants.{Up, Broke}
 

@@ -4,7 +4,7 @@ use Rattle.pv_disk.specs.MemDisk.{MemState}
 use Rattle.pv_disk.specs.MemLaws.{mem_model}
 use Rattle.pv_ckpt.specs.Opening.{Opens}
 use Rattle.pv_ckpt.specs.declared.open_ckpt.OpenCkpt.{OpenCkpt}
-use Rattle.pv_ckpt.specs.declared.open_ckpt.OpenCkpt.TheVariants.{Failed, NotOurs}
+use Rattle.pv_ckpt.specs.declared.open_ckpt.OpenCkpt.TheVariants.{Failed}
 use Rattle.pv_moored.proofs.ReachedLemmas.{breaks, opens-up}
 use Rattle.pv_moored.proofs.moored.open_log.Goals as goal
 
