@@ -1,0 +1,9 @@
+use Rattle.pv_law_decisions.proofs.PromiseLemmas.{keeps-decided, keeps-one, keeps-proposed}
+use Rattle.pv_law_decisions.proofs.scripts_keep_promises.Goals as goal
+
+pub returns : goal.returns
+returns c setup fit events = record {
+  one = λ front more is lines later scene last reached runs txn v u first second. keeps-one setup fit front more lines later scene last reached runs txn v u first second;
+  decided_is = λ lines last reached n txn v h. keeps-decided setup fit events lines last reached n txn v h;
+  was_proposed = λ lines last reached txn v chosen. keeps-proposed setup fit events lines last reached txn v chosen;
+}

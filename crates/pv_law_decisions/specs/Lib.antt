@@ -1,0 +1,4 @@
+pub mod Lines
+pub mod Promises
+pub mod Runs
+pub mod Scene
