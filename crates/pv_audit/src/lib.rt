@@ -1,10 +1,15 @@
-//! Traces, which are a schedule's lines with what each of them printed.
+//! Traces, which are a schedule's lines with what each of them printed, and whether the reports of a trace agree with the serial runs of their orders.
 #![tactic(auto)]
 
+mod auditing;
+mod begun;
 mod below;
 mod cases;
+mod difference;
 mod entries;
 mod first;
+mod lists;
+mod outcomes;
 mod parts;
 mod printed;
 mod read;
@@ -12,8 +17,13 @@ mod refused;
 mod report;
 mod shown;
 mod sums;
+mod told;
 mod trace;
+mod values;
+mod verdict;
 mod words;
 
+pub use auditing::audit;
 pub use read::read_trace;
 pub use trace::{Trace, TraceError, TracePart};
+pub use verdict::Verdict;
