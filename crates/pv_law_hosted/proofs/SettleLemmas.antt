@@ -35,7 +35,7 @@ use Rattle.pv_law_hosted.specs.Made as made
 use Rattle.pv_law_hosted.specs.Mirrored as mirrored
 use Rattle.pv_law_hosted.specs.Mirrored.{IsBegunIn, IsSeenAs, WorksAsBegun, plain_site, unborn}
 
--- What a request begins in the transition was asked of this site.
+-- What a request begins in the transition was asked for of this site, and was last of what got this number.
 abbrev pub IsAskedOf : ℕ → List Asked → Transition → Type 0
 IsAskedOf n asked transition =
     (m : ℕ) (query : Bool) (text : List ℕ) (program : Program) (txn : TxnId) → transition.event ≡ events.submit m query text program

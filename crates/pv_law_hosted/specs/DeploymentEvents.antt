@@ -54,7 +54,7 @@ pub data HappensTo (catalog : Declared) (d : Deployment) (n : ℕ) (site : Hoste
   -- the process goes: by a crash, by a kill, or closed; and the file is, as the next opening finds it, one that this may leave
   goes : (left : List ℕ) → MayLeave site.site.log old.file left → HappensTo catalog d n site old (record old { file = left; hosted = None })
 
--- Both are journals of the same contents. So they differ in no more than what stands behind a journal's end.
+-- Both are journals of the same contents. So they differ in no more than a closed gate and what stands behind it.
 abbrev pub HoldTheSame : List ℕ → List ℕ → Type 0
 HoldTheSame file left = (contents : Contents) × IsJournal contents file × IsJournal contents left
 

@@ -49,7 +49,7 @@ module _ (setup : Setup) (n : ℕ) where
   with_given content opened = opened_with content content.running
   with_given content (input given) = stepped_with content content.running given
 
-  -- what begins by an input is among what was asked for
+  -- what begins by an input was asked for last under its number
   abbrev pub IsAskedFor : List Asked → Content → Option Running → Input → Type 0
   IsAskedFor asked content None given = ⊤
   IsAskedFor asked content (Some running) (submit program) =

@@ -81,7 +81,7 @@ pub record Follows (setup : Setup) (d : Deployment) (n : ℕ) (site : Site) (mad
   pub within : IsWithin n (map (made_as n) ((station_at d n).let_out ++ rest)) made
   pub process : FollowsProcess setup d n (station_at d n).asked (station_at d n).file (station_at d n).hosted content rest
 
--- What a request begins in the transition was asked of a process of that site, which gave this number to it.
+-- What a request begins in the transition was asked for of a process of that site, and was last of what got this number.
 abbrev pub IsAskedIn : Deployment → Transition → Type 0
 IsAskedIn d transition =
     (n : ℕ) (query : Bool) (text : List ℕ) (program : Program) (txn : TxnId) → transition.event ≡ submit n query text program

@@ -102,7 +102,8 @@ pub fn calls_happen()
         (station_at d n).hosted ≡ Some site → HasSite catalog d n site × Stands site }
     ensures submitted { (config : List ℕ) (catalog : Declared) (d : Deployment) (n : ℕ) (site next : HostedState)
         (text : List ℕ) (query : Bool) (result : Result ⊤ SubmitFault) → HasSite catalog d n site → Stands next → SubmitsBy site next text query result →
-        (asked : List Asked) × BeginsAsked catalog site next text result asked × Happens config catalog d (with_station d n (record (station_at d n) { hosted = Some next; asked = (station_at d n).asked ++ asked })) }
+        (asked : List Asked) × BeginsAsked catalog site next text result asked ×
+        Happens config catalog d (with_station d n (record (station_at d n) { hosted = Some next; asked = (station_at d n).asked ++ asked })) }
     ensures received { (config : List ℕ) (catalog : Declared) (d : Deployment) (n : ℕ) (site next : HostedState)
         (bytes : List ℕ) (result : Result ⊤ ReceiveFault) → HasSite catalog d n site → Stands next → IsFromASite d bytes → ReceivesBy site next bytes result →
         Happens config catalog d (with_station d n (record (station_at d n) { hosted = Some next })) }
@@ -210,7 +211,7 @@ pub fn hosted_reports_hold()
 }
 
 /// What was let out before a request was given stands before it in the run: what stations have let out is in the run that mirrors the deployment now
-/// (`mirrored_deployments_agree`), and no transaction that a site begins from now on is begun in that run. It is begun in what the run goes on with, by some program: the clause doesn't say which.
+/// (`mirrored_deployments_agree`), and no transaction that a site begins from now on is begun in that run. It is begun in what the run goes on with, by the program that was asked for (`hosted_programs_are_asked_for`).
 pub fn hosted_time_is_kept()
     ensures { (setup : Setup) (d : Deployment) (events : List Event) (n : ℕ) (site next : HostedState) (input : Input) (held : Held) (txn : TxnId) →
         IsMirrored setup d events → n < setup.catalog.sites → (station_at d n).hosted ≡ Some site → MayTake setup.catalog d n input → HasStepped site next input →
