@@ -10,7 +10,7 @@ use Rattle.pv_lines.specs.declared.end.ScriptEnd.{ScriptEnd}
 use Rattle.pv_lines.specs.declared.end.ScriptEnd.TheVariants.{Done, Malformed}
 use Rattle.pv_outbox_run.specs.Box.{Box, first_box}
 use Rattle.pv_outbox_run.specs.Does.{Runs}
-use Rattle.pv_outbox_run.specs.Outputs.{AreOnce}
+use Rattle.pv_outbox_run.specs.Outputs.{AreOnce, KeepsOutputs}
 use Rattle.pv_outbox_run.specs.ToldText.{told_texts}
 use Rattle.pv_outbox_run.specs.declared.told.Told.{Told}
 use Rattle.pv_outbox_script.specs.Script.{IsRefused, IsScript}
@@ -26,7 +26,7 @@ IsAnswer input Done answer = (events : List Event) × IsScript input events × I
 IsAnswer input Malformed answer = (number : ℕ) × (cause : Cause) × IsRefused input number cause × (answer ≡ refusal_text number cause)
 IsAnswer input _ answer = ⊥
 
--- The command read its input, and ended by that.
+-- Every run keeps what is promised of outputs, and the command read its input and ended by that.
 module _ {R W : Type 0} (source : sources.Ghosts R) (sink : sinks.Ghosts W) (unread left : R) (before after : W) (ended : Result ScriptEnd ReadEnd) where
   abbrev pub EndsOutbox : Type 0
-  EndsOutbox = EndsScript source sink IsAnswer unread left before after ended
+  EndsOutbox = KeepsOutputs × EndsScript source sink IsAnswer unread left before after ended

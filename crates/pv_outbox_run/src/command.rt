@@ -4,6 +4,7 @@ ghost use Rattle.pv_commands.specs.Ends.{Answered};
 ghost use Rattle.pv_outbox_run.specs.Answer.{EndsOutbox, IsAnswer};
 ghost use Rattle.pv_script.specs.declared.lines.TheConstants.{MAX_SCHEDULE};
 
+use crate::laws::scripts_keep_outputs;
 use crate::run::run;
 use pv_base::MAX_INPUT;
 use pv_commands::write_answer;
@@ -23,6 +24,7 @@ pub fn read_and_run<R: Source, W: Sink>(
 ) -> Result<ScriptEnd, ReadEnd>
     ensures { EndsOutbox R.Source W.Sink source.old source.new sink.old sink.new result }
 {
+    scripts_keep_outputs();
     match read_all(alloc, source, MAX_INPUT) {
         Ok(input) => Ok(answer(alloc, &input, sink)),
         Err(why) => Err(why),
