@@ -1,12 +1,12 @@
 -- Each message that was sent has its mark.
-use Rattle.std.proofs.Common.{◌≡◌, ℕ, zero, suc, ◌+◌, Bool, true, false, Option, Some, None, List, [], ◌∷◌, ◌++◌, length, map, set, refl, sym, ap, subst, ◌∙◌, arith}
-use Rattle.std.specs.Prelude.{◌&&◌, not, ◌==◌, slice_get}
+use Rattle.std.proofs.Common.{◌≡◌, ℕ, suc, Bool, true, false, Option, Some, None, List, [], ◌∷◌, ◌++◌, length, map, refl, sym, ap, subst, ◌∙◌, arith}
+use Rattle.std.specs.Prelude.{slice_get}
 use Rattle.std.proofs.lemmas.List.{length-append, length-map, length-set}
 use Rattle.pv_law_decisions.specs.Lines.{Line}
 use Rattle.pv_law_decisions.specs.Runs.{Delivers, Happens, Runs}
 use Rattle.pv_law_decisions.specs.Scene as scenes
 use Rattle.pv_law_decisions.specs.Scene.{Scene, answer_of, arm_at, at_first, attempted, ending_by, memory_at, reached_by, with_done, without}
-use Rattle.pv_law_quorum.specs.Decider.{Setup, Answer, Entry, Input, Outgoing, propose, receive}
+use Rattle.pv_law_quorum.specs.Decider.{Setup, Entry, Input, Outgoing, propose, receive}
 use Rattle.pv_law_quorum.specs.World as law
 use Rattle.pv_law_quorum.specs.World.{World, Ending, Envelope, Event, whole, proposal, delivery, after_event, from_decider}
 use Rattle.pv_moored.specs.Reached.{Reached, waits, fires, reached}

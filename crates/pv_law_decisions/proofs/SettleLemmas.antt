@@ -1,34 +1,23 @@
 -- A proposal that nothing disturbs, and after which all messages are delivered, is settled.
 use Rattle.std.proofs.Common.{◌≡◌, ◌≢◌, ◌⊎◌, ⊎_elim, ℕ, zero, suc, ◌+◌, ◌<◌, ◌≤◌, Bool, true, false, Option, Some, None, List, [], ◌∷◌, ◌++◌, length, map, set, get_or, inl, inr, refl, sym, ap, subst, ◌∙◌, arith}
 use Rattle.std.proofs.lemmas.Bool.{cases_eq}
-use Rattle.std.specs.Prelude.{position, slice_get, ⊤}
-use Rattle.std.specs.List.{Contains, position_or_len}
+use Rattle.std.specs.Prelude.{position, slice_get}
+use Rattle.std.specs.List.{Contains}
 use Rattle.std.proofs.lemmas.Grind.{common_steps}
-use Rattle.std.proofs.lemmas.List.{append-nil, append_assoc, get_or-set_same, get_or-set_other, length-append, length-map, length-set, get_or_append_left, get_or-append_right}
-use Rattle.std.proofs.lemmas.List.Concat.{flat_map-append}
-use Rattle.std.proofs.lemmas.List.Elements.{Contains-append_left, Contains-append_right}
-use Rattle.pv_base.proofs.BigEndianLemmas.{append-same_length}
-use Rattle.pv_base.proofs.ContainsLemmas.{Contains-behind, Contains-cases, Contains-first, Contains-nil}
-use Rattle.pv_base.specs.declared.txn.TxnId.{TxnId}
+use Rattle.std.proofs.lemmas.List.{append-nil, get_or-set_other, length-append, length-map, length-set}
+use Rattle.pv_base.proofs.ContainsLemmas.{Contains-behind, Contains-first}
 use Rattle.pv_disk.specs.declared.arms.Arm.{Arm}
-use Rattle.pv_law_decisions.specs.Lines.{Line, told, told_by, told_of, no_message, down, up, stopped, fault, started}
-use Rattle.pv_law_decisions.specs.Promises as promises
-use Rattle.pv_law_decisions.specs.Promises.{Reaches}
-use Rattle.pv_law_decisions.specs.Runs.{Delivers, Happens}
+use Rattle.pv_law_decisions.specs.Lines.{Line}
+use Rattle.pv_law_decisions.specs.Runs.{Delivers}
 use Rattle.pv_law_decisions.specs.Scene as scenes
 use Rattle.pv_law_decisions.specs.Scene.{Scene, answer_of, arm_at, at_first, attempted, completed, memory_at, next_fresh, reached_by, with_done}
-use Rattle.pv_law_decisions.proofs.FollowLemmas.{Follows, event-follows, follows-join, run-follows, told-all}
-use Rattle.pv_law_quorum.specs.Ballot.{Ballot, is_passed}
 use Rattle.pv_law_quorum.specs.Decider as rules
 use Rattle.pv_law_quorum.specs.Decider.{Setup, Answer, Entry, Input, Message, prepare, promise, accept, accepted, propose, receive, decided, spent, full}
-use Rattle.pv_law_quorum.specs.Record.{Record, Vote, ballot_promised, value_accepted, promised}
-use Rattle.pv_law_quorum.specs.Sound.{IsSound}
-use Rattle.pv_law_quorum.specs.Undisturbed.{IsDelivered, IsOf, IsSettled, IsUndisturbed, after_all, by_decision, by_full_log, by_last_number, delivering, next_ballot, unreported}
+use Rattle.pv_law_quorum.specs.Record.{Record}
+use Rattle.pv_law_quorum.specs.Undisturbed.{IsDelivered, after_all}
 use Rattle.pv_law_quorum.specs.World as law
 use Rattle.pv_law_quorum.specs.World.{World, Ending, Envelope, Event, whole, proposal, delivery, after_event, after, decider_at, ended, no_decider, opening, records_at, IsFit}
-use Rattle.pv_moored.specs.Reached.{Reached, waits, fires, reached}
-use Rattle.pv_quorum_script.specs.declared.event.QuorumEvent.{QuorumEvent}
-use Rattle.pv_quorum_script.specs.declared.event.QuorumEvent.TheVariants.{Propose, Pump}
+use Rattle.pv_moored.specs.Reached.{Reached, waits, reached}
 
 -- Nothing is armed anywhere.
 abbrev pub IsUnarmed : Scene → Type 0

@@ -1,11 +1,10 @@
 -- A proposal that nothing disturbs is settled, by what is printed.
-use Rattle.std.proofs.Common.{◌≡◌, ◌⊎◌, ⊎_elim, ℕ, ◌<◌, ◌≤◌, Bool, cond, ltb, true, false, Option, Some, None, List, [], ◌∷◌, ◌++◌, length, map, get_or, inl, inr, refl, sym, ap, subst, ◌∙◌, arith}
+use Rattle.std.proofs.Common.{◌≡◌, ◌⊎◌, ⊎_elim, ℕ, ◌<◌, ◌≤◌, Bool, cond, ltb, true, false, Option, Some, None, List, [], ◌∷◌, ◌++◌, length, get_or, inl, inr, refl, sym, ap, subst, ◌∙◌, arith}
 use Rattle.std.proofs.lemmas.Bool.{cases_eq, ltb-false}
 use Rattle.std.specs.Prelude.{position, slice_get}
 use Rattle.std.specs.List.{Contains, position_or_len}
 use Rattle.std.proofs.lemmas.List.{get_or-set_same, get_or-set_other}
 use Rattle.std.proofs.lemmas.List.Sums.{fails_before_first}
-use Rattle.pv_base.proofs.Basics.{Some_inj}
 use Rattle.pv_base.proofs.BigEndianLemmas.{append-same_length}
 use Rattle.pv_base.proofs.ContainsLemmas.{Contains-behind, Contains-cases, Contains-first, Contains-nil}
 use Rattle.pv_base.specs.declared.txn.TxnId.{TxnId}
@@ -13,8 +12,8 @@ use Rattle.pv_law_decisions.specs.Lines.{Line, told, told_of, no_message, down, 
 use Rattle.pv_law_decisions.specs.Promises as promises
 use Rattle.pv_law_decisions.specs.Promises.{Reaches}
 use Rattle.pv_law_decisions.specs.Runs.{Happens}
-use Rattle.pv_law_decisions.specs.Scene.{Scene, at_first, memory_at, next_fresh}
-use Rattle.pv_law_decisions.proofs.FollowLemmas.{Follows, event-follows, follows-join, run-follows}
+use Rattle.pv_law_decisions.specs.Scene.{Scene, at_first, memory_at}
+use Rattle.pv_law_decisions.proofs.FollowLemmas.{event-follows, follows-join, run-follows}
 use Rattle.pv_law_decisions.proofs.LongLemmas.{IsLong, event-long, run-long}
 use Rattle.pv_law_decisions.proofs.SettleLemmas.{IsQuiet, Pumped, at-front, at-listed, front-by, listed-at, pumped-all, quiet-given}
 use Rattle.pv_law_quorum.specs.Ballot.{Ballot, is_passed, rank}

@@ -1,5 +1,5 @@
 -- Runs of scripts of deciders.
-use Rattle.std.specs.Prelude.{◌≡◌, ◌⊎◌, ℕ, suc, ◌≤◌, true, Option, Some, None, List, [], ◌∷◌, ◌++◌, slice_get}
+use Rattle.std.specs.Prelude.{◌≡◌, ◌⊎◌, ℕ, suc, ◌≤◌, Option, Some, None, List, [], ◌∷◌, ◌++◌, slice_get}
 use Rattle.pv_law_decisions.specs.Lines.{Line}
 use Rattle.pv_law_decisions.specs.Scene.{Scene, proposed, delivered, lost, without, halted, begun, with_arm, memory_at, next_fresh}
 use Rattle.pv_law_quorum.specs.Decider.{Setup}

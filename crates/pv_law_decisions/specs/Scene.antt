@@ -1,5 +1,5 @@
 -- Deciders under a script, and what each of its events but a pump makes of them.
-use Rattle.std.specs.Prelude.{ℕ, Bool, true, false, not, ◌&&◌, ◌==◌, nat_lt, Option, Some, None, List, [], ◌∷◌, ◌++◌, map, replicate, get_or, set, slice_get, length, position}
+use Rattle.std.specs.Prelude.{ℕ, Bool, true, false, not, ◌&&◌, ◌==◌, nat_lt, Option, Some, None, List, [], ◌∷◌, ◌++◌, map, replicate, get_or, set, slice_get, position}
 use Rattle.pv_base.specs.declared.txn.TxnId.{TxnId}
 use Rattle.pv_disk.specs.declared.arms.Arm.{Arm}
 use Rattle.pv_law_decisions.specs.Lines.{Line, told, no_message, down, up, stopped, fault, started}
