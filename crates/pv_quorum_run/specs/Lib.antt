@@ -1,0 +1,6 @@
+pub mod Cells
+pub mod Ends
+pub mod Happening
+pub mod LineView
+pub mod Mail
+pub mod Stands
