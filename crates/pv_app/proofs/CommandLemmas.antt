@@ -4,7 +4,7 @@ use Rattle.std.specs.Prelude.{◌==◌}
 use Rattle.std.proofs.lemmas.Fmt.{decimal_injective}
 use Rattle.pv_app.specs.Commands.{AreNumbered, IsCommand, word_of}
 use Rattle.pv_app.specs.declared.command.Command.{Command}
-use Rattle.pv_app.specs.declared.command.Command.TheVariants.{Run, Make, Big, Live, Over}
+use Rattle.pv_app.specs.declared.command.Command.TheVariants.{Run, Make, Big, Live, Over, Audit, Outbox}
 use Rattle.pv_app.specs.declared.command.TheConstants.{MAX_NUMBER}
 use Rattle.pv_app.specs.declared.tour.Tour.TheVariants.{Show, Upgrade}
 use Rattle.pv_cluster.specs.declared.running.TheConstants.{MAX_WORKERS}
@@ -34,7 +34,9 @@ alone_by b =
     (cond (b == 106) (Some (Run Json))
     (cond (b == 116) (Some (Run Trace))
     (cond (b == 115) (Some (Over Show))
-    (cond (b == 117) (Some (Over Upgrade)) None))))
+    (cond (b == 117) (Some (Over Upgrade))
+    (cond (b == 97) (Some Audit)
+    (cond (b == 111) (Some Outbox) None))))))
 
 -- and the one of this number
 abbrev numbered_by : ℕ → ℕ → Option Command
@@ -62,6 +64,8 @@ kind words (Run Json) is = inl (record { is = is; known = refl })
 kind words (Run Trace) is = inl (record { is = is; known = refl })
 kind words (Over Show) is = inl (record { is = is; known = refl })
 kind words (Over Upgrade) is = inl (record { is = is; known = refl })
+kind words Audit is = inl (record { is = is; known = refl })
+kind words Outbox is = inl (record { is = is; known = refl })
 kind words (Make n) is = inr (record { number = n; most = is.1; is = is.0; known = refl })
 kind words (Big n) is = inr (record { number = n; most = is.1; is = is.0; known = refl })
 kind words (Live n) is = inr (record { number = n; most = omega (arith, is.2); is = is.0; known = refl })
@@ -111,6 +115,8 @@ found-alone word (Some (Big n)) one other = absurd (two-spellings 0 (sym one ∙
 found-alone word (Some (Live n)) one other = absurd (two-spellings 0 (sym one ∙ other))
 found-alone word (Some (Run form)) one other = ap (λ (w : List ℕ). w ∷ []) one
 found-alone word (Some (Over tour)) one other = ap (λ (w : List ℕ). w ∷ []) one
+found-alone word (Some Audit) one other = ap (λ (w : List ℕ). w ∷ []) one
+found-alone word (Some Outbox) one other = ap (λ (w : List ℕ). w ∷ []) one
 
 -- A word alone that is a command is the command's.
 pub alone-is : (word : List ℕ) (command : Command) → IsCommand (word ∷ []) command → word ≡ spelled_or [] command
@@ -119,6 +125,8 @@ alone-is word (Big n) is = absurd (two-are-not-one (word ∷ []) word (word_of (
 alone-is word (Live n) is = absurd (two-are-not-one (word ∷ []) word (word_of (Live n)) (decimal n) refl is.0)
 alone-is word (Run form) is = only-is (word ∷ []) word (word_of (Run form)) refl is
 alone-is word (Over tour) is = only-is (word ∷ []) word (word_of (Over tour)) refl is
+alone-is word Audit is = only-is (word ∷ []) word (word_of Audit) refl is
+alone-is word Outbox is = only-is (word ∷ []) word (word_of Outbox) refl is
 
 -- A word and a number that are neither `make` nor `big` nor, with this number, `live` are no command.
 pub no-numbered : (word text : List ℕ) (number : ℕ) → number ≤ MAX_NUMBER → text ≡ decimal number → (word ≡ codes "make" → ⊥) → (word ≡ codes "big" → ⊥)
@@ -131,6 +139,8 @@ no-numbered word text number few is no_make no_big no_live (Live n) so =
     no_live (first-is (word ∷ text ∷ []) word text (codes "live") (decimal n) refl so.0) (omega (arith, same, so.1)) (omega (arith, same, so.2))
 no-numbered word text number few is no_make no_big no_live (Run form) so = two-are-not-one (word ∷ text ∷ []) (word_of (Run form)) word text so refl
 no-numbered word text number few is no_make no_big no_live (Over tour) so = two-are-not-one (word ∷ text ∷ []) (word_of (Over tour)) word text so refl
+no-numbered word text number few is no_make no_big no_live Audit so = two-are-not-one (word ∷ text ∷ []) (word_of Audit) word text so refl
+no-numbered word text number few is no_make no_big no_live Outbox so = two-are-not-one (word ∷ text ∷ []) (word_of Outbox) word text so refl
 
 -- ---- the command that was found
 

@@ -4,27 +4,29 @@ ghost use Rattle.std.specs.Prelude.{◌≡◌, ◌≢◌, ℕ, map};
 ghost use Rattle.std.specs.String.{string_bytes};
 ghost use Rattle.pv_io.specs.SinkEffects.{WritesAll};
 ghost use Rattle.pv_app.specs.Commands.{IsCommand, usage_text};
-ghost use Rattle.pv_app.specs.Ends.{Ends, EndsUsage, usage_status};
+ghost use Rattle.pv_app.specs.Ends.{Ends, EndsUsage, script_status, usage_status};
 ghost use Rattle.pv_app.specs.declared.tour.Tour.{Tour};
 ghost use Rattle.pv_show.specs.Bays.{IsAtRest};
 
 use crate::command::{Command, command_of, workers_of};
 use crate::touring::{read_and_tour, status_of_tour};
+use pv_audit_run::{read_and_audit, status_of_audit};
 use pv_base::Failed;
 use pv_cluster::Gate;
 use pv_disk::Bay;
-use pv_io::{Sink, Source, write_all};
+use pv_io::{ReadEnd, Sink, Source, write_all};
+use pv_lines::ScriptEnd;
 use pv_live::{read_and_live, status_of_live};
 use pv_run::{
-    Status, read_and_run, status_of_big, status_of_make, status_of_run, write_made,
-    write_summary_of_number,
+    Status, read_and_run, status_of_big, status_of_make, status_of_run, status_of_unread,
+    write_made, write_summary_of_number,
 };
 use std::alloc::Global;
 use std::sync::Wait;
 use std::thread::Threads;
 
 const USAGE: &[u8] =
-    b"usage: polydb run | json | make N | big N | live W | show | upgrade | trace\n";
+    b"usage: polydb run | json | make N | big N | live W | show | upgrade | trace | audit | outbox\n";
 
 /// The program, over any input, output and disks. `words` are those after the program's name. For `live`, `show` and `upgrade` no disk of the bay may be out.
 ///
@@ -82,6 +84,10 @@ where
 ///   the site's items. It changes no disk. Takes time in proportion to the input and the logs, and to the sites times the items.
 /// - `upgrade` reads a live script in the same way, replaces the old spellings in the log on each of the bay's disks by what is written today, all of a disk at one
 ///   moment, and writes of each site what came of it. At each moment of it the records of each log are as before. Takes time in proportion to the input and the logs.
+/// - `audit` reads a trace, and writes whether each report in it agrees with the serial run of its order, or the first one that doesn't, and where. It runs no site. Takes time in
+///   proportion to the input, times the alternatives of the widest report, times the logarithm of the number of transactions.
+/// - `outbox` reads a script of an outbox, runs it over one disk in memory, and writes what its calls answer. Takes time in proportion to the input, but for the conditions and for
+///   the starts.
 ///
 /// The status says how it ended. After [`Status::WriteFault`] and [`Status::NoMemory`] the sink has taken a beginning of what was to be written.
 pub fn alone<R: Source, W: Sink, B: Bay>(
@@ -110,8 +116,23 @@ pub fn alone<R: Source, W: Sink, B: Bay>(
         }
         Some(Command::Make(number)) => status_of_make(write_made(alloc, number, sink)),
         Some(Command::Big(number)) => status_of_big(write_summary_of_number(alloc, number, sink)),
+        Some(Command::Audit) => status_of_audit(read_and_audit(alloc, source, sink)),
+        Some(Command::Outbox) => status_of_script(pv_outbox_run::read_and_run(alloc, source, sink)),
         Some(Command::Live(_)) => unreachable!(),
         None => status_of_usage(write_usage(sink)),
+    }
+}
+
+// The status of a command over a small script, by how it ended.
+fn status_of_script(ended: Result<ScriptEnd, ReadEnd>) -> Status
+    ensures { result ≡ script_status ended }
+{
+    match ended {
+        Ok(ScriptEnd::Done) => Status::Done,
+        Ok(ScriptEnd::Malformed) => Status::Malformed,
+        Ok(ScriptEnd::WriteFault) => Status::WriteFault,
+        Ok(ScriptEnd::NoMemory) => Status::NoMemory,
+        Err(why) => status_of_unread(why),
     }
 }
 

@@ -25,15 +25,21 @@ pub enum Command {
     Live(u32),
     /// Read a live script, tour the disks of its sites, and write what tells of them.
     Over(Tour),
+    /// Read a trace, and write whether its reports agree with the serial runs of their orders.
+    Audit,
+    /// Read a script of an outbox, run it, and write what it prints.
+    Outbox,
 }
 
 // The commands of one word, each with its word.
-const ONE_WORD: [(&[u8], Command); 5] = [
+const ONE_WORD: [(&[u8], Command); 7] = [
     (b"run", Command::Run(Form::Text)),
     (b"json", Command::Run(Form::Json)),
     (b"show", Command::Over(Tour::Show)),
     (b"upgrade", Command::Over(Tour::Upgrade)),
     (b"trace", Command::Run(Form::Trace)),
+    (b"audit", Command::Audit),
+    (b"outbox", Command::Outbox),
 ];
 
 /// The command that the words are, or `None` where they are no command.

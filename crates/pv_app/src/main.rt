@@ -71,3 +71,5 @@ mod upgrade_tests;
 mod worked_faults;
 #[cfg(test)]
 mod worked_runs;
+#[cfg(test)]
+mod worked_traces;

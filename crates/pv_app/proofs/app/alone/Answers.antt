@@ -2,7 +2,7 @@
 use Rattle.std.proofs.Common.{map, Some, refl, ap, ◌∙◌, subst}
 use Rattle.std.specs.String.{string_bytes}
 use Rattle.pv_app.specs.Ends.{Ends}
-use Rattle.pv_app.specs.declared.command.Command.TheVariants.{Run, Make, Big, Over}
+use Rattle.pv_app.specs.declared.command.Command.TheVariants.{Run, Make, Big, Over, Audit, Outbox}
 use Rattle.pv_run.specs.KeptDisks.{last_world}
 use Rattle.pv_run.specs.Statuses.{run_status}
 use Rattle.pv_run.specs.declared.text_end.TextEnd.TheVariants as text
@@ -46,6 +46,20 @@ returns-in-Some-Over-clause-command g c = λ command is.
     c.read_and_tour.new.bay c.status_of_tour.result)
     (ap Over c.in-Some-Over.tour-is ∙ found-is (map string_bytes c.args.words.now) c.command_of.result (Over c.in-Some-Over.tour) command c.command_of.ensures.some (c.in-Some-Over.is ∙ ap Some c.in-Some-Over.field-0-is) is)
     (c.read_and_tour.result, c.status_of_tour.ensures, c.read_and_tour.ensures.ends)
+
+pub returns-in-Some-Audit-clause-command : goal.returns-in-Some-Audit-clause-command
+returns-in-Some-Audit-clause-command g c = λ command is.
+    subst (Ends g.R.Source g.W.Sink g.B.Bay.model g.B.D.Disk.model c.args.source.now c.read_and_audit.new.source c.args.sink.now c.read_and_audit.new.sink c.args.bay.now
+    c.args.bay.now c.status_of_audit.result)
+    (found-is (map string_bytes c.args.words.now) c.command_of.result Audit command c.command_of.ensures.some (c.in-Some-Audit.is ∙ ap Some c.in-Some-Audit.field-0-is) is)
+    (c.read_and_audit.result, c.status_of_audit.ensures, c.read_and_audit.ensures, refl)
+
+pub returns-in-Some-Outbox-clause-command : goal.returns-in-Some-Outbox-clause-command
+returns-in-Some-Outbox-clause-command g c = λ command is.
+    subst (Ends g.R.Source g.W.Sink g.B.Bay.model g.B.D.Disk.model c.args.source.now c.read_and_run-in-Some-Outbox.new.source c.args.sink.now c.read_and_run-in-Some-Outbox.new.sink c.args.bay.now
+    c.args.bay.now c.status_of_script.result)
+    (found-is (map string_bytes c.args.words.now) c.command_of.result Outbox command c.command_of.ensures.some (c.in-Some-Outbox.is ∙ ap Some c.in-Some-Outbox.field-0-is) is)
+    (c.read_and_run-in-Some-Outbox.result, c.status_of_script.ensures, c.read_and_run-in-Some-Outbox.ensures, refl)
 
 pub read_and_tour-requires : goal.read_and_tour-requires
 read_and_tour-requires g c = record {

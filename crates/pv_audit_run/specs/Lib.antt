@@ -1,0 +1,2 @@
+pub mod AuditEnds
+pub mod VerdictText
