@@ -4,7 +4,7 @@ use Rattle.std.specs.Prelude.{◌==◌}
 use Rattle.std.proofs.lemmas.Fmt.{decimal_injective}
 use Rattle.pv_app.specs.Commands.{AreNumbered, IsCommand, word_of}
 use Rattle.pv_app.specs.declared.command.Command.{Command}
-use Rattle.pv_app.specs.declared.command.Command.TheVariants.{Run, Make, Big, Live, Over, Audit, Outbox}
+use Rattle.pv_app.specs.declared.command.Command.TheVariants.{Run, Make, Big, Live, Over, Audit, Outbox, Quorum}
 use Rattle.pv_app.specs.declared.command.TheConstants.{MAX_NUMBER}
 use Rattle.pv_app.specs.declared.tour.Tour.TheVariants.{Show, Upgrade}
 use Rattle.pv_cluster.specs.declared.running.TheConstants.{MAX_WORKERS}
@@ -36,7 +36,8 @@ alone_by b =
     (cond (b == 115) (Some (Over Show))
     (cond (b == 117) (Some (Over Upgrade))
     (cond (b == 97) (Some Audit)
-    (cond (b == 111) (Some Outbox) None))))))
+    (cond (b == 111) (Some Outbox)
+    (cond (b == 113) (Some Quorum) None)))))))
 
 -- and the one of this number
 abbrev numbered_by : ℕ → ℕ → Option Command
@@ -66,6 +67,7 @@ kind words (Over Show) is = inl (record { is = is; known = refl })
 kind words (Over Upgrade) is = inl (record { is = is; known = refl })
 kind words Audit is = inl (record { is = is; known = refl })
 kind words Outbox is = inl (record { is = is; known = refl })
+kind words Quorum is = inl (record { is = is; known = refl })
 kind words (Make n) is = inr (record { number = n; most = is.1; is = is.0; known = refl })
 kind words (Big n) is = inr (record { number = n; most = is.1; is = is.0; known = refl })
 kind words (Live n) is = inr (record { number = n; most = omega (arith, is.2); is = is.0; known = refl })
@@ -117,6 +119,7 @@ found-alone word (Some (Run form)) one other = ap (λ (w : List ℕ). w ∷ []) 
 found-alone word (Some (Over tour)) one other = ap (λ (w : List ℕ). w ∷ []) one
 found-alone word (Some Audit) one other = ap (λ (w : List ℕ). w ∷ []) one
 found-alone word (Some Outbox) one other = ap (λ (w : List ℕ). w ∷ []) one
+found-alone word (Some Quorum) one other = ap (λ (w : List ℕ). w ∷ []) one
 
 -- A word alone that is a command is the command's.
 pub alone-is : (word : List ℕ) (command : Command) → IsCommand (word ∷ []) command → word ≡ spelled_or [] command
@@ -127,6 +130,7 @@ alone-is word (Run form) is = only-is (word ∷ []) word (word_of (Run form)) re
 alone-is word (Over tour) is = only-is (word ∷ []) word (word_of (Over tour)) refl is
 alone-is word Audit is = only-is (word ∷ []) word (word_of Audit) refl is
 alone-is word Outbox is = only-is (word ∷ []) word (word_of Outbox) refl is
+alone-is word Quorum is = only-is (word ∷ []) word (word_of Quorum) refl is
 
 -- A word and a number that are neither `make` nor `big` nor, with this number, `live` are no command.
 pub no-numbered : (word text : List ℕ) (number : ℕ) → number ≤ MAX_NUMBER → text ≡ decimal number → (word ≡ codes "make" → ⊥) → (word ≡ codes "big" → ⊥)
@@ -141,6 +145,7 @@ no-numbered word text number few is no_make no_big no_live (Run form) so = two-a
 no-numbered word text number few is no_make no_big no_live (Over tour) so = two-are-not-one (word ∷ text ∷ []) (word_of (Over tour)) word text so refl
 no-numbered word text number few is no_make no_big no_live Audit so = two-are-not-one (word ∷ text ∷ []) (word_of Audit) word text so refl
 no-numbered word text number few is no_make no_big no_live Outbox so = two-are-not-one (word ∷ text ∷ []) (word_of Outbox) word text so refl
+no-numbered word text number few is no_make no_big no_live Quorum so = two-are-not-one (word ∷ text ∷ []) (word_of Quorum) word text so refl
 
 -- ---- the command that was found
 

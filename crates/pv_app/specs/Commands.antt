@@ -1,7 +1,7 @@
 -- What the words after the program's name ask for.
 use Rattle.std.specs.Prelude.{◌≡◌, ℕ, ◌≤◌, List, [], ◌∷◌, codes, decimal}
 use Rattle.pv_app.specs.declared.command.Command.{Command}
-use Rattle.pv_app.specs.declared.command.Command.TheVariants.{Run, Make, Big, Live, Over, Audit, Outbox}
+use Rattle.pv_app.specs.declared.command.Command.TheVariants.{Run, Make, Big, Live, Over, Audit, Outbox, Quorum}
 use Rattle.pv_app.specs.declared.tour.Tour.TheVariants.{Show, Upgrade}
 use Rattle.pv_app.specs.declared.command.TheConstants.{MAX_NUMBER}
 use Rattle.pv_cluster.specs.declared.running.TheConstants.{MAX_WORKERS}
@@ -19,6 +19,7 @@ word_of (Over Show) = codes "show"
 word_of (Over Upgrade) = codes "upgrade"
 word_of Audit = codes "audit"
 word_of Outbox = codes "outbox"
+word_of Quorum = codes "quorum"
 
 -- a word, and a number in decimal without a leading zero
 abbrev pub AreNumbered : List (List ℕ) → List ℕ → ℕ → Type 0
@@ -33,4 +34,4 @@ IsCommand words command = words ≡ word_of command ∷ []
 
 -- what is answered to words that are no command
 abbrev pub usage_text : List ℕ
-usage_text = codes "usage: polydb run | json | make N | big N | live W | show | upgrade | trace | audit | outbox\n"
+usage_text = codes "usage: polydb run | json | make N | big N | live W | show | upgrade | trace | audit | outbox | quorum\n"

@@ -4,7 +4,7 @@ use Rattle.std.specs.Prelude.{◌≡◌, Result, Ok, Err}
 use Rattle.pv_app.specs.Commands.{usage_text}
 use Rattle.pv_app.specs.TourEnds.{EndsTour, tour_status}
 use Rattle.pv_app.specs.declared.command.Command.{Command}
-use Rattle.pv_app.specs.declared.command.Command.TheVariants.{Run, Make, Big, Live, Over, Audit, Outbox}
+use Rattle.pv_app.specs.declared.command.Command.TheVariants.{Run, Make, Big, Live, Over, Audit, Outbox, Quorum}
 use Rattle.pv_app.specs.declared.tour_end.TourEnd.{TourEnd}
 use Rattle.pv_audit_run.specs.AuditEnds.{EndsAudit, audit_status}
 use Rattle.pv_audit_run.specs.declared.audit_end.AuditEnd.{AuditEnd}
@@ -20,6 +20,7 @@ use Rattle.pv_live.specs.LiveEnds.{EndsLive, live_status}
 use Rattle.pv_live.specs.declared.live_end.LiveEnd.{LiveEnd}
 use Rattle.pv_disk_model.specs.DiskModel.{DiskModel}
 use Rattle.pv_outbox_run.specs.Answer.{EndsOutbox}
+use Rattle.pv_quorum_run.specs.Ends.{EndsQuorum}
 use Rattle.pv_run.specs.Ends.{EndsBig, EndsMake, EndsRun}
 use Rattle.pv_run.specs.Statuses.{big_status, make_status, run_status, unread_status}
 use Rattle.pv_run.specs.declared.status.Status.{Status}
@@ -55,6 +56,7 @@ module _ {R W B V : Type 0} (source : sources.Ghosts R) (sink : sinks.Ghosts W) 
   Ends (Live workers) = (ended : Result LiveEnd ReadEnd) × (status ≡ live_status ended) × EndsLive source sink M D unread left before after old new ended
   Ends Audit = (ended : Result AuditEnd ReadEnd) × (status ≡ audit_status ended) × EndsAudit source sink unread left before after ended × (new ≡ old)
   Ends Outbox = (ended : Result ScriptEnd ReadEnd) × (status ≡ script_status ended) × EndsOutbox source sink unread left before after ended × (new ≡ old)
+  Ends Quorum = (ended : Result ScriptEnd ReadEnd) × (status ≡ script_status ended) × EndsQuorum source sink unread left before after ended × (new ≡ old)
   Ends (Over tour) = (ended : Result TourEnd ReadEnd) × (status ≡ tour_status ended) × EndsTour source sink M D tour unread left before after old new ended
 
   -- How words end that are no command: the usage line was written, or a beginning of it.

@@ -17,6 +17,7 @@ use pv_disk::Bay;
 use pv_io::{ReadEnd, Sink, Source, write_all};
 use pv_lines::ScriptEnd;
 use pv_live::{read_and_live, status_of_live};
+use pv_quorum_run::read_and_decide;
 use pv_run::{
     Status, read_and_run, status_of_big, status_of_make, status_of_run, status_of_unread,
     write_made, write_summary_of_number,
@@ -26,7 +27,7 @@ use std::sync::Wait;
 use std::thread::Threads;
 
 const USAGE: &[u8] =
-    b"usage: polydb run | json | make N | big N | live W | show | upgrade | trace | audit | outbox\n";
+    b"usage: polydb run | json | make N | big N | live W | show | upgrade | trace | audit | outbox | quorum\n";
 
 /// The program, over any input, output and disks. `words` are those after the program's name. For `live`, `show` and `upgrade` no disk of the bay may be out.
 ///
@@ -88,6 +89,7 @@ where
 ///   proportion to the input, times the alternatives of the widest report, times the logarithm of the number of transactions.
 /// - `outbox` reads a script of an outbox, runs it over one disk in memory, and writes what its calls answer. Takes time in proportion to the input, but for the conditions and for
 ///   the starts.
+/// - `quorum` reads a script of deciders, runs it, each decider over a disk in memory of its own, and writes what that prints. Takes time in proportion to the input and what is sent.
 ///
 /// The status says how it ended. After [`Status::WriteFault`] and [`Status::NoMemory`] the sink has taken a beginning of what was to be written.
 pub fn alone<R: Source, W: Sink, B: Bay>(
@@ -118,6 +120,7 @@ pub fn alone<R: Source, W: Sink, B: Bay>(
         Some(Command::Big(number)) => status_of_big(write_summary_of_number(alloc, number, sink)),
         Some(Command::Audit) => status_of_audit(read_and_audit(alloc, source, sink)),
         Some(Command::Outbox) => status_of_script(pv_outbox_run::read_and_run(alloc, source, sink)),
+        Some(Command::Quorum) => status_of_script(read_and_decide(alloc, source, sink)),
         Some(Command::Live(_)) => unreachable!(),
         None => status_of_usage(write_usage(sink)),
     }

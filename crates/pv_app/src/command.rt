@@ -29,10 +29,12 @@ pub enum Command {
     Audit,
     /// Read a script of an outbox, run it, and write what it prints.
     Outbox,
+    /// Read a script of deciders, run it, and write what it prints.
+    Quorum,
 }
 
 // The commands of one word, each with its word.
-const ONE_WORD: [(&[u8], Command); 7] = [
+const ONE_WORD: [(&[u8], Command); 8] = [
     (b"run", Command::Run(Form::Text)),
     (b"json", Command::Run(Form::Json)),
     (b"show", Command::Over(Tour::Show)),
@@ -40,6 +42,7 @@ const ONE_WORD: [(&[u8], Command); 7] = [
     (b"trace", Command::Run(Form::Trace)),
     (b"audit", Command::Audit),
     (b"outbox", Command::Outbox),
+    (b"quorum", Command::Quorum),
 ];
 
 /// The command that the words are, or `None` where they are no command.

@@ -6,7 +6,7 @@ use crate::worked_faults::{
     REFUSED_START_STOPS, SECOND_ARMS, START, START_STOPS,
 };
 use crate::worked_runs::{DOUBT, DOUBT_TRACE, RUNS};
-use crate::worked_traces::{AUDITS, OUTBOXES};
+use crate::worked_traces::{AUDITS, OUTBOXES, QUORUMS};
 use pv_io::{MemSink, MemSource};
 use std::process::Abort;
 use std::test::Fail;
@@ -66,7 +66,7 @@ const REPORTS_OUTPUT: &str =
     "order\ncommitted\nopen\nitem a -1\nend\ntxn 0.1.0\ncommit 0.1.0 certain nothing\norder 0.1.0\ncommitted 0.1.0\nopen\nitem a 1\nend\ntxn 0.1.1\ncommit 0.1.1 certain nothing\n";
 
 const USAGE: &str =
-    "usage: polydb run | json | make N | big N | live W | show | upgrade | trace | audit | outbox\n";
+    "usage: polydb run | json | make N | big N | live W | show | upgrade | trace | audit | outbox | quorum\n";
 
 const FIRST_JSON: &str = "\
 {\"txn\":\"0.1.0\"}
@@ -245,6 +245,14 @@ fn each_trace_is_judged(rt: HostRuntime) -> Result<(), Fail> {
 fn each_script_of_an_outbox_prints_its_lines(rt: HostRuntime) -> Result<(), Fail> {
     for (input, output) in OUTBOXES {
         assert_ends(&rt, &["outbox"], input, Status::Done, output)?;
+    }
+    Ok(())
+}
+
+#[test]
+fn each_script_of_deciders_prints_its_lines(rt: HostRuntime) -> Result<(), Fail> {
+    for (input, output) in QUORUMS {
+        assert_ends(&rt, &["quorum"], input, Status::Done, output)?;
     }
     Ok(())
 }

@@ -1,4 +1,4 @@
-// Worked traces, with what an audit finds of each, and worked scripts of outboxes, with what they print.
+// Worked traces, with what an audit finds of each, and worked scripts of outboxes and of deciders, with what they print.
 use pv_run::Status;
 
 // The trace of a transfer whose outcome doesn't reach site 1.
@@ -176,4 +176,35 @@ pub(crate) const OUTBOXES: &[(&str, &str)] = &[
     ),
     (KEPT, "held 1\nstopped\nstarted\nnone\n"),
     (LOST, "held 1\nstopped\nstarted\nout 1\n"),
+];
+
+const DECIDED: &str = "\
+deciders 3
+propose 0 0.1.0 yes
+pump
+propose 1 0.1.0 no
+pump
+";
+
+const DECIDED_OUTPUT: &str = "\
+decided 0 0.1.0 yes
+decided 1 0.1.0 yes
+";
+
+const DECIDED_LATER: &str = "\
+deciders 3
+propose 0 0.1.0 yes
+pump 2
+propose 2 0.1.0 no
+pump
+";
+
+const DECIDED_LATER_OUTPUT: &str = "\
+decided 2 0.1.0 yes
+";
+
+/// Scripts of deciders, each with what it prints.
+pub(crate) const QUORUMS: &[(&str, &str)] = &[
+    (DECIDED, DECIDED_OUTPUT),
+    (DECIDED_LATER, DECIDED_LATER_OUTPUT),
 ];

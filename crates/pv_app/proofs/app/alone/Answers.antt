@@ -2,7 +2,7 @@
 use Rattle.std.proofs.Common.{map, Some, refl, ap, ◌∙◌, subst}
 use Rattle.std.specs.String.{string_bytes}
 use Rattle.pv_app.specs.Ends.{Ends}
-use Rattle.pv_app.specs.declared.command.Command.TheVariants.{Run, Make, Big, Over, Audit, Outbox}
+use Rattle.pv_app.specs.declared.command.Command.TheVariants.{Run, Make, Big, Over, Audit, Outbox, Quorum}
 use Rattle.pv_run.specs.KeptDisks.{last_world}
 use Rattle.pv_run.specs.Statuses.{run_status}
 use Rattle.pv_run.specs.declared.text_end.TextEnd.TheVariants as text
@@ -60,6 +60,13 @@ returns-in-Some-Outbox-clause-command g c = λ command is.
     c.args.bay.now c.status_of_script.result)
     (found-is (map string_bytes c.args.words.now) c.command_of.result Outbox command c.command_of.ensures.some (c.in-Some-Outbox.is ∙ ap Some c.in-Some-Outbox.field-0-is) is)
     (c.read_and_run-in-Some-Outbox.result, c.status_of_script.ensures, c.read_and_run-in-Some-Outbox.ensures, refl)
+
+pub returns-in-Some-Quorum-clause-command : goal.returns-in-Some-Quorum-clause-command
+returns-in-Some-Quorum-clause-command g c = λ command is.
+    subst (Ends g.R.Source g.W.Sink g.B.Bay.model g.B.D.Disk.model c.args.source.now c.read_and_decide.new.source c.args.sink.now c.read_and_decide.new.sink c.args.bay.now
+    c.args.bay.now c.status_of_script-in-Some-Quorum.result)
+    (found-is (map string_bytes c.args.words.now) c.command_of.result Quorum command c.command_of.ensures.some (c.in-Some-Quorum.is ∙ ap Some c.in-Some-Quorum.field-0-is) is)
+    (c.read_and_decide.result, c.status_of_script-in-Some-Quorum.ensures, c.read_and_decide.ensures, refl)
 
 pub read_and_tour-requires : goal.read_and_tour-requires
 read_and_tour-requires g c = record {

@@ -5,7 +5,7 @@ use Rattle.std.specs.Str.{bytes_eq}
 use Rattle.std.proofs.lemmas.Bool.{false≢true}
 use Rattle.pv_app.specs.Commands.{IsCommand, word_of}
 use Rattle.pv_app.specs.declared.command.Command.{Command}
-use Rattle.pv_app.specs.declared.command.Command.TheVariants.{Run, Make, Big, Live, Over, Audit, Outbox}
+use Rattle.pv_app.specs.declared.command.Command.TheVariants.{Run, Make, Big, Live, Over, Audit, Outbox, Quorum}
 use Rattle.pv_app.specs.declared.command.TheConstants.{ONE_WORD}
 use Rattle.pv_app.specs.declared.tour.Tour.TheVariants.{Show, Upgrade}
 use Rattle.pv_run.specs.declared.form.Form.TheVariants.{Text, Json, Trace}
@@ -24,6 +24,7 @@ listed word (Over Show) is = ap is_listed (alone-is word (Over Show) is)
 listed word (Over Upgrade) is = ap is_listed (alone-is word (Over Upgrade) is)
 listed word Audit is = ap is_listed (alone-is word Audit is)
 listed word Outbox is = ap is_listed (alone-is word Outbox is)
+listed word Quorum is = ap is_listed (alone-is word Quorum is)
 listed word (Make n) is = let one = is.0 in let wrong : ⊥ = cc in absurd wrong
 listed word (Big n) is = let one = is.0 in let wrong : ⊥ = cc in absurd wrong
 listed word (Live n) is = let one = is.0 in let wrong : ⊥ = cc in absurd wrong
