@@ -7,8 +7,8 @@ use Rattle.std.proofs.KnownBytes.{Appends-nil}
 use Rattle.std.proofs.lemmas.List.{take_all}
 use Rattle.pv_audit.specs.Findings.{IsFine, IsVerdict, Verdict, all_agree, at_report, no_order, no_item, limit}
 use Rattle.pv_audit.specs.Reports.{reports}
-use Rattle.pv_audit.specs.TraceFaults.{IsNoTrace}
 use Rattle.pv_audit.specs.Traces.{IsTrace, Trace}
+use Rattle.pv_audit.specs.Views.{IsNoTraceAt}
 use Rattle.pv_audit_run.specs.AuditEnds.{AnswersAudit, IsAuditAnswer, IsJudged, end_by, end_status, ended_by}
 use Rattle.pv_audit_run.specs.VerdictText.{verdict_text}
 use Rattle.pv_audit_run.specs.declared.audit_end.AuditEnd.{AuditEnd}
@@ -26,6 +26,10 @@ use Rattle.pv_run.specs.declared.status.Status.{Status}
 use Rattle.pv_run.specs.declared.status.Status.TheVariants as status
 use Rattle.pv_run.specs.declared.write_end.WriteEnd.{WriteEnd}
 use Rattle.pv_run.specs.declared.write_end.WriteEnd.TheVariants as unwritten
+
+-- The input is malformed at this line, for this cause.
+abbrev IsNoTrace : List ℕ → ℕ → LineCause → Type 0
+IsNoTrace input number cause = IsNoTraceAt input (record { number = number; cause = cause })
 
 -- ---- the kinds of answers
 

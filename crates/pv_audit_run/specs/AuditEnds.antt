@@ -3,8 +3,8 @@ use Rattle.std.specs.Bool.{⊤}
 use Rattle.std.specs.Prelude.{◌≡◌, ◌≢◌, ◌⊎◌, ℕ, ◌<◌, ◌≤◌, List, [], All, length, Some, Result, Ok, Err}
 use Rattle.pv_audit.specs.Findings.{IsFine, IsVerdict, Verdict, all_agree, at_report, no_order, no_item, limit}
 use Rattle.pv_audit.specs.Reports.{reports}
-use Rattle.pv_audit.specs.TraceFaults.{IsNoTrace}
 use Rattle.pv_audit.specs.Traces.{IsTrace, Trace}
+use Rattle.pv_audit.specs.Views.{IsNoTraceAt}
 use Rattle.pv_audit_run.specs.VerdictText.{verdict_text}
 use Rattle.pv_audit_run.specs.declared.audit_end.AuditEnd.{AuditEnd}
 use Rattle.pv_audit_run.specs.declared.audit_end.AuditEnd.TheVariants as end
@@ -65,7 +65,7 @@ pub record IsJudged (input : List ℕ) (status : Status) (output : List ℕ) : T
 -- What has to be answered to an input, and the status with it: what is found of the trace that it is, or its first line at fault and why. To one that is longer
 -- than it may be it is nothing at all.
 abbrev pub IsAuditAnswer : List ℕ → Status → List ℕ → Type 0
-IsAuditAnswer input Malformed output = (length input ≤ MAX_INPUT) × (number : ℕ) × (cause : LineCause) × IsNoTrace input number cause × (output ≡ fault_text number cause)
+IsAuditAnswer input Malformed output = (length input ≤ MAX_INPUT) × (number : ℕ) × (cause : LineCause) × IsNoTraceAt input (record { number = number; cause = cause }) × (output ≡ fault_text number cause)
 IsAuditAnswer input TooLong output = (MAX_INPUT < length input) × (output ≡ [])
 IsAuditAnswer input status output = IsJudged input status output
 
