@@ -10,12 +10,12 @@ use Rattle.pv_base.proofs.ContainsLemmas.{Contains-behind, Contains-cases, Conta
 use Rattle.pv_base.specs.declared.txn.TxnId.{TxnId}
 use Rattle.pv_law_decisions.specs.Lines.{Line, told, told_of, no_message, down, up, stopped, fault, started}
 use Rattle.pv_law_decisions.specs.Promises as promises
-use Rattle.pv_law_decisions.specs.Promises.{Reaches}
+use Rattle.pv_law_decisions.specs.Promises.{IsUp, Reaches}
 use Rattle.pv_law_decisions.specs.Runs.{Happens}
 use Rattle.pv_law_decisions.specs.Scene.{Scene, at_first, memory_at}
 use Rattle.pv_law_decisions.proofs.FollowLemmas.{event-follows, follows-join, run-follows}
 use Rattle.pv_law_decisions.proofs.LongLemmas.{IsLong, event-long, run-long}
-use Rattle.pv_law_decisions.proofs.SettleLemmas.{IsQuiet, Pumped, at-front, at-listed, front-by, listed-at, pumped-all, quiet-given}
+use Rattle.pv_law_decisions.proofs.SettleLemmas.{IsQuiet, Pumped, at-front, at-listed, front-by, given-down, listed-at, pump-down, pumped-all, quiet-given, was-up}
 use Rattle.pv_law_quorum.specs.Ballot.{Ballot, is_passed, rank}
 use Rattle.pv_law_quorum.specs.Decider as rules
 use Rattle.pv_law_quorum.specs.Decider.{Setup, Answer, Entry, Message, prepare, promise, accept, accepted, propose, decided, spent, full, step}
@@ -72,10 +72,19 @@ module _ (setup : Setup) (fit : IsFit setup) (front : List QuorumEvent) (said : 
   abbrev ballot : Ballot
   ballot = next_ballot before.world n txn
 
+  proposal-down : (k : ℕ) → memory_at before k ≡ None → memory_at begun k ≡ None
+  proposal-down k none =
+      subst (λ (s : Scene). memory_at s k ≡ None) (sym proposes.1)
+      (given-down setup before n (propose txn v) (λ ending. proposal n txn v ending) (memory_at before n) (λ ending. refl) refl k none)
+
+  stay-up : (k : ℕ) → IsUp begun k → IsUp last k
+  stay-up k risen = is.quiet k (was-up setup before begun k (proposal-down k) risen)
+
   quiet : IsQuiet setup before begun first before.fresh
   quiet =
       subst (λ (s : Scene). IsQuiet setup before s first before.fresh) (sym proposes.1)
-      (quiet-given setup before n (propose txn v) (λ ending. proposal n txn v ending) (memory_at before n) refl is.unarmed)
+      (quiet-given setup before n (propose txn v) (λ ending. proposal n txn v ending) (memory_at before n) (λ ending. refl) refl
+      (λ risen. subst (λ (s : Scene). IsUp s n) proposes.1 (was-up setup begun last n (pump-down setup begun pumps.0 later last pumps.1 n) (is.quiet n risen))))
 
   -- the world of the proposal, with nothing reported before
   abbrev since : World
@@ -97,11 +106,11 @@ module _ (setup : Setup) (fit : IsFit setup) (front : List QuorumEvent) (said : 
       (at-front before.world.sent quiet.sends.more i envelope (omega (arith, small, long-before))
       (subst (λ (sent : List Envelope). slice_get sent i ≡ Some envelope) quiet.sends.sent there))
 
-  pumped : Pumped setup begun since Old (λ numbers. ap (λ (w : World). w.sent) (same-world numbers)) quiet.unarmed
+  pumped : Pumped setup begun since Old (λ numbers. ap (λ (w : World). w.sent) (same-world numbers))
       (event-long setup before (Propose n txn v) now begun proposes long-before) old-done last
   pumped =
-      pumped-all setup begun since Old (λ numbers. ap (λ (w : World). w.sent) (same-world numbers)) quiet.unarmed (event-long setup before (Propose n txn v) now begun proposes long-before) old-done
-      pumps.0 later last pumps.1
+      pumped-all setup begun since Old (λ numbers. ap (λ (w : World). w.sent) (same-world numbers)) (event-long setup before (Propose n txn v) now begun proposes long-before) old-done
+      pumps.0 later last pumps.1 stay-up
 
   abbrev Last : World
   Last = after_all setup since pumped.numbers

@@ -4,7 +4,7 @@ use Rattle.std.specs.List.{Contains}
 use Rattle.pv_base.specs.declared.txn.TxnId.{TxnId}
 use Rattle.pv_law_decisions.specs.Lines.{Line, told}
 use Rattle.pv_law_decisions.specs.Runs.{Happens, Runs}
-use Rattle.pv_law_decisions.specs.Scene.{Scene, arm_at, at_first, memory_at}
+use Rattle.pv_law_decisions.specs.Scene.{Scene, at_first, memory_at}
 use Rattle.pv_law_quorum.specs.Ballot.{is_majority, is_passed}
 use Rattle.pv_law_quorum.specs.Decider.{Setup, Entry, decided, spent, full}
 use Rattle.pv_law_quorum.specs.Record.{promised}
@@ -13,14 +13,18 @@ use Rattle.pv_law_quorum.specs.World.{IsChosen, records_at}
 use Rattle.pv_quorum_script.specs.declared.event.QuorumEvent.{QuorumEvent}
 use Rattle.pv_quorum_script.specs.declared.event.QuorumEvent.TheVariants.{Propose, Pump}
 
--- The decider proposes here with a majority that is up, itself among them, and no fault is armed anywhere. When all is delivered that comes of that, none of the deciders
--- has promised a higher ballot of the transaction.
+-- The decider is up.
+abbrev pub IsUp : Scene → ℕ → Type 0
+IsUp scene n = (memory : List Entry) × (memory_at scene n ≡ Some memory)
+
+-- The decider proposes here with a majority that is up, itself among them. When all is delivered that comes of that, whoever was up is up still, so none has stopped and no disk has failed:
+-- nobody starts meanwhile. And none of the deciders has promised a higher ballot of the transaction.
 pub record IsUndisturbed (setup : Setup) (members : ℕ → Bool) (n : ℕ) (txn : TxnId) (before after : Scene) : Type 0 where
   pub most : is_majority setup.deciders members ≡ true
   pub own : members n ≡ true
   pub within : (k : ℕ) → members k ≡ true → k < setup.deciders
-  pub up : (k : ℕ) → members k ≡ true → (memory : List Entry) × (memory_at before k ≡ Some memory)
-  pub unarmed : (k : ℕ) → arm_at before k ≡ None
+  pub up : (k : ℕ) → members k ≡ true → IsUp before k
+  pub quiet : (k : ℕ) → IsUp before k → IsUp after k
   pub unpassed : (k : ℕ) → is_passed (next_ballot before.world n txn) (promised txn (records_at after.world k)) ≡ false
 
 -- Of a proposal it is printed that a value is decided, that the log of one of these deciders is full, or that no ballot number is left.
