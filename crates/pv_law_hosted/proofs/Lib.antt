@@ -16,7 +16,7 @@ mod NumberSteps
 mod OneByOneLemmas
 mod OpensLemmas
 mod OutcomeLemmas
-mod ProgramSteps
+pub mod ProgramSteps
 mod ReportLemmas
 mod RunLemmas
 mod SaidLemmas
