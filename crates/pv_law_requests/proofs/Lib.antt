@@ -1,3 +1,4 @@
 pub mod OnceLemmas
 pub mod OwnEvents
 pub mod RequestLemmas
+pub mod TraceLemmas

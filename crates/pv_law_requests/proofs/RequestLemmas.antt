@@ -152,7 +152,7 @@ module _ (setup : Setup) where
       subst (λ (all : List Ordered). IsBehind all (world_after transition.world earlier)) (append_assoc begun new (begun_in earlier))
       (behind-all (begun ++ new) transition.world earlier later known.1 goes.1 (behind-one begun world transition known.0.0 known.0.1 goes.0 behind))
 
-  known-acts : (world : World) (earlier later : List Transition) → AreKnown setup world (earlier ++ later) → Acts setup world (world_after world earlier)
+  pub known-acts : (world : World) (earlier later : List Transition) → AreKnown setup world (earlier ++ later) → Acts setup world (world_after world earlier)
   known-acts world [] later known = no_act world
   known-acts world (transition ∷ earlier) later known =
       then-acts setup world transition.world (world_after transition.world earlier) known.0.1 (known-acts transition.world earlier later known.1)

@@ -1,8 +1,12 @@
-//! Laws of the requests of runs: each transaction of the order is that of one. The functions do nothing: each states a law.
+//! Laws of the requests of runs, and of audits of their traces: each transaction of the order is that of a request, so an audit finds nothing but a limit. The
+//! functions do nothing: each states a law.
 #![tactic(auto)]
 
 ghost use Rattle.std.specs.Prelude.{All, List};
+ghost use Rattle.pv_audit.specs.Findings.{IsVerdict, Verdict};
+ghost use Rattle.pv_law_audits.specs.RightReports.{IsPassed};
 ghost use Rattle.pv_law_requests.specs.Requests.{OrdersAreOfRequests};
+ghost use Rattle.pv_law_requests.specs.RunTraces.{run_trace};
 ghost use Rattle.pv_model.specs.Events.{Event};
 ghost use Rattle.pv_protocol.specs.Anywhere.{IsRunWithFaults};
 ghost use Rattle.pv_protocol.specs.Run.{run};
@@ -18,4 +22,10 @@ pub fn orders_are_of_requests()
         OrdersAreOfRequests (opening setup) (run setup (opening setup) events) }
     ensures faults { (setup : Setup) (transitions : List Transition) → IsRunWithFaults setup (opening setup) transitions →
         OrdersAreOfRequests (opening setup) transitions }
+{}
+
+/// Of the trace of a run an audit finds that all agree, or that a limit is passed.
+pub fn run_traces_pass()
+    ensures { (setup : Setup) (events : List Event) (verdict : Verdict) → All (IsWellFormed setup.catalog) events → IsVerdict (run_trace setup events) verdict →
+        IsPassed verdict }
 {}
