@@ -5,6 +5,8 @@ use Rattle.std.proofs.lemmas.Bool.Decides.{nat_tests}
 use Rattle.std.proofs.lemmas.List.{append-nil}
 use Rattle.std.proofs.lemmas.List.Elements.{All-append, All-cons, All-head, All-nil, All-tail}
 use Rattle.std.proofs.lemmas.List.Sums.{sum-map, sum_by-le}
+use Rattle.pv_base.proofs.Basics.{heads}
+use Rattle.pv_base.proofs.BigEndianLemmas.{big_endian-one}
 use Rattle.pv_base.specs.BigEndian.{IsNumber, IsSigned, big_endian, twos_complement}
 use Rattle.pv_base.specs.Polyvalue.{Case, under}
 use Rattle.pv_base.specs.declared.literal.Literal.{Literal}
@@ -46,6 +48,12 @@ kind_bad zero kind old new taken fits no_leaf wrong = λ next.
 kind_bad (suc tests) kind old new taken fits no_leaf (inl no_test) = λ next.
     stops_number 1 kind old new taken (omega arith) (is_node_kind (suc tests)) (grind (arith, nat_tests)) (λ number. after_kind (suc tests) number next)
 kind_bad (suc tests) kind old new taken fits no_leaf (inr none) = absurd (omega (arith, none))
+
+-- The kind that was taken is that of a leaf, where it is the first byte.
+pub leaf_kind : (kind : ℕ) (rest : List ℕ) (old new : Rest) → kind < 256 → old.left ≡ 0 ∷ rest → HasTaken (big_endian 1 kind) old new → HasTaken (big_endian 1 0) old new
+leaf_kind kind rest old new fits first taken =
+    let same : kind ∷ new.left ≡ 0 ∷ rest = sym (taken.bytes ∙ ap (λ (front : List ℕ). front ++ new.left) (big_endian-one kind fits)) ∙ first in
+    subst (λ (number : ℕ). HasTaken (big_endian 1 number) old new) (heads same) taken
 
 -- A leaf was read, or its value wasn't.
 

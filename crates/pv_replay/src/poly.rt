@@ -1,5 +1,5 @@
 // Polyvalues as bytes: the count of the leaves, and the tree from its root on, each test once.
-ghost use Rattle.std.specs.Prelude.{◌≡◌, ◌++◌, ◌∷◌, [], ◌≤◌, ℕ, ℤ, List, map, length, not, IfOk, IfErr, OnOk};
+ghost use Rattle.std.specs.Prelude.{◌≡◌, ◌++◌, ◌∷◌, [], ◌≤◌, ℕ, ℤ, List, map, length, not, true, IfOk, IfErr, OnOk};
 ghost use Rattle.std.specs.List.{list_all};
 ghost use Rattle.std.specs.Io.{StartsWith};
 ghost use Rattle.pv_base.specs.Answer.{Answers};
@@ -16,7 +16,7 @@ ghost use Rattle.pv_replay.specs.Nodes.{leaf_bytes, leaves_bytes, test_bytes, te
 
 use crate::PolyError;
 use crate::fields::{take_txn, txn_bytes};
-use crate::made::poly_of;
+use crate::made::{poly_of, poly_of_case};
 use crate::room::with_room_for_few;
 use pv_base::{Case, HELD_NAMES, Literal, NoMemory, TxnId};
 use pv_bytes::{Put, Take};
@@ -131,13 +131,47 @@ fn read_poly(alloc: Global, take: &mut Take<'_>) -> Result<Poly<i64>, PolyError>
 {
     let place = take.place();
     let count = take.u16()?;
+    if count == 1 && begins_leaf(take.left()) {
+        // Most values depend on no outcome: no list is made for them.
+        let value = take_leaf(take)?;
+        let case = Case {
+            when: Vec::new(alloc),
+            value,
+        };
+        return poly_of_case(alloc, case, place);
+    }
     let mut cases = with_room_for_few(alloc, usize::from(count))?;
-    let mut way = with_room_for_few(alloc, HELD_NAMES as usize)?;
+    let mut way = Vec::new(alloc);
     take_node(alloc, take, HELD_NAMES, &mut way, &mut cases)?;
     if cases.len() != usize::from(count) {
         return Err(PolyError::BadPoly(place));
     }
     poly_of(alloc, cases, place)
+}
+
+// Whether the first of the bytes is that of a leaf.
+fn begins_leaf(bytes: &[u8]) -> bool
+    ensures { result ≡ true → (rest : List ℕ) × (bytes.now ≡ 0 ∷ rest) }
+{
+    match bytes {
+        [kind, ..] => *kind == 0,
+        [] => false,
+    }
+}
+
+// Reads a leaf, where it is one that comes.
+fn take_leaf(take: &mut Take<'_>) -> Result<i64, PolyError>
+    requires { (rest : List ℕ) × (take.old.left ≡ 0 ∷ rest) }
+    ensures read { IfOk result (λ value. IsNodeRead HELD_NAMES [] [] (record { when = []; value = value } ∷ []) take.old take.new) }
+    ensures stops { IfErr result (λ e. Stops (node_layout HELD_NAMES) take.old (fault_of e)) }
+    ensures left { HasGoneOn take.old take.new }
+{
+    // The kind.
+    take.u8()?;
+    match take.i64() {
+        Ok(value) => Ok(value),
+        Err(short) => Err(PolyError::Short(short.0)),
+    }
 }
 
 // Reads a node with all below it, where so many tests may still come on each way down, and appends its cases, each behind the literals of the way to the node. The way is as it
