@@ -43,6 +43,14 @@ impl Put {
         })
     }
 
+    /// Nothing written yet, in the memory of these bytes, which are dropped.
+    pub fn again(mut memory: Vec<u8>) -> Put
+        ensures { result.bytes ≡ [] }
+    {
+        memory.clear();
+        Put { bytes: memory }
+    }
+
     /// Writes a number in one byte.
     #[tactic(auto, using(crate::proofs::KitNumbers::written_byte))]
     pub fn u8(&mut self, n: u8) -> Result<(), NoMemory>

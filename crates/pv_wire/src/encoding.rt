@@ -28,6 +28,16 @@ pub fn encode(alloc: Global, envelope: &Envelope) -> Result<Vec<u8>, NoMemory>
     Ok(put.done())
 }
 
+/// The same bytes, in the memory of a vector whose own bytes are dropped. More is asked for only where that has no room for them.
+pub fn encode_in(memory: Vec<u8>, envelope: &Envelope) -> Result<Vec<u8>, NoMemory>
+    requires { (bytes : List ℕ) × SpellsEnvelope (envelope_of envelope.now) bytes }
+    ensures { IfOk result (λ bytes. SpellsEnvelope (envelope_of envelope.now) bytes.items) }
+{
+    let mut put = Put::again(memory);
+    put_envelope(&mut put, envelope)?;
+    Ok(put.done())
+}
+
 // Writes a message on its way.
 fn put_envelope(put: &mut Put, envelope: &Envelope) -> Result<(), NoMemory>
     requires { (bytes : List ℕ) × SpellsEnvelope (envelope_of envelope.now) bytes }

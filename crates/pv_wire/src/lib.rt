@@ -11,7 +11,7 @@ mod message;
 mod wants;
 
 pub use decoding::decode;
-pub use encoding::encode;
+pub use encoding::{encode, encode_in};
 pub use error::WireError;
 pub use message::{Envelope, Message, NoCause};
 pub use pv_tree::Read;

@@ -22,7 +22,7 @@ use crate::{World, WorldError};
 use pv_base::{NoMemory, SiteId, TxnId};
 use pv_script::Line;
 use pv_site::{Input, Outgoing, Step};
-use pv_wire::{Envelope, encode};
+use pv_wire::{Envelope, encode_in};
 
 impl World {
     // A site that is up makes a step of the input; one that is down says so.
@@ -101,7 +101,9 @@ impl World {
             to,
             message: outgoing.message,
         };
-        let bytes = encode(self.alloc, &envelope)?;
-        self.mail.post(to, &bytes)
+        let bytes = encode_in(self.spare.lend(), &envelope)?;
+        let posted = self.mail.post(to, &bytes);
+        self.spare.take_back(bytes);
+        posted
     }
 }

@@ -13,6 +13,7 @@ mod report;
 mod restart;
 mod room;
 mod sent;
+mod spare;
 mod spelled;
 mod total;
 mod world;

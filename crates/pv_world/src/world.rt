@@ -14,6 +14,7 @@ use crate::cell::Cell;
 use crate::mail::Mail;
 use crate::order::Placed;
 use crate::room::Room;
+use crate::spare::Spare;
 use pv_base::{Catalog, NoMemory, SiteId};
 use pv_disk::MemDisk;
 use pv_script::{Event, Line};
@@ -37,6 +38,8 @@ pub struct World {
     pub(crate) order: Vec<Placed>,
     /// Where the disks go when the world ends.
     pub(crate) room: Room,
+    /// Memory for the bytes of the message that is sent next.
+    pub(crate) spare: Spare,
 }
 
 impl World {
@@ -59,6 +62,7 @@ impl World {
             mail: Mail::new(alloc, sent_limit)?,
             order: Vec::new(alloc),
             room: Room::new(alloc)?,
+            spare: Spare::new(alloc),
         })
     }
 

@@ -26,7 +26,7 @@ pub returns-clause-stands : goal.returns-clause-stands
 returns-clause-stands c =
     let catalog = c.args.catalog.now in
     let all : c.loop-site.site ≡ catalog.sites = omega (arith, c.sites-site-end.ensures.count) in
-    stands-for-opening (record { alloc = c.args.alloc; catalog = c.in_ok-copy.field-0; cells = c.loop-site.cells; mail = c.in_ok-new.field-0; order = c.new-2.result; room = c.in_ok-new-2.field-0 })
+    stands-for-opening (record { alloc = c.args.alloc; catalog = c.in_ok-copy.field-0; cells = c.loop-site.cells; mail = c.in_ok-new.field-0; order = c.new-2.result; room = c.in_ok-new-2.field-0; spare = c.new-4.result })
     catalog c.args.sent_limit c.in_ok-copy.ensures
     (subst (λ (n : ℕ). StandForSites catalog 0 c.loop-site.cells.items (replicate n first_site)) all c.loop-site.invariant.stand)
     c.in_ok-new.ensures c.new-2.ensures.items c.setup_is_in_range.ensures
