@@ -11,7 +11,7 @@ use Rattle.pv_coord.specs.declared.answer.Vote.TheVariants as voted
 use Rattle.pv_coord.specs.declared.error.CoordError.{CoordError}
 use Rattle.pv_coord.specs.declared.error.CoordError.TheVariants.{Spent}
 use Rattle.pv_model.specs.Alternatives.{Read}
-use Rattle.pv_model.specs.Syntax.{Program}
+use Rattle.pv_model.specs.Syntax.{Program, end}
 use Rattle.pv_protocol.specs.Coordinate.{reads_of}
 
 -- why no transaction can begin: there is no number left
@@ -40,11 +40,16 @@ abbrev pub arrival : Option Work → Grants → Arrival
 arrival None grants = ignored
 arrival (Some work) grants = arrival_at work grants
 
--- an answer to a grant as an arrival
-abbrev pub arrival_of : GrantTaken → Arrival
-arrival_of granted.Ignored = ignored
-arrival_of (granted.Wait change) = waits change
-arrival_of (granted.Last reads program change) = last reads.items program change
+-- the program of what is held, or an empty one
+abbrev pub program_of : Option Work → Program
+program_of None = end
+program_of (Some work) = work.entry.program
+
+-- an answer to a grant as an arrival, where this program reads the values
+abbrev pub arrival_of : Program → GrantTaken → Arrival
+arrival_of program granted.Ignored = ignored
+arrival_of program (granted.Wait change) = waits change
+arrival_of program (granted.Last reads change) = last reads.items program change
 
 -- The answer's change, if it has one, may be applied: with a reply where it is the last, and else without one.
 abbrev pub CanApply : Coordinator → Arrival → Type 0

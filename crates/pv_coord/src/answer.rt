@@ -1,7 +1,6 @@
 // What a coordinator answers, and changes of it that are planned.
 use crate::entry::Entry;
 use crate::taken::Taken;
-use pv_ast::Program;
 use pv_base::{SiteId, TxnId};
 use pv_tree::Read;
 use std::marker::Model;
@@ -54,12 +53,10 @@ pub enum GrantTaken {
     Ignored,
     /// It may be taken, and another participant hasn't answered.
     Wait(GrantChange),
-    /// It may be taken, and is the last.
+    /// It may be taken, and is the last. [`Coord::program`](crate::Coord::program) lends the program that reads the values.
     Last {
         /// The values of all the grants, in the order of the sites and then of the items.
         reads: Vec<Read>,
-        /// The transaction's program.
-        program: Program,
         /// The change that takes the grant.
         change: GrantChange,
     },

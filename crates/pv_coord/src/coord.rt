@@ -3,7 +3,7 @@ ghost use Rattle.std.specs.Prelude.{◌≡◌, ◌≢◌, ◌<◌, ◌≤◌, �
 ghost use Rattle.std.specs.Option.{option_map, option_copied};
 ghost use Rattle.pv_base.specs.Answer.{Refuses};
 ghost use Rattle.pv_base.specs.declared.limits.TheConstants.{NEVER_GIVEN, TICKS};
-ghost use Rattle.pv_coord.specs.Answers.{refusal_of, ignored, arrival, arrival_of, vote_of, expiry_of, CanApply};
+ghost use Rattle.pv_coord.specs.Answers.{refusal_of, ignored, arrival, arrival_of, program_of, vote_of, expiry_of, CanApply};
 ghost use Rattle.pv_coord.specs.Coordinator.{next_txn, work_of, locking_work, voting_work, is_issued, refuses, grant_of, reply_of, without_work, beginning, taking, counting, older, lasting, expired, is_last, CanBegin, CanTake};
 ghost use Rattle.pv_coord.specs.Place.{IsPlace};
 ghost use Rattle.pv_coord.specs.Work.{Work, txn_of, begun};
@@ -110,7 +110,7 @@ impl Coord {
     /// What the grant of a site, with these values, is to its transaction. Nothing is changed. There may be no memory only where notice is
     /// taken of the grant.
     ///
-    /// With the last grant it takes time in proportion to all that was granted, and to the program.
+    /// With the last grant it takes time in proportion to all that was granted.
     pub fn plan_granted(
         &mut self,
         txn: TxnId,
@@ -119,11 +119,11 @@ impl Coord {
         values: &[Read],
     ) -> Result<GrantTaken, NoMemory>
         ensures answer { IfOk result (λ answer.
-            arrival_of answer ≡ arrival (locking_work self.old.contents txn)
+            arrival_of (program_of (locking_work self.old.contents txn)) answer ≡ arrival (locking_work self.old.contents txn)
             (record { txn = txn; taken = record { site = from.0; grant = grant; values = values.now } })) }
         ensures memory { IfErr result (λ _.
             arrival (locking_work self.old.contents txn) (record { txn = txn; taken = record { site = from.0; grant = grant; values = values.now } }) ≢ ignored) }
-        ensures planned { IfOk result (λ answer. CanApply self.new.contents (arrival_of answer)) }
+        ensures planned { IfOk result (λ answer. CanApply self.new.contents (arrival_of (program_of (locking_work self.old.contents txn)) answer)) }
         ensures unchanged { self.new ≡ self.old }
     {
         let alloc = *self.entries.allocator();
@@ -239,6 +239,16 @@ impl Coord {
     {
         txn.site == self.site
             && (txn.epoch < self.epoch || (txn.epoch == self.epoch && txn.number < self.next))
+    }
+
+    /// The program of the transaction, if locks are asked for it.
+    pub fn program(&self, txn: TxnId) -> Option<&Program>
+        ensures { option_map (λ program. program.now) result ≡ option_map (λ (work : Work). work.entry.program) (locking_work self.now.contents txn) }
+    {
+        match locking_entry(&self.entries, txn) {
+            Some(entry) => Some(&entry.program),
+            None => None,
+        }
     }
 
     /// The plan of the transaction, if it is worked on.

@@ -30,7 +30,7 @@ use std::marker::Model;
 #[derive(Debug, Drop)]
 pub(crate) struct Entry {
     txn: TxnId,
-    program: Program,
+    pub(crate) program: Program,
     pub(crate) plan: Plan,
     stage: Stage,
     /// For how many ticks it is in this stage.
@@ -197,7 +197,7 @@ impl Entry {
         values: &[Read],
     ) -> Result<GrantTaken, NoMemory>
         ensures answer { IfOk result (λ answer.
-            arrival_of answer ≡ arrival_at self.now (record { txn = txn; taken = record { site = from.0; grant = grant; values = values.now } })) }
+            arrival_of self.now.entry.program answer ≡ arrival_at self.now (record { txn = txn; taken = record { site = from.0; grant = grant; values = values.now } })) }
         ensures memory { IfErr result (λ _. is_grant_ignored self.now (record { site = from.0; grant = grant; values = values.now }) ≡ false) }
     {
         if !self.fits(from, values) {
@@ -215,12 +215,7 @@ impl Entry {
             return Ok(GrantTaken::Wait(change));
         }
         let reads = self.reads_with(alloc, from, values)?;
-        let program = self.program.copy(alloc)?;
-        Ok(GrantTaken::Last {
-            reads,
-            program,
-            change,
-        })
+        Ok(GrantTaken::Last { reads, change })
     }
 
     /// Takes the grant, for which there is room, since it is awaited. With what the program replies, which is known once every grant is

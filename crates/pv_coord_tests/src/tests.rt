@@ -93,7 +93,7 @@ fn take(alloc: Global, coord: &mut Coord, from: SiteId, item: ItemId) -> Result<
             coord.apply_granted(change, None);
             Ok(Taken::Wait)
         }
-        GrantTaken::Last { reads, change, .. } => {
+        GrantTaken::Last { reads, change } => {
             let reply = Poly::sure(alloc, Reply::Nothing)?;
             coord.apply_granted(change, Some(reply));
             Ok(Taken::Last(reads.len()))

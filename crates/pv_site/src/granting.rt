@@ -4,7 +4,7 @@ ghost use Rattle.std.specs.Prelude.{◌≡◌, ◌==◌, ◌++◌, ◌∷◌, []
 ghost use Rattle.std.specs.List.{AllZip};
 ghost use Rattle.std.specs.List.Sorted.{IsNonDecreasingBy, IsPermutation};
 ghost use Rattle.std.specs.Option.{option_copied, option_to_list};
-ghost use Rattle.pv_coord.specs.Answers.{arrival, last, CanApply};
+ghost use Rattle.pv_coord.specs.Answers.{arrival, last, program_of, CanApply};
 ghost use Rattle.pv_coord.specs.Coordinator.{grant_of, locking_work, work_of};
 ghost use Rattle.pv_coord.specs.Work.{Work, grant_from};
 ghost use Rattle.pv_model.specs.Alternatives as model;
@@ -51,11 +51,9 @@ impl SiteParts {
                 self.coord.apply_granted(change, None);
                 Ok(nothing(alloc))
             }
-            GrantTaken::Last {
-                reads,
-                program,
-                change,
-            } => self.on_last_grant(alloc, from, txn, grant, reads, &program, change),
+            GrantTaken::Last { reads, change } => {
+                self.on_last_grant(alloc, from, txn, grant, reads, change)
+            }
         }
     }
 
@@ -68,15 +66,15 @@ impl SiteParts {
         txn: TxnId,
         grant: GrantId,
         reads: Vec<Read>,
-        program: &Program,
         change: GrantChange,
     ) -> Result<Step, NoMemory>
         requires sound { AreSound self.old }
         requires change { change ≡ record { txn = txn; taken = record { site = from.0; grant = grant; values = change.taken.values } } }
-        requires last { arrival (locking_work self.old.coord.contents txn) change ≡ last reads.items program.now change }
-        requires planned { CanApply self.old.coord.contents (last reads.items program.now change) }
+        requires last { arrival (locking_work self.old.coord.contents txn) change ≡ last reads.items (program_of (locking_work self.old.coord.contents txn)) change }
+        requires planned { CanApply self.old.coord.contents (last reads.items (program_of (locking_work self.old.coord.contents txn)) change) }
         ensures { StepParts self.old self.new (on_granted (here_of self.old) from.0 txn grant change.taken.values) result }
     {
+        let program = program_at(&self.coord, txn);
         let first = first_doubt(alloc, &self.store, program, &reads)?;
         // Computed before a doubt is told: that it reads too much weighs more, and only the computation counts names.
         let joined = match computed(alloc, &self.store, program, reads) {
@@ -100,6 +98,17 @@ impl SiteParts {
             notes: Vec::new(alloc),
             locked: Some(txn),
         })
+    }
+}
+
+// The program of the transaction, for which locks are asked.
+fn program_at(coord: &Coord, txn: TxnId) -> &Program
+    requires { (work : Work) × (locking_work coord.now.contents txn ≡ Some work) }
+    ensures { result.now ≡ program_of (locking_work coord.now.contents txn) }
+{
+    match coord.program(txn) {
+        Some(program) => program,
+        None => unreachable!(),
     }
 }
 

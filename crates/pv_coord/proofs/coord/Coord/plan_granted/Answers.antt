@@ -2,7 +2,7 @@ use Rattle.std.proofs.Common.{◌≡◌, Some, Option, sym, ap, subst, ◌∙◌
 use Rattle.std.proofs.lemmas.Result.{IfErr-weaker, IfOk-weaker}
 use Rattle.pv_coord.proofs.Arrivals.{can-apply, noticed}
 use Rattle.pv_coord.proofs.Changed.{held, locks}
-use Rattle.pv_coord.specs.Answers.{arrival, CanApply}
+use Rattle.pv_coord.specs.Answers.{arrival, arrival_of, program_of, CanApply}
 use Rattle.pv_coord.specs.Coordinator.{CoordMemory, Grants, locking_work}
 use Rattle.pv_coord.specs.Work.{Work}
 use Rattle.pv_coord.proofs.coord.Coord.plan_granted.Goals as goal
@@ -13,7 +13,8 @@ returns-clause-answer c =
     let there : Some c.in-Some.entry.now ≡ locking_work c.args.self.now.contents c.args.txn =
     c.in-Some.ensures ∙ ap (held locks c.args.txn) c.deref.ensures.value
     ∙ ap (λ (memory : CoordMemory). locking_work memory.contents c.args.txn) c.self.view_is in
-    IfOk-weaker c.plan_grant.result _ _ (λ answer is. is ∙ ap (λ (work : Option Work). arrival work grants) there) c.plan_grant.ensures.answer
+    IfOk-weaker c.plan_grant.result _ _
+    (λ answer is. subst (λ (work : Option Work). arrival_of (program_of work) answer ≡ arrival work grants) there is) c.plan_grant.ensures.answer
 
 pub returns-clause-planned : goal.returns-clause-planned
 returns-clause-planned c =
@@ -22,7 +23,8 @@ returns-clause-planned c =
     c.in-Some.ensures ∙ ap (held locks c.args.txn) c.deref.ensures.value
     ∙ ap (λ (memory : CoordMemory). locking_work memory.contents c.args.txn) c.self.view_is in
     IfOk-weaker c.plan_grant.result _ _
-    (λ answer is. subst (CanApply c.args.self.now.contents) (sym (is ∙ ap (λ (work : Option Work). arrival work grants) there)) (can-apply c.args.self.now.contents grants))
+    (λ answer is. subst (CanApply c.args.self.now.contents)
+    (sym (subst (λ (work : Option Work). arrival_of (program_of work) answer ≡ arrival work grants) there is)) (can-apply c.args.self.now.contents grants))
     c.plan_grant.ensures.answer
 
 pub returns-clause-memory : goal.returns-clause-memory

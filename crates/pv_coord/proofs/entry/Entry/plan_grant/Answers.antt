@@ -3,10 +3,8 @@ use Rattle.pv_coord.proofs.Arrivals.{ignored-at, waits-at, last-at, if-error}
 use Rattle.std.proofs.lemmas.Bool.{not-true, not-false}
 use Rattle.pv_coord.specs.Answers.{waits, last}
 use Rattle.pv_coord.specs.Coordinator.{Grants}
-use Rattle.pv_coord.specs.Work.{Work, is_grant_ignored, with_grant}
+use Rattle.pv_coord.specs.Work.{is_grant_ignored}
 use Rattle.pv_model.specs.Alternatives.{Read}
-use Rattle.pv_model.specs.Syntax.{Program}
-use Rattle.pv_protocol.specs.Coordinate.{reads_of}
 use Rattle.pv_coord.proofs.entry.Entry.plan_grant.Goals as goal
 
 pub returns-then-not-fits-clause-answer : goal.returns-then-not-fits-clause-answer
@@ -25,9 +23,8 @@ returns-then-not-completes_grants-clause-answer c =
 pub returns-clause-answer : goal.returns-clause-answer
 returns-clause-answer c =
     let grants : Grants = record { txn = c.args.txn; taken = record { site = c.args.from.0; grant = c.args.grant; values = c.args.values.now } } in
-    ap (λ (values : List Read). last c.in_ok-reads.reads.items c.in_ok-program.program (record grants { taken = record grants.taken { values = values } })) c.in_ok-copy_reads.ensures
-    ∙ ap (λ (reads : List Read). last reads c.in_ok-program.program grants) (c.in_ok-reads.ensures c.args.grant)
-    ∙ ap (λ (program : Program). last (reads_of (with_grant c.args.self.now grants.taken).entry) program grants) (c.in_ok-program.ensures ∙ ap (λ (work : Work). work.entry.program) c.self.view_is)
+    ap (λ (values : List Read). last c.in_ok-reads.reads.items c.args.self.now.entry.program (record grants { taken = record grants.taken { values = values } })) c.in_ok-copy_reads.ensures
+    ∙ ap (λ (reads : List Read). last reads c.args.self.now.entry.program grants) (c.in_ok-reads.ensures c.args.grant)
     ∙ last-at c.args.self.now grants
     (not-true (is_grant_ignored c.args.self.now grants.taken) (sym (c.fits.ensures c.args.grant) ∙ c.if-not-fits.false))
     (sym (c.if-not-completes_grants.ensures grants.taken refl))
@@ -40,9 +37,4 @@ returns-in_err-copy_reads-clause-memory c =
 pub returns-in_err-reads-clause-memory : goal.returns-in_err-reads-clause-memory
 returns-in_err-reads-clause-memory c =
     if-error c.from_residual-in_err-reads.result (not-true (is_grant_ignored c.args.self.now (record { site = c.args.from.0; grant = c.args.grant; values = c.args.values.now }))
-    (sym (c.fits.ensures c.args.grant) ∙ c.if-not-fits.false))
-
-pub returns-in_err-program-clause-memory : goal.returns-in_err-program-clause-memory
-returns-in_err-program-clause-memory c =
-    if-error c.from_residual-in_err-program.result (not-true (is_grant_ignored c.args.self.now (record { site = c.args.from.0; grant = c.args.grant; values = c.args.values.now }))
     (sym (c.fits.ensures c.args.grant) ∙ c.if-not-fits.false))
