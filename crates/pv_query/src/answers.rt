@@ -8,7 +8,7 @@ ghost use Rattle.pv_model.specs.PossibleAnswers.{possible, certain};
 
 use crate::repeats::Distinct;
 use pv_ast::Reply;
-use pv_base::NoMemory;
+use pv_base::{Case, NoMemory};
 use pv_tree::Poly;
 use std::alloc::Global;
 
@@ -22,8 +22,19 @@ pub fn possible(alloc: Global, reply: &Poly<Reply>) -> Result<Vec<Reply>, NoMemo
     ensures every { (assignment : List TxnId) → IfOk result (λ replies. IsSomeAnd (value_at reply.now assignment) (Contains replies.items)) }
     ensures each { IfOk result (λ replies. All (λ possible. (assignment : List TxnId) × (value_at reply.now assignment ≡ Some possible)) replies.items) }
 {
+    replies_of(alloc, reply.cases())
+}
+
+// The replies of these cases, each once, in their order.
+fn replies_of(alloc: Global, cases: &[Case<Reply>]) -> Result<Vec<Reply>, NoMemory>
+    ensures { IfOk result (λ replies. replies.items ≡ possible ⟦<Reply as PartialEq>⟧.eq cases.now) }
+{
+    if let [only] = cases {
+        // Most replies depend on no outcome, and aren't looked for among others.
+        return Ok(Vec::from_slice(alloc, &[only.value])?);
+    }
     let mut replies = Distinct::new(alloc);
-    for case in reply.cases() {
+    for case in cases {
         replies.push(case.value)?;
     }
     replies.list()
