@@ -12,6 +12,8 @@ use Rattle.std.proofs.lemmas.Int.{ints, rem_below, fits_signed_from_abs}
 use Rattle.pv_law_step.proofs.StepCases.{if_case}
 use Rattle.pv_base.proofs.ContainsLemmas.{Contains-first, Contains-behind, Contains-nil, Contains-cases}
 use Rattle.pv_base.specs.declared.reply.Decline.{Decline}
+use Rattle.pv_base.specs.declared.reply.Reply.{Reply}
+use Rattle.pv_base.specs.declared.reply.Reply.TheVariants.{Value}
 use Rattle.pv_model.specs.Meaning.{Row, Course, ended, returned, refused, fits_i64, within, truth, holds, computed, with_value, with_left, value_in, with_row, value_of, then_with, then_run, course_of, effect_of, exec}
 use Rattle.pv_model.specs.Syntax.{Op, or, and, equal, unequal, less, at_most, greater, at_least, plus, sub, times, over, rest, lesser, larger, Expr, number, item, minus, negation, two, Program, end, assign, require, certain, return, when, when_else}
 use Rattle.pv_protocol.specs.WellFormed.{is_of_small_numbers, has_small_numbers}
@@ -122,10 +124,10 @@ expression-fits (two op left right) rows small fit =
     bind-fits (value_of left rows) _ (expression-fits left rows parts.0 fit)
     (λ v h. left-fits op v (value_of right rows) h (expression-fits right rows parts.1 fit))
 
--- The rows that are left, if any are, fit.
+-- The rows that are left, if any are, fit, and so does what is returned.
 abbrev CourseFits : Course → Type 0
 CourseFits (ended rows) = AllFit rows
-CourseFits (returned v rows) = AllFit rows
+CourseFits (returned v rows) = Fits v × AllFit rows
 CourseFits (refused d) = ⊤
 
 then-with-fits : (r : Result ℤ Decline) (go : ℤ → Course) → FitsResult r → ((v : ℤ) → Fits v → CourseFits (go v)) → CourseFits (then_with r go)
@@ -150,7 +152,7 @@ course-fits (require e next) rows small fit =
 course-fits (certain n next) rows small fit = course-fits next rows small fit
 course-fits (return e next) rows small fit =
     let parts = and_parts (is_of_small_numbers e) (has_small_numbers next) small in
-    then-with-fits (value_of e rows) _ (expression-fits e rows parts.0 fit) (λ v h. fit)
+    then-with-fits (value_of e rows) _ (expression-fits e rows parts.0 fit) (λ v h. (h, fit))
 course-fits (when e body next) rows small fit =
     let parts = and_parts (is_of_small_numbers e) (has_small_numbers body && has_small_numbers next) small in
     let later = and_parts (has_small_numbers body) (has_small_numbers next) parts.1 in
@@ -169,12 +171,26 @@ course-fits (when_else e body other next) rows small fit =
 
 effect-fits : (before : List Row) (o : Course) → AllFit before → CourseFits o → AllFit (effect_of before o).rows
 effect-fits before (ended rows) fit fits = fits
-effect-fits before (returned v rows) fit fits = fits
+effect-fits before (returned v rows) fit fits = fits.1
 effect-fits before (refused d) fit fits = fit
 
 pub exec-fits : (program : Program) (rows : List Row) → IsTrue (has_small_numbers program) → AllFit rows → AllFit (exec program rows).rows
 unfolding exec
 exec-fits program rows small fit = effect-fits rows (course_of program rows) fit (course-fits program rows small fit)
+
+-- A reply that is a number fits.
+abbrev pub ReplyFits : Reply → Type 0
+ReplyFits (Value v) = Fits v
+ReplyFits other = ⊤
+
+effect-reply : (before : List Row) (o : Course) → CourseFits o → ReplyFits (effect_of before o).reply
+effect-reply before (ended rows) fits = tt
+effect-reply before (returned v rows) fits = fits.0
+effect-reply before (refused d) fits = tt
+
+pub reply-fits : (program : Program) (rows : List Row) → IsTrue (has_small_numbers program) → AllFit rows → ReplyFits (exec program rows).reply
+unfolding exec
+reply-fits program rows small fit = effect-reply rows (course_of program rows) (course-fits program rows small fit)
 
 -- Rows as lists of what they have.
 

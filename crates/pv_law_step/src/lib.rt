@@ -16,8 +16,9 @@ pub use cases::{
 pub use examples::{alone_it_commits, in_doubt_it_asks};
 pub use keyed::{memory_stays_in_order, one_less_is_gone, one_more_is_found};
 pub use ranges::{
-    plans_are_in_range, programs_stay_in_range, records_are_spelled, sends_are_in_range,
-    sends_are_spelled, shown_values_are_in_range, starts_are_sound, steps_stay_sound,
+    plans_are_in_range, programs_stay_in_range, records_are_spelled, replies_are_in_range,
+    sends_are_in_range, sends_are_spelled, shown_values_are_in_range, starts_are_sound,
+    steps_stay_sound,
 };
 pub use steps::{
     appends_what_it_may, denials_name_the_least, few_inputs_append, numbers_rise, only_grants_place,

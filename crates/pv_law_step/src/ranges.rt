@@ -2,9 +2,10 @@
 ghost use Rattle.std.specs.Int.RustNames.{FitsSigned};
 ghost use Rattle.std.specs.Int.{w64};
 ghost use Rattle.std.specs.List.{Contains};
-ghost use Rattle.std.specs.Prelude.{◌++◌, ◌∷◌, ◌≡◌, [], ◌<◌, ◌≤◌, ℕ, All, IsTrue, length, List};
+ghost use Rattle.std.specs.Prelude.{◌++◌, ◌∷◌, ◌≡◌, [], ◌<◌, ◌≤◌, ℕ, ℤ, All, IsTrue, length, List};
 ghost use Rattle.pv_base.specs.Catalog.{Declared};
 ghost use Rattle.pv_base.specs.Named.{names_of};
+ghost use Rattle.pv_base.specs.declared.reply.Reply.TheVariants.{Value};
 ghost use Rattle.pv_base.specs.declared.limits.TheConstants.{HELD_NAMES, MAX_ITEMS, MAX_SITES};
 ghost use Rattle.pv_format.specs.Range.{AreWantsInRange, IsPolyvalueWithin, IsRecordWithin};
 ghost use Rattle.pv_format.specs.MessageSpelling.{SpellsEnvelope};
@@ -26,6 +27,12 @@ ghost use Rattle.pv_protocol.specs.Width.{IsNarrow};
 pub fn programs_stay_in_range()
     ensures { (program : Program) (rows : List Row) → IsTrue (has_small_numbers program) → All (λ row. FitsSigned w64 row.value) rows →
         All (λ row. FitsSigned w64 row.value) (exec program rows).rows }
+{}
+
+/// What such a program replies there has 64 bits, where it is a number.
+pub fn replies_are_in_range()
+    ensures { (program : Program) (rows : List Row) (value : ℤ) → IsTrue (has_small_numbers program) → All (λ row. FitsSigned w64 row.value) rows →
+        (exec program rows).reply ≡ Value value → FitsSigned w64 value }
 {}
 
 /// Shown values are in range where the records are, and name no more outcomes than a polyvalue may.
