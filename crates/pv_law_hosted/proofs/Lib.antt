@@ -16,7 +16,6 @@ mod NumberSteps
 mod OneByOneLemmas
 mod OpensLemmas
 mod OutcomeLemmas
-pub mod ProgramSteps
 mod ReportLemmas
 mod RunLemmas
 mod SaidLemmas

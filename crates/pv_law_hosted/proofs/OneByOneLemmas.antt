@@ -35,7 +35,7 @@ use Rattle.pv_protocol.specs.World.{World, first_site, site_at, with_done}
 use Rattle.pv_protocol.specs.WorldStep.{Transition}
 use Rattle.pv_embed.specs.Held.{Out}
 use Rattle.pv_embed.specs.Outputs.{outs}
-use Rattle.pv_law_hosted.proofs.ProgramSteps.{BeginsOwn, step-own}
+use Rattle.pv_law_step.proofs.ProgramSteps.{BeginsOwn, step-own}
 use Rattle.pv_law_hosted.proofs.SettleLemmas.{IsPlacedOf, Settles, begun-more, settles-nothing, settles-then, settles-attempt, step-within, step_of, whole, start-run, submit-run, tick-run, deliver-run}
 use Rattle.pv_law_hosted.specs.Asked.{Asked}
 use Rattle.pv_law_hosted.specs.Deployment.{Deployment, IsCarried}

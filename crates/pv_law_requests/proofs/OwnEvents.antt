@@ -12,7 +12,7 @@ use Rattle.pv_format.specs.Record.{Record}
 use Rattle.pv_law_acts.proofs.ListLemmas.{put-each}
 use Rattle.pv_law_acts.proofs.PassedLemmas.{opening-each}
 use Rattle.pv_law_answers.proofs.BeginNotes.{begin-noted}
-use Rattle.pv_law_hosted.proofs.ProgramSteps.{BeginsOwn, IsPlaced, Works, step-own}
+use Rattle.pv_law_step.proofs.ProgramSteps.{BeginsOwn, IsPlaced, Works, step-own}
 use Rattle.pv_law_step.proofs.Lists.{OfSome}
 use Rattle.pv_law_step.proofs.StartLemmas.{start-case}
 use Rattle.pv_law_step.proofs.StepCases.{if_case}

@@ -19,7 +19,7 @@ use Rattle.pv_law_answers.proofs.TxnNumbers.{IsGiven, any-giving, run-giving}
 use Rattle.pv_law_audits.specs.RightReports.{IsOfRequests}
 use Rattle.pv_law_events.proofs.EventActs.{IsKnown, then-acts}
 use Rattle.pv_law_events.proofs.RunActs.{AreKnown}
-use Rattle.pv_law_hosted.proofs.ProgramSteps.{IsPlaced, Works}
+use Rattle.pv_law_step.proofs.ProgramSteps.{IsPlaced, Works}
 use Rattle.pv_law_outcomes.proofs.DecidedLemmas.{IsSettled, always-settled}
 use Rattle.pv_law_requests.proofs.OnceLemmas.{stands-once}
 use Rattle.pv_law_requests.proofs.OwnEvents.{AreOwn, BeginsSo, follow-own, opening-own, transition-own}

@@ -6,7 +6,7 @@ use Rattle.std.specs.Int.{w64}
 use Rattle.std.specs.Int.RustNames.{FitsSigned}
 use Rattle.std.specs.List.{Contains}
 use Rattle.std.specs.Ordering.{int_eq}
-use Rattle.std.proofs.lemmas.Bool.{ltb-true, and_parts, false≢true}
+use Rattle.std.proofs.lemmas.Bool.{lt-ltb, ltb-true, and_parts, false≢true}
 use Rattle.std.proofs.lemmas.Bool.Decides.{Decides-int_eq}
 use Rattle.std.proofs.lemmas.Int.{ints, rem_below, fits_signed_from_abs}
 use Rattle.pv_law_step.proofs.StepCases.{if_case}
@@ -24,6 +24,11 @@ Fits z = FitsSigned w64 z
 pub fits-from : (z : ℤ) → fits_i64 z ≡ true → Fits z
 fits-from (pos n) h = omega (arith, ints, ltb-true n (2 ^ 63) h)
 fits-from (negsuc n) h = omega (arith, ints, ltb-true n (2 ^ 63) h)
+
+-- A number of 64 bits is small.
+pub small : (z : ℤ) → FitsSigned w64 z → true ≡ fits_i64 z
+small (pos n) fits = sym (lt-ltb n (2 ^ 63) (omega (arith, ints, fits)))
+small (negsuc n) fits = sym (lt-ltb n (2 ^ 63) (omega (arith, ints, fits)))
 
 pub zero-fits : Fits (pos 0)
 zero-fits = omega (arith, ints)

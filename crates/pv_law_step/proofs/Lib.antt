@@ -12,6 +12,7 @@ pub mod Lists
 pub mod NameLists
 pub mod OrderLemmas
 pub mod OutcomeLemmas
+pub mod ProgramSteps
 pub mod ShownLemmas
 pub mod SoundLemmas
 pub mod SoundSteps

@@ -1,26 +1,18 @@
 -- A program fits a site with its plan exactly where it can run there and has that plan.
-use Rattle.std.proofs.Common.{◌≡◌, refl, sym, ap, ◌∙◌, ℕ, zero, suc, ◌<◌, ◌≤◌, Bool, true, false, List, length, None, arith, ℤ, pos, negsuc}
-use Rattle.std.specs.Prelude.{nat_lt, ◌^◌}
-use Rattle.std.proofs.lemmas.Bool.{lt-ltb, ltb-false, ltb-true}
-use Rattle.std.proofs.lemmas.Int.{ints}
+use Rattle.std.proofs.Common.{◌≡◌, refl, ap, ◌∙◌, ℕ, zero, suc, ◌<◌, ◌≤◌, Bool, true, false, List, length, None, arith}
+use Rattle.std.specs.Prelude.{nat_lt}
+use Rattle.std.proofs.lemmas.Bool.{ltb-false, ltb-true}
 use Rattle.std.proofs.lemmas.List.Elements.{All-contains}
-use Rattle.std.specs.Int.{w64}
-use Rattle.std.specs.Int.RustNames.{FitsSigned}
 use Rattle.pv_base.specs.Catalog.{Declared}
 use Rattle.pv_base.specs.declared.limits.TheConstants.{MAX_PROGRAM_ITEMS}
 use Rattle.pv_check.specs.CheckRefusal.{check_refusal}
 use Rattle.pv_check.specs.Fits.{HasPlan}
 use Rattle.pv_law_programs.proofs.ItemLemmas.{one_items, some_items}
+use Rattle.pv_law_step.proofs.FitLemmas.{small}
 use Rattle.pv_model.specs.Check.{Part}
-use Rattle.pv_model.specs.Meaning.{fits_i64}
 use Rattle.pv_model.specs.Plan.{plan_of}
 use Rattle.pv_model.specs.Syntax.{Program}
 use Rattle.pv_protocol.specs.WellFormed.{CanRun, has_small_numbers}
-
--- A number of 64 bits is small.
-pub small : (z : ℤ) → FitsSigned w64 z → true ≡ fits_i64 z
-small (pos n) fits = sym (lt-ltb n (2 ^ 63) (omega (arith, ints, fits)))
-small (negsuc n) fits = sym (lt-ltb n (2 ^ 63) (omega (arith, ints, fits)))
 
 pub ruleset sizes = (small)
 
