@@ -36,7 +36,7 @@ use Rattle.pv_protocol.specs.World.{World, no_site}
 use Rattle.pv_protocol.specs.WorldStep.{Transition}
 
 -- A note that prints a transaction's number is that it has begun.
-began-of : (n : ℕ) (note : Note) (t : TxnId) → line_of n note ≡ Line.txn t → note ≡ began t
+pub began-of : (n : ℕ) (note : Note) (t : TxnId) → line_of n note ≡ Line.txn t → note ≡ began t
 began-of n (began u) t is = let own : u ≡ t = cc in ap began own
 began-of n (committed u replies) t is = absurd (let wrong : ⊥ = cc in wrong)
 began-of n (refused u cause) t is = absurd (let wrong : ⊥ = cc in wrong)
