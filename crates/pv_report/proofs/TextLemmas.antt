@@ -1,11 +1,10 @@
 -- What lines print as is text.
-use Rattle.std.proofs.Common.{◌≡◌, ◌∙◌, ℕ, ℤ, zero, suc, ◌<◌, Bool, true, false, eqb, List, [], ◌∷◌, ◌++◌, length, refl, sym, ap, arith}
+use Rattle.std.proofs.Common.{◌≡◌, ◌∙◌, ℕ, ℤ, zero, suc, ◌<◌, Bool, true, List, [], ◌∷◌, ◌++◌, length, refl, arith}
 use Rattle.std.specs.Prelude.{codes, IsTrue, slice_get}
 use Rattle.std.specs.Cmp.Derive.{both_true}
 use Rattle.std.specs.Fmt.{decimal, signed_decimal}
 use Rattle.std.specs.List.{list_all, All}
 use Rattle.std.specs.Option.{option_map_or}
-use Rattle.std.proofs.lemmas.Bool.{false≢true}
 use Rattle.std.proofs.lemmas.Bool.{and_parts}
 use Rattle.std.proofs.lemmas.Bool.Decides.{nat_tests}
 use Rattle.std.proofs.lemmas.List.Folds.{list_all-append}
@@ -19,7 +18,7 @@ use Rattle.pv_base.specs.declared.reply.Reply.{Reply}
 use Rattle.pv_base.specs.declared.reply.Reply.TheVariants.{Value, Nothing, Declined}
 use Rattle.pv_base.specs.declared.txn.TxnId.{TxnId}
 use Rattle.pv_model.specs.ReplyText.{reply_text}
-use Rattle.pv_model.specs.Text.{TextLine, is_text_byte}
+use Rattle.pv_model.specs.Text.{is_text_byte}
 use Rattle.pv_protocol.specs.LineText.{answers_text, case_text, cases_text, cause_text, certainty, kind_text, literal_text, name_of, spaced, when_text, words_of}
 use Rattle.pv_protocol.specs.Lines.{Line, MessageKind}
 use Rattle.pv_protocol.specs.State.{Cause, conflict, outcome_limit, uncertain, expired, grant_lost, journal_full}
