@@ -22,6 +22,7 @@ pub mod BelowLemmas
 pub mod PartLemmas
 pub mod FixedLemmas
 pub mod EntryLemmas
+pub mod PromptLemmas
 pub mod FaultLemmas
 pub mod NamedLemmas
 pub mod OneTraceLemmas

@@ -9,9 +9,10 @@ use Rattle.pv_audit.specs.Printed.{AreNamed}
 use Rattle.pv_audit.proofs.ItemNameLemmas.{no-item}
 use Rattle.pv_base.specs.Catalog.{Declared, Item}
 use Rattle.pv_base.specs.Name.{is_name}
+use Rattle.pv_model.specs.Events.{Event, Schedule}
 use Rattle.pv_model.specs.LineCauses.{Before, at_first, declared_by}
 use Rattle.pv_model.specs.LineForms.{scheduled}
-use Rattle.pv_model.specs.Schedule.{Declares}
+use Rattle.pv_model.specs.Schedule.{AreLines, Declares, IsSchedule, declaration, event, none}
 use Rattle.pv_model.specs.Text.{TextLine}
 
 -- the name of the item of this number
@@ -77,3 +78,11 @@ named-after before after line (inr (inr (inl x))) named =
 named-after before after line (inr (inr (inr (inl x)))) named = same-items _ (declared_by after) (ap (λ (b : Before). b.items) (sym x.same)) named
 named-after before after line (inr (inr (inr (inr (inl x))))) named = same-items _ (declared_by after) (ap (λ (b : Before). b.items) (sym x.same)) named
 named-after before after line (inr (inr (inr (inr (inr x))))) named = same-items _ (declared_by after) (ap (λ (b : Before). b.items) (sym x.same)) named
+
+named-lines : {before last : Before} {lines : List TextLine} {events : List Event} → AreLines before lines events last → AreNamed (declared_by before) → AreNamed (declared_by last)
+named-lines (none before) named = named
+named-lines (declaration before after last line lines events declares more) named = named-lines more (named-after before after line declares named)
+named-lines (event before last line lines e events is more) named = named-lines more named
+
+pub schedule-named : (text : List ℕ) (schedule : Schedule) → IsSchedule text schedule → AreNamed schedule.catalog
+schedule-named text schedule is = subst AreNamed (sym is.catalog) (named-lines is.are named-first)

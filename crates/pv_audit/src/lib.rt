@@ -8,6 +8,7 @@ mod cases;
 mod difference;
 mod entries;
 mod first;
+mod laws;
 mod lists;
 mod outcomes;
 mod parts;
@@ -24,6 +25,9 @@ mod verdict;
 mod words;
 
 pub use auditing::audit;
+pub use laws::{
+    no_fault_of_a_trace, one_trace, printed_lines_are_entries, schedules_name_items_apart,
+};
 pub use read::read_trace;
 pub use trace::{Trace, TraceError, TracePart};
 pub use verdict::Verdict;

@@ -53,7 +53,7 @@ stripped (b ∷ bs) text =
     (false_from_ne_true (eqb (get_or (b ∷ bs) (length (b ∷ bs) - 1) 0) 13) (λ yes.
     false≢true (sym (list_all_at is_text_byte (b ∷ bs) (length (b ∷ bs) - 1) 0 (omega arith) (ap is_text_byte (eqb-true (get_or (b ∷ bs) (length (b ∷ bs) - 1) 0) 13 yes))) ∙ text)))
 
-lines-text : (front after : List ℕ) → list_all is_text_byte front ≡ true → lines (front ++ 10 ∷ after) ≡ front ∷ lines after
+pub lines-text : (front after : List ℕ) → list_all is_text_byte front ≡ true → lines (front ++ 10 ∷ after) ≡ front ∷ lines after
 unfolding lines
 lines-text front after text =
     ap (λ parts. map strip_carriage_return (parts_that_are_lines parts)) (slice_split_at is_feed front 10 after (none-pass is_feed is_text_byte no_feed front text) refl)

@@ -16,11 +16,11 @@ use Rattle.pv_law_transcript.specs.Merged.{HasWrittenNumber, IsWrittenIntake}
 use Rattle.pv_law_transcript.specs.Written.{AreWritten, IsWrittenEvent, IsWrittenRequest, of_arm, of_deliver, of_report, of_submit, of_tick, of_total}
 
 module _ {X : Type 0} (P : X → Type 0) where
-  all-front : (xs ys : List X) → All P (xs ++ ys) → All P xs
+  pub all-front : (xs ys : List X) → All P (xs ++ ys) → All P xs
   all-front [] ys all = All-nil P
   all-front (x ∷ xs) ys all = All-cons P x xs (All-head P x (xs ++ ys) all) (all-front xs ys (All-tail P x (xs ++ ys) all))
 
-  all-back : (xs ys : List X) → All P (xs ++ ys) → All P ys
+  pub all-back : (xs ys : List X) → All P (xs ++ ys) → All P ys
   all-back [] ys all = all
   all-back (x ∷ xs) ys all = all-back xs ys (All-tail P x (xs ++ ys) all)
 

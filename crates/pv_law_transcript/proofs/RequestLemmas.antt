@@ -27,7 +27,7 @@ text-cond most false xs ys one other = other
 text-tail : (most b : ℕ) (bs : List ℕ) → IsText most (b ∷ bs) → IsText most bs
 text-tail most b bs is = let long = is.short in record { short = omega (arith, long); bytes = and-right (is_text_byte b) (list_all is_text_byte bs) is.bytes }
 
-text-after_blanks : (most : ℕ) (bs : List ℕ) → IsText most bs → IsText most (after_blanks bs)
+pub text-after_blanks : (most : ℕ) (bs : List ℕ) → IsText most bs → IsText most (after_blanks bs)
 text-after_blanks most [] is = is
 text-after_blanks most (b ∷ bs) is = text-cond most (is_blank b) (after_blanks bs) (b ∷ bs) (text-after_blanks most bs (text-tail most b bs is)) is
 
@@ -35,7 +35,7 @@ text-after_word : (most : ℕ) (bs : List ℕ) → IsText most bs → IsText mos
 text-after_word most [] is = is
 text-after_word most (b ∷ bs) is = text-cond most (is_blank b) (b ∷ bs) (after_word bs) is (text-after_word most bs (text-tail most b bs is))
 
-text-before_blanks : (most : ℕ) (bs : List ℕ) → IsText most bs → IsText most (before_blanks bs)
+pub text-before_blanks : (most : ℕ) (bs : List ℕ) → IsText most bs → IsText most (before_blanks bs)
 text-before_blanks most [] is = is
 text-before_blanks most (b ∷ bs) is =
     let rest : IsText (length bs) (before_blanks bs) =
@@ -61,7 +61,7 @@ ends-by b bs left true is same once = refl
 ends-by b bs left false is same once =
     ap (λ (yes : Bool). cond yes [] (b ∷ before_blanks left)) (ap (λ (rest : Bool). is_blank b && rest) same ∙ is) ∙ ap (λ (more : List ℕ). b ∷ more) once
 
-ends-once : (bs : List ℕ) → before_blanks (before_blanks bs) ≡ before_blanks bs
+pub ends-once : (bs : List ℕ) → before_blanks (before_blanks bs) ≡ before_blanks bs
 ends-once [] = refl
 ends-once (b ∷ bs) = ends-by b bs (before_blanks bs) (list_all is_blank (b ∷ bs)) refl (blank-same bs) (ends-once bs)
 

@@ -3,3 +3,4 @@ pub mod LineShown
 pub mod PieceLemmas
 pub mod PlainLemmas
 pub mod ShownLemmas
+pub mod TextLemmas

@@ -6,8 +6,10 @@ mod cases;
 mod json_form;
 mod json_lines;
 mod json_values;
+mod laws;
 mod line;
 mod pieces;
 
 pub use json_form::{json, push_json};
+pub use laws::printed_lines_are_text;
 pub use line::{print, push_line};

@@ -1,0 +1,15 @@
+pub mod BareLemmas
+pub mod SaysLemmas
+pub mod PlainTextLemmas
+pub mod TextEntries
+pub mod TracedParts
+pub mod WholeLemmas
+pub mod NameCounts
+pub mod NoteRanges
+pub mod LineRanges
+pub mod EventRanges
+pub mod RunRanges
+pub mod PlacedRanges
+pub mod OrderRanges
+pub mod TakenRanges
+pub mod SentLimits
