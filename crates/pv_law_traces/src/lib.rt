@@ -28,9 +28,11 @@ ghost use Rattle.pv_run.specs.InputAnswers.{within_limit};
 ghost use Rattle.pv_run.specs.Traced.{IsTraced, trace_of};
 ghost use Rattle.pv_site.specs.SiteState.{setup_of};
 
+use pv_audit::{printed_lines_are_entries, schedules_name_items_apart};
 use pv_law_world::{
     runs_of_texts_stay_in_range, schedules_are_in_range, schedules_are_well_formed,
 };
+use pv_report::printed_lines_are_text;
 use pv_run::traces_have_each_line;
 
 /// A line of a schedule without the blanks at its ends is the event that the line is, or declares what the line does.
@@ -44,7 +46,11 @@ pub fn traces_are_read()
     ensures { (input text : List ℕ) (schedule : Schedule) → IsSchedule input schedule → IsTraced (setup_of schedule.catalog) input text →
         All IsWithin (printed (setup_of schedule.catalog) schedule.events) →
         IsTrace text (run_trace (setup_of schedule.catalog) schedule.events) }
-{}
+{
+    printed_lines_are_text();
+    printed_lines_are_entries();
+    schedules_name_items_apart();
+}
 
 /// Each number in what a step reports is within the type that an audit reads it as.
 pub fn notes_are_within()
