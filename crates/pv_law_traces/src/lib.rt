@@ -10,7 +10,7 @@ ghost use Rattle.pv_audit.specs.Traces.{IsTrace};
 ghost use Rattle.pv_model.specs.Events.{Event, Schedule};
 ghost use Rattle.pv_model.specs.Schedule.{Declares, IsEvent, IsSchedule};
 ghost use Rattle.pv_model.specs.Text.{TextLine};
-ghost use Rattle.pv_law_traces.specs.Ranges.{HaveTakenFew, IsNumbered, IsPrintable, SendsFew};
+ghost use Rattle.pv_law_traces.specs.Ranges.{HaveTakenFew, IsNumbered, IsPrintable, SendsFew, TakesFew};
 ghost use Rattle.pv_format.specs.Range.{IsTxnWithin};
 ghost use Rattle.pv_law_requests.specs.RunTraces.{run_trace};
 ghost use Rattle.pv_law_world.specs.Ranges.{IsWorldInRange};
@@ -104,4 +104,15 @@ pub fn orders_are_within()
     ensures { (setup : Setup) (events : List Event) → IsSetupInRange setup →
         All (IsWorldInRange setup) (worlds_of (opening setup) (run setup (opening setup) events)) →
         All (λ world. All (λ placed. IsTxnWithin setup.catalog.sites placed.txn) world.order) (worlds_of (opening setup) (run setup (opening setup) events)) }
+{}
+
+/// In each world of a run an entry has taken grants of no more sites than there may be.
+pub fn entries_take_few()
+    ensures { (setup : Setup) (events : List Event) → IsSetupInRange setup → All TakesFew (worlds_of (opening setup) (run setup (opening setup) events)) }
+{}
+
+/// In each world of a run whose messages pass no limit they are no more than 64 bits count.
+pub fn limited_runs_send_few()
+    ensures { (schedule : Schedule) → (within_limit schedule).over ≡ None → let setup = setup_of schedule.catalog in
+        All SendsFew (worlds_of (opening setup) (run setup (opening setup) schedule.events)) }
 {}
