@@ -8,4 +8,5 @@ pub mod Made
 pub mod Mirrored
 pub mod Numbers
 pub mod OneOutcome
+pub mod Reports
 pub mod Worked
