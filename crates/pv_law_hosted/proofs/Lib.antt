@@ -1,5 +1,6 @@
 mod AgreeLemmas
 mod AheadLemmas
+mod AloneLemmas
 mod AskedLemmas
 mod BegunLemmas
 mod CallLemmas

@@ -2,7 +2,7 @@
 //! happens to them there are events whose run mirrors it. The functions do nothing: each states a law.
 #![tactic(auto)]
 
-ghost use Rattle.std.specs.Prelude.{◌≡◌, ℕ, ◌<◌, ◌≤◌, Bool, false, Option, Some, None, Result, Ok, Err, List, [], ◌∷◌, ◌++◌, drop, length, map, option_to_list, slice_get, All, AllPairs, IsTrue, ⊤};
+ghost use Rattle.std.specs.Prelude.{◌≡◌, ℕ, ◌<◌, ◌≤◌, Bool, true, false, Option, Some, None, Result, Ok, Err, List, [], ◌∷◌, ◌++◌, drop, length, map, option_to_list, slice_get, All, AllPairs, IsTrue, ⊤};
 ghost use Rattle.std.specs.Option.{option_map};
 ghost use Rattle.std.specs.List.{Contains};
 ghost use Rattle.pv_base.specs.Catalog.{Declared, Item};
@@ -27,10 +27,11 @@ ghost use Rattle.pv_embed.specs.declared.made.Output.{Output};
 ghost use Rattle.pv_format.specs.Message.{Envelope, outcome_reported};
 ghost use Rattle.pv_host.specs.HostFile.{MayLeave};
 ghost use Rattle.pv_host.specs.HostLog.{HostWrite, next_write};
+ghost use Rattle.pv_law_hosted.specs.Alone.{GoesOn, HasFile};
 ghost use Rattle.pv_law_hosted.specs.Asked.{Asked, asked_as};
 ghost use Rattle.pv_law_hosted.specs.Calls.{BeginsAsked, HasSite, IsFromASite};
 ghost use Rattle.pv_law_hosted.specs.Claims.{HoldsSite, IsAnswered, IsRefused};
-ghost use Rattle.pv_law_hosted.specs.Deployment.{Deployment, IsNew, station_at, with_station};
+ghost use Rattle.pv_law_hosted.specs.Deployment.{Deployment, IsNew, Station, station_at, with_station};
 ghost use Rattle.pv_law_hosted.specs.DeploymentEvents.{Happens, HoldTheSame, MayLeaveAhead, MayTake, Stands};
 ghost use Rattle.pv_law_hosted.specs.Made.{IsLetOutOf, made_as, made_by};
 ghost use Rattle.pv_law_hosted.specs.Mirrored.{IsMirrored, plain_site, world_of};
@@ -48,6 +49,7 @@ ghost use Rattle.pv_protocol.specs.Committed.{Fits, entry_of, home_of, is_commit
 ghost use Rattle.pv_protocol.specs.Lines.{Line, line_of};
 ghost use Rattle.pv_protocol.specs.Outcomes.{IsOut};
 ghost use Rattle.pv_protocol.specs.Places.{Place};
+ghost use Rattle.pv_protocol.specs.Records.{known};
 ghost use Rattle.pv_protocol.specs.Run.{printed, run};
 ghost use Rattle.pv_protocol.specs.Shown.{item_value};
 ghost use Rattle.pv_protocol.specs.State.{Cause, Entry, Input, Note, Placed, Setup, began, committed, refused, tick};
@@ -227,6 +229,26 @@ pub fn hosted_requests_end_once()
 {
     no_txn_ends_twice();
     txns_end_at_home();
+}
+
+/// What a site has told to have committed stays so, whatever becomes of the site then: calls, crashes and openings, each under whatever configuration. So it does as a configuration
+/// grows, where no run goes on. It is a law of one site alone, since the records on which it tells so are in its file, and a file is only added to (`goes_on`, from a mirrored deployment
+/// on, `mirrored`): each later site of that number has a record that says so (`kept`), and tells of none of these that it never commits (`told`).
+pub fn told_commits_are_kept()
+    ensures mirrored { (setup : Setup) (d : Deployment) (events : List Event) (n : ℕ) → IsMirrored setup d events → n < setup.catalog.sites → HasFile (station_at d n) }
+    ensures goes_on { (n : ℕ) (first last : Station) → HasFile first → GoesOn n first last → HasFile last }
+    ensures kept { (n : ℕ) (first last : Station) (site new later : HostedState) (txn : TxnId) → HasFile first → first.hosted ≡ Some site →
+        TellsOutcome site new txn (Ok Committed) → GoesOn n first last → last.hosted ≡ Some later → known later.site.records txn ≡ Some true }
+    ensures told { (n : ℕ) (first last : Station) (site new later again : HostedState) (txn : TxnId) → HasFile first → first.hosted ≡ Some site →
+        TellsOutcome site new txn (Ok Committed) → GoesOn n first last → last.hosted ≡ Some later → TellsOutcome later again txn (Ok NotCommitted) → ⊥ }
+{
+    files_are_journals();
+    files_hold_what_was_let_out();
+    logs_tell_of_records();
+    no_txn_is_begun_twice();
+    one_journal();
+    one_record();
+    one_schedule();
 }
 
 /// What was let out before a request was given stands before it in the run: what stations have let out is in the run that mirrors the deployment now
