@@ -114,7 +114,8 @@ uint32_t polydb_version(void);
 #define POLYDB_NOT_OURS 22u
 /* What the journal holds isn't a record. */
 #define POLYDB_BAD_RECORD 23u
-/* With the journal's records the value of an item would name too many outcomes. No site that ran under one limit of journals has such records, whatever its limit is then. */
+/* With the journal's records the value of an item would name too many outcomes. No site that ran under one configuration has such records, whatever its limit is then, and with
+ * more items behind its own. */
 #define POLYDB_TOO_MANY_OUTCOMES 24u
 /* No epoch is left: the records of 4,294,967,294 openings were written into the file. */
 #define POLYDB_EPOCHS_SPENT 25u
@@ -338,10 +339,10 @@ uint32_t polydb_config_grows(const uint8_t *before, size_t before_length, const 
 /*
  * A request: the program that the text is runs, with this site as its coordinator. A query assigns nothing and has a `return`. What becomes of it is
  * reported. Each request that is taken has one report `txn ..` with its number, in the order of the requests, and later one `commit ..` or `refuse ..` with
- * that number; or in place of these `spent ..`, where the site has no number left for it, and then nothing more. If the site is closed before, there is
- * nothing more either: it may have committed or not if its `txn ..` was taken, and else it hasn't and never will. (`spent ..` also comes where this site is asked for locks and
- * has no number left for a grant, and it isn't said for which of the two: the host is to close the site then, and to open it again. A site has 4,294,967,295 numbers of each
- * of the two kinds, and as many again when it is opened again.)
+ * that number, never two, also when the site is opened again; or in place of these `spent ..`, where the site has no number left for it, and then nothing more. If the
+ * site is closed before, there is nothing more either: it may have committed or not if its `txn ..` was taken, and else it hasn't and never will. (`spent ..` also comes where
+ * this site is asked for locks and has no number left for a grant, and it isn't said for which of the two: the host is to close the site then, and to open it again. A site
+ * has 4,294,967,295 numbers of each of the two kinds, and as many again when it is opened again.)
  *
  *   POLYDB_DONE         the site has taken it
  *   POLYDB_CLOSED       the handle is closed
@@ -459,7 +460,8 @@ uint32_t polydb_site_read(polydb_site *site, const uint8_t *name, size_t length,
  * site is answered that asks for the outcome; else that one gets no answer. A host that has kept such a number asks after a crash (polydb_site_submit_tagged). Nothing changes.
  *
  * It is told only once all is written that the site has asked for: else a crash might undo it. POLYDB_COMMITTED and POLYDB_NOT_COMMITTED are final, as long as the configuration
- * stays; a transaction that is POLYDB_AT_WORK may still commit or not. Of a number of a passed epoch that was never given POLYDB_NOT_COMMITTED is told.
+ * stays; and where it has grown, the site never tells POLYDB_NOT_COMMITTED of what it has told to be POLYDB_COMMITTED. A transaction that is POLYDB_AT_WORK may still commit or
+ * not. Of a number of a passed epoch that was never given POLYDB_NOT_COMMITTED is told.
  *
  *   POLYDB_DONE        `*outcome` is POLYDB_COMMITTED, POLYDB_NOT_COMMITTED or POLYDB_AT_WORK; with other statuses it is 0
  *   POLYDB_CLOSED      the handle is closed

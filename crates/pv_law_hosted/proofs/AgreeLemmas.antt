@@ -52,17 +52,25 @@ if-printed : (lines : List Line) (test : Bool) (made : List Made) → All (IsPri
 if-printed lines true made all = all
 if-printed lines false made all = All-nil (IsPrinted lines)
 
+earlier-printed : (lines after : List Line) (made : Made) → IsPrinted lines made → IsPrinted (lines ++ after) made
+earlier-printed lines after (sends envelope) is = tt
+earlier-printed lines after (prints line) is = Contains-append_left lines after line is
+
+pub in-printed : (n : ℕ) (world : World) (transition : Transition) → All (IsPrinted transition.lines) (made_in n world transition)
+in-printed n world transition =
+    let lines = transition.lines in
+    let sent = drop (length world.sent) transition.world.sent in
+    if-printed lines (is_of n (site_of world transition.event)) (map sends sent ++ map prints lines)
+    (All-append (IsPrinted lines) (map sends sent) (map prints lines) (sends-printed lines sent) (prints-printed lines lines (All-contains_itself lines)))
+
 pub from-printed : (n : ℕ) (world : World) (transitions : List Transition) → All (IsPrinted (lines_of_transitions transitions)) (made_from n world transitions)
 from-printed n world [] = All-nil (IsPrinted [])
 from-printed n world (transition ∷ transitions) =
     let rest = lines_of_transitions transitions in
     let all = transition.lines ++ rest in
     All-append (IsPrinted all) (made_in n world transition) (made_from n transition.world transitions)
-    (if-printed all (is_of n (site_of world transition.event)) (map sends (drop (length world.sent) transition.world.sent) ++ map prints transition.lines)
-    (All-append (IsPrinted all) (map sends (drop (length world.sent) transition.world.sent)) (map prints transition.lines)
-    (sends-printed all (drop (length world.sent) transition.world.sent))
-    (prints-printed all transition.lines
-    (All-weaker (Contains transition.lines) (Contains all) (λ line is. Contains-append_left transition.lines rest line is) transition.lines (All-contains_itself transition.lines)))))
+    (All-weaker (IsPrinted transition.lines) (IsPrinted all) (λ made is. earlier-printed transition.lines rest made is) (made_in n world transition)
+    (in-printed n world transition))
     (All-weaker (IsPrinted rest) (IsPrinted all) (λ made is. later-printed transition.lines rest made is) (made_from n transition.world transitions)
     (from-printed n transition.world transitions))
 

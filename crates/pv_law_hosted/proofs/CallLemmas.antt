@@ -30,7 +30,7 @@ use Rattle.pv_host.specs.HostLog.{HostWrite, next_write}
 use Rattle.pv_law_hosted.specs.Asked.{Asked, begun_of}
 use Rattle.pv_law_hosted.specs.Calls.{BeginsAsked, HasSite, IsFromASite}
 use Rattle.pv_law_hosted.specs.Deployment.{Deployment, Station, station_at, with_station}
-use Rattle.pv_law_hosted.specs.DeploymentEvents.{Happens, HappensAt, HappensTo, HoldTheSame, Stands, asks, carried, goes, idles, is_writing, lets_out, request, stays, takes, time, writes}
+use Rattle.pv_law_hosted.specs.DeploymentEvents.{Happens, HappensAt, HappensTo, HoldTheSame, MayLeaveAhead, Stands, asks, carried, goes, idles, is_writing, lets_out, request, stays, takes, time, writes}
 use Rattle.pv_law_programs.proofs.DeclaredItems.{declared-items}
 use Rattle.pv_law_world.proofs.NumeralLemmas.{small-numbers}
 use Rattle.pv_law_hosted.specs.Mirrored.{FollowsHosted, FollowsProcess, IsMirrored}
@@ -207,7 +207,7 @@ module _ (config : List ℕ) (catalog : Declared) (d : Deployment) (n : ℕ) (si
   writing-happens left stands may =
       here-happens (record old { file = left }) (is_writing left may) (λ s is. subst Stands (some-same (sym has.here ∙ is)) stands)
 
-  pub going-happens : (left : List ℕ) → MayLeave site.site.log old.file left → Happens config catalog d (with_station d n (record old { file = left; hosted = None }))
+  pub going-happens : (left : List ℕ) → MayLeaveAhead site.site.log old.file left → Happens config catalog d (with_station d n (record old { file = left; hosted = None }))
   going-happens left may = here-happens (record old { file = left; hosted = None }) (goes left may) (λ s is. absurd cc)
 
 -- A site is opened on bytes that hold the same as the file that the last process has left, and the file holds the same then.

@@ -22,6 +22,7 @@ use Rattle.pv_embed.proofs.HostedLemmas.{contents_written, stored_asked}
 use Rattle.pv_embed.specs.Held.{Held, Out}
 use Rattle.pv_embed.specs.Hosted.{AsksForGroup, HasStepped, HostedState, Stays, Writes, stored_length}
 use Rattle.pv_embed.specs.Opening.{Configures, HasOpenedOn}
+use Rattle.pv_law_hosted.proofs.AheadLemmas.{ahead-file, ahead-stored}
 use Rattle.pv_law_hosted.proofs.AskedLemmas.{asked-kept}
 use Rattle.pv_law_hosted.proofs.CaseLemmas.{becomes-some, becomes-still, follows-still}
 use Rattle.pv_law_hosted.proofs.GivesLemmas.{becomes-given}
@@ -160,7 +161,7 @@ module _ (laws : Laws) (config : List ℕ) (schedule : Schedule) (configures : C
     happens new here (lets_out next first later held within is) stands = next-out next first later held within is (stands next refl)
     happens new here (goes left may) stands =
         ⊎_elim (λ journal. gone-stored left content.running refl journal) (λ journal. gone-more left site.site.log.asked refl journal)
-        (laws.journals site.site.log left (laws.crashed site old.file left f.is_file may))
+        (ahead-stored laws.journals site.site.log left (ahead-file laws.written laws.crashed site old.file left f.is_file may))
 
   -- ## With a process or without
   pub happens-at : (new : Station) (hosted : Option HostedState) → old.hosted ≡ hosted → HappensAt config schedule.catalog d n old hosted new

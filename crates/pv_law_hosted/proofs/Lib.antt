@@ -1,12 +1,16 @@
-mod AskedLemmas
 mod AgreeLemmas
+mod AheadLemmas
+mod AloneLemmas
+mod AskedLemmas
 mod BegunLemmas
 mod CallLemmas
 mod CaseLemmas
 mod ClaimLemmas
+mod EndLemmas
 mod GivenLemmas
 mod GivesLemmas
 mod GoesLemmas
+mod GrownLemmas
 mod HappensLemmas
 mod MirroredLemmas
 mod NarrowLemmas

@@ -10,12 +10,14 @@ use Rattle.pv_base.proofs.AssignmentLemmas.{same-eq}
 use Rattle.pv_base.specs.Assignment.{is_same_txn}
 use Rattle.pv_base.specs.Catalog.{Declared}
 use Rattle.pv_base.specs.declared.txn.TxnId.{TxnId}
+use Rattle.pv_disk_model.specs.Disk.{overlaid}
 use Rattle.pv_disk_model.specs.Size.{Contents}
 use Rattle.pv_format.specs.Contents.{SpellRecords}
 use Rattle.pv_format.specs.Journal.{IsJournal}
 use Rattle.pv_format.specs.Record.{Record, epoch_begun, prepared, outcome_known}
 use Rattle.pv_format.specs.RecordSpelling.{IsReadAs}
 use Rattle.pv_law_format.proofs.ReplayLemmas.{written-read}
+use Rattle.pv_law_hosted.proofs.AheadLemmas.{ahead-file}
 use Rattle.pv_law_hosted.proofs.GivenLemmas.{all-grows}
 use Rattle.pv_law_hosted.proofs.MirroredLemmas.{no-member}
 use Rattle.pv_law_hosted.proofs.OneByOneLemmas.{idle-start}
@@ -23,7 +25,7 @@ use Rattle.pv_law_hosted.proofs.NumberLemmas.{All-front, first-gone, first-later
 use Rattle.pv_law_hosted.proofs.NumberSteps.{IsGivenWell}
 use Rattle.pv_law_hosted.specs.Asked.{Asked, asked_after}
 use Rattle.pv_law_hosted.specs.Deployment.{Deployment, IsNew, IsNewStation, Station, no_station, station_at, with_station}
-use Rattle.pv_law_hosted.specs.DeploymentEvents.{Happens, HappensAt, HappensTo, HoldTheSame, MayTake, request, carried, time, takes, stays, asks, is_writing, writes, idles, lets_out, goes}
+use Rattle.pv_law_hosted.specs.DeploymentEvents.{Happens, HappensAt, HappensTo, HoldTheSame, MayLeaveAhead, MayTake, request, carried, time, takes, stays, asks, is_writing, writes, idles, lets_out, goes}
 use Rattle.pv_law_hosted.specs.Given.{Content}
 use Rattle.pv_law_hosted.specs.Mirrored as mirrored
 use Rattle.pv_law_hosted.specs.Mirrored.{FollowsHosted, FollowsProcess, IsMirrored, IsSeenAs, world_of}
@@ -41,9 +43,10 @@ use Rattle.pv_site.specs.Steps.{HoldsWhatRuns}
 use Rattle.pv_site.specs.Surplus.{surplus_of}
 use Rattle.pv_host.specs.HostFile.{HoldsStored, IsFile, MayLeave}
 use Rattle.pv_host.specs.HostLaws.{host_model}
-use Rattle.pv_host.specs.HostLog.{HostState, contents_of}
+use Rattle.pv_host.specs.HostLog.{HostState, HostWrite, contents_of, next_write, with_written}
+use Rattle.pv_embed.proofs.HostedLemmas.{contents_written}
 use Rattle.pv_embed.specs.Held.{Held, Out, message, note}
-use Rattle.pv_embed.specs.Hosted.{HostedState}
+use Rattle.pv_embed.specs.Hosted.{HostedState, Writes}
 use Rattle.pv_embed.specs.Opening.{HasOpenedOn}
 
 -- What the laws below say that this rests on.
@@ -51,6 +54,8 @@ pub record NumberLaws : Type 0 where
   pub one_record : (entry other : Record) (bytes : List ℕ) → IsReadAs entry bytes → IsReadAs other bytes → entry ≡ other
   pub one_journal : (bytes : List ℕ) (contents others : Contents) → IsJournal contents bytes → IsJournal others bytes → contents ≡ others
   pub holds : (log : HostState) (file : List ℕ) → IsFile log file → HoldsStored log file
+  pub written : (old new : HostedState) (write : HostWrite) (file : List ℕ) → Writes old new → next_write old.site.log ≡ Some write → IsFile old.site.log file
+      → IsFile new.site.log (overlaid file write.place write.bytes)
   pub crashed : (hosted : HostedState) (file left : List ℕ) → IsFile hosted.site.log file → MayLeave hosted.site.log file left → IsFile hosted.site.log left
 
 -- What was asked for has no part in it.
@@ -105,15 +110,23 @@ module _ (laws : NumberLaws) (config : List ℕ) (schedule : Schedule) (d : Depl
           first-same txn asked n old is (record old { file = file; hosted = Some next }) (held-here next (ap (λ (h : HostedState). h.held) still))
           (subst (λ (h : HostedState). HasNumbers txn asked (outs_of old) file (Some h)) (sym still) has)
 
-      left-kept : (left : List ℕ) → MayLeave site.site.log old.file left → (records : List Record) (contents : Contents) → IsJournal contents left
-          → SpellRecords records contents → All (IsKept txn asked) records
-      left-kept left may records contents journal spelled =
-          let stored = laws.holds site.site.log left (laws.crashed site old.file left f.is_file may) in
+      -- A file of a log that holds what the site's log holds has the first of its records.
+      holds-kept : (log : HostState) (left : List ℕ) → contents_of log ≡ contents_of site.site.log → IsFile log left → (records : List Record) (contents : Contents)
+          → IsJournal contents left → SpellRecords records contents → All (IsKept txn asked) records
+      holds-kept log left equal is_file records contents journal spelled =
+          let stored = laws.holds log left is_file in
           let contents-same : contents ≡ stored.contents = laws.one_journal left contents stored.contents journal stored.journal in
           let whole : SpellRecords site.site.records (contents_of site.site.log) =
           (subst (λ r. HoldsWhatRuns host_model site.site.log site.site.surplus site.site.records r) f.stands.up f.stands.ready.holds).held (contents_of site.site.log) refl in
           kept-front txn asked laws.one_record records site.site.records stored.contents stored.later (subst (SpellRecords records) contents-same spelled)
-          (subst (SpellRecords site.site.records) stored.first whole) has.0
+          (subst (SpellRecords site.site.records) (sym equal ∙ stored.first) whole) has.0
+
+      left-kept : (left : List ℕ) → MayLeaveAhead site.site.log old.file left → (records : List Record) (contents : Contents) → IsJournal contents left
+          → SpellRecords records contents → All (IsKept txn asked) records
+      left-kept left may =
+          ⊎_elim (λ file. holds-kept site.site.log left refl file)
+          (λ file. holds-kept (with_written site.site.log) left (contents_written site.site (with_written site.site.log) refl) file)
+          (ahead-file laws.written laws.crashed site old.file left f.is_file may)
 
       happens : (new : Station) → HappensTo schedule.catalog d n site old new → IsNumberFirst txn asked n new
       happens new (takes next input may stepped) =

@@ -13,6 +13,7 @@ use Rattle.pv_format.specs.Message.{Envelope}
 use Rattle.pv_format.specs.Contents.{greatest_epoch}
 use Rattle.pv_format.specs.Record.{Record, epoch_begun}
 use Rattle.pv_law_answers.proofs.BeginNotes.{begin-noted}
+use Rattle.pv_law_answers.proofs.TxnNumbers.{began-of}
 use Rattle.pv_law_step.proofs.Lists.{OfSome}
 use Rattle.pv_law_step.proofs.StartLemmas.{start-case}
 use Rattle.pv_law_step.specs.StartCases as of_starts
@@ -29,7 +30,7 @@ use Rattle.pv_protocol.specs.Lines.{Line, line_of, lines_of}
 use Rattle.pv_protocol.specs.Records.{journal_bytes, record_bytes}
 use Rattle.pv_protocol.specs.Run.{run, world_after}
 use Rattle.pv_protocol.specs.Start.{Started, starts, too_long, no_epoch, just_started, site_start}
-use Rattle.pv_protocol.specs.State.{Setup, Site, Running, Input, Note, submit, receive, tick, began, committed, refused, full, spent}
+use Rattle.pv_protocol.specs.State.{Setup, Site, Running, Input, Note, submit, receive, tick, began}
 use Rattle.pv_protocol.specs.Step.{site_step}
 use Rattle.pv_protocol.specs.World.{World, first_site, site_at, with_done}
 use Rattle.pv_protocol.specs.WorldStep.{Transition}
@@ -60,17 +61,10 @@ abbrev pub nothing_there : Content
 nothing_there = record { records = []; running = None }
 
 -- What prints that a transaction has begun notes it.
-is-beginning : (n : ℕ) (reported : Note) (txn : TxnId) → line_of n reported ≡ Line.txn txn → reported ≡ began txn
-is-beginning n (began other) txn is = let own : other ≡ txn = cc in ap began own
-is-beginning n (committed other replies) txn is = absurd cc
-is-beginning n (refused other cause) txn is = absurd cc
-is-beginning n (full length) txn is = absurd cc
-is-beginning n spent txn is = absurd cc
-
 noted-beginning : (n : ℕ) (notes : List Note) (txn : TxnId) → Contains (lines_of n notes) (Line.txn txn) → Contains notes (began txn)
 noted-beginning n notes txn there =
     let found = Contains-unmap (line_of n) notes (Line.txn txn) there in
-    subst (Contains notes) (is-beginning n found.0 txn found.1.1) found.1.0
+    subst (Contains notes) (began-of n found.0 txn found.1.1) found.1.0
 
 -- Every message that is carried was sent in this world.
 abbrev pub HasSent : Deployment → World → Type 0

@@ -169,7 +169,7 @@ has-site : HasSite catalog up 0 (begun begun_log)
 has-site = record { known = omega arith; here = refl; me = refl; declared = refl }
 
 pub dies : Happens config catalog up fresh
-dies = going-happens config catalog up 0 (begun begun_log) has-site new_file (inl refl)
+dies = going-happens config catalog up 0 (begun begun_log) has-site new_file (inl (inl refl))
 
 pub asks-for-record : Happens config catalog up asked
 asks-for-record =
@@ -188,7 +188,7 @@ torn-gate = record { before = refl; after = refl; no_shorter = omega arith; no_l
 pub dies-writing : Happens config catalog writing found
 dies-writing =
     going-happens config catalog writing 0 (begun (asked_log true)) (record { known = omega arith; here = refl; me = refl; declared = refl }) found_file
-    (inr (record { place = 8; bytes = 1 ∷ [] }, refl, torn-gate))
+    (inl (inr (record { place = 8; bytes = 1 ∷ [] }, refl, torn-gate)))
 
 found-journal : IsJournal (first_epoch ∷ []) found_file
 unfolding big_endian

@@ -1,5 +1,5 @@
 -- What may happen in a deployment.
-use Rattle.std.specs.Prelude.{◌≡◌, ℕ, ◌<◌, ◌≤◌, Option, Some, None, List, [], ◌∷◌, ◌++◌, drop, length}
+use Rattle.std.specs.Prelude.{◌≡◌, ◌⊎◌, ℕ, ◌<◌, ◌≤◌, Option, Some, None, List, [], ◌∷◌, ◌++◌, drop, length}
 use Rattle.pv_base.specs.Catalog.{Declared}
 use Rattle.pv_disk_model.specs.Disk.{overlaid}
 use Rattle.pv_disk_model.specs.Size.{Contents}
@@ -12,7 +12,7 @@ use Rattle.pv_protocol.specs.WellFormed.{CanRun}
 use Rattle.pv_site.specs.Steps.{IsReady}
 use Rattle.pv_host.specs.HostFile.{MayLeave}
 use Rattle.pv_host.specs.HostLaws.{host_model}
-use Rattle.pv_host.specs.HostLog.{HostWrite, next_write}
+use Rattle.pv_host.specs.HostLog.{HostState, HostWrite, next_write, with_written}
 use Rattle.pv_embed.specs.Held.{Held}
 use Rattle.pv_embed.specs.Hosted.{AsksForGroup, HostedState, HasStepped, Stays, Writes, stored_length}
 use Rattle.pv_embed.specs.Opening.{HasOpenedOn}
@@ -31,6 +31,13 @@ pub record Stands (hosted : HostedState) : Type 0 where
   pub ready : IsReady host_model hosted.site
   pub running : model.Running
   pub up : hosted.site.running ≡ Some running
+
+-- What a host leaves of the file that may write on before it says so: what it leaves of that which it has said; or where it has written all that it was to write next, what
+-- it leaves once it has said that. So a group may stand in the file with its gate open, as one write, and nobody was told of either.
+abbrev pub MayLeaveAhead : HostState → List ℕ → List ℕ → Type 0
+MayLeaveAhead log file left =
+    MayLeave log file left
+    ⊎ ((write : HostWrite) × (next_write log ≡ Some write) × MayLeave (with_written log) (overlaid file write.place write.bytes) left)
 
 -- What may happen to a station whose process is there, with its site so.
 pub data HappensTo (catalog : Declared) (d : Deployment) (n : ℕ) (site : HostedState) (old : Station) : Station → Type 0 where
@@ -51,8 +58,9 @@ pub data HappensTo (catalog : Declared) (d : Deployment) (n : ℕ) (site : Hoste
   -- the next thing is let out: as much of the log is in the file as there was when it was made
   lets_out : (next : HostedState) (first : Held) (later : List Held) → site.held ≡ first ∷ later → first.length ≤ stored_length site
       → next ≡ record site { held = later } → HappensTo catalog d n site old (record old { hosted = Some next; let_out = old.let_out ++ first.out ∷ [] })
-  -- the process goes: by a crash, by a kill, or closed; and the file is, as the next opening finds it, one that this may leave
-  goes : (left : List ℕ) → MayLeave site.site.log old.file left → HappensTo catalog d n site old (record old { file = left; hosted = None })
+  -- the process goes: by a crash, by a kill, or closed; and the file is, as the next opening finds it, one that this may leave. Nobody else has read the file before: so what
+  -- the host has written ahead of what it said counts now.
+  goes : (left : List ℕ) → MayLeaveAhead site.site.log old.file left → HappensTo catalog d n site old (record old { file = left; hosted = None })
 
 -- Both are journals of the same contents. So they differ in no more than a closed gate and what stands behind it.
 abbrev pub HoldTheSame : List ℕ → List ℕ → Type 0

@@ -1,3 +1,4 @@
+pub mod Alone
 pub mod Asked
 pub mod Calls
 pub mod Claims
@@ -8,4 +9,5 @@ pub mod Made
 pub mod Mirrored
 pub mod Numbers
 pub mod OneOutcome
+pub mod Reports
 pub mod Worked

@@ -2,7 +2,7 @@
 //! happens to them there are events whose run mirrors it. The functions do nothing: each states a law.
 #![tactic(auto)]
 
-ghost use Rattle.std.specs.Prelude.{◌≡◌, ℕ, ◌<◌, ◌≤◌, Bool, false, Option, Some, None, Result, Ok, Err, List, [], ◌∷◌, ◌++◌, drop, length, map, option_to_list, slice_get, All, IsTrue, ⊤};
+ghost use Rattle.std.specs.Prelude.{◌≡◌, ℕ, ◌<◌, ◌≤◌, Bool, true, false, Option, Some, None, Result, Ok, Err, List, [], ◌∷◌, ◌++◌, drop, length, map, option_to_list, slice_get, All, AllPairs, IsTrue, ⊤};
 ghost use Rattle.std.specs.Option.{option_map};
 ghost use Rattle.std.specs.List.{Contains};
 ghost use Rattle.pv_base.specs.Catalog.{Declared, Item};
@@ -27,16 +27,20 @@ ghost use Rattle.pv_embed.specs.declared.made.Output.{Output};
 ghost use Rattle.pv_format.specs.Message.{Envelope, outcome_reported};
 ghost use Rattle.pv_host.specs.HostFile.{MayLeave};
 ghost use Rattle.pv_host.specs.HostLog.{HostWrite, next_write};
+ghost use Rattle.pv_law_hosted.specs.Alone.{GoesOn, HasFile};
 ghost use Rattle.pv_law_hosted.specs.Asked.{Asked, asked_as};
 ghost use Rattle.pv_law_hosted.specs.Calls.{BeginsAsked, HasSite, IsFromASite};
 ghost use Rattle.pv_law_hosted.specs.Claims.{HoldsSite, IsAnswered, IsRefused};
-ghost use Rattle.pv_law_hosted.specs.Deployment.{Deployment, IsNew, station_at, with_station};
-ghost use Rattle.pv_law_hosted.specs.DeploymentEvents.{Happens, HoldTheSame, MayTake, Stands};
+ghost use Rattle.pv_law_hosted.specs.Deployment.{Deployment, IsNew, Station, station_at, with_station};
+ghost use Rattle.pv_law_hosted.specs.DeploymentEvents.{Happens, HoldTheSame, MayLeaveAhead, MayTake, Stands};
 ghost use Rattle.pv_law_hosted.specs.Made.{IsLetOutOf, made_as, made_by};
 ghost use Rattle.pv_law_hosted.specs.Mirrored.{IsMirrored, plain_site, world_of};
 ghost use Rattle.pv_law_hosted.specs.Numbers.{AreNumbersFirst};
 ghost use Rattle.pv_law_hosted.specs.OneOutcome.{IsSaid};
+ghost use Rattle.pv_law_hosted.specs.Reports.{reports_of};
 ghost use Rattle.pv_law_hosted.specs.Worked as worked;
+ghost use Rattle.pv_law_ends.specs.Ends.{TellOtherEnds, TellsEnd};
+ghost use Rattle.pv_law_growth.specs.Growth.{HasGrown};
 ghost use Rattle.pv_law_outcomes.specs.Decided.{IsCutTo};
 ghost use Rattle.pv_model.specs.Events.{Event, Schedule, submit};
 ghost use Rattle.pv_model.specs.Meaning.{value_in};
@@ -45,6 +49,7 @@ ghost use Rattle.pv_protocol.specs.Committed.{Fits, entry_of, home_of, is_commit
 ghost use Rattle.pv_protocol.specs.Lines.{Line, line_of};
 ghost use Rattle.pv_protocol.specs.Outcomes.{IsOut};
 ghost use Rattle.pv_protocol.specs.Places.{Place};
+ghost use Rattle.pv_protocol.specs.Records.{known};
 ghost use Rattle.pv_protocol.specs.Run.{printed, run};
 ghost use Rattle.pv_protocol.specs.Shown.{item_value};
 ghost use Rattle.pv_protocol.specs.State.{Cause, Entry, Input, Note, Placed, Setup, began, committed, refused, tick};
@@ -55,11 +60,13 @@ ghost use Rattle.pv_site.specs.SiteState.{setup_of};
 use pv_embed::files_hold_what_was_let_out;
 use pv_host::files_are_journals;
 use pv_law_answers::{commits_answer, committed_fit, no_txn_is_begun_twice, worlds_agree};
+use pv_law_ends::{no_txn_ends_twice, txns_end_at_home};
 use pv_law_events::{runs_are_reached, starts_find_sound_records};
 use pv_law_format::one_record;
 use pv_law_journal::one_journal;
 use pv_law_outcomes::{
-    no_two_outcomes, outcomes_are_decided, outcomes_are_for_ever, what_is_open_was_open,
+    locks_are_coherent, no_two_outcomes, outcomes_are_decided, outcomes_are_for_ever,
+    what_is_open_was_open,
 };
 use pv_law_programs::some_items;
 use pv_law_refusals::refusals_hold;
@@ -89,6 +96,8 @@ pub fn deployments_are_runs()
 /// - Where bytes that it hands on spell a message, one of the sites has let it out (`received`).
 /// - It says that a write is in the file only where it is (`wrote`).
 /// - A write that hasn't ended, or has failed, leaves the file with any bytes in its range, and so does the end of a process (`is_writing`, `gone`).
+/// - It may write on before it says so: a group and its gate, as one write or one after the other. Since nobody else reads the file while the process is there, such a write
+///   counts as it says so, or as the process goes (`gone`).
 /// - It opens a site, of a number that has no process, on the file that the last process of that number has left, as it is found then: what a write of that process still leaves
 ///   is part of `gone` (`opened`). What stands behind the journal's end has no part in that: the bytes that it reads may be without, and it may leave another file that holds
 ///   the same, before any other call (`opened_beside`).
@@ -133,7 +142,7 @@ pub fn calls_happen()
         HasSite catalog d n site → Stands site → MayLeave site.site.log (station_at d n).file left →
         Happens config catalog d (with_station d n (record (station_at d n) { file = left })) }
     ensures gone { (config : List ℕ) (catalog : Declared) (d : Deployment) (n : ℕ) (site : HostedState) (left : List ℕ) →
-        HasSite catalog d n site → MayLeave site.site.log (station_at d n).file left →
+        HasSite catalog d n site → MayLeaveAhead site.site.log (station_at d n).file left →
         Happens config catalog d (with_station d n (record (station_at d n) { file = left; hosted = None })) }
     ensures opened { (config : List ℕ) (catalog : Declared) (d : Deployment) (n : ℕ) (site : HostedState) →
         n < catalog.sites → (station_at d n).hosted ≡ None → HasOpenedOn config n (station_at d n).file site → Stands site →
@@ -210,6 +219,38 @@ pub fn hosted_reports_hold()
     refusals_hold();
 }
 
+/// Of each transaction at most one report tells how it ends, whatever happens in a deployment: of what a station has let out, whichever of its processes did, no two reports say of
+/// one transaction that it has committed or is refused (`once`); and a report that says so is of the transaction's own site (`home`).
+pub fn hosted_requests_end_once()
+    ensures once { (setup : Setup) (d : Deployment) (events : List Event) (n : ℕ) → IsMirrored setup d events → n < setup.catalog.sites →
+        AllPairs TellOtherEnds (reports_of n (station_at d n).let_out) }
+    ensures home { (setup : Setup) (d : Deployment) (events : List Event) (n : ℕ) (reported : Note) (txn : TxnId) → IsMirrored setup d events → n < setup.catalog.sites →
+        Contains (station_at d n).let_out (note reported) → TellsEnd txn (line_of n reported) → home_of txn ≡ n }
+{
+    no_txn_ends_twice();
+    txns_end_at_home();
+}
+
+/// What a site has told to have committed stays so, whatever becomes of the site then: calls, crashes and openings, each under whatever configuration. So it does as a configuration
+/// grows, where no run goes on. It is a law of one site alone, since the records on which it tells so are in its file, and a file is only added to (`goes_on`, from a mirrored deployment
+/// on, `mirrored`): each later site of that number has a record that says so (`kept`), and tells of none of these that it never commits (`told`).
+pub fn told_commits_are_kept()
+    ensures mirrored { (setup : Setup) (d : Deployment) (events : List Event) (n : ℕ) → IsMirrored setup d events → n < setup.catalog.sites → HasFile (station_at d n) }
+    ensures goes_on { (n : ℕ) (first last : Station) → HasFile first → GoesOn n first last → HasFile last }
+    ensures kept { (n : ℕ) (first last : Station) (site new later : HostedState) (txn : TxnId) → HasFile first → first.hosted ≡ Some site →
+        TellsOutcome site new txn (Ok Committed) → GoesOn n first last → last.hosted ≡ Some later → known later.site.records txn ≡ Some true }
+    ensures told { (n : ℕ) (first last : Station) (site new later again : HostedState) (txn : TxnId) → HasFile first → first.hosted ≡ Some site →
+        TellsOutcome site new txn (Ok Committed) → GoesOn n first last → last.hosted ≡ Some later → TellsOutcome later again txn (Ok NotCommitted) → ⊥ }
+{
+    files_are_journals();
+    files_hold_what_was_let_out();
+    logs_tell_of_records();
+    no_txn_is_begun_twice();
+    one_journal();
+    one_record();
+    one_schedule();
+}
+
 /// What was let out before a request was given stands before it in the run: what stations have let out is in the run that mirrors the deployment now
 /// (`mirrored_deployments_agree`), and no transaction that a site begins from now on is begun in that run. It is begun in what the run goes on with, by the program that was asked for (`hosted_programs_are_asked_for`).
 pub fn hosted_time_is_kept()
@@ -249,7 +290,8 @@ pub fn hosted_readings_last()
 }
 
 /// The file that a process has left is read by the next one: whatever the configuration is, an opening on it isn't refused since it were no journal, or held what is no
-/// record; and where the configuration is the deployment's (`narrow`), or that with another limit of journals (`raised`), not since its records gave an item too many outcomes.
+/// record; and where the configuration is the deployment's (`narrow`), or that with another limit of journals (`raised`), or with more items behind its own (`grown`), not
+/// since its records gave an item too many outcomes.
 pub fn left_files_are_read()
     ensures ours { (config : List ℕ) (setup : Setup) (d : Deployment) (events : List Event) (n place : ℕ) → IsMirrored setup d events → n < setup.catalog.sites →
         (station_at d n).hosted ≡ None → OpensHosted config n (station_at d n).file (Err (NotOurs place)) → ⊥ }
@@ -262,10 +304,15 @@ pub fn left_files_are_read()
         Configures config schedule → Configures later_config later → later.catalog ≡ record schedule.catalog { journal = limit } →
         IsMirrored (setup_of schedule.catalog) d events → n < schedule.catalog.sites → (station_at d n).hosted ≡ None →
         OpensHosted later_config n (station_at d n).file (Err (TooManyOutcomes count)) → ⊥ }
+    ensures grown { (config later_config : List ℕ) (schedule later : Schedule) (d : Deployment) (events : List Event) (n count : ℕ) → Configures config schedule →
+        Configures later_config later → HasGrown schedule.catalog later.catalog → IsMirrored (setup_of schedule.catalog) d events → n < schedule.catalog.sites →
+        (station_at d n).hosted ≡ None → OpensHosted later_config n (station_at d n).file (Err (TooManyOutcomes count)) → ⊥ }
 {
     mirrored_deployments_agree();
+    locks_are_coherent();
     one_journal();
     one_schedule();
+    runs_are_reached();
     schedules_are_in_range();
     starts_find_sound_records();
 }

@@ -8,6 +8,7 @@ returns-clause-new c =
       one_record = c.one_record.ensures;
       one_journal = λ bytes contents others first other. (c.one_journal.ensures bytes).one_value contents others first other;
       holds = c.files_are_journals.ensures.holds;
+      written = c.files_hold_what_was_let_out.ensures.written;
       crashed = c.files_hold_what_was_let_out.ensures.crashed;
     }
 
@@ -18,6 +19,7 @@ returns-clause-event c =
       one_record = c.one_record.ensures;
       one_journal = λ bytes contents others first other. (c.one_journal.ensures bytes).one_value contents others first other;
       holds = c.files_are_journals.ensures.holds;
+      written = c.files_hold_what_was_let_out.ensures.written;
       crashed = c.files_hold_what_was_let_out.ensures.crashed;
     }
 

@@ -4,7 +4,9 @@ use Rattle.pv_base.specs.declared.limits.TheConstants.{HELD_NAMES, READ_NAMES}
 use Rattle.pv_law_events.specs.Replays.{AreReplayable}
 use Rattle.pv_law_hosted.proofs.AgreeLemmas.{last-world}
 use Rattle.pv_law_hosted.proofs.ClaimLemmas.{bad-left, journal-left}
+use Rattle.pv_law_hosted.proofs.GrownLemmas.{narrow-grown, promised-below}
 use Rattle.pv_law_hosted.proofs.NarrowLemmas.{left-narrow, narrow-raised}
+use Rattle.pv_law_hosted.proofs.OutcomeLemmas.{world-reached}
 use Rattle.pv_law_hosted.proofs.left_files_are_read.Goals as goal
 use Rattle.pv_law_hosted.specs.Deployment.{station_at}
 use Rattle.pv_law_hosted.specs.Mirrored.{world_of}
@@ -50,3 +52,18 @@ returns-clause-raised c config later_config schedule later limit d events n coun
     refused.3.0 refused.3.2.0 count refused.3.1 refused.3.2.1 (ap (λ (s : Schedule). too_many_in s.catalog n refused.3.2.0) same ∙ refused.3.2.2)
     site (c.mirrored_deployments_agree.ensures.file setup d events n mirrored below gone)
     (subst (λ (catalog : Declared). IsNarrow HELD_NAMES catalog n site.records) (sym is) (narrow-raised schedule.catalog limit n site.records found.narrow))
+
+pub returns-clause-grown : goal.returns-clause-grown
+returns-clause-grown c config later_config schedule later d events n count configured raised grown mirrored below gone refused =
+    let setup = setup_of schedule.catalog in
+    let now = world_of setup events in
+    let worlds =
+    c.starts_find_sound_records.ensures.run setup events (c.schedules_are_in_range.ensures config schedule READ_NAMES HELD_NAMES configured.0 (omega arith) (omega arith)) mirrored.well in
+    let found = last-world (AreReplayable setup) (opening setup) (run setup (opening setup) events) worlds n below in
+    let coherent = c.locks_are_coherent.ensures setup now (world-reached setup events (c.runs_are_reached.ensures.run setup events mirrored.well)) in
+    let site = site_at now n in
+    let same = c.one_schedule.ensures later_config later refused.0 raised.0 refused.1.0 in
+    left-narrow (λ bytes contents others first other. (c.one_journal.ensures bytes).one_value contents others first other) later.catalog n (station_at d n).file
+    refused.3.0 refused.3.2.0 count refused.3.1 refused.3.2.1 (ap (λ (s : Schedule). too_many_in s.catalog n refused.3.2.0) same ∙ refused.3.2.2)
+    site (c.mirrored_deployments_agree.ensures.file setup d events n mirrored below gone)
+    (narrow-grown schedule.catalog later.catalog grown n site.records found.narrow (promised-below setup now n coherent))

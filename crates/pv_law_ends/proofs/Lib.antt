@@ -1,0 +1,4 @@
+mod LineEnds
+pub mod Pairs
+mod RunEnds
+mod StepEnds

@@ -1,0 +1,62 @@
+use Rattle.pv_law_hosted.proofs.AloneLemmas.{keeps-file, mirrored-file, never-other, still-known}
+use Rattle.pv_law_hosted.proofs.HappensLemmas.{Laws}
+use Rattle.pv_law_hosted.proofs.told_commits_are_kept.Goals as goal
+
+pub returns-clause-mirrored : goal.returns-clause-mirrored
+returns-clause-mirrored c = mirrored-file
+
+pub returns-clause-goes_on : goal.returns-clause-goes_on
+returns-clause-goes_on c = keeps-file record {
+  tells = c.logs_tell_of_records.ensures.size;
+  one_record = c.one_record.ensures;
+  one_journal = λ bytes contents others first other. (c.one_journal.ensures bytes).one_value contents others first other;
+  one_schedule = c.one_schedule.ensures;
+  new_numbers = c.no_txn_is_begun_twice.ensures.run;
+  journals = c.files_are_journals.ensures.journals;
+  keeps = c.files_are_journals.ensures.keeps;
+  opened = c.files_hold_what_was_let_out.ensures.opened;
+  stepped = c.files_hold_what_was_let_out.ensures.stepped;
+  stayed = c.files_hold_what_was_let_out.ensures.stayed;
+  asked = c.files_hold_what_was_let_out.ensures.asked;
+  written = c.files_hold_what_was_let_out.ensures.written;
+  idle = c.files_hold_what_was_let_out.ensures.idle;
+  crashed = c.files_hold_what_was_let_out.ensures.crashed;
+}
+
+pub returns-clause-kept : goal.returns-clause-kept
+returns-clause-kept c n first last site new later txn has here told goes_on there =
+    still-known record {
+      tells = c.logs_tell_of_records.ensures.size;
+      one_record = c.one_record.ensures;
+      one_journal = λ bytes contents others first other. (c.one_journal.ensures bytes).one_value contents others first other;
+      one_schedule = c.one_schedule.ensures;
+      new_numbers = c.no_txn_is_begun_twice.ensures.run;
+      journals = c.files_are_journals.ensures.journals;
+      keeps = c.files_are_journals.ensures.keeps;
+      opened = c.files_hold_what_was_let_out.ensures.opened;
+      stepped = c.files_hold_what_was_let_out.ensures.stepped;
+      stayed = c.files_hold_what_was_let_out.ensures.stayed;
+      asked = c.files_hold_what_was_let_out.ensures.asked;
+      written = c.files_hold_what_was_let_out.ensures.written;
+      idle = c.files_hold_what_was_let_out.ensures.idle;
+      crashed = c.files_hold_what_was_let_out.ensures.crashed;
+    } n first last site new later txn has here told goes_on there
+
+pub returns-clause-told : goal.returns-clause-told
+returns-clause-told c n first last site new later again txn has here told goes_on there other =
+    never-other record {
+      tells = c.logs_tell_of_records.ensures.size;
+      one_record = c.one_record.ensures;
+      one_journal = λ bytes contents others first other. (c.one_journal.ensures bytes).one_value contents others first other;
+      one_schedule = c.one_schedule.ensures;
+      new_numbers = c.no_txn_is_begun_twice.ensures.run;
+      journals = c.files_are_journals.ensures.journals;
+      keeps = c.files_are_journals.ensures.keeps;
+      opened = c.files_hold_what_was_let_out.ensures.opened;
+      stepped = c.files_hold_what_was_let_out.ensures.stepped;
+      stayed = c.files_hold_what_was_let_out.ensures.stayed;
+      asked = c.files_hold_what_was_let_out.ensures.asked;
+      written = c.files_hold_what_was_let_out.ensures.written;
+      idle = c.files_hold_what_was_let_out.ensures.idle;
+      crashed = c.files_hold_what_was_let_out.ensures.crashed;
+    } n first last site new later txn has here told goes_on there again other
