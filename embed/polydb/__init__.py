@@ -1,6 +1,6 @@
 """polydb in a Python program.
 
-`World`, `Site` and `run` are the calls of the library (`polydb.engine`). `FileHost` is a site on a folder: it locks it, writes and syncs the site's
+`World`, `Site`, `Outbox` and `run` are the calls of the library (`polydb.engine`). `FileHost` is a site on a folder: it locks it, writes and syncs the site's
 journal there, and hands over what the site lets out (`polydb.files`). `polydb.node` has `Node`, which talks with the sites of other processes by asyncio and ZeroMQ; its answers are
 `Commit`, `Refusal` and `Item`.
 """

@@ -1,10 +1,10 @@
 """polydb in a Python program, by ctypes.
 
 `World` is a database of up to 16 sites that one program drives event by event. `Site` is one site, for a program that carries its
-messages and writes its journal. `run` gives what `polydb run` prints for a whole schedule, with its status. What each call does is written in
+messages and writes its journal. `Outbox` holds outputs back until outcomes are known, and lets each out at most once. `run` gives what `polydb run` prints for a whole schedule, with its status. What each call does is written in
 `polydb.h`, and what a host owes.
 
-A status other than POLYDB_DONE is raised here as an exception of its own, and leaves the world or site as it was. But POLYDB_NOTHING is None;
+A status other than POLYDB_DONE is raised here as an exception of its own, and leaves the world, site or outbox as it was. But POLYDB_NOTHING is None;
 POLYDB_TOO_SMALL is never seen, as the call is made again with more room; `run` raises nothing, and gives its status; and SentLimit and BrokenOff
 end the world: it takes no more steps, and what it has printed can still be taken.
 
@@ -23,6 +23,7 @@ from typing import Any, Callable, List, NamedTuple, Optional, Tuple, Union
 
 __all__ = [
     "EMPTY_JOURNAL",
+    "MAX_CASES",
     "MAX_INPUT",
     "MAX_ITEMS",
     "MAX_JOURNAL",
@@ -35,7 +36,9 @@ __all__ = [
     "Output",
     "World",
     "Site",
+    "Outbox",
     "Info",
+    "JournalInfo",
     "JournalWrite",
     "Message",
     "Outcome",
@@ -70,6 +73,9 @@ __all__ = [
     "NotOneEvent",
     "BrokenOff",
     "Ended",
+    "Again",
+    "Known",
+    "BadCases",
 ]
 
 _DONE = 0
@@ -78,7 +84,7 @@ _NOTHING = 19
 _NOT_GROWN = 38
 _REPORT = 255
 
-#: The file of a new site: a journal without records.
+#: The file of a new site or outbox: a journal without records.
 EMPTY_JOURNAL = b"PVJRNL01\0"
 
 #: How much there may be: sites, and items of a configuration.
@@ -88,6 +94,8 @@ MAX_ITEMS = 1024
 MAX_NAME = 16
 MAX_PROGRAM = 1000
 MAX_PROGRAM_ITEMS = 16
+#: Bytes of the condition of an output.
+MAX_CASES = 1000
 #: Bytes of a configuration, of a schedule, and of a catalog and a line together.
 MAX_INPUT = 16_777_216
 #: Bytes of a message.
@@ -128,11 +136,11 @@ class SentLimit(PolydbError):
 
 
 class Closed(PolydbError):
-    """The world or site is closed."""
+    """The world, site or outbox is closed."""
 
 
 class InUse(PolydbError):
-    """The world or site is open already."""
+    """The world, site or outbox is open already."""
 
 
 class HasEvents(PolydbError, ValueError):
@@ -160,7 +168,7 @@ class EpochsSpent(PolydbError):
 
 
 class Full(PolydbError):
-    """The journal has no room for the record of the new epoch."""
+    """The journal has no room for one more record: in a site's opening for that of the new epoch."""
 
 
 class BadText(PolydbError, ValueError):
@@ -184,7 +192,7 @@ class NoSender(PolydbError):
 
 
 class NotNext(PolydbError):
-    """That isn't what the site has asked to be written."""
+    """That isn't what is to be written next."""
 
 
 class UnknownName(PolydbError, KeyError):
@@ -192,7 +200,7 @@ class UnknownName(PolydbError, KeyError):
 
 
 class Unwritten(PolydbError):
-    """Records wait to be written into the file. What the item shows may rest on them, and a crash may undo it."""
+    """Records wait to be written into the file. What would be shown or told may rest on them, and a crash may undo it."""
 
 
 class NotOneEvent(PolydbError, ValueError):
@@ -205,6 +213,20 @@ class BrokenOff(PolydbError, MemoryError):
 
 class Ended(PolydbError):
     """The world takes no more steps."""
+
+
+class Again(PolydbError):
+    """The output was held before."""
+
+
+class Known(PolydbError):
+    """An outcome of the transaction was learnt before: `outcome`, which counts."""
+
+    outcome: "Outcome"
+
+
+class BadCases(PolydbError, ValueError):
+    """The text is no condition."""
 
 
 _ERRORS = {
@@ -232,6 +254,9 @@ _ERRORS = {
     35: BrokenOff,
     36: Ended,
     37: Unwritten,
+    39: Again,
+    40: Known,
+    41: BadCases,
 }
 
 
@@ -249,6 +274,12 @@ class _Info(ctypes.Structure):
     """How far a site is, as C has it."""
 
     _fields_ = [("stored", c_uint64), ("asked", c_uint64), ("limit", c_uint64), ("epoch", c_uint32)]
+
+
+class _JournalInfo(ctypes.Structure):
+    """How far an outbox is, as C has it."""
+
+    _fields_ = [("stored", c_uint64), ("asked", c_uint64), ("limit", c_uint64)]
 
 
 def _check(status: int, what: str, fault: Optional[_Fault] = None) -> None:
@@ -316,6 +347,15 @@ _site_outcome = _declare("polydb_site_outcome", _handle, c_uint8, c_uint32, c_ui
 _site_info = _declare("polydb_site_info", _handle, POINTER(_Info))
 _site_item = _declare("polydb_site_item", _handle, c_uint64, _out, c_size_t, _size, _place)
 _site_close = _declare("polydb_site_close", _handle, result=None)
+_outbox_open = _declare("polydb_outbox_open", _handle, c_char_p, c_size_t, _fault)
+_outbox_hold = _declare("polydb_outbox_hold", _handle, c_uint32, c_char_p, c_size_t)
+_outbox_learn = _declare("polydb_outbox_learn", _handle, c_uint8, c_uint32, c_uint32, c_bool, POINTER(c_uint32))
+_outbox_release = _declare("polydb_outbox_release", _handle)
+_outbox_take = _declare("polydb_outbox_take", _handle, POINTER(c_uint32))
+_outbox_take_journal = _declare("polydb_outbox_take_journal", _handle, _out, c_size_t, _size, _place)
+_outbox_journal_synced = _declare("polydb_outbox_journal_synced", _handle, c_uint64, c_size_t)
+_outbox_info = _declare("polydb_outbox_info", _handle, POINTER(_JournalInfo))
+_outbox_close = _declare("polydb_outbox_close", _handle, result=None)
 
 
 def _raw(data: Bytes) -> bytes:
@@ -370,13 +410,13 @@ def status_text(status: int) -> Optional[str]:
 
 
 class _Open:
-    """What worlds and sites have in common: a handle, which is closed at the end of a `with` and when nothing refers to it.
+    """What worlds, sites and outboxes have in common: a handle, which is closed at the end of a `with` and when nothing refers to it.
 
     A handle is used by one call of the library at a time, also where several threads share it: the others wait. What follows from that:
 
     - A signal handler that calls an object within a call of the same object waits for ever. It should note the signal, and leave the call to the program.
     - The `take` of a world, and where a buffer is too small that of a site, `next_write` and `read`, call the library twice or more, and a call of another
-      thread may come in between. Two threads that both take from one world or site each get some of what there is, in no order between them.
+      thread may come in between. Two threads that both take from one world, site or outbox each get some of what there is, in no order between them.
     """
 
     _close_call: Any = None
@@ -405,13 +445,13 @@ class _Open:
 
     # A copy of a handle would be freed twice.
     def __copy__(self) -> Any:
-        raise TypeError("a world or site can't be copied")
+        raise TypeError("a world, site or outbox can't be copied")
 
     def __deepcopy__(self, _: object) -> Any:
-        raise TypeError("a world or site can't be copied")
+        raise TypeError("a world, site or outbox can't be copied")
 
     def __reduce__(self) -> Any:
-        raise TypeError("a world or site can't be pickled")
+        raise TypeError("a world, site or outbox can't be pickled")
 
 
 class World(_Open):
@@ -443,7 +483,7 @@ class World(_Open):
 
 
 class JournalWrite(NamedTuple):
-    """What is to be written next into a site's journal: these bytes, from this place on."""
+    """What is to be written next into the journal of a site or an outbox: these bytes, from this place on."""
 
     place: int
     bytes: bytes
@@ -483,11 +523,28 @@ class Info(NamedTuple):
     epoch: Optional[int]
 
 
+class JournalInfo(NamedTuple):
+    """How far an outbox is: bytes of its journal in the file, as many as there are once all is written, as many as there may be."""
+
+    stored: int
+    asked: int
+    limit: int
+
+
 class Placed(NamedTuple):
     """An item of the configuration, and the site that it is at."""
 
     name: str
     site: int
+
+
+def _numbers_of(transaction: str) -> Tuple[int, int, int]:
+    """The three numbers of a transaction's name, `0.1.0`. The first has eight bits in C, and the others have 32."""
+    words = transaction.split(".")
+    if len(words) != 3 or not all(word.isascii() and word.isdigit() and int(word) < 1 << 32 for word in words) or int(words[0]) > 255:
+        raise ValueError(f"no transaction: {transaction}")
+    site, epoch, number = map(int, words)
+    return site, epoch, number
 
 
 class Site(_Open):
@@ -555,10 +612,7 @@ class Site(_Open):
 
     def outcome(self, transaction: str) -> Optional[Outcome]:
         """What became of a transaction of this site, `0.1.0`, once all is written; None where the site may still give its number to one."""
-        words = transaction.split(".")
-        if len(words) != 3 or not all(word.isascii() and word.isdigit() and int(word) < 1 << 32 for word in words) or int(words[0]) > 255:
-            raise ValueError(f"no transaction: {transaction}")
-        site, epoch, number = map(int, words)
+        site, epoch, number = _numbers_of(transaction)
         outcome = c_uint32(0)
         status = self._call(_site_outcome, site, epoch, number, byref(outcome))
         if status == _NOTHING:
@@ -582,3 +636,75 @@ class Site(_Open):
                 return items
             _check(status, "items")
             items.append(Placed(name.decode(), at.value))
+
+
+class Outbox(_Open):
+    """Outputs that are held back until outcomes are known, and let out at most once, for a host that writes their journal.
+
+    An output is a number of the caller's for an effect on the outside. It is ready once its condition is certain to be 1, whatever comes of transactions whose outcome wasn't learnt.
+    `docs/OUTBOXES.md` says what at most once leaves to the caller.
+    """
+
+    _close_call = staticmethod(_outbox_close)
+
+    def __init__(self, journal: Bytes) -> None:
+        """An outbox that goes on from what the host's file holds: EMPTY_JOURNAL in a new one's, which the host has made and synced."""
+        super().__init__()
+        journal = _raw(journal)
+        fault = _Fault()
+        _check(self._call(_outbox_open, journal, len(journal), byref(fault)), "open", fault)
+
+    def hold(self, output: int, cases: Text = "1") -> None:
+        """Holds an output, from 0 to 2**32 - 1, back under a condition: `1`, or cases as an item shows them, `0 if -0.1.0 ; 1 if +0.1.0`. It is held for good once its record is in the
+        file. An output that was held before is Again, whether it was released since or not."""
+        if not 0 <= output < 1 << 32:  # in C it has 32 bits, and the rest would be cut off
+            raise ValueError(f"hold: an output is from 0 to 2**32 - 1 ({output})")
+        text = _bytes(cases)
+        _check(self._call(_outbox_hold, output, text, len(text)), "hold")
+
+    def learn(self, transaction: str, commits: bool) -> None:
+        """Learns whether a transaction, `0.1.0`, commits. It is learnt for good once its record is in the file. Where an outcome was learnt before it is Known, with that `outcome`,
+        whichever is told now."""
+        site, epoch, number = _numbers_of(transaction)
+        outcome = c_uint32(0)
+        try:
+            _check(self._call(_outbox_learn, site, epoch, number, commits, byref(outcome)), "learn")
+        except Known as known:
+            known.outcome = Outcome(outcome.value)
+            raise
+
+    def release(self) -> bool:
+        """Releases the ready output that was held first, and gives whether there was one. Its record is to be written; once it is in the file, `take` gives the output."""
+        status: int = self._call(_outbox_release)
+        if status != _NOTHING:
+            _check(status, "release")
+        return status == _DONE
+
+    def take(self) -> Optional[int]:
+        """The next output that was released since the opening, once the record of its release is in the file; or None where all are taken. Its effect may be done now, and never
+        before. One that isn't taken before the outbox is closed, or its process killed, never is."""
+        output = c_uint32(0)
+        status = self._call(_outbox_take, byref(output))
+        if status == _NOTHING:
+            return None
+        _check(status, "take")
+        return output.value
+
+    def next_write(self) -> Optional[JournalWrite]:
+        """What is to be written next into the journal, or None, as of a site."""
+        place = c_uint64(0)
+        status, data = _fill(lambda out, room, written: self._call(_outbox_take_journal, out, room, written, byref(place)), _WRITE_ROOM)
+        if status == _NOTHING:
+            return None
+        _check(status, "next_write")
+        return JournalWrite(place.value, data)
+
+    def written(self, write: JournalWrite) -> None:
+        """This has been written, and the file was synced."""
+        _check(self._call(_outbox_journal_synced, write.place, len(write.bytes)), "written")
+
+    def info(self) -> JournalInfo:
+        """How far the outbox is. What was held, learnt or released while `asked` was some number is in the file once `stored` is no less."""
+        info = _JournalInfo()
+        _check(self._call(_outbox_info, byref(info)), "info")
+        return JournalInfo(info.stored, info.asked, info.limit)

@@ -1,4 +1,5 @@
 pub mod CertainLemmas
 pub mod ExampleLemmas
+pub mod ReadyLemmas
 pub mod RunLemmas
 pub mod StateLemmas

@@ -3,6 +3,7 @@ use Rattle.std.proofs.Common.{◌≡◌, ℕ, ℤ, Bool, true, false, Some, List
 use Rattle.std.specs.Prelude.{◌≢◌, All}
 use Rattle.std.specs.List.{AllPairs}
 use Rattle.std.proofs.lemmas.Bool.{true≢false}
+use Rattle.std.proofs.lemmas.List.{append_assoc}
 use Rattle.std.proofs.lemmas.List.Elements.{All-cons, All-nil}
 use Rattle.std.proofs.lemmas.List.Kept.{AllPairs-cons}
 use Rattle.pv_base.specs.Polyvalue.{Case}
@@ -102,6 +103,11 @@ gone-once old (event ∷ events) new run =
     (λ output is. never-again run.0 events new run.2 output is)
     (gone-once run.0 events new run.2)
     (go-by old event run.0 (gone events) run.1)
+
+pub gone-append : (events more : List Event) → gone (events ++ more) ≡ gone events ++ gone more
+gone-append [] more = refl
+gone-append (event ∷ events) more =
+    ap (λ (rest : List ℕ). gone_by event ++ rest) (gone-append events more) ∙ sym (append_assoc (gone_by event) (gone events) (gone more))
 
 -- A run in two parts, at an event.
 

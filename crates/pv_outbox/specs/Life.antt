@@ -1,11 +1,12 @@
 -- The life of outboxes, one after another on what one log holds: calls, stops at any moment, and openings on what a stop left.
-use Rattle.std.specs.Prelude.{◌≡◌, ◌⊎◌, ℕ, ℤ, Bool, true, false, List, [], ◌∷◌, ◌++◌, Option, Some, None, Result, Ok, Err, ⊤}
+use Rattle.std.specs.Prelude.{◌≡◌, ◌≢◌, ◌⊎◌, ℕ, ℤ, Bool, true, false, List, [], ◌∷◌, ◌++◌, Option, Some, None, Result, Ok, Err, All, ⊤}
 use Rattle.pv_base.specs.Polyvalue.{Case}
 use Rattle.pv_base.specs.declared.txn.TxnId.{TxnId}
 use Rattle.pv_disk_model.specs.LogModel.{LogModel}
 use Rattle.pv_disk_model.specs.Size.{Contents}
+use Rattle.pv_law_outbox.specs.Ready.{IsNext}
 use Rattle.pv_law_outbox.specs.Runs.{Event, holds, holds_already, learns, knows_already, releases, has_none, breaks, passes}
-use Rattle.pv_law_outbox.specs.State.{Record, held, learnt, taken}
+use Rattle.pv_law_outbox.specs.State.{Record, held, learnt, taken, state_of}
 use Rattle.pv_outbox.specs.Calls.{Holds, Learns, Takes}
 use Rattle.pv_outbox.specs.Opens.{Opens, log_in}
 use Rattle.pv_outbox.specs.OutboxState.{OutboxState, IsUsable, StandsFor}
@@ -142,3 +143,15 @@ answered_by _ = []
 abbrev pub answered : List Act → List ℕ
 answered [] = []
 answered (act ∷ acts) = answered_by act ++ answered acts
+
+-- A `take` stops at some moment, or its log fails.
+abbrev pub IsStoppedTake : Act → Type 0
+IsStoppedTake (cuts (take answer)) = ⊤
+IsStoppedTake (answers (take (Err Failed))) = ⊤
+IsStoppedTake _ = ⊥
+
+-- Of a `take` that stopped, between these acts: nothing is written, or the record of the ready output that was held first. Then that output is answered neither before nor since.
+abbrev pub IsTakenOrNot : List Record → List Record → List Act → List Act → Type 0
+IsTakenOrNot old new before since =
+    (new ≡ old)
+    ⊎ ((output : ℕ) × IsNext (state_of old) output × (new ≡ old ++ taken output ∷ []) × All (λ other. output ≢ other) (answered before) × All (λ other. output ≢ other) (answered since))

@@ -15,6 +15,7 @@ mod writing;
 
 pub use error::{BoxError, OpenOutbox};
 pub use laws::{
-    a_stop_leaves_the_record_or_not, contents_tell_records, lives_are_runs, records_follow_calls,
+    a_stop_leaves_the_record_or_not, contents_tell_records, lives_are_runs,
+    none_comes_where_none_is_ready, records_follow_calls,
 };
 pub use outbox::Outbox;

@@ -4,7 +4,7 @@ use Rattle.std.specs.Prelude.{◌≢◌, All, if◌then◌else◌}
 use Rattle.std.specs.List.{AllPairs}
 use Rattle.std.proofs.lemmas.Bool.{true≢false}
 use Rattle.std.proofs.lemmas.List.{append_assoc}
-use Rattle.std.proofs.lemmas.List.Elements.{All-cons, All-nil}
+use Rattle.std.proofs.lemmas.List.Elements.{All-cons, All-head, All-nil, All-tail}
 use Rattle.std.proofs.lemmas.List.Kept.{AllPairs-cons}
 use Rattle.pv_base.specs.Polyvalue.{Case}
 use Rattle.pv_base.specs.declared.txn.TxnId.{TxnId}
@@ -12,6 +12,7 @@ use Rattle.pv_law_outbox.specs.Ready.{IsNext, NoneReady}
 use Rattle.pv_law_outbox.specs.Runs as law
 use Rattle.pv_law_outbox.specs.Runs.{Happens, IsKept, IsWritten, MayWrite, breaks, has_none, holds, holds_already, knows_already, learns, passes, releases}
 use Rattle.pv_law_outbox.specs.State.{Record, held, learnt, taken, State, condition_of, is_taken, outcome_of, state_of}
+use Rattle.pv_law_outbox.proofs.ReadyLemmas.{next-none}
 use Rattle.pv_law_outbox.proofs.RunLemmas.{kept-by}
 use Rattle.pv_law_outbox.proofs.StateLemmas.{after-held, after-learnt, after-taken, kept-refl, kept-trans, state_of-last}
 use Rattle.pv_moored.specs.Reached.{Reached, reached, waits, fires}
@@ -171,6 +172,41 @@ never-run (event ∷ events) old new says runs output is =
     (never-by old runs.0 runs.1 runs.2 step output is
     (never-run events runs.0 new runs.2 runs.5 output ((kept-by old.entries step.event runs.0.entries step.happens).taken output is)) step.part))
 
+-- What events release is released by their end.
+module _ (old mid last : Box) (first later : List Told) (step : IsStep old mid first) where
+  taken-by : All (λ output. is_taken (state_of last.entries) output ≡ true) (outs later) → IsKept (state_of mid.entries) (state_of last.entries)
+      → (outs first ≡ []) ⊎ ((output : ℕ) × (outs first ≡ output ∷ []) × (step.event ≡ releases output))
+      → All (λ output. is_taken (state_of last.entries) output ≡ true) (outs first ++ outs later)
+  taken-by rest kept (inl none) = subst (λ (front : List ℕ). All (λ output. is_taken (state_of last.entries) output ≡ true) (front ++ outs later)) (sym none) rest
+  taken-by rest kept (inr (output, one, released)) =
+      subst (λ (front : List ℕ). All (λ other. is_taken (state_of last.entries) other ≡ true) (front ++ outs later)) (sym one)
+      (All-cons (λ other. is_taken (state_of last.entries) other ≡ true) output (outs later)
+      (kept.taken output (then-taken old mid output (subst (λ (e : law.Event). Happens old.entries e mid.entries) released step.happens))) rest)
+
+taken-run : (events : List Event) (old new : Box) (says : List Told) → Runs old events says new → All (λ output. is_taken (state_of new.entries) output ≡ true) (outs says)
+taken-run [] old new says runs =
+    subst (λ (lines : List Told). All (λ output. is_taken (state_of new.entries) output ≡ true) (outs lines)) (sym runs.0)
+    (All-nil (λ output. is_taken (state_of new.entries) output ≡ true))
+taken-run (event ∷ events) old new says runs =
+    let step = step-of old event runs.1 runs.0 runs.4 in
+    subst (λ (lines : List Told). All (λ output. is_taken (state_of new.entries) output ≡ true) (outs lines)) (sym runs.3)
+    (subst (λ (all : List ℕ). All (λ output. is_taken (state_of new.entries) output ≡ true) all) (sym (outs-append runs.1 runs.2))
+    (taken-by old runs.0 new runs.1 runs.2 step (taken-run events runs.0 new runs.2 runs.5) (kept-run events runs.0 new runs.2 runs.5) step.part))
+
+apart-from : (state : State) (output : ℕ) → is_taken state output ≡ false → (others : List ℕ) → All (λ other. is_taken state other ≡ true) others
+    → All (λ other. output ≢ other) others
+apart-from state output un [] all = All-nil (λ other. output ≢ other)
+apart-from state output un (other ∷ others) all =
+    All-cons (λ another. output ≢ another) other others
+    (λ same. true≢false (sym (All-head (λ another. is_taken state another ≡ true) other others all) ∙ sym (ap (is_taken state) same) ∙ un))
+    (apart-from state output un others (All-tail (λ another. is_taken state another ≡ true) other others all))
+
+-- What is ready after some events wasn't released by them.
+next-never : (events : List Event) (old new : Box) (says : List Told) → Runs old events says new → (output : ℕ) → IsNext (state_of new.entries) output → IsNever output says
+next-never events old new says runs output next =
+    apart-from (state_of new.entries) output (subst (λ (o : ℕ). is_taken (state_of new.entries) o ≡ false) next.output_is next.ready.untaken) (outs says)
+    (taken-run events old new says runs)
+
 none-once : AreOnce []
 none-once = λ i j d below within. absurd (omega (arith, within))
 
@@ -238,7 +274,19 @@ module _ (old new : Box) where
   pub none-take : Does old Take (told.Nothing ∷ []) new → NoneReady (state_of old.entries) (state_of old.entries).held
   none-take does = none-by old.is_up does
 
-  taken-left : (left : Bool) (output : ℕ) → IsNext (state_of old.entries) output → new.entries ≡ (if left then old.entries ++ taken output ∷ [] else old.entries) → IsTakenOrNot old new
+  told-up : (says : List Told) → NoneReady (state_of old.entries) (state_of old.entries).held → DoesUp old Take says new → (says ≡ told.Nothing ∷ []) × (new ≡ old)
+  told-up says none (inl is) = is.1
+  told-up says none (inr (output, next, comes)) = absurd (next-none (state_of old.entries) output none next)
+
+  -- Where none is ready it is told of an outbox that is up.
+  pub none-told : (says : List Told) → old.is_up ≡ true → NoneReady (state_of old.entries) (state_of old.entries).held → Does old Take says new → (says ≡ told.Nothing ∷ []) × (new ≡ old)
+  none-told says up none does = told-up says none (subst (λ (is : Bool). MatchBool is (DoesUp old Take says new) (DoesDown old Take says new)) up does)
+
+  -- The record of the ready output stands, or nothing is written.
+  abbrev IsLeftOrNot : Type 0
+  IsLeftOrNot = (output : ℕ) × IsNext (state_of old.entries) output × ((new.entries ≡ old.entries ++ taken output ∷ []) ⊎ (new.entries ≡ old.entries))
+
+  taken-left : (left : Bool) (output : ℕ) → IsNext (state_of old.entries) output → new.entries ≡ (if left then old.entries ++ taken output ∷ [] else old.entries) → IsLeftOrNot
   taken-left true output next is = (output, next, inl is)
   taken-left false output next is = (output, next, inr is)
 
@@ -248,24 +296,41 @@ module _ (old new : Box) where
   quiet-broke false said is = (λ output tells. let wrong : ⊥ = cc in wrong, λ count tells. let wrong : ⊥ = cc in wrong)
 
   stopped-append : (r : Reached) (stops : Bool) (output : ℕ) → IsNext (state_of old.entries) output → (said : Told) → broke stops ∷ [] ≡ said ∷ []
-      → AppendsBy r old (taken output) (told.Out output) said new → IsTakenOrNot old new
+      → AppendsBy r old (taken output) (told.Out output) said new → IsLeftOrNot
   stopped-append (waits rest) stops output next said is comes = absurd ((quiet-broke stops said is).0 output comes.0)
   stopped-append (fires arm) stops output next said is comes = taken-left (is_left_by arm) output next (ap (λ (box : Box). box.entries) comes.1)
 
-  stopped-up : (stops : Bool) → DoesUp old Take (broke stops ∷ []) new → IsTakenOrNot old new
+  stopped-up : (stops : Bool) → DoesUp old Take (broke stops ∷ []) new → IsLeftOrNot
   stopped-up true (inl none) = let tells : told.Stopped ∷ [] ≡ told.Nothing ∷ [] = none.1.0 in absurd (let wrong : ⊥ = cc in wrong)
   stopped-up false (inl none) = let tells : told.Fault ∷ [] ≡ told.Nothing ∷ [] = none.1.0 in absurd (let wrong : ⊥ = cc in wrong)
   stopped-up stops (inr (output, next, (said, is, (count, long, inl comes)))) = stopped-append (reached 4 old.armed) stops output next said is comes.1
   stopped-up stops (inr (output, next, (said, is, (count, long, inr full)))) = absurd ((quiet-broke stops said is).1 count full.1)
 
-  stopped-by : (up stops : Bool) → MatchBool up (DoesUp old Take (broke stops ∷ []) new) (DoesDown old Take (broke stops ∷ []) new) → IsTakenOrNot old new
+  stopped-by : (up stops : Bool) → MatchBool up (DoesUp old Take (broke stops ∷ []) new) (DoesDown old Take (broke stops ∷ []) new) → IsLeftOrNot
   stopped-by true stops does = stopped-up stops does
   stopped-by false true does = let tells : told.Stopped ∷ [] ≡ told.Down ∷ [] = does.0 in absurd (let wrong : ⊥ = cc in wrong)
   stopped-by false false does = let tells : told.Fault ∷ [] ≡ told.Down ∷ [] = does.0 in absurd (let wrong : ⊥ = cc in wrong)
 
   -- After a `take` that stopped or failed the record stands or it doesn't.
-  pub stopped-take : (stops : Bool) → Does old Take (broke stops ∷ []) new → IsTakenOrNot old new
+  stopped-take : (stops : Bool) → Does old Take (broke stops ∷ []) new → IsLeftOrNot
   stopped-take stops does = stopped-by old.is_up stops does
+
+  module _ (first last : Box) (before since : List Event) (earlier later : List Told) (ran : Runs first before earlier old) (runs : Runs new since later last) where
+    left-nowhere : (output : ℕ) → IsNext (state_of old.entries) output → new.entries ≡ old.entries ++ taken output ∷ [] → IsNever output later
+    left-nowhere output next written = never-run since new last later runs output (then-taken old new output (record { may = next; written = written }))
+
+    stopped-with : IsLeftOrNot → IsTakenOrNot old new earlier later
+    stopped-with (output, next, inl written) = record {
+      output = output;
+      next = next;
+      before = next-never before first old earlier ran output next;
+      since = inl (written, left-nowhere output next written);
+    }
+    stopped-with (output, next, inr same) = record { output = output; next = next; before = next-never before first old earlier ran output next; since = inr same }
+
+    -- And where it does, the output is released nowhere in the run.
+    pub stopped-nowhere : (stops : Bool) → Does old Take (broke stops ∷ []) new → IsTakenOrNot old new earlier later
+    stopped-nowhere stops does = stopped-with (stopped-take stops does)
 
   -- A call that is answered has written its record.
   module _ (entry : Record) (answer said : Told) (distinct : ((stops : Bool) → answer ≡ broke stops → ⊥) × ((count : ℕ) → answer ≡ told.Full count → ⊥)) (is : answer ∷ [] ≡ said ∷ []) where

@@ -31,9 +31,13 @@ AreOnce says = AllPairs (λ output later. output ≢ later) (outs says)
 abbrev pub IsNever : ℕ → List Told → Type 0
 IsNever output says = All (λ other. output ≢ other) (outs says)
 
--- After a `take` that stopped or failed the record of the ready output stands, or nothing is written.
-abbrev pub IsTakenOrNot : Box → Box → Type 0
-IsTakenOrNot old new = (output : ℕ) × IsNext (state_of old.entries) output × ((new.entries ≡ old.entries ++ taken output ∷ []) ⊎ (new.entries ≡ old.entries))
+-- Of a `take` that stopped or failed, between these lines: no line before it releases the ready output that was held first. Its record stands, and then no line behind it does either, or nothing is
+-- written.
+pub record IsTakenOrNot (old new : Box) (earlier later : List Told) : Type 0 where
+  pub output : ℕ
+  pub next : IsNext (state_of old.entries) output
+  pub before : IsNever output earlier
+  pub since : ((new.entries ≡ old.entries ++ taken output ∷ []) × IsNever output later) ⊎ (new.entries ≡ old.entries)
 
 -- What is promised of every run, with stops and faults in whatever writes and syncs.
 pub record KeepsOutputs : Type 0 where
@@ -46,8 +50,12 @@ pub record KeepsOutputs : Type 0 where
   pub ready : (old new : Box) (output : ℕ) → Does old Take (Out output ∷ []) new → IsNext (state_of old.entries) output
   -- Where it is told that there is none, none is ready.
   pub none : (old new : Box) → Does old Take (Nothing ∷ []) new → NoneReady (state_of old.entries) (state_of old.entries).held
-  -- After a `take` that stopped or failed the record of the ready output stands, or nothing was written.
-  pub stopped : (old new : Box) (stops : Bool) → Does old Take (broke stops ∷ []) new → IsTakenOrNot old new
+  -- And where none is ready an outbox that is up tells just that, and nothing changes.
+  pub none_ready : (old new : Box) (says : List Told) → old.is_up ≡ true → NoneReady (state_of old.entries) (state_of old.entries).held → Does old Take says new
+      → (says ≡ Nothing ∷ []) × (new ≡ old)
+  -- A `take` that stopped or failed has its record or not, and where it has, that output is released nowhere in the run.
+  pub stopped : (first old new last : Box) (before since : List Event) (earlier later : List Told) (stops : Bool) → Runs first before earlier old
+      → Does old Take (broke stops ∷ []) new → Runs new since later last → IsTakenOrNot old new earlier later
   -- What was held and learnt is said to the end.
   pub held : (old next new : Box) (output : ℕ) (when : List (Case ℤ)) (events : List Event) (says : List Told) → Does old (Hold output when) (Held output ∷ []) next
       → Runs next events says new → condition_of (state_of new.entries) output ≡ Some when

@@ -1,6 +1,6 @@
 //! The calls of `polydb.h`.
 
-use crate::{Fault, Handle, Told};
+use crate::{Fault, Handle, JournalInfo, Told};
 
 #[link(name = "polydb", kind = "static")]
 extern "C" {
@@ -81,6 +81,38 @@ extern "C" {
         at: *mut u64,
     ) -> u32;
     pub fn polydb_site_close(site: *mut Handle);
+    pub fn polydb_outbox_open(
+        outbox: *mut Handle,
+        journal: *const u8,
+        journal_length: usize,
+        fault: *mut Fault,
+    ) -> u32;
+    pub fn polydb_outbox_hold(
+        outbox: *mut Handle,
+        output: u32,
+        cases: *const u8,
+        length: usize,
+    ) -> u32;
+    pub fn polydb_outbox_learn(
+        outbox: *mut Handle,
+        coordinator: u8,
+        epoch: u32,
+        number: u32,
+        commits: bool,
+        outcome: *mut u32,
+    ) -> u32;
+    pub fn polydb_outbox_release(outbox: *mut Handle) -> u32;
+    pub fn polydb_outbox_take(outbox: *mut Handle, output: *mut u32) -> u32;
+    pub fn polydb_outbox_take_journal(
+        outbox: *mut Handle,
+        out: *mut u8,
+        room: usize,
+        written: *mut usize,
+        place: *mut u64,
+    ) -> u32;
+    pub fn polydb_outbox_journal_synced(outbox: *mut Handle, place: u64, written: usize) -> u32;
+    pub fn polydb_outbox_info(outbox: *mut Handle, info: *mut JournalInfo) -> u32;
+    pub fn polydb_outbox_close(outbox: *mut Handle);
     pub fn polydb_run(
         input: *const u8,
         length: usize,

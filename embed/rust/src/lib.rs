@@ -1,5 +1,5 @@
 //! polydb in a Rust program: a [`World`] of the database, or one [`Site`] of several, as a value that is closed when it is dropped;
-//! and [`run`], for a whole schedule. A [`FileHost`] is a site on a folder: it locks it, writes and syncs the site's journal there, and hands over what the site lets out.
+//! an [`Outbox`], for effects that wait for outcomes; and [`run`], for a whole schedule. A [`FileHost`] is a site on a folder: it locks it, writes and syncs the site's journal there, and hands over what the site lets out.
 //!
 //! The functions that are called are those of `polydb.h`; what each does is written there. Nothing but `std` is needed.
 #![warn(missing_docs)]
@@ -7,8 +7,10 @@
 mod calls;
 mod files;
 mod host;
+mod outbox;
 
 pub use host::{FileHost, Found, HostError};
+pub use outbox::{JournalInfo, Outbox};
 
 use std::error;
 use std::ffi::c_void;
@@ -54,7 +56,7 @@ pub enum Error {
     TooManyOutcomes,
     /// No epoch is left.
     EpochsSpent,
-    /// The journal has no room for the record of the new epoch.
+    /// The journal has no room for one more record: in a site's opening for that of the new epoch.
     Full,
     /// The text is no program.
     BadText,
@@ -66,11 +68,11 @@ pub enum Error {
     NotHere,
     /// There is no such site as the message comes from.
     NoSender,
-    /// That isn't what the site has asked to be written.
+    /// That isn't what is to be written next.
     NotNext,
     /// No item has this name.
     UnknownName,
-    /// Records wait to be written into the file. What the item shows may rest on them, and a crash may undo it.
+    /// Records wait to be written into the file. What would be shown or told may rest on them, and a crash may undo it.
     Unwritten,
     /// The line is no event, or more than one, or declares something.
     NotOneEvent,
@@ -78,6 +80,12 @@ pub enum Error {
     BrokenOff,
     /// The world takes no more steps.
     Ended,
+    /// The output was held before.
+    Again,
+    /// An outcome of the transaction was learnt before: this one, which counts.
+    Known(Outcome),
+    /// The text is no condition.
+    BadCases,
     /// A status that this wrapper doesn't know.
     Other(u32),
 }
@@ -107,6 +115,9 @@ impl fmt::Display for Error {
             Error::NotOneEvent => "not one event",
             Error::BrokenOff => "no memory within the step",
             Error::Ended => "the world takes no more steps",
+            Error::Again => "held before",
+            Error::Known(_) => "learnt before",
+            Error::BadCases => "no condition",
             Error::Other(status) => return write!(f, "status {status}"),
         })
     }
@@ -147,6 +158,8 @@ fn answer(status: u32) -> Result<(), Error> {
         35 => Error::BrokenOff,
         36 => Error::Ended,
         37 => Error::Unwritten,
+        39 => Error::Again,
+        41 => Error::BadCases,
         other => Error::Other(other),
     })
 }
@@ -246,6 +259,8 @@ pub const MAX_NAME: usize = 16;
 pub const MAX_PROGRAM: usize = 1000;
 /// The greatest count of items that a program may name.
 pub const MAX_PROGRAM_ITEMS: usize = 16;
+/// The greatest length of the condition of an output, in bytes.
+pub const MAX_CASES: usize = 1000;
 /// The greatest length of a configuration, of a schedule, and of a catalog and a line together, in bytes.
 pub const MAX_INPUT: usize = 16_777_216;
 /// The greatest length of a message, in bytes.
@@ -357,10 +372,10 @@ fn fill_from(room: usize, mut call: impl FnMut(&mut [u8], &mut usize) -> u32) ->
     }
 }
 
-/// The file of a new site: a journal without records. The host makes it before it opens the site the first time.
+/// The file of a new site or outbox: a journal without records. The host makes it before it opens the site or outbox the first time.
 pub const EMPTY_JOURNAL: &[u8; 9] = b"PVJRNL01\0";
 
-/// What the host is to write next into a site's journal.
+/// What the host is to write next into the journal of a site or an outbox.
 #[derive(Clone, Debug, PartialEq, Eq)]
 pub struct JournalWrite {
     /// Where the bytes begin, from 0.

@@ -3,7 +3,7 @@ use Rattle.std.proofs.Common.{◌∙◌, Some, Ok, None, ◌∷◌, ◌++◌, re
 use Rattle.pv_law_outbox.specs.Runs.{Event, Run, holds, learns, releases, has_none}
 use Rattle.pv_law_outbox.proofs.RunLemmas.{at-event, gone-once, held-stays, kept-in, learnt-stays}
 use Rattle.pv_outbox.specs.Life.{answers, hold, learn, take}
-use Rattle.pv_outbox.proofs.AnsweredLemmas.{answered-once, parted}
+use Rattle.pv_outbox.proofs.AnsweredLemmas.{answered-once, left-by, parted, stopped-is}
 use Rattle.pv_outbox.proofs.LifeLemmas.{continues}
 use Rattle.pv_outbox.proofs.laws.lives_are_runs.Goals as goal
 
@@ -34,6 +34,18 @@ returns-clause-none g c = λ contents old before since end spelled life.
     let run = subst (λ (events : List Event). Run old events is.records) (parts.whole ∙ ap (λ (e : Event). parts.front ++ e ∷ parts.back) parts.is) is.run in
     let at = at-event old parts.front has_none parts.back is.records run in
     (parts.front, at.mid, at.run, parts.first, at.happens.0)
+
+pub returns-clause-stopped : goal.returns-clause-stopped
+returns-clause-stopped g c = λ contents old before since act end spelled stops life.
+    let acts = before ++ act ∷ since in
+    let is = (continues g.L.Log.model acts end).from_left (Some contents) old contents refl spelled life in
+    let parts = parted before act since is.events is.are in
+    let run = subst (λ (events : List Event). Run old events is.records) parts.whole is.run in
+    let at = at-event old parts.front parts.event parts.back is.records run in
+    let stopped = stopped-is act parts.event stops parts.is in
+    let left = left-by before since parts.front parts.back at.mid at.next parts.first parts.rest stopped.answer parts.event stopped.is at.happens
+    (gone-once old (parts.front ++ parts.event ∷ parts.back) is.records run) in
+    (parts.front, parts.back, at.mid, at.next, is.records, at.run, parts.first, left, at.rest, parts.rest, is.there)
 
 pub returns-clause-held : goal.returns-clause-held
 returns-clause-held g c = λ contents old before since output when end spelled life.
