@@ -4,7 +4,7 @@ use Rattle.std.proofs.lemmas.List.Elements.{All-append, All-cons, All-nil}
 use Rattle.std.proofs.lemmas.List.Quantifiers.{position-Some}
 use Rattle.pv_audit.specs.Printed.{IsWithin}
 use Rattle.pv_law_step.proofs.Lists.{all-head, all-tail}
-use Rattle.pv_law_traces.specs.Ranges.{IsNumbered, IsPrintable, SendsFew}
+use Rattle.pv_law_traces.specs.Ranges.{IsNumbered, IsPrintable}
 use Rattle.pv_law_traces.proofs.EventRanges.{transition-within}
 use Rattle.pv_law_world.proofs.RunRangeLemmas.{run-good}
 use Rattle.pv_law_world.proofs.TransitionLemmas.{run-marked, run-transitions}

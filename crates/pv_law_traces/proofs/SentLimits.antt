@@ -20,7 +20,7 @@ use Rattle.pv_protocol.specs.Lines.{Line}
 use Rattle.pv_protocol.specs.Run.{lines_of_transitions, run, transitions_of, world_after, worlds_of}
 use Rattle.pv_protocol.specs.State.{Setup}
 use Rattle.pv_protocol.specs.World.{World, opening}
-use Rattle.pv_protocol.specs.WorldStep.{Transition, transition_of}
+use Rattle.pv_protocol.specs.WorldStep.{Transition}
 use Rattle.pv_run.specs.InputAnswers.{within_limit}
 use Rattle.pv_site.specs.SiteState.{setup_of}
 

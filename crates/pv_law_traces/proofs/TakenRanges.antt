@@ -1,5 +1,5 @@
 -- An entry has taken grants of few sites, in every world of a run: each is of a participant, none of two is of the same, and they stand in the order of sites.
-use Rattle.std.proofs.Common.{◌≡◌, ℕ, zero, suc, ◌+◌, ◌<◌, ◌≤◌, Bool, true, false, Some, None, Option, All, List, [], ◌∷◌, ◌++◌, length, refl, sym, subst, arith}
+use Rattle.std.proofs.Common.{◌≡◌, ℕ, zero, suc, ◌+◌, ◌<◌, ◌≤◌, Bool, false, Some, All, List, [], ◌∷◌, ◌++◌, length, refl, subst, arith}
 use Rattle.std.specs.List.{Contains, list_any}
 use Rattle.std.specs.Prelude.{◌==◌, nat_lt, not, option_to_list, slice_get, map}
 use Rattle.std.proofs.lemmas.Bool.{eqb-false, ltb-false, ltb-true}
@@ -32,12 +32,12 @@ use Rattle.pv_model.specs.Plan.{participants_of}
 use Rattle.pv_model.specs.Syntax.{Program}
 use Rattle.pv_protocol.specs.Attempt.{of_start}
 use Rattle.pv_protocol.specs.Coordinate.{are_values_of, has_taken, locking_entry, voting_entry, with_taken}
-use Rattle.pv_protocol.specs.Granted.{asked_of, is_grant_ignored, is_unawaited, taking}
+use Rattle.pv_protocol.specs.Granted.{asked_of, is_unawaited, taking}
 use Rattle.pv_protocol.specs.Here.{Here, is_among, participants, with_entry, without_entry}
 use Rattle.pv_protocol.specs.Lock.{next_txn}
 use Rattle.pv_protocol.specs.Run.{run, worlds_of}
 use Rattle.pv_protocol.specs.Sound.{IsSetupInRange}
-use Rattle.pv_protocol.specs.Start.{Started, just_started, site_start}
+use Rattle.pv_protocol.specs.Start.{Started, site_start}
 use Rattle.pv_protocol.specs.State.{locking, voting, Entry, Input, Running, Setup, Step, Taken, receive, submit, tick}
 use Rattle.pv_protocol.specs.Step.{on_message, step_on}
 use Rattle.pv_protocol.specs.Tick.{older_entries, on_tick}
