@@ -1,6 +1,5 @@
 pub mod BareLemmas
 pub mod SaysLemmas
-pub mod PlainTextLemmas
 pub mod TextEntries
 pub mod TracedParts
 pub mod WholeLemmas

@@ -1,6 +1,6 @@
 -- Where the messages of a run stay within a limit on their bytes, they are few in each of its worlds.
 use Rattle.std.proofs.Common.{◌≡◌, ◌∙◌, ℕ, ◌+◌, ◌<◌, ◌≤◌, None, Some, Option, All, List, [], ◌∷◌, length, length-append, refl, sym, ap, subst, arith}
-use Rattle.std.specs.Prelude.{nat_lt, if◌then◌else◌}
+use Rattle.std.specs.Prelude.{nat_lt}
 use Rattle.std.proofs.lemmas.Bool.{ltb-false}
 use Rattle.std.proofs.lemmas.List.Elements.{All-cons, All-nil, All-weaker}
 use Rattle.std.proofs.lemmas.Option.{none-some}
@@ -27,12 +27,13 @@ use Rattle.pv_site.specs.SiteState.{setup_of}
 -- Each message has a byte at least.
 over-few : (limit total : ℕ) (sent : List Envelope) → total ≤ limit → over limit total sent ≡ None → total + length sent ≤ limit
 over-few limit total [] under none = omega (arith, under)
-over-few limit total (envelope ∷ sent) under none = by (total + envelope_length envelope) (omega arith) none
-  where
-    by : (more : ℕ) → total < more → (if nat_lt limit more then Some more else over limit more sent) ≡ None → total + length (envelope ∷ sent) ≤ limit
-    by more longer =
-        if_case (λ (passed : Option ℕ). passed ≡ None → total + length (envelope ∷ sent) ≤ limit) (nat_lt limit more) (λ passes none. absurd (none-some more (sym none)))
-        (λ under none. omega (arith, over-few limit more sent (omega (arith, ltb-false limit more under)) none, longer))
+over-few limit total (envelope ∷ sent) under none =
+    let more = total + envelope_length envelope in
+    let longer : total < more = omega arith in
+    if_case (λ (passed : Option ℕ). passed ≡ None → total + length (envelope ∷ sent) ≤ limit) (nat_lt limit more)
+    (λ passes is. absurd (none-some more (sym is)))
+    (λ within is. omega (arith, over-few limit more sent (omega (arith, ltb-false limit more within)) is, longer))
+    none
 
 sent-few : (limit : ℕ) (world : World) → over_limit limit world ≡ None → length world.sent ≤ limit
 unfolding over_limit

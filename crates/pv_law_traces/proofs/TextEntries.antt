@@ -1,20 +1,24 @@
 -- The entries of a text that is put together of a trace's lines are those lines.
 use Rattle.std.proofs.Common.{◌≡◌, ◌∙◌, ℕ, ◌+◌, Bool, true, false, cond, List, [], ◌∷◌, ◌++◌, All, filter, map, refl, ap, append_assoc}
-use Rattle.pv_audit.proofs.EntryLemmas.{printed-entry}
+use Rattle.std.specs.List.{list_all}
 use Rattle.pv_audit.specs.Entries.{Entry, counts, entries, entries_from, entry_of, plain, printed, said}
-use Rattle.pv_audit.specs.Printed.{AreNamed}
 use Rattle.pv_base.specs.Catalog.{Declared}
 use Rattle.pv_law_step.proofs.Lists.{all-head, all-tail}
 use Rattle.pv_law_traces.specs.Bare.{bare}
 use Rattle.pv_law_traces.proofs.BareLemmas.{bare-counts, bare-text}
-use Rattle.pv_law_traces.proofs.PlainTextLemmas.{text-line, unprompted}
 use Rattle.pv_law_transcript.proofs.LineLemmas.{lines-text}
 use Rattle.pv_model.specs.ReplyText.{line_feed}
-use Rattle.pv_model.specs.Text.{IsText, TextLine, is_significant, lines}
+use Rattle.pv_model.specs.Text.{IsText, TextLine, is_significant, is_text_byte, lines}
 use Rattle.pv_protocol.specs.LineText.{line_text, text_of, words_of}
 use Rattle.pv_protocol.specs.Lines.{Line}
-use Rattle.pv_report.specs.NamesOnlyItems.{NamesOnlyItems}
 use Rattle.pv_run.specs.Traced.{said_text}
+
+abbrev pub is_text : List ℕ → Bool
+is_text bytes = list_all is_text_byte bytes
+
+-- What the line prints as is an entry that was printed.
+abbrev pub IsPrintedEntry : Declared → Line → Type 0
+IsPrintedEntry catalog line = entry_of (words_of catalog line) ≡ printed (words_of catalog line)
 
 -- the entries that count among these lines
 abbrev pub entries_in : List TextLine → List Entry
@@ -47,17 +51,18 @@ said-first most line rest is counted =
     ∙ counted-first (62 ∷ (32 ∷ bare line)) (lines rest) (said (bare line)) refl (bare-counts line ∙ counted)
 
 -- and so is a line that was printed.
-printed-first : (catalog : Declared) (line : Line) (rest : List ℕ) → AreNamed catalog → NamesOnlyItems catalog line
+printed-first : (catalog : Declared) (line : Line) (rest : List ℕ) → is_text (words_of catalog line) ≡ true → IsPrintedEntry catalog line
     → entries_in (lines (line_text catalog line ++ rest)) ≡ printed (words_of catalog line) ∷ entries_in (lines rest)
-printed-first catalog line rest named has =
+printed-first catalog line rest text entry =
     ap (λ (t : List ℕ). entries_in (lines t)) (append_assoc (words_of catalog line) line_feed rest)
-    ∙ ap entries_in (lines-text (words_of catalog line) rest (text-line catalog line named has))
-    ∙ counted-first (words_of catalog line) (lines rest) (printed (words_of catalog line)) (printed-entry (words_of catalog line) (unprompted catalog line)) refl
+    ∙ ap entries_in (lines-text (words_of catalog line) rest text)
+    ∙ counted-first (words_of catalog line) (lines rest) (printed (words_of catalog line)) entry refl
 
-pub printed-front : (catalog : Declared) (ls : List Line) (rest : List ℕ) → AreNamed catalog → All (NamesOnlyItems catalog) ls
+pub printed-front : (catalog : Declared) (ls : List Line) (rest : List ℕ) → All (λ (line : Line). is_text (words_of catalog line) ≡ true) ls → ((line : Line) → IsPrintedEntry catalog line)
     → entries_in (lines (text_of catalog ls ++ rest)) ≡ map printed (map (words_of catalog) ls) ++ entries_in (lines rest)
-printed-front catalog [] rest named has = refl
-printed-front catalog (line ∷ ls) rest named has =
+printed-front catalog [] rest texts entry = refl
+printed-front catalog (line ∷ ls) rest texts entry =
     ap (λ (t : List ℕ). entries_in (lines t)) (append_assoc (line_text catalog line) (text_of catalog ls) rest)
-    ∙ printed-first catalog line (text_of catalog ls ++ rest) named (all-head (NamesOnlyItems catalog) line ls has)
-    ∙ ap (λ (entries : List Entry). printed (words_of catalog line) ∷ entries) (printed-front catalog ls rest named (all-tail (NamesOnlyItems catalog) line ls has))
+    ∙ printed-first catalog line (text_of catalog ls ++ rest) (all-head (λ (l : Line). is_text (words_of catalog l) ≡ true) line ls texts) (entry line)
+    ∙ ap (λ (entries : List Entry). printed (words_of catalog line) ∷ entries)
+    (printed-front catalog ls rest (all-tail (λ (l : Line). is_text (words_of catalog l) ≡ true) line ls texts) entry)

@@ -2,36 +2,37 @@
 use Rattle.std.proofs.Common.{◌≡◌, ◌∙◌, inl, inr, ℕ, true, Some, All, List, [], ◌∷◌, ◌++◌, map, refl, sym, ap, subst, append_assoc}
 use Rattle.std.specs.List.{enumerate_from}
 use Rattle.std.proofs.lemmas.Bool.{false≢true}
-use Rattle.std.proofs.lemmas.List.Elements.{All-map, filter_passes}
+use Rattle.std.proofs.lemmas.List.Elements.{All-map, All-weaker, filter_passes}
 use Rattle.std.proofs.lemmas.List.Concat.{flat_map-append}
 use Rattle.std.proofs.lemmas.Option.{none-some}
-use Rattle.pv_audit.proofs.NamedLemmas.{named-after, named-first}
 use Rattle.pv_audit.specs.Entries.{Entry, said}
-use Rattle.pv_audit.specs.Printed.{AreNamed, ArePrinted, IsWithin}
+use Rattle.pv_audit.specs.Printed.{ArePrinted, IsWithin}
 use Rattle.pv_audit.specs.Traces.{AreParts, IsTrace, IsWhole}
 use Rattle.pv_audit.specs.Traces as trace
 use Rattle.pv_base.specs.Catalog.{Declared}
 use Rattle.pv_law_lines.proofs.LineItems.{lines-name-items}
+use Rattle.pv_law_requests.specs.RunTraces.{parts_from, run_trace}
 use Rattle.pv_law_schedules.proofs.OneEventLemmas.{not-both, one-declared, one-event}
 use Rattle.pv_law_schedules.proofs.SomeScheduleLemmas.{keeps-script}
 use Rattle.pv_law_step.proofs.Lists.{all-head, all-tail}
 use Rattle.pv_law_traces.specs.Bare.{bare}
-use Rattle.pv_law_requests.specs.RunTraces.{parts_from, run_trace}
 use Rattle.pv_law_traces.proofs.SaysLemmas.{declares-bare, event-bare}
 use Rattle.pv_law_traces.proofs.WholeLemmas.{all-printed, prints-whole}
 use Rattle.pv_law_transcript.proofs.MergedLemmas.{all-back, all-front}
-use Rattle.pv_law_traces.proofs.TextEntries.{entries_in, plain-entries, printed-front, said-first}
+use Rattle.pv_law_traces.proofs.TextEntries.{IsPrintedEntry, entries_in, is_text, plain-entries, printed-front, said-first}
 use Rattle.pv_model.specs.Events.{Event, Schedule}
 use Rattle.pv_model.specs.LineCauses.{Before, at_first, declared_by}
 use Rattle.pv_model.specs.LineForms.{most_bytes, scheduled}
 use Rattle.pv_model.specs.Schedule.{AreLines, Declares, IsSchedule, none, declaration, event, significant, with_event}
 use Rattle.pv_model.specs.Text.{IsText, TextLine, is_significant, lines, numbered}
 use Rattle.pv_protocol.specs.LineText.{text_of, words_of}
+use Rattle.pv_protocol.specs.Lines.{Line}
 use Rattle.pv_protocol.specs.Run.{lines_of_transitions, run, transitions_of, world_after}
 use Rattle.pv_protocol.specs.Run.{printed as printed_by}
 use Rattle.pv_protocol.specs.State.{Setup}
 use Rattle.pv_protocol.specs.World.{World, opening}
 use Rattle.pv_protocol.specs.WorldStep.{Transition}
+use Rattle.pv_report.specs.NamesOnlyItems.{NamesOnlyItems}
 use Rattle.pv_run.specs.Traced.{IsTraced, IsTracedFrom, said_text}
 use Rattle.pv_run.specs.Traced as traced
 use Rattle.pv_site.specs.SiteState.{setup_of}
@@ -62,11 +63,6 @@ catalog-stays (declaration before after last line ls events declares more) sites
     stays.catalog ∙ catalog-stays more sites stays.said stays.begun
 catalog-stays (event before last line ls e events is more) sites told begun = catalog-stays more sites told refl
 
-all-named : {before last : Before} {ls : List TextLine} {events : List Event} → AreLines before ls events last → AreNamed (declared_by before) → AreNamed (declared_by last)
-all-named (none before) named = named
-all-named (declaration before after last line ls events declares more) named = all-named more (named-after before after line declares named)
-all-named (event before last line ls e events is more) named = all-named more named
-
 -- ---- a line of a schedule is text
 
 declares-text : (before after : Before) (line : TextLine) → Declares before line after → IsText (most_bytes before.script) line
@@ -87,7 +83,9 @@ no-lines = refl
 abbrev AllCount : List TextLine → Type 0
 AllCount ls = All (λ line. is_significant line ≡ true) ls
 
-module _ (setup : Setup) (named : AreNamed setup.catalog) where
+-- What lines print as is text, where they name items of the catalog alone, and no line of a schedule.
+module _ (setup : Setup) (text_line : (line : Line) → NamesOnlyItems setup.catalog line → is_text (words_of setup.catalog line) ≡ true)
+    (line_entry : (line : Line) → IsPrintedEntry setup.catalog line) where
   count-head : (line : TextLine) (ls : List TextLine) → AllCount (line ∷ ls) → is_significant line ≡ true
   count-head line ls all = all-head (λ (line : TextLine). is_significant line ≡ true) line ls all
 
@@ -123,7 +121,9 @@ module _ (setup : Setup) (named : AreNamed setup.catalog) where
       let behind : AreParts (with_event before) (entries_in (lines text)) (parts_from setup (world_after world now) events) last =
       parts-are more lines_more (count-tail line ls counted) kind catalog (all-back IsWithin printed_lines later known) in
       let said_here = said-first (most_bytes before.script) line (text_of setup.catalog printed_lines ++ text) is.text (count-head line ls counted) in
-      let front = printed-front setup.catalog printed_lines text named has in
+      let texts_are =
+      All-weaker (NamesOnlyItems setup.catalog) (λ (line : Line). is_text (words_of setup.catalog line) ≡ true) text_line printed_lines has in
+      let front = printed-front setup.catalog printed_lines text texts_are line_entry in
       let split = append_assoc (said_text line) (text_of setup.catalog printed_lines) text in
       subst (λ (x : Event). AreParts before (entries_in (lines ((said_text line ++ text_of setup.catalog printed_lines) ++ text))) (parts_from setup world (x ∷ events)) last) (sym one)
       (subst (λ (l : List Entry). AreParts before l (parts_from setup world (e ∷ events)) last)
@@ -140,16 +140,18 @@ lines-count text =
     All-map (λ (line : TextLine). is_significant line ≡ true) (λ (line : ℕ × TextLine). line.1) (numbered text)
     (filter_passes (λ (line : ℕ × TextLine). is_significant line.1) (enumerate_from 1 (lines text)))
 
-pub trace-read : (input text : List ℕ) (schedule : Schedule) → IsSchedule input schedule → IsTraced (setup_of schedule.catalog) input text
+pub trace-read : (input text : List ℕ) (schedule : Schedule)
+    → ((line : Line) → NamesOnlyItems schedule.catalog line → is_text (words_of schedule.catalog line) ≡ true) → ((line : Line) → IsPrintedEntry schedule.catalog line)
+    → IsSchedule input schedule → IsTraced (setup_of schedule.catalog) input text
     → All IsWithin (printed_by (setup_of schedule.catalog) schedule.events) → IsTrace text (run_trace (setup_of schedule.catalog) schedule.events)
 unfolding printed_by
-trace-read input text schedule is traced whole =
+trace-read input text schedule text_line line_entry is traced whole =
     let setup = setup_of schedule.catalog in
     record {
       last = is.last;
       are =
           subst (λ (l : List Entry). AreParts (at_first scheduled) l (parts_from setup (opening setup) schedule.events) is.last) (sym (plain-entries text))
-          (parts-are setup (subst AreNamed (sym is.catalog) (all-named is.are named-first)) traced is.are (lines-count input) refl is.catalog whole);
+          (parts-are setup text_line line_entry traced is.are (lines-count input) refl is.catalog whole);
       sites = is.sites;
       said = is.said;
       catalog = is.catalog;

@@ -10,7 +10,7 @@ ghost use Rattle.pv_audit.specs.Traces.{IsTrace};
 ghost use Rattle.pv_model.specs.Events.{Event, Schedule};
 ghost use Rattle.pv_model.specs.Schedule.{Declares, IsEvent, IsSchedule};
 ghost use Rattle.pv_model.specs.Text.{TextLine};
-ghost use Rattle.pv_law_traces.specs.Ranges.{HaveTakenFew, IsNumbered, IsPrintable, SendsFew};
+ghost use Rattle.pv_law_traces.specs.Ranges.{HaveTakenFew, IsNumbered, IsPrintable, SendsFew, TakesFew};
 ghost use Rattle.pv_format.specs.Range.{IsTxnWithin};
 ghost use Rattle.pv_law_requests.specs.RunTraces.{run_trace};
 ghost use Rattle.pv_law_world.specs.Ranges.{IsWorldInRange};
@@ -28,9 +28,11 @@ ghost use Rattle.pv_run.specs.InputAnswers.{within_limit};
 ghost use Rattle.pv_run.specs.Traced.{IsTraced, trace_of};
 ghost use Rattle.pv_site.specs.SiteState.{setup_of};
 
+use pv_audit::{printed_lines_are_entries, schedules_name_items_apart};
 use pv_law_world::{
     runs_of_texts_stay_in_range, schedules_are_in_range, schedules_are_well_formed,
 };
+use pv_report::printed_lines_are_text;
 use pv_run::traces_have_each_line;
 
 /// A line of a schedule without the blanks at its ends is the event that the line is, or declares what the line does.
@@ -44,7 +46,11 @@ pub fn traces_are_read()
     ensures { (input text : List ℕ) (schedule : Schedule) → IsSchedule input schedule → IsTraced (setup_of schedule.catalog) input text →
         All IsWithin (printed (setup_of schedule.catalog) schedule.events) →
         IsTrace text (run_trace (setup_of schedule.catalog) schedule.events) }
-{}
+{
+    printed_lines_are_text();
+    printed_lines_are_entries();
+    schedules_name_items_apart();
+}
 
 /// Each number in what a step reports is within the type that an audit reads it as.
 pub fn notes_are_within()
@@ -98,4 +104,15 @@ pub fn orders_are_within()
     ensures { (setup : Setup) (events : List Event) → IsSetupInRange setup →
         All (IsWorldInRange setup) (worlds_of (opening setup) (run setup (opening setup) events)) →
         All (λ world. All (λ placed. IsTxnWithin setup.catalog.sites placed.txn) world.order) (worlds_of (opening setup) (run setup (opening setup) events)) }
+{}
+
+/// In each world of a run an entry has taken grants of no more sites than there may be.
+pub fn entries_take_few()
+    ensures { (setup : Setup) (events : List Event) → IsSetupInRange setup → All TakesFew (worlds_of (opening setup) (run setup (opening setup) events)) }
+{}
+
+/// In each world of a run whose messages pass no limit they are no more than 64 bits count.
+pub fn limited_runs_send_few()
+    ensures { (schedule : Schedule) → (within_limit schedule).over ≡ None → let setup = setup_of schedule.catalog in
+        All SendsFew (worlds_of (opening setup) (run setup (opening setup) schedule.events)) }
 {}
