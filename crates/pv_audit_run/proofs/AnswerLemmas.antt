@@ -8,7 +8,7 @@ use Rattle.std.proofs.lemmas.List.{take_all}
 use Rattle.pv_audit.specs.Findings.{IsFine, IsVerdict, Verdict, all_agree, at_report, no_order, no_item, limit}
 use Rattle.pv_audit.specs.Reports.{reports}
 use Rattle.pv_audit.specs.Traces.{IsTrace, Trace}
-use Rattle.pv_audit.specs.Views.{IsNoTraceAt}
+use Rattle.pv_audit.specs.Views.{IsNoTraceAt, RefusedEntry}
 use Rattle.pv_audit_run.specs.AuditEnds.{AnswersAudit, IsAuditAnswer, IsJudged, end_by, end_status, ended_by}
 use Rattle.pv_audit_run.specs.VerdictText.{verdict_text}
 use Rattle.pv_audit_run.specs.declared.audit_end.AuditEnd.{AuditEnd}
@@ -18,10 +18,12 @@ use Rattle.pv_io.specs.SinkEffects.{HasFailed, Writes, WritesPrefix}
 use Rattle.pv_io.specs.declared.read_end.ReadEnd.{ReadEnd}
 use Rattle.pv_io.specs.declared.read_end.ReadEnd.TheVariants as why
 use Rattle.pv_io.specs.declared.sink.Sink.{Ghosts}
+use Rattle.pv_law_audits.specs.RightReports.{IsPassed}
 use Rattle.pv_model.specs.LineCauses.{LineCause}
-use Rattle.pv_run.specs.InputAnswers.{GivesUp, GivesUpOr, fault_text}
+use Rattle.pv_run.specs.InputAnswers.{GivesUp, GivesUpOr, IsRunAnswer, fault_text}
 use Rattle.pv_run.specs.Statuses.{unread_status}
 use Rattle.pv_run.specs.WriteEndView.{IsWriteFault}
+use Rattle.pv_run.specs.declared.form.Form.TheVariants as form
 use Rattle.pv_run.specs.declared.status.Status.{Status}
 use Rattle.pv_run.specs.declared.status.Status.TheVariants as status
 use Rattle.pv_run.specs.declared.write_end.WriteEnd.{WriteEnd}
@@ -87,6 +89,30 @@ done-is end.Limit is = absurd (let wrong : ⊥ = cc in wrong)
 done-is end.Malformed is = absurd (let wrong : ⊥ = cc in wrong)
 done-is end.WriteFault is = absurd (let wrong : ⊥ = cc in wrong)
 done-is end.NoMemory is = absurd (let wrong : ⊥ = cc in wrong)
+
+-- ---- the answer to what `trace` wrote to its end
+
+-- It is that all agree, or that a limit is passed.
+abbrev pub TracesAreAnswered : Type 0
+TracesAreAnswered = (schedule input output : List ℕ) (answer : Status) → IsRunAnswer form.Trace schedule status.Done input → length input ≤ MAX_INPUT
+    → IsAuditAnswer input answer output → (answer ≡ status.Done) ⊎ (answer ≡ status.Limit)
+
+pub traces-answered : ((text : List ℕ) (trace : Trace) (refused : RefusedEntry) → IsTrace text trace → IsNoTraceAt text refused → ⊥)
+    → ((schedule text : List ℕ) → IsRunAnswer form.Trace schedule status.Done text → (trace : Trace) × IsTrace text trace)
+    → ((schedule text : List ℕ) (trace : Trace) (verdict : Verdict) → IsRunAnswer form.Trace schedule status.Done text → IsTrace text trace → IsVerdict trace verdict → IsPassed verdict)
+    → TracesAreAnswered
+traces-answered no_fault read passes schedule input output answer done short is = go (kind input answer output is)
+  where
+    passed : (verdict : Verdict) → answer ≡ end_status (end_by verdict) → IsPassed verdict → (answer ≡ status.Done) ⊎ (answer ≡ status.Limit)
+    passed verdict ends (inl all) = inl (ends ∙ ap (λ (v : Verdict). end_status (end_by v)) all.1)
+    passed verdict ends (inr limits) = inr (ends ∙ ap (λ (v : Verdict). end_status (end_by v)) limits.2)
+
+    go : Kind input answer output → (answer ≡ status.Done) ⊎ (answer ≡ status.Limit)
+    go (refused few same number cause none text) =
+        let trace = read schedule input done in
+        absurd (no_fault input trace.0 (record { number = number; cause = cause }) trace.1 none)
+    go (long over same) = absurd (omega (arith, over, short))
+    go (judged found) = passed found.verdict found.ends (passes schedule input found.trace found.verdict done found.is found.found)
 
 -- ---- what was written
 
@@ -204,26 +230,33 @@ module _ {W : Type 0} (sink : Ghosts W) (before after : W) where
       go (inr (output, found, whole)) = by found.trace found.verdict output found.is found.found found.ends found.text whole
 
   -- All that is said of an answer.
-  pub answers-all : (input : List ℕ) (result : Status)
+  pub answers-all : TracesAreAnswered → (input : List ℕ) (result : Status)
       → GivesUp result ⊎ ((output : List ℕ) × IsAuditAnswer input result output × Writes sink before after output)
       → ((answer : Status) (output : List ℕ) → IsAuditAnswer input answer output → GivesUpOr sink result answer output before after) → AnswersAudit sink before after result input
-  answers-all input result answered exact = record {
+  answers-all pass input result answered exact = record {
     done = λ is. done-fine input result answered is;
     fine = λ short trace is fine. exact status.Done (verdict_text trace.catalog (all_agree (length (reports trace))))
         (answer-of-verdict input trace (all_agree (length (reports trace))) short is (refl, fine));
+    traced = λ schedule traced short. written schedule traced short answered;
     answered = answered;
     exact = exact;
   }
+    where
+      written : (schedule : List ℕ) → IsRunAnswer form.Trace schedule status.Done input → length input ≤ MAX_INPUT
+          → GivesUp result ⊎ ((output : List ℕ) × IsAuditAnswer input result output × Writes sink before after output)
+          → GivesUp result ⊎ ((result ≡ status.Done) ⊎ (result ≡ status.Limit))
+      written schedule traced short (inl gives) = inl gives
+      written schedule traced short (inr (output, found, whole)) = inr (pass schedule input output result traced short found)
 
 -- Where the input wasn't read, nothing is written.
-module _ {W : Type 0} (sink : Ghosts W) (same : W) (input : List ℕ) where
+module _ {W : Type 0} (sink : Ghosts W) (pass : TracesAreAnswered) (same : W) (input : List ℕ) where
   gives-up : (result : Status) → GivesUp result → (result ≡ status.WriteFault → ⊥) → AnswersAudit sink same same result input
   gives-up result gives unfailed =
-      answers-all sink same same input result (inl gives) (λ answer output is. (inl gives, (0, Appends-nil (sink.held same)), λ fault. absurd (unfailed fault)))
+      answers-all sink same same pass input result (inl gives) (λ answer output is. (inl gives, (0, Appends-nil (sink.held same)), λ fault. absurd (unfailed fault)))
 
   too-long : MAX_INPUT < length input → AnswersAudit sink same same status.TooLong input
   too-long over =
-      answers-all sink same same input status.TooLong (inr ([], (over, refl), Appends-nil (sink.held same))) (λ answer output is. go answer output (kind input answer output is))
+      answers-all sink same same pass input status.TooLong (inr ([], (over, refl), Appends-nil (sink.held same))) (λ answer output is. go answer output (kind input answer output is))
     where
       go : (answer : Status) (output : List ℕ) → Kind input answer output → GivesUpOr sink status.TooLong answer output same same
       go answer output (refused short is number cause none text) = absurd (omega (arith, short, over))

@@ -18,8 +18,9 @@ use Rattle.pv_io.specs.declared.sink.Sink as sinks
 use Rattle.pv_io.specs.declared.source.Source as sources
 use Rattle.pv_model.specs.LineCauses.{LineCause}
 use Rattle.pv_run.specs.Ends.{WasRead}
-use Rattle.pv_run.specs.InputAnswers.{GivesUp, GivesUpOr, fault_text}
+use Rattle.pv_run.specs.InputAnswers.{GivesUp, GivesUpOr, IsRunAnswer, fault_text}
 use Rattle.pv_run.specs.Statuses.{unread_status}
+use Rattle.pv_run.specs.declared.form.Form.TheVariants as form
 use Rattle.pv_run.specs.declared.status.Status.{Status}
 use Rattle.pv_run.specs.declared.status.Status.TheVariants.{Done, Malformed, WriteFault, TooLong, NoMemory, Refuted, Limit}
 use Rattle.pv_run.specs.declared.write_end.WriteEnd.{WriteEnd}
@@ -79,6 +80,9 @@ module _ {W : Type 0} (sink : sinks.Ghosts W) (before after : W) (status : Statu
     -- Where the input is such a trace, that is its answer: it gave up, or is done.
     pub fine : length input ≤ MAX_INPUT → (trace : Trace) → IsTrace input trace → All (IsFine trace.catalog) (reports trace)
         → GivesUpOr sink status Done (verdict_text trace.catalog (all_agree (length (reports trace)))) before after
+    -- Where the input is the trace of a schedule's run, which `trace` wrote to its end, it gave up, or found that all agree, or that a limit is passed: it
+    -- says neither that a report doesn't agree nor that the input is no trace.
+    pub traced : (schedule : List ℕ) → IsRunAnswer form.Trace schedule Done input → length input ≤ MAX_INPUT → GivesUp status ⊎ ((status ≡ Done) ⊎ (status ≡ Limit))
     -- It gave up, or wrote an answer to the input, whose status this is.
     pub answered : GivesUp status ⊎ ((output : List ℕ) × IsAuditAnswer input status output × Writes sink before after output)
     -- Whatever the answer to the input is, it gave up or ended with the status of that, and wrote a beginning of it. Where that is empty, no write has failed.

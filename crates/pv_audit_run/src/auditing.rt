@@ -5,15 +5,18 @@ ghost use Rattle.pv_audit_run.specs.AuditEnds as ends;
 ghost use Rattle.pv_audit_run.specs.AuditEnds.{EndsAudit, IsAuditAnswer, end_status};
 ghost use Rattle.pv_audit_run.specs.VerdictText.{verdict_text};
 ghost use Rattle.pv_io.specs.SinkEffects.{HasFailed, Writes, WritesAll};
-ghost use Rattle.pv_run.specs.InputAnswers.{GivesUp, GivesUpOr};
+ghost use Rattle.pv_run.specs.InputAnswers.{GivesUp, GivesUpOr, IsRunAnswer};
 ghost use Rattle.pv_run.specs.WriteEndView.{IsWriteFault};
+ghost use Rattle.pv_run.specs.declared.form.Form.TheVariants as form;
 ghost use Rattle.pv_run.specs.declared.status.Status.{Status};
+ghost use Rattle.pv_run.specs.declared.status.Status.TheVariants.{Done, Limit};
 
 use crate::audit_end::AuditEnd;
 use crate::verdict_text::push_verdict;
-use pv_audit::{TraceError, Verdict, audit, read_trace};
+use pv_audit::{TraceError, Verdict, audit, no_fault_of_a_trace, read_trace};
 use pv_base::{Catalog, MAX_INPUT};
 use pv_io::{ReadEnd, Sink, Source, read_all, write_all};
+use pv_law_judged::traces_of_runs_pass;
 use pv_run::{WriteEnd, refuse};
 use std::alloc::Global;
 
@@ -28,10 +31,20 @@ pub fn read_and_audit<R: Source, W: Sink>(
 ) -> Result<AuditEnd, ReadEnd>
     ensures { EndsAudit R.Source W.Sink source.old source.new sink.old sink.new result }
 {
+    traces_are_answered();
     match read_all(alloc, source, MAX_INPUT) {
         Ok(input) => Ok(audit_text(alloc, &input, sink)),
         Err(why) => Err(why),
     }
+}
+
+// What has to be answered to a text that `trace` wrote to its end is that all agree, or that a limit is passed.
+fn traces_are_answered()
+    ensures { (schedule input output : List ℕ) (answer : Status) → IsRunAnswer form.Trace schedule Done input → length input ≤ MAX_INPUT →
+        IsAuditAnswer input answer output → (answer ≡ Done) ⊎ (answer ≡ Limit) }
+{
+    no_fault_of_a_trace();
+    traces_of_runs_pass();
 }
 
 // What is answered to a text.

@@ -10,7 +10,7 @@ returns-in-Ok g c =
     let ended = c.audit_text.result in
     let answers : (input : List ℕ) → c.deref.result.now ≡ input → AnswersAudit g.W.Sink c.args.sink.now c.audit_text.new.sink (end_status ended) input =
     λ input same. subst (AnswersAudit g.W.Sink c.args.sink.now c.audit_text.new.sink (end_status ended)) same
-    (answers-all g.W.Sink c.args.sink.now c.audit_text.new.sink c.deref.result.now (end_status ended) c.audit_text.ensures.answered c.audit_text.ensures.exact) in
+    (answers-all g.W.Sink c.args.sink.now c.audit_text.new.sink c.traces_are_answered.ensures c.deref.result.now (end_status ended) c.audit_text.ensures.answered c.audit_text.ensures.exact) in
     record {
       answers = λ input left. answers input (c.deref.ensures.value ∙ (c.in-Ok.ensures.whole input left).0);
       given = λ e is. (
@@ -33,7 +33,7 @@ pub returns-in-Err : goal.returns-in-Err
 returns-in-Err g c =
     let reason = c.in-Err.why in
     record {
-      answers = λ input left. unread g.W.Sink c.args.sink.now input reason (λ is. c.in-Err.ensures.too_long (ap Err is) input left);
+      answers = λ input left. unread g.W.Sink c.traces_are_answered.ensures c.args.sink.now input reason (λ is. c.in-Err.ensures.too_long (ap Err is) input left);
       given = λ other is. absurd (let wrong : ⊥ = cc in wrong);
       read = λ done. absurd (let wrong : ⊥ = cc in wrong);
       read_fault = λ is.
