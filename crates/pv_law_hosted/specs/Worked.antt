@@ -137,22 +137,27 @@ asked_by held = record {
   held = held;
 }
 
--- its host has told that the record is stored; and then it takes the request, lets out that it asks itself, and the number, and is killed
+-- its host has told that the record is stored
 abbrev pub stored : Deployment
 stored = record { file = found_file; hosted = Some (begun stored_log); let_out = []; asked = [] } ∷ []
 
+-- what it was asked to run
 abbrev pub requests : List Asked
 requests = record { txn = number; program = program } ∷ []
 
+-- it has taken the request
 abbrev pub requested : Deployment
 requested = record { file = found_file; hosted = Some (asked_by (asking ∷ numbering ∷ [])); let_out = []; asked = requests } ∷ []
 
+-- that it asks itself is let out
 abbrev pub sent : Deployment
 sent = record { file = found_file; hosted = Some (asked_by (numbering ∷ [])); let_out = asks_itself ∷ []; asked = requests } ∷ []
 
+-- and so is the number
 abbrev pub numbered : Deployment
 numbered = record { file = found_file; hosted = Some (asked_by []); let_out = asks_itself ∷ note (State.began number) ∷ []; asked = requests } ∷ []
 
+-- the process is gone
 abbrev pub killed : Deployment
 killed = record { file = found_file; hosted = None; let_out = asks_itself ∷ note (State.began number) ∷ []; asked = requests } ∷ []
 
