@@ -1,6 +1,6 @@
 -- A transition that prints how a transaction ends is one of its own site, which worked on it and does so no more; and it prints no transaction's end twice.
-use Rattle.std.proofs.Common.{◌≡◌, ◌⊎◌, inl, inr, ⊎_elim, ℕ, ◌<◌, Some, None, Option, List, [], ◌∷◌, map, length, refl, sym, ap, subst, ◌∙◌, arith}
-use Rattle.std.specs.Prelude.{get_or, slice_index_or}
+use Rattle.std.proofs.Common.{◌≡◌, ◌⊎◌, inl, inr, ℕ, ◌<◌, Some, None, Option, List, [], ◌∷◌, map, length, refl, sym, ap, subst, ◌∙◌, arith}
+use Rattle.std.specs.Prelude.{slice_index_or}
 use Rattle.std.specs.List.{AllPairs, Contains}
 use Rattle.std.proofs.lemmas.List.{get_or-set_same}
 use Rattle.std.proofs.lemmas.List.Elements.{All-contains_itself}
@@ -17,7 +17,7 @@ use Rattle.pv_law_answers.proofs.AnswerLemmas.{gives-sites}
 use Rattle.pv_law_answers.proofs.LineLemmas.{line-noted}
 use Rattle.pv_law_answers.proofs.Origin.{Ends, Gives, IsNoted, IsTxnLine, broken, delivery, request, time, whole}
 use Rattle.pv_law_ends.proofs.Pairs.{pairs-one}
-use Rattle.pv_law_ends.proofs.StepEnds.{Apart, Closes, closes-noted}
+use Rattle.pv_law_ends.proofs.StepEnds.{Closes, closes-noted}
 use Rattle.pv_law_ends.specs.Ends.{TellOtherEnds, TellsEnd}
 use Rattle.pv_law_events.proofs.EventActs.{IsKnown}
 use Rattle.pv_law_outcomes.proofs.DecidedLemmas.{IsSettled}
@@ -25,7 +25,7 @@ use Rattle.pv_law_outcomes.proofs.OutcomeLemmas.{settled-after}
 use Rattle.pv_law_world.specs.Transitions.{receiver_of, site_of}
 use Rattle.pv_model.specs.Events.{Event}
 use Rattle.pv_protocol.specs.Arms.{broken_line}
-use Rattle.pv_protocol.specs.Attempt.{Attempt, attempts, begun, delivered, given, of_step}
+use Rattle.pv_protocol.specs.Attempt.{attempts, begun, delivered, given, of_step}
 use Rattle.pv_protocol.specs.Committed.{home_of}
 use Rattle.pv_protocol.specs.Here.{Here}
 use Rattle.pv_protocol.specs.Lines.{Line, line_of}

@@ -1,5 +1,5 @@
 -- Along a run: once a transaction has ended, nothing tells its end any more.
-use Rattle.std.proofs.Common.{◌≡◌, ⊎_elim, ℕ, Some, List, [], ◌∷◌, ◌++◌, refl, sym, ap, subst, ◌∙◌}
+use Rattle.std.proofs.Common.{◌≡◌, ⊎_elim, List, [], ◌∷◌, ◌++◌, refl, sym, ap, subst, ◌∙◌}
 use Rattle.std.specs.Prelude.{⊤}
 use Rattle.std.specs.List.{Contains}
 use Rattle.std.proofs.lemmas.List.Elements.{Contains-append_cases}
@@ -25,9 +25,7 @@ use Rattle.pv_law_world.specs.Transitions.{AreTransitions, site_of}
 use Rattle.pv_protocol.specs.Anywhere as anywhere
 use Rattle.pv_protocol.specs.Anywhere.{IsRunWithFaults}
 use Rattle.pv_protocol.specs.Attempt.{begun}
-use Rattle.pv_protocol.specs.Committed.{home_of}
 use Rattle.pv_protocol.specs.Lines.{Line}
-use Rattle.pv_protocol.specs.Places.{Place, world_before}
 use Rattle.pv_protocol.specs.Run.{lines_of_transitions, world_after}
 use Rattle.pv_protocol.specs.State.{Setup, Site}
 use Rattle.pv_protocol.specs.World.{World}

@@ -1,5 +1,5 @@
 -- A step that notes how a transaction ends ends the work on it, and notes no transaction's end twice.
-use Rattle.std.proofs.Common.{◌≡◌, ℕ, ◌+◌, Bool, true, Some, None, List, [], ◌∷◌, ◌++◌, map, refl, sym, ap, subst, ◌∙◌}
+use Rattle.std.proofs.Common.{◌≡◌, ℕ, ◌+◌, true, Some, None, List, [], ◌∷◌, ◌++◌, map, sym, ap, subst, ◌∙◌}
 use Rattle.std.specs.Prelude.{nat_lt, not}
 use Rattle.std.specs.List.{AllPairs, Contains}
 use Rattle.pv_base.proofs.AssignmentLemmas.{precedes-irrefl}
@@ -25,9 +25,9 @@ use Rattle.pv_protocol.specs.Coordinate.{replies_of}
 use Rattle.pv_protocol.specs.Granted.{taking}
 use Rattle.pv_protocol.specs.Here.{Here, refusing}
 use Rattle.pv_protocol.specs.Keyed.{AreInOrder}
-use Rattle.pv_protocol.specs.Lines.{Line, line_of}
+use Rattle.pv_protocol.specs.Lines.{line_of}
 use Rattle.pv_protocol.specs.Sound.{IsInOrder}
-use Rattle.pv_protocol.specs.State.{Cause, Entry, Input, Note, Step, began, committed, expired, full, receive, refused, spent, tick}
+use Rattle.pv_protocol.specs.State.{Cause, Entry, Input, Note, Step, began, committed, expired, full, receive, refused, spent}
 use Rattle.pv_protocol.specs.Step.{step_on}
 use Rattle.pv_protocol.specs.Tick.{awaited, expired_entries, expiry_notes, older_entries, on_tick}
 use Rattle.pv_protocol.specs.Vote.{committing}

@@ -1,5 +1,5 @@
 -- What a host leaves of a file that may have written on before it said so.
-use Rattle.std.proofs.Common.{◌≡◌, ◌⊎◌, inl, inr, ⊎_elim, ℕ, Bool, true, false, Some, List, [], ◌∷◌, ◌++◌, append-nil, refl, sym, ap, subst}
+use Rattle.std.proofs.Common.{◌≡◌, ◌⊎◌, inl, inr, ⊎_elim, ℕ, Bool, true, false, Some, List, [], ◌∷◌, ◌++◌, append-nil, refl, sym, subst}
 use Rattle.pv_disk_model.specs.Disk.{overlaid}
 use Rattle.pv_disk_model.specs.Size.{Contents}
 use Rattle.pv_format.specs.Journal.{IsJournal}

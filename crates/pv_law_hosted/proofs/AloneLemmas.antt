@@ -19,8 +19,7 @@ use Rattle.pv_host.specs.HostFile.{IsFile}
 use Rattle.pv_host.specs.HostLaws.{host_model}
 use Rattle.pv_host.specs.HostLog.{HostState, contents_of}
 use Rattle.pv_embed.proofs.HostedLemmas.{stored_after, stored_asked, stored_logged}
-use Rattle.pv_embed.specs.Hosted.{HostedState, log_length, stored_length}
-use Rattle.pv_embed.specs.Opening.{HasOpenedOn}
+use Rattle.pv_embed.specs.Hosted.{HostedState}
 use Rattle.pv_embed.specs.Outcomes.{TellsOutcome}
 use Rattle.pv_embed.specs.declared.asked.Outcome.TheVariants.{Committed, NotCommitted}
 use Rattle.pv_law_hosted.proofs.AheadLemmas.{ahead-file, ahead-stored}

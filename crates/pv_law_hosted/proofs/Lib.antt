@@ -21,6 +21,7 @@ mod OneByOneLemmas
 mod OpensLemmas
 mod OutcomeLemmas
 mod ReportLemmas
+mod RequestedLemmas
 mod RunLemmas
 mod SaidLemmas
 mod SettleLemmas

@@ -1,5 +1,5 @@
 -- The worked deployment, event by event.
-use Rattle.std.proofs.Common.{◌≡◌, ◌⊎◌, inl, inr, ⊎_elim, ℕ, zero, suc, ◌+◌, ◌^◌, ◌<◌, true, false, Option, Some, None, List, [], ◌∷◌, ◌++◌, length, arith, refl, sym, ap, ◌∙◌, subst}
+use Rattle.std.proofs.Common.{◌≡◌, ◌⊎◌, inl, inr, ⊎_elim, ℕ, zero, suc, ◌+◌, ◌^◌, ◌<◌, pos, true, false, Option, Some, None, List, [], ◌∷◌, ◌++◌, length, codes, arith, refl, sym, ap, ◌∙◌, subst}
 use Rattle.std.proofs.lemmas.List.Elements.{All-nil, All-cons}
 use Rattle.pv_base.specs.BigEndian.{big_endian}
 use Rattle.pv_base.specs.declared.limits.TheConstants.{MAX_JOURNAL}
@@ -24,6 +24,7 @@ use Rattle.pv_model.specs.Events.{Event}
 use Rattle.pv_model.specs.LineCauses.{Before, at_first}
 use Rattle.pv_model.specs.LineForms.{scheduled}
 use Rattle.pv_model.specs.Schedule.{AreLines, IsSchedule, declaration, none, significant}
+use Rattle.pv_base.specs.Name.{is_keyword, is_name, is_spelled_as_name}
 use Rattle.pv_model.specs.Text.{is_significant, lines, numbered, words}
 use Rattle.pv_protocol.specs.Records.{journal_bytes}
 use Rattle.pv_protocol.specs.Start.{just_started, site_start, starts}
@@ -34,18 +35,41 @@ use Rattle.pv_site.specs.SiteState.{setup_of}
 use Rattle.pv_store.specs.Refusals.{too_many_in}
 
 -- ## What is declared
+abbrev said_sites : Before
+said_sites = record (at_first scheduled) { sites = Some 1 }
+
 abbrev said : Before
-said = record (at_first scheduled) { sites = Some 1 }
+said = record said_sites { items = record { name = codes "a"; site = 0; value = pos 5 } ∷ [] }
 
 are-lines : AreLines (at_first scheduled) (significant config) [] said
-unfolding is_significant lines numbered words
-are-lines = declaration (at_first scheduled) said said config [] [] (inl (record {
-  text = record { short = omega arith; bytes = refl };
-  first = refl;
-  count = 1;
-  is = (49 ∷ [], refl, (record { some = omega arith; digits = refl; value = refl }, omega arith, omega arith));
-  same = refl;
-})) (none said)
+unfolding is_significant lines numbered words is_name is_spelled_as_name is_keyword
+are-lines =
+    declaration (at_first scheduled) said_sites said (codes "sites 1") (codes "item a 0 5" ∷ []) []
+    (inl (record {
+      text = record { short = omega arith; bytes = refl };
+      first = refl;
+      count = 1;
+      is = (49 ∷ [], refl, (record { some = omega arith; digits = refl; value = refl }, omega arith, omega arith));
+      same = refl;
+    }))
+    (declaration said_sites said said (codes "item a 0 5") [] []
+    (inr (inr (inl (record {
+      text = record { short = omega arith; bytes = refl };
+      sites = 1;
+      said = refl;
+      early = refl;
+      item = record { name = codes "a"; site = 0; value = pos 5 };
+      at = 48 ∷ [];
+      number = 53 ∷ [];
+      is = refl;
+      place = (record { some = omega arith; digits = refl; value = refl }, omega arith);
+      worth = record { some = omega arith; digits = refl; value = refl };
+      fits = refl;
+      name = refl;
+      free = refl;
+      room = omega arith;
+      same = refl;
+    })))) (none said))
 
 is-schedule : IsSchedule config schedule
 is-schedule = record { last = said; are = are-lines; sites = 1; said = refl; catalog = refl }
@@ -54,7 +78,7 @@ pub configures : Configures config schedule
 configures = (is-schedule, refl, omega arith)
 
 -- ## The first opening
-spelled-epoch : SpellsRecord (epoch_begun 1) first_epoch
+pub spelled-epoch : SpellsRecord (epoch_begun 1) first_epoch
 unfolding big_endian
 spelled-epoch = record {
   front = 1 ∷ [];
@@ -139,7 +163,7 @@ opened-on = record {
 }
 
 -- The site stands with each log that holds the record.
-stands : (log : HostState) → contents_of log ≡ first_epoch ∷ [] → log.is_down ≡ false → log.limit ≡ MAX_JOURNAL → Stands (begun log)
+pub stands : (log : HostState) → contents_of log ≡ first_epoch ∷ [] → log.is_down ≡ false → log.limit ≡ MAX_JOURNAL → Stands (begun log)
 unfolding journal_bytes
 stands log has up limit = record {
   ready = record {
@@ -190,7 +214,7 @@ dies-writing =
     going-happens config catalog writing 0 (begun (asked_log true)) (record { known = omega arith; here = refl; me = refl; declared = refl }) found_file
     (inl (inr (record { place = 8; bytes = 1 ∷ [] }, refl, torn-gate)))
 
-found-journal : IsJournal (first_epoch ∷ []) found_file
+pub found-journal : IsJournal (first_epoch ∷ []) found_file
 unfolding big_endian
 found-journal = record {
   short = All-cons (λ (c : List ℕ). length c < 2 ^ 32) first_epoch [] (omega arith) (All-nil (λ (c : List ℕ). length c < 2 ^ 32));
@@ -203,7 +227,7 @@ found-journal = record {
 -- ## What the law says of it
 module _ (one_record : (entry other : Record) (bytes : List ℕ) → IsReadAs entry bytes → IsReadAs other bytes → entry ≡ other)
     (one_journal : (bytes : List ℕ) (contents others : Contents) → IsJournal contents bytes → IsJournal others bytes → contents ≡ others) where
-  one-epoch : (records : List Record) → SpellRecords records (first_epoch ∷ []) → records ≡ begun_records
+  pub one-epoch : (records : List Record) → SpellRecords records (first_epoch ∷ []) → records ≡ begun_records
   one-epoch [] spelled = absurd spelled
   one-epoch (entry ∷ []) spelled = ap (λ (r : Record). r ∷ []) (one_record entry (epoch_begun 1) first_epoch spelled.0 (inl spelled-epoch))
   one-epoch (entry ∷ other ∷ records) spelled = absurd spelled.1
@@ -216,17 +240,21 @@ module _ (one_record : (entry other : Record) (bytes : List ℕ) → IsReadAs en
 
   module _ (new : IsMirrored (setup_of catalog) fresh [])
       (goes_on : (d later : Deployment) (events : List Event) → IsMirrored (setup_of catalog) d events → Happens config catalog d later
-      → (more : List Event) × IsMirrored (setup_of catalog) later (events ++ more))
-      (holds : (events : List Event) → IsMirrored (setup_of catalog) found events → HoldsSite found_file (site_at (world_of (setup_of catalog) events) 0)) where
-    pub mirrored-found : (events : List Event) × IsMirrored (setup_of catalog) found events
-        × ((site_at (world_of (setup_of catalog) events) 0).records ≡ begun_records) × ((site_at (world_of (setup_of catalog) events) 0).running ≡ None)
-    mirrored-found =
+      → (more : List Event) × IsMirrored (setup_of catalog) later (events ++ more)) where
+    pub mirrored-writing : (events : List Event) × IsMirrored (setup_of catalog) writing events
+    mirrored-writing =
         let first = goes_on fresh up [] new opens in
         let second = goes_on up fresh ([] ++ first.0) first.1 dies in
         let third = goes_on fresh up (([] ++ first.0) ++ second.0) second.1 opens in
         let fourth = goes_on up asked ((([] ++ first.0) ++ second.0) ++ third.0) third.1 asks-for-record in
         let fifth = goes_on asked writing (((([] ++ first.0) ++ second.0) ++ third.0) ++ fourth.0) fourth.1 writes-record in
-        let sixth = goes_on writing found ((((([] ++ first.0) ++ second.0) ++ third.0) ++ fourth.0) ++ fifth.0) fifth.1 dies-writing in
-        let events = (((((([] ++ first.0) ++ second.0) ++ third.0) ++ fourth.0) ++ fifth.0) ++ sixth.0) in
-        let held = holds-epoch (site_at (world_of (setup_of catalog) events) 0) (holds events sixth.1) in
-        (events, sixth.1, held.0, held.1)
+        ((((([] ++ first.0) ++ second.0) ++ third.0) ++ fourth.0) ++ fifth.0, fifth.1)
+
+    pub mirrored-found : ((events : List Event) → IsMirrored (setup_of catalog) found events → HoldsSite found_file (site_at (world_of (setup_of catalog) events) 0))
+        → (events : List Event) × IsMirrored (setup_of catalog) found events
+        × ((site_at (world_of (setup_of catalog) events) 0).records ≡ begun_records) × ((site_at (world_of (setup_of catalog) events) 0).running ≡ None)
+    mirrored-found holds =
+        let before = mirrored-writing in
+        let last = goes_on writing found before.0 before.1 dies-writing in
+        let held = holds-epoch (site_at (world_of (setup_of catalog) (before.0 ++ last.0)) 0) (holds (before.0 ++ last.0) last.1) in
+        (before.0 ++ last.0, last.1, held.0, held.1)

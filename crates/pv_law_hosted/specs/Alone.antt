@@ -19,5 +19,6 @@ abbrev pub IsFileOf : List ℕ → Option HostedState → Type 0
 IsFileOf file None = (contents : Contents) × IsJournal contents file
 IsFileOf file (Some site) = IsFile site.site.log file × Stands site
 
+-- So it is of the station.
 abbrev pub HasFile : Station → Type 0
 HasFile station = IsFileOf station.file station.hosted

@@ -1,22 +1,29 @@
 -- A deployment of one site, computed. It is opened for the first time, and its process goes before anything is written; it is opened anew, and its process goes once the
--- record of its epoch is in the file, but before its host has told so.
-use Rattle.std.specs.Prelude.{Bool, true, false, List, ℕ, Some, None, [], ◌∷◌, ◌++◌, codes}
+-- record of its epoch is in the file, but before its host has told so. Or its host tells so, and it takes a request, whose number is let out; then its process is killed.
+use Rattle.std.specs.Prelude.{Bool, true, false, List, ℕ, pos, Some, None, [], ◌∷◌, ◌++◌, codes}
 use Rattle.pv_base.specs.Catalog.{Declared}
 use Rattle.pv_base.specs.declared.limits.TheConstants.{MAX_JOURNAL}
+use Rattle.pv_base.specs.Want.{Want}
+use Rattle.pv_base.specs.declared.txn.TxnId.{TxnId}
+use Rattle.pv_embed.specs.Held.{Held, Out, message, note}
 use Rattle.pv_embed.specs.Hosted.{HostedState}
 use Rattle.pv_format.specs.Journal.{header, framed}
+use Rattle.pv_format.specs.Message.{lock}
 use Rattle.pv_format.specs.Record.{Record, epoch_begun}
 use Rattle.pv_host.specs.HostLog.{HostState}
+use Rattle.pv_law_hosted.specs.Asked.{Asked}
 use Rattle.pv_law_hosted.specs.Deployment.{Deployment}
 use Rattle.pv_model.specs.Events.{Schedule}
+use Rattle.pv_model.specs.Syntax.{Expr, Program}
 use Rattle.pv_protocol.specs.Start.{just_started}
+use Rattle.pv_protocol.specs.State as State
 
 -- ## What is declared
 abbrev pub config : List ℕ
-config = codes "sites 1"
+config = codes "sites 1" ++ 10 ∷ codes "item a 0 5"
 
 abbrev pub catalog : Declared
-catalog = record { sites = 1; journal = MAX_JOURNAL; items = [] }
+catalog = record { sites = 1; journal = MAX_JOURNAL; items = record { name = codes "a"; site = 0; value = pos 5 } ∷ [] }
 
 abbrev pub schedule : Schedule
 schedule = record { catalog = catalog; events = [] }
@@ -88,3 +95,72 @@ writing = record { file = written_file; hosted = Some (begun (asked_log true)); 
 -- the process is gone, and left the gate open
 abbrev pub found : Deployment
 found = record { file = found_file; hosted = None; let_out = []; asked = [] } ∷ []
+
+-- ## A request
+-- `return a`, the number that it gets, and the locks that it wants
+abbrev pub program : Program
+program = Program.return (Expr.item 0) Program.end
+
+abbrev pub number : TxnId
+number = record { site = record { 0 = 0 }; epoch = 1; number = 0 }
+
+abbrev pub wants : List Want
+wants = record { item = 0; exclusive = false } ∷ []
+
+-- the log once its host has told that the gate is open
+abbrev pub stored_log : HostState
+stored_log = record begun_log { stored = first_epoch ∷ []; pending = [] }
+
+-- what the site lets out of it, first that it asks itself for the locks; both rest on the journal as it is, of 19 bytes
+abbrev pub asks_itself : Out
+asks_itself = message (record { from = 0; to = 0; message = lock number wants })
+
+abbrev pub asking : Held
+asking = record { length = 19; out = asks_itself }
+
+abbrev pub numbering : Held
+numbering = record { length = 19; out = note (State.began number) }
+
+-- the site that has taken the request, while it holds this
+abbrev pub asked_by : List Held → HostedState
+asked_by held = record {
+  site = record {
+    me = 0;
+    catalog = catalog;
+    records = begun_records;
+    running = Some (record (just_started 1) { next_txn = 1; entries = record { txn = number; program = program; stage = State.locking; age = 0; taken = []; votes = [] } ∷ [] });
+    epoch = 1;
+    first = true;
+    surplus = 0;
+    log = stored_log;
+  };
+  held = held;
+}
+
+-- its host has told that the record is stored
+abbrev pub stored : Deployment
+stored = record { file = found_file; hosted = Some (begun stored_log); let_out = []; asked = [] } ∷ []
+
+-- what it was asked to run
+abbrev pub requests : List Asked
+requests = record { txn = number; program = program } ∷ []
+
+-- it has taken the request
+abbrev pub requested : Deployment
+requested = record { file = found_file; hosted = Some (asked_by (asking ∷ numbering ∷ [])); let_out = []; asked = requests } ∷ []
+
+-- that it asks itself is let out
+abbrev pub sent : Deployment
+sent = record { file = found_file; hosted = Some (asked_by (numbering ∷ [])); let_out = asks_itself ∷ []; asked = requests } ∷ []
+
+-- and so is the number
+abbrev pub numbered : Deployment
+numbered = record { file = found_file; hosted = Some (asked_by []); let_out = asks_itself ∷ note (State.began number) ∷ []; asked = requests } ∷ []
+
+-- the process is gone
+abbrev pub killed : Deployment
+killed = record { file = found_file; hosted = None; let_out = asks_itself ∷ note (State.began number) ∷ []; asked = requests } ∷ []
+
+-- a process of this site on the file that was left
+abbrev pub opened_again : HostedState → Deployment
+opened_again site = record { file = found_file; hosted = Some site; let_out = asks_itself ∷ note (State.began number) ∷ []; asked = requests } ∷ []

@@ -408,3 +408,30 @@ pub fn a_record_is_found()
     one_journal();
     one_record();
 }
+
+/// The same deployment goes on otherwise: the host says that the gate is open too, so the record is stored (`stored`), and the site is given a request, `return a`. Where the call has
+/// memory it makes of the site what is computed here (`taken`): it holds a message to itself, for the locks, and the number `0.1.0` (`requested`). Both are let out (`asked`,
+/// `numbered`), since the record on which they rest is in the file. Then the process is killed (`killed`), and another one opens the site (`opened`), in the second epoch (`epoch`).
+///
+/// A run mirrors it, which has begun a transaction of this number (`mirrored`).
+pub fn a_number_is_let_out()
+    ensures stored { Happens worked.config worked.catalog worked.writing worked.stored }
+    ensures taken { (next : HostedState) → HasStepped (worked.begun worked.stored_log) next (Input.submit worked.program) →
+        next ≡ worked.asked_by (worked.asking ∷ worked.numbering ∷ []) }
+    ensures requested { (next : HostedState) → HasStepped (worked.begun worked.stored_log) next (Input.submit worked.program) →
+        Happens worked.config worked.catalog worked.stored worked.requested }
+    ensures asked { Happens worked.config worked.catalog worked.requested worked.sent }
+    ensures numbered { Happens worked.config worked.catalog worked.sent worked.numbered }
+    ensures killed { Happens worked.config worked.catalog worked.numbered worked.killed }
+    ensures opened { (site : HostedState) → HasOpenedOn worked.config 0 worked.found_file site → Stands site →
+        Happens worked.config worked.catalog worked.killed (worked.opened_again site) }
+    ensures epoch { (site : HostedState) → HasOpenedOn worked.config 0 worked.found_file site → site.site.epoch ≡ 2 }
+    ensures mirrored { (next site : HostedState) → HasStepped (worked.begun worked.stored_log) next (Input.submit worked.program) →
+        HasOpenedOn worked.config 0 worked.found_file site → Stands site →
+        (events : List Event) × IsMirrored (setup_of worked.catalog) (worked.opened_again site) events × Contains (printed (setup_of worked.catalog) events) (Line.txn worked.number) }
+{
+    deployments_are_runs();
+    hosted_sites_agree();
+    one_journal();
+    one_record();
+}

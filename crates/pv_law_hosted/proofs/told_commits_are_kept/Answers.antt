@@ -1,5 +1,4 @@
 use Rattle.pv_law_hosted.proofs.AloneLemmas.{keeps-file, mirrored-file, never-other, still-known}
-use Rattle.pv_law_hosted.proofs.HappensLemmas.{Laws}
 use Rattle.pv_law_hosted.proofs.told_commits_are_kept.Goals as goal
 
 pub returns-clause-mirrored : goal.returns-clause-mirrored
