@@ -1,5 +1,6 @@
 -- What a call comes to, by where it ends.
-use Rattle.std.proofs.Common.{◌≡◌, ℕ, ℤ, Bool, true, false, Result, Ok, Err, List, inl, inr, refl, sym, ap, subst, ◌∙◌}
+use Rattle.std.proofs.Common.{◌≡◌, ℕ, ℤ, Bool, true, false, Result, Ok, Err, List, length, inl, inr, refl, sym, ap, subst, ◌∙◌}
+use Rattle.pv_disk_model.specs.Calls.{reserve}
 use Rattle.pv_disk_model.specs.Log.{Keeps, StaysUp}
 use Rattle.pv_disk_model.specs.LogModel.{LogModel}
 use Rattle.pv_disk_model.proofs.LogLemmas.{Keeps-refl, keeping_may_add}
@@ -29,6 +30,7 @@ module _ {W : Type 0} (M : LogModel W) (old : OutboxState W) (usable : IsUsable 
       faults = ap M.faults log;
     };
     log = subst (λ (now : W). Keeps M old.log now) (sym log) (Keeps-refl M old.log);
+    asked = inl log;
   }
 
   module _ (entry : Record) (bytes : List ℕ) (spelled : SpellsRecord entry bytes) where
@@ -56,6 +58,7 @@ module _ {W : Type 0} (M : LogModel W) (old : OutboxState W) (usable : IsUsable 
       outbox = same-box new (record old { log = new.log }) state (down ∙ sym up) refl;
       up = room.0;
       log = room.1;
+      asked = inr (length bytes, false, room.2);
     }
 
     module _ (mid : W) {X : Type 0} (x : X) (room : MakesRoom M old.log mid bytes (Ok x)) where
@@ -65,6 +68,7 @@ module _ {W : Type 0} (M : LogModel W) (old : OutboxState W) (usable : IsUsable 
         outbox = same-box new (record old { log = new.log }) state (down ∙ sym up) refl;
         up = subst (λ (now : W). StaysUp M old.log now) (sym log) room.0;
         log = subst (λ (now : W). Keeps M old.log now) (sym log) room.1;
+        asked = inr (length bytes, true, subst (λ (now : W). M.goes old.log (reserve (length bytes)) true now) (sym log) room.4);
       }
 
       pub fails-append : (Y : Type 0) (new : OutboxState W) (e : BoxError) → AppendsBytes M {X = Y} mid new.log bytes (Err e) → new.is_down ≡ has_failed {X = Y} (Err e)

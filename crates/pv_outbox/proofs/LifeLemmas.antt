@@ -61,6 +61,7 @@ module _ {W : Type 0} (M : LogModel W) where
       outbox = refl;
       up = record { was_up = usable.up up; is_up = usable.up up; faults = refl };
       log = Keeps-refl M old.log;
+      asked = inl refl;
     })
 
     comes : (call : Call) → Does M old new call → Comes old new call

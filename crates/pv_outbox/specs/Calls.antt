@@ -1,5 +1,5 @@
 -- What the calls of an outbox do, by their answers.
-use Rattle.std.specs.Prelude.{◌≡◌, ℕ, ℤ, ◌+◌, ◌<◌, Bool, true, false, List, [], ◌∷◌, length, Option, Some, None, Result, Ok, Err}
+use Rattle.std.specs.Prelude.{◌≡◌, ◌⊎◌, ℕ, ℤ, ◌+◌, ◌<◌, Bool, true, false, List, [], ◌∷◌, length, Option, Some, None, Result, Ok, Err}
 use Rattle.pv_base.specs.Polyvalue.{Case}
 use Rattle.pv_base.specs.declared.txn.TxnId.{TxnId}
 use Rattle.pv_disk_model.specs.Calls.{Makes, append, reserve}
@@ -46,11 +46,16 @@ module _ {W : Type 0} (M : LogModel W) where
     pub length_is : with_it ≡ M.size old.log + (5 + length bytes)
     pub above : M.limit old.log < with_it
 
+  -- No call of the log was made, or one for room, whether it found it or not. For those who know what the log is.
+  abbrev pub MayAskForRoom : W → W → Type 0
+  MayAskForRoom old new = (new ≡ old) ⊎ ((content : ℕ) × (ok : Bool) × M.goes old (reserve content) ok new)
+
   -- There was no memory, and the outbox knows what it knew.
   pub record Stays (old new : OutboxState W) : Type 0 where
     pub outbox : new ≡ record old { log = new.log }
     pub up : StaysUp M old.log new.log
     pub log : Keeps M old.log new.log
+    pub asked : MayAskForRoom old.log new.log
 
   -- Of an outbox that is up, a call that is to write this record and doesn't comes to this, by its error.
   abbrev pub Fails : OutboxState W → OutboxState W → Record → BoxError → Type 0

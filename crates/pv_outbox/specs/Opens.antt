@@ -1,5 +1,6 @@
 -- What opening an outbox does, by its answer.
 use Rattle.std.specs.Prelude.{◌≡◌, false, List, Some, Result, Ok, Err, is_some, ⊤}
+use Rattle.pv_disk_model.specs.Calls.{read_all}
 use Rattle.pv_disk_model.specs.Log.{Keeps, StaysUp, GoesDown}
 use Rattle.pv_disk_model.specs.LogModel.{LogModel}
 use Rattle.pv_disk_model.specs.Size.{Contents, size_of}
@@ -28,7 +29,7 @@ module _ {W : Type 0} (M : LogModel W) where
   -- What the contents of the log say, or why they aren't an outbox's.
   abbrev pub Loads : W → W → Result Facts Refusal → Type 0
   Loads old new (Ok facts) = StaysUp M old new × Keeps M old new × ((contents : Contents) × WereRead old contents × Reads contents (Ok facts))
-  Loads old new (Err refusal.Failed) = GoesDown M old new × Keeps M old new
+  Loads old new (Err refusal.Failed) = GoesDown M old new × Keeps M old new × M.goes old read_all false new
   Loads old new (Err (refusal.BadRecord index)) =
       StaysUp M old new × Keeps M old new × ((contents : Contents) × WereRead old contents × IsFirstBadContent contents index)
   Loads old new (Err (refusal.NotOurs place)) = StaysUp M old new × Keeps M old new × (is_some (M.contents old) ≡ false)
@@ -46,7 +47,7 @@ module _ {W : Type 0} (M : LogModel W) where
   -- An opening, by its answer.
   abbrev pub Opens : W → Result (OutboxState W) (OpenOutbox W) → Type 0
   Opens old (Ok outbox) = HasOpened old outbox
-  Opens old (Err (Failed log)) = GoesDown M old log × Keeps M old log
+  Opens old (Err (Failed log)) = GoesDown M old log × Keeps M old log × M.goes old read_all false log
   Opens old (Err (BadRecord log index)) =
       StaysUp M old log × Keeps M old log × ((contents : Contents) × WereRead old contents × IsFirstBadContent contents index)
   Opens old (Err (NotOurs log place)) = StaysUp M old log × Keeps M old log × (is_some (M.contents old) ≡ false)

@@ -19,7 +19,7 @@ module _ {W : Type 0} (M : LogModel W) where
   MakesRoom old new bytes (Err Failed) =
       GoesDown M old new × Keeps M old new × IsWithin M old (length bytes) × M.goes old (reserve (length bytes)) false new
   MakesRoom old new bytes (Err (Full with_it)) = (new ≡ old) × (with_it ≡ M.size old + (5 + length bytes)) × (M.limit old < with_it)
-  MakesRoom old new bytes (Err NoMemory) = StaysUp M old new × Keeps M old new
+  MakesRoom old new bytes (Err NoMemory) = StaysUp M old new × Keeps M old new × M.goes old (reserve (length bytes)) false new
   MakesRoom old new bytes (Err _) = ⊥
 
   -- An append of these bytes for which room was made, by its answer.

@@ -1,5 +1,6 @@
 pub mod Cases
 pub mod CasesView
+pub mod Condition
 pub mod Held
 pub mod Script
 pub mod Words

@@ -36,8 +36,8 @@ pub(crate) fn hold_in(alloc: Global, args: &[&[u8]]) -> Result<Event, LineFault>
     }
 }
 
-// The condition that words spell.
-fn condition_in(alloc: Global, words: &[&[u8]]) -> Result<Poly<i64>, LineFault>
+/// The condition that words spell.
+pub(crate) fn condition_in(alloc: Global, words: &[&[u8]]) -> Result<Poly<i64>, LineFault>
     ensures said { ReadsCondition (texts words.now) result }
     ensures spelled { IfOk result CanBeSpelled }
 {
