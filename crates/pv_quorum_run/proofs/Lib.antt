@@ -1,4 +1,5 @@
 mod CellLemmas
+pub mod DoneLemmas
 mod EventLemmas
 mod FitLemmas
 mod GiveLemmas

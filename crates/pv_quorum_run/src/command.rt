@@ -17,8 +17,8 @@ use pv_quorum_script::{QuorumScript, QuorumScriptError, read_script};
 use std::alloc::Global;
 
 /// Reads a script of deciders from the source to its end, runs it, each decider over a log of at most 4,294,967,296 bytes on a disk in memory of its own, and
-/// writes what that prints, or the first line at fault. Takes time in proportion to the input and what is sent, but that each delivery of a pump looks for the
-/// least fresh message from the first one on, and each start reads the log; and memory for all that is printed, which is written at once when the run is done.
+/// writes what that prints, or the first line at fault. Takes time in proportion to the input and what is sent, but that each `drop` looks at all messages,
+/// and each start reads the log; and memory for all that is printed, which is written at once when the run is done.
 ///
 /// An error is why the input wasn't read. Then nothing was written.
 pub fn read_and_decide<R: Source, W: Sink>(

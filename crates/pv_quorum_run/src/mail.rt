@@ -1,7 +1,9 @@
 // The messages that were sent, and which of them are fresh.
 ghost use Rattle.std.specs.Prelude.{◌≡◌, ◌++◌, ◌∷◌, ◌&&◌, ◌==◌, [], true, false, not, length, map, position, set, slice_get, OnOk};
+ghost use Rattle.std.specs.List.{position_or_len};
 ghost use Rattle.pv_law_decisions.specs.Scene.{without};
 ghost use Rattle.pv_quorum_run.specs.Mail.{envelope_of};
+ghost use Rattle.pv_quorum_run.specs.Marks.{AreDone};
 
 use pv_base::NoMemory;
 use pv_quorum::QuorumMessage;
@@ -26,17 +28,19 @@ pub(crate) struct Mail {
     sent: Vec<Sent>,
     /// Whether each is fresh.
     fresh: Vec<bool>,
+    /// No message below this number is fresh.
+    first: usize,
 }
 
 impl Model for Mail {
-    ghost use Rattle.std.specs.Prelude.{◌≡◌, length};
     ghost use Rattle.pv_quorum_run.specs.Mail.{MailState};
+    ghost use Rattle.pv_quorum_run.specs.Marks.{AreMarked};
 
     ghost Value = { MailState };
 
     ghost view = { λ s. record { sent = s.sent.items; fresh = s.fresh.items } };
 
-    ghost invariant = { λ s. length s.fresh.items ≡ length s.sent.items };
+    ghost invariant = { λ s. AreMarked s.first s.sent.items s.fresh.items };
 }
 
 impl Mail {
@@ -47,10 +51,12 @@ impl Mail {
         Mail {
             sent: Vec::new(alloc),
             fresh: Vec::new(alloc),
+            first: 0,
         }
     }
 
     // Sends a message.
+    #[tactic(auto, using(crate::proofs::DoneLemmas::marks))]
     pub(crate) fn post(&mut self, message: Sent) -> Result<(), NoMemory>
         ensures { OnOk result (self.new ≡ record { sent = self.old.sent ++ message ∷ []; fresh = self.old.fresh ++ true ∷ [] }) }
     {
@@ -69,6 +75,7 @@ impl Mail {
     }
 
     // The message of this number is done, if there is one.
+    #[tactic(auto, using(crate::proofs::DoneLemmas::marks))]
     pub(crate) fn finish(&mut self, number: u64)
         ensures { self.new ≡ record self.old { fresh = set self.old.fresh number false } }
     {
@@ -77,15 +84,21 @@ impl Mail {
         }
     }
 
-    // The least fresh message, if there is one.
-    pub(crate) fn next_fresh(&self) -> Option<u64>
-        ensures { result ≡ position (λ mark. mark) self.now.fresh }
+    // The least fresh message, if there is one. All calls together take time in proportion to the messages.
+    pub(crate) fn next_fresh(&mut self) -> Option<u64>
+        ensures found { result ≡ position (λ mark. mark) self.old.fresh }
+        ensures unchanged { self.new ≡ self.old }
     {
-        let place = first_mark(&self.fresh)?;
-        Some(place as u64)
+        self.first = first_mark(&self.fresh, self.first);
+        if self.first < self.fresh.len() {
+            Some(self.first as u64)
+        } else {
+            None
+        }
     }
 
     // All messages to the decider are done.
+    #[tactic(auto, using(crate::proofs::DoneLemmas::marks))]
     pub(crate) fn drop_to(&mut self, decider: u8)
         ensures { self.new ≡ record self.old { fresh = without decider (map envelope_of self.old.sent) self.old.fresh } }
     {
@@ -93,11 +106,18 @@ impl Mail {
     }
 }
 
-// The place of the first mark.
-fn first_mark(fresh: &[bool]) -> Option<usize>
-    ensures { result ≡ position (λ mark. mark) fresh.now }
+// The place of the first mark that is set, or how many there are. None before `from` is.
+fn first_mark(marks: &[bool], from: usize) -> usize
+    requires { AreDone from marks.now }
+    ensures place { result ≡ position_or_len (λ mark. mark) marks.now }
+    ensures done { AreDone result marks.now }
 {
-    fresh.iter().position(|mark| *mark)
+    for number in from..marks.len() {
+        if marks[number] {
+            return number;
+        }
+    }
+    marks.len()
 }
 
 // Whether the mark of a message to `to` stays where those of messages to the decider are taken.

@@ -9,8 +9,8 @@ use pv_base::NoMemory;
 use pv_quorum_script::QuorumScript;
 use std::alloc::Global;
 
-// What the run of a script prints. Takes time in proportion to the events and the messages that they send, but that each delivery looks for the least fresh
-// message, and memory for the deciders and the text.
+// What the run of a script prints. Takes time in proportion to the events and the messages that they send, but that each `drop` looks at all
+// messages and each start reads the log, and memory for the deciders and the text.
 pub(crate) fn text_of_run(alloc: Global, script: &QuorumScript) -> Result<Vec<u8>, NoMemory>
     requires fewest { 3 ≤ script.now.deciders }
     requires most { script.now.deciders ≤ 5 }
